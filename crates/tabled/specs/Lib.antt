@@ -1,0 +1,2 @@
+pub mod BlockSent
+pub mod Output

@@ -1,0 +1,34 @@
+//! Reading to the end.
+ghost use Rattle.std.specs.Prelude.{◌≡◌, ◌≢◌, IfErr, IfOk, IfSome};
+ghost use Rattle.tabled.specs.declared.fault.Fault.TheVariants.{Usage};
+
+use crate::fault::Fault;
+use std::alloc::Global;
+use std::io::Read;
+
+/// How many bytes a read asks for.
+const BLOCK: usize = 1 << 16;
+
+/// How many reads are made before reading counts as failed.
+const READS: u64 = 1 << 40;
+
+/// All that is left of a reader. Every error of a read fails, `Interrupted` too.
+pub(crate) fn read_all<I: Read>(alloc: Global, input: &mut I) -> Result<Vec<u8>, Fault>
+    ensures all { IfOk result (λ bytes. IfSome (I.remaining input.old) (λ all. bytes.items ≡ all)) }
+    ensures read { IfErr result (λ fault. fault ≢ Usage) }
+{
+    let mut bytes = Vec::new(alloc);
+    let mut block = [0u8; BLOCK];
+    'reads: for _read in 0..READS {
+        let Ok(count) = input.read(&mut block) else {
+            return Err(Fault::Input);
+        };
+        if count == 0 {
+            return Ok(bytes);
+        }
+        if bytes.extend_from_slice(&block[..count]).is_err() {
+            return Err(Fault::Memory);
+        }
+    }
+    Err(Fault::Input)
+}

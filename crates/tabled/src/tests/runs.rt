@@ -1,0 +1,85 @@
+//! Runs of the program whose input is read and whose output is taken.
+
+use crate::{Plan, TableError, render, run};
+use std::alloc::Global;
+use std::test::Fail;
+
+const USAGE: &str =
+    "usage: tabprint [--wrap N | --cut N] [--priority none|min|max|left|right] [--words] [--stream]\n";
+
+// Runs the program, and answers its status beside what it wrote.
+fn ran(alloc: Global, words: &[String], input: &[u8]) -> (u8, Vec<u8>, Vec<u8>) {
+    let mut rest = input;
+    let mut out = Vec::new(alloc);
+    let mut err = Vec::new(alloc);
+    let status = run(alloc, words, &mut rest, &mut out, &mut err);
+    (status, out, err)
+}
+
+#[test]
+fn rows_of_texts_become_tables(rt: HostRuntime) -> Result<(), Fail> {
+    for (input, want) in [
+        ("", ""),
+        ("\n", "+--+\n|  |\n+--+\n"),
+        (
+            "a\tb\nc",
+            "+---+---+\n| a | b |\n+---+---+\n| c |   |\n+---+---+\n",
+        ),
+        ("中", "+----+\n| 中 |\n+----+\n"),
+        (
+            "a\tbb\nccc\t\n",
+            "+-----+----+\n| a   | bb |\n+-----+----+\n| ccc |    |\n+-----+----+\n",
+        ),
+    ] {
+        let (status, out, err) = ran(rt.alloc(), &[], input.as_bytes());
+        assert_eq!(rt; status, 0, "at {input:?}");
+        assert_eq!(rt; str::from_utf8(out.as_slice())?, want, "at {input:?}");
+        assert!(rt; err.is_empty());
+    }
+    Ok(())
+}
+
+#[test]
+fn bytes_that_are_no_text_are_no_input(rt: HostRuntime) -> Result<(), Fail> {
+    let (status, out, err) = ran(rt.alloc(), &[], b"a\n\xFF");
+    assert_eq!(rt; status, 1);
+    assert_eq!(rt; str::from_utf8(err.as_slice())?, "Input\n");
+    assert!(rt; out.is_empty());
+    Ok(())
+}
+
+#[test]
+fn every_word_is_unknown(rt: HostRuntime) -> Result<(), Fail> {
+    let words = vec![in rt.alloc(); String::from_str(rt.alloc(), "--wrap")?]?;
+    let (status, out, err) = ran(rt.alloc(), words.as_slice(), b"\xFF");
+    assert_eq!(rt; status, 2);
+    assert_eq!(rt; str::from_utf8(err.as_slice())?, USAGE);
+    assert!(rt; out.is_empty());
+    Ok(())
+}
+
+#[test]
+fn render_prints_to_any_sink(rt: HostRuntime) -> Result<(), Fail> {
+    let mut text = String::new(rt.alloc());
+    assert_eq!(rt;
+        render(rt.alloc(), "a\tb\n", Plan::Buffered, &mut text),
+        Ok::<(), TableError>(())
+    );
+    assert_eq!(rt; text.as_str(), "+---+---+\n| a | b |\n+---+---+");
+    Ok(())
+}
+
+#[test]
+fn output_of_many_blocks_is_whole(rt: HostRuntime) -> Result<(), Fail> {
+    let mut input = String::new(rt.alloc());
+    let mut want = String::new(rt.alloc());
+    want.push_str("+---+\n")?;
+    for _row in 0..20_000 {
+        input.push_str("x\n")?;
+        want.push_str("| x |\n+---+\n")?;
+    }
+    let (status, out, _err) = ran(rt.alloc(), &[], input.as_bytes());
+    assert_eq!(rt; status, 0);
+    assert!(rt; out.as_slice() == want.as_bytes());
+    Ok(())
+}

@@ -1,0 +1,4 @@
+pub mod Giving
+pub mod Padding
+pub mod RowLemmas
+pub mod Splitting

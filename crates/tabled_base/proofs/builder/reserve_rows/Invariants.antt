@@ -1,0 +1,12 @@
+use Rattle.std.proofs.Common.{◌≡◌, ℕ, ◌<◌, ◌≤◌, List, slice_index_or}
+use Rattle.std.specs.Vec.{vec_capacity}
+use Rattle.std.specs.declared.vec.Vec.{Vec}
+use Rattle.std.specs.declared.alloc.Global.{Global}
+use Rattle.tabled_base.specs.Cells.{texts_of}
+use Rattle.tabled_base.proofs.builder.reserve_rows.Given as goal
+
+abbrev pub invariant-loop-row : goal.invariant-loop-row
+invariant-loop-row l = record {
+  texts : texts_of (λ t. t) l.rows ≡ texts_of (λ t. t) l.fn.rows;
+  roomy : (k : ℕ) (d : Vec (List ℕ) Global) → k < l.row-index → l.columns ≤ vec_capacity (slice_index_or l.rows k d);
+}

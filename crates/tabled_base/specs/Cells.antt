@@ -1,0 +1,39 @@
+-- Rows of cells. A cell is the list of its text's bytes.
+use Rattle.std.specs.Prelude.{◌≡◌, ℕ, ◌-◌, ◌<◌, List, [], ◌∷◌, ◌++◌, length, map, max, replicate, slice_index_or}
+use Rattle.std.specs.List.{All}
+use Rattle.std.specs.declared.alloc.Global.{Global}
+use Rattle.std.specs.declared.vec.Vec.{Vec}
+
+-- how many cells each of some equally long rows has
+abbrev pub columns : List (List (List ℕ)) → ℕ
+columns [] = 0
+columns (row ∷ rows) = length row
+
+-- the rows are equally long
+abbrev pub IsRectangular : List (List (List ℕ)) → Type 0
+IsRectangular cells = All (λ row. length row ≡ columns cells) cells
+
+-- there is such a cell
+pub record IsInside (cells : List (List (List ℕ))) (row column : ℕ) : Type 0 where
+  pub row_in : row < length cells
+  pub column_in : column < columns cells
+
+-- the text of a cell, empty where there is no such cell
+abbrev pub cell_at : List (List (List ℕ)) → ℕ → ℕ → List ℕ
+cell_at cells row column = slice_index_or (slice_index_or cells row []) column []
+
+-- a row with empty cells behind, up to a number of columns
+abbrev pub padded : ℕ → List (List ℕ) → List (List ℕ)
+padded count row = row ++ replicate (count - length row) []
+
+-- the rows with a further one, the short ones padded
+abbrev pub with_record : List (List (List ℕ)) → List (List ℕ) → List (List (List ℕ))
+with_record cells record' = map (padded (max (columns cells) (length record'))) (cells ++ record' ∷ [])
+
+-- the texts in rows that stand in vectors
+abbrev pub texts_of : {T : Type 0} → (T → List ℕ) → List (Vec T Global) → List (List (List ℕ))
+texts_of text rows = map (λ row. map text row.items) rows
+
+-- the same where the rows are of `Text`, which a contract sees as its bytes
+abbrev pub row_texts : List (Vec (List ℕ) Global) → List (List (List ℕ))
+row_texts rows = texts_of (λ text. text) rows

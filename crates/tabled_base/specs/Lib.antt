@@ -1,0 +1,4 @@
+pub mod Cells
+pub mod Error
+pub mod Given
+pub mod TextRows

@@ -1,0 +1,181 @@
+//! A builder of records, row by row.
+ghost use Rattle.std.specs.Prelude.{◌≡◌, ◌≤◌, ℕ, List, [], IfOk, IfErr, OnErr, OnOk, ◌∷◌, ◌++◌, length, map, vec_capacity};
+ghost use Rattle.std.specs.Iterator.{IsFiniteIterable};
+ghost use Rattle.std.specs.List.{All};
+ghost use Rattle.tabled_base.specs.Cells.{IsRectangular, padded, row_texts, with_record};
+ghost use Rattle.tabled_base.specs.Given.{Given};
+ghost use Rattle.tabled_base.specs.declared.error.TableError.TheVariants.{Memory};
+
+use crate::error::TableError;
+use crate::records::CellText;
+use crate::text::Text;
+use crate::vec_records::{VecRecords, first_length};
+use std::alloc::Global;
+use std::marker::Model;
+
+/// Collects rows of texts. Short rows are padded with empty cells at once, so that all are equally
+/// long.
+#[derive(Drop)]
+pub struct Builder {
+    rows: Vec<Vec<Text<String>>>,
+}
+
+impl Model for Builder {
+    ghost Value = { List (List (List ℕ)) };
+
+    ghost view = { λ b. row_texts b.rows.items };
+
+    ghost invariant = { λ b. IsRectangular (row_texts b.rows.items) };
+}
+
+impl Builder {
+    /// A builder with no row.
+    pub fn new(alloc: Global) -> Builder
+        ensures { result ≡ [] }
+    {
+        Builder {
+            rows: Vec::new(alloc),
+        }
+    }
+
+    /// Adds a row. Where memory is refused, the builder is as it was.
+    pub fn add_record<I: IntoIterator>(&mut self, cells: I) -> Result<(), TableError>
+    where
+        I::Item: CellText + Drop,
+        requires { IsFiniteIterable I.into_iter_gives I.IntoIter.can_next
+            I.IntoIter.remaining cells }
+        ensures ok { OnOk result ((items : List I.Item)
+            × Given I.into_iter_gives I.IntoIter.next_gives cells items
+            × (self.new ≡ with_record self.old (map I.Item.text items))) }
+        ensures err { OnErr result (self.new ≡ self.old) }
+        ensures only { IfErr result (λ e. e ≡ Memory) }
+    {
+        let row = collect_row(*self.rows.allocator(), cells)?;
+        push_row(&mut self.rows, row)
+    }
+
+    /// `add_record`, for chains of calls.
+    pub fn push_record<I: IntoIterator>(&mut self, cells: I) -> Result<&mut Self, TableError>
+    where
+        I::Item: CellText + Drop,
+        requires { IsFiniteIterable I.into_iter_gives I.IntoIter.can_next
+            I.IntoIter.remaining cells }
+        ensures same_reference { IfOk result (λ t. t.ghost_name ≡ self.entry.ghost_name) }
+        ensures ok { IfOk result (λ t. (items : List I.Item)
+            × Given I.into_iter_gives I.IntoIter.next_gives cells items
+            × (t.now ≡ with_record self.old (map I.Item.text items))) }
+        ensures only { IfErr result (λ e. e ≡ Memory) }
+    {
+        self.add_record(cells)?;
+        Ok(self)
+    }
+
+    /// The records of the rows. It takes no memory.
+    pub fn build(self) -> VecRecords<Text<String>>
+        ensures { result ≡ self }
+    {
+        VecRecords::new(self.rows)
+    }
+}
+
+/// The texts of cells, measured.
+fn collect_row<I: IntoIterator>(alloc: Global, cells: I) -> Result<Vec<Text<String>>, TableError>
+where
+    I::Item: CellText + Drop,
+    requires { IsFiniteIterable I.into_iter_gives I.IntoIter.can_next I.IntoIter.remaining cells }
+    ensures ok { IfOk result (λ row. (items : List I.Item)
+        × Given I.into_iter_gives I.IntoIter.next_gives cells items
+        × (row.items ≡ map I.Item.text items)) }
+    ensures only { IfErr result (λ e. e ≡ Memory) }
+{
+    let mut row = Vec::new(alloc);
+    for cell in cells {
+        let text = String::from_str(alloc, cell.text())?;
+        row.push(Text::new(text))?;
+    }
+    Ok(row)
+}
+
+/// Puts a row behind the others, and pads the short ones.
+fn push_row(rows: &mut Vec<Vec<Text<String>>>, row: Vec<Text<String>>) -> Result<(), TableError>
+    requires { IsRectangular (row_texts rows.old.items) }
+    ensures ok { OnOk result
+        (row_texts rows.new.items ≡ with_record (row_texts rows.old.items) row.items) }
+    ensures err { OnErr result (row_texts rows.new.items ≡ row_texts rows.old.items) }
+    ensures only { IfErr result (λ e. e ≡ Memory) }
+{
+    let columns = first_length(rows.as_slice());
+    if columns < row.len() {
+        push_longer(rows, row)
+    } else {
+        push_shorter(rows, row, columns)
+    }
+}
+
+/// Puts a row behind others that are shorter, and pads these.
+fn push_longer(rows: &mut Vec<Vec<Text<String>>>, row: Vec<Text<String>>) -> Result<(), TableError>
+    ensures ok { let longest = length row.items in OnOk result
+        (row_texts rows.new.items
+        ≡ map (padded longest) (row_texts rows.old.items) ++ row.items ∷ []) }
+    ensures err { OnErr result (row_texts rows.new.items ≡ row_texts rows.old.items) }
+    ensures only { IfErr result (λ e. e ≡ Memory) }
+{
+    let columns = row.len();
+    reserve_rows(rows.as_mut_slice(), columns)?;
+    rows.reserve(1)?;
+    pad_rows(rows.as_mut_slice(), columns);
+    rows.push_reserved(row);
+    Ok(())
+}
+
+/// Puts a row behind others that are as long as it or longer, and pads it.
+fn push_shorter(
+    rows: &mut Vec<Vec<Text<String>>>,
+    mut row: Vec<Text<String>>,
+    columns: usize,
+) -> Result<(), TableError>
+    ensures ok { OnOk result
+        (row_texts rows.new.items ≡ row_texts rows.old.items ++ padded columns row.items ∷ []) }
+    ensures err { OnErr result (row_texts rows.new.items ≡ row_texts rows.old.items) }
+    ensures only { IfErr result (λ e. e ≡ Memory) }
+{
+    row.reserve(columns.saturating_sub(row.len()))?;
+    rows.reserve(1)?;
+    pad_row(&mut row, columns);
+    rows.push_reserved(row);
+    Ok(())
+}
+
+/// Makes room in each row for so many cells.
+fn reserve_rows(rows: &mut [Vec<Text<String>>], columns: usize) -> Result<(), TableError>
+    ensures items { row_texts rows.new ≡ row_texts rows.old }
+    ensures ok { OnOk result (All (λ row. columns ≤ vec_capacity row) rows.new) }
+    ensures only { IfErr result (λ e. e ≡ Memory) }
+{
+    for row in rows.iter_mut() {
+        row.reserve(columns.saturating_sub(row.len()))?;
+    }
+    Ok(())
+}
+
+/// Pads rows that have the room.
+fn pad_rows(rows: &mut [Vec<Text<String>>], columns: usize)
+    requires { All (λ row. columns ≤ vec_capacity row) rows.old }
+    ensures { row_texts rows.new ≡ map (padded columns) (row_texts rows.old) }
+{
+    for row in rows.iter_mut() {
+        pad_row(row, columns);
+    }
+}
+
+/// Pads a row that has the room.
+fn pad_row(row: &mut Vec<Text<String>>, columns: usize)
+    requires { columns ≤ vec_capacity row.old }
+    ensures items { row.new.items ≡ padded columns row.old.items }
+    ensures capacity { vec_capacity row.new ≡ vec_capacity row.old }
+{
+    let alloc = *row.allocator();
+    for _column in row.len()..columns {
+        row.push_reserved(Text::new(String::new(alloc)));
+    }
+}

@@ -1,0 +1,22 @@
+//! What a table is made of: texts that were measured once, rectangular records of them, and the
+//! refusals of all calls.
+#![tactic(auto)]
+
+mod builder;
+mod error;
+mod position;
+mod records;
+mod split;
+mod text;
+mod vec_records;
+
+pub use builder::Builder;
+pub use error::TableError;
+pub use position::Position;
+pub use records::{CellText, ExactRecords, PeekableRecords};
+pub use split::text_rows;
+pub use text::Text;
+pub use vec_records::VecRecords;
+
+#[cfg(test)]
+mod tests;

@@ -1,0 +1,32 @@
+-- Which lines of a frame are there, and their characters.
+use Rattle.std.specs.Prelude.{ℕ, ◌==◌, if◌then◌else◌, Bool, true, false, ◌||◌, Option, Some, None, is_some}
+use Rattle.tabled_config.specs.declared.borders.Borders.{Borders}
+use Rattle.tabled_config.specs.declared.borders.HorizontalLine.{HorizontalLine}
+
+-- a vertical line is there if any of its characters is
+abbrev pub has_left : Borders ℕ → Bool
+has_left b = is_some b.left || (is_some b.top_left || (is_some b.bottom_left || is_some b.left_intersection))
+
+abbrev pub has_right : Borders ℕ → Bool
+has_right b = is_some b.right || (is_some b.top_right || (is_some b.bottom_right || is_some b.right_intersection))
+
+abbrev pub has_inner : Borders ℕ → Bool
+has_inner b = is_some b.vertical || (is_some b.intersection || (is_some b.top_intersection || is_some b.bottom_intersection))
+
+-- the characters of the three horizontal lines
+abbrev pub top_line : Borders ℕ → HorizontalLine
+top_line b = record { main = b.top; left = b.top_left; intersection = b.top_intersection; right = b.top_right }
+
+abbrev pub inner_line : Borders ℕ → HorizontalLine
+inner_line b = record { main = b.horizontal; left = b.left_intersection; intersection = b.intersection; right = b.right_intersection }
+
+abbrev pub bottom_line : Borders ℕ → HorizontalLine
+bottom_line b = record { main = b.bottom; left = b.bottom_left; intersection = b.bottom_intersection; right = b.bottom_right }
+
+-- a horizontal line is there if any of its characters is
+abbrev pub if_any : HorizontalLine → Option HorizontalLine
+if_any l = if is_some l.main || (is_some l.left || (is_some l.intersection || is_some l.right)) then Some l else None
+
+-- the line of the borders above the row i of some rows, or below the last row
+abbrev pub border_at : Borders ℕ → ℕ → ℕ → Option HorizontalLine
+border_at b rows i = if i == 0 then if_any (top_line b) else (if i == rows then if_any (bottom_line b) else if_any (inner_line b))

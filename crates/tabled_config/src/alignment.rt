@@ -1,0 +1,23 @@
+//! Where a text stands in its room.
+
+/// Where a text stands among the columns of its room.
+#[derive(Clone, Copy, Debug, PartialEq, Eq)]
+pub enum AlignmentHorizontal {
+    /// At the left end.
+    Left,
+    /// In the middle, with the smaller half of the free columns on the left.
+    Center,
+    /// At the right end.
+    Right,
+}
+
+/// Where a text stands among the lines of its cell.
+#[derive(Clone, Copy, Debug, PartialEq, Eq)]
+pub enum AlignmentVertical {
+    /// At the top.
+    Top,
+    /// In the middle, with the smaller half of the free lines above.
+    Center,
+    /// At the bottom.
+    Bottom,
+}

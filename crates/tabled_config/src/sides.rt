@@ -1,0 +1,47 @@
+//! What stands on the four sides of something.
+ghost use Rattle.std.specs.Prelude.{◌≡◌};
+
+/// A run of one character: columns on the left and right, lines at the top and bottom.
+#[derive(Clone, Copy, Debug, PartialEq, Eq)]
+pub struct Indent {
+    /// How many columns or lines it takes.
+    pub size: usize,
+    /// The character that fills it.
+    pub fill: char,
+}
+
+impl Indent {
+    /// So many columns or lines of a character.
+    pub fn new(size: usize, fill: char) -> Indent
+        ensures { result ≡ record { size = size; fill = fill } }
+    {
+        Indent { size, fill }
+    }
+
+    /// So many columns or lines of spaces.
+    pub fn spaced(size: usize) -> Indent
+        ensures { result ≡ record { size = size; fill = 32 } }
+    {
+        Indent { size, fill: ' ' }
+    }
+
+    /// Nothing.
+    pub fn zero() -> Indent
+        ensures { result ≡ record { size = 0; fill = 32 } }
+    {
+        Indent::spaced(0)
+    }
+}
+
+/// One value for each side.
+#[derive(Clone, Copy, Debug, PartialEq, Eq)]
+pub struct Sides<T> {
+    /// The left side.
+    pub left: T,
+    /// The right side.
+    pub right: T,
+    /// The top.
+    pub top: T,
+    /// The bottom.
+    pub bottom: T,
+}

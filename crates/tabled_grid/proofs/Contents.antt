@@ -1,0 +1,21 @@
+-- The lines of a text of one line.
+use Rattle.std.proofs.Common.{◌≡◌, ℕ, zero, suc, ◌<◌, List, [], ◌∷◌, Some, None, length, slice_get, refl, sym, ◌∙◌, ap, arith}
+use Rattle.tabled_text.specs.Measure.{line_columns, lines_of, text_columns}
+use Rattle.tabled_text.proofs.Bridge.{lines_of-one, text_columns-one}
+
+pub line-first : (text : List ℕ) (lines k : ℕ) → lines ≡ length (lines_of text) → lines ≡ 1 → k ≡ 0 → Some text ≡ slice_get (lines_of text) k
+line-first text lines k l one h =
+    let e : length (lines_of text) ≡ 1 = omega arith in
+    sym (ap (slice_get (lines_of text)) h ∙ ap (λ ls. slice_get ls 0) (lines_of-one text e))
+
+past-one : (text : List ℕ) (k : ℕ) → 0 < k → None ≡ slice_get (text ∷ []) k
+past-one text zero h = absurd (omega arith)
+past-one text (suc k) h = refl
+
+pub line-later : (text : List ℕ) (lines k : ℕ) → lines ≡ length (lines_of text) → lines ≡ 1 → 0 < k → None ≡ slice_get (lines_of text) k
+line-later text lines k l one h =
+    let e : length (lines_of text) ≡ 1 = omega arith in
+    past-one text k h ∙ sym (ap (λ ls. slice_get ls k) (lines_of-one text e))
+
+pub columns-one : (text : List ℕ) (lines columns : ℕ) → lines ≡ length (lines_of text) → lines ≡ 1 → columns ≡ text_columns text → columns ≡ line_columns text
+columns-one text lines columns l one c = c ∙ text_columns-one text (let e : length (lines_of text) ≡ 1 = omega arith in e)

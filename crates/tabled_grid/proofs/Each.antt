@@ -1,0 +1,46 @@
+-- Lists that are made index by index, up to an index and from there on.
+use Rattle.std.proofs.Common.{◌≡◌, ℕ, zero, suc, ◌+◌, ◌-◌, ◌<◌, List, [], ◌∷◌, ◌++◌, map, replicate, refl, sym, ◌∙◌, ap, append-nil, zero-add, arith}
+use Rattle.std.specs.List.{flat_map, range_with_len}
+use Rattle.std.proofs.lemmas.List.Concat.{flat_map-append}
+
+range-append : (a m k : ℕ) → range_with_len a (m + k) ≡ range_with_len a m ++ range_with_len (a + m) k
+range-append a zero k = let e : zero + k ≡ k = omega arith in let f : a + zero ≡ a = omega arith in rw (e, f) refl
+range-append a (suc m) k =
+    let e : suc m + k ≡ suc (m + k) = omega arith in
+    let f : a + suc m ≡ a + 1 + m = omega arith in
+    rw (e, f) (ap (λ u. a ∷ u) (range-append (a + 1) m k))
+
+-- the first n indices: those below i, then i, then the rest
+range-at : (i n : ℕ) → i < n → range_with_len 0 n ≡ range_with_len 0 i ++ (i ∷ range_with_len (i + 1) (n - i - 1))
+range-at i n h =
+    let e : i + suc (n - i - 1) ≡ n = omega arith in
+    ap (range_with_len 0) (sym e) ∙ range-append 0 i (suc (n - i - 1))
+    ∙ ap (λ u. range_with_len 0 i ++ (u ∷ range_with_len (u + 1) (n - i - 1))) (zero-add i)
+
+pub range-more : (n : ℕ) → range_with_len 0 (n + 1) ≡ range_with_len 0 n ++ (n ∷ [])
+range-more n = range-append 0 n 1 ∙ ap (λ u. range_with_len 0 n ++ (u ∷ [])) (zero-add n)
+
+pub each-more : {A : Type 0} (f : ℕ → List A) (n : ℕ) → flat_map f (range_with_len 0 (n + 1)) ≡ flat_map f (range_with_len 0 n) ++ f n
+each-more f n =
+    ap (flat_map f) (range-more n) ∙ flat_map-append f (range_with_len 0 n) (n ∷ [])
+    ∙ ap (λ u. flat_map f (range_with_len 0 n) ++ u) (append-nil (f n))
+
+pub each-rest : {A : Type 0} (f : ℕ → List A) (i n : ℕ) → i < n → flat_map f (range_with_len 0 n) ≡ flat_map f (range_with_len 0 i) ++ (f i ++ flat_map f (range_with_len (i + 1) (n - i - 1)))
+each-rest f i n h = ap (flat_map f) (range-at i n h) ∙ flat_map-append f (range_with_len 0 i) (i ∷ range_with_len (i + 1) (n - i - 1))
+
+map-append : {A B : Type 0} (f : A → B) (xs ys : List A) → map f (xs ++ ys) ≡ map f xs ++ map f ys
+map-append f [] ys = refl
+map-append f (x ∷ xs) ys = ap (λ u. f x ∷ u) (map-append f xs ys)
+
+pub map-more : {A : Type 0} (f : ℕ → A) (n : ℕ) → map f (range_with_len 0 (n + 1)) ≡ map f (range_with_len 0 n) ++ (f n ∷ [])
+map-more f n = ap (map f) (range-more n) ∙ map-append f (range_with_len 0 n) (n ∷ [])
+
+pub map-rest : {A : Type 0} (f : ℕ → A) (i n : ℕ) → i < n → map f (range_with_len 0 n) ≡ map f (range_with_len 0 i) ++ ((f i ∷ []) ++ map f (range_with_len (i + 1) (n - i - 1)))
+map-rest f i n h = ap (map f) (range-at i n h) ∙ map-append f (range_with_len 0 i) (i ∷ range_with_len (i + 1) (n - i - 1))
+
+pub copies-append : {A : Type 0} (x : A) (m n : ℕ) → replicate (m + n) x ≡ replicate m x ++ replicate n x
+copies-append x zero n = let e : zero + n ≡ n = omega arith in rw e refl
+copies-append x (suc m) n = let e : suc m + n ≡ suc (m + n) = omega arith in rw e (ap (λ u. x ∷ u) (copies-append x m n))
+
+pub copies-rest : {A : Type 0} (x : A) (i n : ℕ) → i < n → replicate n x ≡ replicate i x ++ ((x ∷ []) ++ replicate (n - i - 1) x)
+copies-rest x i n h = let e : i + suc (n - i - 1) ≡ n = omega arith in ap (λ k. replicate k x) (sym e) ∙ copies-append x i (suc (n - i - 1))

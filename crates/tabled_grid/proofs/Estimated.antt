@@ -1,0 +1,59 @@
+-- Tables with estimated sizes: they hold their cells, so that the range alone can refuse them.
+use Rattle.std.proofs.Common.{◌≡◌, ℕ, ◌<◌, inl, inr, ◌==◌, ◌||◌, false, List, length, refl, arith}
+use Rattle.std.proofs.lemmas.Bool.Decides.{nat_tests}
+use Rattle.std.proofs.lemmas.List.FromFn.{length-map-range_with_len}
+use Rattle.tabled_base.specs.Cells.{columns}
+use Rattle.tabled_base.specs.declared.error.TableError.{TableError}
+use Rattle.tabled_base.specs.declared.error.TableError.TheVariants.{Memory, ShortWidths, ShortHeights, Narrow, Range, Writer}
+use Rattle.tabled_config.specs.declared.spanned.SpannedConfig.{SpannedConfig}
+use Rattle.tabled_size.specs.Estimates.{IsTooHigh, IsTooWide, column_width, estimated_heights, estimated_widths, row_height}
+use Rattle.tabled_size.specs.Sheet.{estimated, is_empty}
+use Rattle.tabled_size.proofs.Passing.{too_high_passes, too_wide_passes, width_at, width_ge}
+use Rattle.tabled_grid.specs.Holds.{Holds, IsSized}
+use Rattle.tabled_grid.specs.Printed.{IsRefused, PassesRange}
+
+-- the estimated sizes reach to the last column and the last row
+pub sized_estimated : (cells : List (List (List ℕ))) (config : SpannedConfig) → IsSized (estimated cells config)
+unfolding estimated_widths estimated_heights
+sized_estimated cells config = record {
+  columns = omega (arith, length-map-range_with_len (column_width cells config) 0 (columns cells));
+  rows = omega (arith, length-map-range_with_len (row_height cells config) 0 (length cells));
+}
+
+-- and hold every cell
+pub holds_estimated : (cells : List (List (List ℕ))) (config : SpannedConfig) → Holds (estimated cells config)
+holds_estimated cells config row column r c = rw (width_at cells config column c) (width_ge cells config row column r)
+
+-- so that a table with them is refused for the range alone
+pub refused_estimated : (cells : List (List (List ℕ))) (config : SpannedConfig) (e : TableError) → IsRefused (estimated cells config) e → (e ≡ Range) × PassesRange (estimated cells config)
+refused_estimated cells config Memory h = absurd h
+refused_estimated cells config Writer h = absurd h
+refused_estimated cells config ShortWidths h = let sized = (sized_estimated cells config).columns in absurd (omega arith)
+refused_estimated cells config ShortHeights h = let sized = (sized_estimated cells config).rows in let short = h.1 in absurd (omega arith)
+refused_estimated cells config (Narrow row column) h =
+    let first = h.1 in
+    let narrow = first.at.narrow in
+    let held = holds_estimated cells config row column first.row_in first.at.column_in in
+    absurd (omega arith)
+refused_estimated cells config Range h = (refl, h.2)
+
+-- a cell that needs more columns than a number can say makes the total width pass
+pub passes_too_wide : (cells : List (List (List ℕ))) (config : SpannedConfig) → IsTooWide cells config → PassesRange (estimated cells config)
+passes_too_wide cells config h = inl (too_wide_passes cells config h)
+
+-- a cell that needs more lines than a number can say makes the total height pass
+pub passes_too_high : (cells : List (List (List ℕ))) (config : SpannedConfig) → IsTooHigh cells config → PassesRange (estimated cells config)
+passes_too_high cells config h = inr (too_high_passes cells config h)
+
+some_of_both : (row column m n : ℕ) → row < m → column < n → ((m == 0) || (n == 0)) ≡ false
+some_of_both row column m n r c = grind (arith, nat_tests)
+
+-- a table with a cell isn't empty
+pub filled_inside : (cells : List (List (List ℕ))) (row column : ℕ) → row < length cells → column < columns cells → is_empty cells ≡ false
+filled_inside cells row column r c = some_of_both row column (length cells) (columns cells) r c
+
+pub filled_too_wide : (cells : List (List (List ℕ))) (config : SpannedConfig) → IsTooWide cells config → is_empty cells ≡ false
+filled_too_wide cells config h = filled_inside cells h.row h.column h.row_in h.column_in
+
+pub filled_too_high : (cells : List (List (List ℕ))) (config : SpannedConfig) → IsTooHigh cells config → is_empty cells ≡ false
+filled_too_high cells config h = filled_inside cells h.row h.column h.row_in h.column_in

@@ -1,0 +1,10 @@
+pub mod Blocks
+pub mod Contents
+pub mod Each
+pub mod Estimated
+pub mod Fills
+pub mod Leading
+pub mod Measuring
+pub mod Rules
+pub mod Sending
+pub mod Whole

@@ -1,0 +1,174 @@
+-- The columns of what is made of plain pieces.
+use Rattle.std.proofs.Common.{◌≡◌, ℕ, zero, suc, ◌+◌, ◌-◌, ◌*◌, ◌<◌, ◌≤◌, ◌==◌, Bool, true, false, cond, List, [], Option, unwrap_or, length, get_or, sym, ◌∙◌, ap, subst, arith, ⊎_elim}
+use Rattle.std.specs.List.{flat_map, range_with_len, slice_index}
+use Rattle.std.proofs.lemmas.Bool.{cases_lt}
+use Rattle.std.proofs.lemmas.Bool.Decides.{nat_tests}
+use Rattle.std.proofs.lemmas.Option.{slice_get_cases, slice_get-get_or}
+use Rattle.tabled_text.specs.Measure.{lines_of, text_columns, line_columns}
+use Rattle.tabled_text.specs.Plain.{IsPlain, IsPlainColumn, IsPlainLine}
+use Rattle.tabled_text.proofs.Bridge.{line_columns-le}
+use Rattle.tabled_text.proofs.PlainLines.{plain_line-nil, plain_line-append, plain_line-as, plain_line-one, plain_line-each, plain_column-space}
+use Rattle.tabled_base.specs.Cells.{IsRectangular, cell_at, columns}
+use Rattle.tabled_config.specs.declared.alignment.AlignmentHorizontal.{AlignmentHorizontal}
+use Rattle.tabled_config.specs.declared.alignment.AlignmentHorizontal.TheVariants as horizontal
+use Rattle.tabled_config.specs.declared.spanned.CellStyle.{CellStyle}
+use Rattle.tabled_config.specs.declared.spanned.SpannedConfig.{SpannedConfig}
+use Rattle.tabled_config.specs.declared.borders.HorizontalLine.{HorizontalLine}
+use Rattle.tabled_config.specs.Frame.{has_left, has_right, has_inner}
+use Rattle.tabled_config.specs.Settings.{has_bar, style_at}
+use Rattle.tabled_size.specs.Sheet.{Sheet}
+use Rattle.tabled_size.specs.Totals.{one_if, sum_below, filled_width}
+use Rattle.tabled_grid.specs.Block.{before_text, text_room, columns_before, cell_line, block, fill_above}
+use Rattle.tabled_grid.specs.Fill.{fill}
+use Rattle.tabled_grid.specs.Holds.{Holds}
+use Rattle.tabled_grid.specs.Picture.{piece, cell_piece, rule_piece, left_edge, right_edge, row_line, rule_line}
+use Rattle.tabled_grid.specs.PlainSheet.{IsPlainPiece, IsPlainRule, IsPlainStyle, IsPlainConfig, ArePlain}
+use Rattle.tabled_grid.proofs.Blocks.{block-above, block-text, block-below}
+use Rattle.tabled_grid.proofs.Each.{each-more}
+
+-- what the columns of a picture rest on
+pub record IsPlainSheet (t : Sheet) : Type 0 where
+  pub config : IsPlainConfig t.config (length t.cells) (columns t.cells)
+  pub texts : ArePlain t.cells
+  pub rectangular : IsRectangular t.cells
+  pub holds : Holds t
+
+plain-cell : (t : Sheet) (row column : ℕ) → IsPlainSheet t → row < length t.cells → column < columns t.cells → IsPlain (cell_at t.cells row column)
+plain-cell t row column p r c =
+    let long : length (get_or t.cells row []) ≡ columns t.cells = p.rectangular row [] r in
+    p.texts row [] r column [] (omega arith)
+
+-- ---- pieces joined
+
+pub plain-fill : (c n : ℕ) → IsPlainColumn c → IsPlainLine (fill c n) n
+plain-fill c zero h = plain_line-nil
+plain-fill c (suc n) h = plain_line-as (plain_line-append (plain_line-one c h) (plain-fill c n h)) (omega arith)
+
+plain-piece : (there : Bool) (c : Option ℕ) → IsPlainPiece c → IsPlainLine (piece there c) (one_if there)
+plain-piece true c h = plain_line-one (unwrap_or c 32) h
+plain-piece false c h = plain_line-nil
+
+plain-each : (f : ℕ → List ℕ) (w : ℕ → ℕ) (n : ℕ) → ((i : ℕ) → i < n → IsPlainLine (f i) (w i)) → IsPlainLine (flat_map f (range_with_len 0 n)) (sum_below w n)
+plain-each f w zero h = plain_line-nil
+plain-each f w (suc n) h =
+    let P : List ℕ → Type 0 = λ bs. IsPlainLine bs (sum_below w n + w n) in
+    let e : n + 1 ≡ suc n = omega arith in
+    let more = sym (each-more f n) ∙ ap (λ k. flat_map f (range_with_len 0 k)) e in
+    subst P more (plain_line-append (plain-each f w n (λ i l. h i (omega arith))) (h n (omega arith)))
+
+-- ---- a line of a cell
+
+before-le : (a : AlignmentHorizontal) (n : ℕ) → before_text a n ≤ n
+before-le horizontal.Left n = omega arith
+before-le horizontal.Center n = omega arith
+before-le horizontal.Right n = omega arith
+
+columns_before-fits : (s : CellStyle) (room : ℕ) (text line : List ℕ) → line_columns line ≤ text_columns text → text_columns text ≤ room → columns_before s room text line + line_columns line ≤ room
+columns_before-fits s room text line l m =
+    elim s.line_alignment as (λ b. before_text s.horizontal (room - (cond b (line_columns line) (text_columns text))) + line_columns line ≤ room) [
+      | true ↦ let h = before-le s.horizontal (room - line_columns line) in omega arith
+      | false ↦ let h = before-le s.horizontal (room - text_columns text) in omega arith
+    ]
+
+-- a column holds a cell's text and its padding
+record IsPlainCell (s : CellStyle) (w : ℕ) (text : List ℕ) : Type 0 where
+  style : IsPlainStyle s
+  plain : IsPlain text
+  fits : text_columns text + (s.padding.left.size + s.padding.right.size) ≤ w
+
+plain-cell_line : (s : CellStyle) (w : ℕ) (text : List ℕ) (j : ℕ) → IsPlainCell s w text → j < length (lines_of text) → IsPlainLine (cell_line s w text (get_or (lines_of text) j [])) w
+unfolding cell_line
+plain-cell_line s w text j p l =
+    let line = get_or (lines_of text) j [] in
+    let le = line_columns-le text j l in
+    let fits = p.fits in
+    let before = columns_before-fits s (text_room s w) text line le (omega arith) in
+    let room = text_room s w in
+    let indented = columns_before s room text line in
+    plain_line-as
+    (plain_line-append (plain-fill s.padding.left.fill s.padding.left.size p.style.left)
+    (plain_line-append (plain-fill 32 indented plain_column-space)
+    (plain_line-append (plain_line-each text p.plain j l)
+    (plain_line-append (plain-fill 32 (room - indented - line_columns line) plain_column-space)
+    (plain-fill s.padding.right.fill s.padding.right.size p.style.right)))))
+    (omega arith)
+
+-- ---- a line of a block, by where it stands
+
+plain-at_text : (s : CellStyle) (w h k : ℕ) (text : List ℕ) → IsPlainCell s w text → k < h → fill_above s h text ≤ k → IsPlainLine (get_or (block s w h text) k []) w
+plain-at_text s w h k text p l m =
+    let P : List ℕ → Type 0 = λ bs. IsPlainLine bs w in
+    let j = k - fill_above s h text in
+    ⊎_elim
+    (λ x. subst P
+    (sym (block-text s w h text k (get_or (lines_of text) j []) l m
+    (sym (slice_get-get_or (lines_of text) j [] x.1))))
+    (plain-cell_line s w text j p x.1))
+    (λ x. subst P (sym (block-below s w h text k l m (sym x.1))) (plain-fill s.padding.bottom.fill w p.style.bottom))
+    (slice_get_cases (lines_of text) j).1
+
+plain-block : (s : CellStyle) (w h k : ℕ) (text : List ℕ) → IsPlainCell s w text → k < h → IsPlainLine (get_or (block s w h text) k []) w
+plain-block s w h k text p l =
+    let P : List ℕ → Type 0 = λ bs. IsPlainLine bs w in
+    ⊎_elim
+    (λ m. subst P (sym (block-above s w h text k l m)) (plain-fill s.padding.top.fill w p.style.top))
+    (λ m. plain-at_text s w h k text p l m)
+    (cases_lt k (fill_above s h text))
+
+-- ---- lines of a table
+
+later-bar : (n : ℕ) (b : Bool) → cond (suc n == 0) false b ≡ b
+later-bar n b = grind (arith, nat_tests)
+
+bar-step : (s u a b n x : ℕ) → s ≡ u + n * x → a ≡ x → s + (a + b) ≡ u + b + (n + 1) * x
+bar-step s u a b n x h e = omega arith
+
+bar-sum : (config : SpannedConfig) (w : ℕ → ℕ) (n : ℕ) → sum_below (λ i. one_if (has_bar config i) + w i) n ≡ sum_below w n + (n - 1) * one_if (has_inner config.borders)
+bar-sum config w zero = omega arith
+bar-sum config w (suc zero) = omega arith
+bar-sum config w (suc (suc n)) =
+    let x = one_if (has_inner config.borders) in
+    let e : suc (suc n) - 1 ≡ n + 1 = omega arith in
+    let f : suc n - 1 ≡ n = omega arith in
+    rw e
+    (bar-step _ _ (one_if (has_bar config (suc n))) (w (suc n)) n x
+    (rw f at (bar-sum config w (suc n)))
+    (ap one_if (later-bar n (has_inner config.borders))))
+
+plain-cells : (t : Sheet) (row index : ℕ) → IsPlainSheet t → row < length t.cells → index < slice_index t.heights row → IsPlainLine (flat_map (cell_piece t row index) (range_with_len 0 (columns t.cells))) (sum_below (slice_index t.widths) (columns t.cells) + (columns t.cells - 1) * one_if (has_inner t.config.borders))
+unfolding cell_piece
+plain-cells t row index p l m =
+    plain_line-as
+    (plain-each (cell_piece t row index) (λ i. one_if (has_bar t.config i) + slice_index t.widths i) (columns t.cells)
+    (λ i k. plain_line-append (plain-piece (has_bar t.config i) t.config.borders.vertical p.config.vertical)
+    (plain-block (style_at t.config row i) (slice_index t.widths i) (slice_index t.heights row) index (cell_at t.cells row i)
+    (record { style = p.config.styles row i l k; plain = plain-cell t row i p l k; fits = p.holds row i l k }) m)))
+    (bar-sum t.config (slice_index t.widths) (columns t.cells))
+
+plain-rules : (t : Sheet) (line : HorizontalLine) → IsPlainRule line → IsPlainLine (flat_map (rule_piece t line) (range_with_len 0 (columns t.cells))) (sum_below (slice_index t.widths) (columns t.cells) + (columns t.cells - 1) * one_if (has_inner t.config.borders))
+unfolding rule_piece
+plain-rules t line q =
+    plain_line-as
+    (plain-each (rule_piece t line) (λ i. one_if (has_bar t.config i) + slice_index t.widths i) (columns t.cells)
+    (λ i k. plain_line-append (plain-piece (has_bar t.config i) line.intersection q.intersection) (plain-fill (unwrap_or line.main 32) (slice_index t.widths i) q.main)))
+    (bar-sum t.config (slice_index t.widths) (columns t.cells))
+
+plain-left : (config : SpannedConfig) (c : Option ℕ) → IsPlainColumn config.margin.left.fill → IsPlainPiece c → IsPlainLine (left_edge config c) (config.margin.left.size + one_if (has_left config.borders))
+unfolding left_edge
+plain-left config c p q = plain_line-append (plain-fill config.margin.left.fill config.margin.left.size p) (plain-piece (has_left config.borders) c q)
+
+plain-right : (config : SpannedConfig) (c : Option ℕ) → IsPlainColumn config.margin.right.fill → IsPlainPiece c → IsPlainLine (right_edge config c) (one_if (has_right config.borders) + config.margin.right.size)
+unfolding right_edge
+plain-right config c p q = plain_line-append (plain-piece (has_right config.borders) c q) (plain-fill config.margin.right.fill config.margin.right.size p)
+
+pub plain-row_line : (t : Sheet) (row index : ℕ) → IsPlainSheet t → row < length t.cells → index < slice_index t.heights row → IsPlainLine (row_line t row index) (filled_width t.config (columns t.cells) t.widths)
+unfolding row_line filled_width
+plain-row_line t row index p l m =
+    plain_line-append (plain-left t.config t.config.borders.left p.config.margin_left p.config.left)
+    (plain_line-append (plain-cells t row index p l m) (plain-right t.config t.config.borders.right p.config.margin_right p.config.right))
+
+pub plain-rule_line : (t : Sheet) (line : HorizontalLine) → IsPlainSheet t → IsPlainRule line → IsPlainLine (rule_line t line) (filled_width t.config (columns t.cells) t.widths)
+unfolding rule_line filled_width
+plain-rule_line t line p q =
+    plain_line-append (plain-left t.config line.left p.config.margin_left q.left)
+    (plain_line-append (plain-rules t line q) (plain-right t.config line.right p.config.margin_right q.right))

@@ -1,0 +1,10 @@
+use Rattle.std.specs.List.{flat_map, range_with_len}
+use Rattle.tabled_grid.specs.Sent.{Sends}
+use Rattle.tabled_grid.specs.Grid.{sheet_of}
+use Rattle.tabled_grid.specs.Picture.{cell_piece}
+use Rattle.tabled_grid.proofs.rows.put_cells.Given as goal
+
+abbrev pub invariant-cells : goal.invariant-cells
+invariant-cells g l =
+    Sends (g.S.TextSink.sent l.initial.sink) (g.S.TextSink.sent l.sink)
+    (flat_map (cell_piece (sheet_of g.R.ExactRecords.cells l.grid) l.row l.index) (range_with_len 0 l.column))

@@ -1,0 +1,9 @@
+pub mod Block
+pub mod Fill
+pub mod Grid
+pub mod Holds
+pub mod Leading
+pub mod Picture
+pub mod PlainSheet
+pub mod Printed
+pub mod Sent

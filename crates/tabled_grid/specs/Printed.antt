@@ -1,0 +1,42 @@
+-- Which tables are printed, why others are refused, and what a call that prints leaves.
+use Rattle.std.specs.Prelude.{◌≡◌, ◌^◌, ◌<◌, ◌≤◌, ◌⊎◌, length, true, false, Result, Ok, Err}
+use Rattle.tabled_base.specs.Cells.{columns}
+use Rattle.tabled_base.specs.declared.error.TableError.{TableError}
+use Rattle.tabled_base.specs.declared.error.TableError.TheVariants.{ShortWidths, ShortHeights, Narrow, Range}
+use Rattle.tabled_size.specs.Sheet.{Sheet, is_empty}
+use Rattle.tabled_size.specs.Totals.{filled_height, filled_width}
+use Rattle.tabled_grid.specs.Holds.{Holds, IsFirstNarrow, IsSized}
+use Rattle.tabled_grid.specs.Picture.{table_text}
+use Rattle.tabled_grid.specs.Sent.{Sent, Sends, Stops}
+
+-- the totals are numbers that a `usize` can say
+pub record IsInRange (t : Sheet) : Type 0 where
+  pub width : filled_width t.config (columns t.cells) t.widths < 2 ^ 64
+  pub height : filled_height t.config (length t.cells) t.heights < 2 ^ 64
+
+-- a total passes the greatest `usize`
+abbrev pub PassesRange : Sheet → Type 0
+PassesRange t =
+    (2 ^ 64 ≤ filled_width t.config (columns t.cells) t.widths) ⊎ (2 ^ 64 ≤ filled_height t.config (length t.cells) t.heights)
+
+-- why a table with a row and a column is refused: the causes in the order in which they are looked for
+abbrev pub IsRefused : Sheet → TableError → Type 0
+IsRefused t ShortWidths = length t.widths < columns t.cells
+IsRefused t ShortHeights = (columns t.cells ≤ length t.widths) × (length t.heights < length t.cells)
+IsRefused t (Narrow row column) = IsSized t × IsFirstNarrow t row column
+IsRefused t Range = IsSized t × Holds t × PassesRange t
+IsRefused t _ = ⊥
+
+-- nothing stands against printing the table
+pub record IsPrintable (t : Sheet) : Type 0 where
+  pub sized : IsSized t
+  pub holds : Holds t
+  pub in_range : IsInRange t
+
+-- what a call that prints a table leaves: on Ok its text was added, and the table is one that can be
+-- printed; a table is refused for its cause before the first byte, and else the sink refused, with a
+-- beginning of the text added, or memory did; a table with no row or no column is never refused
+abbrev pub Prints : {T : Type 0} → Sheet → Sent → Result T TableError → Sent → Type 0
+Prints t old (Ok _) new = ((is_empty t.cells ≡ true) ⊎ IsPrintable t) × Sends old new (table_text t)
+Prints t old (Err error) new =
+    (is_empty t.cells ≡ false) × ((IsRefused t error × (new ≡ old)) ⊎ Stops old error new (table_text t))

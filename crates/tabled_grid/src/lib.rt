@@ -1,0 +1,27 @@
+//! The picture of a table, written piece by piece to a sink.
+//!
+//! No line is built as a text, and printing takes no memory: the sizes are given, and each piece goes
+//! out as it comes.
+#![tactic(auto)]
+
+mod block;
+mod content;
+mod edges;
+mod grid;
+mod io_sink;
+pub mod laws;
+mod lines;
+mod memory;
+mod picture;
+mod pieces;
+mod print;
+mod rows;
+mod text_sink;
+
+pub use grid::Grid;
+pub use io_sink::IoSink;
+pub use print::print_grid;
+pub use text_sink::TextSink;
+
+#[cfg(test)]
+mod tests;

@@ -1,0 +1,132 @@
+//! All lines of a table, one after another.
+ghost use Rattle.std.specs.Prelude.{◌≡◌, ◌<◌, ◌≤◌, length, [], ◌∷◌};
+ghost use Rattle.std.specs.List.{flat_map, join_with_byte, range_with_len, slice_index};
+ghost use Rattle.tabled_grid.specs.Grid.{sheet_of};
+ghost use Rattle.tabled_grid.specs.Holds.{IsSized};
+ghost use Rattle.tabled_grid.specs.Leading.{WritesLines};
+ghost use Rattle.tabled_grid.specs.Picture.{filled_picture, row_line, row_lines, row_part, rule};
+ghost use Rattle.tabled_grid.specs.Sent.{Sent, Writes};
+
+use crate::grid::Grid;
+use crate::lines::{put_break, put_margin};
+use crate::rows::{put_row_line, put_rule_line};
+use crate::text_sink::TextSink;
+use tabled_base::{PeekableRecords, TableError};
+
+fn put_inner_line<R: PeekableRecords, S: TextSink>(
+    sink: &mut S,
+    begun: &mut bool,
+    grid: &Grid<'_, R>,
+    row: usize,
+    index: usize,
+) -> Result<(), TableError>
+    requires sized { IsSized (sheet_of R.cells grid.now) }
+    requires row_in { row < length (R.cells grid.now.records.now) }
+    requires index_in { index < slice_index grid.now.heights.now row }
+    ensures { WritesLines (S.sent sink.old) begun.old result (S.sent sink.new) begun.new
+        (row_line (sheet_of R.cells grid.now) row index ∷ []) }
+{
+    put_break(sink, begun)?;
+    put_row_line(sink, grid, row, index)
+}
+
+/// The lines of a row.
+#[tactic(auto, unfolding(crate::specs::Picture::row_lines))]
+fn put_row<R: PeekableRecords, S: TextSink>(
+    sink: &mut S,
+    begun: &mut bool,
+    grid: &Grid<'_, R>,
+    row: usize,
+) -> Result<(), TableError>
+    requires sized { IsSized (sheet_of R.cells grid.now) }
+    requires row_in { row < length (R.cells grid.now.records.now) }
+    ensures { WritesLines (S.sent sink.old) begun.old result (S.sent sink.new) begun.new
+        (row_lines (sheet_of R.cells grid.now) row) }
+{
+    'lines: for index in 0..grid.heights[row] {
+        put_inner_line(sink, begun, grid, row, index)?;
+    }
+    Ok(())
+}
+
+/// The horizontal line at an index, if it is there.
+fn put_rule<R: PeekableRecords, S: TextSink>(
+    sink: &mut S,
+    begun: &mut bool,
+    grid: &Grid<'_, R>,
+    index: usize,
+) -> Result<(), TableError>
+    requires sized { IsSized (sheet_of R.cells grid.now) }
+    ensures { WritesLines (S.sent sink.old) begun.old result (S.sent sink.new) begun.new
+        (rule (sheet_of R.cells grid.now) index) }
+{
+    match grid.config.rule_at(grid.records.count_rows(), index) {
+        Some(line) => {
+            put_break(sink, begun)?;
+            put_rule_line(sink, grid, &line)
+        }
+        None => Ok(()),
+    }
+}
+
+/// A row, with the horizontal line above it.
+fn put_row_part<R: PeekableRecords, S: TextSink>(
+    sink: &mut S,
+    begun: &mut bool,
+    grid: &Grid<'_, R>,
+    row: usize,
+) -> Result<(), TableError>
+    requires sized { IsSized (sheet_of R.cells grid.now) }
+    requires row_in { row < length (R.cells grid.now.records.now) }
+    ensures { WritesLines (S.sent sink.old) begun.old result (S.sent sink.new) begun.new
+        (row_part (sheet_of R.cells grid.now) row) }
+{
+    put_rule(sink, begun, grid, row)?;
+    put_row(sink, begun, grid, row)
+}
+
+fn put_rows<R: PeekableRecords, S: TextSink>(
+    sink: &mut S,
+    begun: &mut bool,
+    grid: &Grid<'_, R>,
+) -> Result<(), TableError>
+    requires sized { IsSized (sheet_of R.cells grid.now) }
+    ensures { WritesLines (S.sent sink.old) begun.old result (S.sent sink.new) begun.new
+        (flat_map (row_part (sheet_of R.cells grid.now))
+        (range_with_len 0 (length (R.cells grid.now.records.now)))) }
+{
+    'rows: for row in 0..grid.records.count_rows() {
+        put_row_part(sink, begun, grid, row)?;
+    }
+    Ok(())
+}
+
+fn put_lines<R: PeekableRecords, S: TextSink>(
+    sink: &mut S,
+    begun: &mut bool,
+    grid: &Grid<'_, R>,
+    whole: usize,
+) -> Result<(), TableError>
+    requires sized { IsSized (sheet_of R.cells grid.now) }
+    ensures { WritesLines (S.sent sink.old) begun.old result (S.sent sink.new) begun.new
+        (filled_picture (sheet_of R.cells grid.now) whole) }
+{
+    put_margin(sink, begun, grid.config.margin.top, whole)?;
+    put_rows(sink, begun, grid)?;
+    put_rule(sink, begun, grid, grid.records.count_rows())?;
+    put_margin(sink, begun, grid.config.margin.bottom, whole)
+}
+
+/// The lines of a table that takes so many columns, joined by line feeds.
+pub(crate) fn put_picture<R: PeekableRecords, S: TextSink>(
+    sink: &mut S,
+    grid: &Grid<'_, R>,
+    whole: usize,
+) -> Result<(), TableError>
+    requires sized { IsSized (sheet_of R.cells grid.now) }
+    ensures { Writes (S.sent sink.old) result (S.sent sink.new)
+        (join_with_byte 10 (filled_picture (sheet_of R.cells grid.now) whole)) }
+{
+    let mut begun = false;
+    put_lines(sink, &mut begun, grid, whole)
+}

@@ -1,0 +1,6 @@
+//! What no clause says: whole pictures, and each public call at a concrete type.
+
+mod pictures;
+mod refusals;
+mod tables;
+mod writers;

@@ -1,0 +1,98 @@
+//! Pictures as they stand.
+
+use crate::tests::tables::{PICTURE, TEXT, ascii, drawn, drawn_cell, modern, put_text};
+use std::test::Fail;
+use tabled_config::{AlignmentHorizontal, AlignmentVertical, Indent};
+
+#[test]
+fn cells_stand_in_ascii_borders(rt: HostRuntime) -> Result<(), Fail> {
+    let got = drawn(rt.alloc(), TEXT, &ascii(), &[5, 4], &[1, 1])?;
+    assert_eq!(rt; got.as_str(), PICTURE);
+    Ok(())
+}
+
+#[test]
+fn bytes_are_those_of_the_text(rt: HostRuntime) -> Result<(), Fail> {
+    let mut bytes: Vec<u8> = Vec::new(rt.alloc());
+    put_text(rt.alloc(), &mut bytes, TEXT, &ascii(), &[5, 4], &[1, 1])?;
+    assert_eq!(rt; bytes.as_slice(), PICTURE.as_bytes());
+    Ok(())
+}
+
+#[test]
+fn a_lent_sink_is_a_sink(rt: HostRuntime) -> Result<(), Fail> {
+    let mut text = String::new(rt.alloc());
+    let mut lent = &mut text;
+    put_text(rt.alloc(), &mut lent, TEXT, &ascii(), &[5, 4], &[1, 1])?;
+    assert_eq!(rt; text.as_str(), PICTURE);
+    Ok(())
+}
+
+#[test]
+fn margins_stand_around_modern_borders(rt: HostRuntime) -> Result<(), Fail> {
+    let mut config = modern();
+    config.style.horizontal = AlignmentHorizontal::Right;
+    config.margin.left = Indent::new(1, '<');
+    config.margin.right = Indent::new(1, '>');
+    config.margin.top = Indent::new(1, '^');
+    let want = "\
+^^^^^^^^^^^^^^
+<┌─────┬────┐>
+<│   a │ bb │>
+<├─────┼────┤>
+<│ ccc │    │>
+<└─────┴────┘>";
+    let got = drawn(rt.alloc(), TEXT, &config, &[5, 4], &[1, 1])?;
+    assert_eq!(rt; got.as_str(), want);
+    Ok(())
+}
+
+#[test]
+fn a_low_row_shows_the_first_lines(rt: HostRuntime) -> Result<(), Fail> {
+    let mut config = ascii();
+    config.style.vertical = AlignmentVertical::Bottom;
+    let want = "\
++---+
+| a |
++---+";
+    let got = drawn_cell(rt.alloc(), "a\nb", &config, 3, 1)?;
+    assert_eq!(rt; got.as_str(), want);
+    Ok(())
+}
+
+#[test]
+fn a_high_row_has_free_lines(rt: HostRuntime) -> Result<(), Fail> {
+    let mut config = ascii();
+    config.style.vertical = AlignmentVertical::Center;
+    let want = "\
++---+
+| a |
+| b |
+|   |
++---+";
+    let got = drawn_cell(rt.alloc(), "a\nb", &config, 3, 3)?;
+    assert_eq!(rt; got.as_str(), want);
+    Ok(())
+}
+
+#[test]
+fn lines_are_aligned_together_or_each_by_itself(rt: HostRuntime) -> Result<(), Fail> {
+    let together = "\
++-----+
+| a   |
+| bcd |
++-----+";
+    let each = "\
++-----+
+|  a  |
+| bcd |
++-----+";
+    for (line_alignment, want) in [(false, together), (true, each)] {
+        let mut config = ascii();
+        config.style.horizontal = AlignmentHorizontal::Center;
+        config.style.line_alignment = line_alignment;
+        let got = drawn_cell(rt.alloc(), "a\nbcd", &config, 5, 2)?;
+        assert_eq!(rt; got.as_str(), want);
+    }
+    Ok(())
+}

@@ -1,0 +1,3 @@
+pub mod Greatest
+pub mod Passing
+pub mod Sums

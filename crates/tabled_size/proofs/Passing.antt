@@ -1,0 +1,55 @@
+-- Where a cell needs more than a number can say, so does the whole.
+use Rattle.std.proofs.Common.{◌≡◌, ℕ, ◌+◌, ◌-◌, ◌*◌, ◌^◌, ◌<◌, ◌≤◌, List, length, map, get_or, arith, sym}
+use Rattle.std.specs.List.{range_with_len, slice_index}
+use Rattle.std.proofs.lemmas.List.FromFn.{get_or-map-range_with_len}
+use Rattle.tabled_base.specs.Cells.{columns}
+use Rattle.tabled_config.specs.declared.spanned.SpannedConfig.{SpannedConfig}
+use Rattle.tabled_size.specs.Estimates.{IsTooHigh, IsTooWide, column_width, estimated_heights, estimated_widths, needed_height, needed_width, row_height}
+use Rattle.tabled_size.specs.Totals.{filled_height, filled_width, part_height, sum_below}
+use Rattle.tabled_size.proofs.Greatest.{greatest_ge}
+use Rattle.tabled_size.proofs.Sums.{sum_step}
+
+-- the estimated width of a column, and what its cells need
+pub width_at : (cells : List (List (List ℕ))) (config : SpannedConfig) (column : ℕ) → column < columns cells → slice_index (estimated_widths cells config) column ≡ column_width cells config column
+unfolding estimated_widths
+width_at cells config column h = get_or-map-range_with_len (column_width cells config) 0 (columns cells) column column 0 h (omega arith)
+
+pub height_at : (cells : List (List (List ℕ))) (config : SpannedConfig) (row : ℕ) → row < length cells → slice_index (estimated_heights cells config) row ≡ row_height cells config row
+unfolding estimated_heights
+height_at cells config row h = get_or-map-range_with_len (row_height cells config) 0 (length cells) row row 0 h (omega arith)
+
+pub width_ge : (cells : List (List (List ℕ))) (config : SpannedConfig) (row column : ℕ) → row < length cells → needed_width cells config row column ≤ column_width cells config column
+unfolding column_width
+width_ge cells config row column h = greatest_ge (λ r. needed_width cells config r column) (length cells) row h
+
+pub height_ge : (cells : List (List (List ℕ))) (config : SpannedConfig) (row column : ℕ) → column < columns cells → needed_height cells config row column ≤ row_height cells config row
+unfolding row_height
+height_ge cells config row column h = greatest_ge (needed_height cells config row) (columns cells) column h
+
+part_ge : (config : SpannedConfig) (rows : ℕ) (heights : List ℕ) (row : ℕ) → slice_index heights row ≤ part_height config rows heights row
+unfolding part_height
+part_ge config rows heights row = omega arith
+
+-- a too wide cell makes the whole too wide
+pub too_wide_passes : (cells : List (List (List ℕ))) (config : SpannedConfig) → IsTooWide cells config → 2 ^ 64 ≤ filled_width config (columns cells) (estimated_widths cells config)
+unfolding filled_width
+too_wide_passes cells config h =
+    let f = slice_index (estimated_widths cells config) in
+    let at : f h.column ≡ column_width cells config h.column = width_at cells config h.column h.column_in in
+    let needs : needed_width cells config h.row h.column ≤ column_width cells config h.column = width_ge cells config h.row h.column h.row_in in
+    let part : sum_below f h.column + f h.column ≤ sum_below f (columns cells) = sum_step f h.column (columns cells) h.column_in in
+    let passes : 2 ^ 64 ≤ needed_width cells config h.row h.column = h.passes in
+    omega arith
+
+-- a too high cell makes the whole too high
+pub too_high_passes : (cells : List (List (List ℕ))) (config : SpannedConfig) → IsTooHigh cells config → 2 ^ 64 ≤ filled_height config (length cells) (estimated_heights cells config)
+unfolding filled_height
+too_high_passes cells config h =
+    let heights = estimated_heights cells config in
+    let f = part_height config (length cells) heights in
+    let at : slice_index heights h.row ≡ row_height cells config h.row = height_at cells config h.row h.row_in in
+    let needs : needed_height cells config h.row h.column ≤ row_height cells config h.row = height_ge cells config h.row h.column h.column_in in
+    let row : slice_index heights h.row ≤ f h.row = part_ge config (length cells) heights h.row in
+    let part : sum_below f h.row + f h.row ≤ sum_below f (length cells) = sum_step f h.row (length cells) h.row_in in
+    let passes : 2 ^ 64 ≤ needed_height cells config h.row h.column = h.passes in
+    omega arith

@@ -1,0 +1,51 @@
+-- The sizes that the texts of a table ask for.
+use Rattle.std.specs.Prelude.{ℕ, ◌+◌, ◌<◌, ◌≤◌, ◌^◌, List, length, map}
+use Rattle.std.specs.List.{range_with_len}
+use Rattle.tabled_text.specs.Measure.{greatest, lines_of, text_columns}
+use Rattle.tabled_base.specs.Cells.{cell_at, columns}
+use Rattle.tabled_config.specs.declared.spanned.SpannedConfig.{SpannedConfig}
+use Rattle.tabled_config.specs.Settings.{style_at}
+
+-- the columns that a cell needs: its text's, and its padding on the left and right
+abbrev pub needed_width : List (List (List ℕ)) → SpannedConfig → ℕ → ℕ → ℕ
+needed_width cells config row column =
+    let padding = (style_at config row column).padding in
+    text_columns (cell_at cells row column) + (padding.left.size + padding.right.size)
+
+-- the lines that a cell needs: its text's, and its padding at the top and bottom
+abbrev pub needed_height : List (List (List ℕ)) → SpannedConfig → ℕ → ℕ → ℕ
+needed_height cells config row column =
+    let padding = (style_at config row column).padding in
+    length (lines_of (cell_at cells row column)) + (padding.top.size + padding.bottom.size)
+
+-- the most columns that a cell of a column needs
+unfoldable pub column_width : List (List (List ℕ)) → SpannedConfig → ℕ → ℕ
+column_width cells config column =
+    greatest (map (λ row. needed_width cells config row column) (range_with_len 0 (length cells)))
+
+-- the most lines that a cell of a row needs
+unfoldable pub row_height : List (List (List ℕ)) → SpannedConfig → ℕ → ℕ
+row_height cells config row =
+    greatest (map (needed_height cells config row) (range_with_len 0 (columns cells)))
+
+unfoldable pub estimated_widths : List (List (List ℕ)) → SpannedConfig → List ℕ
+estimated_widths cells config = map (column_width cells config) (range_with_len 0 (columns cells))
+
+unfoldable pub estimated_heights : List (List (List ℕ)) → SpannedConfig → List ℕ
+estimated_heights cells config = map (row_height cells config) (range_with_len 0 (length cells))
+
+-- a cell needs more columns than a number can say
+pub record IsTooWide (cells : List (List (List ℕ))) (config : SpannedConfig) : Type 0 where
+  pub row : ℕ
+  pub column : ℕ
+  pub row_in : row < length cells
+  pub column_in : column < columns cells
+  pub passes : 2 ^ 64 ≤ needed_width cells config row column
+
+-- a cell needs more lines than a number can say
+pub record IsTooHigh (cells : List (List (List ℕ))) (config : SpannedConfig) : Type 0 where
+  pub row : ℕ
+  pub column : ℕ
+  pub row_in : row < length cells
+  pub column_in : column < columns cells
+  pub passes : 2 ^ 64 ≤ needed_height cells config row column

@@ -1,0 +1,3 @@
+pub mod Estimates
+pub mod Sheet
+pub mod Totals

@@ -1,0 +1,47 @@
+-- The columns and lines of a whole table.
+use Rattle.std.specs.Prelude.{ℕ, zero, suc, ◌+◌, ◌-◌, ◌*◌, if◌then◌else◌, Bool, List, is_some, length}
+use Rattle.std.specs.List.{slice_index}
+use Rattle.tabled_base.specs.Cells.{columns}
+use Rattle.tabled_config.specs.declared.spanned.SpannedConfig.{SpannedConfig}
+use Rattle.tabled_config.specs.Frame.{has_left, has_right, has_inner}
+use Rattle.tabled_config.specs.Settings.{rule_at}
+use Rattle.tabled_size.specs.Sheet.{Sheet, is_empty}
+
+abbrev pub one_if : Bool → ℕ
+one_if there = if there then 1 else 0
+
+-- f 0 + .. + f (n - 1)
+abbrev pub sum_below : (ℕ → ℕ) → ℕ → ℕ
+sum_below f zero = 0
+sum_below f (suc n) = sum_below f n + f n
+
+-- of a table with some columns: their widths, the vertical lines that are there, and the margin on
+-- the left and right
+unfoldable pub filled_width : SpannedConfig → ℕ → List ℕ → ℕ
+filled_width config count widths =
+    (config.margin.left.size + one_if (has_left config.borders))
+    + ((sum_below (slice_index widths) count + (count - 1) * one_if (has_inner config.borders))
+    + (one_if (has_right config.borders) + config.margin.right.size))
+
+-- how many horizontal lines, none or one, stand above the row i or below the last row
+abbrev pub rules_at : SpannedConfig → ℕ → ℕ → ℕ
+rules_at config rows i = one_if (is_some (rule_at config rows i))
+
+-- a row with the horizontal line above it
+unfoldable pub part_height : SpannedConfig → ℕ → List ℕ → ℕ → ℕ
+part_height config rows heights row = rules_at config rows row + slice_index heights row
+
+-- of a table with some rows: their heights, the horizontal lines that are there, and the margin at
+-- the top and bottom
+unfoldable pub filled_height : SpannedConfig → ℕ → List ℕ → ℕ
+filled_height config rows heights =
+    config.margin.top.size
+    + (sum_below (part_height config rows heights) rows + (rules_at config rows rows + config.margin.bottom.size))
+
+-- the columns of the whole, none for a table with no row or no column
+abbrev pub total_width : Sheet → ℕ
+total_width t = if is_empty t.cells then 0 else filled_width t.config (columns t.cells) t.widths
+
+-- the lines of the whole, none for a table with no row or no column
+abbrev pub total_height : Sheet → ℕ
+total_height t = if is_empty t.cells then 0 else filled_height t.config (length t.cells) t.heights

@@ -1,0 +1,122 @@
+//! The widths and heights that the texts of a table ask for.
+ghost use Rattle.std.specs.Prelude.{◌≡◌, ◌⊎◌, ◌<◌, ◌≤◌, ◌^◌, IfOk, IfErr, MatchOption, length, map, max};
+ghost use Rattle.std.specs.List.{range_with_len, slice_index};
+ghost use Rattle.tabled_base.specs.Cells.{IsInside, columns};
+ghost use Rattle.tabled_base.specs.declared.error.TableError.TheVariants.{Memory, Range};
+ghost use Rattle.tabled_size.specs.Estimates.{IsTooHigh, IsTooWide, estimated_heights, estimated_widths, needed_height, needed_width, row_height};
+
+use std::alloc::Global;
+use tabled_base::{PeekableRecords, Position, TableError};
+use tabled_config::SpannedConfig;
+
+/// The columns that a cell needs, if a number can say them.
+fn needed_width<R: PeekableRecords>(
+    records: &R,
+    config: &SpannedConfig,
+    at: Position,
+) -> Option<usize>
+    requires { IsInside (R.cells records.now) at.row at.column }
+    ensures { MatchOption result
+        (2 ^ 64 ≤ needed_width (R.cells records.now) config.now at.row at.column)
+        (λ n. n ≡ needed_width (R.cells records.now) config.now at.row at.column) }
+{
+    let padding = config.style_at(at.row, at.column).padding;
+    let sides = padding.left.size.checked_add(padding.right.size)?;
+    records.get_width(at).checked_add(sides)
+}
+
+/// The lines that a cell needs, if a number can say them.
+fn needed_height<R: PeekableRecords>(
+    records: &R,
+    config: &SpannedConfig,
+    at: Position,
+) -> Option<usize>
+    requires { IsInside (R.cells records.now) at.row at.column }
+    ensures { MatchOption result
+        (2 ^ 64 ≤ needed_height (R.cells records.now) config.now at.row at.column)
+        (λ n. n ≡ needed_height (R.cells records.now) config.now at.row at.column) }
+{
+    let padding = config.style_at(at.row, at.column).padding;
+    let sides = padding.top.size.checked_add(padding.bottom.size)?;
+    records.count_lines(at).checked_add(sides)
+}
+
+/// Makes room for the cells of a row.
+fn raise_widths<R: PeekableRecords>(
+    records: &R,
+    config: &SpannedConfig,
+    row: usize,
+    widths: &mut [usize],
+) -> Result<(), TableError>
+    requires row_in { row < length (R.cells records.now) }
+    requires columns { length widths.old ≡ columns (R.cells records.now) }
+    ensures ok { IfOk result (λ _. widths.new ≡ map
+        (λ c. max (slice_index widths.old c) (needed_width (R.cells records.now) config.now row c))
+        (range_with_len 0 (columns (R.cells records.now)))) }
+    ensures err { IfErr result (λ e. (e ≡ Range) × IsTooWide (R.cells records.now) config.now) }
+{
+    'columns: for column in 0..records.count_columns() {
+        let Some(width) = needed_width(records, config, Position { row, column }) else {
+            return Err(TableError::Range);
+        };
+        widths[column] = widths[column].max(width);
+    }
+    Ok(())
+}
+
+/// The estimated widths, one a column. Refused for memory, or `Range` where a cell's text and padding
+/// pass the greatest `usize`.
+pub fn estimate_widths<R: PeekableRecords>(
+    alloc: Global,
+    records: &R,
+    config: &SpannedConfig,
+) -> Result<Vec<usize>, TableError>
+    ensures ok { IfOk result (λ v. v.items ≡ estimated_widths (R.cells records.now) config.now) }
+    ensures err { IfErr result (λ e. (e ≡ Memory)
+        ⊎ ((e ≡ Range) × IsTooWide (R.cells records.now) config.now)) }
+{
+    let mut widths = vec![in alloc; 0usize; records.count_columns()]?;
+    'rows: for row in 0..records.count_rows() {
+        raise_widths(records, config, row, &mut widths)?;
+    }
+    Ok(widths)
+}
+
+/// The lines that the cells of a row need, if a number can say them.
+fn row_height<R: PeekableRecords>(
+    records: &R,
+    config: &SpannedConfig,
+    row: usize,
+) -> Option<usize>
+    requires { row < length (R.cells records.now) }
+    ensures { MatchOption result (IsTooHigh (R.cells records.now) config.now)
+        (λ n. n ≡ row_height (R.cells records.now) config.now row) }
+{
+    let mut most: usize = 0;
+    'columns: for column in 0..records.count_columns() {
+        let height = needed_height(records, config, Position { row, column })?;
+        most = most.max(height);
+    }
+    Some(most)
+}
+
+/// The estimated heights, one a row. Refused for memory, or `Range` where a cell's lines and padding
+/// pass the greatest `usize`.
+pub fn estimate_heights<R: PeekableRecords>(
+    alloc: Global,
+    records: &R,
+    config: &SpannedConfig,
+) -> Result<Vec<usize>, TableError>
+    ensures ok { IfOk result (λ v. v.items ≡ estimated_heights (R.cells records.now) config.now) }
+    ensures err { IfErr result (λ e. (e ≡ Memory)
+        ⊎ ((e ≡ Range) × IsTooHigh (R.cells records.now) config.now)) }
+{
+    let mut heights = Vec::with_capacity(alloc, records.count_rows())?;
+    'rows: for row in 0..records.count_rows() {
+        let Some(height) = row_height(records, config, row) else {
+            return Err(TableError::Range);
+        };
+        heights.push(height)?;
+    }
+    Ok(heights)
+}

@@ -1,0 +1,3 @@
+pub mod NewTables
+pub mod Printing
+pub mod RowsAdded

@@ -1,0 +1,94 @@
+-- The settings of a new table are plain characters of one column, so its lines are straight.
+use Rattle.std.proofs.Common.{◌≡◌, ℕ, ◌+◌, ◌<◌, ◌≤◌, ◌==◌, cond, arith, Bool, true, false, List, length, Option, Some, None, refl, sym, ap, subst, ◌∙◌}
+use Rattle.tabled_text.specs.Plain.{IsPlainColumn}
+use Rattle.tabled_text.proofs.PlainLines.{plain_column-printable, plain_column-space}
+use Rattle.tabled_base.specs.Cells.{IsRectangular, columns}
+use Rattle.tabled_config.specs.declared.borders.HorizontalLine.{HorizontalLine}
+use Rattle.tabled_config.specs.Settings.{rule_at, style_at}
+use Rattle.tabled_size.specs.Estimates.{estimated_heights}
+use Rattle.tabled_size.specs.Sheet.{is_empty}
+use Rattle.tabled_size.specs.Totals.{filled_height, part_height, sum_below, total_height, total_width}
+use Rattle.tabled_size.proofs.Sums.{sum_step}
+use Rattle.tabled_grid.specs.Picture.{picture}
+use Rattle.tabled_grid.specs.PlainSheet.{ArePlain, EachLineTakes, IsPlainConfig, IsPlainRule, IsPlainStyle}
+use Rattle.tabled_grid.proofs.Estimated.{holds_estimated}
+use Rattle.tabled_grid.proofs.Whole.{picture_columns, picture_lines}
+use Rattle.tabled_table.specs.NewConfig.{new_config}
+use Rattle.tabled_table.specs.TableSheet.{new_sheet}
+
+plus : IsPlainColumn 43
+plus = plain_column-printable 43 refl
+
+dash : IsPlainColumn 45
+dash = plain_column-printable 45 refl
+
+bar : IsPlainColumn 124
+bar = plain_column-printable 124 refl
+
+-- every horizontal line is of dashes, with plus signs at the vertical lines
+ruled : HorizontalLine
+ruled = record { main = Some 45; left = Some 43; intersection = Some 43; right = Some 43 }
+
+rule_new : (rows i : ℕ) → rule_at new_config rows i ≡ Some ruled
+unfolding rule_at new_config ruled
+rule_new rows i = by_cases (i == 0) (i == rows)
+  where
+    by_cases : (a b : Bool) → cond a (Some ruled) (cond b (Some ruled) (Some ruled)) ≡ Some ruled
+    by_cases true b = refl
+    by_cases false true = refl
+    by_cases false false = refl
+
+plain_ruled : IsPlainRule ruled
+unfolding ruled
+plain_ruled = record { main = dash; left = plus; intersection = plus; right = plus }
+
+rule_plain : (rows i : ℕ) (line : HorizontalLine) → rule_at new_config rows i ≡ Some line → IsPlainRule line
+rule_plain rows i line h =
+    let e : Some ruled ≡ Some line = sym (rule_new rows i) ∙ h in
+    let same : ruled ≡ line = cc in
+    subst IsPlainRule same plain_ruled
+
+style_plain : (row column : ℕ) → IsPlainStyle (style_at new_config row column)
+unfolding style_at new_config
+style_plain row column = record { left = plain_column-space; right = plain_column-space; top = plain_column-space; bottom = plain_column-space }
+
+pub new_plain : (rows count : ℕ) → IsPlainConfig new_config rows count
+unfolding new_config
+new_plain rows count = record {
+  vertical = bar;
+  left = bar;
+  right = bar;
+  margin_left = plain_column-space;
+  margin_right = plain_column-space;
+  margin_top = plain_column-space;
+  margin_bottom = plain_column-space;
+  rules = rule_plain rows;
+  styles = λ row column h k. style_plain row column;
+}
+
+-- each line of a new table of plain texts takes as many columns as the whole
+pub new_columns : (cells : List (List (List ℕ))) → IsRectangular cells → ArePlain cells → EachLineTakes (total_width (new_sheet cells)) (picture (new_sheet cells))
+new_columns cells h plain =
+    picture_columns (new_sheet cells) (new_plain (length cells) (columns cells)) plain h (holds_estimated cells new_config)
+
+-- the picture has as many lines as the whole
+pub new_lines : (cells : List (List (List ℕ))) → length (picture (new_sheet cells)) ≡ total_height (new_sheet cells)
+new_lines cells = picture_lines (new_sheet cells)
+
+part_ge : (rows : ℕ) (heights : List ℕ) (row : ℕ) → 1 ≤ part_height new_config rows heights row
+unfolding part_height
+part_ge rows heights row = rw (rule_new rows row) (omega arith)
+
+high_enough : (rows : ℕ) (heights : List ℕ) → 1 ≤ sum_below (part_height new_config rows heights) rows → 2 ≤ filled_height new_config rows heights
+unfolding filled_height
+high_enough rows heights h = rw (rule_new rows rows) (omega arith)
+
+-- a new table that isn't empty has at least its first and its last line
+pub new_height : (cells : List (List (List ℕ))) → is_empty cells ≡ false → 0 < length cells → 2 ≤ total_height (new_sheet cells)
+new_height cells filled h =
+    let rows = length cells in
+    let heights = estimated_heights cells new_config in
+    let f = part_height new_config rows heights in
+    let first : sum_below f 0 + f 0 ≤ sum_below f rows = sum_step f 0 rows h in
+    let one : 1 ≤ f 0 = part_ge rows heights 0 in
+    rw filled (high_enough rows heights (omega arith))

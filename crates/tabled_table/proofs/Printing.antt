@@ -1,0 +1,100 @@
+-- Tables with estimated sizes that are printed, or refused before the first byte.
+use Rattle.std.proofs.Common.{◌≡◌, ℕ, ◌+◌, ◌<◌, ◌≤◌, ◌^◌, ◌⊎◌, inl, inr, ⊎_elim, Bool, true, false, List, [], ◌++◌, length, Result, Ok, Err, IfErr, refl, sym, ap, subst, ◌∙◌, arith}
+use Rattle.std.specs.List.{join_with_byte}
+use Rattle.std.specs.Result.{IsErrAnd}
+use Rattle.std.proofs.lemmas.List.FromFn.{length-map-range_with_len}
+use Rattle.tabled_base.specs.Cells.{columns}
+use Rattle.tabled_base.specs.declared.error.TableError.{TableError}
+use Rattle.tabled_base.specs.declared.error.TableError.TheVariants.{Memory, ShortWidths, ShortHeights, Narrow, Range, Writer}
+use Rattle.tabled_config.specs.declared.spanned.SpannedConfig.{SpannedConfig}
+use Rattle.tabled_size.specs.Estimates.{IsTooHigh, IsTooWide, column_width, estimated_heights, estimated_widths, row_height}
+use Rattle.tabled_size.specs.Sheet.{Sheet, estimated, is_empty}
+use Rattle.tabled_size.specs.Totals.{filled_height, filled_width, total_height, total_width}
+use Rattle.tabled_size.proofs.Passing.{too_high_passes, too_wide_passes}
+use Rattle.tabled_grid.specs.Picture.{picture, table_text}
+use Rattle.tabled_grid.specs.Printed.{IsPrintable, IsRefused, Prints}
+use Rattle.tabled_grid.specs.Sent.{Sends, Sent, Stops}
+use Rattle.tabled_grid.proofs.Estimated.{holds_estimated, passes_too_high, passes_too_wide, refused_estimated, sized_estimated}
+use Rattle.tabled_grid.proofs.Sending.{sends-none, sends-along}
+
+-- one size a column, and one a row
+pub widths_length : (cells : List (List (List ℕ))) (config : SpannedConfig) → length (estimated_widths cells config) ≡ columns cells
+unfolding estimated_widths
+widths_length cells config = length-map-range_with_len (column_width cells config) 0 (columns cells)
+
+pub heights_length : (cells : List (List (List ℕ))) (config : SpannedConfig) → length (estimated_heights cells config) ≡ length cells
+unfolding estimated_heights
+heights_length cells config = length-map-range_with_len (row_height cells config) 0 (length cells)
+
+picture_none : (t : Sheet) → is_empty t.cells ≡ true → table_text t ≡ []
+unfolding picture
+picture_none t e = rw e refl
+
+-- an empty table prints nothing
+pub prints_nothing : (t : Sheet) (a : Sent) → is_empty t.cells ≡ true → ((is_empty t.cells ≡ true) ⊎ IsPrintable t) × Sends a a (table_text t)
+prints_nothing t a e = (inl e, sends-along a a [] (table_text t) (sends-none a) (sym (picture_none t e)))
+
+-- refused before anything was written
+refused_early : (t : Sheet) (a : Sent) (e : TableError) → is_empty t.cells ≡ false → (e ≡ Memory) ⊎ IsRefused t e → (is_empty t.cells ≡ false) × ((IsRefused t e × (a ≡ a)) ⊎ Stops a e a (table_text t))
+refused_early t a e filled cause = (
+  filled,
+  ⊎_elim
+      (λ m. let P : TableError → Type 0 = λ d. Stops a d a (table_text t) in
+      let none = sends-none a in
+      let memory : Stops a Memory a (table_text t) = record { front = []; rest = table_text t; whole = refl; added = none.added; cause = none.counted } in
+      inr (subst P (sym m) memory))
+      (λ r. inl (r, refl)) cause,
+)
+
+-- the same, of a function that hands a refusal on
+pub refused_so : {T : Type 0} (t : Sheet) (a : Sent) (r : Result T TableError) (e : TableError) → is_empty t.cells ≡ false → (e ≡ Memory) ⊎ IsRefused t e → IsErrAnd r (λ d. d ≡ e) → Prints t a r a
+refused_so t a (Ok x) e filled cause h = absurd h
+refused_so t a (Err d) e filled cause h =
+    let P : TableError → Type 0 = λ k. (is_empty t.cells ≡ false) × ((IsRefused t k × (a ≡ a)) ⊎ Stops a k a (table_text t)) in
+    subst P (sym h) (refused_early t a e filled cause)
+
+-- a cell that is too wide, or too high
+pub refused_too_wide : {T : Type 0} (cells : List (List (List ℕ))) (config : SpannedConfig) (a : Sent) (r : Result T TableError) (e : TableError) → is_empty cells ≡ false → (e ≡ Memory) ⊎ ((e ≡ Range) × IsTooWide cells config) → IsErrAnd r (λ d. d ≡ e) → Prints (estimated cells config) a r a
+refused_too_wide cells config a r e filled cause h =
+    let P : TableError → Type 0 = IsRefused (estimated cells config) in
+    refused_so (estimated cells config) a r e filled
+    (⊎_elim (λ m. inl m) (λ x. inr (subst P (sym x.0) (sized_estimated cells config, holds_estimated cells config, passes_too_wide cells config x.1))) cause) h
+
+pub refused_too_high : {T : Type 0} (cells : List (List (List ℕ))) (config : SpannedConfig) (a : Sent) (r : Result T TableError) (e : TableError) → is_empty cells ≡ false → (e ≡ Memory) ⊎ ((e ≡ Range) × IsTooHigh cells config) → IsErrAnd r (λ d. d ≡ e) → Prints (estimated cells config) a r a
+refused_too_high cells config a r e filled cause h =
+    let P : TableError → Type 0 = IsRefused (estimated cells config) in
+    refused_so (estimated cells config) a r e filled
+    (⊎_elim (λ m. inl m) (λ x. inr (subst P (sym x.0) (sized_estimated cells config, holds_estimated cells config, passes_too_high cells config x.1))) cause) h
+
+stopped_only : (a b : Sent) (e : TableError) (text : List ℕ) → Stops a e b text → (e ≡ Memory) ⊎ ((e ≡ Range) ⊎ (e ≡ Writer))
+stopped_only a b Memory text s = inl refl
+stopped_only a b ShortWidths text s = absurd s.cause
+stopped_only a b ShortHeights text s = absurd s.cause
+stopped_only a b (Narrow row column) text s = absurd s.cause
+stopped_only a b Range text s = absurd s.cause
+stopped_only a b Writer text s = inr (inr refl)
+
+-- no stored size can be short or narrow
+pub only_estimated : {T : Type 0} (cells : List (List (List ℕ))) (config : SpannedConfig) (a b : Sent) (r : Result T TableError) → Prints (estimated cells config) a r b → IfErr r (λ e. (e ≡ Memory) ⊎ ((e ≡ Range) ⊎ (e ≡ Writer)))
+only_estimated cells config a b (Ok x) p = tt
+only_estimated cells config a b (Err e) p =
+    ⊎_elim (λ r. inr (inl (refused_estimated cells config e r.0).0)) (λ s. stopped_only a b e (table_text (estimated cells config)) s) p.1
+
+-- ---- totals
+
+width_passes : (cells : List (List (List ℕ))) (config : SpannedConfig) → is_empty cells ≡ false → IsTooWide cells config → 2 ^ 64 ≤ total_width (estimated cells config)
+width_passes cells config filled h = rw filled (too_wide_passes cells config h)
+
+height_passes : (cells : List (List (List ℕ))) (config : SpannedConfig) → is_empty cells ≡ false → IsTooHigh cells config → 2 ^ 64 ≤ total_height (estimated cells config)
+height_passes cells config filled h = rw filled (too_high_passes cells config h)
+
+-- a width that can't be estimated passes the range, and so does the total
+pub width_refused : {T : Type 0} (cells : List (List (List ℕ))) (config : SpannedConfig) (r : Result T TableError) (e : TableError) → is_empty cells ≡ false → (e ≡ Memory) ⊎ ((e ≡ Range) × IsTooWide cells config) → IsErrAnd r (λ d. d ≡ e) → IfErr r (λ d. (d ≡ Memory) ⊎ ((d ≡ Range) × (2 ^ 64 ≤ total_width (estimated cells config))))
+width_refused cells config (Ok x) e filled cause h = tt
+width_refused cells config (Err d) e filled cause h =
+    ⊎_elim (λ m. inl (h ∙ m)) (λ x. inr (h ∙ x.0, width_passes cells config filled x.1)) cause
+
+pub height_refused : {T : Type 0} (cells : List (List (List ℕ))) (config : SpannedConfig) (r : Result T TableError) (e : TableError) → is_empty cells ≡ false → (e ≡ Memory) ⊎ ((e ≡ Range) × IsTooHigh cells config) → IsErrAnd r (λ d. d ≡ e) → IfErr r (λ d. (d ≡ Memory) ⊎ ((d ≡ Range) × (2 ^ 64 ≤ total_height (estimated cells config))))
+height_refused cells config (Ok x) e filled cause h = tt
+height_refused cells config (Err d) e filled cause h =
+    ⊎_elim (λ m. inl (h ∙ m)) (λ x. inr (h ∙ x.0, height_passes cells config filled x.1)) cause

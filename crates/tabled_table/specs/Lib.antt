@@ -1,0 +1,2 @@
+pub mod NewConfig
+pub mod TableSheet

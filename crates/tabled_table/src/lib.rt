@@ -1,0 +1,14 @@
+//! Tables: made of values or rows, measured, and printed as the picture of their sizes.
+#![tactic(auto)]
+
+mod config;
+mod print;
+mod table;
+#[cfg(test)]
+mod tests;
+mod value;
+
+pub use config::new_config;
+pub use print::print_estimated;
+pub use table::Table;
+pub use value::Tabled;

@@ -1,0 +1,3 @@
+pub mod PlainLemmas
+pub mod Bridge
+pub mod PlainLines

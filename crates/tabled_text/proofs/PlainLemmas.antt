@@ -1,0 +1,129 @@
+-- The listed characters end no special sequence, by the tables of `unicode_width`, so that their columns add up.
+use Rattle.std.proofs.Common.{◌≡◌, ℕ, ◌≤◌, ◌<◌, Bool, true, false, cond, nat_le, ◌&&◌, ◌||◌, nat_lt, List, [], ◌∷◌, Option, None, refl, sym, ap, ◌∙◌, arith, subst, ⊎_elim, lit<, sum_by}
+use Rattle.std.specs.List.{list_all}
+use Rattle.std.proofs.lemmas.Bool.{and_parts, or_cases, or_left, or_right, and_from, leb-true, lt-ltb, eqb-true}
+use Rattle.std.proofs.lemmas.Bool.Decides.{nat_tests}
+use Rattle.unicode_width.specs.declared.kind.Kind.{Kind}
+use Rattle.ucd_bidi.specs.declared.JoiningGroup.TheVariants.{NoJoiningGroup}
+use Rattle.std.specs.Int.{is_in_range}
+use Rattle.ucd_table.specs.Rows.{Range, Row, in_ranges, value_in}
+use Rattle.ucd_emoji.specs.Binary.{is_emoji_presentation, is_emoji_modifier}
+use Rattle.ucd_emoji.specs.Ranges.{emoji_presentation_ranges, emoji_modifier_ranges}
+use Rattle.ucd_props.specs.Binary.{is_regional_indicator}
+use Rattle.ucd_props.specs.Ranges.{regional_indicator_ranges}
+use Rattle.ucd_bidi.specs.JoiningGroup.{joining_group}
+use Rattle.ucd_bidi.specs.JoiningGroupRows.{joining_group_rows}
+use Rattle.unicode_width.specs.Kind.{kind, named_rows, named_kind, unnamed_kind, letter_kind, width_kind, by_width, is_zero_width, is_wide, is_ambiguous}
+use Rattle.unicode_width.specs.Width.{str_width}
+use Rattle.unicode_width.proofs.Rules.{is_simple, is_simple_kind, str_width-simple}
+use Rattle.tabled_text.specs.Plain.{is_listed, has_plain_width, is_plain_character}
+use Rattle.tabled_text.specs.Measure.{char_columns}
+
+-- no range has a member from low to high
+abbrev misses : ℕ → ℕ → List Range → Bool
+misses low high [] = true
+misses low high (r ∷ rs) = (nat_lt high r.0 || nat_lt r.1 low) && misses low high rs
+
+outside : (a b low high c : ℕ) → (nat_lt high a || nat_lt b low) ≡ true → low ≤ c → c ≤ high → (nat_le a c && nat_le c b) ≡ false
+outside a b low high c h l u = grind (arith, nat_tests)
+
+in_ranges-missed : (low high : ℕ) (rs : List Range) → misses low high rs ≡ true → (c : ℕ) → low ≤ c → c ≤ high → in_ranges rs c ≡ false
+unfolding in_ranges
+in_ranges-missed low high [] h c l u = refl
+in_ranges-missed low high (r ∷ rs) h c l u =
+    let parts = and_parts (nat_lt high r.0 || nat_lt r.1 low) (misses low high rs) h in
+    ap (λ t. t || in_ranges rs c) (outside r.0 r.1 low high c parts.0 l u) ∙ in_ranges-missed low high rs parts.1 c l u
+
+-- no row has a member from low to high
+abbrev misses_rows : {V : Type 0} → ℕ → ℕ → List (Row V) → Bool
+misses_rows low high [] = true
+misses_rows low high (r ∷ rs) = (nat_lt high r.0 || nat_lt r.1 low) && misses_rows low high rs
+
+value_in-missed : {V : Type 0} (d : V) (low high : ℕ) (rs : List (Row V)) → misses_rows low high rs ≡ true → (c : ℕ) → low ≤ c → c ≤ high → value_in d rs c ≡ d
+unfolding value_in
+value_in-missed d low high [] h c l u = refl
+value_in-missed d low high (r ∷ rs) h c l u =
+    let parts = and_parts (nat_lt high r.0 || nat_lt r.1 low) (misses_rows low high rs) h in
+    ap (λ t. cond t r.2 (value_in d rs c)) (outside r.0 r.1 low high c parts.0 l u) ∙ value_in-missed d low high rs parts.1 c l u
+
+is_simple_kind-by_width : (a b c : Bool) → is_simple_kind (by_width a b c) ≡ true
+is_simple_kind-by_width true b c = refl
+is_simple_kind-by_width false true c = refl
+is_simple_kind-by_width false false true = refl
+is_simple_kind-by_width false false false = refl
+
+-- none of the tables that name a special sequence has a character from low to high
+record IsMissed (low high : ℕ) : Type 0 where
+  indicators : misses low high regional_indicator_ranges ≡ true
+  modifiers : misses low high emoji_modifier_ranges ≡ true
+  emoji : misses low high emoji_presentation_ranges ≡ true
+  joining : misses_rows low high joining_group_rows ≡ true
+  named : misses_rows low high named_rows ≡ true
+
+is_simple_kind-missed : (low high : ℕ) → IsMissed low high → (c : ℕ) → low ≤ c → c ≤ high → is_simple_kind (kind c) ≡ true
+unfolding kind named_kind unnamed_kind letter_kind width_kind is_regional_indicator is_emoji_modifier is_emoji_presentation joining_group
+is_simple_kind-missed low high m c l u =
+    let e₀ = value_in-missed (let n : Option Kind = None in n) low high named_rows m.named c l u in
+    let e₁ = in_ranges-missed low high regional_indicator_ranges m.indicators c l u in
+    let e₂ = in_ranges-missed low high emoji_modifier_ranges m.modifiers c l u in
+    let e₃ = in_ranges-missed low high emoji_presentation_ranges m.emoji c l u in
+    let e₄ = value_in-missed NoJoiningGroup low high joining_group_rows m.joining c l u in
+    rw (e₀, e₁, e₂, e₃, e₄) (is_simple_kind-by_width (is_zero_width c) (is_wide c) (is_ambiguous c))
+
+missed-latin : IsMissed 0xC0 0xFF
+unfolding regional_indicator_ranges emoji_modifier_ranges emoji_presentation_ranges joining_group_rows named_rows
+missed-latin = record { indicators = refl; modifiers = refl; emoji = refl; joining = refl; named = refl }
+
+missed-cyrillic : IsMissed 0x410 0x44F
+unfolding regional_indicator_ranges emoji_modifier_ranges emoji_presentation_ranges joining_group_rows named_rows
+missed-cyrillic = record { indicators = refl; modifiers = refl; emoji = refl; joining = refl; named = refl }
+
+missed-boxes : IsMissed 0x2500 0x257F
+unfolding regional_indicator_ranges emoji_modifier_ranges emoji_presentation_ranges joining_group_rows named_rows
+missed-boxes = record { indicators = refl; modifiers = refl; emoji = refl; joining = refl; named = refl }
+
+missed-ideographs : IsMissed 0x4E00 0x9FFF
+unfolding regional_indicator_ranges emoji_modifier_ranges emoji_presentation_ranges joining_group_rows named_rows
+missed-ideographs = record { indicators = refl; modifiers = refl; emoji = refl; joining = refl; named = refl }
+
+missed-replacement : IsMissed 0xFFFD 0xFFFD
+unfolding regional_indicator_ranges emoji_modifier_ranges emoji_presentation_ranges joining_group_rows named_rows
+missed-replacement = record { indicators = refl; modifiers = refl; emoji = refl; joining = refl; named = refl }
+
+is_simple-high : (low high : ℕ) → IsMissed low high → 0xA0 < low → (c : ℕ) → is_in_range low high c ≡ true → is_simple c ≡ true
+is_simple-high low high m h c e =
+    let parts = and_parts (nat_le low c) (nat_le c high) e in
+    let l : low ≤ c = leb-true low c parts.0 in
+    let k = is_simple_kind-missed low high m c l (leb-true c high parts.1) in
+    or_right (is_in_range 0x20 0x7E c) (nat_lt 0xA0 c && is_simple_kind (kind c)) (and_from (nat_lt 0xA0 c) (is_simple_kind (kind c)) (lt-ltb 0xA0 c (omega arith)) k)
+
+pub is_simple-listed : (c : ℕ) → is_listed c ≡ true → is_simple c ≡ true
+is_simple-listed c h =
+    ⊎_elim (λ a. or_left (is_in_range 0x20 0x7E c) (nat_lt 0xA0 c && is_simple_kind (kind c)) a)
+    (λ h₁. ⊎_elim (is_simple-high 0xC0 0xFF missed-latin (lit< tt) c)
+    (λ h₂. ⊎_elim (is_simple-high 0x410 0x44F missed-cyrillic (lit< tt) c)
+    (λ h₃. ⊎_elim (is_simple-high 0x2500 0x257F missed-boxes (lit< tt) c)
+    (λ h₄. ⊎_elim (is_simple-high 0x4E00 0x9FFF missed-ideographs (lit< tt) c)
+    (λ a. is_simple-high 0xFFFD 0xFFFD missed-replacement (lit< tt) c (subst (λ x. is_in_range 0xFFFD 0xFFFD x ≡ true) (sym (eqb-true c 0xFFFD a)) refl))
+    (or_cases _ _ h₄)) (or_cases _ _ h₃)) (or_cases _ _ h₂)) (or_cases _ _ h₁)) (or_cases _ _ h)
+
+-- that a listed character ends no sequence needs no test
+pub is_plain-listed : (c : ℕ) → is_listed c ≡ true → has_plain_width c ≡ is_plain_character c
+is_plain-listed c h = let s = is_simple-listed c h in join (is_listed c) (is_simple c) (has_plain_width c) h s
+  where
+    join : (a b w : Bool) → a ≡ true → b ≡ true → w ≡ (a && (w && b))
+    join true true true h s = refl
+    join true true false h s = refl
+    join true false w h s = cc
+    join false b w h s = cc
+
+pub is_simple-plain : (cs : List ℕ) → list_all is_plain_character cs ≡ true → list_all is_simple cs ≡ true
+is_simple-plain [] h = refl
+is_simple-plain (c ∷ cs) h =
+    let parts = and_parts (is_plain_character c) (list_all is_plain_character cs) h in
+    let own = and_parts (has_plain_width c) (is_simple c) (and_parts (is_listed c) (has_plain_width c && is_simple c) parts.0).1 in
+    and_from (is_simple c) (list_all is_simple cs) own.1 (is_simple-plain cs parts.1)
+
+-- characters that are plain take as many columns as they do one by one
+pub line_columns-plain : (cs : List ℕ) → list_all is_plain_character cs ≡ true → str_width false cs ≡ sum_by char_columns cs
+line_columns-plain cs h = str_width-simple false cs (is_simple-plain cs h)

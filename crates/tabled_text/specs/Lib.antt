@@ -1,0 +1,3 @@
+pub mod Lines
+pub mod Measure
+pub mod Plain

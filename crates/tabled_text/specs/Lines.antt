@@ -1,0 +1,14 @@
+-- What an iterator over lines has left.
+use Rattle.std.specs.Prelude.{ℕ, List, [], Option, Some, None}
+use Rattle.std.specs.Borrow.{Bor}
+use Rattle.tabled_text.specs.declared.line.TextLines.{TextLines}
+use Rattle.tabled_text.specs.Measure.{lines_of}
+
+-- the lines of a text that is there
+abbrev pub lines_in : Option (Bor (List ℕ)) → List (List ℕ)
+lines_in (Some text) = lines_of text.now
+lines_in None = []
+
+-- the lines that are left
+abbrev pub lines_left : TextLines → List (List ℕ)
+lines_left it = lines_in it.rest

@@ -1,0 +1,25 @@
+-- How texts are measured. A text is the list of its bytes.
+use Rattle.std.specs.Prelude.{ℕ, false, List, [], ◌∷◌, ◌==◌, chars, map, max, unwrap_or}
+use Rattle.std.specs.List.{slice_split}
+use Rattle.unicode_width.specs.Width.{char_width, str_width}
+
+-- the pieces between line feeds, of bytes or of characters; the empty text has one empty line
+abbrev pub lines_of : List ℕ → List (List ℕ)
+lines_of text = slice_split (λ c. c == 10) text
+
+-- the columns of a line
+abbrev pub line_columns : List ℕ → ℕ
+line_columns line = str_width false (chars line)
+
+-- the greatest of some numbers, 0 where there is none
+abbrev pub greatest : List ℕ → ℕ
+greatest [] = 0
+greatest (x ∷ xs) = max x (greatest xs)
+
+-- the columns of a text: those of its widest line
+abbrev pub text_columns : List ℕ → ℕ
+text_columns text = greatest (map line_columns (lines_of text))
+
+-- the columns of a character, 0 where it has none
+abbrev pub char_columns : ℕ → ℕ
+char_columns c = unwrap_or (char_width false c) 0

@@ -1,0 +1,42 @@
+-- Plain characters, whose columns add up, and the texts and lines that are made of them.
+use Rattle.std.specs.Prelude.{◌≡◌, ℕ, Bool, true, ◌==◌, ◌&&◌, ◌||◌, List, chars}
+use Rattle.std.specs.Int.{is_in_range}
+use Rattle.std.specs.List.{list_all}
+use Rattle.std.specs.Str.{IsUtf8}
+use Rattle.unicode_width.proofs.Rules.{is_simple}
+use Rattle.tabled_text.specs.Measure.{char_columns, line_columns}
+
+-- the characters that are listed as plain: printable ASCII, Latin letters, Cyrillic letters, lines of
+-- boxes, ideographs, and the replacement character
+abbrev pub is_listed : ℕ → Bool
+is_listed c =
+    is_in_range 0x20 0x7E c || (is_in_range 0xC0 0xFF c || (is_in_range 0x410 0x44F c || (is_in_range 0x2500 0x257F c
+    || (is_in_range 0x4E00 0x9FFF c || (c == 0xFFFD)))))
+
+-- one or two columns
+abbrev pub has_plain_width : ℕ → Bool
+has_plain_width c = (char_columns c == 1) || (char_columns c == 2)
+
+-- it is listed, takes one or two columns, and ends no special sequence of `unicode_width`
+abbrev pub is_plain_character : ℕ → Bool
+is_plain_character c = is_listed c && (has_plain_width c && is_simple c)
+
+-- a plain character or a line feed
+abbrev pub is_plain_or_feed : ℕ → Bool
+is_plain_or_feed c = (c == 10) || is_plain_character c
+
+-- a text of plain characters and line feeds
+pub record IsPlain (text : List ℕ) : Type 0 where
+  pub utf8 : IsUtf8 text
+  pub characters : list_all is_plain_or_feed (chars text) ≡ true
+
+-- a line of plain characters, which takes n columns
+pub record IsPlainLine (line : List ℕ) (n : ℕ) : Type 0 where
+  pub utf8 : IsUtf8 line
+  pub characters : list_all is_plain_character (chars line) ≡ true
+  pub columns : line_columns line ≡ n
+
+-- a plain character of one column
+pub record IsPlainColumn (c : ℕ) : Type 0 where
+  pub character : is_plain_character c ≡ true
+  pub columns : char_columns c ≡ 1

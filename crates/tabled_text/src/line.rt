@@ -1,0 +1,42 @@
+//! The lines of a text, one after another.
+ghost use Rattle.std.specs.Prelude.{◌≡◌, ◌∷◌};
+ghost use Rattle.std.specs.Iterator.{YieldsFirstBy, item_count};
+ghost use Rattle.tabled_text.specs.Lines.{lines_in, lines_left};
+ghost use Rattle.tabled_text.specs.Measure.{lines_of};
+
+/// The lines of a text that are left, as `lines` gives them.
+#[derive(Drop)]
+pub struct TextLines<'a> {
+    rest: Option<&'a str>,
+}
+
+/// The lines of a text, without their line feeds. The empty text has one empty line.
+pub fn lines(text: &str) -> TextLines<'_>
+    ensures { lines_left result ≡ lines_of text.now }
+{
+    TextLines { rest: Some(text) }
+}
+
+/// The first line of a text, and what follows its line feed.
+fn split_line(text: &str) -> (&str, Option<&str>)
+    ensures { lines_of text.now ≡ result.0.now ∷ lines_in result.1 }
+{
+    match text.split_once('\n') {
+        Some((line, after)) => (line, Some(after)),
+        None => (text, None),
+    }
+}
+
+impl<'a> Iterator for TextLines<'a> {
+    type Item = &'a str;
+
+    ghost next_gives = { YieldsFirstBy (λ line. line.now) lines_left };
+
+    ghost remaining = { item_count lines_left };
+
+    fn next(&mut self) -> Option<&'a str> {
+        let (line, rest) = split_line(self.rest?);
+        self.rest = rest;
+        Some(line)
+    }
+}

@@ -1,0 +1,33 @@
+//! The columns and the lines of a text.
+ghost use Rattle.std.specs.Prelude.{◌≡◌, ◌*◌, ◌≤◌, length};
+ghost use Rattle.tabled_text.specs.Measure.{lines_of, line_columns, text_columns};
+
+use crate::line::lines;
+use unicode_width::UnicodeWidthStr;
+
+/// The columns of a line, by `unicode_width`. The text is taken as one line, line feeds and all.
+pub fn line_width(line: &str) -> usize
+    ensures value { result ≡ line_columns line.now }
+    ensures bound { result ≤ 2 * length line.now }
+{
+    line.width()
+}
+
+/// The columns of a text: those of its widest line.
+pub fn text_width(text: &str) -> usize
+    ensures value { result ≡ text_columns text.now }
+    ensures bound { result ≤ 2 * length text.now }
+{
+    let mut widest: usize = 0;
+    'lines: for line in lines(text) {
+        widest = widest.max(line_width(line));
+    }
+    widest
+}
+
+/// The lines of a text, one more than its line feeds.
+pub fn count_lines(text: &str) -> usize
+    ensures { result ≡ length (lines_of text.now) }
+{
+    text.split('\n').count()
+}

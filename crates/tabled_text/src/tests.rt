@@ -1,0 +1,45 @@
+use super::*;
+
+#[test]
+fn a_text_is_as_wide_as_its_widest_line(rt: HostRuntime) {
+    let cases = [
+        ("", 0),
+        ("a", 1),
+        ("中", 2),
+        ("a\nbcd\n", 3),
+        ("😳", 2),
+        ("e\u{301}", 1),
+    ];
+    for (text, columns) in cases {
+        assert_eq!(rt; text_width(text), columns, "at {text}");
+    }
+}
+
+#[test]
+fn a_text_has_one_line_more_than_line_feeds(rt: HostRuntime) {
+    for (text, count) in [("", 1), ("\n", 2), ("a\nb", 2)] {
+        assert_eq!(rt; count_lines(text), count, "at {text}");
+    }
+}
+
+#[test]
+fn an_empty_line_is_a_line(rt: HostRuntime) {
+    let mut left = lines("a\n\nb");
+    assert_eq!(rt; left.next(), Some("a"));
+    assert_eq!(rt; left.next(), Some(""));
+    assert_eq!(rt; left.next(), Some("b"));
+    assert_eq!(rt; left.next(), None);
+}
+
+#[test]
+fn listed_characters_and_line_feeds_are_plain(rt: HostRuntime) {
+    assert!(rt; is_plain(""));
+    assert!(rt; is_plain("Hello, мир 中文 ─│┼ ÀÿÑ \u{FFFD}\n"));
+}
+
+#[test]
+fn other_characters_are_not_plain(rt: HostRuntime) {
+    for text in ["a\tb", "e\u{301}", "あ", "😳"] {
+        assert!(rt; !is_plain(text), "at {text}");
+    }
+}
