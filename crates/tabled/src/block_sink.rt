@@ -85,17 +85,21 @@ impl<W: Write> BlockSink<W> {
         self.hand_over()
     }
 
-    /// Holds some bytes back.
+    /// Holds some bytes back; a single one, the commonest, without a copy of a slice.
     #[inline]
     fn hold(&mut self, bytes: &[u8]) -> Result<(), TableError>
         ensures { Writes (block_sent W.contents self.old) result
             (block_sent W.contents self.new) bytes.now }
     {
-        self.held.extend_from_slice(bytes)?;
+        match bytes {
+            [byte] => self.held.push(*byte)?,
+            _ => self.held.extend_from_slice(bytes)?,
+        }
         Ok(())
     }
 
     /// Holds any bytes back, and hands each block that is full to the writer.
+    #[inline(never)]
     fn hold_parts(&mut self, bytes: &[u8]) -> Result<(), TableError>
         ensures { Writes (block_sent W.contents self.old) result
             (block_sent W.contents self.new) bytes.now }

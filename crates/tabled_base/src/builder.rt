@@ -48,6 +48,7 @@ impl Builder {
             × Given I.into_iter_gives I.IntoIter.next_gives cells items
             × (self.new ≡ with_record self.old (map I.Item.text items))) }
         ensures err { OnErr result (self.new ≡ self.old) }
+        ensures rectangular { IsRectangular self.new }
         ensures only { IfErr result (λ e. e ≡ Memory) }
     {
         let row = collect_row(*self.rows.allocator(), cells)?;
@@ -64,6 +65,7 @@ impl Builder {
         ensures ok { IfOk result (λ t. (items : List I.Item)
             × Given I.into_iter_gives I.IntoIter.next_gives cells items
             × (t.now ≡ with_record self.old (map I.Item.text items))) }
+        ensures rectangular { IfOk result (λ t. IsRectangular t.now) }
         ensures only { IfErr result (λ e. e ≡ Memory) }
     {
         self.add_record(cells)?;
@@ -72,7 +74,8 @@ impl Builder {
 
     /// The records of the rows. It takes no memory.
     pub fn build(self) -> VecRecords<Text<String>>
-        ensures { result ≡ self }
+        ensures value { result ≡ self }
+        ensures rectangular { IsRectangular result }
     {
         VecRecords::new(self.rows)
     }

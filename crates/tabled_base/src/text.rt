@@ -5,7 +5,7 @@ ghost use Rattle.tabled_text.specs.Measure.{lines_of, text_columns};
 use crate::records::CellText;
 use std::convert::AsStr;
 use std::marker::Model;
-use tabled_text::{count_lines, text_width};
+use tabled_text::text_measures;
 
 /// A text whose columns and lines were counted once. `Text<String>` owns it, `Text<&str>` lends it.
 #[derive(Drop)]
@@ -29,8 +29,7 @@ impl<S: AsStr> Text<S> {
     pub fn new(text: S) -> Self
         ensures { result ≡ S.text text }
     {
-        let columns = text_width(text.as_str());
-        let lines = count_lines(text.as_str());
+        let (columns, lines) = text_measures(text.as_str());
         Text {
             text,
             columns,

@@ -1,9 +1,9 @@
 -- The lines of a text's bytes, as lines of its characters, and the columns of a text by its lines.
 use Rattle.std.proofs.Common.{◌≡◌, ℕ, zero, suc, ◌<◌, ◌≤◌, Bool, true, false, cond, ◌==◌, ◌||◌, ◌&&◌, List, [], ◌∷◌, ◌++◌, chars, length, get_or, map, max, encode_utf8, encode_utf8_all, refl, sym, ap, ◌∙◌, subst, arith, All, ⊎_elim, lit<, append-nil}
-use Rattle.std.specs.List.{list_all, onto_first, slice_index_or, join_with_byte}
+use Rattle.std.specs.List.{list_all, list_any, onto_first, slice_index_or, join_with_byte}
 use Rattle.std.specs.Str.{IsUtf8}
 use Rattle.std.proofs.Math.Utf8.{scalar, scalars}
-use Rattle.std.proofs.lemmas.Bool.{and_parts, and_from, cases_Bool, eqb-true}
+use Rattle.std.proofs.lemmas.Bool.{and_parts, and_from, or_parts, cases_Bool, eqb-true}
 use Rattle.std.proofs.lemmas.List.{get_or_default}
 use Rattle.std.proofs.lemmas.List.Elements.{All-head, All-tail, All-cons, All-nil, All-map}
 use Rattle.std.proofs.lemmas.List.Splits.{slice_split-cons_no, length-slice_split, join_with_byte-slice_split}
@@ -181,3 +181,10 @@ pub text_columns-one : (text : List ℕ) → length (lines_of text) ≡ 1 → te
 text_columns-one text h =
     let e : max (line_columns text) 0 ≡ line_columns text = omega arith in
     ap (λ ls. greatest (map line_columns ls)) (lines_of-one text h) ∙ e
+
+-- bytes among which there is no line feed are one line
+pub lines_of-no_feed : (bs : List ℕ) → list_any is_feed bs ≡ false → lines_of bs ≡ bs ∷ []
+lines_of-no_feed [] h = refl
+lines_of-no_feed (b ∷ bs) h =
+    let parts = or_parts (is_feed b) (list_any is_feed bs) h in
+    slice_split-cons_no is_feed b bs parts.0 ∙ ap (onto_first b) (lines_of-no_feed bs parts.1)

@@ -12,5 +12,5 @@ mod plain;
 mod tests;
 
 pub use line::{TextLines, lines};
-pub use measure::{count_lines, line_width, text_width};
+pub use measure::{count_lines, line_width, text_measures, text_width};
 pub use plain::is_plain;

@@ -31,3 +31,15 @@ pub fn count_lines(text: &str) -> usize
 {
     text.split('\n').count()
 }
+
+/// The columns and the lines of a text. A text of one line is measured as that line.
+pub fn text_measures(text: &str) -> (usize, usize)
+    ensures columns { result.0 ≡ text_columns text.now }
+    ensures lines { result.1 ≡ length (lines_of text.now) }
+{
+    if text.as_bytes().contains(&b'\n') {
+        (text_width(text), count_lines(text))
+    } else {
+        (line_width(text), 1)
+    }
+}
