@@ -1,17 +1,17 @@
 -- Tables of texts: whether they are empty, and what is printed of them.
-use Rattle.std.proofs.Common.{◌≡◌, ℕ, ◌+◌, ◌<◌, ◌≤◌, ◌==◌, ◌||◌, cond, Bool, true, false, List, [], ◌∷◌, ◌++◌, length, map, refl, sym, ap, ◌∙◌, arith, append-nil, length-append}
-use Rattle.std.specs.List.{join_with_byte, slice_split}
+use Rattle.std.proofs.Common.{◌≡◌, ℕ, ◌<◌, ◌≤◌, ◌==◌, cond, true, false, List, [], ◌∷◌, ◌++◌, length, map, refl, sym, ap, arith, length-append}
+use Rattle.std.specs.List.{join_with_byte}
 use Rattle.std.proofs.lemmas.Bool.Decides.{nat_tests}
 use Rattle.std.proofs.lemmas.List.{length-map}
 use Rattle.std.proofs.lemmas.List.Splits.{length-slice_split}
 use Rattle.tabled_text.specs.Measure.{lines_of}
-use Rattle.tabled_base.specs.Cells.{IsRectangular, columns, padded}
+use Rattle.tabled_base.specs.Cells.{IsRectangular, padded}
 use Rattle.tabled_base.specs.TextRows.{cells_of, most_cells, row_lines, text_rows, without_last_feed}
 use Rattle.tabled_base.proofs.Padding.{length-padded}
 use Rattle.tabled_base.proofs.Splitting.{rows-rectangular}
 use Rattle.tabled_size.specs.Sheet.{is_empty}
 use Rattle.tabled_size.specs.Totals.{total_height, total_width}
-use Rattle.tabled_grid.specs.Picture.{picture, table_text}
+use Rattle.tabled_grid.specs.Picture.{picture}
 use Rattle.tabled_grid.specs.PlainSheet.{ArePlain, EachLineTakes}
 use Rattle.tabled_table.specs.TableSheet.{new_sheet}
 use Rattle.tabled_table.proofs.NewTables.{new_columns, new_height, new_lines}

@@ -1,5 +1,5 @@
 -- Which lines of a frame are there, and their characters.
-use Rattle.std.specs.Prelude.{ℕ, ◌==◌, if◌then◌else◌, Bool, true, false, ◌||◌, Option, Some, None, is_some}
+use Rattle.std.specs.Prelude.{ℕ, ◌==◌, if◌then◌else◌, Bool, ◌||◌, Option, Some, None, is_some}
 use Rattle.tabled_config.specs.declared.borders.Borders.{Borders}
 use Rattle.tabled_config.specs.declared.borders.HorizontalLine.{HorizontalLine}
 

@@ -54,6 +54,6 @@ pub greatest_each : (f : ℕ → ℕ → ℕ) (xs : List ℕ) (rows n : ℕ) →
 greatest_each f xs rows n e =
     mapped_same (λ c. max (slice_index xs c) (f rows c)) (λ c. greatest_below (λ r. f r c) (rows + 1)) n
     (λ c l.
-      let at : slice_index xs c ≡ greatest_below (λ r. f r c) rows =
-        ap (λ ys. slice_index ys c) e ∙ get_or-map-range_with_len (λ c. greatest_below (λ r. f r c) rows) 0 n c c 0 l (omega arith) in
-      ap (λ m. max m (f rows c)) at ∙ sym (greatest_more (λ r. f r c) rows))
+    let at : slice_index xs c ≡ greatest_below (λ r. f r c) rows =
+    ap (λ ys. slice_index ys c) e ∙ get_or-map-range_with_len (λ c. greatest_below (λ r. f r c) rows) 0 n c c 0 l (omega arith) in
+    ap (λ m. max m (f rows c)) at ∙ sym (greatest_more (λ r. f r c) rows))

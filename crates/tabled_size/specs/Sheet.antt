@@ -16,7 +16,8 @@ estimated cells config = record {
   cells = cells;
   config = config;
   widths = estimated_widths cells config;
-  heights = estimated_heights cells config }
+  heights = estimated_heights cells config;
+}
 
 -- it has no row or no column
 abbrev pub is_empty : List (List (List ℕ)) → Bool

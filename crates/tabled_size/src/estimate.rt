@@ -83,11 +83,7 @@ pub fn estimate_widths<R: PeekableRecords>(
 }
 
 /// The lines that the cells of a row need, if a number can say them.
-fn row_height<R: PeekableRecords>(
-    records: &R,
-    config: &SpannedConfig,
-    row: usize,
-) -> Option<usize>
+fn row_height<R: PeekableRecords>(records: &R, config: &SpannedConfig, row: usize) -> Option<usize>
     requires { row < length (R.cells records.now) }
     ensures { MatchOption result (IsTooHigh (R.cells records.now) config.now)
         (λ n. n ≡ row_height (R.cells records.now) config.now row) }

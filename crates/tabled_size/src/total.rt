@@ -42,12 +42,7 @@ pub fn filled_width(config: &SpannedConfig, columns: usize, widths: &[usize]) ->
 }
 
 #[tactic(auto, unfolding(crate::specs::Totals::part_height))]
-fn part_height(
-    config: &SpannedConfig,
-    rows: usize,
-    heights: &[usize],
-    row: usize,
-) -> Option<usize>
+fn part_height(config: &SpannedConfig, rows: usize, heights: &[usize], row: usize) -> Option<usize>
     requires row_in { row < rows }
     requires sized { rows ≤ length heights.now }
     ensures { MatchOption result (2 ^ 64 ≤ part_height config.now rows heights.now row)

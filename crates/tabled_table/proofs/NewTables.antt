@@ -1,5 +1,5 @@
 -- The settings of a new table are plain characters of one column, so its lines are straight.
-use Rattle.std.proofs.Common.{◌≡◌, ℕ, ◌+◌, ◌<◌, ◌≤◌, ◌==◌, cond, arith, Bool, true, false, List, length, Option, Some, None, refl, sym, ap, subst, ◌∙◌}
+use Rattle.std.proofs.Common.{◌≡◌, ℕ, ◌+◌, ◌<◌, ◌≤◌, ◌==◌, cond, arith, Bool, true, false, List, length, Some, refl, sym, subst, ◌∙◌}
 use Rattle.tabled_text.specs.Plain.{IsPlainColumn}
 use Rattle.tabled_text.proofs.PlainLines.{plain_column-printable, plain_column-space}
 use Rattle.tabled_base.specs.Cells.{IsRectangular, columns}

@@ -1,6 +1,5 @@
 -- Tables with estimated sizes that are printed, or refused before the first byte.
-use Rattle.std.proofs.Common.{◌≡◌, ℕ, ◌+◌, ◌<◌, ◌≤◌, ◌^◌, ◌⊎◌, inl, inr, ⊎_elim, Bool, true, false, List, [], ◌++◌, length, Result, Ok, Err, IfErr, refl, sym, ap, subst, ◌∙◌, arith}
-use Rattle.std.specs.List.{join_with_byte}
+use Rattle.std.proofs.Common.{◌≡◌, ℕ, ◌≤◌, ◌^◌, ◌⊎◌, inl, inr, ⊎_elim, true, false, List, [], length, Result, Ok, Err, IfErr, refl, sym, subst, ◌∙◌}
 use Rattle.std.specs.Result.{IsErrAnd}
 use Rattle.std.proofs.lemmas.List.FromFn.{length-map-range_with_len}
 use Rattle.tabled_base.specs.Cells.{columns}
@@ -9,7 +8,7 @@ use Rattle.tabled_base.specs.declared.error.TableError.TheVariants.{Memory, Shor
 use Rattle.tabled_config.specs.declared.spanned.SpannedConfig.{SpannedConfig}
 use Rattle.tabled_size.specs.Estimates.{IsTooHigh, IsTooWide, column_width, estimated_heights, estimated_widths, row_height}
 use Rattle.tabled_size.specs.Sheet.{Sheet, estimated, is_empty}
-use Rattle.tabled_size.specs.Totals.{filled_height, filled_width, total_height, total_width}
+use Rattle.tabled_size.specs.Totals.{total_height, total_width}
 use Rattle.tabled_size.proofs.Passing.{too_high_passes, too_wide_passes}
 use Rattle.tabled_grid.specs.Picture.{picture, table_text}
 use Rattle.tabled_grid.specs.Printed.{IsPrintable, IsRefused, Prints}

@@ -1,15 +1,17 @@
 //! Prints tab-separated rows from standard input as a table on standard output.
 #![tactic(auto)]
 
-use std::io;
 use std::process::ExitCode;
-use std::env;
+use std::{env, io};
 use tabled::run;
 
 fn main(rt: HostRuntime) -> ExitCode {
-    let Ok(words) = arguments(&rt) else {
-        let _ = eprintln!(rt; "Input");
-        return ExitCode::from(1);
+    let words = match arguments(&rt) {
+        Ok(words) => words,
+        Err(error) => {
+            let _ = eprintln!(rt; "{}", fault_word(&error));
+            return ExitCode::from(1);
+        }
     };
     let status = run(
         rt.alloc(),
@@ -19,6 +21,14 @@ fn main(rt: HostRuntime) -> ExitCode {
         rt.stderr(),
     );
     ExitCode::from(status)
+}
+
+/// The line for words that couldn't be had: memory was refused, or one is no UTF-8.
+fn fault_word(error: &io::Error) -> &'static str {
+    match error.kind() {
+        io::ErrorKind::OutOfMemory => "Memory",
+        _ => "Input",
+    }
 }
 
 /// The words behind the program's name.

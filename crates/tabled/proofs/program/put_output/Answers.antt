@@ -1,4 +1,4 @@
-use Rattle.std.proofs.Common.{sym, ◌∙◌, append-nil}
+use Rattle.std.proofs.Common.{sym}
 use Rattle.tabled_grid.proofs.Sending.{finished, sends-along, sent_if_ok}
 use Rattle.tabled.proofs.TextTables.{feed_none, feed_some}
 use Rattle.tabled.proofs.program.put_output.Goals as goal

@@ -1,4 +1,4 @@
-use Rattle.std.proofs.Common.{◌≡◌, ◌++◌, ◌∙◌, sym, ap, refl, arith}
+use Rattle.std.proofs.Common.{◌++◌, ◌∙◌, sym, ap, refl, arith}
 use Rattle.tabled_grid.proofs.Sending.{finished, sends-none}
 use Rattle.tabled_grid.specs.Fill.{fill}
 use Rattle.tabled_grid.proofs.Fills.{fill-add}

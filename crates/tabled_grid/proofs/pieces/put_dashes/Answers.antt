@@ -1,4 +1,4 @@
-use Rattle.std.proofs.Common.{◌≡◌, ◌-◌, ap, arith}
+use Rattle.std.proofs.Common.{◌-◌, ap, arith}
 use Rattle.tabled_grid.proofs.Sending.{further, sends-along, stopped}
 use Rattle.tabled_grid.specs.Fill.{fill}
 use Rattle.tabled_grid.proofs.Fills.{fill-add, fill-parts}

@@ -1,5 +1,3 @@
-use Rattle.std.proofs.Common.{arith}
-use Rattle.tabled_base.proofs.Padding.{rectangular-from_length}
 use Rattle.tabled_table.proofs.RowsAdded.{lengths_added, texts_added}
 use Rattle.tabled_table.proofs.table.value_records.Goals as goal
 

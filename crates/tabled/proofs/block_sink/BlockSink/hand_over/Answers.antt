@@ -1,4 +1,4 @@
-use Rattle.std.proofs.Common.{◌≤◌, refl, arith}
+use Rattle.std.proofs.Common.{refl, arith}
 use Rattle.tabled_grid.proofs.Sending.{further}
 use Rattle.tabled.proofs.Blocks.{from_place, taken_more}
 use Rattle.tabled.proofs.block_sink.BlockSink.hand_over.Goals as goal

@@ -1,4 +1,4 @@
-use Rattle.std.proofs.Common.{◌≡◌, ◌-◌, [], length}
+use Rattle.std.proofs.Common.{◌-◌, [], length}
 use Rattle.tabled_grid.specs.Sent.{Sends}
 use Rattle.tabled.specs.BlockSent.{block_sent}
 use Rattle.tabled.proofs.block_sink.BlockSink.hand_over.Given as goal

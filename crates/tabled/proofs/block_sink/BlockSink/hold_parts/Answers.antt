@@ -1,4 +1,4 @@
-use Rattle.std.proofs.Common.{◌++◌, refl, ◌∙◌, sym, ap, append-nil}
+use Rattle.std.proofs.Common.{◌++◌, ◌∙◌, sym, ap, append-nil}
 use Rattle.tabled_grid.proofs.Sending.{further, stopped, took-more}
 use Rattle.tabled.proofs.Blocks.{two_parts}
 use Rattle.tabled.proofs.block_sink.BlockSink.hold_parts.Goals as goal
