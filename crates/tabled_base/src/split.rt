@@ -21,8 +21,7 @@ pub fn text_rows(alloc: Global, text: &str) -> Result<VecRecords<Text<&str>>, Ta
     if text.is_empty() {
         return Ok(VecRecords::new(Vec::new(alloc)));
     }
-    let whole = without_last_feed(text);
-    let rows = split_rows(alloc, whole, most_cells(whole))?;
+    let rows = padded_rows(alloc, without_last_feed(text))?;
     Ok(VecRecords::new(rows))
 }
 
@@ -38,36 +37,22 @@ fn without_last_feed(text: &str) -> &str
     }
 }
 
-/// The cells of the longest line.
-fn most_cells(text: &str) -> usize
-    ensures { result ≡ most_cells (lines_of text.now) }
-{
-    let mut most: usize = 0;
-    for line in lines(text) {
-        most = most.max(count_cells(line));
-    }
-    most
-}
-
-fn count_cells(line: &str) -> usize
-    ensures { result ≡ length (cells_of line.now) }
-{
-    line.split('\t').count()
-}
-
-/// The lines of a text as rows, padded.
-fn split_rows(alloc: Global, text: &str, columns: usize) -> Result<Vec<Vec<Text<&str>>>, TableError>
-    ensures ok { IfOk result (λ rows. row_texts rows.items
-        ≡ map (λ line. padded columns (cells_of line)) (lines_of text.now)) }
+/// The lines of a text as rows, and the cells of the longest. A row first gets the room of the one before.
+fn split_rows(alloc: Global, text: &str) -> Result<(Vec<Vec<Text<&str>>>, usize), TableError>
+    ensures rows { IfOk result (λ split. row_texts split.0.items ≡ map cells_of (lines_of text.now)) }
+    ensures most { IfOk result (λ split. split.1 ≡ most_cells (lines_of text.now)) }
     ensures only { IfErr result (λ e. e ≡ Memory) }
 {
     let mut rows = Vec::with_capacity(alloc, count_lines(text))?;
+    let mut most: usize = 0;
+    let mut room: usize = 0;
     for line in lines(text) {
-        let mut row = split_cells(alloc, line, columns)?;
-        pad_cells(&mut row, columns)?;
+        let row = split_cells(alloc, line, room)?;
+        room = row.len();
+        most = most.max(room);
         rows.push(row)?;
     }
-    Ok(rows)
+    Ok((rows, most))
 }
 
 /// The cells of a line, with room for so many.
@@ -89,6 +74,28 @@ fn pad_cells(row: &mut Vec<Text<&str>>, columns: usize) -> Result<(), TableError
 {
     for _column in row.len()..columns {
         row.push(Text::new(""))?;
+    }
+    Ok(())
+}
+
+/// The lines of a text as rows, padded.
+fn padded_rows(alloc: Global, text: &str) -> Result<Vec<Vec<Text<&str>>>, TableError>
+    ensures ok { IfOk result (λ rows. row_texts rows.items
+        ≡ map (padded (most_cells (lines_of text.now))) (map cells_of (lines_of text.now))) }
+    ensures only { IfErr result (λ e. e ≡ Memory) }
+{
+    let (mut rows, columns) = split_rows(alloc, text)?;
+    pad_rows(rows.as_mut_slice(), columns)?;
+    Ok(rows)
+}
+
+/// Pads rows.
+fn pad_rows(rows: &mut [Vec<Text<&str>>], columns: usize) -> Result<(), TableError>
+    ensures ok { IfOk result (λ _. row_texts rows.new ≡ map (padded columns) (row_texts rows.old)) }
+    ensures only { IfErr result (λ e. e ≡ Memory) }
+{
+    for row in rows.iter_mut() {
+        pad_cells(row, columns)?;
     }
     Ok(())
 }

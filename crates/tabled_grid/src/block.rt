@@ -6,7 +6,7 @@ ghost use Rattle.tabled_grid.specs.Block.{above_text, before_text, block, cell_l
 ghost use Rattle.tabled_grid.specs.Sent.{Sent, Writes};
 
 use crate::content::Content;
-use crate::pieces::{put_behind, put_fill, put_indent, put_spaces};
+use crate::pieces::{put_before, put_behind, put_fill};
 use crate::text_sink::TextSink;
 use tabled_base::TableError;
 use tabled_config::{AlignmentHorizontal, AlignmentVertical, CellStyle};
@@ -78,8 +78,7 @@ fn put_cell_line<S: TextSink>(
     let room = text_room(style, width);
     let before = columns_before(style, room, content, line, columns);
     let behind = room.saturating_sub(before).saturating_sub(columns);
-    put_indent(sink, style.padding.left)?;
-    put_spaces(sink, before)?;
+    put_before(sink, style.padding.left, before)?;
     sink.write_text(line)?;
     put_behind(sink, behind, style.padding.right)
 }

@@ -48,6 +48,23 @@ pub(crate) fn put_spaces<S: TextSink>(sink: &mut S, count: usize) -> Result<(), 
     Ok(())
 }
 
+/// A padding, and spaces behind it; where it is of spaces too, they go out together.
+pub(crate) fn put_before<S: TextSink>(
+    sink: &mut S,
+    side: Indent,
+    spaces: usize,
+) -> Result<(), TableError>
+    ensures { Writes (S.sent sink.old) result (S.sent sink.new) (indent side ++ fill 32 spaces) }
+{
+    if side.fill == ' '
+        && let Some(all) = side.size.checked_add(spaces)
+    {
+        return put_spaces(sink, all);
+    }
+    put_indent(sink, side)?;
+    put_spaces(sink, spaces)
+}
+
 /// Spaces, and a padding behind them; where that is of spaces too, they go out together.
 pub(crate) fn put_behind<S: TextSink>(
     sink: &mut S,

@@ -1,11 +1,12 @@
-use Rattle.std.proofs.Common.{◌≡◌, ◌++◌, map}
+use Rattle.std.proofs.Common.{◌≡◌, ◌++◌, map, max}
 use Rattle.tabled_text.specs.Lines.{lines_left}
 use Rattle.tabled_text.specs.Measure.{lines_of}
-use Rattle.tabled_base.specs.Cells.{padded, texts_of}
-use Rattle.tabled_base.specs.TextRows.{cells_of}
+use Rattle.tabled_base.specs.Cells.{texts_of}
+use Rattle.tabled_base.specs.TextRows.{cells_of, most_cells}
 use Rattle.tabled_base.proofs.split.split_rows.Given as goal
 
 abbrev pub invariant-loop-line : goal.invariant-loop-line
-invariant-loop-line l =
-    texts_of (λ t. t) l.rows.items ++ map (λ line. padded l.columns (cells_of line)) (lines_left l.line-iterator)
-    ≡ map (λ line. padded l.columns (cells_of line)) (lines_of l.text)
+invariant-loop-line l = record {
+  rows : texts_of (λ t. t) l.rows.items ++ map cells_of (lines_left l.line-iterator) ≡ map cells_of (lines_of l.text);
+  most : max l.most (most_cells (lines_left l.line-iterator)) ≡ most_cells (lines_of l.text);
+}

@@ -1,9 +1,0 @@
-use Rattle.std.proofs.Common.{lit<}
-use Rattle.std.proofs.lemmas.Iterator.Splits.{YieldsList-from_str_split}
-use Rattle.std.proofs.lemmas.Iterator.Consumers.{count_from_yields_List}
-use Rattle.tabled_base.proofs.split.count_cells.Goals as goal
-
-pub returns : goal.returns
-returns c =
-    count_from_yields_List _ _ c.count.ensures.ran
-    (YieldsList-from_str_split 9 c.args.line.now (lit< tt) c.split.ensures.text c.split.ensures.has_more c.split.ensures.pattern)
