@@ -9,12 +9,14 @@ mod content;
 mod edges;
 mod grid;
 mod io_sink;
+mod kept;
 pub mod laws;
 mod lines;
 mod memory;
 mod picture;
 mod pieces;
 mod print;
+mod room;
 mod rows;
 mod text_sink;
 
