@@ -4,5 +4,5 @@
 mod estimate;
 mod total;
 
-pub use estimate::{estimate_heights, estimate_widths};
+pub use estimate::{estimate_heights, estimate_sizes, estimate_widths};
 pub use total::{filled_height, filled_width};

@@ -53,17 +53,12 @@ refused_so t a (Err d) e filled cause h =
     subst P (sym h) (refused_early t a e filled cause)
 
 -- a cell that is too wide, or too high
-pub refused_too_wide : {T : Type 0} (cells : List (List (List ℕ))) (config : SpannedConfig) (a : Sent) (r : Result T TableError) (e : TableError) → is_empty cells ≡ false → (e ≡ Memory) ⊎ ((e ≡ Range) × IsTooWide cells config) → IsErrAnd r (λ d. d ≡ e) → Prints (estimated cells config) a r a
-refused_too_wide cells config a r e filled cause h =
+pub refused_too_large : {T : Type 0} (cells : List (List (List ℕ))) (config : SpannedConfig) (a : Sent) (r : Result T TableError) (e : TableError) → is_empty cells ≡ false → (e ≡ Memory) ⊎ ((e ≡ Range) × (IsTooWide cells config ⊎ IsTooHigh cells config)) → IsErrAnd r (λ d. d ≡ e) → Prints (estimated cells config) a r a
+refused_too_large cells config a r e filled cause h =
     let P : TableError → Type 0 = IsRefused (estimated cells config) in
+    let passes : IsTooWide cells config ⊎ IsTooHigh cells config → _ = ⊎_elim (λ w. passes_too_wide cells config w) (λ t. passes_too_high cells config t) in
     refused_so (estimated cells config) a r e filled
-    (⊎_elim (λ m. inl m) (λ x. inr (subst P (sym x.0) (sized_estimated cells config, holds_estimated cells config, passes_too_wide cells config x.1))) cause) h
-
-pub refused_too_high : {T : Type 0} (cells : List (List (List ℕ))) (config : SpannedConfig) (a : Sent) (r : Result T TableError) (e : TableError) → is_empty cells ≡ false → (e ≡ Memory) ⊎ ((e ≡ Range) × IsTooHigh cells config) → IsErrAnd r (λ d. d ≡ e) → Prints (estimated cells config) a r a
-refused_too_high cells config a r e filled cause h =
-    let P : TableError → Type 0 = IsRefused (estimated cells config) in
-    refused_so (estimated cells config) a r e filled
-    (⊎_elim (λ m. inl m) (λ x. inr (subst P (sym x.0) (sized_estimated cells config, holds_estimated cells config, passes_too_high cells config x.1))) cause) h
+    (⊎_elim (λ m. inl m) (λ x. inr (subst P (sym x.0) (sized_estimated cells config, holds_estimated cells config, passes x.1))) cause) h
 
 stopped_only : (a b : Sent) (e : TableError) (text : List ℕ) → Stops a e b text → (e ≡ Memory) ⊎ ((e ≡ Range) ⊎ (e ≡ Writer))
 stopped_only a b Memory text s = inl refl

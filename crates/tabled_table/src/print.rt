@@ -11,7 +11,7 @@ use std::alloc::Global;
 use tabled_base::{ExactRecords, PeekableRecords, TableError};
 use tabled_config::SpannedConfig;
 use tabled_grid::{Grid, TextSink, print_grid};
-use tabled_size::{estimate_heights, estimate_widths, filled_height, filled_width};
+use tabled_size::{estimate_heights, estimate_sizes, estimate_widths, filled_height, filled_width};
 
 /// Whether there is no row or no column.
 pub(crate) fn is_empty<R: ExactRecords>(records: &R) -> bool
@@ -79,8 +79,7 @@ pub fn print_estimated<R: PeekableRecords, S: TextSink>(
     if is_empty(records) {
         return Ok(());
     }
-    let widths = estimate_widths(alloc, records, config)?;
-    let heights = estimate_heights(alloc, records, config)?;
+    let (widths, heights) = estimate_sizes(alloc, records, config)?;
     let grid = Grid {
         records,
         config,

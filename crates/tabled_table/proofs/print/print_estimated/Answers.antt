@@ -1,6 +1,6 @@
 use Rattle.std.proofs.Common.{◌∙◌, sym}
 use Rattle.tabled_size.specs.Sheet.{estimated}
-use Rattle.tabled_table.proofs.Printing.{only_estimated, prints_nothing, refused_too_high, refused_too_wide}
+use Rattle.tabled_table.proofs.Printing.{only_estimated, prints_nothing, refused_too_large}
 use Rattle.tabled_table.proofs.print.print_estimated.Goals as goal
 
 pub returns-then-is_empty-clause-printed : goal.returns-then-is_empty-clause-printed
@@ -9,15 +9,10 @@ returns-then-is_empty-clause-printed g c =
 
 pub returns-in_err-widths-clause-printed : goal.returns-in_err-widths-clause-printed
 returns-in_err-widths-clause-printed g c =
-    refused_too_wide (g.R.ExactRecords.cells c.args.records.now) c.args.config.now _ _ _ (sym c.is_empty.ensures.value ∙ c.if-is_empty.false)
+    refused_too_large (g.R.ExactRecords.cells c.args.records.now) c.args.config.now _ _ _ (sym c.is_empty.ensures.value ∙ c.if-is_empty.false)
     c.in_err-widths.ensures.err c.from_residual.ensures.1
-
-pub returns-in_err-heights-clause-printed : goal.returns-in_err-heights-clause-printed
-returns-in_err-heights-clause-printed g c =
-    refused_too_high (g.R.ExactRecords.cells c.args.records.now) c.args.config.now _ _ _ (sym c.is_empty.ensures.value ∙ c.if-is_empty.false)
-    c.in_err-heights.ensures.err c.from_residual-in_err-heights.ensures.1
 
 pub returns-clause-only : goal.returns-clause-only
 returns-clause-only g c =
     only_estimated (g.R.ExactRecords.cells c.args.records.now) c.args.config.now _ _ c.print_grid.result
-    (rw (c.as_slice.ensures.value, c.in_ok-widths.ensures.ok, c.as_slice-2.ensures.value, c.in_ok-heights.ensures.ok) at c.print_grid.ensures)
+    (rw (c.as_slice.ensures.value, c.in_ok-widths.ensures.widths, c.as_slice-2.ensures.value, c.in_ok-widths.ensures.heights) at c.print_grid.ensures)
