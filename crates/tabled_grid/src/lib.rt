@@ -7,6 +7,7 @@
 mod block;
 mod content;
 mod edges;
+mod estimated;
 mod grid;
 mod io_sink;
 mod kept;
@@ -20,6 +21,7 @@ mod room;
 mod rows;
 mod text_sink;
 
+pub use estimated::print_estimated;
 pub use grid::Grid;
 pub use io_sink::IoSink;
 pub use print::print_grid;
