@@ -14,7 +14,7 @@ mod vec_records;
 pub use builder::Builder;
 pub use error::TableError;
 pub use lent_rows::LentRows;
-pub use position::Position;
+pub use position::{Entity, Position};
 pub use records::{CellText, ExactRecords, PeekableRecords};
 pub use split::text_rows;
 pub use text::Text;
