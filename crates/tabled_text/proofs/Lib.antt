@@ -1,3 +1,16 @@
-pub mod PlainLemmas
 pub mod Bridge
+pub mod CheckLemmas
+pub mod CutLemmas
+pub mod CutRoom
+pub mod Each
+pub mod FewestGroups
+pub mod FewestLines
+pub mod Filling
+pub mod FitLemmas
+pub mod LongestLemmas
+pub mod OldTextLemmas
+pub mod PlainLemmas
 pub mod PlainLines
+pub mod WordLemmas
+pub mod WrapRoom
+pub mod WriteLemmas

@@ -1,8 +1,13 @@
 -- Plain texts whose lines stay in some columns.
 use Rattle.std.specs.Prelude.{◌≡◌, ℕ, ◌+◌, Bool, true, nat_le, ◌==◌, ◌&&◌, List, [], ◌∷◌, chars, if◌then◌else◌}
+use Rattle.std.specs.List.{list_all}
 use Rattle.std.specs.Str.{IsUtf8}
 use Rattle.tabled_text.specs.Measure.{char_columns}
-use Rattle.tabled_text.specs.Plain.{is_plain_character}
+use Rattle.tabled_text.specs.Plain.{is_plain_character, is_plain_or_feed}
+
+-- plain characters and line feeds
+abbrev pub is_plain_text : List ℕ → Bool
+is_plain_text cs = list_all is_plain_or_feed cs
 
 -- the characters are plain or line feeds, and each line takes at most n columns, where so many columns of the first
 -- are used before

@@ -1,6 +1,9 @@
--- What the private functions that wrap write: unit after unit, with no look ahead.
-use Rattle.std.specs.Prelude.{ℕ, ◌+◌, Bool, true, nat_le, List, [], ◌∷◌, ◌++◌, chars, Option, Some, None, if◌then◌else◌}
+-- What the private functions that wrap and check do: unit after unit, with no look ahead.
+use Rattle.std.specs.Prelude.{ℕ, ◌+◌, Bool, true, false, ◌||◌, nat_le, List, [], ◌∷◌, ◌++◌, chars, Option, Some, None, if◌then◌else◌}
 use Rattle.std.specs.Borrow.{Bor}
+use Rattle.std.specs.List.{list_all}
+use Rattle.tabled_text.specs.Measure.{columns_of}
+use Rattle.tabled_text.specs.OldText.{finds_room}
 use Rattle.tabled_text.specs.Units.{TextUnit, units, words_of}
 use Rattle.tabled_text.specs.Wrapping.{needed, shown}
 
@@ -37,3 +40,11 @@ abbrev pub pending : ℕ → Bool → Bool → List (List ℕ) → List ℕ
 pending n words begun [] = []
 pending n words begun (line ∷ lines) =
     (if begun then 10 ∷ [] else []) ++ (put_all n 0 (units n words line) ++ pending n words true lines)
+
+-- whether each unit of a word, and of a line, is at most n wide
+abbrev pub fits_word : ℕ → List ℕ → Bool
+fits_word n word = nat_le (columns_of word) n || finds_room n word
+
+abbrev pub fits_line : ℕ → Bool → List ℕ → Bool
+fits_line n false line = finds_room n line
+fits_line n true line = list_all (fits_word n) (words_of line)
