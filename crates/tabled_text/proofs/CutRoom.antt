@@ -15,12 +15,12 @@ use Rattle.tabled_text.proofs.PlainLemmas.{columns_of-plain, count_of-plain}
 use Rattle.tabled_text.proofs.WrapRoom.{Lines, EachPlain, EachPlain-lines, plain_replacement, stays-line, stays-break, stays-nothing}
 
 -- the columns of the last line, where used columns of the first are taken
-abbrev last_used : ℕ → List (List ℕ) → ℕ
+abbrev pub last_used : ℕ → List (List ℕ) → ℕ
 last_used used [] = used
 last_used used (l ∷ []) = used + sum_by char_columns l
 last_used used (l ∷ m ∷ ls) = last_used 0 (m ∷ ls)
 
-last_used-le : (n used : ℕ) (ls : List (List ℕ)) → 0 < length ls → Lines n used ls → last_used used ls ≤ n
+pub last_used-le : (n used : ℕ) (ls : List (List ℕ)) → 0 < length ls → Lines n used ls → last_used used ls ≤ n
 last_used-le n used [] some h = absurd (omega arith)
 last_used-le n used (l ∷ []) some h = h.1
 last_used-le n used (l ∷ m ∷ ls) some h = last_used-le n 0 (m ∷ ls) (omega arith) h.2
@@ -38,10 +38,10 @@ stays-join n used (l ∷ m ∷ ls) tail some h s =
     subst (λ t. stays n used t ≡ true) (sym (append_assoc l (10 ∷ join_with_byte 10 (m ∷ ls)) tail))
     (stays-line n used l (10 ∷ (join_with_byte 10 (m ∷ ls) ++ tail)) h.0 (stays-break n (used + sum_by char_columns l) (join_with_byte 10 (m ∷ ls) ++ tail) h.1 rest))
 
-lines_some : (cs : List ℕ) → 0 < length (lines_of cs)
+pub lines_some : (cs : List ℕ) → 0 < length (lines_of cs)
 lines_some cs = let e = length-slice_split (λ c. c == 10) cs in omega arith
 
-stays-text : (n used : ℕ) (cs tail : List ℕ) → Lines n used (lines_of cs) → stays n (last_used used (lines_of cs)) tail ≡ true → stays n used (cs ++ tail) ≡ true
+pub stays-text : (n used : ℕ) (cs tail : List ℕ) → Lines n used (lines_of cs) → stays n (last_used used (lines_of cs)) tail ≡ true → stays n used (cs ++ tail) ≡ true
 stays-text n used cs tail h s = subst (λ t. stays n used (t ++ tail) ≡ true) (join_with_byte-slice_split 10 cs) (stays-join n used (lines_of cs) tail (lines_some cs) h s)
 
 Lines-counted : (n : ℕ) (ls : List (List ℕ)) → EachPlain ls → All (λ l. count_of l ≤ n) ls → Lines n 0 ls

@@ -7,10 +7,12 @@ pub mod FewestGroups
 pub mod FewestLines
 pub mod Filling
 pub mod FitLemmas
+pub mod JoinLemmas
 pub mod LongestLemmas
 pub mod OldTextLemmas
 pub mod PlainLemmas
 pub mod PlainLines
+pub mod StayLemmas
 pub mod WordLemmas
 pub mod WrapRoom
 pub mod WriteLemmas

@@ -23,10 +23,10 @@ pub All-from_NoCharPasses : (p : ℕ → Bool) (bs : List ℕ) → IsUtf8 bs →
 All-from_NoCharPasses p bs u h =
     subst (All (λ c. p c ≡ false)) (chars_from_encodes h.0 bs u h.1) (All-from_NonePass p h.0 h.2)
 
-chars-mark : (d : ℕ) → d < 128 → (ys : List ℕ) → IsUtf8 (d ∷ ys) → chars (d ∷ ys) ≡ d ∷ chars ys
+pub chars-mark : (d : ℕ) → d < 128 → (ys : List ℕ) → IsUtf8 (d ∷ ys) → chars (d ∷ ys) ≡ d ∷ chars ys
 chars-mark d small ys v = chars_past_char (d ∷ ys) ys d v (ap (λ l. l ++ ys) (sym (encode_ascii d small)))
 
-IsUtf8-mark : (d : ℕ) → d < 128 → (ys : List ℕ) → IsUtf8 ys → IsUtf8 (d ∷ ys)
+pub IsUtf8-mark : (d : ℕ) → d < 128 → (ys : List ℕ) → IsUtf8 ys → IsUtf8 (d ∷ ys)
 IsUtf8-mark d small ys v = IsUtf8-append (d ∷ []) ys (IsUtf8-from_ascii (d ∷ []) (λ i. ascii i)) v
   where
     ascii : (i : ℕ) → get_or (d ∷ []) i 0 < 128

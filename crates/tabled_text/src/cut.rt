@@ -1,6 +1,6 @@
 //! Cutting a text to some columns.
 ghost use Rattle.std.specs.Prelude.{◌≡◌, ◌++◌, ◌<◌, chars, replicate, encode_utf8_all, IfOk, OnErr, OnOk, IsUtf8, string_bytes};
-ghost use Rattle.std.specs.Cow.{cow_str_bytes};
+ghost use Rattle.std.specs.Cow.{cow_str_bytes, IsOwnedStr};
 ghost use Rattle.tabled_text.specs.Cut.{IsCut, IsSplit, IsParted, NeedsFill};
 
 use crate::character::{char_count, split_first};
@@ -64,6 +64,7 @@ fn push_copies(text: &mut String, c: char, n: usize) -> Result<(), AllocError>
 /// The beginning of a text, with U+FFFD in the columns that are missing.
 fn fill(alloc: Global, front: &str, missing: usize) -> Result<CowStr<'_, Global>, AllocError>
     ensures text { IfOk result (λ answer. cow_str_bytes answer ≡ front.now ++ encode_utf8_all (replicate missing 0xFFFD)) }
+    ensures owned { IfOk result (λ answer. IsOwnedStr answer → 0 < missing) }
     ensures err { OnErr result (0 < missing) }
 {
     if missing == 0 {
@@ -79,6 +80,7 @@ fn fill(alloc: Global, front: &str, missing: usize) -> Result<CowStr<'_, Global>
 /// dropped, and U+FFFD stands in the columns that are left. Else the text is lent, and no memory is wanted.
 pub fn cut_str(alloc: Global, text: &str, n: usize) -> Result<CowStr<'_, Global>, AllocError>
     ensures cut { IfOk result (λ answer. IsCut n text.now (cow_str_bytes answer)) }
+    ensures owned { IfOk result (λ answer. IsOwnedStr answer → NeedsFill n text.now) }
     ensures err { OnErr result (NeedsFill n text.now) }
 {
     let parts = part(text, n);
@@ -92,6 +94,7 @@ pub fn split_str(
     n: usize,
 ) -> Result<(CowStr<'_, Global>, &str), AllocError>
     ensures cut { IfOk result (λ parts. IsSplit n text.now (cow_str_bytes parts.0) parts.1.now) }
+    ensures owned { IfOk result (λ parts. IsOwnedStr parts.0 → NeedsFill n text.now) }
     ensures err { OnErr result (NeedsFill n text.now) }
 {
     let parts = part(text, n);
