@@ -1,5 +1,5 @@
 -- The lines of a wrapped text are the groups of its breaking, and no breaking has fewer.
-use Rattle.std.proofs.Common.{◌≡◌, ℕ, ◌+◌, ◌-◌, ◌<◌, Bool, true, false, cond, ◌==◌, nat_le, List, [], ◌∷◌, ◌++◌, chars, length, refl, sym, ap, ◌∙◌, subst, arith, sum_by, replicate, ⊎_elim, suc}
+use Rattle.std.proofs.Common.{◌≡◌, ℕ, ◌+◌, ◌-◌, ◌<◌, ◌≤◌, Bool, true, false, cond, ◌==◌, nat_le, List, [], ◌∷◌, ◌++◌, chars, length, refl, sym, ap, ◌∙◌, subst, arith, sum_by, replicate, ⊎_elim, suc}
 use Rattle.std.specs.Prelude.{MatchBool}
 use Rattle.std.specs.List.{list_all, onto_first, flat_map, AllZip}
 use Rattle.std.specs.Str.{IsUtf8}
@@ -9,6 +9,7 @@ use Rattle.std.proofs.lemmas.List.Sums.{sum_by-cons}
 use Rattle.std.proofs.lemmas.Bool.{and_parts, cases_Bool}
 use Rattle.std.proofs.lemmas.Bool.Decides.{nat_tests}
 use Rattle.tabled_text.specs.Measure.{lines_of}
+use Rattle.tabled_text.specs.Cut.{IsCut, missing_columns}
 use Rattle.tabled_text.specs.Units.{TextUnit, units}
 use Rattle.tabled_text.specs.Breaking.{IsGrouping, HasFewestLines}
 use Rattle.tabled_text.specs.Wrapping.{shown, text_from, text_of_groups, text_of_lines, IsFullest, IsFullestText, IsWrapped}
@@ -122,3 +123,22 @@ fewest-wrapped n words text answer w broken b =
     let e = count-chars answer w.utf8 ∙ rows-wrapped n words cs (chars answer) full in
     let least = fewest_lines n pos words (lines_of cs) full.broken broken full.fullest b.each in
     omega arith
+
+-- ---- a cut text
+
+rows-append : (xs ys : List ℕ) → rows (xs ++ ys) + 1 ≡ rows xs + rows ys
+rows-append [] ys = let e : rows [] ≡ 1 = refl in omega arith
+rows-append (c ∷ xs) ys = let more = rows-append xs ys in ⊎_elim
+    (λ y. subst (λ b. length (cond b ([] ∷ lines_of (xs ++ ys)) (onto_first c (lines_of (xs ++ ys)))) + 1 ≡ length (cond b ([] ∷ lines_of xs) (onto_first c (lines_of xs))) + rows ys) (sym y) (omega arith))
+    (λ no. subst (λ b. length (cond b ([] ∷ lines_of (xs ++ ys)) (onto_first c (lines_of (xs ++ ys)))) + 1 ≡ length (cond b ([] ∷ lines_of xs) (onto_first c (lines_of xs))) + rows ys) (sym no)
+    (ap (λ k. k + 1) (length-onto c (lines_of (xs ++ ys)) (rows_some (xs ++ ys))) ∙ more ∙ ap (λ k. k + rows ys) (sym (length-onto c (lines_of xs) (rows_some xs)))))
+    (cases_Bool (c == 10))
+
+-- a cut text has no more lines than the text
+pub lines-cut : (n : ℕ) (text answer : List ℕ) → IsUtf8 text → IsCut n text answer → length (lines_of answer) ≤ length (lines_of text)
+lines-cut n text answer u c =
+    let copies : List ℕ = replicate (missing_columns n c.front c.rest) 0xFFFD in
+    let filled : rows copies ≡ 1 = ap rows (sym (append-nil copies)) ∙ rows-line copies [] (list_all-copies no_feed 0xFFFD (missing_columns n c.front c.rest) refl) in
+    let own : rows (chars answer) + 1 ≡ rows c.front + rows copies = ap (λ t. rows t + 1) c.characters ∙ rows-append c.front copies in
+    let whole : rows (chars text) + 1 ≡ rows c.front + rows c.rest = ap (λ t. rows t + 1) c.longest.parts ∙ rows-append c.front c.rest in
+    omega (arith, own, whole, filled, rows_some c.rest, count-chars answer c.utf8, count-chars text u)

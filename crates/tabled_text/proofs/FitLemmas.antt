@@ -1,13 +1,14 @@
 -- Whether each unit of a text is at most n wide, word by word and character by character.
-use Rattle.std.proofs.Common.{◌≡◌, ℕ, ◌<◌, ◌≤◌, ◌↔◌, Bool, true, false, cond, ◌&&◌, ◌||◌, nat_le, List, [], ◌∷◌, chars, sym, ap, ◌∙◌, refl, map, All}
+use Rattle.std.proofs.Common.{◌≡◌, ℕ, ◌<◌, ◌≤◌, ◌↔◌, Bool, true, false, cond, ◌&&◌, ◌||◌, ◌==◌, nat_le, List, [], ◌∷◌, chars, sym, ap, ◌∙◌, refl, map, All}
 use Rattle.std.specs.List.{list_all}
-use Rattle.std.proofs.lemmas.Bool.{and_parts, and_from, leb-true, le-leb}
+use Rattle.std.proofs.lemmas.Bool.{and_parts, and_from, leb-true, le-leb, or_right}
 use Rattle.std.proofs.lemmas.List.Elements.{All-head, All-tail, All-cons, All-nil}
 use Rattle.std.proofs.lemmas.List.Folds.{list_all-append}
 use Rattle.tabled_text.specs.Breaking.{EachUnitFits}
 use Rattle.tabled_text.specs.Measure.{lines_of, columns_of, char_count}
 use Rattle.tabled_text.specs.OldText.{finds_room}
 use Rattle.tabled_text.specs.Units.{TextUnit, unit_of_char, space, words_of, units_of_word, units_of_words, units}
+use Rattle.tabled_text.proofs.Each.{Each, Each-split}
 use Rattle.tabled_text.specs.Walk.{fits_word, fits_line}
 
 abbrev pub narrow : ℕ → List TextUnit → Bool
@@ -71,3 +72,23 @@ fits_lines-All n pos words (l ∷ ls) =
 -- the test of the code is what it says
 pub fits_lines-iff : (n : ℕ) → 0 < n → (words : Bool) (text : List ℕ) → (list_all (fits_line n words) (lines_of (chars text)) ≡ true) ↔ EachUnitFits n words text
 fits_lines-iff n pos words text = fits_lines-All n pos words (lines_of (chars text))
+
+-- ---- where no character counts more than n
+
+room-words : (n : ℕ) (ws : List (List ℕ)) → Each (λ c. nat_le (char_count c) n) ws → list_all (fits_word n) ws ≡ true
+room-words n [] h = refl
+room-words n (w ∷ ws) h = and_from (fits_word n w) (list_all (fits_word n) ws) (or_right (nat_le (columns_of w) n) (finds_room n w) h.0) (room-words n ws h.1)
+
+room-line : (n : ℕ) (words : Bool) (line : List ℕ) → finds_room n line ≡ true → fits_line n words line ≡ true
+room-line n false line h = h
+room-line n true line h = room-words n (words_of line) (Each-split (λ c. c == 32) (λ c. nat_le (char_count c) n) (λ c. nat_le (char_count c) n) (λ c a b. a) line h)
+
+room-lines : (n : ℕ) (words : Bool) (ls : List (List ℕ)) → Each (λ c. nat_le (char_count c) n) ls → list_all (fits_line n words) ls ≡ true
+room-lines n words [] h = refl
+room-lines n words (l ∷ ls) h = and_from (fits_line n words l) (list_all (fits_line n words) ls) (room-line n words l h.0) (room-lines n words ls h.1)
+
+-- each unit is at most n wide
+pub fits-room : (n : ℕ) → 0 < n → (words : Bool) (text : List ℕ) → finds_room n (chars text) ≡ true → EachUnitFits n words text
+fits-room n pos words text h =
+    (fits_lines-iff n pos words text).0 (room-lines n words (lines_of (chars text))
+    (Each-split (λ c. c == 10) (λ c. nat_le (char_count c) n) (λ c. nat_le (char_count c) n) (λ c a b. a) (chars text) h))

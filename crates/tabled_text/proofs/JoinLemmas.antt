@@ -1,14 +1,13 @@
 -- The lines and the columns of joined texts.
-use Rattle.std.proofs.Common.{◌≡◌, ℕ, ◌+◌, ◌<◌, ◌≤◌, Bool, true, false, cond, ◌==◌, List, [], ◌∷◌, ◌++◌, chars, length, map, max, refl, sym, ap, ◌∙◌, subst, arith, All, ⊎_elim, sum_by}
+use Rattle.std.proofs.Common.{◌≡◌, ℕ, ◌+◌, ◌<◌, Bool, true, false, cond, ◌==◌, List, [], ◌∷◌, ◌++◌, length, map, max, refl, ap, ◌∙◌, arith, All, sum_by}
 use Rattle.std.specs.List.{onto_first, join_with_byte}
-use Rattle.std.proofs.lemmas.Bool.{cases_Bool}
 use Rattle.std.proofs.lemmas.List.{length-append}
 use Rattle.std.proofs.lemmas.List.Elements.{All-head, All-tail}
 use Rattle.std.proofs.lemmas.List.Sums.{sum_by-cons}
 use Rattle.std.proofs.lemmas.Str.{chars-nil}
 use Rattle.unicode_width.specs.Width.{str_width}
 use Rattle.tabled_text.specs.Measure.{lines_of, line_columns, text_columns, greatest}
-use Rattle.tabled_text.proofs.Bridge.{begins, some_line, lines_of-one}
+use Rattle.tabled_text.proofs.Bridge.{some_line, lines_of-one}
 
 onto_first-append : (c : ℕ) (ls ms : List (List ℕ)) → 0 < length ls → onto_first c (ls ++ ms) ≡ onto_first c ls ++ ms
 onto_first-append c [] ms h = absurd (omega arith)

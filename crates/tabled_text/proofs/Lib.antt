@@ -9,7 +9,7 @@ pub mod Filling
 pub mod FitLemmas
 pub mod JoinLemmas
 pub mod LongestLemmas
-pub mod OldTextLemmas
+pub mod OwnBreaking
 pub mod PlainLemmas
 pub mod PlainLines
 pub mod StayLemmas

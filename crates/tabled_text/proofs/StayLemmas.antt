@@ -1,17 +1,18 @@
 -- Plain texts that stay in some columns: what they are, and what is made of them.
-use Rattle.std.proofs.Common.{◌≡◌, ℕ, ◌+◌, ◌<◌, ◌≤◌, Bool, true, false, cond, ◌==◌, ◌&&◌, nat_le, List, [], ◌∷◌, ◌++◌, chars, length, map, max, refl, sym, ap, ◌∙◌, subst, arith, All, ⊎_elim, sum_by, append-nil, lit<, encode_utf8}
-use Rattle.std.specs.List.{list_all, join_with_byte}
+use Rattle.std.proofs.Common.{◌≡◌, ℕ, ◌+◌, ◌<◌, ◌≤◌, Bool, true, cond, ◌==◌, ◌&&◌, nat_le, List, [], ◌∷◌, ◌++◌, chars, length, map, refl, sym, ap, ◌∙◌, subst, arith, All, ⊎_elim, sum_by, append-nil, lit<}
+use Rattle.std.specs.List.{join_with_byte}
 use Rattle.std.specs.Str.{IsUtf8}
-use Rattle.std.proofs.lemmas.Bool.{and_parts, and_from, cases_Bool, leb-true, le-leb}
+use Rattle.std.proofs.lemmas.Bool.{and_parts, and_from, cases_Bool}
 use Rattle.std.proofs.lemmas.List.Elements.{All-head, All-tail}
-use Rattle.std.proofs.lemmas.Str.{chars-append, IsUtf8-append, IsUtf8-from_ascii, chars_past_char, encode_ascii}
+use Rattle.std.proofs.lemmas.List.Sums.{sum_by-cons}
+use Rattle.std.proofs.lemmas.Str.{chars-append, IsUtf8-append}
 use Rattle.tabled_text.specs.Measure.{lines_of, line_columns, text_columns, columns_of, char_columns, greatest}
 use Rattle.tabled_text.specs.Cut.{IsCut}
-use Rattle.tabled_text.specs.Plain.{is_plain_character, IsPlain, IsPlainLine}
-use Rattle.tabled_text.specs.Room.{stays, is_plain_text, StaysWithin}
+use Rattle.tabled_text.specs.Plain.{is_plain_character, IsPlain}
+use Rattle.tabled_text.specs.Room.{stays, StaysWithin}
 use Rattle.tabled_text.specs.Wrapping.{IsWrapped}
-use Rattle.tabled_text.proofs.Bridge.{text_columns-chars}
-use Rattle.tabled_text.proofs.CutRoom.{stays-cut, stays-cut_before, stays-text, last_used, last_used-le, lines_some}
+use Rattle.tabled_text.proofs.Bridge.{text_columns-chars, lines_of-chars}
+use Rattle.tabled_text.proofs.CutRoom.{stays-cut, stays-cut_before, stays-whole, stays-text, last_used, last_used-le, lines_some}
 use Rattle.tabled_text.proofs.PlainLemmas.{columns_of-plain}
 use Rattle.tabled_text.proofs.WordLemmas.{chars-mark, IsUtf8-mark}
 use Rattle.tabled_text.proofs.WrapRoom.{Lines, EachPlain, EachPlain-lines, stays-wrapped, stays-nothing, columns-stays, is_plain_text-stays}
@@ -58,23 +59,38 @@ StaysWithin-cut_before {n} {w} {text} {answer} {tail} le p c u h = record {
   stays = subst (λ t. stays w 0 t ≡ true) (sym (chars-append answer tail c.utf8)) (stays-cut_before n w le text answer (chars tail) p.characters c h);
 }
 
+sum-chars : (ls : List (List ℕ)) → sum_by line_columns ls ≡ sum_by columns_of (map chars ls)
+sum-chars [] = refl
+sum-chars (l ∷ ls) = omega (arith, sum-chars ls, sum_by-cons line_columns l ls, sum_by-cons columns_of (chars l) (map chars ls))
+
+-- a plain text stays from a column on if there is room for the columns of all its lines
+pub stays-suffix : (w k : ℕ) (suffix : List ℕ) → IsPlain suffix → k + sum_by line_columns (lines_of suffix) ≤ w → stays w k (chars suffix) ≡ true
+stays-suffix w k suffix p h =
+    let cs = chars suffix in
+    let e : sum_by line_columns (lines_of suffix) ≡ sum_by columns_of (lines_of cs) = sum-chars (lines_of suffix) ∙ ap (sum_by columns_of) (sym (lines_of-chars suffix p.utf8)) in
+    subst (λ t. stays w k t ≡ true) (append-nil cs) (stays-whole w k cs [] p.characters (omega arith) (stays-nothing w))
+
+-- a cut plain text and a suffix for which there is room
+pub StaysWithin-suffix : {n w : ℕ} {text answer suffix : List ℕ} → IsPlain text → IsPlain suffix → n + sum_by line_columns (lines_of suffix) ≤ w → IsCut n text answer → StaysWithin w (answer ++ suffix)
+StaysWithin-suffix {n} {w} {suffix = suffix} p q h c = StaysWithin-cut_before (omega arith) p c q.utf8 (λ k le. stays-suffix w k suffix q (omega arith))
+
 -- ---- joined texts
 
 stays-feed : (n used : ℕ) (front back : List ℕ) → stays n used front ≡ true → stays n 0 back ≡ true → stays n used (front ++ 10 ∷ back) ≡ true
 stays-feed n used [] back f b = and_from (nat_le used n) (stays n 0 back) f b
 stays-feed n used (c ∷ front) back f b = ⊎_elim
     (λ y.
-      let t = subst (λ b. cond b (nat_le used n && stays n 0 front) (is_plain_character c && stays n (used + char_columns c) front) ≡ true) y f in
-      let parts = and_parts (nat_le used n) (stays n 0 front) t in
-      let rest = front ++ 10 ∷ back in
-      subst (λ b. cond b (nat_le used n && stays n 0 rest) (is_plain_character c && stays n (used + char_columns c) rest) ≡ true) (sym y)
-      (and_from (nat_le used n) (stays n 0 rest) parts.0 (stays-feed n 0 front back parts.1 b)))
+    let t = subst (λ b. cond b (nat_le used n && stays n 0 front) (is_plain_character c && stays n (used + char_columns c) front) ≡ true) y f in
+    let parts = and_parts (nat_le used n) (stays n 0 front) t in
+    let rest = front ++ 10 ∷ back in
+    subst (λ b. cond b (nat_le used n && stays n 0 rest) (is_plain_character c && stays n (used + char_columns c) rest) ≡ true) (sym y)
+    (and_from (nat_le used n) (stays n 0 rest) parts.0 (stays-feed n 0 front back parts.1 b)))
     (λ no.
-      let t = subst (λ b. cond b (nat_le used n && stays n 0 front) (is_plain_character c && stays n (used + char_columns c) front) ≡ true) no f in
-      let parts = and_parts (is_plain_character c) (stays n (used + char_columns c) front) t in
-      let rest = front ++ 10 ∷ back in
-      subst (λ b. cond b (nat_le used n && stays n 0 rest) (is_plain_character c && stays n (used + char_columns c) rest) ≡ true) (sym no)
-      (and_from (is_plain_character c) (stays n (used + char_columns c) rest) parts.0 (stays-feed n (used + char_columns c) front back parts.1 b)))
+    let t = subst (λ b. cond b (nat_le used n && stays n 0 front) (is_plain_character c && stays n (used + char_columns c) front) ≡ true) no f in
+    let parts = and_parts (is_plain_character c) (stays n (used + char_columns c) front) t in
+    let rest = front ++ 10 ∷ back in
+    subst (λ b. cond b (nat_le used n && stays n 0 rest) (is_plain_character c && stays n (used + char_columns c) rest) ≡ true) (sym no)
+    (and_from (is_plain_character c) (stays n (used + char_columns c) rest) parts.0 (stays-feed n (used + char_columns c) front back parts.1 b)))
     (cases_Bool (c == 10))
 
 -- texts that stay, one below the other

@@ -1,6 +1,6 @@
 -- The units of a line: what is never broken where a text is wrapped. Lines and units are lists of characters.
 use Rattle.std.specs.Prelude.{ℕ, Bool, true, false, ◌==◌, nat_le, List, [], ◌∷◌, ◌++◌, map, sum_by, if◌then◌else◌}
-use Rattle.std.specs.List.{slice_split}
+use Rattle.std.specs.List.{slice_split, flat_map}
 use Rattle.tabled_text.specs.Measure.{columns_of, char_count}
 
 pub record TextUnit : Type 0 where
@@ -39,3 +39,7 @@ units n true line = units_of_words n (words_of line)
 -- the width of some units
 abbrev pub width_of : List TextUnit → ℕ
 width_of units = sum_by (λ unit. unit.width) units
+
+-- the text of some units
+abbrev pub text_of : List TextUnit → List ℕ
+text_of units = flat_map (λ unit. unit.text) units
