@@ -17,7 +17,7 @@ mod wrap;
 
 pub use cut::{cut_str, split_str};
 pub use fullest::is_fullest;
-pub use line::{TextLines, lines};
+pub use line::{TextLines, lines, split_line};
 pub use measure::{count_lines, line_width, text_measures, text_width};
 pub use plain::is_plain;
 pub use wrap::wrap_text;
