@@ -85,10 +85,16 @@ fn words_fit(line: &str, n: usize) -> bool
     }
 }
 
-/// Whether each unit of a text is at most n wide.
+/// What the widest characters count.
+const WIDEST: usize = 3;
+
+/// Whether each unit of a text is at most n wide. Where even the widest character is, nothing is read.
 fn units_fit(text: &str, n: usize, words: bool) -> bool
     ensures { result ≡ list_all (fits_line n words) (lines_of (chars text.now)) }
 {
+    if n >= WIDEST {
+        return true;
+    }
     for line in lines(text) {
         let fits = if words {
             words_fit(line, n)
