@@ -1,3 +1,4 @@
+pub mod BoundLemmas
 pub mod Bridge
 pub mod CheckLemmas
 pub mod CutLemmas

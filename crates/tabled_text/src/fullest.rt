@@ -2,7 +2,7 @@
 ghost use Rattle.std.specs.Prelude.{◌≡◌, ◌++◌, ◌↔◌, ◌<◌, ℕ, List, [], Some, None, Option, chars, encode_utf8, IsTrue};
 ghost use Rattle.std.specs.List.{list_all};
 ghost use Rattle.std.specs.Option.{option_copied};
-ghost use Rattle.tabled_text.specs.Breaking.{HasFewestLines};
+ghost use Rattle.tabled_text.specs.Breaking.{HasFewestLines, IsLeastBreaking};
 ghost use Rattle.tabled_text.specs.Expected.{Expects, Expects-nothing, Expects-more};
 ghost use Rattle.tabled_text.specs.Measure.{lines_of};
 ghost use Rattle.tabled_text.specs.OldText.{finds_room};
@@ -113,6 +113,7 @@ fn units_fit(text: &str, n: usize, words: bool) -> bool
 pub fn is_fullest(text: &str, wrapped: &str, n: usize, words: bool) -> bool
     ensures fullest { IsTrue result ↔ IsRoomyWrapping n words text.now wrapped.now }
     ensures fewest { IsTrue result → HasFewestLines n words text.now wrapped.now }
+    ensures least { IsTrue result → IsLeastBreaking n words text.now wrapped.now }
 {
     if n == 0 || !units_fit(text, n, words) {
         return false;

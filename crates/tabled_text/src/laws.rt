@@ -1,5 +1,5 @@
 //! Laws of texts, each the contract of a function that does nothing: for proofs in crates above.
-ghost use Rattle.std.specs.Prelude.{◌≡◌, ◌<◌, ◌≤◌, ℕ, Bool, true, List, [], ◌∷◌, ◌++◌, ◌+◌, All, IsTrue, chars, encode_utf8, length, map, max, sum_by};
+ghost use Rattle.std.specs.Prelude.{◌≡◌, ◌<◌, ◌≤◌, ℕ, Bool, true, List, [], ◌∷◌, ◌++◌, ◌+◌, ◌*◌, All, IsTrue, chars, encode_utf8, length, map, max, sum_by};
 ghost use Rattle.std.specs.Int.{is_in_range};
 ghost use Rattle.std.specs.List.{join_with_byte, list_all, slice_index_or};
 ghost use Rattle.std.specs.Str.{IsUtf8};
@@ -46,6 +46,12 @@ pub fn plain_columns()
     ensures replacement { IsPlainColumn 0xFFFD }
 {}
 
+/// Bounds by the bytes of a text, which keep sums in range.
+pub fn text_bounds()
+    ensures lines { (text : List ℕ) → length (lines_of text) ≤ length text + 1 }
+    ensures columns { (text : List ℕ) → IsPlain text → text_columns text ≤ 2 * length text }
+{}
+
 /// A line feed between two texts ends a line, so the lines of both stand one after another, and the wider
 /// text gives the columns.
 pub fn joined_lines()
@@ -88,6 +94,8 @@ pub fn breakings()
     ensures units { (n : ℕ) (words : Bool) (line : List ℕ) → text_of (units n words line) ≡ line }
     ensures permitted { (n : ℕ) (words : Bool) (text : List ℕ) (broken : List (List (List TextUnit)))
         → IsBroken n words text broken → EachUnitFits n words text }
+    ensures exists { (n : ℕ) (words : Bool) (text : List ℕ) → 0 < n → EachUnitFits n words text
+        → (broken : List (List (List TextUnit))) × IsBroken n words text broken }
     ensures room { (n : ℕ) (words : Bool) (text : List ℕ) → 0 < n → finds_room n (chars text) ≡ true
         → EachUnitFits n words text }
 {}

@@ -3,7 +3,7 @@ ghost use Rattle.std.specs.Prelude.{◌≡◌, ◌++◌, ◌<◌, ◌≤◌, ◌
 ghost use Rattle.std.proofs.Common.{sym, ap, ◌∙◌, append-nil, append_assoc};
 ghost use Rattle.tabled_text.specs.Measure.{lines_of};
 ghost use Rattle.tabled_text.specs.Units.{TextUnit, unit_of_char, words_of, units, units_of_word, units_of_words};
-ghost use Rattle.tabled_text.specs.Breaking.{HasFewestLines};
+ghost use Rattle.tabled_text.specs.Breaking.{EachUnitFits, HasFewestLines, IsLeastBreaking};
 ghost use Rattle.tabled_text.specs.Wrapping.{IsWrapped};
 ghost use Rattle.tabled_text.specs.Walk.{words_in, begin_at, begin_text, put_text, put_used, put_all, used_after, pending};
 
@@ -208,6 +208,8 @@ pub(crate) fn put_lines<S: Sink>(
 pub fn wrap_text(alloc: Global, text: &str, n: usize, words: bool) -> Result<String, AllocError>
     ensures wrapped { IfOk result (λ answer. IsWrapped n words text.now (string_bytes answer)) }
     ensures fewest { IfOk result (λ answer. HasFewestLines n words text.now (string_bytes answer)) }
+    ensures least { 0 < n → EachUnitFits n words text.now
+        → IfOk result (λ answer. IsLeastBreaking n words text.now (string_bytes answer)) }
 {
     let mut out = String::new(alloc);
     if n == 0 {
