@@ -1,5 +1,5 @@
 //! Laws of texts, each the contract of a function that does nothing: for proofs in crates above.
-ghost use Rattle.std.specs.Prelude.{◌≡◌, ◌<◌, ◌≤◌, ℕ, Bool, true, List, [], ◌∷◌, ◌++◌, ◌+◌, ◌*◌, All, IsTrue, chars, encode_utf8, length, map, max, sum_by};
+ghost use Rattle.std.specs.Prelude.{◌≡◌, ◌<◌, ◌≤◌, ℕ, Bool, true, List, [], ◌∷◌, ◌++◌, ◌+◌, ◌*◌, All, IsTrue, chars, encode_utf8, encode_utf8_all, length, map, max, replicate, sum_by};
 ghost use Rattle.std.specs.Int.{is_in_range};
 ghost use Rattle.std.specs.List.{join_with_byte, list_all, slice_index_or};
 ghost use Rattle.std.specs.Str.{IsUtf8};
@@ -66,16 +66,18 @@ pub fn joined_lines()
         → text_columns (join_with_byte 10 texts) ≡ greatest (map text_columns texts) }
 {}
 
-/// Plain texts of which no line passes n columns, and what is joined of them.
+/// Plain texts of which no line passes n columns: what is joined of them, no text, and copies of a character.
 pub fn texts_that_stay()
     ensures plain { (n : ℕ) (text : List ℕ) → StaysWithin n text → IsPlain text × (text_columns text ≤ n) }
     ensures from { (n : ℕ) (text : List ℕ) → IsPlain text → text_columns text ≤ n → StaysWithin n text }
     ensures joined { (n : ℕ) (texts : List (List ℕ)) → 0 < length texts → All (StaysWithin n) texts
         → StaysWithin n (join_with_byte 10 texts) }
+    ensures none { (n : ℕ) → StaysWithin n [] }
+    ensures filled { (n k c : ℕ) → k ≤ n → IsPlainColumn c → StaysWithin n (encode_utf8_all (replicate k c)) }
 {}
 
 /// A cut plain text stays in its columns, alone and with what follows it. It has no more lines than the text, and of
-/// a plain line it is the longest beginning that finds room.
+/// a plain line it is the longest beginning that finds room, and the line itself where that does.
 pub fn cut_texts()
     ensures room { (n : ℕ) (text answer : List ℕ) → IsPlain text → IsCut n text answer → StaysWithin n answer }
     ensures suffix { (n w : ℕ) (text answer suffix : List ℕ) → IsPlain text → IsPlain suffix
@@ -86,6 +88,7 @@ pub fn cut_texts()
         → length (lines_of answer) ≤ length (lines_of text) }
     ensures longest { (n : ℕ) (line answer : List ℕ) → list_all is_plain_character (chars line) ≡ true
         → IsCut n line answer → IsLongestCut n line answer }
+    ensures kept { (n m : ℕ) (line answer : List ℕ) → IsPlainLine line m → m ≤ n → IsCut n line answer → answer ≡ line }
 {}
 
 /// There is a breaking exactly where each unit finds room, as where no character counts more than n. The units of a
