@@ -142,7 +142,7 @@ written_fullest n pieces pos = record {
 }
 
 -- ---- the fullest breaking is the only one: its text is what the walk writes
-put_all-fits : (n used : ℕ) (g rest : List TextUnit) → Fits n used g → put_all n used (g ++ rest) ≡ text_from n used g ++ put_all n (used + width_of g) rest
+pub put_all-fits : (n used : ℕ) (g rest : List TextUnit) → Fits n used g → put_all n used (g ++ rest) ≡ text_from n used g ++ put_all n (used + width_of g) rest
 put_all-fits n used [] rest f = ap (λ k. put_all n k rest) (let e : used ≡ used + 0 = omega arith in e)
 put_all-fits n used (p ∷ g) rest f =
     let put = put_text-fits n used p (le-leb (used + needed n p) n f.0) in

@@ -15,5 +15,6 @@ pub mod PlainLemmas
 pub mod PlainLines
 pub mod StayLemmas
 pub mod WordLemmas
+pub mod WrapKept
 pub mod WrapRoom
 pub mod WriteLemmas

@@ -57,7 +57,7 @@ text_of-units n false line = text_of-chars line
 text_of-units n true line = text_of-words n (words_of line) ∙ join_with_byte-slice_split 32 line
 
 -- ---- the groups
-text_from-narrow : (n used : ℕ) (g : List TextUnit) → Narrow n g → text_from n used g ≡ text_of g
+pub text_from-narrow : (n used : ℕ) (g : List TextUnit) → Narrow n g → text_from n used g ≡ text_of g
 text_from-narrow n used [] h = refl
 text_from-narrow n used (p ∷ g) h =
     ap (λ b. cond b p.text (replicate (n - used) 0xFFFD) ++ text_from n (used + p.width) g) (le-leb p.width n h.0) ∙ ap (λ l. p.text ++ l) (text_from-narrow n (used + p.width) g h.1)
@@ -163,7 +163,7 @@ old_text n words text answer pos fits w =
 
 -- ---- where there are breakings, each unit finds room
 
-unit-le : (n : ℕ) (g : List TextUnit) → width_of g ≤ n → Narrow n g
+pub unit-le : (n : ℕ) (g : List TextUnit) → width_of g ≤ n → Narrow n g
 unit-le n [] h = tt
 unit-le n (u ∷ g) h =
     let e = sum_by-cons (λ (v : TextUnit). v.width) u g in

@@ -18,7 +18,8 @@ use std::convert::Infallible;
 
 /// The text without a beginning, if it begins so.
 fn strip<'a>(rest: Option<&'a [u8]>, text: &[u8]) -> Option<&'a [u8]>
-    ensures { (z : List ℕ) → (option_copied rest.entry ≡ Some (text.now ++ z)) ↔ (option_copied result ≡ Some z) }
+    ensures { (z : List ℕ)
+        → (option_copied rest.entry ≡ Some (text.now ++ z)) ↔ (option_copied result ≡ Some z) }
 {
     rest?.strip_prefix(text)
 }
@@ -48,7 +49,8 @@ impl<'a> Sink for Expected<'a> {
 
     ghost adds_nothing = { λ s. Expects-nothing (option_copied s.rest) };
 
-    ghost adds_more = { λ s t u x y h k. Expects-more (option_copied s.rest) (option_copied t.rest) (option_copied u.rest) x y h k };
+    ghost adds_more = { λ s t u x y h k.
+        Expects-more (option_copied s.rest) (option_copied t.rest) (option_copied u.rest) x y h k };
 }
 
 /// Whether nothing more is expected.
@@ -108,7 +110,7 @@ fn units_fit(text: &str, n: usize, words: bool) -> bool
     true
 }
 
-/// Whether each unit of a text is at most n wide, n is at least 1, and `wrapped` is the text as `wrap_text` wraps it. Then
+/// Whether each unit of a text is at most n wide, n is at least 1, and `wrapped` is what `wrap_text` gives. Then
 /// it has the fewest lines of all breakings of the text. Takes no memory.
 pub fn is_fullest(text: &str, wrapped: &str, n: usize, words: bool) -> bool
     ensures fullest { IsTrue result ↔ IsRoomyWrapping n words text.now wrapped.now }

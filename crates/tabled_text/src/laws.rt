@@ -1,4 +1,4 @@
-//! Laws of texts, each the contract of a function that does nothing: for proofs in crates above.
+//! Laws of texts, each the contract of a function.
 ghost use Rattle.std.specs.Prelude.{◌≡◌, ◌<◌, ◌≤◌, ℕ, Bool, true, List, [], ◌∷◌, ◌++◌, ◌+◌, ◌*◌, All, IsTrue, chars, encode_utf8, encode_utf8_all, length, map, max, replicate, sum_by};
 ghost use Rattle.std.specs.Int.{is_in_range};
 ghost use Rattle.std.specs.List.{join_with_byte, list_all, slice_index_or};
@@ -82,13 +82,14 @@ pub fn cut_texts()
     ensures room { (n : ℕ) (text answer : List ℕ) → IsPlain text → IsCut n text answer → StaysWithin n answer }
     ensures suffix { (n w : ℕ) (text answer suffix : List ℕ) → IsPlain text → IsPlain suffix
         → n + sum_by line_columns (lines_of suffix) ≤ w → IsCut n text answer → StaysWithin w (answer ++ suffix) }
-    ensures followed { (n w : ℕ) (text answer tail : List ℕ) → n ≤ w → IsPlain text → IsCut n text answer → IsUtf8 tail
-        → ((k : ℕ) → k ≤ n → stays w k (chars tail) ≡ true) → StaysWithin w (answer ++ tail) }
+    ensures followed { (n w : ℕ) (text answer tail : List ℕ) → n ≤ w → IsPlain text
+        → IsCut n text answer → IsUtf8 tail → ((k : ℕ) → k ≤ n → stays w k (chars tail) ≡ true) → StaysWithin w (answer ++ tail) }
     ensures lines { (n : ℕ) (text answer : List ℕ) → IsUtf8 text → IsCut n text answer
         → length (lines_of answer) ≤ length (lines_of text) }
     ensures longest { (n : ℕ) (line answer : List ℕ) → list_all is_plain_character (chars line) ≡ true
         → IsCut n line answer → IsLongestCut n line answer }
-    ensures kept { (n m : ℕ) (line answer : List ℕ) → IsPlainLine line m → m ≤ n → IsCut n line answer → answer ≡ line }
+    ensures kept { (n m : ℕ) (line answer : List ℕ) → IsPlainLine line m → m ≤ n → IsCut n line answer
+        → answer ≡ line }
 {}
 
 /// There is a breaking exactly where each unit finds room, as where no character counts more than n. The units of a
@@ -103,8 +104,9 @@ pub fn breakings()
         → EachUnitFits n words text }
 {}
 
-/// A wrapped plain text stays in its columns, whatever its characters take, and no breaking has fewer lines. Where
-/// each unit finds room, it is the text of a breaking, and without the line feeds that were put in the old text.
+/// A wrapped plain text stays in its columns, whatever its characters take, and is the old text where that does. No
+/// breaking has fewer lines. Where each unit finds room, a wrapped text is the text of a breaking, and without the
+/// line feeds that were put in the old text.
 pub fn wrapped_texts()
     ensures room { (n : ℕ) (words : Bool) (text answer : List ℕ) → IsPlain text → IsWrapped n words text answer
         → StaysWithin n answer }
@@ -114,4 +116,6 @@ pub fn wrapped_texts()
         → IsWrapped n words text answer → IsLeastBreaking n words text answer }
     ensures whole { (n : ℕ) (words : Bool) (text answer : List ℕ) → 0 < n → EachUnitFits n words text
         → IsWrapped n words text answer → HasOldText text answer }
+    ensures kept { (n : ℕ) (words : Bool) (text answer : List ℕ) → 0 < n → IsPlain text → text_columns text ≤ n
+        → IsWrapped n words text answer → answer ≡ text }
 {}
