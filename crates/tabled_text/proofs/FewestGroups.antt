@@ -1,5 +1,5 @@
 -- The fullest breaking: it has the fewest groups, and is the only one.
-use Rattle.std.proofs.Common.{◌≡◌, ℕ, ◌+◌, ◌<◌, ◌≤◌, Bool, List, [], ◌∷◌, ◌++◌, length, refl, sym, ap, ◌∙◌, arith, All, sum_by, length-append, ⊎_elim, ◌⊎◌, inl, inr}
+use Rattle.std.proofs.Common.{◌≡◌, ℕ, ◌+◌, ◌<◌, ◌≤◌, Bool, List, [], ◌∷◌, ◌++◌, length, refl, sym, ap, ◌∙◌, subst, arith, All, sum_by, length-append, ⊎_elim, ◌⊎◌, inl, inr}
 use Rattle.std.specs.List.{flat_map, AllZip}
 use Rattle.std.proofs.lemmas.List.{append_assoc}
 use Rattle.std.proofs.lemmas.List.Sums.{sum_by-append, sum_by-cons}
@@ -23,16 +23,19 @@ record EndsWithin (Z X : List TextUnit) : Type 0 where
   left : List TextUnit
   is : X ≡ left ++ Z
 
+-- the same with one more before both
+past : (x y : TextUnit) (b Y Z X : List TextUnit) → x ≡ y → GoesPast b Y Z X → GoesPast (x ∷ b) (y ∷ Y) Z X
+past x y b Y Z X head p =
+    let e : x ∷ b ≡ x ∷ (Y ++ p.first ∷ p.more) = ap (λ l. x ∷ l) p.is in
+    record { first = p.first; more = p.more; is = subst (λ h. x ∷ b ≡ h ∷ (Y ++ p.first ∷ p.more)) head e; next = p.next }
+
 split_append : (b X Y Z : List TextUnit) → b ++ X ≡ Y ++ Z → EndsWithin Z X ⊎ GoesPast b Y Z X
 split_append [] X Y Z e = inl (record { left = Y; is = e })
 split_append (x ∷ b) X [] Z e = inr (record { first = x; more = b; is = refl; next = sym e })
 split_append (x ∷ b) X (y ∷ Y) Z e =
     let tail : b ++ X ≡ Y ++ Z = cc in
     let head : x ≡ y = cc in
-    ⊎_elim (λ w. inl w) (λ p. inr (record { first = p.first; more = p.more; is = ap (λ l. x ∷ l) p.is ∙ ap (λ h. h ∷ (Y ++ p.first ∷ p.more)) head; next = p.next })) (split_append b X Y Z tail)
-
-flat : List (List TextUnit) → List TextUnit
-flat = flat_map (λ g. g)
+    ⊎_elim (λ w. inl w) (λ p. inr (past x y b Y Z X head p)) (split_append b X Y Z tail)
 
 -- a breaking that has at least these pieces left has at least as many groups
 fewest_from : (n : ℕ) → 0 < n → (F B : List (List TextUnit)) (P : List TextUnit) → AreFullest n F → All (λ g. 0 < length g) F → All (λ g. width_of g ≤ n) B

@@ -1,4 +1,4 @@
--- The walk that adds piece to piece, as a function, and that it gives the fullest breaking.
+-- The walk that adds unit to unit, as a function, and that it gives the fullest breaking.
 use Rattle.std.proofs.Common.{◌≡◌, ℕ, ◌+◌, ◌<◌, ◌≤◌, Bool, true, false, cond, List, [], ◌∷◌, ◌++◌, length, refl, sym, ap, ◌∙◌, subst, arith, All, length-append, ⊎_elim, nat_le}
 use Rattle.std.specs.List.{flat_map}
 use Rattle.std.proofs.lemmas.List.{append_assoc, append-nil}
@@ -116,7 +116,7 @@ fullest-from n current (p ∷ pieces) pos f = ⊎_elim
     (fullest-from n (p ∷ []) pieces pos (let l = needed-le-line n p pos in (omega arith, tt)))))
     (cases_Bool (nat_le (width_of current + needed n p) n))
 
--- the first piece goes into the first group
+-- the first unit goes into the first group
 first-from : (n : ℕ) (p : TextUnit) (pieces : List TextUnit) → 0 < n → groups_from n [] (p ∷ pieces) ≡ groups_from n (p ∷ []) pieces
 first-from n p pieces pos = ap (λ b. cond b (groups_from n (p ∷ []) pieces) ([] ∷ groups_from n (p ∷ []) pieces)) (le-leb (0 + needed n p) n (let l = needed-le-line n p pos in omega arith))
 
@@ -142,7 +142,7 @@ written_fullest n pieces pos = record {
 }
 
 -- ---- the fullest breaking is the only one: its text is what the walk writes
-put_all-fits : (n used : ℕ) (g rest : List TextUnit) → Fits n used g → put_all n used (g ++ rest) ≡ text_from n used g ++ put_all n (used + width_of g) rest
+pub put_all-fits : (n used : ℕ) (g rest : List TextUnit) → Fits n used g → put_all n used (g ++ rest) ≡ text_from n used g ++ put_all n (used + width_of g) rest
 put_all-fits n used [] rest f = ap (λ k. put_all n k rest) (let e : used ≡ used + 0 = omega arith in e)
 put_all-fits n used (p ∷ g) rest f =
     let put = put_text-fits n used p (le-leb (used + needed n p) n f.0) in
@@ -152,7 +152,7 @@ put_all-fits n used (p ∷ g) rest f =
     ∙ sym (append_assoc (shown n used p) (text_from n (used + p.width) g) (put_all n (used + p.width + width_of g) rest))
     ∙ ap (λ k. (shown n used p ++ text_from n (used + p.width) g) ++ put_all n k rest) (let e : used + p.width + width_of g ≡ used + width_of (p ∷ g) = omega (arith, sum_by-cons (λ (r : TextUnit). r.width) p g) in e)
 
--- a piece that does not fit begins a new line
+-- a unit that does not fit begins a new line
 put_all-breaks : (n used : ℕ) (p : TextUnit) (pieces : List TextUnit) → 0 < n → n < used + needed n p → put_all n used (p ∷ pieces) ≡ 10 ∷ put_all n 0 (p ∷ pieces)
 put_all-breaks n used p pieces pos h =
     let breaks = put_text-breaks n used p (lt-leb (used + needed n p) n h) in

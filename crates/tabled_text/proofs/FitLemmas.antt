@@ -1,11 +1,12 @@
 -- Whether each unit of a text is at most n wide, word by word and character by character.
-use Rattle.std.proofs.Common.{◌≡◌, ℕ, ◌<◌, ◌≤◌, ◌↔◌, Bool, true, false, cond, ◌&&◌, ◌||◌, ◌==◌, nat_le, List, [], ◌∷◌, chars, sym, ap, ◌∙◌, refl, map, All}
+use Rattle.std.proofs.Common.{◌≡◌, ℕ, ◌<◌, ◌≤◌, ◌↔◌, Bool, true, false, cond, ◌&&◌, ◌||◌, ◌==◌, nat_le, List, [], ◌∷◌, chars, sym, ap, ◌∙◌, refl, map, All, arith}
 use Rattle.std.specs.List.{list_all}
 use Rattle.std.proofs.lemmas.Bool.{and_parts, and_from, leb-true, le-leb, or_right}
 use Rattle.std.proofs.lemmas.List.Elements.{All-head, All-tail, All-cons, All-nil}
 use Rattle.std.proofs.lemmas.List.Folds.{list_all-append}
+use Rattle.unicode_width.proofs.Rules.{width_or_zero-le}
 use Rattle.tabled_text.specs.Breaking.{EachUnitFits}
-use Rattle.tabled_text.specs.Measure.{lines_of, columns_of, char_count}
+use Rattle.tabled_text.specs.Measure.{lines_of, columns_of, char_columns, char_count}
 use Rattle.tabled_text.specs.OldText.{finds_room}
 use Rattle.tabled_text.specs.Units.{TextUnit, unit_of_char, space, words_of, units_of_word, units_of_words, units}
 use Rattle.tabled_text.proofs.Each.{Each, Each-split}
@@ -92,3 +93,15 @@ pub fits-room : (n : ℕ) → 0 < n → (words : Bool) (text : List ℕ) → fin
 fits-room n pos words text h =
     (fits_lines-iff n pos words text).0 (room-lines n words (lines_of (chars text))
     (Each-split (λ c. c == 10) (λ c. nat_le (char_count c) n) (λ c. nat_le (char_count c) n) (λ c a b. a) (chars text) h))
+
+-- no character counts more than 3
+counts : (n c : ℕ) → 3 ≤ n → nat_le (char_count c) n ≡ true
+counts n c h = le-leb (char_count c) n (let w : char_columns c ≤ 3 = width_or_zero-le false c in omega arith)
+
+finds_wide : (n : ℕ) → 3 ≤ n → (cs : List ℕ) → finds_room n cs ≡ true
+finds_wide n h [] = refl
+finds_wide n h (c ∷ cs) = and_from (nat_le (char_count c) n) (finds_room n cs) (counts n c h) (finds_wide n h cs)
+
+pub fits-wide : (n : ℕ) → 3 ≤ n → (words : Bool) (cs : List ℕ) → list_all (fits_line n words) (lines_of cs) ≡ true
+fits-wide n h words cs =
+    room-lines n words (lines_of cs) (Each-split (λ c. c == 10) (λ c. nat_le (char_count c) n) (λ c. nat_le (char_count c) n) (λ c a b. a) cs (finds_wide n h cs))

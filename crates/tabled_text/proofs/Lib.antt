@@ -1,3 +1,4 @@
+pub mod BoundLemmas
 pub mod Bridge
 pub mod CheckLemmas
 pub mod CutLemmas
@@ -14,5 +15,6 @@ pub mod PlainLemmas
 pub mod PlainLines
 pub mod StayLemmas
 pub mod WordLemmas
+pub mod WrapKept
 pub mod WrapRoom
 pub mod WriteLemmas

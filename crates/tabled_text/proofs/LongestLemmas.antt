@@ -1,22 +1,17 @@
 -- A cut plain line is its longest beginning that finds room.
-use Rattle.std.proofs.Common.{◌≡◌, ℕ, ◌<◌, ◌≤◌, true, cond, List, [], ◌∷◌, length, take, refl, sym, ap, ◌∙◌, subst, arith, All, zero, suc, min, length-take, chars}
-use Rattle.std.specs.List.{list_all, onto_first}
+use Rattle.std.proofs.Common.{◌++◌, length-append, encode_utf8_all, replicate, append-nil, IsUtf8, ◌≡◌, ℕ, ◌<◌, ◌≤◌, true, List, [], ◌∷◌, length, take, refl, sym, ap, ◌∙◌, subst, arith, All, zero, suc, min, length-take, chars}
+use Rattle.std.specs.List.{list_all}
 use Rattle.std.proofs.lemmas.List.{take-take, take-append-le}
 use Rattle.std.proofs.lemmas.List.Elements.{All-head, All-cons, All-nil}
 use Rattle.std.proofs.lemmas.List.Sums.{sum_by-cons}
 use Rattle.std.proofs.lemmas.Bool.{and_parts, and_from}
-use Rattle.tabled_text.specs.Measure.{lines_of, columns_of, count_of, char_count}
+use Rattle.std.proofs.lemmas.Str.{encodes-chars}
+use Rattle.tabled_text.specs.Measure.{columns_of, count_of, char_count}
 use Rattle.tabled_text.specs.Plain.{is_plain_character}
-use Rattle.tabled_text.specs.Cut.{last_of, last_line, IsLongestReached, IsCut}
+use Rattle.tabled_text.specs.Cut.{last_of, last_line, IsLongestReached, IsCut, missing_columns}
 use Rattle.tabled_text.specs.Longest.{IsLongestFitting, IsLongestCut}
 use Rattle.tabled_text.proofs.PlainLemmas.{columns_of-plain, count_of-plain}
-use Rattle.tabled_text.proofs.WrapRoom.{not_break}
-
-one_line : (cs : List ℕ) → list_all is_plain_character cs ≡ true → lines_of cs ≡ cs ∷ []
-one_line [] h = refl
-one_line (c ∷ cs) h =
-    let parts = and_parts (is_plain_character c) (list_all is_plain_character cs) h in
-    ap (λ b. cond b ([] ∷ lines_of cs) (onto_first c (lines_of cs))) (not_break c parts.0) ∙ ap (onto_first c) (one_line cs parts.1)
+use Rattle.tabled_text.proofs.PlainLines.{one_line}
 
 plain-take : (k : ℕ) (cs : List ℕ) → list_all is_plain_character cs ≡ true → list_all is_plain_character (take k cs) ≡ true
 plain-take zero cs h = refl
@@ -70,3 +65,17 @@ cut_longest n line answer plain cut = record {
   longest = longest_fitting n (chars line) cut.front cut.rest plain cut.longest;
   answered = cut.characters;
 }
+
+no_rest : (front rest : List ℕ) → length (front ++ rest) ≤ length front → rest ≡ []
+no_rest front [] h = refl
+no_rest front (c ∷ rest) h = absurd (omega (arith, length-append front (c ∷ rest)))
+
+-- a plain line that finds room is not cut
+pub cut_kept : (n : ℕ) (line answer : List ℕ) → IsUtf8 line → list_all is_plain_character (chars line) ≡ true → columns_of (chars line) ≤ n → IsCut n line answer → answer ≡ line
+cut_kept n line answer u plain room cut =
+    let cs : List ℕ = chars line in
+    let all : length cs ≤ length cut.front = (longest_fitting n cs cut.front cut.rest plain cut.longest).longest (length cs) (omega arith) (subst (λ t. columns_of t ≤ n) (sym (take-length cs)) room) in
+    let none : cut.rest ≡ [] = no_rest cut.front cut.rest (subst (λ t. length t ≤ length cut.front) cut.longest.parts all) in
+    let whole : cut.front ≡ cs = sym (cut.longest.parts ∙ ap (λ r. cut.front ++ r) none ∙ append-nil cut.front) in
+    let same : chars answer ≡ cs = cut.characters ∙ ap (λ r. cut.front ++ replicate (missing_columns n cut.front r) 0xFFFD) none ∙ append-nil cut.front ∙ whole in
+    sym (encodes-chars answer cut.utf8) ∙ ap encode_utf8_all same ∙ encodes-chars line u

@@ -14,6 +14,8 @@ use Rattle.tabled_text.specs.Breaking.{IsBreaking, IsBroken, EachUnitFits, IsLea
 use Rattle.tabled_text.specs.Wrapping.{Fits, AreFullest, text_from, text_of_groups, IsFullest, IsFullestText, IsWrapped}
 use Rattle.tabled_text.specs.OldText.{HasOldText}
 use Rattle.tabled_text.proofs.FewestGroups.{fewest_lines}
+use Rattle.tabled_text.proofs.Filling.{written_fullest}
+use Rattle.tabled_text.proofs.WriteLemmas.{AllZip-broken}
 use Rattle.tabled_text.proofs.FewestLines.{rows-wrapped, count-chars}
 
 abbrev Narrow : ℕ → List TextUnit → Type 0
@@ -55,7 +57,7 @@ text_of-units n false line = text_of-chars line
 text_of-units n true line = text_of-words n (words_of line) ∙ join_with_byte-slice_split 32 line
 
 -- ---- the groups
-text_from-narrow : (n used : ℕ) (g : List TextUnit) → Narrow n g → text_from n used g ≡ text_of g
+pub text_from-narrow : (n used : ℕ) (g : List TextUnit) → Narrow n g → text_from n used g ≡ text_of g
 text_from-narrow n used [] h = refl
 text_from-narrow n used (p ∷ g) h =
     ap (λ b. cond b p.text (replicate (n - used) 0xFFFD) ++ text_from n (used + p.width) g) (le-leb p.width n h.0) ∙ ap (λ l. p.text ++ l) (text_from-narrow n (used + p.width) g h.1)
@@ -161,7 +163,7 @@ old_text n words text answer pos fits w =
 
 -- ---- where there are breakings, each unit finds room
 
-unit-le : (n : ℕ) (g : List TextUnit) → width_of g ≤ n → Narrow n g
+pub unit-le : (n : ℕ) (g : List TextUnit) → width_of g ≤ n → Narrow n g
 unit-le n [] h = tt
 unit-le n (u ∷ g) h =
     let e = sum_by-cons (λ (v : TextUnit). v.width) u g in
@@ -190,3 +192,10 @@ fit-lines n words (l ∷ ls) (g ∷ gs) b =
 
 pub fits-broken : (n : ℕ) (words : Bool) (text : List ℕ) (broken : List (List (List TextUnit))) → IsBroken n words text broken → EachUnitFits n words text
 fits-broken n words text broken b = fit-lines n words (lines_of (chars text)) broken b.each
+
+-- and where each unit finds room, there is one
+pub some_breaking : (n : ℕ) (words : Bool) (text : List ℕ) → 0 < n → EachUnitFits n words text → (broken : List (List (List TextUnit))) × IsBroken n words text broken
+some_breaking n words text pos fits =
+    let lines = lines_of (chars text) in
+    let broken : List (List (List TextUnit)) = map (λ line. (written_fullest n (units n words line) pos).groups) lines in
+    (broken, record { columns = pos; each = are_breakings n words lines broken fits (AllZip-broken n pos words lines) })

@@ -1,21 +1,24 @@
 -- Plain texts that stay in some columns: what they are, and what is made of them.
-use Rattle.std.proofs.Common.{◌≡◌, ℕ, ◌+◌, ◌<◌, ◌≤◌, Bool, true, cond, ◌==◌, ◌&&◌, nat_le, List, [], ◌∷◌, ◌++◌, chars, length, map, refl, sym, ap, ◌∙◌, subst, arith, All, ⊎_elim, sum_by, append-nil, lit<}
+use Rattle.std.proofs.Common.{le-leb, ◌≡◌, ℕ, ◌+◌, ◌<◌, ◌≤◌, Bool, true, cond, ◌==◌, ◌&&◌, nat_le, List, [], ◌∷◌, ◌++◌, chars, length, map, refl, sym, ap, ◌∙◌, subst, arith, All, ⊎_elim, sum_by, append-nil, lit<, encode_utf8_all, replicate, zero, suc}
 use Rattle.std.specs.List.{join_with_byte}
 use Rattle.std.specs.Str.{IsUtf8}
 use Rattle.std.proofs.lemmas.Bool.{and_parts, and_from, cases_Bool}
 use Rattle.std.proofs.lemmas.List.Elements.{All-head, All-tail}
 use Rattle.std.proofs.lemmas.List.Sums.{sum_by-cons}
-use Rattle.std.proofs.lemmas.Str.{chars-append, IsUtf8-append}
+use Rattle.std.proofs.lemmas.Str.{chars-encodes, chars-nil, IsUtf8-nil, chars-append, IsUtf8-append}
+use Rattle.std.proofs.Math.Utf8.{scalar, scalars}
+use Rattle.unicode_width.proofs.Rules.{is_simple}
 use Rattle.tabled_text.specs.Measure.{lines_of, line_columns, text_columns, columns_of, char_columns, greatest}
 use Rattle.tabled_text.specs.Cut.{IsCut}
-use Rattle.tabled_text.specs.Plain.{is_plain_character, IsPlain}
+use Rattle.tabled_text.specs.Plain.{is_listed, has_plain_width, is_plain_character, IsPlain, IsPlainColumn}
 use Rattle.tabled_text.specs.Room.{stays, StaysWithin}
 use Rattle.tabled_text.specs.Wrapping.{IsWrapped}
 use Rattle.tabled_text.proofs.Bridge.{text_columns-chars, lines_of-chars}
-use Rattle.tabled_text.proofs.CutRoom.{stays-cut, stays-cut_before, stays-whole, stays-text, last_used, last_used-le, lines_some}
+use Rattle.tabled_text.proofs.CutRoom.{copies, stays-cut, stays-cut_before, stays-whole, stays-text, last_used, last_used-le, lines_some}
+use Rattle.tabled_text.proofs.PlainLines.{scalar-listed}
 use Rattle.tabled_text.proofs.PlainLemmas.{columns_of-plain}
 use Rattle.tabled_text.proofs.WordLemmas.{chars-mark, IsUtf8-mark}
-use Rattle.tabled_text.proofs.WrapRoom.{Lines, EachPlain, EachPlain-lines, stays-wrapped, stays-nothing, columns-stays, is_plain_text-stays}
+use Rattle.tabled_text.proofs.WrapRoom.{stays-line, Lines, EachPlain, EachPlain-lines, stays-wrapped, stays-nothing, columns-stays, is_plain_text-stays}
 
 -- ---- what they are
 
@@ -106,3 +109,24 @@ StaysWithin-join {n} [] some h = absurd (omega arith)
 StaysWithin-join {n} (l ∷ []) some h = All-head (StaysWithin n) l [] h
 StaysWithin-join {n} (l ∷ m ∷ ls) some h =
     StaysWithin-feed (All-head (StaysWithin n) l (m ∷ ls) h) (StaysWithin-join (m ∷ ls) (omega arith) (All-tail (StaysWithin n) l (m ∷ ls) h))
+
+-- ---- nothing, and copies of a character
+
+pub StaysWithin-none : {n : ℕ} → StaysWithin n []
+StaysWithin-none {n} = record { utf8 = IsUtf8-nil; stays = subst (λ t. stays n 0 t ≡ true) (sym chars-nil) (le-leb 0 n (omega arith)) }
+
+scalars-copies : (c k : ℕ) → scalar c ≡ true → scalars (replicate k c) ≡ true
+scalars-copies c zero h = refl
+scalars-copies c (suc k) h = and_from (scalar c) (scalars (replicate k c)) h (scalars-copies c k h)
+
+pub StaysWithin-filled : {n : ℕ} (k c : ℕ) → k ≤ n → IsPlainColumn c → StaysWithin n (encode_utf8_all (replicate k c))
+StaysWithin-filled {n} k c le p =
+    let cs : List ℕ = replicate k c in
+    let own : scalars cs ≡ true = scalars-copies c k (scalar-listed c (and_parts (is_listed c) (has_plain_width c && is_simple c) p.character).0) in
+    let all = copies c k p.character p.columns in
+    let wide : sum_by char_columns cs ≡ k = all.1 in
+    let line : stays n 0 (cs ++ []) ≡ true = stays-line n 0 cs [] all.0 (le-leb (0 + sum_by char_columns cs) n (omega arith)) in
+    record {
+      utf8 = (cs, (own, refl));
+      stays = subst (λ t. stays n 0 t ≡ true) (append-nil cs ∙ sym (chars-encodes cs own)) line;
+    }

@@ -113,7 +113,7 @@ is_plain_text-stays n used (c ∷ cs) h = ⊎_elim
     subst (λ b. ((b || is_plain_character c) && is_plain_text cs) ≡ true) (sym no) (and_from (is_plain_character c) (is_plain_text cs) parts.0 (is_plain_text-stays n (used + char_columns c) cs parts.1)))
     (cases_Bool (c == 10))
 
--- ---- pieces that are plain and as wide as they say
+-- ---- units that are plain and as wide as they say
 abbrev pub Good : TextUnit → Type 0
 Good p = (list_all is_plain_character p.text ≡ true) × (p.width ≡ sum_by char_columns p.text)
 
@@ -165,7 +165,7 @@ pub EachGood-units : (n : ℕ) (words : Bool) (line : List ℕ) → list_all is_
 EachGood-units n false line h = EachGood-chars line h
 EachGood-units n true line h = EachGood-words n (words_of line) (Each-split (λ c. c == 32) is_plain_character is_plain_character (λ c a b. a) line h)
 
--- ---- a piece that is shown stays in the line
+-- ---- a unit that is shown stays in the line
 shown-wide : (n used : ℕ) (p : TextUnit) (rest : List ℕ) → Good p → used + needed n p ≤ n → (stays n (min (used + p.width) n) rest ≡ true) → stays n used (shown n used p ++ rest) ≡ true
 shown-wide n used p rest g fits s = ⊎_elim
     (λ y.
@@ -191,7 +191,7 @@ needed-fits n p h = grind (arith, nat_tests)
 needed-some : (n : ℕ) (p : TextUnit) → 0 < n → n < p.width → 0 < needed n p
 needed-some n p h l = grind (arith, nat_tests)
 
--- adding piece to piece, where what follows stays from every column on
+-- adding unit to unit, where what follows stays from every column on
 pub stays-put_all : (n used : ℕ) (ps : List TextUnit) (rest : List ℕ) → 0 < n → EachGood ps → ((k : ℕ) → k ≤ n → stays n k rest ≡ true) → stays n (min used n) (put_all n used ps ++ rest) ≡ true
 stays-put_all n used [] rest pos g h = h (min used n) (omega arith)
 stays-put_all n used (p ∷ ps) rest pos g h =

@@ -1,4 +1,4 @@
--- The bytes that one more piece adds.
+-- The bytes that one more unit adds.
 use Rattle.std.proofs.Common.{◌≡◌, ℕ, ◌+◌, ◌-◌, ◌<◌, ◌≤◌, Bool, true, false, cond, List, [], ◌∷◌, ◌++◌, length, refl, sym, ap, ◌∙◌, subst, arith, map, encode_utf8_all, encode_utf8, nat_le, lit<, replicate, ◌==◌, MatchBool}
 use Rattle.std.specs.Str.{IsUtf8, chars}
 use Rattle.std.proofs.lemmas.List.{append_assoc, append-nil, nil_from_length, replicate_more}
@@ -15,20 +15,20 @@ encodes-begin_text : (b : Bool) → encode_utf8_all (cond b [] (10 ∷ [])) ≡ 
 encodes-begin_text true = refl
 encodes-begin_text false = ap (λ l. l ++ []) (encode_ascii 10 (lit< tt))
 
-abbrev pub piece : List ℕ → ℕ → TextUnit
-piece text width = record { text = text; width = width }
+abbrev pub unit_of : List ℕ → ℕ → TextUnit
+unit_of text width = record { text = text; width = width }
 
 pub put_word_bytes : (n used width : ℕ) (b₀ b₁ b₂ word : List ℕ) → width ≤ n → IsUtf8 word → b₁ ≡ b₀ ++ begin_text n used width → b₂ ≡ b₁ ++ word
-    → b₂ ≡ b₀ ++ encode_utf8_all (put_text n used (piece (chars word) width))
+    → b₂ ≡ b₀ ++ encode_utf8_all (put_text n used (unit_of (chars word) width))
 put_word_bytes n used width b₀ b₁ b₂ word le u e f =
     let fits = le-leb width n le in
-    let whole : put_text n used (piece (chars word) width) ≡ begin_text n used width ++ chars word =
+    let whole : put_text n used (unit_of (chars word) width) ≡ begin_text n used width ++ chars word =
     ap (λ b. begin_text n used (cond b width 1) ++ cond b (chars word) (replicate (n - begin_at n used (cond b width 1)) 0xFFFD)) fits in
     f ∙ ap (λ l. l ++ word) e ∙ append_assoc b₀ (begin_text n used width) word
     ∙ ap (λ l. b₀ ++ l) (ap (λ l. begin_text n used width ++ l) (sym (encodes-chars word u)) ∙ ap (λ l. l ++ encode_utf8_all (chars word)) (sym (encodes-begin_text (nat_le (used + width) n)))
     ∙ sym (encodes-append (begin_text n used width) (chars word)) ∙ ap encode_utf8_all (sym whole))
 
--- a piece is written, and others follow
+-- a unit is written, and others follow
 pub put_more : (n used : ℕ) (p : TextUnit) (pieces : List TextUnit) (b₀ b₁ out : List ℕ) → b₁ ≡ b₀ ++ encode_utf8_all (put_text n used p)
     → b₀ ++ encode_utf8_all (put_all n used (p ∷ pieces)) ≡ out → b₁ ++ encode_utf8_all (put_all n (put_used n used p) pieces) ≡ out
 put_more n used p pieces b₀ b₁ out e h =
@@ -47,16 +47,16 @@ pub units_of_word-empty : (n : ℕ) (word : List ℕ) (b : Bool) → b ≡ (leng
 units_of_word-empty n word b e h =
     ap (λ l. units_of_word n (chars l)) (nil_from_length word (eqb-true (length word) 0 (sym e ∙ h))) ∙ ap (units_of_word n) chars-nil
 
-short : (n : ℕ) (cs : List ℕ) → (cs ≡ [] → ⊥) → columns_of cs ≤ n → units_of_word n cs ≡ piece cs (columns_of cs) ∷ []
+short : (n : ℕ) (cs : List ℕ) → (cs ≡ [] → ⊥) → columns_of cs ≤ n → units_of_word n cs ≡ unit_of cs (columns_of cs) ∷ []
 short n [] ne le = absurd (ne refl)
-short n (c ∷ cs) ne le = ap (λ b. cond b (piece (c ∷ cs) (columns_of (c ∷ cs)) ∷ []) (map unit_of_char (c ∷ cs))) (le-leb (columns_of (c ∷ cs)) n le)
+short n (c ∷ cs) ne le = ap (λ b. cond b (unit_of (c ∷ cs) (columns_of (c ∷ cs)) ∷ []) (map unit_of_char (c ∷ cs))) (le-leb (columns_of (c ∷ cs)) n le)
 
 not_empty : (word : List ℕ) → IsUtf8 word → (length word ≡ 0 → ⊥) → chars word ≡ [] → ⊥
 not_empty word u ne e = ne (ap length (sym (encodes-chars word u) ∙ ap encode_utf8_all e))
 
-pub units_of_word-short : (n : ℕ) (word : List ℕ) (width : ℕ) (b : Bool) → IsUtf8 word → b ≡ (length word == 0) → b ≡ false → width ≡ columns_of (chars word) → width ≤ n → units_of_word n (chars word) ≡ piece (chars word) width ∷ []
+pub units_of_word-short : (n : ℕ) (word : List ℕ) (width : ℕ) (b : Bool) → IsUtf8 word → b ≡ (length word == 0) → b ≡ false → width ≡ columns_of (chars word) → width ≤ n → units_of_word n (chars word) ≡ unit_of (chars word) width ∷ []
 units_of_word-short n word width b u e h w le =
-    short n (chars word) (not_empty word u (λ z. eqb-false (length word) 0 (sym e ∙ h) z)) (subst (λ k. k ≤ n) w le) ∙ ap (λ k. piece (chars word) k ∷ []) (sym w)
+    short n (chars word) (not_empty word u (λ z. eqb-false (length word) 0 (sym e ∙ h) z)) (subst (λ k. k ≤ n) w le) ∙ ap (λ k. unit_of (chars word) k ∷ []) (sym w)
 
 split_cons : (p : ℕ → Bool) (cs : List ℕ) → (x : List ℕ) × (xs : List (List ℕ)) × (slice_split p cs ≡ x ∷ xs)
 split_cons p [] = ([], [], refl)
@@ -72,7 +72,7 @@ units_of_words-more n word cs =
     let h = split_cons (λ c. c == 32) cs in
     subst (λ ws. units_of_words n (word ∷ ws) ≡ units_of_word n word ++ space ∷ units_of_words n ws) (sym h.2) refl
 
--- pieces are written, and others follow
+-- units are written, and others follow
 pub put_on : (n used : ℕ) (xs ys : List TextUnit) (b₀ b₁ out : List ℕ) → b₁ ≡ b₀ ++ encode_utf8_all (put_all n used xs)
     → b₀ ++ encode_utf8_all (put_all n used (xs ++ ys)) ≡ out → b₁ ++ encode_utf8_all (put_all n (used_after n used xs) ys) ≡ out
 put_on n used xs ys b₀ b₁ out e h =
@@ -80,7 +80,7 @@ put_on n used xs ys b₀ b₁ out e h =
     ∙ append_assoc b₀ (encode_utf8_all (put_all n used xs)) (encode_utf8_all (put_all n (used_after n used xs) ys))
     ∙ ap (λ l. b₀ ++ l) (sym (encodes-append (put_all n used xs) (put_all n (used_after n used xs) ys)) ∙ ap encode_utf8_all (sym (put_all-append n used xs ys))) ∙ h
 
-pub space-is : piece (chars (32 ∷ [])) 1 ≡ space
+pub space-is : unit_of (chars (32 ∷ [])) 1 ≡ space
 unfolding chars
 space-is = refl
 
@@ -133,7 +133,7 @@ IsWrapped-none n words text out z e = record {
 }
 
 -- ---- the same as equations of texts, for any sink
-pub encodes-word : (n used width : ℕ) (word : List ℕ) → width ≤ n → IsUtf8 word → begin_text n used width ++ word ≡ encode_utf8_all (put_text n used (piece (chars word) width))
+pub encodes-word : (n used width : ℕ) (word : List ℕ) → width ≤ n → IsUtf8 word → begin_text n used width ++ word ≡ encode_utf8_all (put_text n used (unit_of (chars word) width))
 encodes-word n used width word le u = put_word_bytes n used width [] (begin_text n used width) (begin_text n used width ++ word) word le u refl refl
 
 pub encodes-more : (n used : ℕ) (p : TextUnit) (pieces : List TextUnit) → encode_utf8_all (put_text n used p) ++ encode_utf8_all (put_all n (put_used n used p) pieces) ≡ encode_utf8_all (put_all n used (p ∷ pieces))

@@ -15,7 +15,8 @@ pub(crate) fn char_count(c: char) -> usize
 
 /// The first character of a text, and what follows it.
 pub(crate) fn split_first(text: &str) -> Option<(char, &str)>
-    ensures { MatchOption result (chars text.now ≡ []) (λ x. (text.now ≡ encode_utf8 x.0 ++ x.1.now) × (length x.1.now < length text.now) × (chars text.now ≡ x.0 ∷ chars x.1.now)) }
+    ensures { MatchOption result (chars text.now ≡ []) (λ x. (text.now ≡ encode_utf8 x.0 ++ x.1.now)
+        × (length x.1.now < length text.now) × (chars text.now ≡ x.0 ∷ chars x.1.now)) }
 {
     let mut chars = text.chars();
     let first = chars.next()?;

@@ -63,7 +63,8 @@ fn push_copies(text: &mut String, c: char, n: usize) -> Result<(), AllocError>
 
 /// The beginning of a text, with U+FFFD in the columns that are missing.
 fn fill(alloc: Global, front: &str, missing: usize) -> Result<CowStr<'_, Global>, AllocError>
-    ensures text { IfOk result (λ answer. cow_str_bytes answer ≡ front.now ++ encode_utf8_all (replicate missing 0xFFFD)) }
+    ensures text { IfOk result (λ answer.
+        cow_str_bytes answer ≡ front.now ++ encode_utf8_all (replicate missing 0xFFFD)) }
     ensures owned { IfOk result (λ answer. IsOwnedStr answer → 0 < missing) }
     ensures err { OnErr result (0 < missing) }
 {
@@ -75,9 +76,10 @@ fn fill(alloc: Global, front: &str, missing: usize) -> Result<CowStr<'_, Global>
     Ok(CowStr::Owned(answer))
 }
 
-/// The longest beginning of a text that stays in n columns, each character counted by itself (1 at least). It ends
-/// before the first character that follows a full line, also before a line feed; a character that would pass n is
-/// dropped, and U+FFFD stands in the columns that are left. Else the text is lent, and no memory is wanted.
+/// The longest beginning of a text of which no line passes n columns, each character counted by itself (1 at
+/// least). It ends at a full line, also before a line feed. A character that would pass n is dropped, and
+/// U+FFFD stands in each column that is left; where there is none, the text is lent. Refused only where memory
+/// for U+FFFD is.
 pub fn cut_str(alloc: Global, text: &str, n: usize) -> Result<CowStr<'_, Global>, AllocError>
     ensures cut { IfOk result (λ answer. IsCut n text.now (cow_str_bytes answer)) }
     ensures owned { IfOk result (λ answer. IsOwnedStr answer → NeedsFill n text.now) }
@@ -87,7 +89,7 @@ pub fn cut_str(alloc: Global, text: &str, n: usize) -> Result<CowStr<'_, Global>
     fill(alloc, parts.front, parts.missing)
 }
 
-/// The text as `cut_str` cuts it, and what follows it and a dropped character.
+/// A text as `cut_str` cuts it, and what follows its beginning and a dropped character. Refused as `cut_str` is.
 pub fn split_str(
     alloc: Global,
     text: &str,

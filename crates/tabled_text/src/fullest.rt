@@ -2,7 +2,7 @@
 ghost use Rattle.std.specs.Prelude.{◌≡◌, ◌++◌, ◌↔◌, ◌<◌, ℕ, List, [], Some, None, Option, chars, encode_utf8, IsTrue};
 ghost use Rattle.std.specs.List.{list_all};
 ghost use Rattle.std.specs.Option.{option_copied};
-ghost use Rattle.tabled_text.specs.Breaking.{HasFewestLines};
+ghost use Rattle.tabled_text.specs.Breaking.{HasFewestLines, IsLeastBreaking};
 ghost use Rattle.tabled_text.specs.Expected.{Expects, Expects-nothing, Expects-more};
 ghost use Rattle.tabled_text.specs.Measure.{lines_of};
 ghost use Rattle.tabled_text.specs.OldText.{finds_room};
@@ -18,7 +18,8 @@ use std::convert::Infallible;
 
 /// The text without a beginning, if it begins so.
 fn strip<'a>(rest: Option<&'a [u8]>, text: &[u8]) -> Option<&'a [u8]>
-    ensures { (z : List ℕ) → (option_copied rest.entry ≡ Some (text.now ++ z)) ↔ (option_copied result ≡ Some z) }
+    ensures { (z : List ℕ)
+        → (option_copied rest.entry ≡ Some (text.now ++ z)) ↔ (option_copied result ≡ Some z) }
 {
     rest?.strip_prefix(text)
 }
@@ -48,7 +49,8 @@ impl<'a> Sink for Expected<'a> {
 
     ghost adds_nothing = { λ s. Expects-nothing (option_copied s.rest) };
 
-    ghost adds_more = { λ s t u x y h k. Expects-more (option_copied s.rest) (option_copied t.rest) (option_copied u.rest) x y h k };
+    ghost adds_more = { λ s t u x y h k.
+        Expects-more (option_copied s.rest) (option_copied t.rest) (option_copied u.rest) x y h k };
 }
 
 /// Whether nothing more is expected.
@@ -85,10 +87,16 @@ fn words_fit(line: &str, n: usize) -> bool
     }
 }
 
-/// Whether each unit of a text is at most n wide.
+/// What the widest characters count.
+const WIDEST: usize = 3;
+
+/// Whether each unit of a text is at most n wide. Where even the widest character is, nothing is read.
 fn units_fit(text: &str, n: usize, words: bool) -> bool
     ensures { result ≡ list_all (fits_line n words) (lines_of (chars text.now)) }
 {
+    if n >= WIDEST {
+        return true;
+    }
     for line in lines(text) {
         let fits = if words {
             words_fit(line, n)
@@ -102,11 +110,12 @@ fn units_fit(text: &str, n: usize, words: bool) -> bool
     true
 }
 
-/// Whether each unit of a text is at most n wide, n is at least 1, and `wrapped` is the text as `wrap_text` wraps it. Then
+/// Whether each unit of a text is at most n wide, n is at least 1, and `wrapped` is what `wrap_text` gives. Then
 /// it has the fewest lines of all breakings of the text. Takes no memory.
 pub fn is_fullest(text: &str, wrapped: &str, n: usize, words: bool) -> bool
     ensures fullest { IsTrue result ↔ IsRoomyWrapping n words text.now wrapped.now }
     ensures fewest { IsTrue result → HasFewestLines n words text.now wrapped.now }
+    ensures least { IsTrue result → IsLeastBreaking n words text.now wrapped.now }
 {
     if n == 0 || !units_fit(text, n, words) {
         return false;

@@ -1,7 +1,9 @@
-//! What a text takes: its lines, and the columns of each.
+//! What a text takes, where it is cut, and how it is wrapped.
 //!
 //! A column is what `unicode_width` counts, by Unicode Standard Annex 11. A text has one line more
-//! than line feeds, and is as wide as its widest line.
+//! than line feeds, and is as wide as its widest line. Cutting and wrapping count each character by
+//! itself, and 1 at least, so that they never look ahead; words that are kept are measured as a line.
+//! For plain texts both measures are the same.
 #![tactic(auto)]
 
 mod character;

@@ -3,7 +3,7 @@ ghost use Rattle.std.specs.Prelude.{◌≡◌, ◌++◌, ◌<◌, ◌≤◌, ◌
 ghost use Rattle.std.proofs.Common.{sym, ap, ◌∙◌, append-nil, append_assoc};
 ghost use Rattle.tabled_text.specs.Measure.{lines_of};
 ghost use Rattle.tabled_text.specs.Units.{TextUnit, unit_of_char, words_of, units, units_of_word, units_of_words};
-ghost use Rattle.tabled_text.specs.Breaking.{HasFewestLines};
+ghost use Rattle.tabled_text.specs.Breaking.{EachUnitFits, HasFewestLines, IsLeastBreaking};
 ghost use Rattle.tabled_text.specs.Wrapping.{IsWrapped};
 ghost use Rattle.tabled_text.specs.Walk.{words_in, begin_at, begin_text, put_text, put_used, put_all, used_after, pending};
 
@@ -79,8 +79,10 @@ fn put_word<S: Sink>(
     width: usize,
 ) -> Result<usize, S::Error>
     requires { width ≤ n }
-    ensures used { IfOk result (λ column. column ≡ put_used n used (record { text = chars word.now; width = width })) }
-    ensures text { OnOk result (S.adds out.old (encode_utf8_all (put_text n used (record { text = chars word.now; width = width }))) out.new) }
+    ensures used { IfOk result (λ column.
+        column ≡ put_used n used (record { text = chars word.now; width = width })) }
+    ensures text { OnOk result (S.adds out.old
+        (encode_utf8_all (put_text n used (record { text = chars word.now; width = width }))) out.new) }
 {
     let column = begin(out, used, n, width)?;
     out.put_str(word)?;
@@ -108,7 +110,8 @@ fn put_char<S: Sink>(out: &mut S, used: usize, n: usize, c: char) -> Result<usiz
 fn put_chars<S: Sink>(out: &mut S, used: usize, n: usize, text: &str) -> Result<usize, S::Error>
     requires { 0 < n }
     ensures used { IfOk result (λ column. column ≡ used_after n used (map unit_of_char (chars text.now))) }
-    ensures text { OnOk result (S.adds out.old (encode_utf8_all (put_all n used (map unit_of_char (chars text.now)))) out.new) }
+    ensures text { OnOk result (S.adds out.old
+        (encode_utf8_all (put_all n used (map unit_of_char (chars text.now)))) out.new) }
 {
     let mut column = used;
     let mut rest = text;
@@ -123,7 +126,8 @@ fn put_chars<S: Sink>(out: &mut S, used: usize, n: usize, text: &str) -> Result<
 fn put_unit<S: Sink>(out: &mut S, used: usize, n: usize, word: &str) -> Result<usize, S::Error>
     requires { 0 < n }
     ensures used { IfOk result (λ column. column ≡ used_after n used (units_of_word n (chars word.now))) }
-    ensures text { OnOk result (S.adds out.old (encode_utf8_all (put_all n used (units_of_word n (chars word.now)))) out.new) }
+    ensures text { OnOk result (S.adds out.old
+        (encode_utf8_all (put_all n used (units_of_word n (chars word.now)))) out.new) }
 {
     if word.is_empty() {
         return Ok(used);
@@ -151,7 +155,8 @@ pub(crate) fn split_word(text: &str) -> (&str, Option<&str>)
 /// Writes the words of a line and the spaces between them.
 fn put_words<S: Sink>(out: &mut S, n: usize, line: &str) -> Result<(), S::Error>
     requires { 0 < n }
-    ensures { OnOk result (S.adds out.old (encode_utf8_all (put_all n 0 (units_of_words n (words_of (chars line.now))))) out.new) }
+    ensures { OnOk result (S.adds out.old
+        (encode_utf8_all (put_all n 0 (units_of_words n (words_of (chars line.now))))) out.new) }
 {
     let mut column = 0;
     let mut rest = line;
@@ -171,7 +176,8 @@ fn put_words<S: Sink>(out: &mut S, n: usize, line: &str) -> Result<(), S::Error>
 /// Writes a line, broken.
 fn put_line<S: Sink>(out: &mut S, n: usize, words: bool, line: &str) -> Result<(), S::Error>
     requires { 0 < n }
-    ensures { OnOk result (S.adds out.old (encode_utf8_all (put_all n 0 (units n words (chars line.now)))) out.new) }
+    ensures { OnOk result (S.adds out.old
+        (encode_utf8_all (put_all n 0 (units n words (chars line.now)))) out.new) }
 {
     if words {
         return put_words(out, n, line);
@@ -188,7 +194,8 @@ pub(crate) fn put_lines<S: Sink>(
     text: &str,
 ) -> Result<(), S::Error>
     requires { 0 < n }
-    ensures { OnOk result (S.adds out.old (encode_utf8_all (pending n words false (lines_of (chars text.now)))) out.new) }
+    ensures { OnOk result (S.adds out.old
+        (encode_utf8_all (pending n words false (lines_of (chars text.now)))) out.new) }
 {
     let mut begun = false;
     for line in lines(text) {
@@ -201,13 +208,16 @@ pub(crate) fn put_lines<S: Sink>(
     Ok(())
 }
 
-/// The text in lines of at most n columns: the text of its fullest breaking, which is empty for no columns. Units go on
-/// a line while they fit. They are the characters, each counted by itself (1 at least), or where words are kept the
-/// spaces, the words of at most n columns and the characters of longer words. A character that is wider than n is
-/// written as U+FFFD in the columns that are left. No other breaking has fewer lines.
+/// A text in lines of at most n columns, empty for no columns. Each line takes units while they fit. Units are
+/// the characters, each counted by itself (1 at least), or with `words` the spaces, the words of at most n
+/// columns, measured as lines, and the characters of longer words. A character that is wider than n is written
+/// as U+FFFD in the columns that are left, at least one. No other breaking has fewer lines. Refused only where
+/// memory is.
 pub fn wrap_text(alloc: Global, text: &str, n: usize, words: bool) -> Result<String, AllocError>
     ensures wrapped { IfOk result (λ answer. IsWrapped n words text.now (string_bytes answer)) }
     ensures fewest { IfOk result (λ answer. HasFewestLines n words text.now (string_bytes answer)) }
+    ensures least { 0 < n → EachUnitFits n words text.now
+        → IfOk result (λ answer. IsLeastBreaking n words text.now (string_bytes answer)) }
 {
     let mut out = String::new(alloc);
     if n == 0 {

@@ -5,6 +5,7 @@ use Rattle.tabled_text.specs.Expected.{Expects}
 use Rattle.tabled_text.specs.Wrapping.{IsRoomyWrapping}
 use Rattle.tabled_text.proofs.CheckLemmas.{expected-iff, roomy-iff, not_roomy}
 use Rattle.tabled_text.proofs.FewestLines.{fewest-wrapped}
+use Rattle.tabled_text.proofs.OwnBreaking.{least_breaking}
 use Rattle.tabled_text.proofs.fullest.is_fullest.Goals as goal
 use Rattle.tabled_text.proofs.fullest.is_fullest.Goals.{then-n-eq0-via-then-n-eq0, then-n-eq0-via-else-n-eq0+then-not-units_fit}
 
@@ -37,3 +38,8 @@ returns-clause-fullest c = holds c
 
 pub returns-clause-fewest : goal.returns-clause-fewest
 returns-clause-fewest c = λ t. fewest-wrapped c.args.n c.args.words c.args.text.now c.args.wrapped.now ((holds c).0 t).wrapped
+
+pub returns-clause-least : goal.returns-clause-least
+returns-clause-least c = λ t.
+    let roomy = (holds c).0 t in
+    least_breaking c.args.n c.args.words c.args.text.now c.args.wrapped.now roomy.columns roomy.units roomy.wrapped

@@ -1,6 +1,7 @@
 use Rattle.tabled_text.proofs.FewestLines.{fewest-wrapped}
 use Rattle.tabled_text.proofs.OwnBreaking.{least_breaking, old_text}
 use Rattle.tabled_text.proofs.StayLemmas.{StaysWithin-wrapped}
+use Rattle.tabled_text.proofs.WrapKept.{wrap_kept}
 use Rattle.tabled_text.proofs.laws.wrapped_texts.Goals as goal
 
 pub returns : goal.returns
@@ -9,4 +10,5 @@ returns g = record {
   fewest = fewest-wrapped;
   least = least_breaking;
   whole = old_text;
+  kept = wrap_kept;
 }
