@@ -1,3 +1,9 @@
 pub mod Estimates
+pub mod Grown
+pub mod Least
+pub mod Peak
+pub mod Permitted
 pub mod Sheet
+pub mod Shrunk
 pub mod Totals
+pub mod Visits
