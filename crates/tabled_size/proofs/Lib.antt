@@ -1,3 +1,4 @@
+pub mod BestPlace
 pub mod Greatest
 pub mod Passing
 pub mod Sums

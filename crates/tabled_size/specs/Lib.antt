@@ -1,9 +1,14 @@
 pub mod Estimates
 pub mod Grown
+pub mod GrownLaws
 pub mod Least
 pub mod Peak
 pub mod Permitted
+pub mod PermittedLaws
+pub mod RoundLaws
 pub mod Sheet
 pub mod Shrunk
+pub mod ShrunkLaws
+pub mod SumLaws
 pub mod Totals
 pub mod Visits

@@ -1,8 +1,26 @@
-//! The sizes of a table: what its texts ask for, and what the whole takes.
+//! The sizes of a table: what its texts ask for, what the whole takes, and the priorities by which
+//! sizes are shrunk or grown to a wanted total.
 #![tactic(auto)]
 
+mod column;
 mod estimate;
+mod left;
+mod max;
+mod min;
+mod none;
+mod peaker;
+mod priority;
+mod right;
+mod steps;
 mod total;
 
 pub use estimate::{estimate_heights, estimate_widths};
+pub use left::PriorityLeft;
+pub use max::PriorityMax;
+pub use min::PriorityMin;
+pub use none::PriorityNone;
+pub use peaker::{Peaker, TakesAll};
+pub use priority::Priority;
+pub use right::PriorityRight;
+pub use steps::Steps;
 pub use total::{filled_height, filled_width};

@@ -1,0 +1,38 @@
+//! The one way in which columns are read.
+ghost use Rattle.std.specs.Prelude.{◌≡◌, ◌-◌, ◌<◌, length};
+ghost use Rattle.tabled_size.specs.Permitted.{at};
+ghost use Rattle.tabled_size.specs.Visits.{counted};
+
+use crate::steps::Steps;
+
+/// A column as it was read.
+#[derive(Clone, Copy)]
+pub(crate) struct Column {
+    /// Its size.
+    pub(crate) value: usize,
+    /// Its minimum, 0 without minimums.
+    pub(crate) least: usize,
+}
+
+impl Column {
+    /// What can be taken from it.
+    pub(crate) fn spare(&self) -> usize
+        ensures { result ≡ self.now.value - self.now.least }
+    {
+        self.value.saturating_sub(self.least)
+    }
+}
+
+/// Reads a column, and counts the visit.
+pub(crate) fn visit(mins: &[usize], values: &[usize], place: usize, steps: &mut Steps) -> Column
+    requires { place < length values.now }
+    ensures value { result.value ≡ at values.now place }
+    ensures least { result.least ≡ at mins.now place }
+    ensures steps { steps.new.count ≡ counted steps.old.count 1 }
+{
+    steps.add(1);
+    Column {
+        value: values[place],
+        least: mins.get(place).copied().unwrap_or(0),
+    }
+}

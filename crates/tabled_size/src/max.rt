@@ -1,0 +1,88 @@
+//! The greatest size first.
+ghost use Rattle.std.specs.Prelude.{◌≡◌, ◌≤◌, MatchOption, [], true, false, length};
+ghost use Rattle.std.proofs.Common.{refl, subst, ◌∙◌};
+ghost use Rattle.tabled_size.specs.Peak.{NoneAbove, IsGreatest};
+ghost use Rattle.tabled_size.specs.PermittedLaws.{lowered};
+ghost use Rattle.tabled_size.specs.Shrunk.{IsMaxShrunk};
+ghost use Rattle.tabled_size.specs.ShrunkLaws.{IsMaxShrunk-none, IsMaxShrunk-done, IsMaxShrunk-step};
+ghost use Rattle.tabled_size.specs.Grown.{IsMaxGrown};
+ghost use Rattle.tabled_size.specs.GrownLaws.{raised, IsGrownAt-nothing, IsGrownAt-none, IsMaxGrown-step};
+ghost use Rattle.tabled_size.specs.Visits.{counted};
+
+use crate::column::visit;
+use crate::peaker::{Peaker, TakesAll};
+use crate::steps::Steps;
+
+/// It names the greatest size of those above their minimum, of equal ones that on its side.
+#[derive(Debug, Clone, Copy, Default, PartialEq, Eq, PartialOrd, Ord, Hash)]
+pub struct PriorityMax {
+    right: bool,
+}
+
+impl PriorityMax {
+    /// Of equal sizes the rightmost if `right`, else the leftmost.
+    pub const fn new(right: bool) -> Self
+        ensures { result.right ≡ right }
+    {
+        PriorityMax { right }
+    }
+
+    /// Of equal sizes the leftmost.
+    pub const fn left() -> Self
+        ensures { result.right ≡ false }
+    {
+        PriorityMax::new(false)
+    }
+
+    /// Of equal sizes the rightmost.
+    pub const fn right() -> Self
+        ensures { result.right ≡ true }
+    {
+        PriorityMax::new(true)
+    }
+}
+
+fn greatest(right: bool, mins: &[usize], values: &[usize], steps: &mut Steps) -> Option<usize>
+    ensures answer { MatchOption result (NoneAbove values.now mins.now) (IsGreatest right values.now mins.now) }
+    ensures steps { steps.new.count ≡ counted steps.old.count (length values.now) }
+{
+    let mut best = None;
+    let mut most: usize = 0;
+    for place in 0..values.len() {
+        let column = visit(mins, values, place, steps);
+        let beats = if right { most <= column.value } else { most < column.value };
+        if column.value > column.least && beats {
+            best = Some(place);
+            most = column.value;
+        }
+    }
+    best
+}
+
+impl Peaker for PriorityMax {
+    ghost peaks = { λ s values mins answer t. MatchOption answer (NoneAbove values mins) (IsGreatest s.right values mins) × (t ≡ s) };
+
+    ghost shrinks = { λ s old mins by new t. IsMaxShrunk s.right old mins by new × (t ≡ s) };
+
+    ghost grows = { λ s old by new t. IsMaxGrown s.right old by new × (t ≡ s) };
+
+    fn peak(&mut self, mins: &[usize], values: &[usize]) -> Option<usize> {
+        greatest(self.right, mins, values, &mut Steps::new())
+    }
+
+    ghost nothing = { λ s values mins. (IsMaxShrunk-none s.right values mins, refl) };
+
+    ghost ends = { λ s t values mins by fits named. (IsMaxShrunk-done s.right values mins by named.0, named.1) };
+
+    ghost goes_on = { λ s t u values mins new by i fits above named rest. (IsMaxShrunk-step s.right values mins i by new named.0 (subst (λ k. IsMaxShrunk k.right (lowered values i) mins by new) named.1 rest.0), rest.1 ∙ named.1) };
+
+    ghost grows_nothing = { λ s values. (IsGrownAt-nothing (λ v. IsGreatest s.right v []) values, refl) };
+
+    ghost growing_ends = { λ s t values by named. (IsGrownAt-none (λ v. IsGreatest s.right v []) values by named.0, named.1) };
+
+    ghost growing_goes_on = { λ s t u values new by i above named rest. (IsMaxGrown-step s.right values i by new named.0 (subst (λ k. IsMaxGrown k.right (raised values i) by new) named.1 rest.0), rest.1 ∙ named.1) };
+}
+
+impl TakesAll for PriorityMax {
+    ghost takes_all = { λ s t old mins new by h. h.0.takes };
+}

@@ -1,0 +1,88 @@
+//! The least size first.
+ghost use Rattle.std.specs.Prelude.{◌≡◌, ◌≤◌, MatchOption, [], true, false, length};
+ghost use Rattle.std.proofs.Common.{refl, subst, ◌∙◌};
+ghost use Rattle.tabled_size.specs.Peak.{NoneAbove, IsLeast};
+ghost use Rattle.tabled_size.specs.PermittedLaws.{lowered};
+ghost use Rattle.tabled_size.specs.Shrunk.{IsMinShrunk};
+ghost use Rattle.tabled_size.specs.ShrunkLaws.{IsMinShrunk-none, IsMinShrunk-done, IsMinShrunk-step};
+ghost use Rattle.tabled_size.specs.Grown.{IsMinGrown};
+ghost use Rattle.tabled_size.specs.GrownLaws.{raised, IsMinGrown-nothing, IsMinGrown-none, IsMinGrown-step};
+ghost use Rattle.tabled_size.specs.Visits.{counted};
+
+use crate::column::visit;
+use crate::peaker::{Peaker, TakesAll};
+use crate::steps::Steps;
+
+/// It names the least size of those above their minimum, of equal ones that on its side.
+#[derive(Debug, Clone, Copy, Default, PartialEq, Eq, PartialOrd, Ord, Hash)]
+pub struct PriorityMin {
+    right: bool,
+}
+
+impl PriorityMin {
+    /// Of equal sizes the rightmost if `right`, else the leftmost.
+    pub const fn new(right: bool) -> Self
+        ensures { result.right ≡ right }
+    {
+        PriorityMin { right }
+    }
+
+    /// Of equal sizes the leftmost.
+    pub const fn left() -> Self
+        ensures { result.right ≡ false }
+    {
+        PriorityMin::new(false)
+    }
+
+    /// Of equal sizes the rightmost.
+    pub const fn right() -> Self
+        ensures { result.right ≡ true }
+    {
+        PriorityMin::new(true)
+    }
+}
+
+fn least(right: bool, mins: &[usize], values: &[usize], steps: &mut Steps) -> Option<usize>
+    ensures answer { MatchOption result (NoneAbove values.now mins.now) (IsLeast right values.now mins.now) }
+    ensures steps { steps.new.count ≡ counted steps.old.count (length values.now) }
+{
+    let mut best = None;
+    let mut fewest: usize = usize::MAX;
+    for place in 0..values.len() {
+        let column = visit(mins, values, place, steps);
+        let beats = column.value < fewest || best.is_none() || (right && column.value == fewest);
+        if column.value > column.least && beats {
+            best = Some(place);
+            fewest = column.value;
+        }
+    }
+    best
+}
+
+impl Peaker for PriorityMin {
+    ghost peaks = { λ s values mins answer t. MatchOption answer (NoneAbove values mins) (IsLeast s.right values mins) × (t ≡ s) };
+
+    ghost shrinks = { λ s old mins by new t. IsMinShrunk s.right old mins by new × (t ≡ s) };
+
+    ghost grows = { λ s old by new t. IsMinGrown s.right old by new × (t ≡ s) };
+
+    fn peak(&mut self, mins: &[usize], values: &[usize]) -> Option<usize> {
+        least(self.right, mins, values, &mut Steps::new())
+    }
+
+    ghost nothing = { λ s values mins. (IsMinShrunk-none s.right values mins, refl) };
+
+    ghost ends = { λ s t values mins by fits named. (IsMinShrunk-done s.right values mins by named.0, named.1) };
+
+    ghost goes_on = { λ s t u values mins new by i fits above named rest. (IsMinShrunk-step s.right values mins i by new named.0 (subst (λ k. IsMinShrunk k.right (lowered values i) mins by new) named.1 rest.0), rest.1 ∙ named.1) };
+
+    ghost grows_nothing = { λ s values. (IsMinGrown-nothing s.right values, refl) };
+
+    ghost growing_ends = { λ s t values by named. (IsMinGrown-none s.right values by named.0, named.1) };
+
+    ghost growing_goes_on = { λ s t u values new by i above named rest. (IsMinGrown-step s.right values i by new named.0 (subst (λ k. IsMinGrown k.right (raised values i) by new) named.1 rest.0), rest.1 ∙ named.1) };
+}
+
+impl TakesAll for PriorityMin {
+    ghost takes_all = { λ s t old mins new by h. h.0.takes };
+}

@@ -1,0 +1,66 @@
+//! The last size first.
+ghost use Rattle.std.specs.Prelude.{◌≡◌, ◌≤◌, MatchOption, [], length};
+ghost use Rattle.std.proofs.Common.{refl, ◌∙◌};
+ghost use Rattle.tabled_size.specs.Peak.{NoneAbove, IsRightmost};
+ghost use Rattle.tabled_size.specs.Shrunk.{IsRightShrunk};
+ghost use Rattle.tabled_size.specs.ShrunkLaws.{IsRightShrunk-none, IsRightShrunk-done, IsRightShrunk-step};
+ghost use Rattle.tabled_size.specs.Grown.{IsRightGrown};
+ghost use Rattle.tabled_size.specs.GrownLaws.{IsGrownAt-nothing, IsGrownAt-none, IsRightGrown-step};
+ghost use Rattle.tabled_size.specs.Visits.{counted};
+
+use crate::column::visit;
+use crate::peaker::{Peaker, TakesAll};
+use crate::steps::Steps;
+
+/// It names the last size that is above its minimum.
+#[derive(Debug, Clone, Copy, Default, PartialEq, Eq, PartialOrd, Ord, Hash)]
+pub struct PriorityRight;
+
+impl PriorityRight {
+    /// A priority of the right.
+    pub const fn new() -> Self {
+        PriorityRight
+    }
+}
+
+fn rightmost(mins: &[usize], values: &[usize], steps: &mut Steps) -> Option<usize>
+    ensures answer { MatchOption result (NoneAbove values.now mins.now) (IsRightmost values.now mins.now) }
+    ensures fewest { MatchOption result (steps.old.count ≤ steps.new.count) (λ _. counted steps.old.count 1 ≤ steps.new.count) }
+    ensures most { steps.new.count ≤ counted steps.old.count (length values.now) }
+{
+    for place in (0..values.len()).rev() {
+        let column = visit(mins, values, place, steps);
+        if column.value > column.least {
+            return Some(place);
+        }
+    }
+    None
+}
+
+impl Peaker for PriorityRight {
+    ghost peaks = { λ s values mins answer t. MatchOption answer (NoneAbove values mins) (IsRightmost values mins) × (t ≡ s) };
+
+    ghost shrinks = { λ s old mins by new t. IsRightShrunk old mins by new × (t ≡ s) };
+
+    ghost grows = { λ s old by new t. IsRightGrown old by new × (t ≡ s) };
+
+    fn peak(&mut self, mins: &[usize], values: &[usize]) -> Option<usize> {
+        rightmost(mins, values, &mut Steps::new())
+    }
+
+    ghost nothing = { λ s values mins. (IsRightShrunk-none values mins, refl) };
+
+    ghost ends = { λ s t values mins by fits named. (IsRightShrunk-done values mins by named.0, named.1) };
+
+    ghost goes_on = { λ s t u values mins new by i fits above named rest. (IsRightShrunk-step values mins i by new named.0 rest.0, rest.1 ∙ named.1) };
+
+    ghost grows_nothing = { λ s values. (IsGrownAt-nothing (λ v. IsRightmost v []) values, refl) };
+
+    ghost growing_ends = { λ s t values by named. (IsGrownAt-none (λ v. IsRightmost v []) values by named.0, named.1) };
+
+    ghost growing_goes_on = { λ s t u values new by i above named rest. (IsRightGrown-step values i by new named.0 rest.0, rest.1 ∙ named.1) };
+}
+
+impl TakesAll for PriorityRight {
+    ghost takes_all = { λ s t old mins new by h. h.0.takes };
+}
