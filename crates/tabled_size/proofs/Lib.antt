@@ -1,4 +1,5 @@
 pub mod BestPlace
 pub mod Greatest
+pub mod Optimal
 pub mod Passing
 pub mod Sums

@@ -14,6 +14,12 @@ pub record IsLevel (old mins new : List ℕ) : Type 0 where
   pub permitted : IsPermitted old mins new
   pub flat : (i j : ℕ) → at mins i < at new i → at new j < at old j → at new i ≤ at new j + 1
 
+-- a permitted list whose greatest entry above its minimum is `top`, or that has none such and `top` is 0
+pub record IsHighest (old mins new : List ℕ) (top : ℕ) : Type 0 where
+  pub permitted : IsPermitted old mins new
+  pub most : (i : ℕ) → at mins i < at new i → at new i ≤ top
+  pub reached : 0 < top → (i : ℕ) × (at mins i < at new i) × (at new i ≡ top)
+
 -- each entry that is not zero in the old list is at least k
 abbrev pub IsLeastNonzero : List ℕ → ℕ → List ℕ → Type 0
 IsLeastNonzero old k new = (i : ℕ) → 0 < at old i → k ≤ at new i

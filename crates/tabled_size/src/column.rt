@@ -23,6 +23,13 @@ impl Column {
     }
 }
 
+/// The minimum of a place, 0 without minimums.
+pub(crate) fn minimum(mins: &[usize], place: usize) -> usize
+    ensures { result ≡ at mins.now place }
+{
+    mins.get(place).copied().unwrap_or(0)
+}
+
 /// Reads a column, and counts the visit.
 pub(crate) fn visit(mins: &[usize], values: &[usize], place: usize, steps: &mut Steps) -> Column
     requires { place < length values.now }
@@ -33,6 +40,6 @@ pub(crate) fn visit(mins: &[usize], values: &[usize], place: usize, steps: &mut 
     steps.add(1);
     Column {
         value: values[place],
-        least: mins.get(place).copied().unwrap_or(0),
+        least: minimum(mins, place),
     }
 }

@@ -5,6 +5,7 @@
 mod column;
 mod estimate;
 mod left;
+mod level;
 mod max;
 mod min;
 mod none;
@@ -16,6 +17,7 @@ mod total;
 
 pub use estimate::{estimate_heights, estimate_widths};
 pub use left::PriorityLeft;
+pub use level::is_level;
 pub use max::PriorityMax;
 pub use min::PriorityMin;
 pub use none::PriorityNone;
