@@ -1,5 +1,9 @@
+pub mod AtOnce
 pub mod BestPlace
 pub mod Greatest
 pub mod Optimal
 pub mod Passing
+pub mod Spares
 pub mod Sums
+pub mod Underway
+pub mod Visiting

@@ -35,7 +35,7 @@ le-raised i old new l j = ⊎_elim
     (λ e. let here : at new j ≡ at old j + 1 = subst (λ k. at new k ≡ at old k + 1) (sym e) l.here in omega arith)
     (λ ne. let e = l.there j ne in omega arith) (cases_eq j i)
 
-added-some : (xs : List ℕ) (by i : ℕ) → 0 < at xs i → added xs by ≡ by
+pub added-some : (xs : List ℕ) (by i : ℕ) → 0 < at xs i → added xs by ≡ by
 added-some xs by i h = let s = at-le-sum xs i in ap (λ b. cond b 0 by) (ne_eqb (sum xs) 0 (λ z. omega arith))
 
 pub IsNoneSmaller-self : (xs : List ℕ) → IsNoneSmaller xs xs
@@ -54,7 +54,7 @@ IsNoneSmaller-raised old xs i h k =
 pub IsGrownFrom-nothing : (xs : List ℕ) → IsGrownFrom xs 0 xs
 IsGrownFrom-nothing xs = record { kept = IsNoneSmaller-self xs; total = grind (arith, nat_tests) }
 
-added-none : (xs : List ℕ) (by : ℕ) → ((i : ℕ) → at xs i ≤ 0) → added xs by ≡ 0
+pub added-none : (xs : List ℕ) (by : ℕ) → ((i : ℕ) → at xs i ≤ 0) → added xs by ≡ 0
 added-none xs by h = ap (λ b. cond b 0 by) (eq-eqb (sum xs) 0 (zero_sum xs h))
   where
     zero_sum : (xs : List ℕ) → ((i : ℕ) → at xs i ≤ 0) → sum xs ≡ 0

@@ -178,7 +178,7 @@ pub before-le : (right : Bool) (x y i j : ℕ) → before right x y i j ≡ true
 before-le true x y i j a = grind (arith, nat_tests)
 before-le false x y i j a = grind (arith, nat_tests)
 
-before-lt : (right : Bool) (x y i j : ℕ) → x < y → before right x y i j ≡ true
+pub before-lt : (right : Bool) (x y i j : ℕ) → x < y → before right x y i j ≡ true
 before-lt right x y i j h = ap (λ b. b || ((x == y) && (if right then nat_lt j i else nat_lt i j))) (lt-ltb x y h)
 
 before-irrefl : (right : Bool) (x i : ℕ) → before right x x i i ≡ true → ⊥

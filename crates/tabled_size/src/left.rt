@@ -1,14 +1,15 @@
 //! The first size first.
-ghost use Rattle.std.specs.Prelude.{◌≡◌, ◌≤◌, MatchOption, [], length};
+ghost use Rattle.std.specs.Prelude.{◌≡◌, ◌+◌, ◌<◌, ◌≤◌, ◌^◌, MatchOption, [], length, sum};
 ghost use Rattle.std.proofs.Common.{refl, ◌∙◌};
+ghost use Rattle.tabled_size.specs.Permitted.{FitsMinimums, IsPermitted};
 ghost use Rattle.tabled_size.specs.Peak.{NoneAbove, IsLeftmost};
 ghost use Rattle.tabled_size.specs.Shrunk.{IsLeftShrunk};
 ghost use Rattle.tabled_size.specs.ShrunkLaws.{IsLeftShrunk-none, IsLeftShrunk-done, IsLeftShrunk-step};
-ghost use Rattle.tabled_size.specs.Grown.{IsLeftGrown};
+ghost use Rattle.tabled_size.specs.Grown.{IsLeftGrown, IsNoneSmaller};
 ghost use Rattle.tabled_size.specs.GrownLaws.{IsGrownAt-nothing, IsGrownAt-none, IsLeftGrown-step};
-ghost use Rattle.tabled_size.specs.Visits.{counted};
+ghost use Rattle.tabled_size.specs.Visits.{counted, IsBounded};
 
-use crate::column::visit;
+use crate::column::{add_to, visit};
 use crate::peaker::{Peaker, TakesAll};
 use crate::steps::Steps;
 
@@ -46,6 +47,47 @@ impl Peaker for PriorityLeft {
 
     fn peak(&mut self, mins: &[usize], values: &[usize]) -> Option<usize> {
         leftmost(mins, values, &mut Steps::new())
+    }
+
+    fn shrink(
+        &mut self,
+        mins: &[usize],
+        values: &mut [usize],
+        by: usize,
+        steps: &mut Steps,
+    ) -> usize
+        requires { FitsMinimums values.old mins.now }
+        ensures shrinks { IsLeftShrunk values.old mins.now by values.new × (self.new ≡ self.old) }
+        ensures permitted { IsPermitted values.old mins.now values.new }
+        ensures total { sum values.new + result ≡ sum values.old }
+        ensures at_most { result ≤ by }
+        ensures steps { steps.old.count ≤ steps.new.count }
+        ensures visits { IsBounded values.old values.new steps.old.count steps.new.count }
+    {
+        let mut left = by;
+        for place in 0..values.len() {
+            let column = visit(mins, values, place, steps);
+            let taken = column.spare().min(left);
+            values[place] = column.value - taken;
+            left -= taken;
+        }
+        by - left
+    }
+
+    fn grow(&mut self, values: &mut [usize], by: usize, steps: &mut Steps) -> usize
+        requires { sum values.old + by < 2 ^ 64 }
+        ensures grows { IsLeftGrown values.old by values.new × (self.new ≡ self.old) }
+        ensures kept { IsNoneSmaller values.old values.new }
+        ensures total { sum values.new ≡ sum values.old + result }
+        ensures at_most { result ≤ by }
+        ensures steps { steps.old.count ≤ steps.new.count }
+        ensures visits { IsBounded values.old values.new steps.old.count steps.new.count }
+    {
+        let Some(place) = leftmost(&[], values, steps) else {
+            return 0;
+        };
+        add_to(values, place, by, steps);
+        by
     }
 
     ghost nothing = { λ s values mins. (IsLeftShrunk-none values mins, refl) };

@@ -1,15 +1,15 @@
 //! The greatest size first.
-ghost use Rattle.std.specs.Prelude.{◌≡◌, ◌≤◌, MatchOption, [], true, false, length};
+ghost use Rattle.std.specs.Prelude.{◌≡◌, ◌+◌, ◌<◌, ◌≤◌, ◌^◌, MatchOption, [], true, false, length, sum};
 ghost use Rattle.std.proofs.Common.{refl, subst, ◌∙◌};
 ghost use Rattle.tabled_size.specs.Peak.{NoneAbove, IsGreatest};
 ghost use Rattle.tabled_size.specs.PermittedLaws.{lowered};
 ghost use Rattle.tabled_size.specs.Shrunk.{IsMaxShrunk};
 ghost use Rattle.tabled_size.specs.ShrunkLaws.{IsMaxShrunk-none, IsMaxShrunk-done, IsMaxShrunk-step};
-ghost use Rattle.tabled_size.specs.Grown.{IsMaxGrown};
+ghost use Rattle.tabled_size.specs.Grown.{IsMaxGrown, IsNoneSmaller};
 ghost use Rattle.tabled_size.specs.GrownLaws.{raised, IsGrownAt-nothing, IsGrownAt-none, IsMaxGrown-step};
-ghost use Rattle.tabled_size.specs.Visits.{counted};
+ghost use Rattle.tabled_size.specs.Visits.{counted, IsBounded};
 
-use crate::column::visit;
+use crate::column::{add_to, visit};
 use crate::peaker::{Peaker, TakesAll};
 use crate::steps::Steps;
 
@@ -68,6 +68,22 @@ impl Peaker for PriorityMax {
 
     fn peak(&mut self, mins: &[usize], values: &[usize]) -> Option<usize> {
         greatest(self.right, mins, values, &mut Steps::new())
+    }
+
+    fn grow(&mut self, values: &mut [usize], by: usize, steps: &mut Steps) -> usize
+        requires { sum values.old + by < 2 ^ 64 }
+        ensures grows { IsMaxGrown self.old.right values.old by values.new × (self.new ≡ self.old) }
+        ensures kept { IsNoneSmaller values.old values.new }
+        ensures total { sum values.new ≡ sum values.old + result }
+        ensures at_most { result ≤ by }
+        ensures steps { steps.old.count ≤ steps.new.count }
+        ensures visits { IsBounded values.old values.new steps.old.count steps.new.count }
+    {
+        let Some(place) = greatest(self.right, &[], values, steps) else {
+            return 0;
+        };
+        add_to(values, place, by, steps);
+        by
     }
 
     ghost nothing = { λ s values mins. (IsMaxShrunk-none s.right values mins, refl) };

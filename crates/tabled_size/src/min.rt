@@ -1,13 +1,14 @@
 //! The least size first.
-ghost use Rattle.std.specs.Prelude.{◌≡◌, ◌≤◌, MatchOption, [], true, false, length};
+ghost use Rattle.std.specs.Prelude.{◌≡◌, ◌+◌, ◌<◌, ◌≤◌, ◌^◌, MatchOption, [], true, false, length, sum};
 ghost use Rattle.std.proofs.Common.{refl, subst, ◌∙◌};
+ghost use Rattle.tabled_size.specs.Permitted.{FitsMinimums, IsPermitted};
 ghost use Rattle.tabled_size.specs.Peak.{NoneAbove, IsLeast};
 ghost use Rattle.tabled_size.specs.PermittedLaws.{lowered};
 ghost use Rattle.tabled_size.specs.Shrunk.{IsMinShrunk};
 ghost use Rattle.tabled_size.specs.ShrunkLaws.{IsMinShrunk-none, IsMinShrunk-done, IsMinShrunk-step};
 ghost use Rattle.tabled_size.specs.Grown.{IsMinGrown};
 ghost use Rattle.tabled_size.specs.GrownLaws.{raised, IsMinGrown-nothing, IsMinGrown-none, IsMinGrown-step};
-ghost use Rattle.tabled_size.specs.Visits.{counted};
+ghost use Rattle.tabled_size.specs.Visits.{counted, IsBounded};
 
 use crate::column::visit;
 use crate::peaker::{Peaker, TakesAll};
@@ -68,6 +69,37 @@ impl Peaker for PriorityMin {
 
     fn peak(&mut self, mins: &[usize], values: &[usize]) -> Option<usize> {
         least(self.right, mins, values, &mut Steps::new())
+    }
+
+    fn shrink(
+        &mut self,
+        mins: &[usize],
+        values: &mut [usize],
+        by: usize,
+        steps: &mut Steps,
+    ) -> usize
+        requires { FitsMinimums values.old mins.now }
+        ensures shrinks { IsMinShrunk self.old.right values.old mins.now by values.new × (self.new ≡ self.old) }
+        ensures permitted { IsPermitted values.old mins.now values.new }
+        ensures total { sum values.new + result ≡ sum values.old }
+        ensures at_most { result ≤ by }
+        ensures steps { steps.old.count ≤ steps.new.count }
+        ensures visits { IsBounded values.old values.new steps.old.count steps.new.count }
+    {
+        let mut left = by;
+        for _turn in 0..values.len() {
+            if left == 0 {
+                break;
+            }
+            let Some(place) = least(self.right, mins, values, steps) else {
+                break;
+            };
+            let column = visit(mins, values, place, steps);
+            let taken = column.spare().min(left);
+            values[place] = column.value - taken;
+            left -= taken;
+        }
+        by - left
     }
 
     ghost nothing = { λ s values mins. (IsMinShrunk-none s.right values mins, refl) };

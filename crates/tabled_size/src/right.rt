@@ -1,14 +1,15 @@
 //! The last size first.
-ghost use Rattle.std.specs.Prelude.{◌≡◌, ◌≤◌, MatchOption, [], length};
+ghost use Rattle.std.specs.Prelude.{◌≡◌, ◌+◌, ◌<◌, ◌≤◌, ◌^◌, MatchOption, [], length, sum};
 ghost use Rattle.std.proofs.Common.{refl, ◌∙◌};
+ghost use Rattle.tabled_size.specs.Permitted.{FitsMinimums, IsPermitted};
 ghost use Rattle.tabled_size.specs.Peak.{NoneAbove, IsRightmost};
 ghost use Rattle.tabled_size.specs.Shrunk.{IsRightShrunk};
 ghost use Rattle.tabled_size.specs.ShrunkLaws.{IsRightShrunk-none, IsRightShrunk-done, IsRightShrunk-step};
-ghost use Rattle.tabled_size.specs.Grown.{IsRightGrown};
+ghost use Rattle.tabled_size.specs.Grown.{IsRightGrown, IsNoneSmaller};
 ghost use Rattle.tabled_size.specs.GrownLaws.{IsGrownAt-nothing, IsGrownAt-none, IsRightGrown-step};
-ghost use Rattle.tabled_size.specs.Visits.{counted};
+ghost use Rattle.tabled_size.specs.Visits.{counted, IsBounded};
 
-use crate::column::visit;
+use crate::column::{add_to, visit};
 use crate::peaker::{Peaker, TakesAll};
 use crate::steps::Steps;
 
@@ -46,6 +47,47 @@ impl Peaker for PriorityRight {
 
     fn peak(&mut self, mins: &[usize], values: &[usize]) -> Option<usize> {
         rightmost(mins, values, &mut Steps::new())
+    }
+
+    fn shrink(
+        &mut self,
+        mins: &[usize],
+        values: &mut [usize],
+        by: usize,
+        steps: &mut Steps,
+    ) -> usize
+        requires { FitsMinimums values.old mins.now }
+        ensures shrinks { IsRightShrunk values.old mins.now by values.new × (self.new ≡ self.old) }
+        ensures permitted { IsPermitted values.old mins.now values.new }
+        ensures total { sum values.new + result ≡ sum values.old }
+        ensures at_most { result ≤ by }
+        ensures steps { steps.old.count ≤ steps.new.count }
+        ensures visits { IsBounded values.old values.new steps.old.count steps.new.count }
+    {
+        let mut left = by;
+        for place in (0..values.len()).rev() {
+            let column = visit(mins, values, place, steps);
+            let taken = column.spare().min(left);
+            values[place] = column.value - taken;
+            left -= taken;
+        }
+        by - left
+    }
+
+    fn grow(&mut self, values: &mut [usize], by: usize, steps: &mut Steps) -> usize
+        requires { sum values.old + by < 2 ^ 64 }
+        ensures grows { IsRightGrown values.old by values.new × (self.new ≡ self.old) }
+        ensures kept { IsNoneSmaller values.old values.new }
+        ensures total { sum values.new ≡ sum values.old + result }
+        ensures at_most { result ≤ by }
+        ensures steps { steps.old.count ≤ steps.new.count }
+        ensures visits { IsBounded values.old values.new steps.old.count steps.new.count }
+    {
+        let Some(place) = rightmost(&[], values, steps) else {
+            return 0;
+        };
+        add_to(values, place, by, steps);
+        by
     }
 
     ghost nothing = { λ s values mins. (IsRightShrunk-none values mins, refl) };
