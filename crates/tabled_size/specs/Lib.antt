@@ -1,4 +1,5 @@
 pub mod Estimates
+pub mod Filling
 pub mod Grown
 pub mod GrownLaws
 pub mod Least

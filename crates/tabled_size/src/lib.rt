@@ -4,6 +4,7 @@
 
 mod column;
 mod estimate;
+mod filling;
 mod left;
 mod level;
 mod max;
