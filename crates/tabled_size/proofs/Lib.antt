@@ -3,6 +3,8 @@ pub mod BestPlace
 pub mod Greatest
 pub mod Optimal
 pub mod Passing
+pub mod Ramps
+pub mod Spans
 pub mod Spares
 pub mod Sums
 pub mod Underway

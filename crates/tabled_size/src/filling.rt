@@ -24,8 +24,8 @@ pub(crate) enum Filling {
 /// The levels from and up to which a column takes one a level.
 #[derive(Clone, Copy)]
 pub(crate) struct Ramp {
-    from: usize,
-    to: usize,
+    pub(crate) from: usize,
+    pub(crate) to: usize,
 }
 
 impl Ramp {
@@ -101,21 +101,23 @@ pub(crate) fn filled(
     total
 }
 
-/// How many columns take one more at a level.
+/// How many of the columns before a place take one more at a level.
 #[tactic(auto, using(crate::proofs::Sums::sum_step))]
 pub(crate) fn count_open(
     kind: Filling,
     mins: &[usize],
     values: &[usize],
+    end: usize,
     level: usize,
     steps: &mut Steps,
 ) -> usize
+    requires { end ≤ length values.now }
     ensures count { result ≡ open_count
-        (first_level kind values.now mins.now) (last_level kind values.now mins.now) (length values.now) level }
-    ensures steps { steps.new.count ≡ counted steps.old.count (length values.now) }
+        (first_level kind values.now mins.now) (last_level kind values.now mins.now) end level }
+    ensures steps { steps.new.count ≡ counted steps.old.count end }
 {
     let mut count: usize = 0;
-    for place in 0..values.len() {
+    for place in 0..end {
         if visit_ramp(kind, mins, values, place, steps).is_open(level) {
             count += 1;
         }

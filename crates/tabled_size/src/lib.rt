@@ -12,7 +12,9 @@ mod min;
 mod none;
 mod peaker;
 mod priority;
+mod reach;
 mod right;
+mod span;
 mod steps;
 mod total;
 
