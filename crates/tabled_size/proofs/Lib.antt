@@ -4,6 +4,7 @@ pub mod Greatest
 pub mod Optimal
 pub mod Passing
 pub mod Ramps
+pub mod Shares
 pub mod Spans
 pub mod Spares
 pub mod Sums

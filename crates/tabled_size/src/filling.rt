@@ -21,9 +21,10 @@ pub(crate) enum Filling {
     Gains,
 }
 
-/// The levels from and up to which a column takes one a level.
+/// A column as it was read, and the levels from and up to which it takes one a level.
 #[derive(Clone, Copy)]
 pub(crate) struct Ramp {
+    pub(crate) value: usize,
     pub(crate) from: usize,
     pub(crate) to: usize,
 }
@@ -53,30 +54,21 @@ pub(crate) fn visit_ramp(
     steps: &mut Steps,
 ) -> Ramp
     requires { place < length values.now }
+    ensures value { result.value ≡ at values.now place }
     ensures from { result.from ≡ first_level kind values.now mins.now place }
     ensures to { result.to ≡ last_level kind values.now mins.now place }
     ensures steps { steps.new.count ≡ counted steps.old.count 1 }
 {
     let column = visit(mins, values, place, steps);
-    let nonzero_end = if column.value == 0 { 0 } else { usize::MAX };
-    match kind {
-        Filling::Depths => Ramp {
-            from: usize::MAX - column.value,
-            to: usize::MAX - column.least,
-        },
-        Filling::Rounds => Ramp {
-            from: 0,
-            to: column.spare(),
-        },
-        Filling::Heights => Ramp {
-            from: column.value,
-            to: nonzero_end,
-        },
-        Filling::Gains => Ramp {
-            from: 0,
-            to: nonzero_end,
-        },
-    }
+    let value = column.value;
+    let nonzero_end = if value == 0 { 0 } else { usize::MAX };
+    let (from, to) = match kind {
+        Filling::Depths => (usize::MAX - value, usize::MAX - column.least),
+        Filling::Rounds => (0, column.spare()),
+        Filling::Heights => (value, nonzero_end),
+        Filling::Gains => (0, nonzero_end),
+    };
+    Ramp { value, from, to }
 }
 
 /// What all columns take up to a level, or the greatest `usize` if that is less.

@@ -15,6 +15,7 @@ mod priority;
 mod reach;
 mod right;
 mod span;
+mod spread;
 mod steps;
 mod total;
 

@@ -2,6 +2,7 @@
 ghost use Rattle.std.specs.Prelude.{◌≡◌, ◌+◌, ◌*◌, ◌<◌, ◌≤◌, true, false, length};
 ghost use Rattle.tabled_size.specs.Filling.{first_level, last_level, is_open, open_count, share, IsSpan};
 ghost use Rattle.tabled_size.specs.Shrunk.{is_met, start};
+ghost use Rattle.tabled_size.specs.Totals.{one_if};
 ghost use Rattle.tabled_size.specs.Visits.{counted};
 
 use crate::filling::{Filling, count_open, visit_ramp};
@@ -16,15 +17,17 @@ pub(crate) struct Span {
 }
 
 impl Span {
-    /// Whether a place is met on the way from the first to the last.
-    pub(crate) fn meets(&self, place: usize) -> bool
-        ensures { result ≡ is_met self.now.first self.now.last place }
+    /// The level at a place: one higher where the place is met on the way from the first to the last.
+    pub(crate) fn level_at(&self, level: usize, place: usize) -> usize
+        requires { level < 18446744073709551615 }
+        ensures { result ≡ level + one_if (is_met self.now.first self.now.last place) }
     {
-        if self.first <= self.last {
+        let is_met = if self.first <= self.last {
             self.first <= place && place <= self.last
         } else {
             self.first <= place || place <= self.last
-        }
+        };
+        if is_met { level + 1 } else { level }
     }
 }
 
