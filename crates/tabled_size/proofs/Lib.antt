@@ -1,6 +1,7 @@
 pub mod AtOnce
 pub mod BestPlace
 pub mod Greatest
+pub mod Leveled
 pub mod Optimal
 pub mod Passing
 pub mod Ramps

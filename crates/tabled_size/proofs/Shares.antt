@@ -83,3 +83,18 @@ taken_by_shares from to old mins by new level rest first last r s fits len each 
 -- up to the greatest level columns give all they can
 pub spare_total-filled : (from to : ℕ → ℕ) (old mins : List ℕ) (top : ℕ) → ((i : ℕ) → min top (to i) - from i ≡ spare old mins i) → filled from to (length old) top ≡ spare_total old mins
 spare_total-filled from to old mins top h = sum_below-same (amount from to top) (spare old mins) (length old) (λ i _. h i)
+
+-- what is wanted, of what columns can give up to the greatest level
+pub wanted_taken : (from to : ℕ → ℕ) (old mins : List ℕ) (by most wanted : ℕ) → by ≤ 18446744073709551615
+    → ((i : ℕ) → min 18446744073709551615 (to i) - from i ≡ spare old mins i)
+    → most ≡ min (filled from to (length old) 18446744073709551615) 18446744073709551615 → wanted ≡ min by most → wanted ≡ taken old mins by
+wanted_taken from to old mins by most wanted b h m w = let e = spare_total-filled from to old mins 18446744073709551615 h in omega arith
+
+pub depths_spare : (v m : ℕ) → v ≤ 18446744073709551615 → m ≤ 18446744073709551615 → min 18446744073709551615 (18446744073709551615 - m) - (18446744073709551615 - v) ≡ v - m
+depths_spare v m a b = omega arith
+
+pub depths_within : (v m : ℕ) → v ≤ 18446744073709551615 → m ≤ 18446744073709551615 → 18446744073709551615 - m - (18446744073709551615 - v) ≤ v - m
+depths_within v m a b = omega arith
+
+pub rounds_spare : (v m : ℕ) → v ≤ 18446744073709551615 → min 18446744073709551615 (v - m) - 0 ≡ v - m
+rounds_spare v m a = omega arith

@@ -55,3 +55,10 @@ IsBounded-turns old new before after (suc n) rest t r same e =
     let p = suc-mul n (length old) in
     let q = suc-mul n (length old + 1) in
     IsBounded-from old new before after (suc n * (length old + 1) + rest) (omega arith) (omega arith) (omega arith)
+
+-- a whole pass, and passes for the levels, the span and the shares
+pub IsBounded-passes : (old new : List ℕ) (before first after : ℕ) → first ≡ counted before (length old) → first ≤ after
+    → after ≤ counted first (length old * (2 * length old + 1) + 6 * length old) → IsBounded old new before after
+IsBounded-passes old new before first after a b c =
+    let le = changed-le old new in
+    IsBounded-from old new before after (length old + (length old * (2 * length old + 1) + 6 * length old)) (omega arith) (omega arith) (omega arith)

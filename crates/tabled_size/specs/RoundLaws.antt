@@ -7,7 +7,7 @@ use Rattle.tabled_size.specs.Permitted.{at, low, spare, taken, IsTakenFrom}
 use Rattle.tabled_size.specs.Shrunk.{start, place_after, is_met, IsRoundShrunk}
 use Rattle.tabled_size.specs.Peak.{IsNext}
 use Rattle.tabled_size.specs.PermittedLaws.{lowered, IsLowered, IsLowered-lowered, low-lowered, in_range, IsTakenFrom-none, IsTakenFrom-done, IsTakenFrom-step}
-use Rattle.tabled_size.specs.ShrunkLaws.{same_where_none, taken-step}
+use Rattle.tabled_size.specs.ShrunkLaws.{IsTakenFrom-still, same_where_none, taken-step}
 
 -- ---- places round a list of n
 pub met_itself : (s i : ℕ) → is_met s i i ≡ true
@@ -45,6 +45,13 @@ IsRoundShrunk-done kept xs mins by h =
     let t = IsTakenFrom-done xs mins by h in
     let e = t.total in
     record { takes = t; rounds = 0; last = 0; stays = λ _. refl; moves = λ z. absurd (omega arith); reached = λ z. absurd (omega arith); losses = λ i l z. absurd (omega arith) }
+
+-- where nothing is taken the list may stay
+pub IsRoundShrunk-still : (kept : ℕ) (xs mins : List ℕ) (by : ℕ) → taken xs mins by ≡ 0 → IsRoundShrunk kept xs mins by xs kept
+IsRoundShrunk-still kept xs mins by h = record {
+  takes = IsTakenFrom-still xs mins by h; rounds = 0; last = 0; stays = λ _. refl;
+  moves = λ z. absurd (omega arith); reached = λ z. absurd (omega arith); losses = λ i l z. absurd (omega arith);
+}
 
 -- the loss of a place that has nothing to lose
 nothing_lost : (xs mins new : List ℕ) (j k : ℕ) → at new j ≡ at xs j → at xs j ≤ at mins j → at new j + min (spare xs mins j) k ≡ at xs j

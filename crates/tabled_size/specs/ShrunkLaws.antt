@@ -81,6 +81,13 @@ IsMaxShrunk-done right xs mins by h = record {
   cut = λ i. let a = h i in omega arith;
 }
 
+-- where nothing is taken the list may stay
+pub IsTakenFrom-still : (xs mins : List ℕ) (by : ℕ) → taken xs mins by ≡ 0 → IsTakenFrom xs mins by xs
+IsTakenFrom-still xs mins by h = record { permitted = (IsTakenFrom-none xs mins).permitted; total = omega arith }
+
+pub IsMaxShrunk-still : (right : Bool) (xs mins : List ℕ) (by : ℕ) → taken xs mins by ≡ 0 → IsMaxShrunk right xs mins by xs
+IsMaxShrunk-still right xs mins by h = let s = IsMaxShrunk-none right xs mins in record { takes = IsTakenFrom-still xs mins by h; level = s.level; place = s.place; cut = s.cut }
+
 -- the ceilings with one taken from i, at the height of i
 ceiling-here : (right : Bool) (height i j : ℕ) → 0 < height → (ceiling right (height - 1) (cond right i (i + 1)) i + 1 ≡ height)
     × (height ≤ ceiling right (height - 1) (cond right i (i + 1)) j + 1)

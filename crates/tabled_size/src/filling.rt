@@ -1,5 +1,5 @@
 //! How sizes change as a level rises.
-ghost use Rattle.std.specs.Prelude.{◌≡◌, ◌+◌, ◌-◌, ◌*◌, ◌<◌, ◌≤◌, nat_le, nat_lt, ◌&&◌, length, min};
+ghost use Rattle.std.specs.Prelude.{◌≡◌, ℕ, ◌+◌, ◌-◌, ◌*◌, ◌<◌, ◌≤◌, nat_le, nat_lt, ◌&&◌, length, min};
 ghost use Rattle.tabled_size.specs.Permitted.{at};
 ghost use Rattle.tabled_size.specs.Filling.{amount, filled, first_level, last_level, open_count, IsBase, IsReached};
 ghost use Rattle.tabled_size.specs.Visits.{counted};
@@ -83,6 +83,8 @@ pub(crate) fn filled(
     ensures total { result ≡ min
         (filled (first_level kind values.now mins.now) (last_level kind values.now mins.now) (length values.now) level)
         18446744073709551615 }
+    ensures values_fit { (i : ℕ) → at values.now i ≤ 18446744073709551615 }
+    ensures mins_fit { (i : ℕ) → at mins.now i ≤ 18446744073709551615 }
     ensures steps { steps.new.count ≡ counted steps.old.count (length values.now) }
 {
     let mut total: usize = 0;

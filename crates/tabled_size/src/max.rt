@@ -1,6 +1,8 @@
 //! The greatest size first.
 ghost use Rattle.std.specs.Prelude.{◌≡◌, ◌+◌, ◌<◌, ◌≤◌, ◌^◌, MatchOption, [], true, false, length, sum};
 ghost use Rattle.std.proofs.Common.{refl, subst, ◌∙◌};
+ghost use Rattle.tabled_size.specs.Permitted.{FitsMinimums, IsPermitted};
+ghost use Rattle.tabled_size.specs.Least.{HasLeastGreatest, IsLevel};
 ghost use Rattle.tabled_size.specs.Peak.{NoneAbove, IsGreatest};
 ghost use Rattle.tabled_size.specs.PermittedLaws.{lowered};
 ghost use Rattle.tabled_size.specs.Shrunk.{IsMaxShrunk};
@@ -10,7 +12,11 @@ ghost use Rattle.tabled_size.specs.GrownLaws.{raised, IsGrownAt-nothing, IsGrown
 ghost use Rattle.tabled_size.specs.Visits.{counted, IsBounded};
 
 use crate::column::{add_to, visit};
+use crate::filling::{Filling, filled};
 use crate::peaker::{Peaker, TakesAll};
+use crate::reach::reach;
+use crate::span::side_span;
+use crate::spread::lower;
 use crate::steps::Steps;
 
 /// It names the greatest size of those above their minimum, of equal ones that on its side.
@@ -68,6 +74,33 @@ impl Peaker for PriorityMax {
 
     fn peak(&mut self, mins: &[usize], values: &[usize]) -> Option<usize> {
         greatest(self.right, mins, values, &mut Steps::new())
+    }
+
+    fn shrink(
+        &mut self,
+        mins: &[usize],
+        values: &mut [usize],
+        by: usize,
+        steps: &mut Steps,
+    ) -> usize
+        requires { FitsMinimums values.old mins.now }
+        ensures shrinks { IsMaxShrunk self.old.right values.old mins.now by values.new × (self.new ≡ self.old) }
+        ensures permitted { IsPermitted values.old mins.now values.new }
+        ensures total { sum values.new + result ≡ sum values.old }
+        ensures at_most { result ≤ by }
+        ensures steps { steps.old.count ≤ steps.new.count }
+        ensures visits { IsBounded values.old values.new steps.old.count steps.new.count }
+        ensures level { IsLevel values.old mins.now values.new }
+        ensures least { HasLeastGreatest values.old mins.now values.new }
+    {
+        let wanted = by.min(filled(Filling::Depths, mins, values, usize::MAX, steps));
+        if wanted == 0 {
+            return 0;
+        }
+        let reached = reach(Filling::Depths, mins, values, wanted, steps);
+        let span = side_span(Filling::Depths, mins, values, self.right, reached, steps);
+        lower(Filling::Depths, mins, values, reached.level, span, steps);
+        wanted
     }
 
     fn grow(&mut self, values: &mut [usize], by: usize, steps: &mut Steps) -> usize

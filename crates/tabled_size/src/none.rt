@@ -1,15 +1,21 @@
 //! One size after the other.
-ghost use Rattle.std.specs.Prelude.{◌≡◌, ◌≤◌, MatchOption, [], length};
+ghost use Rattle.std.specs.Prelude.{◌≡◌, ◌+◌, ◌<◌, ◌≤◌, ◌^◌, MatchOption, [], length, sum};
 ghost use Rattle.std.proofs.Common.{sym, subst};
+ghost use Rattle.tabled_size.specs.Permitted.{FitsMinimums, IsPermitted};
 ghost use Rattle.tabled_size.specs.Peak.{NoneAbove, IsNext};
 ghost use Rattle.tabled_size.specs.PermittedLaws.{lowered};
 ghost use Rattle.tabled_size.specs.Shrunk.{IsRoundShrunk, place_after};
 ghost use Rattle.tabled_size.specs.RoundLaws.{IsRoundShrunk-none, IsRoundShrunk-done, IsRoundShrunk-step};
 ghost use Rattle.tabled_size.specs.Grown.{IsRoundGrown};
 ghost use Rattle.tabled_size.specs.GrownLaws.{raised, IsRoundGrown-nothing, IsRoundGrown-none, IsRoundGrown-step};
+ghost use Rattle.tabled_size.specs.Visits.{IsBounded};
 
 use crate::column::visit;
+use crate::filling::{Filling, filled};
 use crate::peaker::{Peaker, TakesAll};
+use crate::reach::reach;
+use crate::span::round_span;
+use crate::spread::lower;
 use crate::steps::Steps;
 
 /// It names the next size that is above its minimum, round the list, and keeps the place after it.
@@ -27,6 +33,14 @@ impl PriorityNone {
     }
 }
 
+/// The place after this one, 0 after the last.
+fn place_after(count: usize, place: usize) -> usize
+    requires { place < 18446744073709551615 }
+    ensures { result ≡ place_after count place }
+{
+    if place + 1 < count { place + 1 } else { 0 }
+}
+
 impl Peaker for PriorityNone {
     ghost peaks = { λ s values mins answer t. MatchOption answer (NoneAbove values mins × (t ≡ s)) (λ i. IsNext s.kept values mins i × (t.kept ≡ place_after (length values) i)) };
 
@@ -39,7 +53,7 @@ impl Peaker for PriorityNone {
         let start = if self.kept < count { self.kept } else { 0 };
         let mut place = start;
         for _turn in 0..count {
-            let next = if place + 1 < count { place + 1 } else { 0 };
+            let next = place_after(count, place);
             let column = visit(mins, values, place, &mut Steps::new());
             if column.value > column.least {
                 self.kept = next;
@@ -48,6 +62,32 @@ impl Peaker for PriorityNone {
             place = next;
         }
         None
+    }
+
+    fn shrink(
+        &mut self,
+        mins: &[usize],
+        values: &mut [usize],
+        by: usize,
+        steps: &mut Steps,
+    ) -> usize
+        requires { FitsMinimums values.old mins.now }
+        ensures shrinks { IsRoundShrunk self.old.kept values.old mins.now by values.new self.new.kept }
+        ensures permitted { IsPermitted values.old mins.now values.new }
+        ensures total { sum values.new + result ≡ sum values.old }
+        ensures at_most { result ≤ by }
+        ensures steps { steps.old.count ≤ steps.new.count }
+        ensures visits { IsBounded values.old values.new steps.old.count steps.new.count }
+    {
+        let wanted = by.min(filled(Filling::Rounds, mins, values, usize::MAX, steps));
+        if wanted == 0 {
+            return 0;
+        }
+        let reached = reach(Filling::Rounds, mins, values, wanted, steps);
+        let span = round_span(Filling::Rounds, mins, values, self.kept, reached, steps);
+        lower(Filling::Rounds, mins, values, reached.level, span, steps);
+        self.kept = place_after(values.len(), span.last);
+        wanted
     }
 
     ghost nothing = { λ s values mins. IsRoundShrunk-none s.kept values mins };
