@@ -2,16 +2,21 @@
 ghost use Rattle.std.specs.Prelude.{◌≡◌, ◌+◌, ◌<◌, ◌≤◌, ◌^◌, MatchOption, [], true, false, length, sum};
 ghost use Rattle.std.proofs.Common.{refl, subst, ◌∙◌};
 ghost use Rattle.tabled_size.specs.Permitted.{FitsMinimums, IsPermitted};
+ghost use Rattle.tabled_size.specs.Least.{HasGreatestLeast};
 ghost use Rattle.tabled_size.specs.Peak.{NoneAbove, IsLeast};
 ghost use Rattle.tabled_size.specs.PermittedLaws.{lowered};
 ghost use Rattle.tabled_size.specs.Shrunk.{IsMinShrunk};
 ghost use Rattle.tabled_size.specs.ShrunkLaws.{IsMinShrunk-none, IsMinShrunk-done, IsMinShrunk-step};
-ghost use Rattle.tabled_size.specs.Grown.{IsMinGrown};
+ghost use Rattle.tabled_size.specs.Grown.{IsMinGrown, IsNoneSmaller};
 ghost use Rattle.tabled_size.specs.GrownLaws.{raised, IsMinGrown-nothing, IsMinGrown-none, IsMinGrown-step};
 ghost use Rattle.tabled_size.specs.Visits.{counted, IsBounded};
 
 use crate::column::visit;
+use crate::filling::{Filling, filled};
 use crate::peaker::{Peaker, TakesAll};
+use crate::reach::reach;
+use crate::span::side_span;
+use crate::spread::raise;
 use crate::steps::Steps;
 
 /// It names the least size of those above their minimum, of equal ones that on its side.
@@ -100,6 +105,26 @@ impl Peaker for PriorityMin {
             left -= taken;
         }
         by - left
+    }
+
+    fn grow(&mut self, values: &mut [usize], by: usize, steps: &mut Steps) -> usize
+        requires { sum values.old + by < 2 ^ 64 }
+        ensures grows { IsMinGrown self.old.right values.old by values.new × (self.new ≡ self.old) }
+        ensures kept { IsNoneSmaller values.old values.new }
+        ensures total { sum values.new ≡ sum values.old + result }
+        ensures at_most { result ≤ by }
+        ensures steps { steps.old.count ≤ steps.new.count }
+        ensures visits { IsBounded values.old values.new steps.old.count steps.new.count }
+        ensures least { HasGreatestLeast values.old values.new }
+    {
+        let wanted = by.min(filled(Filling::Heights, &[], values, usize::MAX, steps));
+        if wanted == 0 {
+            return 0;
+        }
+        let reached = reach(Filling::Heights, &[], values, wanted, steps);
+        let span = side_span(Filling::Heights, &[], values, self.right, reached, steps);
+        raise(Filling::Heights, values, reached.level, span, steps);
+        wanted
     }
 
     ghost nothing = { λ s values mins. (IsMinShrunk-none s.right values mins, refl) };

@@ -6,7 +6,7 @@ ghost use Rattle.tabled_size.specs.Peak.{NoneAbove, IsNext};
 ghost use Rattle.tabled_size.specs.PermittedLaws.{lowered};
 ghost use Rattle.tabled_size.specs.Shrunk.{IsRoundShrunk, place_after};
 ghost use Rattle.tabled_size.specs.RoundLaws.{IsRoundShrunk-none, IsRoundShrunk-done, IsRoundShrunk-step};
-ghost use Rattle.tabled_size.specs.Grown.{IsRoundGrown};
+ghost use Rattle.tabled_size.specs.Grown.{IsNoneSmaller, IsRoundGrown};
 ghost use Rattle.tabled_size.specs.GrownLaws.{raised, IsRoundGrown-nothing, IsRoundGrown-none, IsRoundGrown-step};
 ghost use Rattle.tabled_size.specs.Visits.{IsBounded};
 
@@ -15,7 +15,7 @@ use crate::filling::{Filling, filled};
 use crate::peaker::{Peaker, TakesAll};
 use crate::reach::reach;
 use crate::span::round_span;
-use crate::spread::lower;
+use crate::spread::{lower, raise};
 use crate::steps::Steps;
 
 /// It names the next size that is above its minimum, round the list, and keeps the place after it.
@@ -86,6 +86,26 @@ impl Peaker for PriorityNone {
         let reached = reach(Filling::Rounds, mins, values, wanted, steps);
         let span = round_span(Filling::Rounds, mins, values, self.kept, reached, steps);
         lower(Filling::Rounds, mins, values, reached.level, span, steps);
+        self.kept = place_after(values.len(), span.last);
+        wanted
+    }
+
+    fn grow(&mut self, values: &mut [usize], by: usize, steps: &mut Steps) -> usize
+        requires { sum values.old + by < 2 ^ 64 }
+        ensures grows { IsRoundGrown self.old.kept values.old by values.new self.new.kept }
+        ensures kept { IsNoneSmaller values.old values.new }
+        ensures total { sum values.new ≡ sum values.old + result }
+        ensures at_most { result ≤ by }
+        ensures steps { steps.old.count ≤ steps.new.count }
+        ensures visits { IsBounded values.old values.new steps.old.count steps.new.count }
+    {
+        let wanted = by.min(filled(Filling::Gains, &[], values, usize::MAX, steps));
+        if wanted == 0 {
+            return 0;
+        }
+        let reached = reach(Filling::Gains, &[], values, wanted, steps);
+        let span = round_span(Filling::Gains, &[], values, self.kept, reached, steps);
+        raise(Filling::Gains, values, reached.level, span, steps);
         self.kept = place_after(values.len(), span.last);
         wanted
     }
