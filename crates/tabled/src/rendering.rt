@@ -12,8 +12,8 @@ ghost use Rattle.tabled_table.specs.TableSheet.{new_sheet};
 use crate::plan::Plan;
 use std::alloc::Global;
 use tabled_base::{TableError, text_rows};
-use tabled_grid::TextSink;
-use tabled_table::{new_config, print_estimated};
+use tabled_grid::{TextSink, print_estimated};
+use tabled_table::new_config;
 
 /// Prints the table of a text that is measured whole.
 fn put_buffered<S: TextSink>(alloc: Global, text: &str, sink: &mut S) -> Result<(), TableError>

@@ -1,4 +1,5 @@
 pub mod Cells
 pub mod Error
 pub mod Given
+pub mod LentRows
 pub mod TextRows

@@ -4,6 +4,7 @@
 
 mod builder;
 mod error;
+mod lent_rows;
 mod position;
 mod records;
 mod split;
@@ -12,7 +13,8 @@ mod vec_records;
 
 pub use builder::Builder;
 pub use error::TableError;
-pub use position::Position;
+pub use lent_rows::LentRows;
+pub use position::{Entity, Position};
 pub use records::{CellText, ExactRecords, PeekableRecords};
 pub use split::text_rows;
 pub use text::Text;

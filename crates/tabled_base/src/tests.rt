@@ -122,3 +122,20 @@ fn a_text_is_refused_for_memory_alone(rt: HostRuntime) {
         Err(error) => assert_eq!(rt; error, TableError::Memory),
     }
 }
+
+#[test]
+fn a_place_comes_from_a_pair(rt: HostRuntime) {
+    let place = Position::from((1, 2));
+    assert_eq!(rt; place, Position::new(1, 2));
+    assert_eq!(rt; place, Position { row: 1, column: 2 });
+    assert!(rt; Position::new(0, 9) < place);
+    assert!(rt; Position::new(1, 1) < place);
+}
+
+#[test]
+fn entities_are_told_apart(rt: HostRuntime) {
+    assert_eq!(rt; Entity::Cell(1, 2), Entity::Cell(1, 2));
+    assert!(rt; Entity::Cell(1, 2) != Entity::Cell(2, 1));
+    assert!(rt; Entity::Row(1) != Entity::Column(1));
+    assert!(rt; Entity::Global < Entity::Row(0));
+}

@@ -2,7 +2,7 @@
 ghost use Rattle.std.specs.Prelude.{◌≡◌};
 
 /// The fifteen places of a frame. What is missing is a space where its line is there.
-#[derive(Clone, Copy, Debug)]
+#[derive(Clone, Copy, Debug, PartialEq, Eq)]
 pub struct Borders<T> {
     /// The top line.
     pub top: Option<T>,
@@ -37,7 +37,7 @@ pub struct Borders<T> {
 }
 
 /// The characters of one horizontal line.
-#[derive(Clone, Copy, Debug)]
+#[derive(Clone, Copy, Debug, PartialEq, Eq)]
 pub struct HorizontalLine {
     /// Over the columns.
     pub main: Option<char>,

@@ -1,10 +1,11 @@
 pub mod Blocks
 pub mod Contents
 pub mod Each
-pub mod Estimated
+pub mod EstimatedSizes
 pub mod Fills
 pub mod Leading
 pub mod Measuring
+pub mod Printing
 pub mod Rules
 pub mod Sending
 pub mod Whole

@@ -2,6 +2,7 @@ pub mod Block
 pub mod Fill
 pub mod Grid
 pub mod Holds
+pub mod Kept
 pub mod Leading
 pub mod Picture
 pub mod PlainSheet

@@ -7,17 +7,21 @@
 mod block;
 mod content;
 mod edges;
+mod estimated;
 mod grid;
 mod io_sink;
+mod kept;
 pub mod laws;
 mod lines;
 mod memory;
 mod picture;
 mod pieces;
 mod print;
+mod room;
 mod rows;
 mod text_sink;
 
+pub use estimated::print_estimated;
 pub use grid::Grid;
 pub use io_sink::IoSink;
 pub use print::print_grid;

@@ -3,13 +3,15 @@ ghost use Rattle.std.specs.Prelude.{◌≡◌, ◌<◌, ◌≤◌, length, [], �
 ghost use Rattle.std.specs.List.{flat_map, join_with_byte, range_with_len, slice_index};
 ghost use Rattle.tabled_grid.specs.Grid.{sheet_of};
 ghost use Rattle.tabled_grid.specs.Holds.{IsSized};
+ghost use Rattle.tabled_grid.specs.Kept.{Keeps};
 ghost use Rattle.tabled_grid.specs.Leading.{WritesLines};
 ghost use Rattle.tabled_grid.specs.Picture.{filled_picture, row_line, row_lines, row_part, rule};
 ghost use Rattle.tabled_grid.specs.Sent.{Sent, Writes};
 
 use crate::grid::Grid;
+use crate::kept::{KeptLine, put_kept_line};
 use crate::lines::{put_break, put_margin};
-use crate::rows::{put_row_line, put_rule_line};
+use crate::rows::put_row_line;
 use crate::text_sink::TextSink;
 use tabled_base::{PeekableRecords, TableError};
 
@@ -54,16 +56,19 @@ fn put_rule<R: PeekableRecords, S: TextSink>(
     sink: &mut S,
     begun: &mut bool,
     grid: &Grid<'_, R>,
+    kept: &mut KeptLine,
     index: usize,
 ) -> Result<(), TableError>
     requires sized { IsSized (sheet_of R.cells grid.now) }
-    ensures { WritesLines (S.sent sink.old) begun.old result (S.sent sink.new) begun.new
+    requires known { Keeps (sheet_of R.cells grid.now) kept.old }
+    ensures printed { WritesLines (S.sent sink.old) begun.old result (S.sent sink.new) begun.new
         (rule (sheet_of R.cells grid.now) index) }
+    ensures known { Keeps (sheet_of R.cells grid.now) kept.new }
 {
     match grid.config.rule_at(grid.records.count_rows(), index) {
         Some(line) => {
             put_break(sink, begun)?;
-            put_rule_line(sink, grid, &line)
+            put_kept_line(sink, grid, &line, kept)
         }
         None => Ok(()),
     }
@@ -74,14 +79,17 @@ fn put_row_part<R: PeekableRecords, S: TextSink>(
     sink: &mut S,
     begun: &mut bool,
     grid: &Grid<'_, R>,
+    kept: &mut KeptLine,
     row: usize,
 ) -> Result<(), TableError>
     requires sized { IsSized (sheet_of R.cells grid.now) }
+    requires known { Keeps (sheet_of R.cells grid.now) kept.old }
     requires row_in { row < length (R.cells grid.now.records.now) }
-    ensures { WritesLines (S.sent sink.old) begun.old result (S.sent sink.new) begun.new
+    ensures printed { WritesLines (S.sent sink.old) begun.old result (S.sent sink.new) begun.new
         (row_part (sheet_of R.cells grid.now) row) }
+    ensures known { Keeps (sheet_of R.cells grid.now) kept.new }
 {
-    put_rule(sink, begun, grid, row)?;
+    put_rule(sink, begun, grid, kept, row)?;
     put_row(sink, begun, grid, row)
 }
 
@@ -89,14 +97,17 @@ fn put_rows<R: PeekableRecords, S: TextSink>(
     sink: &mut S,
     begun: &mut bool,
     grid: &Grid<'_, R>,
+    kept: &mut KeptLine,
 ) -> Result<(), TableError>
     requires sized { IsSized (sheet_of R.cells grid.now) }
-    ensures { WritesLines (S.sent sink.old) begun.old result (S.sent sink.new) begun.new
+    requires known { Keeps (sheet_of R.cells grid.now) kept.old }
+    ensures printed { WritesLines (S.sent sink.old) begun.old result (S.sent sink.new) begun.new
         (flat_map (row_part (sheet_of R.cells grid.now))
         (range_with_len 0 (length (R.cells grid.now.records.now)))) }
+    ensures known { Keeps (sheet_of R.cells grid.now) kept.new }
 {
     'rows: for row in 0..grid.records.count_rows() {
-        put_row_part(sink, begun, grid, row)?;
+        put_row_part(sink, begun, grid, kept, row)?;
     }
     Ok(())
 }
@@ -105,15 +116,18 @@ fn put_lines<R: PeekableRecords, S: TextSink>(
     sink: &mut S,
     begun: &mut bool,
     grid: &Grid<'_, R>,
+    kept: &mut KeptLine,
     whole: usize,
 ) -> Result<(), TableError>
     requires sized { IsSized (sheet_of R.cells grid.now) }
-    ensures { WritesLines (S.sent sink.old) begun.old result (S.sent sink.new) begun.new
+    requires known { Keeps (sheet_of R.cells grid.now) kept.old }
+    ensures printed { WritesLines (S.sent sink.old) begun.old result (S.sent sink.new) begun.new
         (filled_picture (sheet_of R.cells grid.now) whole) }
+    ensures known { Keeps (sheet_of R.cells grid.now) kept.new }
 {
     put_margin(sink, begun, grid.config.margin.top, whole)?;
-    put_rows(sink, begun, grid)?;
-    put_rule(sink, begun, grid, grid.records.count_rows())?;
+    put_rows(sink, begun, grid, kept)?;
+    put_rule(sink, begun, grid, kept, grid.records.count_rows())?;
     put_margin(sink, begun, grid.config.margin.bottom, whole)
 }
 
@@ -128,5 +142,6 @@ pub(crate) fn put_picture<R: PeekableRecords, S: TextSink>(
         (join_with_byte 10 (filled_picture (sheet_of R.cells grid.now) whole)) }
 {
     let mut begun = false;
-    put_lines(sink, &mut begun, grid, whole)
+    let mut kept = KeptLine::new();
+    put_lines(sink, &mut begun, grid, &mut kept, whole)
 }

@@ -121,5 +121,8 @@ pub(crate) fn put_fill<S: TextSink>(sink: &mut S, c: char, count: usize) -> Resu
 pub(crate) fn put_indent<S: TextSink>(sink: &mut S, side: Indent) -> Result<(), TableError>
     ensures { Writes (S.sent sink.old) result (S.sent sink.new) (indent side) }
 {
+    if side.size == 0 {
+        return Ok(());
+    }
     put_fill(sink, side.fill, side.size)
 }

@@ -1,6 +1,7 @@
 //! A table is tested first, in the order of the refusals, and printed then.
-ghost use Rattle.std.specs.Prelude.{◌≡◌, ◌↔◌, ℕ, ◌<◌, ◌≤◌, ◌^◌, IsTrue, length, IfNone, IfOk, IfErr, IfSome, OnOk};
+ghost use Rattle.std.specs.Prelude.{◌≡◌, ◌↔◌, ℕ, false, ◌<◌, ◌≤◌, ◌^◌, IsTrue, length, IfNone, IfOk, IfErr, IfSome, OnOk};
 ghost use Rattle.tabled_base.specs.Cells.{columns};
+ghost use Rattle.tabled_size.specs.Sheet.{is_empty};
 ghost use Rattle.tabled_size.specs.Totals.{filled_width};
 ghost use Rattle.tabled_grid.specs.Grid.{sheet_of};
 ghost use Rattle.tabled_grid.specs.Holds.{Holds, IsHeld, IsNarrowIn, IsSized};
@@ -86,18 +87,20 @@ fn check_totals<R: PeekableRecords>(grid: &Grid<'_, R>) -> Result<usize, TableEr
     Ok(width)
 }
 
-/// Tests a table in the order of the refusals, and answers its total width.
-fn check_table<R: PeekableRecords>(grid: &Grid<'_, R>) -> Result<usize, TableError>
-    ensures sized { OnOk result (IsSized (sheet_of R.cells grid.now)) }
-    ensures holds { OnOk result (Holds (sheet_of R.cells grid.now)) }
-    ensures in_range { OnOk result (IsInRange (sheet_of R.cells grid.now)) }
-    ensures width { IfOk result (λ n. n ≡ filled_width grid.now.config.now
-        (columns (R.cells grid.now.records.now)) grid.now.widths.now) }
-    ensures err { IfErr result (IsRefused (sheet_of R.cells grid.now)) }
+/// Prints a table whose sizes hold its cells. Refused, before the first byte, where a total passes the
+/// greatest `usize`.
+#[tactic(auto, unfolding(crate::specs::Picture::picture))]
+pub(crate) fn print_held<R: PeekableRecords, S: TextSink>(
+    sink: &mut S,
+    grid: &Grid<'_, R>,
+) -> Result<(), TableError>
+    requires filled { is_empty (R.cells grid.now.records.now) ≡ false }
+    requires sized { IsSized (sheet_of R.cells grid.now) }
+    requires holds { Holds (sheet_of R.cells grid.now) }
+    ensures { Prints (sheet_of R.cells grid.now) (S.sent sink.old) result (S.sent sink.new) }
 {
-    check_sizes(grid)?;
-    check_narrow(grid)?;
-    check_totals(grid)
+    let whole = check_totals(grid)?;
+    put_picture(sink, grid, whole)
 }
 
 /// Prints a table piece by piece, in no memory of its own. A table with no row or no column prints
@@ -117,6 +120,7 @@ pub fn print_grid<R: PeekableRecords, S: TextSink>(
     if grid.records.count_columns() == 0 {
         return Ok(());
     }
-    let whole = check_table(grid)?;
-    put_picture(sink, grid, whole)
+    check_sizes(grid)?;
+    check_narrow(grid)?;
+    print_held(sink, grid)
 }

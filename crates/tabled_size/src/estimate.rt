@@ -116,3 +116,27 @@ pub fn estimate_heights<R: PeekableRecords>(
     }
     Ok(heights)
 }
+
+/// The estimated widths and heights, one row after another. Refused for memory, or `Range` where a
+/// cell's text and padding pass the greatest `usize`.
+pub fn estimate_sizes<R: PeekableRecords>(
+    alloc: Global,
+    records: &R,
+    config: &SpannedConfig,
+) -> Result<(Vec<usize>, Vec<usize>), TableError>
+    ensures widths { IfOk result (λ sizes. sizes.0.items ≡ estimated_widths (R.cells records.now) config.now) }
+    ensures heights { IfOk result (λ sizes. sizes.1.items ≡ estimated_heights (R.cells records.now) config.now) }
+    ensures err { IfErr result (λ e. (e ≡ Memory) ⊎ ((e ≡ Range)
+        × (IsTooWide (R.cells records.now) config.now ⊎ IsTooHigh (R.cells records.now) config.now))) }
+{
+    let mut widths = vec![in alloc; 0usize; records.count_columns()]?;
+    let mut heights = Vec::with_capacity(alloc, records.count_rows())?;
+    'rows: for row in 0..records.count_rows() {
+        raise_widths(records, config, row, &mut widths)?;
+        let Some(height) = row_height(records, config, row) else {
+            return Err(TableError::Range);
+        };
+        heights.push(height)?;
+    }
+    Ok((widths, heights))
+}

@@ -19,7 +19,7 @@ mod spread;
 mod steps;
 mod total;
 
-pub use estimate::{estimate_heights, estimate_widths};
+pub use estimate::{estimate_heights, estimate_sizes, estimate_widths};
 pub use left::PriorityLeft;
 pub use level::is_level;
 pub use max::PriorityMax;

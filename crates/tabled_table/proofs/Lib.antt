@@ -1,3 +1,3 @@
 pub mod NewTables
-pub mod Printing
+pub mod Totals
 pub mod RowsAdded

@@ -11,7 +11,7 @@ use Rattle.tabled_size.specs.Totals.{filled_height, part_height, sum_below, tota
 use Rattle.tabled_size.proofs.Sums.{sum_step}
 use Rattle.tabled_grid.specs.Picture.{picture}
 use Rattle.tabled_grid.specs.PlainSheet.{ArePlain, EachLineTakes, IsPlainConfig, IsPlainRule, IsPlainStyle}
-use Rattle.tabled_grid.proofs.Estimated.{holds_estimated}
+use Rattle.tabled_grid.proofs.EstimatedSizes.{holds_estimated}
 use Rattle.tabled_grid.proofs.Whole.{picture_columns, picture_lines}
 use Rattle.tabled_table.specs.NewConfig.{new_config}
 use Rattle.tabled_table.specs.TableSheet.{new_sheet}

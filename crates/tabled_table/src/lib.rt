@@ -9,6 +9,5 @@ mod tests;
 mod value;
 
 pub use config::new_config;
-pub use print::print_estimated;
 pub use table::Table;
 pub use value::Tabled;

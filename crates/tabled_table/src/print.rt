@@ -1,4 +1,4 @@
-//! Records with the sizes that their texts ask for.
+//! The totals of records with the sizes that their texts ask for.
 ghost use Rattle.std.specs.Prelude.{◌≡◌, ◌⊎◌, ◌≤◌, ◌^◌, IfErr, IfOk};
 ghost use Rattle.tabled_base.specs.declared.error.TableError.TheVariants.{Memory, Range, Writer};
 ghost use Rattle.tabled_base.specs.Cells.{IsRectangular};
@@ -11,7 +11,7 @@ use std::alloc::Global;
 use tabled_base::{ExactRecords, PeekableRecords, TableError};
 use tabled_config::SpannedConfig;
 use tabled_grid::{Grid, TextSink, print_grid};
-use tabled_size::{estimate_heights, estimate_widths, filled_height, filled_width};
+use tabled_size::{estimate_heights, estimate_sizes, estimate_widths, filled_height, filled_width};
 
 /// Whether there is no row or no column.
 pub(crate) fn is_empty<R: ExactRecords>(records: &R) -> bool
@@ -61,31 +61,4 @@ pub(crate) fn total_estimated_height<R: PeekableRecords>(
         Some(total) => Ok(total),
         None => Err(TableError::Range),
     }
-}
-
-/// Prints records under a configuration, with the sizes that their texts ask for. Refused for memory and
-/// for what the sink refuses, and with `Range`, before the first byte, where a total passes the greatest
-/// `usize`.
-pub fn print_estimated<R: PeekableRecords, S: TextSink>(
-    alloc: Global,
-    records: &R,
-    config: &SpannedConfig,
-    sink: &mut S,
-) -> Result<(), TableError>
-    ensures printed { Prints (estimated (R.cells records.now) config.now)
-        (S.sent sink.old) result (S.sent sink.new) }
-    ensures only { IfErr result (λ e. (e ≡ Memory) ⊎ ((e ≡ Range) ⊎ (e ≡ Writer))) }
-{
-    if is_empty(records) {
-        return Ok(());
-    }
-    let widths = estimate_widths(alloc, records, config)?;
-    let heights = estimate_heights(alloc, records, config)?;
-    let grid = Grid {
-        records,
-        config,
-        widths: widths.as_slice(),
-        heights: heights.as_slice(),
-    };
-    print_grid(sink, &grid)
 }

@@ -12,11 +12,11 @@ ghost use Rattle.tabled_grid.specs.Printed.{Prints};
 ghost use Rattle.tabled_grid.specs.Sent.{Sent};
 
 use crate::config::new_config;
-use crate::print::{is_empty, print_estimated, total_estimated_height, total_estimated_width};
+use crate::print::{is_empty, total_estimated_height, total_estimated_width};
 use crate::value::Tabled;
 use std::alloc::Global;
 use tabled_base::{Builder, ExactRecords, TableError, Text, VecRecords};
-use tabled_grid::TextSink;
+use tabled_grid::{TextSink, print_estimated};
 
 /// Rows of texts, set with ascii borders and one column of padding on the left and right.
 #[derive(Drop)]

@@ -4,13 +4,20 @@
 //! than line feeds, and is as wide as its widest line.
 #![tactic(auto)]
 
+mod character;
+mod cut;
+mod fullest;
 pub mod laws;
 mod line;
 mod measure;
 mod plain;
 #[cfg(test)]
 mod tests;
+mod wrap;
 
+pub use cut::{cut_str, split_str};
+pub use fullest::is_fullest;
 pub use line::{TextLines, lines};
 pub use measure::{count_lines, line_width, text_measures, text_width};
 pub use plain::is_plain;
+pub use wrap::wrap_text;

@@ -1,7 +1,7 @@
 use Rattle.std.proofs.Common.{inl}
 use Rattle.tabled_base.specs.TextRows.{text_rows}
 use Rattle.tabled_table.specs.TableSheet.{new_sheet}
-use Rattle.tabled_table.proofs.Printing.{prints_nothing, refused_so}
+use Rattle.tabled_grid.proofs.Printing.{prints_nothing, refused_so}
 use Rattle.tabled.proofs.TextTables.{text_empty, text_filled}
 use Rattle.tabled.proofs.rendering.put_buffered.Goals as goal
 

@@ -3,10 +3,10 @@ use Rattle.tabled_grid.specs.Picture.{row_part}
 use Rattle.tabled_grid.proofs.Leading.{lines-finished, lines-stopped-first}
 use Rattle.tabled_grid.proofs.picture.put_row_part.Goals as goal
 
-pub returns-in_err-put_rule : goal.returns-in_err-put_rule
+pub returns-in_err-put_rule-clause-printed : goal.returns-in_err-put_rule-clause-printed
 unfolding row_part
-returns-in_err-put_rule g c = lines-stopped-first _ _ _ _ _ c.in_err-put_rule.ensures c.from_residual.ensures.1 refl
+returns-in_err-put_rule-clause-printed g c = lines-stopped-first _ _ _ _ _ c.in_err-put_rule.ensures.printed c.from_residual.ensures.1 refl
 
-pub returns : goal.returns
+pub returns-clause-printed : goal.returns-clause-printed
 unfolding row_part
-returns g c = lines-finished _ _ _ _ _ c.in_ok-put_rule.ensures c.put_row.ensures refl
+returns-clause-printed g c = lines-finished _ _ _ _ _ c.in_ok-put_rule.ensures.printed c.put_row.ensures refl

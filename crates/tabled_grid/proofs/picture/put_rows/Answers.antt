@@ -4,13 +4,16 @@ use Rattle.tabled_grid.proofs.Each.{each-more, each-rest}
 use Rattle.tabled_grid.proofs.Leading.{lines-further, lines-stopped}
 use Rattle.tabled_grid.proofs.picture.put_rows.Goals as goal
 
-pub returns-in_err-put_row_part : goal.returns-in_err-put_row_part
-returns-in_err-put_row_part g c =
+pub returns-in_err-put_row_part-clause-printed : goal.returns-in_err-put_row_part-clause-printed
+returns-in_err-put_row_part-clause-printed g c =
     let within = rw c.count_rows-row-end.ensures at c.rows-test.true in
-    lines-stopped _ _ _ _ _ c.rows.invariant c.in_err-put_row_part.ensures c.from_residual.ensures.1
+    lines-stopped _ _ _ _ _ c.rows.invariant.printed c.in_err-put_row_part.ensures.printed c.from_residual.ensures.1
     (each-rest (row_part (sheet_of g.R.ExactRecords.cells c.args.grid.now)) _ _ within)
 
 pub rows-preserved : goal.rows-preserved
 rows-preserved g c =
-    lines-further c.rows.invariant c.in_ok-put_row_part.ensures
-    (each-more (row_part (sheet_of g.R.ExactRecords.cells c.args.grid.now)) _)
+    record {
+      printed = lines-further c.rows.invariant.printed c.in_ok-put_row_part.ensures.printed
+          (each-more (row_part (sheet_of g.R.ExactRecords.cells c.args.grid.now)) _);
+      known = c.in_ok-put_row_part.ensures.known;
+    }

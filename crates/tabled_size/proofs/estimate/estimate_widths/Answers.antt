@@ -1,4 +1,4 @@
-use Rattle.std.proofs.Common.{◌≡◌, ◌∙◌, ℕ, ap, sym, length, map, replicate, arith, rules}
+use Rattle.std.proofs.Common.{◌≡◌, ◌∙◌, ℕ, ap, length, map, replicate, arith, rules}
 use Rattle.std.specs.List.{range_with_len}
 use Rattle.tabled_base.specs.Cells.{columns}
 use Rattle.tabled_size.specs.Estimates.{column_width, estimated_widths, needed_width}

@@ -1,5 +1,5 @@
 use Rattle.std.proofs.Common.{◌∙◌, ap, length, sym, arith}
-use Rattle.tabled_table.proofs.Printing.{heights_length, height_refused}
+use Rattle.tabled_table.proofs.Totals.{heights_length, height_refused}
 use Rattle.tabled_table.proofs.print.total_estimated_height.Goals as goal
 
 pub filled_height-requires : goal.filled_height-requires

@@ -1,5 +1,5 @@
 use Rattle.std.proofs.Common.{◌∙◌, ap, length, sym, arith}
-use Rattle.tabled_table.proofs.Printing.{widths_length, width_refused}
+use Rattle.tabled_table.proofs.Totals.{widths_length, width_refused}
 use Rattle.tabled_table.proofs.print.total_estimated_width.Goals as goal
 
 pub filled_width-requires : goal.filled_width-requires

@@ -1,0 +1,13 @@
+use Rattle.tabled_text.proofs.FewestLines.{lines-cut}
+use Rattle.tabled_text.proofs.LongestLemmas.{cut_longest}
+use Rattle.tabled_text.proofs.StayLemmas.{StaysWithin-cut, StaysWithin-cut_before, StaysWithin-suffix}
+use Rattle.tabled_text.proofs.laws.cut_texts.Goals as goal
+
+pub returns : goal.returns
+returns g = record {
+  room = λ n text answer p c. StaysWithin-cut p c;
+  suffix = λ n w text answer suffix p q h c. StaysWithin-suffix p q h c;
+  followed = λ n w text answer tail le p c u h. StaysWithin-cut_before le p c u h;
+  lines = lines-cut;
+  longest = cut_longest;
+}
