@@ -1,5 +1,6 @@
 pub mod AtOnce
 pub mod BestPlace
+pub mod Between
 pub mod Gains
 pub mod Greatest
 pub mod Leveled

@@ -41,3 +41,15 @@ pub record IsPermitted (old mins new : List ℕ) : Type 0 where
 pub record IsTakenFrom (old mins : List ℕ) (by : ℕ) (new : List ℕ) : Type 0 where
   pub permitted : IsPermitted old mins new
   pub total : sum new + taken old mins by ≡ sum old
+
+-- an entry that was lowered, and not to its low limit
+abbrev pub IsBetween : List ℕ → List ℕ → List ℕ → ℕ → Type 0
+IsBetween old mins new i = (low old mins i < at new i) × (at new i < at old i)
+
+-- at most one entry stands between its limits
+abbrev pub HasOneBetween : List ℕ → List ℕ → List ℕ → Type 0
+HasOneBetween old mins new = (i j : ℕ) → IsBetween old mins new i → IsBetween old mins new j → i ≡ j
+
+-- entries that end above their minimums lost alike, or one of them one more
+abbrev pub HasEvenLosses : List ℕ → List ℕ → List ℕ → Type 0
+HasEvenLosses old mins new = (i j : ℕ) → at mins i < at new i → at mins j < at new j → at old i - at new i ≤ (at old j - at new j) + 1

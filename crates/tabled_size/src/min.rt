@@ -1,7 +1,7 @@
 //! The least size first.
 ghost use Rattle.std.specs.Prelude.{◌≡◌, ◌+◌, ◌<◌, ◌≤◌, ◌^◌, MatchOption, [], true, false, length, sum};
 ghost use Rattle.std.proofs.Common.{refl, subst, ◌∙◌};
-ghost use Rattle.tabled_size.specs.Permitted.{FitsMinimums, IsPermitted};
+ghost use Rattle.tabled_size.specs.Permitted.{FitsMinimums, HasOneBetween, IsPermitted};
 ghost use Rattle.tabled_size.specs.Least.{HasGreatestLeast};
 ghost use Rattle.tabled_size.specs.Peak.{NoneAbove, IsLeast};
 ghost use Rattle.tabled_size.specs.PermittedLaws.{lowered};
@@ -86,6 +86,7 @@ impl Peaker for PriorityMin {
         requires { FitsMinimums values.old mins.now }
         ensures shrinks { IsMinShrunk self.old.right values.old mins.now by values.new × (self.new ≡ self.old) }
         ensures permitted { IsPermitted values.old mins.now values.new }
+        ensures between { HasOneBetween values.old mins.now values.new }
         ensures total { sum values.new + result ≡ sum values.old }
         ensures at_most { result ≤ by }
         ensures steps { steps.old.count ≤ steps.new.count }

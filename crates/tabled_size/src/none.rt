@@ -1,7 +1,7 @@
 //! One size after the other.
 ghost use Rattle.std.specs.Prelude.{◌≡◌, ◌+◌, ◌<◌, ◌≤◌, ◌^◌, MatchOption, [], length, sum};
 ghost use Rattle.std.proofs.Common.{sym, subst};
-ghost use Rattle.tabled_size.specs.Permitted.{FitsMinimums, IsPermitted};
+ghost use Rattle.tabled_size.specs.Permitted.{FitsMinimums, HasEvenLosses, IsPermitted};
 ghost use Rattle.tabled_size.specs.Peak.{NoneAbove, IsNext};
 ghost use Rattle.tabled_size.specs.PermittedLaws.{lowered};
 ghost use Rattle.tabled_size.specs.Shrunk.{IsRoundShrunk, place_after};
@@ -74,6 +74,7 @@ impl Peaker for PriorityNone {
         requires { FitsMinimums values.old mins.now }
         ensures shrinks { IsRoundShrunk self.old.kept values.old mins.now by values.new self.new.kept }
         ensures permitted { IsPermitted values.old mins.now values.new }
+        ensures even { HasEvenLosses values.old mins.now values.new }
         ensures total { sum values.new + result ≡ sum values.old }
         ensures at_most { result ≤ by }
         ensures steps { steps.old.count ≤ steps.new.count }

@@ -1,7 +1,7 @@
 //! The last size first.
 ghost use Rattle.std.specs.Prelude.{◌≡◌, ◌+◌, ◌<◌, ◌≤◌, ◌^◌, MatchOption, [], length, sum};
 ghost use Rattle.std.proofs.Common.{refl, ◌∙◌};
-ghost use Rattle.tabled_size.specs.Permitted.{FitsMinimums, IsPermitted};
+ghost use Rattle.tabled_size.specs.Permitted.{FitsMinimums, HasOneBetween, IsPermitted};
 ghost use Rattle.tabled_size.specs.Peak.{NoneAbove, IsRightmost};
 ghost use Rattle.tabled_size.specs.Shrunk.{IsRightShrunk};
 ghost use Rattle.tabled_size.specs.ShrunkLaws.{IsRightShrunk-none, IsRightShrunk-done, IsRightShrunk-step};
@@ -59,6 +59,7 @@ impl Peaker for PriorityRight {
         requires { FitsMinimums values.old mins.now }
         ensures shrinks { IsRightShrunk values.old mins.now by values.new × (self.new ≡ self.old) }
         ensures permitted { IsPermitted values.old mins.now values.new }
+        ensures between { HasOneBetween values.old mins.now values.new }
         ensures total { sum values.new + result ≡ sum values.old }
         ensures at_most { result ≤ by }
         ensures steps { steps.old.count ≤ steps.new.count }

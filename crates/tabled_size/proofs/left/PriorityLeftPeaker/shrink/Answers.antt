@@ -6,6 +6,7 @@ use Rattle.tabled_size.specs.Shrunk.{IsLeftShrunk}
 use Rattle.tabled_size.specs.ShrunkLaws.{IsLeftShrunk-none, IsLeftShrunk-done}
 use Rattle.tabled_size.proofs.AtOnce.{less, left_at_once}
 use Rattle.tabled_size.proofs.Underway.{Underway, Underway-take, at-less, at-less_other}
+use Rattle.tabled_size.proofs.Between.{left_between}
 use Rattle.tabled_size.proofs.Visiting.{IsBounded-whole}
 use Rattle.tabled_size.proofs.left.PriorityLeftPeaker.shrink.Goals as goal
 
@@ -51,3 +52,6 @@ pub returns-clause-visits : goal.returns-clause-visits
 returns-clause-visits c =
     let len = c.loop-place.invariant.underway.permitted.same_length in
     IsBounded-whole c.args.values.now c.loop-place.values c.args.steps.now.count c.loop-place.steps.count c.loop-place.place (omega arith) c.loop-place.invariant.steps (omega arith)
+
+pub returns-clause-between : goal.returns-clause-between
+returns-clause-between c = let s = returns-clause-shrinks c in left_between c.args.values.now c.args.mins.now c.args.by c.loop-place.values s.0

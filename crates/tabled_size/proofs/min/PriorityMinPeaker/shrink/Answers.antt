@@ -10,6 +10,7 @@ use Rattle.tabled_size.specs.PermittedLaws.{in_range}
 use Rattle.tabled_size.proofs.AtOnce.{less, min_at_once}
 use Rattle.tabled_size.proofs.Spares.{spare_places, spare_places-le, spare_places-less, spare_places-none}
 use Rattle.tabled_size.proofs.Underway.{Underway, Underway-start, Underway-take}
+use Rattle.tabled_size.proofs.Between.{min_between}
 use Rattle.tabled_size.proofs.Visiting.{IsBounded-turns}
 use Rattle.tabled_size.proofs.min.PriorityMinPeaker.shrink.Goals as goal
 use Rattle.tabled_size.proofs.min.PriorityMinPeaker.shrink.Goals.{else-loop-turn-test, then-loop-turn-test+then-left-eq0, then-loop-turn-test+else-left-eq0+in_default}
@@ -87,3 +88,6 @@ returns-clause-visits c =
     | then-loop-turn-test+then-left-eq0 w ↦ IsBounded-turns old xs before c.loop-turn-test.steps.count turn 0 (let l = w.loop-turn-test.true in omega arith) (omega arith) inv.unchanged (let e = ap (λ (k : Steps). k.count) w.steps-is in omega arith)
     | then-loop-turn-test+else-left-eq0+in_default w ↦ IsBounded-turns old xs before c.loop-turn-test.steps.count turn (length old) (let l = w.loop-turn-test.true in omega arith) (omega arith) inv.unchanged (let e = ap (λ (k : Steps). k.count) w.steps-is in let f = w.least.ensures.steps in omega arith)
     ]
+
+pub returns-clause-between : goal.returns-clause-between
+returns-clause-between c = let s = returns-clause-shrinks c in min_between c.args.self.now.right c.args.values.now c.args.mins.now c.args.by c.loop-turn.values s.0

@@ -6,6 +6,7 @@ use Rattle.tabled_size.specs.RoundLaws.{IsRoundShrunk-still}
 use Rattle.tabled_size.specs.Filling.{first_level, last_level, IsReached}
 use Rattle.tabled_size.proofs.Leveled.{round_shrunk}
 use Rattle.tabled_size.proofs.Shares.{wanted_taken, taken_by_shares, rounds_spare}
+use Rattle.tabled_size.proofs.Between.{round_even}
 use Rattle.tabled_size.proofs.Visiting.{IsBounded-whole, IsBounded-passes}
 use Rattle.tabled_size.proofs.none.PriorityNonePeaker.shrink.Goals as goal
 
@@ -58,3 +59,9 @@ returns-clause-visits c =
     let e = c.round_span-span.ensures.most in
     let f = c.lower.ensures.steps in
     IsBounded-passes c.args.values.now c.lower.new.values c.args.steps.now.count c.filled.new.steps.count c.lower.new.steps.count c.filled.ensures.steps (omega arith) (omega arith)
+
+pub returns-then-wanted-eq0-clause-even : goal.returns-then-wanted-eq0-clause-even
+returns-then-wanted-eq0-clause-even c = round_even c.args.self.now.kept c.args.values.now c.args.mins.now c.args.by c.args.values.now c.args.self.now.kept (returns-then-wanted-eq0-clause-shrinks c)
+
+pub returns-clause-even : goal.returns-clause-even
+returns-clause-even c = round_even c.args.self.now.kept c.args.values.now c.args.mins.now c.args.by c.lower.new.values c.place_after-self.result (returns-clause-shrinks c)
