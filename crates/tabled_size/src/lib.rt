@@ -30,3 +30,6 @@ pub use priority::Priority;
 pub use right::PriorityRight;
 pub use steps::Steps;
 pub use total::{filled_height, filled_width};
+
+#[cfg(test)]
+mod tests;
