@@ -1,3 +1,4 @@
+pub mod ConstSizes
 pub mod Estimates
 pub mod Filling
 pub mod Grown
@@ -10,6 +11,7 @@ pub mod RoundLaws
 pub mod Sheet
 pub mod Shrunk
 pub mod ShrunkLaws
+pub mod Standing
 pub mod SumLaws
 pub mod Totals
 pub mod Visits
