@@ -12,6 +12,7 @@ pub mod Sheet
 pub mod Shrunk
 pub mod ShrunkLaws
 pub mod Standing
+pub mod Stored
 pub mod SumLaws
 pub mod Totals
 pub mod Visits

@@ -1,8 +1,9 @@
 //! Sizes that are arrays or single values.
-ghost use Rattle.std.specs.Prelude.{◌≡◌, ◌<◌, Some, is_some, length, true};
+ghost use Rattle.std.specs.Prelude.{◌≡◌, ◌⊎◌, IfErr, OnErr, OnOk, ◌<◌, Some, is_some, length, true};
 ghost use Rattle.tabled_size.specs.declared.const_dimension.ConstSize.TheVariants.{List as Listed, Value};
 ghost use Rattle.tabled_size.specs.ConstSizes.{size_at};
 ghost use Rattle.tabled_size.specs.Permitted.{at};
+ghost use Rattle.tabled_base.specs.declared.error.TableError.TheVariants.{Memory, Range};
 
 use crate::dimension::{Dimension, Estimate};
 use std::alloc::Global;
@@ -116,6 +117,10 @@ impl<R, C, const COLUMNS: usize, const ROWS: usize> Estimate<R, C> for ConstDime
     ghost passes = { λ s records config. ⊥ };
 
     fn estimate(&mut self, _alloc: Global, _records: &R, _config: &C) -> Result<(), TableError>
+        ensures ok { OnOk result (self.new ≡ self.old) }
+        ensures err { OnErr result (self.new ≡ self.old) }
+        ensures only { IfErr result (λ e. (e ≡ Memory) ⊎ ((e ≡ Range) × ⊥)) }
+        ensures never { OnErr result ⊥ }
     {
         Ok(())
     }

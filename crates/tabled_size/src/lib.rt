@@ -3,6 +3,7 @@
 #![tactic(auto)]
 
 mod column;
+mod complete_dimension;
 mod const_dimension;
 mod dimension;
 mod estimate;
@@ -23,6 +24,7 @@ mod steps;
 mod total;
 mod zero_dimension;
 
+pub use complete_dimension::CompleteDimension;
 pub use const_dimension::{ConstDimension, ConstSize};
 pub use dimension::{Dimension, Estimate};
 pub use estimate::{estimate_heights, estimate_sizes, estimate_widths};

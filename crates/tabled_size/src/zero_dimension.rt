@@ -1,5 +1,6 @@
 //! No width and no height.
-ghost use Rattle.std.specs.Prelude.{◌≡◌, Some};
+ghost use Rattle.std.specs.Prelude.{◌≡◌, ◌⊎◌, IfErr, OnErr, OnOk, Some};
+ghost use Rattle.tabled_base.specs.declared.error.TableError.TheVariants.{Memory, Range};
 
 use crate::dimension::{Dimension, Estimate};
 use std::alloc::Global;
@@ -44,6 +45,10 @@ impl<R, C> Estimate<R, C> for ZeroDimension {
     ghost passes = { λ s records config. ⊥ };
 
     fn estimate(&mut self, _alloc: Global, _records: &R, _config: &C) -> Result<(), TableError>
+        ensures ok { OnOk result (self.new ≡ self.old) }
+        ensures err { OnErr result (self.new ≡ self.old) }
+        ensures only { IfErr result (λ e. (e ≡ Memory) ⊎ ((e ≡ Range) × ⊥)) }
+        ensures never { OnErr result ⊥ }
     {
         Ok(())
     }
