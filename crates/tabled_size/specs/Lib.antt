@@ -15,4 +15,5 @@ pub mod Standing
 pub mod Stored
 pub mod SumLaws
 pub mod Totals
+pub mod Values
 pub mod Visits
