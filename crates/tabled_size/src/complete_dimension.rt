@@ -81,8 +81,8 @@ impl CompleteDimension {
         ensures widths { widths_of self.new ≡ None }
         ensures heights { heights_of self.new ≡ None }
     {
-        self.width = None;
-        self.height = None;
+        self.clear_width();
+        self.clear_height();
     }
 
     /// Forgets what a change may have made wrong: both where the whole table or a cell was changed, the

@@ -6,7 +6,6 @@ ghost use Rattle.tabled_size.specs.Permitted.{at};
 ghost use Rattle.tabled_base.specs.declared.error.TableError.TheVariants.{Memory, Range};
 
 use crate::dimension::{Dimension, Estimate};
-use std::alloc::Global;
 use tabled_base::TableError;
 
 /// Sizes by an array, or one for all.
@@ -46,7 +45,7 @@ impl<const N: usize> ConstSize<N> {
         ensures { result ≡ is_some (size_at self.now place) }
     {
         match self {
-            ConstSize::List(sizes) => place < sizes.len(),
+            ConstSize::List(list) => place < list.len(),
             ConstSize::Value(_) => true,
         }
     }
@@ -56,8 +55,8 @@ impl<const N: usize> ConstSize<N> {
         ensures { Some result ≡ size_at self.now place }
     {
         match self {
-            ConstSize::List(sizes) => entry(sizes, place),
-            ConstSize::Value(size) => *size,
+            ConstSize::List(list) => entry(list, place),
+            ConstSize::Value(all) => *all,
         }
     }
 }
@@ -116,7 +115,7 @@ impl<R, C, const COLUMNS: usize, const ROWS: usize> Estimate<R, C> for ConstDime
 
     ghost passes = { λ s records config. ⊥ };
 
-    fn estimate(&mut self, _alloc: Global, _records: &R, _config: &C) -> Result<(), TableError>
+    fn estimate(&mut self, _records: &R, _config: &C) -> Result<(), TableError>
         ensures ok { OnOk result (self.new ≡ self.old) }
         ensures err { OnErr result (self.new ≡ self.old) }
         ensures only { IfErr result (λ e. (e ≡ Memory) ⊎ ((e ≡ Range) × ⊥)) }

@@ -2,7 +2,6 @@
 ghost use Rattle.std.specs.Prelude.{◌≡◌, ◌⊎◌, ℕ, Option, Some, IfErr, OnOk, OnErr, is_some, true};
 ghost use Rattle.tabled_base.specs.declared.error.TableError.TheVariants.{Memory, Range};
 
-use std::alloc::Global;
 use tabled_base::TableError;
 
 /// The widths of columns and the heights of rows. Widths count columns of text with their padding,
@@ -43,7 +42,7 @@ pub trait Estimate<R, C> {
 
     /// Stores estimated sizes where none are stored. Refused for memory, or with `Range` where a
     /// measure passes the greatest `usize`; the sizes then stay as they were.
-    fn estimate(&mut self, alloc: Global, records: &R, config: &C) -> Result<(), TableError>
+    fn estimate(&mut self, records: &R, config: &C) -> Result<(), TableError>
         ensures ok { OnOk result (estimates self.old records.now config.now self.new) }
         ensures err { OnErr result (self.new ≡ self.old) }
         ensures only { IfErr result (λ e. (e ≡ Memory) ⊎ ((e ≡ Range) × passes self.old records.now config.now)) };

@@ -4,7 +4,6 @@ ghost use Rattle.tabled_base.specs.declared.error.TableError.TheVariants.{Memory
 ghost use Rattle.tabled_size.specs.Values.{value_at, IsSameValue};
 
 use crate::dimension::{Dimension, Estimate};
-use std::alloc::Global;
 use tabled_base::TableError;
 
 /// Widths or heights.
@@ -126,7 +125,7 @@ impl<R, C> Estimate<R, C> for StaticDimension {
 
     ghost passes = { λ s records config. ⊥ };
 
-    fn estimate(&mut self, _alloc: Global, _records: &R, _config: &C) -> Result<(), TableError>
+    fn estimate(&mut self, _records: &R, _config: &C) -> Result<(), TableError>
         ensures ok { OnOk result (self.new ≡ self.old) }
         ensures err { OnErr result (self.new ≡ self.old) }
         ensures only { IfErr result (λ e. (e ≡ Memory) ⊎ ((e ≡ Range) × ⊥)) }

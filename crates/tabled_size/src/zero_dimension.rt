@@ -3,7 +3,6 @@ ghost use Rattle.std.specs.Prelude.{◌≡◌, ◌⊎◌, IfErr, OnErr, OnOk, So
 ghost use Rattle.tabled_base.specs.declared.error.TableError.TheVariants.{Memory, Range};
 
 use crate::dimension::{Dimension, Estimate};
-use std::alloc::Global;
 use tabled_base::TableError;
 
 /// Every column is 0 wide, every row 0 high.
@@ -44,7 +43,7 @@ impl<R, C> Estimate<R, C> for ZeroDimension {
 
     ghost passes = { λ s records config. ⊥ };
 
-    fn estimate(&mut self, _alloc: Global, _records: &R, _config: &C) -> Result<(), TableError>
+    fn estimate(&mut self, _records: &R, _config: &C) -> Result<(), TableError>
         ensures ok { OnOk result (self.new ≡ self.old) }
         ensures err { OnErr result (self.new ≡ self.old) }
         ensures only { IfErr result (λ e. (e ≡ Memory) ⊎ ((e ≡ Range) × ⊥)) }
