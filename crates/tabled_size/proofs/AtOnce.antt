@@ -1,15 +1,11 @@
 -- A place that stays the named one loses or gains many at once.
-use Rattle.std.proofs.Common.{◌≡◌, ◌≢◌, ℕ, ◌+◌, ◌-◌, ◌<◌, ◌≤◌, Bool, List, [], length, sum, min, slice_set, refl, sym, ap, ◌∙◌, subst, arith, ⊎_elim, zero, suc, length-set}
-use Rattle.std.proofs.lemmas.List.{get_or-set_same, get_or-set_other, set-set, set-get_or}
-use Rattle.std.proofs.lemmas.List.Sums.{sum_by-set}
-use Rattle.std.proofs.lemmas.Bool.{cases_lt, cases_eq}
-use Rattle.tabled_size.specs.Permitted.{at, low, spare, IsPermitted}
-use Rattle.tabled_size.specs.PermittedLaws.{lowered, IsLowered-lowered, in_range}
+use Rattle.std.proofs.Common.{◌≡◌, ℕ, ◌+◌, ◌-◌, ◌<◌, ◌≤◌, Bool, List, slice_set, sym, ap, ◌∙◌, subst, arith, zero, suc}
+use Rattle.std.proofs.lemmas.List.{set-set, set-get_or}
+use Rattle.tabled_size.specs.Permitted.{at, spare}
+use Rattle.tabled_size.specs.PermittedLaws.{lowered, IsLowered-lowered}
 use Rattle.tabled_size.specs.Shrunk.{IsLeftShrunk, IsRightShrunk, IsMinShrunk}
 use Rattle.tabled_size.specs.ShrunkLaws.{IsLeftShrunk-step, IsRightShrunk-step, IsMinShrunk-step, before-le, before-lt}
-use Rattle.tabled_size.specs.Peak.{IsLeftmost, IsRightmost, IsGreatest, IsLeast}
-use Rattle.tabled_size.specs.Grown.{IsNoneSmaller, IsLeftGrown, IsRightGrown, IsMaxGrown}
-use Rattle.tabled_size.specs.GrownLaws.{raised, IsRaised-raised, IsGrownAt-nothing, IsLeftGrown-step, IsRightGrown-step, IsMaxGrown-step}
+use Rattle.tabled_size.specs.Peak.{IsLeftmost, IsRightmost, IsLeast}
 
 abbrev pub less : List ℕ → ℕ → ℕ → List ℕ
 less xs i d = slice_set xs i (at xs i - d)
@@ -57,9 +53,9 @@ least_stays right mins i xs n h =
     record {
       above = omega arith;
       first = λ j ne above.
-        let e = l.there j ne in
-        let le = before-le right (at xs i) (at xs j) i j (n.first j ne (omega arith)) in
-        before-lt right (at (lowered xs i) i) (at (lowered xs i) j) i j (omega arith);
+          let e = l.there j ne in
+          let le = before-le right (at xs i) (at xs j) i j (n.first j ne (omega arith)) in
+          before-lt right (at (lowered xs i) i) (at (lowered xs i) j) i j (omega arith);
     }
 
 pub left_at_once : (mins : List ℕ) (i d : ℕ) (xs : List ℕ) (by : ℕ) (new : List ℕ) → IsLeftmost xs mins i → d ≤ spare xs mins i → IsLeftShrunk (less xs i d) mins by new → IsLeftShrunk xs mins (by + d) new

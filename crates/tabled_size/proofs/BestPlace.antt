@@ -1,11 +1,7 @@
 -- The best place so far.
-use Rattle.std.proofs.Common.{◌≡◌, ◌≢◌, ℕ, ◌+◌, ◌<◌, ◌≤◌, Bool, true, false, List, length, nat_le, nat_lt, if◌then◌else◌, ◌||◌, ◌&&◌, ◌==◌, ⊎_elim, arith, refl, subst, sym}
-use Rattle.std.proofs.lemmas.Bool.{cases_lt, cases_eq}
-use Rattle.std.proofs.lemmas.Bool.Decides.{nat_tests}
-use Rattle.std.proofs.lemmas.List.{get_or_past}
+use Rattle.std.proofs.Common.{◌≡◌, ◌≢◌, ℕ, ◌<◌, ◌≤◌, Bool, true, List, nat_le, if◌then◌else◌}
 use Rattle.tabled_size.specs.Permitted.{at}
 use Rattle.tabled_size.specs.Shrunk.{comes_before}
-use Rattle.tabled_size.specs.Peak.{NoneAbove, IsGreatest, IsLeast}
 
 abbrev pub NoneAboveBelow : List ℕ → List ℕ → ℕ → Type 0
 NoneAboveBelow xs mins n = (j : ℕ) → j < n → at xs j ≤ at mins j

@@ -1,5 +1,5 @@
 -- What columns gain by their shares.
-use Rattle.std.proofs.Common.{◌≡◌, ◌≢◌, ℕ, ◌+◌, ◌-◌, ◌<◌, ◌≤◌, ◌^◌, Bool, true, false, not, cond, if◌then◌else◌, ◌&&◌, ◌||◌, ◌==◌, List, [], length, sum, min, max, refl, sym, ap, ◌∙◌, subst, arith, ⊎_elim, zero, suc, nat_lt, nat_le}
+use Rattle.std.proofs.Common.{◌≡◌, ℕ, ◌+◌, ◌-◌, ◌<◌, ◌≤◌, ◌^◌, Bool, true, false, cond, if◌then◌else◌, ◌&&◌, ◌==◌, List, [], length, sum, min, max, refl, sym, ap, ◌∙◌, subst, arith, ⊎_elim, zero, suc, nat_lt, nat_le}
 use Rattle.std.proofs.lemmas.Bool.Decides.{nat_tests}
 use Rattle.std.proofs.lemmas.Bool.{cases_lt, ne_eqb}
 use Rattle.std.proofs.lemmas.List.{get_or_past}
@@ -10,8 +10,8 @@ use Rattle.tabled_size.specs.Shrunk.{ceiling, is_met, start, place_after}
 use Rattle.tabled_size.specs.ShrunkLaws.{at-le-sum}
 use Rattle.tabled_size.specs.Totals.{sum_below, one_if}
 use Rattle.tabled_size.specs.SumLaws.{sum_below-same, sum_below-plus, sum_below-zero, sum_below-term, sum-below}
-use Rattle.tabled_size.specs.Grown.{added, IsNoneSmaller, IsGrownFrom, IsMinGrown, IsRoundGrown}
-use Rattle.tabled_size.specs.GrownLaws.{added-some, added-none, IsGrownFrom-none, IsMinGrown-nothing, IsRoundGrown-nothing}
+use Rattle.tabled_size.specs.Grown.{added, IsGrownFrom, IsMinGrown, IsRoundGrown}
+use Rattle.tabled_size.specs.GrownLaws.{added-some, added-none, IsMinGrown-nothing}
 use Rattle.tabled_size.specs.Filling.{amount, filled, first_level, last_level, is_open, share, IsReached, IsSpan}
 use Rattle.tabled_size.proofs.Shares.{shares}
 
@@ -31,17 +31,17 @@ pub wanted_added : (from to : ℕ → ℕ) (old : List ℕ) (by most wanted : �
     → most ≡ min (filled from to (length old) top) top → wanted ≡ min by most → wanted ≡ added old by
 wanted_added from to old by most wanted b gain none m w = ⊎_elim
     (λ (some : 0 < sum old).
-      let s = sum-below old in
-      let i = some_term (at old) (length old) (omega arith) in
-      let g = gain i.0 i.2 in
-      let t = sum_below-term (amount from to top) (length old) i.0 i.1 in
-      let a = added-some old by i.0 i.2 in
-      omega arith)
+    let s = sum-below old in
+    let i = some_term (at old) (length old) (omega arith) in
+    let g = gain i.0 i.2 in
+    let t = sum_below-term (amount from to top) (length old) i.0 i.1 in
+    let a = added-some old by i.0 i.2 in
+    omega arith)
     (λ (zero : sum old ≤ 0).
-      let z = λ (i : ℕ). at-le-sum old i in
-      let f = sum_below-zero (amount from to top) (length old) (λ i _. let e = none i (let q = at-le-sum old i in omega arith) in omega arith) in
-      let a = added-none old by (λ i. let q = at-le-sum old i in omega arith) in
-      omega arith)
+    let z = λ (i : ℕ). at-le-sum old i in
+    let f = sum_below-zero (amount from to top) (length old) (λ i _. let e = none i (let q = at-le-sum old i in omega arith) in omega arith) in
+    let a = added-none old by (λ i. let q = at-le-sum old i in omega arith) in
+    omega arith)
     (cases_lt 0 (sum old))
 
 -- a share passes no number
@@ -65,12 +65,12 @@ grown_by_shares from to old by new level rest first last r s none len each = rec
     zeros = λ i z. ⊎_elim (λ inside. let e = each i inside in let n = none i z in omega arith) (λ past. get_or_past new i 0 (omega arith)) (cases_lt i (length old));
   };
   total =
-    let a = shares from to (length old) (added old by) level rest first last r s in
-    let b = sum_below-plus (at old) (share from to level first last) (length old) in
-    let c = sum_below-same (at new) (λ i. at old i + share from to level first last i) (length old) each in
-    let d = sum-below old in
-    let e = sum-below new ∙ ap (sum_below (at new)) len in
-    omega arith;
+      let a = shares from to (length old) (added old by) level rest first last r s in
+      let b = sum_below-plus (at old) (share from to level first last) (length old) in
+      let c = sum_below-same (at new) (λ i. at old i + share from to level first last i) (length old) each in
+      let d = sum-below old in
+      let e = sum-below new ∙ ap (sum_below (at new)) len in
+      omega arith;
 }
 
 -- where nothing is added the list may stay
@@ -109,9 +109,9 @@ min_grown true old by new level first last l g order right left each = record {
   level = level;
   place = first;
   raised = λ i pos.
-    let inside = in_range old i 0 pos in
-    raised_here (at old i) (level + one_if (is_met first last i)) (at new i) pos (let o = one_if-le (is_met first last i) in omega arith) (each i inside)
-    ∙ ap (max (at old i)) (floor_right level first last (length old) i (right refl) order inside);
+      let inside = in_range old i 0 pos in
+      raised_here (at old i) (level + one_if (is_met first last i)) (at new i) pos (let o = one_if-le (is_met first last i) in omega arith) (each i inside)
+      ∙ ap (max (at old i)) (floor_right level first last (length old) i (right refl) order inside);
 }
 min_grown false old by new level first last l g order right left each =
     let e : first ≡ 0 = left refl in
@@ -120,9 +120,9 @@ min_grown false old by new level first last l g order right left each =
       level = level;
       place = last + 1;
       raised = λ i pos.
-        raised_here (at old i) (level + one_if (is_met first last i)) (at new i) pos (let o = one_if-le (is_met first last i) in omega arith) (each i (in_range old i 0 pos))
-        ∙ ap (λ k. max (at old i) (level + one_if (is_met k last i))) e
-        ∙ ap (max (at old i)) (floor_left level last i);
+          raised_here (at old i) (level + one_if (is_met first last i)) (at new i) pos (let o = one_if-le (is_met first last i) in omega arith) (each i (in_range old i 0 pos))
+          ∙ ap (λ k. max (at old i) (level + one_if (is_met k last i))) e
+          ∙ ap (max (at old i)) (floor_left level last i);
     }
 
 -- ---- in turn
@@ -151,7 +151,7 @@ round_grown kept old by new level first last l some g e o each = record {
   stays = λ z. absurd (omega arith);
   moves = λ _. (open_nonzero (at old last) level o, refl);
   gains = λ i inside _ pos. subst (λ k. at new i ≡ at old i + (if is_met k last i then level + 1 else level)) e
-    (round_gain (at old i) level (at new i) (is_met first last i) pos l (each i inside));
+      (round_gain (at old i) level (at new i) (is_met first last i) pos l (each i inside));
 }
 
 pub zero_end : (v : ℕ) → v ≡ 0 → (if v == 0 then 0 else top) ≡ 0

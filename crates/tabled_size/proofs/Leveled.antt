@@ -1,10 +1,9 @@
 -- Lists that were filled up to a level are those of the priorities.
-use Rattle.std.proofs.Common.{◌≡◌, ◌≢◌, ℕ, ◌+◌, ◌-◌, ◌<◌, ◌≤◌, Bool, true, false, not, cond, if◌then◌else◌, ◌&&◌, ◌||◌, ◌==◌, List, [], length, sum, min, max, refl, sym, ap, ◌∙◌, subst, arith, ⊎_elim, zero, suc, nat_lt, nat_le}
+use Rattle.std.proofs.Common.{◌≡◌, ℕ, ◌+◌, ◌-◌, ◌<◌, ◌≤◌, Bool, true, false, if◌then◌else◌, ◌&&◌, List, length, min, max, refl, sym, ap, ◌∙◌, subst, arith, ⊎_elim, nat_lt, nat_le}
 use Rattle.std.proofs.lemmas.Bool.Decides.{nat_tests}
 use Rattle.std.proofs.lemmas.Bool.{cases_lt}
 use Rattle.std.proofs.lemmas.List.{get_or_past}
-use Rattle.tabled_size.specs.declared.filling.Filling.{Filling}
-use Rattle.tabled_size.specs.declared.filling.Filling.TheVariants.{Depths, Rounds, Heights, Gains}
+use Rattle.tabled_size.specs.declared.filling.Filling.TheVariants.{Depths, Rounds}
 use Rattle.tabled_size.specs.Permitted.{at, low, spare, taken, IsTakenFrom}
 use Rattle.tabled_size.specs.Shrunk.{ceiling, is_met, start, place_after, IsMaxShrunk, IsRoundShrunk}
 use Rattle.tabled_size.specs.Totals.{one_if}
@@ -41,14 +40,14 @@ max_shrunk true old mins by new level first last v m l t order right left each =
   level = top - level - 1;
   place = first;
   cut = λ i. ⊎_elim
-    (λ (inside : i < length old).
+      (λ (inside : i < length old).
       cut_here (at mins i) (at old i) (level + one_if (is_met first last i)) (at new i) (v i) (m i) (let o = one_if-le (is_met first last i) in omega arith) (each i)
       ∙ ap (λ k. max (low old mins i) (min (at old i) k)) (ceiling_right level first last (length old) i l (right refl) order inside))
-    (λ (past : length old ≤ i).
+      (λ (past : length old ≤ i).
       let e = get_or_past old i 0 past in
       let f = each i in
       subst (λ x. at new i ≡ max (min x (at mins i)) (min x (ceiling true (top - level - 1) first i))) (sym e) (past_cut (at mins i) (ceiling true (top - level - 1) first i) (at new i) (omega arith)))
-    (cases_lt i (length old));
+      (cases_lt i (length old));
 }
 max_shrunk false old mins by new level first last v m l t order right left each =
     let e : first ≡ 0 = left refl in
@@ -57,9 +56,9 @@ max_shrunk false old mins by new level first last v m l t order right left each 
       level = top - level - 1;
       place = last + 1;
       cut = λ i.
-        cut_here (at mins i) (at old i) (level + one_if (is_met first last i)) (at new i) (v i) (m i) (let o = one_if-le (is_met first last i) in omega arith) (each i)
-        ∙ ap (λ k. max (low old mins i) (min (at old i) (top - (level + one_if (is_met k last i))))) e
-        ∙ ap (λ k. max (low old mins i) (min (at old i) k)) (ceiling_left level last i l);
+          cut_here (at mins i) (at old i) (level + one_if (is_met first last i)) (at new i) (v i) (m i) (let o = one_if-le (is_met first last i) in omega arith) (each i)
+          ∙ ap (λ k. max (low old mins i) (min (at old i) (top - (level + one_if (is_met k last i))))) e
+          ∙ ap (λ k. max (low old mins i) (min (at old i) k)) (ceiling_left level last i l);
     }
 
 -- ---- in turn
@@ -87,5 +86,5 @@ round_shrunk kept old mins by new level first last some t e o each = record {
   moves = λ _. refl;
   reached = λ _. last_share (at old last) (at mins last) level (at new last) (is_met first last last) (met_last first last) o (each last);
   losses = λ i _ _. subst (λ k. at new i + min (spare old mins i) (if is_met k last i then level + 1 else level) ≡ at old i) e
-    (round_share (at old i) (at mins i) level (at new i) (is_met first last i) (each i));
+      (round_share (at old i) (at mins i) level (at new i) (is_met first last i) (each i));
 }

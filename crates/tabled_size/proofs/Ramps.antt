@@ -1,9 +1,9 @@
 -- What columns take as a level rises: linear between the levels at which columns start and end.
-use Rattle.std.proofs.Common.{◌≡◌, ℕ, ◌+◌, ◌-◌, ◌*◌, ◌<◌, ◌≤◌, Bool, true, false, cond, if◌then◌else◌, ◌&&◌, List, length, min, refl, sym, ap, ◌∙◌, subst, arith, ⊎_elim, zero, suc, nat_lt, nat_le}
+use Rattle.std.proofs.Common.{◌≡◌, ℕ, ◌+◌, ◌-◌, ◌*◌, ◌<◌, ◌≤◌, ◌&&◌, min, sym, ap, ◌∙◌, arith, ⊎_elim, zero, suc, nat_lt, nat_le}
 use Rattle.std.proofs.Math.Nat.{suc-mul}
 use Rattle.std.proofs.lemmas.Bool.Decides.{nat_tests}
 use Rattle.std.proofs.lemmas.Bool.{cases_lt}
-use Rattle.tabled_size.specs.Totals.{sum_below, one_if}
+use Rattle.tabled_size.specs.Totals.{one_if}
 use Rattle.tabled_size.specs.SumLaws.{sum_below-same, sum_below-le, sum_below-plus, sum_below-zero}
 use Rattle.tabled_size.specs.Filling.{amount, filled, is_open, open_count, IsBase, IsReached}
 
@@ -32,8 +32,8 @@ same_open a b x y h p q = grind (arith, nat_tests)
 open_count-same : (from to : ℕ → ℕ) (n wanted base level : ℕ) → IsBase from to n wanted base → base ≤ level → filled from to n level < wanted → open_count from to n level ≡ open_count from to n base
 open_count-same from to n wanted base level b h less =
     sum_below-same (λ i. one_if (is_open from to level i)) (λ i. one_if (is_open from to base i)) n (λ i inside. ap one_if (same_open (from i) (to i) base level h
-      (λ lt. ⊎_elim (λ above. above) (λ le. let s = b.starts i inside lt in let m = filled-le from to n (from i) level le in absurd (omega arith)) (cases_lt level (from i)))
-      (λ lt. ⊎_elim (λ above. above) (λ le. let s = b.ends i inside lt in let m = filled-le from to n (to i) level le in absurd (omega arith)) (cases_lt level (to i)))))
+    (λ lt. ⊎_elim (λ above. above) (λ le. let s = b.starts i inside lt in let m = filled-le from to n (from i) level le in absurd (omega arith)) (cases_lt level (from i)))
+    (λ lt. ⊎_elim (λ above. above) (λ le. let s = b.ends i inside lt in let m = filled-le from to n (to i) level le in absurd (omega arith)) (cases_lt level (to i)))))
 
 pub record IsLinear (from to : ℕ → ℕ) (n base j : ℕ) : Type 0 where
   pub open' : open_count from to n (base + j) ≡ open_count from to n base
@@ -52,7 +52,7 @@ linear from to n wanted base b (suc j) less =
     let r = linear from to n wanted base b j (omega arith) in
     let e : base + suc j ≡ base + j + 1 = omega arith in
     let total : filled from to n (base + suc j) ≡ filled from to n base + suc j * o =
-      ap (filled from to n) e ∙ (let m = filled-more from to n (base + j) in let a = r.open' in let t = r.total in omega arith) in
+    ap (filled from to n) e ∙ (let m = filled-more from to n (base + j) in let a = r.open' in let t = r.total in omega arith) in
     record {
       open' = open_count-same from to n wanted base (base + suc j) b (omega arith) (omega arith);
       total = total;
@@ -63,12 +63,12 @@ pub open_some : (from to : ℕ → ℕ) (n wanted base top : ℕ) → IsBase fro
 open_some from to n wanted base top b enough = ⊎_elim
     (λ pos. pos)
     (λ none.
-      let below = b.below in
-      let z : open_count from to n base ≡ 0 = omega arith in
-      let m : top * open_count from to n base ≡ 0 = ap (λ k. top * k) z ∙ (let q : top * 0 ≡ 0 = omega arith in q) in
-      let r = (linear from to n wanted base b top (omega arith)).total in
-      let le = filled-le from to n top (base + top) (omega arith) in
-      absurd (omega arith))
+    let below = b.below in
+    let z : open_count from to n base ≡ 0 = omega arith in
+    let m : top * open_count from to n base ≡ 0 = ap (λ k. top * k) z ∙ (let q : top * 0 ≡ 0 = omega arith in q) in
+    let r = (linear from to n wanted base b top (omega arith)).total in
+    let le = filled-le from to n top (base + top) (omega arith) in
+    absurd (omega arith))
     (cases_lt 0 (open_count from to n base))
 
 -- a level at which some column is open lies below the level at which all have ended

@@ -1,13 +1,10 @@
 -- What columns take or gain by their shares.
-use Rattle.std.proofs.Common.{◌≡◌, ◌≢◌, ℕ, ◌+◌, ◌-◌, ◌<◌, ◌≤◌, Bool, true, false, cond, if◌then◌else◌, ◌&&◌, ◌==◌, List, [], length, sum, min, max, refl, sym, ap, ◌∙◌, subst, arith, ⊎_elim, zero, suc, nat_lt, nat_le}
-use Rattle.std.proofs.lemmas.Bool.Decides.{nat_tests}
-use Rattle.std.proofs.lemmas.Bool.{cases_lt}
-use Rattle.std.proofs.lemmas.List.{get_or_past}
+use Rattle.std.proofs.Common.{◌≡◌, ℕ, ◌+◌, ◌-◌, ◌≤◌, Bool, true, false, cond, ◌&&◌, ◌==◌, List, length, min, refl, ap, ◌∙◌, arith}
 use Rattle.tabled_size.specs.declared.filling.Filling.{Filling}
 use Rattle.tabled_size.specs.declared.filling.Filling.TheVariants.{Depths, Rounds, Heights, Gains}
-use Rattle.tabled_size.specs.Permitted.{at, low, spare, spare_total, taken, IsPermitted, IsTakenFrom}
+use Rattle.tabled_size.specs.Permitted.{at, spare, spare_total, taken, IsTakenFrom}
 use Rattle.tabled_size.specs.Totals.{sum_below, one_if}
-use Rattle.tabled_size.specs.SumLaws.{sum_below-same, sum_below-plus, sum_below-term, sum-below}
+use Rattle.tabled_size.specs.SumLaws.{sum_below-same, sum_below-plus, sum-below}
 use Rattle.tabled_size.specs.Shrunk.{is_met}
 use Rattle.tabled_size.specs.Filling.{amount, filled, first_level, last_level, is_open, share, IsReached, IsSpan}
 use Rattle.tabled_size.proofs.Ramps.{amount-more}
@@ -72,12 +69,12 @@ taken_by_shares from to old mins by new level rest first last r s fits len each 
     most = λ i. let e = each i in omega arith;
   };
   total =
-    let a = shares from to (length old) (taken old mins by) level rest first last r s in
-    let b = sum_below-plus (at new) (share from to level first last) (length old) in
-    let c = sum_below-same (λ i. at new i + share from to level first last i) (at old) (length old) (λ i _. each i) in
-    let d = sum-below old in
-    let e = sum-below new ∙ ap (sum_below (at new)) len in
-    omega arith;
+      let a = shares from to (length old) (taken old mins by) level rest first last r s in
+      let b = sum_below-plus (at new) (share from to level first last) (length old) in
+      let c = sum_below-same (λ i. at new i + share from to level first last i) (at old) (length old) (λ i _. each i) in
+      let d = sum-below old in
+      let e = sum-below new ∙ ap (sum_below (at new)) len in
+      omega arith;
 }
 
 -- up to the greatest level columns give all they can

@@ -1,5 +1,5 @@
 -- How many open columns stand from a place round the list to another.
-use Rattle.std.proofs.Common.{◌≡◌, ℕ, ◌+◌, ◌-◌, ◌<◌, ◌≤◌, ◌⊎◌, Bool, true, false, cond, if◌then◌else◌, ◌&&◌, ◌||◌, refl, sym, ap, ◌∙◌, subst, arith, ⊎_elim, zero, suc, nat_lt, nat_le}
+use Rattle.std.proofs.Common.{◌≡◌, ℕ, ◌+◌, ◌-◌, ◌<◌, ◌≤◌, ◌⊎◌, Bool, true, false, ◌&&◌, refl, ap, ◌∙◌, arith, ⊎_elim, zero, suc, nat_lt}
 use Rattle.std.proofs.lemmas.Bool.Decides.{nat_tests}
 use Rattle.std.proofs.lemmas.Bool.{cases_lt}
 use Rattle.tabled_size.specs.Totals.{sum_below, one_if}
@@ -20,8 +20,8 @@ count_below o k zero h = let e : 0 ≡ k = omega arith in ap (sum_below (λ i. o
 count_below o k (suc n) h = ⊎_elim
     (λ (less : k < suc n). let r = count_below o k n (omega arith) in let t = past_none (o n) n k (omega arith) in omega arith)
     (λ (all : suc n ≤ k).
-      let e : suc n ≡ k = omega arith in
-      sum_below-same (λ i. one_if (o i && nat_lt i k)) (λ i. one_if (o i)) (suc n) (λ i inside. below_all (o i) i k (omega arith)) ∙ ap (sum_below (λ i. one_if (o i))) e)
+    let e : suc n ≡ k = omega arith in
+    sum_below-same (λ i. one_if (o i && nat_lt i k)) (λ i. one_if (o i)) (suc n) (λ i inside. below_all (o i) i k (omega arith)) ∙ ap (sum_below (λ i. one_if (o i))) e)
     (cases_lt k (suc n))
 
 straight : (b : Bool) (f l i : ℕ) → f ≤ l → one_if (b && is_met f l i) + one_if (b && nat_lt i f) ≡ one_if (b && nat_lt i (suc l))
@@ -71,7 +71,7 @@ span_right from to n level rest first inside nth =
 pub span_round : (from to : ℕ → ℕ) (n level rest first last nth : ℕ) → first < n → last < n → is_open from to level last ≡ true → open_count from to last level + 1 ≡ nth
     → 0 < rest → rest ≤ open_count from to n level → open_count from to first level ≤ open_count from to n level
     → ((rest ≤ open_count from to n level - open_count from to first level) × (nth ≡ open_count from to first level + rest))
-      ⊎ ((open_count from to n level - open_count from to first level < rest) × (nth ≡ rest - (open_count from to n level - open_count from to first level)))
+    ⊎ ((open_count from to n level - open_count from to first level < rest) × (nth ≡ rest - (open_count from to n level - open_count from to first level)))
     → IsSpan from to n level rest first last
 span_round from to n level rest first last nth first_in last_in o at some enough within choice =
     let e = open-count from to level last o in
@@ -79,17 +79,17 @@ span_round from to n level rest first last nth first_in last_in o at some enough
       first_in = first_in;
       last_in = last_in;
       count = ⊎_elim
-        (λ (before : last < first).
+          (λ (before : last < first).
           let c = count_around (is_open from to level) n first last before (omega arith) in
           let p = sum_below-prefix (λ i. one_if (is_open from to level i)) (suc last) first (omega arith) in
           ⊎_elim
           (λ ahead. let a = ahead.0 in let b = ahead.1 in absurd (omega arith))
           (λ over. let a = over.0 in let b = over.1 in omega arith) choice)
-        (λ (after : first ≤ last).
+          (λ (after : first ≤ last).
           let c = count_straight (is_open from to level) n first last after last_in in
           let p = sum_below-prefix (λ i. one_if (is_open from to level i)) first last after in
           ⊎_elim
           (λ ahead. let a = ahead.0 in let b = ahead.1 in omega arith)
           (λ over. let a = over.0 in let b = over.1 in absurd (omega arith)) choice)
-        (cases_lt last first);
+          (cases_lt last first);
     }

@@ -1,6 +1,6 @@
 -- How many places are above their minimum.
-use Rattle.std.proofs.Common.{◌≡◌, ◌≢◌, ℕ, ◌+◌, ◌-◌, ◌<◌, ◌≤◌, List, length, refl, sym, ap, ◌∙◌, subst, arith, ⊎_elim, zero, suc, length-set, nat_lt, if◌then◌else◌, true, false}
-use Rattle.std.proofs.lemmas.Bool.{cases_lt, lt-ltb, le-ltb}
+use Rattle.std.proofs.Common.{◌≡◌, ℕ, ◌+◌, ◌-◌, ◌<◌, ◌≤◌, List, length, refl, ap, ◌∙◌, arith, ⊎_elim, zero, suc, length-set, nat_lt}
+use Rattle.std.proofs.lemmas.Bool.{cases_lt}
 use Rattle.std.proofs.lemmas.List.{get_or_past}
 use Rattle.std.proofs.lemmas.Bool.Decides.{nat_tests}
 use Rattle.tabled_size.specs.Permitted.{at}
@@ -36,16 +36,16 @@ spare_places-less values mins i d inside above gone =
     let here = at-less values i d inside in
     ap (λ n. sum_below (λ j. one_if (nat_lt (at mins j) (at (less values i d) j))) n + 1) (length-set values i (at values i - d))
     ∙ sum_below-less (λ j. one_if (nat_lt (at mins j) (at values j))) (λ j. one_if (nat_lt (at mins j) (at (less values i d) j))) (length values) i 1 inside
-      (let a = one_if-above (at mins i) (at values i) above in let b = one_if-not (at mins i) (at (less values i d) i) (omega arith) in omega arith)
-      (λ j ne. ap (λ x. one_if (nat_lt (at mins j) x)) (at-less_other values i d j ne))
+    (let a = one_if-above (at mins i) (at values i) above in let b = one_if-not (at mins i) (at (less values i d) i) (omega arith) in omega arith)
+    (λ j ne. ap (λ x. one_if (nat_lt (at mins j) x)) (at-less_other values i d j ne))
 
 -- where there is none, no value is above its minimum
 pub spare_places-none : (values mins : List ℕ) → spare_places values mins ≡ 0 → (i : ℕ) → at values i ≤ at mins i
 spare_places-none values mins z i = ⊎_elim
     (λ inside. ⊎_elim
-      (λ above.
-        let a = sum_below-term (λ j. one_if (nat_lt (at mins j) (at values j))) (length values) i inside in
-        let b = one_if-above (at mins i) (at values i) above in absurd (omega arith))
-      (λ le. le) (cases_lt (at mins i) (at values i)))
+    (λ above.
+    let a = sum_below-term (λ j. one_if (nat_lt (at mins j) (at values j))) (length values) i inside in
+    let b = one_if-above (at mins i) (at values i) above in absurd (omega arith))
+    (λ le. le) (cases_lt (at mins i) (at values i)))
     (λ past. let e = get_or_past values i 0 past in omega arith)
     (cases_lt i (length values))

@@ -1,10 +1,9 @@
 -- Shrinking while some is left to take: what R says of the list for the rest, it said of the old list.
-use Rattle.std.proofs.Common.{◌≡◌, ◌≢◌, ℕ, ◌+◌, ◌-◌, ◌<◌, ◌≤◌, List, length, sum, min, refl, sym, ap, ◌∙◌, subst, arith, ⊎_elim, zero, suc, length-set}
+use Rattle.std.proofs.Common.{◌≡◌, ◌≢◌, ℕ, ◌+◌, ◌-◌, ◌<◌, ◌≤◌, List, length, sum, refl, sym, ap, ◌∙◌, subst, arith, ⊎_elim, length-set}
 use Rattle.std.proofs.lemmas.List.{get_or-set_same, get_or-set_other}
 use Rattle.std.proofs.lemmas.List.Sums.{sum_by-set}
 use Rattle.std.proofs.lemmas.Bool.{cases_lt, cases_eq}
 use Rattle.tabled_size.specs.Permitted.{at, low, spare, IsPermitted}
-use Rattle.tabled_size.specs.PermittedLaws.{in_range}
 use Rattle.tabled_size.proofs.AtOnce.{less, less-none}
 
 pub record Underway (R : List ℕ → ℕ → List ℕ → Type 0) (old mins : List ℕ) (by : ℕ) (values : List ℕ) (left : ℕ) : Type 0 where
@@ -42,12 +41,12 @@ Underway-take R old mins by values left i d u h fits some one =
     let bound = u.some in
     record {
       onward = λ new r. u.onward new (⊎_elim
-        (λ pos. subst (λ k. R values k new) (let e : left - d + d ≡ left = omega arith in e) (one new pos r))
-        (λ none.
+          (λ pos. subst (λ k. R values k new) (let e : left - d + d ≡ left = omega arith in e) (one new pos r))
+          (λ none.
           let z : d ≡ 0 = omega arith in
           let e : less values i d ≡ values = ap (less values i) z ∙ less-none values i in
           subst (λ k. R values k new) (let e : left - d ≡ left = omega arith in e) (subst (λ ys. R ys (left - d) new) e r))
-        (cases_lt 0 d));
+          (cases_lt 0 d));
       permitted = record {
         same_length = length-set values i (at values i - d) ∙ u.permitted.same_length;
         least = λ j. ⊎_elim (λ q. subst (λ k. low old mins k ≤ at (less values i d) k) (sym q) (omega arith)) (λ ne. let a = there j ne in let b = u.permitted.least j in omega arith) (cases_eq j i);

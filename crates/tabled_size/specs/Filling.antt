@@ -1,10 +1,10 @@
 -- How sizes change as a level rises. Each column takes nothing up to a level of its own, then one a
 -- level, up to another level of its own, and then no more.
-use Rattle.std.specs.Prelude.{◌≡◌, ℕ, ◌+◌, ◌-◌, ◌<◌, ◌≤◌, Bool, true, false, List, length, min, nat_lt, nat_le, if◌then◌else◌, ◌&&◌, ◌==◌}
+use Rattle.std.specs.Prelude.{◌≡◌, ℕ, ◌+◌, ◌-◌, ◌<◌, ◌≤◌, Bool, List, min, nat_lt, nat_le, if◌then◌else◌, ◌&&◌, ◌==◌}
 use Rattle.tabled_size.specs.declared.filling.Filling.{Filling}
 use Rattle.tabled_size.specs.declared.filling.Filling.TheVariants.{Depths, Rounds, Heights, Gains}
 use Rattle.tabled_size.specs.Permitted.{at}
-use Rattle.tabled_size.specs.Shrunk.{is_met, start}
+use Rattle.tabled_size.specs.Shrunk.{is_met}
 use Rattle.tabled_size.specs.Totals.{sum_below, one_if}
 
 -- the level from which a column takes

@@ -1,15 +1,15 @@
 -- The shapes of grown lists, with one more step in front.
-use Rattle.std.proofs.Common.{◌≡◌, ◌≢◌, ℕ, ◌+◌, ◌-◌, ◌<◌, ◌≤◌, Bool, true, false, cond, not, List, [], ◌∷◌, length, sum, min, max, slice_index, slice_set, refl, sym, ap, ◌∙◌, subst, arith, ⊎_elim, zero, suc, length-set, nat_lt, nat_le, ◌==◌, if◌then◌else◌}
-use Rattle.std.proofs.lemmas.List.{get_or-set_same, get_or-set_other, get_or_past}
+use Rattle.std.proofs.Common.{◌≡◌, ◌≢◌, ℕ, ◌+◌, ◌<◌, ◌≤◌, Bool, true, false, cond, not, List, [], ◌∷◌, length, sum, max, slice_set, refl, sym, ap, ◌∙◌, subst, arith, ⊎_elim, suc, length-set, nat_lt, if◌then◌else◌}
+use Rattle.std.proofs.lemmas.List.{get_or-set_same, get_or-set_other}
 use Rattle.std.proofs.lemmas.List.Sums.{sum_by-set, sum_by-cons}
 use Rattle.std.proofs.lemmas.Bool.{cases_lt, cases_eq, cases_Bool, ne_eqb, eq-eqb}
 use Rattle.std.proofs.lemmas.Bool.Decides.{nat_tests}
 use Rattle.tabled_size.specs.Permitted.{at}
-use Rattle.tabled_size.specs.Shrunk.{ceiling, start, place_after, is_met, comes_before}
-use Rattle.tabled_size.specs.Peak.{NoneAbove, IsLeftmost, IsRightmost, IsGreatest, IsLeast, IsNext}
+use Rattle.tabled_size.specs.Shrunk.{ceiling, start, place_after, is_met}
+use Rattle.tabled_size.specs.Peak.{IsLeftmost, IsRightmost, IsGreatest, IsLeast, IsNext}
 use Rattle.tabled_size.specs.Grown.{added, IsNoneSmaller, IsGrownFrom, IsGrownAt, IsLeftGrown, IsRightGrown, IsMaxGrown, IsMinGrown, IsRoundGrown}
 use Rattle.tabled_size.specs.PermittedLaws.{in_range}
-use Rattle.tabled_size.specs.ShrunkLaws.{lt-sum, level-le-ceiling, ceiling-side, at-le-sum, before, before-le}
+use Rattle.tabled_size.specs.ShrunkLaws.{lt-sum, level-le-ceiling, at-le-sum, before, before-le}
 use Rattle.tabled_size.specs.RoundLaws.{met_itself, start-le, start-place_after, met_all, unmet_last, met_first, met_same}
 
 -- the list with one added at a place
@@ -97,9 +97,9 @@ IsGrownAt-step P xs i by new h p one s =
       place = i;
       named = λ _. p;
       others = λ j ne. ⊎_elim
-        (λ some. s.others j (λ e. ne (e ∙ one s.place (s.named some))) ∙ l.there j ne)
-        (λ none. same_grown (raised xs i) by new s.grows (omega arith) j ∙ l.there j ne)
-        (cases_lt 0 (added (raised xs i) by));
+          (λ some. s.others j (λ e. ne (e ∙ one s.place (s.named some))) ∙ l.there j ne)
+          (λ none. same_grown (raised xs i) by new s.grows (omega arith) j ∙ l.there j ne)
+          (cases_lt 0 (added (raised xs i) by));
     }
 
 pub IsLeftGrown-step : (xs : List ℕ) (i by : ℕ) (new : List ℕ) → IsLeftmost xs [] i → IsLeftGrown (raised xs i) by new → IsLeftGrown xs (by + 1) new
@@ -108,9 +108,9 @@ IsLeftGrown-step xs i by new g s =
     let l = IsRaised-raised xs i 0 h in
     let here = l.here in
     IsGrownAt-step (λ v. IsLeftmost v []) xs i by new h g (λ j q. ⊎_elim
-      (λ e. e) (λ ne. let e = l.there j ne in ⊎_elim
-        (λ less. let a = g.first j less in let b : 0 < at (raised xs i) j = q.above in absurd (omega arith))
-        (λ ge. let a = q.first i (omega arith) in absurd (omega arith)) (cases_lt j i)) (cases_eq j i)) s
+    (λ e. e) (λ ne. let e = l.there j ne in ⊎_elim
+    (λ less. let a = g.first j less in let b : 0 < at (raised xs i) j = q.above in absurd (omega arith))
+    (λ ge. let a = q.first i (omega arith) in absurd (omega arith)) (cases_lt j i)) (cases_eq j i)) s
 
 pub IsRightGrown-step : (xs : List ℕ) (i by : ℕ) (new : List ℕ) → IsRightmost xs [] i → IsRightGrown (raised xs i) by new → IsRightGrown xs (by + 1) new
 IsRightGrown-step xs i by new g s =
@@ -118,9 +118,9 @@ IsRightGrown-step xs i by new g s =
     let l = IsRaised-raised xs i 0 h in
     let here = l.here in
     IsGrownAt-step (λ v. IsRightmost v []) xs i by new h g (λ j q. ⊎_elim
-      (λ e. e) (λ ne. let e = l.there j ne in ⊎_elim
-        (λ more. let a = g.last j more in let b : 0 < at (raised xs i) j = q.above in absurd (omega arith))
-        (λ le. let a = q.last i (omega arith) in absurd (omega arith)) (cases_lt i j)) (cases_eq j i)) s
+    (λ e. e) (λ ne. let e = l.there j ne in ⊎_elim
+    (λ more. let a = g.last j more in let b : 0 < at (raised xs i) j = q.above in absurd (omega arith))
+    (λ le. let a = q.last i (omega arith) in absurd (omega arith)) (cases_lt i j)) (cases_eq j i)) s
 
 pub IsMaxGrown-step : (right : Bool) (xs : List ℕ) (i by : ℕ) (new : List ℕ) → IsGreatest right xs [] i → IsMaxGrown right (raised xs i) by new → IsMaxGrown right xs (by + 1) new
 IsMaxGrown-step right xs i by new g s =
@@ -128,7 +128,7 @@ IsMaxGrown-step right xs i by new g s =
     let l = IsRaised-raised xs i 0 h in
     let here = l.here in
     IsGrownAt-step (λ v. IsGreatest right v []) xs i by new h g (λ j q. ⊎_elim
-      (λ e. e) (λ ne. let e = l.there j ne in let b : 0 < at (raised xs i) j = q.above in let a = g.most j (omega arith) in let c = q.most i (omega arith) in absurd (omega arith)) (cases_eq j i)) s
+    (λ e. e) (λ ne. let e = l.there j ne in let b : 0 < at (raised xs i) j = q.above in let a = g.most j (omega arith) in let c = q.most i (omega arith) in absurd (omega arith)) (cases_eq j i)) s
 
 -- ---- Min
 pub IsMinGrown-nothing : (right : Bool) (xs : List ℕ) → IsMinGrown right xs 0 xs
@@ -168,7 +168,7 @@ IsMinGrown-step right xs i by new g s =
     let t = IsGrownFrom-step xs i by new h s.grows in
     let own : at new i ≡ max (at (raised xs i) i) (ceiling (not right) s.level s.place i) = s.raised i (omega arith) in
     let other : (j : ℕ) → j ≢ i → 0 < at xs j → at new j ≡ max (at xs j) (ceiling (not right) s.level s.place j) =
-      λ j ne pos. let e = l.there j ne in s.raised j (omega arith) ∙ ap (λ k. max k (ceiling (not right) s.level s.place j)) e in
+    λ j ne pos. let e = l.there j ne in s.raised j (omega arith) ∙ ap (λ k. max k (ceiling (not right) s.level s.place j)) e in
     ⊎_elim
     (λ above. record {
       grows = t;
@@ -177,33 +177,37 @@ IsMinGrown-step right xs i by new g s =
       raised = λ j pos. ⊎_elim (λ e. subst (λ k. at new k ≡ max (at xs k) (ceiling (not right) s.level s.place k)) (sym e) (omega arith)) (λ ne. other j ne pos) (cases_eq j i);
     })
     (λ low.
-      let p = cond right i (i + 1) in
-      record {
-        grows = t;
-        level = height;
-        place = p;
-        raised = λ j pos.
+    let p = cond right i (i + 1) in
+    record {
+      grows = t;
+      level = height;
+      place = p;
+      raised = λ j pos.
           let now = floor-here right height i j in
           ⊎_elim
           (λ e. subst (λ k. at new k ≡ max (at xs k) (ceiling (not right) height p k)) (sym e) (let c = now.0 in omega arith))
           (λ ne.
-            let order = g.first j ne pos in
-            let le = before-le right height (at xs j) i j order in
-            let kept = floor-other right s.level s.place i j (at xs j) height low le (λ e. least-side right height (at xs j) i j order e) in
-            let a = other j ne pos in
-            let b : ceiling (not right) height p j ≤ at xs j = ⊎_elim
-              (λ same. let c = now.2 ne (least-side right height (at xs j) i j order same) in omega arith)
-              (λ more. let c = now.1 in omega arith) (cases_eq height (at xs j)) in
-            omega arith)
+          let order = g.first j ne pos in
+          let le = before-le right height (at xs j) i j order in
+          let kept = floor-other right s.level s.place i j (at xs j) height low le (λ e. least-side right height (at xs j) i j order e) in
+          let a = other j ne pos in
+          let b : ceiling (not right) height p j ≤ at xs j = ⊎_elim
+          (λ same. let c = now.2 ne (least-side right height (at xs j) i j order same) in omega arith)
+          (λ more. let c = now.1 in omega arith) (cases_eq height (at xs j)) in
+          omega arith)
           (cases_eq j i);
-      })
+    })
     (cases_lt height (ceiling (not right) s.level s.place i))
 
 -- ---- round the list
 pub IsRoundGrown-nothing : (kept : ℕ) (xs : List ℕ) → IsRoundGrown kept xs 0 xs kept
 IsRoundGrown-nothing kept xs = record {
-  grows = IsGrownFrom-nothing xs; rounds = 0; last = 0; stays = λ _. refl;
-  moves = λ h. let e = (IsGrownFrom-nothing xs).total in absurd (omega arith); gains = λ i l h. let e = (IsGrownFrom-nothing xs).total in absurd (omega arith);
+  grows = IsGrownFrom-nothing xs;
+  rounds = 0;
+  last = 0;
+  stays = λ _. refl;
+  moves = λ h. let e = (IsGrownFrom-nothing xs).total in absurd (omega arith);
+  gains = λ i l h. let e = (IsGrownFrom-nothing xs).total in absurd (omega arith);
 }
 
 pub IsRoundGrown-none : (kept : ℕ) (xs : List ℕ) (by : ℕ) → ((i : ℕ) → at xs i ≤ 0) → IsRoundGrown kept xs by xs kept
@@ -228,64 +232,64 @@ IsRoundGrown-step kept xs i by new kept' g s =
     let some_then = added-some (raised xs i) by i (omega arith) in
     -- a place that is met before i is zero
     let unmet : (j : ℕ) → j < n → j ≢ i → 0 < at xs j → is_met s₀ i j ≡ false =
-      λ j in' ne pos. ⊎_elim (λ met. let z = g.passed j in' ne met in absurd (omega arith)) (λ no. no) (cases_Bool (is_met s₀ i j)) in
+    λ j in' ne pos. ⊎_elim (λ met. let z = g.passed j in' ne met in absurd (omega arith)) (λ no. no) (cases_Bool (is_met s₀ i j)) in
     ⊎_elim
     (λ some.
-      let p = s.last in
-      let moved = s.moves some in
-      let moves : kept' ≡ place_after n p = moved.1 ∙ ap (λ k. place_after k p) len in
-      let gain : (j : ℕ) → j < n → 0 < at (raised xs i) j → at new j ≡ at (raised xs i) j + cond (is_met s₁ p j) (s.rounds + 1) s.rounds =
-        λ j in' pos. subst (λ k. at new j ≡ at (raised xs i) j + cond (is_met k p j) (s.rounds + 1) s.rounds) started (s.gains j (omega arith) some pos) in
-      ⊎_elim
-      (λ own. record {
-        grows = t;
-        rounds = s.rounds + 1;
-        last = i;
-        stays = λ z. absurd (omega arith);
-        moves = λ _. (h, moves ∙ ap (place_after n) own);
-        gains = λ j in' _ pos. ⊎_elim
+    let p = s.last in
+    let moved = s.moves some in
+    let moves : kept' ≡ place_after n p = moved.1 ∙ ap (λ k. place_after k p) len in
+    let gain : (j : ℕ) → j < n → 0 < at (raised xs i) j → at new j ≡ at (raised xs i) j + cond (is_met s₁ p j) (s.rounds + 1) s.rounds =
+    λ j in' pos. subst (λ k. at new j ≡ at (raised xs i) j + cond (is_met k p j) (s.rounds + 1) s.rounds) started (s.gains j (omega arith) some pos) in
+    ⊎_elim
+    (λ own. record {
+      grows = t;
+      rounds = s.rounds + 1;
+      last = i;
+      stays = λ z. absurd (omega arith);
+      moves = λ _. (h, moves ∙ ap (place_after n) own);
+      gains = λ j in' _ pos. ⊎_elim
           (λ is. subst (λ k. at new k ≡ at xs k + cond (is_met s₀ i k) (s.rounds + 1 + 1) (s.rounds + 1)) (sym is)
-            (subst (λ b. at new i ≡ at xs i + cond b (s.rounds + 1 + 1) (s.rounds + 1)) (sym (met_itself s₀ i))
-              (let a = subst (λ b. at new i ≡ at (raised xs i) i + cond b (s.rounds + 1) s.rounds) (ap (λ k. is_met s₁ k i) own ∙ met_all n i i inside inside) (gain i inside (omega arith)) in omega arith)))
+          (subst (λ b. at new i ≡ at xs i + cond b (s.rounds + 1 + 1) (s.rounds + 1)) (sym (met_itself s₀ i))
+          (let a = subst (λ b. at new i ≡ at (raised xs i) i + cond b (s.rounds + 1) s.rounds) (ap (λ k. is_met s₁ k i) own ∙ met_all n i i inside inside) (gain i inside (omega arith)) in omega arith)))
           (λ ne. subst (λ b. at new j ≡ at xs j + cond b (s.rounds + 1 + 1) (s.rounds + 1)) (sym (unmet j in' ne pos))
-            (let e = l.there j ne in
-            let a = subst (λ b. at new j ≡ at (raised xs i) j + cond b (s.rounds + 1) s.rounds) (ap (λ k. is_met s₁ k j) own ∙ met_all n i j inside in') (gain j in' (omega arith)) in omega arith))
+          (let e = l.there j ne in
+          let a = subst (λ b. at new j ≡ at (raised xs i) j + cond b (s.rounds + 1) s.rounds) (ap (λ k. is_met s₁ k j) own ∙ met_all n i j inside in') (gain j in' (omega arith)) in omega arith))
           (cases_eq j i);
-      })
-      (λ other.
-        let e_p = l.there p other in
-        let p_pos : 0 < at xs p = let a = moved.0 in omega arith in
-        let p_in : p < n = in_range xs p 0 p_pos in
-        let p_unmet = unmet p p_in other p_pos in
-        record {
-          grows = t;
-          rounds = s.rounds;
-          last = p;
-          stays = λ z. absurd (omega arith);
-          moves = λ _. (p_pos, moves);
-          gains = λ j in' _ pos. ⊎_elim
-            (λ is. subst (λ k. at new k ≡ at xs k + cond (is_met s₀ p k) (s.rounds + 1) s.rounds) (sym is)
-              (subst (λ b. at new i ≡ at xs i + cond b (s.rounds + 1) s.rounds) (sym (met_first n s₀ i p s₀_in inside p_in p_unmet))
-                (let a = subst (λ b. at new i ≡ at (raised xs i) i + cond b (s.rounds + 1) s.rounds) (unmet_last n i p inside p_in other) (gain i inside (omega arith)) in omega arith)))
-            (λ ne.
-              let e = l.there j ne in
-              subst (λ b. at new j ≡ at xs j + cond b (s.rounds + 1) s.rounds) (met_same n s₀ i p j s₀_in inside p_in in' p_unmet (unmet j in' ne pos))
-              (gain j in' (omega arith) ∙ ap (λ x. x + cond (is_met s₁ p j) (s.rounds + 1) s.rounds) e))
-            (cases_eq j i);
-        })
-      (cases_eq s.last i))
+    })
+    (λ other.
+    let e_p = l.there p other in
+    let p_pos : 0 < at xs p = let a = moved.0 in omega arith in
+    let p_in : p < n = in_range xs p 0 p_pos in
+    let p_unmet = unmet p p_in other p_pos in
+    record {
+      grows = t;
+      rounds = s.rounds;
+      last = p;
+      stays = λ z. absurd (omega arith);
+      moves = λ _. (p_pos, moves);
+      gains = λ j in' _ pos. ⊎_elim
+          (λ is. subst (λ k. at new k ≡ at xs k + cond (is_met s₀ p k) (s.rounds + 1) s.rounds) (sym is)
+          (subst (λ b. at new i ≡ at xs i + cond b (s.rounds + 1) s.rounds) (sym (met_first n s₀ i p s₀_in inside p_in p_unmet))
+          (let a = subst (λ b. at new i ≡ at (raised xs i) i + cond b (s.rounds + 1) s.rounds) (unmet_last n i p inside p_in other) (gain i inside (omega arith)) in omega arith)))
+          (λ ne.
+          let e = l.there j ne in
+          subst (λ b. at new j ≡ at xs j + cond b (s.rounds + 1) s.rounds) (met_same n s₀ i p j s₀_in inside p_in in' p_unmet (unmet j in' ne pos))
+          (gain j in' (omega arith) ∙ ap (λ x. x + cond (is_met s₁ p j) (s.rounds + 1) s.rounds) e))
+          (cases_eq j i);
+    })
+    (cases_eq s.last i))
     (λ nothing.
-      let same = same_grown (raised xs i) by new s.grows (omega arith) in
-      record {
-        grows = t;
-        rounds = 0;
-        last = i;
-        stays = λ z. absurd (omega arith);
-        moves = λ _. (h, s.stays (omega arith));
-        gains = λ j in' _ pos. ⊎_elim
+    let same = same_grown (raised xs i) by new s.grows (omega arith) in
+    record {
+      grows = t;
+      rounds = 0;
+      last = i;
+      stays = λ z. absurd (omega arith);
+      moves = λ _. (h, s.stays (omega arith));
+      gains = λ j in' _ pos. ⊎_elim
           (λ is. subst (λ k. at new k ≡ at xs k + cond (is_met s₀ i k) 1 0) (sym is)
-            (subst (λ b. at new i ≡ at xs i + cond b 1 0) (sym (met_itself s₀ i)) (let a = same i in omega arith)))
+          (subst (λ b. at new i ≡ at xs i + cond b 1 0) (sym (met_itself s₀ i)) (let a = same i in omega arith)))
           (λ ne. subst (λ b. at new j ≡ at xs j + cond b 1 0) (sym (unmet j in' ne pos)) (let a = same j in let e = l.there j ne in omega arith))
           (cases_eq j i);
-      })
+    })
     (cases_lt 0 (added (raised xs i) by))

@@ -1,5 +1,5 @@
 -- Lists that no other list of their sum betters.
-use Rattle.std.specs.Prelude.{◌≡◌, ℕ, ◌+◌, ◌<◌, ◌≤◌, List, length, sum}
+use Rattle.std.specs.Prelude.{◌≡◌, ℕ, ◌+◌, ◌<◌, ◌≤◌, List, sum}
 use Rattle.tabled_text.specs.Measure.{greatest}
 use Rattle.tabled_size.specs.Permitted.{at, IsPermitted}
 use Rattle.tabled_size.specs.Grown.{IsNoneSmaller}

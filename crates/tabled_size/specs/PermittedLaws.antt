@@ -1,13 +1,11 @@
 -- One step of shrinking: a place above its minimum loses one.
-use Rattle.std.proofs.Common.{◌≡◌, ℕ, ◌+◌, ◌-◌, ◌<◌, ◌≤◌, ◌⊎◌, Bool, true, false, cond, List, [], ◌∷◌, length, sum, sum_by, min, max, slice_index, slice_set, get_or, set, refl, sym, ap, ◌∙◌, subst, arith, ⊎_elim, inl, inr, zero, suc, ◌≢◌, length-set, nat_lt, nat_le}
+use Rattle.std.proofs.Common.{◌≡◌, ℕ, ◌+◌, ◌-◌, ◌<◌, ◌≤◌, List, length, sum, min, slice_set, refl, sym, ap, ◌∙◌, subst, arith, ⊎_elim, ◌≢◌, length-set}
 use Rattle.std.proofs.lemmas.List.{get_or-set_same, get_or-set_other, get_or_past}
-use Rattle.std.proofs.lemmas.List.Sums.{sum_by-set, sum_by-cons}
+use Rattle.std.proofs.lemmas.List.Sums.{sum_by-set}
 use Rattle.std.proofs.lemmas.Bool.{cases_lt, cases_eq}
-use Rattle.std.proofs.lemmas.Bool.Decides.{nat_tests}
 use Rattle.tabled_size.specs.SumLaws.{sum_below-less, sum_below-zero}
 use Rattle.tabled_size.specs.Totals.{sum_below}
-use Rattle.tabled_size.specs.Permitted.{at, low, spare, spare_total, taken, IsPermitted, IsTakenFrom}
-use Rattle.tabled_size.specs.Shrunk.{IsLeftShrunk, IsRightShrunk, ceiling, IsMaxShrunk}
+use Rattle.tabled_size.specs.Permitted.{at, low, spare, spare_total, IsPermitted, IsTakenFrom}
 
 -- the list with one taken from a place
 abbrev pub lowered : List ℕ → ℕ → List ℕ

@@ -1,13 +1,13 @@
 -- The shapes of shrunk lists, with one more step in front.
-use Rattle.std.proofs.Common.{◌≡◌, ℕ, ◌+◌, ◌-◌, ◌<◌, ◌≤◌, ◌⊎◌, Bool, true, false, cond, List, [], ◌∷◌, length, sum, sum_by, min, max, refl, sym, ap, ◌∙◌, subst, arith, ⊎_elim, inl, inr, zero, suc, ◌≢◌, nat_lt, nat_le, ◌==◌, ◌||◌, ◌&&◌, if◌then◌else◌}
+use Rattle.std.proofs.Common.{◌≡◌, ℕ, ◌+◌, ◌-◌, ◌<◌, ◌≤◌, Bool, true, false, cond, List, [], ◌∷◌, length, sum, min, max, refl, sym, ap, ◌∙◌, subst, arith, ⊎_elim, zero, suc, ◌≢◌, nat_lt, nat_le, ◌==◌, ◌||◌, ◌&&◌, if◌then◌else◌}
 use Rattle.std.proofs.lemmas.List.Sums.{get_or-le-sum_by, sum_by-cons}
-use Rattle.std.proofs.lemmas.List.{get_or_past, length-set}
-use Rattle.std.proofs.lemmas.Bool.{cases_lt, cases_eq, le-ltb, lt-ltb, cases_Bool, cond-true, cond-false}
+use Rattle.std.proofs.lemmas.List.{get_or_past}
+use Rattle.std.proofs.lemmas.Bool.{cases_lt, cases_eq, lt-ltb}
 use Rattle.std.proofs.lemmas.Bool.Decides.{nat_tests}
-use Rattle.tabled_size.specs.Permitted.{at, low, spare, spare_total, taken, IsPermitted, IsTakenFrom}
-use Rattle.tabled_size.specs.Shrunk.{IsLeftShrunk, IsRightShrunk, ceiling, IsMaxShrunk, comes_before, IsMinShrunk, start, place_after, is_met, IsRoundShrunk}
-use Rattle.tabled_size.specs.Peak.{NoneAbove, IsLeftmost, IsRightmost, IsGreatest, IsLeast}
-use Rattle.tabled_size.specs.PermittedLaws.{lowered, IsLowered, IsLowered-lowered, low-lowered, le-lowered, in_range, spare_total-lowered, IsTakenFrom-none, IsTakenFrom-done, IsTakenFrom-step}
+use Rattle.tabled_size.specs.Permitted.{at, low, taken, IsTakenFrom}
+use Rattle.tabled_size.specs.Shrunk.{IsLeftShrunk, IsRightShrunk, ceiling, IsMaxShrunk, comes_before, IsMinShrunk}
+use Rattle.tabled_size.specs.Peak.{IsLeftmost, IsRightmost, IsGreatest, IsLeast}
+use Rattle.tabled_size.specs.PermittedLaws.{lowered, IsLowered-lowered, low-lowered, spare_total-lowered, IsTakenFrom-none, IsTakenFrom-done, IsTakenFrom-step}
 
 -- ---- Left
 pub IsLeftShrunk-none : (xs mins : List ℕ) → IsLeftShrunk xs mins 0 xs
@@ -27,9 +27,9 @@ IsLeftShrunk-step xs mins i by new g s =
       takes = t;
       place = max s.place i;
       before = λ j lt. ⊎_elim
-        (λ in'. s.before j in' ∙ lo j)
-        (λ past. let least = t.permitted.least j in let most = t.permitted.most j in let none = first j (omega arith) in omega arith)
-        (cases_lt j s.place);
+          (λ in'. s.before j in' ∙ lo j)
+          (λ past. let least = t.permitted.least j in let most = t.permitted.most j in let none = first j (omega arith) in omega arith)
+          (cases_lt j s.place);
       after = λ j lt. s.after j (omega arith) ∙ l.there j (λ e. omega arith);
     }
 
@@ -52,9 +52,9 @@ IsRightShrunk-step xs mins i by new g s =
       place = min s.place i;
       before = λ j lt. s.before j (omega arith) ∙ l.there j (λ e. omega arith);
       after = λ j lt. ⊎_elim
-        (λ in'. s.after j in' ∙ lo j)
-        (λ past. let least = t.permitted.least j in let most = t.permitted.most j in let none = last j (omega arith) in omega arith)
-        (cases_lt s.place j);
+          (λ in'. s.after j in' ∙ lo j)
+          (λ past. let least = t.permitted.least j in let most = t.permitted.most j in let none = last j (omega arith) in omega arith)
+          (cases_lt s.place j);
     }
 
 -- ---- Max
@@ -130,23 +130,23 @@ IsMaxShrunk-step right xs mins i by new g s =
     })
     -- else only i has lost one
     (λ high.
-      let height = at xs i in
-      let p = cond right i (i + 1) in
-      record {
-        takes = t;
-        level = height - 1;
-        place = p;
-        cut = λ j.
+    let height = at xs i in
+    let p = cond right i (i + 1) in
+    record {
+      takes = t;
+      level = height - 1;
+      place = p;
+      cut = λ j.
           let now = ceiling-here right height i j (omega arith) in
           ⊎_elim
           (λ e. subst (λ k. at new k ≡ max (low xs mins k) (min (at xs k) (ceiling right (height - 1) p k))) (sym e) (let c = now.0 in omega arith))
           (λ ne.
-            let kept : at new j ≡ at xs j = other j ne ∙ keeps xs mins j (ceiling right s.level s.place j) (λ above. ceiling-other right s.level s.place i j (at xs j) height high (g.most j above) (g.side j above)) in
-            kept ∙ sym (keeps xs mins j (ceiling right (height - 1) p j) (λ above. ⊎_elim
-              (λ same. let c = now.2 ne (g.side j above same) in omega arith)
-              (λ less. let m = g.most j above in let c = now.1 in omega arith) (cases_eq (at xs j) height))))
+          let kept : at new j ≡ at xs j = other j ne ∙ keeps xs mins j (ceiling right s.level s.place j) (λ above. ceiling-other right s.level s.place i j (at xs j) height high (g.most j above) (g.side j above)) in
+          kept ∙ sym (keeps xs mins j (ceiling right (height - 1) p j) (λ above. ⊎_elim
+          (λ same. let c = now.2 ne (g.side j above same) in omega arith)
+          (λ less. let m = g.most j above in let c = now.1 in omega arith) (cases_eq (at xs j) height))))
           (cases_eq j i);
-      })
+    })
     (cases_lt (ceiling right s.level s.place i) (at xs i))
 
 -- ---- lists with the same sum
@@ -206,55 +206,55 @@ IsMinShrunk-step right xs mins i by new g s =
     let t = IsTakenFrom-step xs mins i by new h s.takes in
     -- no place above its minimum comes before i
     let none_before = λ (j : ℕ) (above : at mins j < at xs j) (b : comes_before right xs j i ≡ true). ⊎_elim
-      (λ e. before-irrefl right (at xs i) i (subst (λ k. before right (at xs k) (at xs i) k i ≡ true) e b))
-      (λ ne. before-asym right (at xs j) (at xs i) j i b (g.first j ne above)) (cases_eq j i) in
+    (λ e. before-irrefl right (at xs i) i (subst (λ k. before right (at xs k) (at xs i) k i ≡ true) e b))
+    (λ ne. before-asym right (at xs j) (at xs i) j i b (g.first j ne above)) (cases_eq j i) in
     let not_itself = λ (j : ℕ) (b : comes_before right xs i j ≡ true) (e : j ≡ i). before-irrefl right (at xs i) i (subst (λ k. before right (at xs i) (at xs k) i k ≡ true) e b) in
     ⊎_elim
     (λ some. ⊎_elim
-      -- the place of the rest is i itself
-      (λ own. record {
-        takes = t;
-        place = i;
-        above = λ _. h;
-        before = λ j _ above b. absurd (none_before j above b);
-        after = λ j _ above b.
+    -- the place of the rest is i itself
+    (λ own. record {
+      takes = t;
+      place = i;
+      above = λ _. h;
+      before = λ j _ above b. absurd (none_before j above b);
+      after = λ j _ above b.
           let ne = not_itself j b in
           let e = l.there j ne in
           let le = before-le right (at xs i) (at xs j) i j b in
           s.after j some (omega arith) (subst (λ k. comes_before right (lowered xs i) k j ≡ true) (sym own) (before-lt right (at (lowered xs i) i) (at (lowered xs i) j) i j (omega arith))) ∙ e;
-      })
-      (λ other.
-        let p = s.place in
-        let e_p = l.there p other in
-        let above_p = s.above some in
-        let spare_p : at mins p < at xs p = omega arith in
-        let i_first = g.first p other spare_p in
-        let le_p = before-le right (at xs i) (at xs p) i p i_first in
-        record {
-          takes = t;
-          place = p;
-          above = λ _. spare_p;
-          before = λ j _ above b. ⊎_elim
-            (λ is. subst (λ k. at new k ≡ low xs mins k) (sym is) (⊎_elim
-              (λ more. s.before i some more (before-lt right (at (lowered xs i) i) (at (lowered xs i) p) i p (omega arith)) ∙ lo i)
-              (λ no. let least = t.permitted.least i in let most = s.takes.permitted.most i in omega arith)
-              (cases_lt (at mins i) (at (lowered xs i) i))))
-            (λ ne. let e = l.there j ne in s.before j some (omega arith) (subst (λ x. before right x (at (lowered xs i) p) j p ≡ true) (sym e) (subst (λ y. before right (at xs j) y j p ≡ true) (sym e_p) b)) ∙ lo j)
-            (cases_eq j i);
-          after = λ j _ above b.
-            let ne = λ (is : j ≡ i). before-asym right (at xs p) (at xs i) p i (subst (λ k. before right (at xs p) (at xs k) p k ≡ true) is b) i_first in
-            let e = l.there j ne in
-            s.after j some (omega arith) (subst (λ x. before right x (at (lowered xs i) j) p j ≡ true) (sym e_p) (subst (λ y. before right (at xs p) y p j ≡ true) (sym e) b)) ∙ e;
-        })
-      (cases_eq s.place i))
+    })
+    (λ other.
+    let p = s.place in
+    let e_p = l.there p other in
+    let above_p = s.above some in
+    let spare_p : at mins p < at xs p = omega arith in
+    let i_first = g.first p other spare_p in
+    let le_p = before-le right (at xs i) (at xs p) i p i_first in
+    record {
+      takes = t;
+      place = p;
+      above = λ _. spare_p;
+      before = λ j _ above b. ⊎_elim
+          (λ is. subst (λ k. at new k ≡ low xs mins k) (sym is) (⊎_elim
+          (λ more. s.before i some more (before-lt right (at (lowered xs i) i) (at (lowered xs i) p) i p (omega arith)) ∙ lo i)
+          (λ no. let least = t.permitted.least i in let most = s.takes.permitted.most i in omega arith)
+          (cases_lt (at mins i) (at (lowered xs i) i))))
+          (λ ne. let e = l.there j ne in s.before j some (omega arith) (subst (λ x. before right x (at (lowered xs i) p) j p ≡ true) (sym e) (subst (λ y. before right (at xs j) y j p ≡ true) (sym e_p) b)) ∙ lo j)
+          (cases_eq j i);
+      after = λ j _ above b.
+          let ne = λ (is : j ≡ i). before-asym right (at xs p) (at xs i) p i (subst (λ k. before right (at xs p) (at xs k) p k ≡ true) is b) i_first in
+          let e = l.there j ne in
+          s.after j some (omega arith) (subst (λ x. before right x (at (lowered xs i) j) p j ≡ true) (sym e_p) (subst (λ y. before right (at xs p) y p j ≡ true) (sym e) b)) ∙ e;
+    })
+    (cases_eq s.place i))
     -- nothing more is taken
     (λ nothing.
-      let same = same_where_none (lowered xs i) mins by new s.takes (omega arith) in
-      record {
-        takes = t;
-        place = i;
-        above = λ _. h;
-        before = λ j _ above b. absurd (none_before j above b);
-        after = λ j _ above b. same j ∙ l.there j (not_itself j b);
-      })
+    let same = same_where_none (lowered xs i) mins by new s.takes (omega arith) in
+    record {
+      takes = t;
+      place = i;
+      above = λ _. h;
+      before = λ j _ above b. absurd (none_before j above b);
+      after = λ j _ above b. same j ∙ l.there j (not_itself j b);
+    })
     (cases_lt 0 (taken (lowered xs i) mins by))

@@ -1,7 +1,7 @@
 -- Sums over places.
-use Rattle.std.proofs.Common.{◌≡◌, ◌≢◌, ℕ, ◌+◌, ◌<◌, ◌≤◌, List, [], ◌∷◌, length, sum, refl, sym, ap, ◌∙◌, subst, arith, ⊎_elim, zero, suc}
+use Rattle.std.proofs.Common.{◌≡◌, ◌≢◌, ℕ, ◌+◌, ◌<◌, ◌≤◌, List, [], ◌∷◌, length, sum, refl, sym, subst, arith, ⊎_elim, zero, suc}
 use Rattle.std.proofs.lemmas.List.Sums.{sum_by-cons}
-use Rattle.std.proofs.lemmas.Bool.{cases_lt, cases_eq}
+use Rattle.std.proofs.lemmas.Bool.{cases_lt}
 use Rattle.tabled_size.specs.Permitted.{at}
 use Rattle.tabled_size.specs.Totals.{sum_below}
 
@@ -43,9 +43,9 @@ sum_below-less f g zero i d l here there = absurd (omega arith)
 sum_below-less f g (suc n) i d l here there = ⊎_elim
     (λ (below : i < n). let r = sum_below-less f g n i d below here there in let e = there n (λ q. omega arith) in omega arith)
     (λ (past : n ≤ i).
-      let e : i ≡ n = omega arith in
-      let h : g n + d ≡ f n = subst (λ k. g k + d ≡ f k) e here in
-      let r = sum_below-same g f n (λ j b. there j (λ q. omega arith)) in omega arith)
+    let e : i ≡ n = omega arith in
+    let h : g n + d ≡ f n = subst (λ k. g k + d ≡ f k) e here in
+    let r = sum_below-same g f n (λ j b. there j (λ q. omega arith)) in omega arith)
     (cases_lt i n)
 
 sum_below-first : (f : ℕ → ℕ) (n : ℕ) → sum_below f (suc n) ≡ f 0 + sum_below (λ i. f (suc i)) n

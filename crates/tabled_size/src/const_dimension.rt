@@ -79,8 +79,7 @@ impl<const COLUMNS: usize, const ROWS: usize> ConstDimension<COLUMNS, ROWS> {
 }
 
 impl<const COLUMNS: usize, const ROWS: usize> From<ConstDimension<COLUMNS, ROWS>>
-    for (ConstSize<COLUMNS>, ConstSize<ROWS>)
-{
+    for (ConstSize<COLUMNS>, ConstSize<ROWS>) {
     ghost from_gives = { λ sizes pair. (pair.0 ≡ sizes.width) × (pair.1 ≡ sizes.height) };
 
     fn from(sizes: ConstDimension<COLUMNS, ROWS>) -> Self {
@@ -110,7 +109,8 @@ impl<const COLUMNS: usize, const ROWS: usize> Dimension for ConstDimension<COLUM
     }
 }
 
-impl<R, C, const COLUMNS: usize, const ROWS: usize> Estimate<R, C> for ConstDimension<COLUMNS, ROWS> {
+impl<R, C, const COLUMNS: usize, const ROWS: usize> Estimate<R, C>
+    for ConstDimension<COLUMNS, ROWS> {
     ghost estimates = { λ s records config t. t ≡ s };
 
     ghost passes = { λ s records config. ⊥ };

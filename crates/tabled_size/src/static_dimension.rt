@@ -27,11 +27,7 @@ impl DimensionValue {
             DimensionValue::Exact(size) => *size,
             DimensionValue::List(sizes) => sizes[col],
             DimensionValue::Partial(sizes, rest) => {
-                if col < sizes.len() {
-                    sizes[col]
-                } else {
-                    *rest
-                }
+                if col < sizes.len() { sizes[col] } else { *rest }
             }
         }
     }

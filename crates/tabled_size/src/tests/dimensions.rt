@@ -1,8 +1,8 @@
 //! What the dimensions answer.
 
 use crate::{
-    CompleteDimension, ConstDimension, ConstSize, Dimension, DimensionPriority, DimensionValue, Estimate,
-    PoolTableDimension, StaticDimension, ZeroDimension,
+    CompleteDimension, ConstDimension, ConstSize, Dimension, DimensionPriority, DimensionValue,
+    Estimate, PoolTableDimension, StaticDimension, ZeroDimension,
 };
 use std::process::Abort;
 use std::test::Fail;
@@ -60,7 +60,10 @@ fn a_hint_clears_what_it_touches(rt: HostRuntime) -> Result<(), Fail> {
     ] {
         let mut sizes = complete(&rt)?;
         sizes.reastimate(hint);
-        assert_eq!(rt; (sizes.has_width(0), sizes.has_height(0)), (widths, heights));
+        assert_eq!(rt;
+            (sizes.has_width(0), sizes.has_height(0)),
+            (widths, heights)
+        );
     }
     Ok(())
 }
@@ -129,6 +132,9 @@ fn zeros_stay(rt: HostRuntime) -> Result<(), Fail> {
 #[test]
 fn a_pool_keeps_its_priorities(rt: HostRuntime) {
     let pool = PoolTableDimension::new(DimensionPriority::First, DimensionPriority::List);
-    assert_eq!(rt; (pool.width(), pool.height()), (DimensionPriority::First, DimensionPriority::List));
+    assert_eq!(rt;
+        (pool.width(), pool.height()),
+        (DimensionPriority::First, DimensionPriority::List)
+    );
     assert!(rt; DimensionPriority::First < DimensionPriority::Last);
 }

@@ -3,7 +3,8 @@ ghost use Rattle.std.specs.Prelude.{◌≡◌, ◌+◌, ◌<◌, ◌^◌, length
 ghost use Rattle.tabled_size.specs.Permitted.{FitsMinimums};
 
 use crate::{
-    Peaker, Priority, PriorityLeft, PriorityMax, PriorityMin, PriorityNone, PriorityRight, Steps, is_level,
+    Peaker, Priority, PriorityLeft, PriorityMax, PriorityMin, PriorityNone, PriorityRight, Steps,
+    is_level,
 };
 use std::process::Abort;
 
@@ -44,17 +45,52 @@ fn shrinks_huge_sizes_in_few_steps(rt: HostRuntime) {
     let mins = [1, 1, 1];
     let list = [1_000_000_000_000_000, 5, 1_000_000_000_000_000];
     let half: usize = 500_000_000_000_000;
-    let _ = shrinks_to(&rt, Priority::max(true), &mins, list, 1_000_000_000_000_000, [half, 5, half]);
-    let _ = shrinks_to(&rt, Priority::max(true), &mins, list, 1_000_000_000_000_001, [half, 5, half - 1]);
+    let _ = shrinks_to(
+        &rt,
+        Priority::max(true),
+        &mins,
+        list,
+        1_000_000_000_000_000,
+        [half, 5, half],
+    );
+    let _ = shrinks_to(
+        &rt,
+        Priority::max(true),
+        &mins,
+        list,
+        1_000_000_000_000_001,
+        [half, 5, half - 1],
+    );
     // Sums of sizes pass the greatest number.
     let most = usize::MAX;
-    let _ = shrinks_to(&rt, Priority::max(false), &[], [most, most, most], 4, [most - 2, most - 1, most - 1]);
-    let _ = shrinks_to(&rt, Priority::none(), &[], [most, 0, most], most, [most / 2, 0, most / 2 + 1]);
+    let _ = shrinks_to(
+        &rt,
+        Priority::max(false),
+        &[],
+        [most, most, most],
+        4,
+        [most - 2, most - 1, most - 1],
+    );
+    let _ = shrinks_to(
+        &rt,
+        Priority::none(),
+        &[],
+        [most, 0, most],
+        most,
+        [most / 2, 0, most / 2 + 1],
+    );
 }
 
 #[test]
 fn keeps_what_is_at_its_minimum(rt: HostRuntime) {
-    let _ = shrinks_to(&rt, Priority::max(true), &[7, 1, 2], [7, 3, 7], 5, [7, 3, 2]);
+    let _ = shrinks_to(
+        &rt,
+        Priority::max(true),
+        &[7, 1, 2],
+        [7, 3, 7],
+        5,
+        [7, 3, 2],
+    );
     assert!(rt; is_level(&[7, 3, 7], &[7, 1, 2], &[7, 3, 2]));
     assert!(rt; !is_level(&[7, 3, 7], &[7, 1, 2], &[7, 1, 4]));
 }
@@ -129,7 +165,10 @@ fn grows_by_huge_amounts_in_few_steps(rt: HostRuntime) {
     let mut list = [3, 0, 7, 3];
     let added = Priority::min(true).grow(&mut list, 1_000_000_000_000, &mut steps);
     assert_eq!(rt; added, 1_000_000_000_000);
-    assert_eq!(rt; list, [333_333_333_337, 0, 333_333_333_338, 333_333_333_338]);
+    assert_eq!(rt;
+        list,
+        [333_333_333_337, 0, 333_333_333_338, 333_333_333_338]
+    );
     assert!(rt; steps.count() <= 200);
 }
 

@@ -1,4 +1,4 @@
-use Rattle.std.proofs.Common.{◌≡◌, ◌+◌, ◌<◌, ◌≤◌, ◌≢◌, ℕ, min, max, length, arith, ap, sym, subst, ◌∙◌, ⊎_elim}
+use Rattle.std.proofs.Common.{◌≡◌, ◌<◌, ◌≤◌, min, arith, ap, sym, subst, ◌∙◌, ⊎_elim}
 use Rattle.std.proofs.lemmas.Bool.{cases_eq, cases_lt}
 use Rattle.tabled_size.specs.Permitted.{at, low}
 use Rattle.tabled_size.proofs.level.highest.Goals as goal
@@ -18,21 +18,21 @@ loop-place-preserved c =
     record {
       same = inv.same;
       within = λ k lt. ⊎_elim
-        (λ e. subst (λ j. (low old mins j ≤ at new j) × (at new j ≤ at old j)) (sym e) (above, below))
-        (λ ne. inv.within k (omega arith)) (cases_eq k i);
+          (λ e. subst (λ j. (low old mins j ≤ at new j) × (at new j ≤ at old j)) (sym e) (above, below))
+          (λ ne. inv.within k (omega arith)) (cases_eq k i);
       most = elim c.if-size-least.branch [
-        then-size-least w ↦ λ k lt h. let t = w.top-is in let m = w.max-top.ensures in ⊎_elim
-          (λ e. subst (λ j. at new j ≤ c.if-size-least.top) (sym e) (omega arith))
-          (λ ne. let a = inv.most k (omega arith) h in omega arith) (cases_eq k i)
-      | else-size-least w ↦ λ k lt h. let t = w.top-is in let f = w.if-size-least.false in ⊎_elim
-          (λ e. let h' : at mins i < at new i = subst (λ j. at mins j < at new j) e h in absurd (omega arith))
-          (λ ne. let a = inv.most k (omega arith) h in omega arith) (cases_eq k i)
+        | then-size-least w ↦ λ k lt h. let t = w.top-is in let m = w.max-top.ensures in ⊎_elim
+            (λ e. subst (λ j. at new j ≤ c.if-size-least.top) (sym e) (omega arith))
+            (λ ne. let a = inv.most k (omega arith) h in omega arith) (cases_eq k i)
+        | else-size-least w ↦ λ k lt h. let t = w.top-is in let f = w.if-size-least.false in ⊎_elim
+            (λ e. let h' : at mins i < at new i = subst (λ j. at mins j < at new j) e h in absurd (omega arith))
+            (λ ne. let a = inv.most k (omega arith) h in omega arith) (cases_eq k i)
       ];
       reached = elim c.if-size-least.branch [
-        then-size-least w ↦ λ p. let t = w.top-is in let m = w.max-top.ensures in let up = w.if-size-least.true in ⊎_elim
-          (λ higher. let q = inv.reached (omega arith) in (q.0, q.1, q.2 ∙ (let e : c.loop-place.top ≡ c.if-size-least.top = omega arith in e)))
-          (λ le. (i, (let e : at mins i < at new i = omega arith in e), (let e : at new i ≡ c.if-size-least.top = omega arith in e)))
-          (cases_lt (at new i) c.loop-place.top)
-      | else-size-least w ↦ λ p. let t = w.top-is in let q = inv.reached (omega arith) in (q.0, q.1, q.2 ∙ sym t)
+        | then-size-least w ↦ λ p. let t = w.top-is in let m = w.max-top.ensures in let up = w.if-size-least.true in ⊎_elim
+            (λ higher. let q = inv.reached (omega arith) in (q.0, q.1, q.2 ∙ (let e : c.loop-place.top ≡ c.if-size-least.top = omega arith in e)))
+            (λ le. (i, (let e : at mins i < at new i = omega arith in e), (let e : at new i ≡ c.if-size-least.top = omega arith in e)))
+            (cases_lt (at new i) c.loop-place.top)
+        | else-size-least w ↦ λ p. let t = w.top-is in let q = inv.reached (omega arith) in (q.0, q.1, q.2 ∙ sym t)
       ];
     }

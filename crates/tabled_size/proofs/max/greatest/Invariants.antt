@@ -1,4 +1,4 @@
-use Rattle.std.proofs.Common.{◌≡◌, ℕ, ◌<◌, ◌≤◌, MatchOption}
+use Rattle.std.proofs.Common.{◌≡◌, MatchOption}
 use Rattle.tabled_size.specs.Permitted.{at}
 use Rattle.tabled_size.specs.Visits.{counted}
 use Rattle.tabled_size.proofs.BestPlace.{NoneAboveBelow, IsGreatestBelow}

@@ -1,5 +1,5 @@
-use Rattle.std.proofs.Common.{◌≡◌, ◌+◌, ◌-◌, ◌*◌, ◌/◌, ◌%◌, ◌<◌, ◌≤◌, ℕ, List, length, min, arith, subst, sym, zero, suc, cond, ◌==◌}
-use Rattle.std.proofs.Math.Nat.{suc-mul, mul_comm}
+use Rattle.std.proofs.Common.{◌≡◌, ◌+◌, ◌-◌, ◌*◌, ◌/◌, ◌%◌, ◌<◌, ◌≤◌, ℕ, List, length, arith, subst, sym}
+use Rattle.std.proofs.Math.Nat.{mul_comm}
 use Rattle.tabled_size.specs.declared.filling.Filling.{Filling}
 use Rattle.tabled_size.specs.declared.filling.Filling.TheVariants.{Depths, Rounds, Heights, Gains}
 use Rattle.tabled_size.specs.Permitted.{at}

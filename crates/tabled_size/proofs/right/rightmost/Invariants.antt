@@ -1,4 +1,4 @@
-use Rattle.std.proofs.Common.{◌≡◌, ℕ, ◌-◌, ◌<◌, ◌≤◌, length}
+use Rattle.std.proofs.Common.{◌≡◌, ℕ, ◌-◌, ◌≤◌, length}
 use Rattle.tabled_size.specs.Permitted.{at}
 use Rattle.tabled_size.specs.Visits.{counted}
 use Rattle.tabled_size.proofs.right.rightmost.Given as goal

@@ -1,4 +1,4 @@
-use Rattle.std.proofs.Common.{◌≡◌, ◌<◌, ◌≤◌}
+use Rattle.std.proofs.Common.{◌≡◌, ◌<◌}
 use Rattle.tabled_size.specs.Filling.{open_count, first_level, last_level}
 use Rattle.tabled_size.specs.Visits.{counted}
 use Rattle.tabled_size.proofs.span.nth_open.Given as goal

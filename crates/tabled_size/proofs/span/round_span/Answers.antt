@@ -1,7 +1,7 @@
-use Rattle.std.proofs.Common.{◌≡◌, ◌+◌, ◌-◌, ◌<◌, ◌≤◌, arith, length, inl, inr, sym, ◌∙◌}
+use Rattle.std.proofs.Common.{◌<◌, ◌≤◌, arith, length, inl, inr}
 use Rattle.tabled_size.specs.Totals.{one_if}
 use Rattle.tabled_size.specs.SumLaws.{sum_below-prefix}
-use Rattle.tabled_size.specs.Filling.{first_level, last_level, is_open, open_count}
+use Rattle.tabled_size.specs.Filling.{first_level, last_level, is_open}
 use Rattle.tabled_size.proofs.Spans.{span_round}
 use Rattle.tabled_size.proofs.span.round_span.Goals as goal
 use Rattle.tabled_size.proofs.span.round_span.Goals.{then-kept-values, else-kept-values, then-reached-ahead, else-reached-ahead}
@@ -28,8 +28,8 @@ returns-clause-span c =
     let a = c.count_open-before.ensures.count in
     let b = c.count_open-open.ensures.count in
     span_round from to n level c.args.reached.rest c.if-kept-values.first c.nth_open.result c.if-reached-ahead.nth within inside c.nth_open.ensures.opened c.nth_open.ensures.nth
-      c.requires.some c.requires.enough p
-      (elim c.if-reached-ahead.branch [
-        then-reached-ahead w ↦ inl (omega arith, omega arith)
+    c.requires.some c.requires.enough p
+    (elim c.if-reached-ahead.branch [
+      | then-reached-ahead w ↦ inl (omega arith, omega arith)
       | else-reached-ahead w ↦ inr (omega arith, omega arith)
-      ])
+    ])

@@ -1,4 +1,4 @@
-use Rattle.std.proofs.Common.{◌+◌, arith, length}
+use Rattle.std.proofs.Common.{arith, length}
 use Rattle.tabled_size.specs.Filling.{first_level, last_level}
 use Rattle.tabled_size.proofs.Spans.{span_left, span_right}
 use Rattle.tabled_size.proofs.span.side_span.Goals as goal

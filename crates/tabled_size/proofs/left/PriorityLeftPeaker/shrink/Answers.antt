@@ -1,4 +1,4 @@
-use Rattle.std.proofs.Common.{slice_set, ◌≡◌, ◌-◌, ◌<◌, ◌≤◌, ℕ, length, min, refl, arith, ap, subst, sym, ◌∙◌, ⊎_elim}
+use Rattle.std.proofs.Common.{slice_set, ◌≡◌, ◌-◌, ◌<◌, ◌≤◌, length, refl, arith, ap, subst, sym, ⊎_elim}
 use Rattle.std.proofs.lemmas.Bool.{cases_lt, cases_eq}
 use Rattle.std.proofs.lemmas.List.{get_or_past}
 use Rattle.tabled_size.specs.Permitted.{at}
@@ -28,11 +28,11 @@ loop-place-preserved c =
     let list : less xs i d ≡ _ = ap (λ v. slice_set xs i (v - d)) (sym value) in
     record {
       underway = subst (λ ys. Underway (λ values left new. IsLeftShrunk values mins left new) c.args.values.now mins c.args.by ys (left - d)) list
-        (Underway-take (λ values left new. IsLeftShrunk values mins left new) c.args.values.now mins c.args.by xs left i d c.loop-place.invariant.underway inside fits (omega arith)
+          (Underway-take (λ values left new. IsLeftShrunk values mins left new) c.args.values.now mins c.args.by xs left i d c.loop-place.invariant.underway inside fits (omega arith)
           (λ new pos r. left_at_once mins i d xs (left - d) new (record { above = omega arith; first = first (omega arith) }) fits r));
       passed = λ some j lt. subst (λ ys. at ys j ≤ at mins j) list (⊎_elim
-        (λ e. subst (λ k. at (less xs i d) k ≤ at mins k) (sym e) (omega arith))
-        (λ ne. let e = at-less_other xs i d j ne in let f = first (omega arith) j (omega arith) in omega arith) (cases_eq j i));
+          (λ e. subst (λ k. at (less xs i d) k ≤ at mins k) (sym e) (omega arith))
+          (λ ne. let e = at-less_other xs i d j ne in let f = first (omega arith) j (omega arith) in omega arith) (cases_eq j i));
       steps = omega arith;
     }
 
@@ -40,13 +40,15 @@ pub returns-clause-shrinks : goal.returns-clause-shrinks
 returns-clause-shrinks c =
     let mins = c.args.mins.now in
     let xs = c.loop-place.values in
-    let u = c.loop-place.invariant.underway in
-    (u.onward xs (⊎_elim
-      (λ some. IsLeftShrunk-done xs mins c.loop-place.left (λ j. ⊎_elim
-        (λ inside. c.loop-place.invariant.passed some j (omega arith))
-        (λ past. let e = get_or_past xs j 0 past in omega arith) (cases_lt j (length xs))))
-      (λ none. subst (λ k. IsLeftShrunk xs mins k xs) (let e : 0 ≡ c.loop-place.left = omega arith in e) (IsLeftShrunk-none xs mins))
-      (cases_lt 0 c.loop-place.left)), refl)
+    let u = c.loop-place.invariant.underway in (
+      u.onward xs (⊎_elim
+          (λ some. IsLeftShrunk-done xs mins c.loop-place.left (λ j. ⊎_elim
+          (λ inside. c.loop-place.invariant.passed some j (omega arith))
+          (λ past. let e = get_or_past xs j 0 past in omega arith) (cases_lt j (length xs))))
+          (λ none. subst (λ k. IsLeftShrunk xs mins k xs) (let e : 0 ≡ c.loop-place.left = omega arith in e) (IsLeftShrunk-none xs mins))
+          (cases_lt 0 c.loop-place.left)),
+      refl,
+    )
 
 pub returns-clause-visits : goal.returns-clause-visits
 returns-clause-visits c =

@@ -1,4 +1,4 @@
-use Rattle.std.proofs.Common.{◌≡◌, ◌+◌, [], arith, refl}
+use Rattle.std.proofs.Common.{◌+◌, [], arith, refl}
 use Rattle.tabled_size.specs.Permitted.{at}
 use Rattle.tabled_size.specs.Peak.{IsGreatest}
 use Rattle.tabled_size.specs.GrownLaws.{IsGrownAt-none}

@@ -1,7 +1,6 @@
-use Rattle.std.proofs.Common.{◌≡◌, ◌+◌, ◌-◌, ◌<◌, ◌≤◌, ℕ, length, min, arith, refl, sym, subst, ◌∙◌}
+use Rattle.std.proofs.Common.{length, arith, refl, sym, subst, ◌∙◌}
 use Rattle.tabled_size.specs.declared.filling.Filling.TheVariants.{Depths}
-use Rattle.tabled_size.specs.Permitted.{at, spare, taken, IsTakenFrom}
-use Rattle.tabled_size.specs.Shrunk.{IsMaxShrunk}
+use Rattle.tabled_size.specs.Permitted.{at}
 use Rattle.tabled_size.specs.ShrunkLaws.{IsMaxShrunk-still}
 use Rattle.tabled_size.specs.Filling.{first_level, last_level, IsReached}
 use Rattle.tabled_size.proofs.Leveled.{max_shrunk}
@@ -15,7 +14,7 @@ returns-then-wanted-eq0-clause-shrinks c =
     let old = c.args.values.now in
     let mins = c.args.mins.now in
     let w = wanted_taken (first_level Depths old mins) (last_level Depths old mins) old mins c.args.by c.filled.result c.min-wanted.result (omega arith)
-      (λ i. depths_spare (at old i) (at mins i) (c.filled.ensures.values_fit i) (c.filled.ensures.mins_fit i)) c.filled.ensures.total c.min-wanted.ensures in
+    (λ i. depths_spare (at old i) (at mins i) (c.filled.ensures.values_fit i) (c.filled.ensures.mins_fit i)) c.filled.ensures.total c.min-wanted.ensures in
     (IsMaxShrunk-still c.args.self.now.right old mins c.args.by (sym w ∙ c.if-wanted-eq0.true), refl)
 
 pub returns-then-wanted-eq0-clause-visits : goal.returns-then-wanted-eq0-clause-visits
@@ -38,12 +37,14 @@ returns-clause-shrinks c =
     let v = c.filled.ensures.values_fit in
     let m = c.filled.ensures.mins_fit in
     let w = wanted_taken from to old mins c.args.by c.filled.result c.min-wanted.result (omega arith)
-      (λ i. depths_spare (at old i) (at mins i) (v i) (m i)) c.filled.ensures.total c.min-wanted.ensures in
+    (λ i. depths_spare (at old i) (at mins i) (v i) (m i)) c.filled.ensures.total c.min-wanted.ensures in
     let t = taken_by_shares from to old mins c.args.by c.lower.new.values reached.level reached.rest span.first span.last
-      (subst (λ k. IsReached from to (length old) k reached.level reached.rest) w c.reach-reached.ensures.reached) c.side_span-span.ensures.span
-      (λ i. depths_within (at old i) (at mins i) (v i) (m i)) c.lower.ensures.same_length c.lower.ensures.each in
-    (max_shrunk c.args.self.now.right old mins c.args.by c.lower.new.values reached.level span.first span.last v m c.reach-reached.ensures.below t
-      c.side_span-span.ensures.ordered c.side_span-span.ensures.to_right c.side_span-span.ensures.from_left c.lower.ensures.each, refl)
+    (subst (λ k. IsReached from to (length old) k reached.level reached.rest) w c.reach-reached.ensures.reached) c.side_span-span.ensures.span
+    (λ i. depths_within (at old i) (at mins i) (v i) (m i)) c.lower.ensures.same_length c.lower.ensures.each in (
+      max_shrunk c.args.self.now.right old mins c.args.by c.lower.new.values reached.level span.first span.last v m c.reach-reached.ensures.below t
+          c.side_span-span.ensures.ordered c.side_span-span.ensures.to_right c.side_span-span.ensures.from_left c.lower.ensures.each,
+      refl,
+    )
 
 pub returns-clause-total : goal.returns-clause-total
 returns-clause-total c =
@@ -51,7 +52,7 @@ returns-clause-total c =
     let old = c.args.values.now in
     let mins = c.args.mins.now in
     let w = wanted_taken (first_level Depths old mins) (last_level Depths old mins) old mins c.args.by c.filled.result c.min-wanted.result (omega arith)
-      (λ i. depths_spare (at old i) (at mins i) (c.filled.ensures.values_fit i) (c.filled.ensures.mins_fit i)) c.filled.ensures.total c.min-wanted.ensures in
+    (λ i. depths_spare (at old i) (at mins i) (c.filled.ensures.values_fit i) (c.filled.ensures.mins_fit i)) c.filled.ensures.total c.min-wanted.ensures in
     let t = s.0.takes.total in
     omega arith
 

@@ -1,8 +1,7 @@
-use Rattle.std.proofs.Common.{◌≡◌, ◌+◌, ◌-◌, ◌<◌, ◌≤◌, ℕ, [], length, min, arith, refl, sym, subst, ◌∙◌}
+use Rattle.std.proofs.Common.{[], length, arith, refl, sym, subst, ◌∙◌}
 use Rattle.tabled_size.specs.declared.filling.Filling.TheVariants.{Heights}
 use Rattle.tabled_size.specs.Permitted.{at}
 use Rattle.tabled_size.specs.ShrunkLaws.{at-le-sum}
-use Rattle.tabled_size.specs.Grown.{added}
 use Rattle.tabled_size.specs.Filling.{first_level, last_level, IsReached}
 use Rattle.tabled_size.proofs.Gains.{wanted_added, grown_by_shares, min_still, min_grown, heights_gain, zero_end}
 use Rattle.tabled_size.proofs.Optimal.{HasGreatestLeast-from_min}
@@ -13,7 +12,7 @@ pub returns-then-wanted-eq0-clause-grows : goal.returns-then-wanted-eq0-clause-g
 returns-then-wanted-eq0-clause-grows c =
     let old = c.args.values.now in
     let w = wanted_added (first_level Heights old []) (last_level Heights old []) old c.args.by c.filled.result c.min-wanted.result (omega arith)
-      (λ i pos. heights_gain (at old i) c.args.by pos (let s = at-le-sum old i in omega arith)) (λ i z. zero_end (at old i) z) c.filled.ensures.total c.min-wanted.ensures in
+    (λ i pos. heights_gain (at old i) c.args.by pos (let s = at-le-sum old i in omega arith)) (λ i z. zero_end (at old i) z) c.filled.ensures.total c.min-wanted.ensures in
     (min_still c.args.self.now.right old c.args.by (sym w ∙ c.if-wanted-eq0.true), refl)
 
 pub returns-then-wanted-eq0-clause-visits : goal.returns-then-wanted-eq0-clause-visits
@@ -33,19 +32,21 @@ returns-clause-grows c =
     let reached = c.reach-reached.result in
     let span = c.side_span-span.result in
     let w = wanted_added from to old c.args.by c.filled.result c.min-wanted.result (omega arith)
-      (λ i pos. heights_gain (at old i) c.args.by pos (let s = at-le-sum old i in omega arith)) (λ i z. zero_end (at old i) z) c.filled.ensures.total c.min-wanted.ensures in
+    (λ i pos. heights_gain (at old i) c.args.by pos (let s = at-le-sum old i in omega arith)) (λ i z. zero_end (at old i) z) c.filled.ensures.total c.min-wanted.ensures in
     let g = grown_by_shares from to old c.args.by c.raise.new.values reached.level reached.rest span.first span.last
-      (subst (λ k. IsReached from to (length old) k reached.level reached.rest) w c.reach-reached.ensures.reached) c.side_span-span.ensures.span
-      (λ i z. zero_end (at old i) z) c.raise.ensures.same_length c.raise.ensures.each in
-    (min_grown c.args.self.now.right old c.args.by c.raise.new.values reached.level span.first span.last c.reach-reached.ensures.below g
-      c.side_span-span.ensures.ordered c.side_span-span.ensures.to_right c.side_span-span.ensures.from_left c.raise.ensures.each, refl)
+    (subst (λ k. IsReached from to (length old) k reached.level reached.rest) w c.reach-reached.ensures.reached) c.side_span-span.ensures.span
+    (λ i z. zero_end (at old i) z) c.raise.ensures.same_length c.raise.ensures.each in (
+      min_grown c.args.self.now.right old c.args.by c.raise.new.values reached.level span.first span.last c.reach-reached.ensures.below g
+          c.side_span-span.ensures.ordered c.side_span-span.ensures.to_right c.side_span-span.ensures.from_left c.raise.ensures.each,
+      refl,
+    )
 
 pub returns-clause-total : goal.returns-clause-total
 returns-clause-total c =
     let s = returns-clause-grows c in
     let old = c.args.values.now in
     let w = wanted_added (first_level Heights old []) (last_level Heights old []) old c.args.by c.filled.result c.min-wanted.result (omega arith)
-      (λ i pos. heights_gain (at old i) c.args.by pos (let s = at-le-sum old i in omega arith)) (λ i z. zero_end (at old i) z) c.filled.ensures.total c.min-wanted.ensures in
+    (λ i pos. heights_gain (at old i) c.args.by pos (let s = at-le-sum old i in omega arith)) (λ i z. zero_end (at old i) z) c.filled.ensures.total c.min-wanted.ensures in
     let t = s.0.grows.total in
     omega arith
 

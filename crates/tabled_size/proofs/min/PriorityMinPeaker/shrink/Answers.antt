@@ -1,4 +1,4 @@
-use Rattle.std.proofs.Common.{slice_set, ◌≡◌, ◌+◌, ◌-◌, ◌*◌, ◌<◌, ◌≤◌, ℕ, Bool, List, length, min, refl, arith, ap, subst, sym, ◌∙◌, ⊎_elim, length-set, zero, suc}
+use Rattle.std.proofs.Common.{slice_set, ◌≡◌, ◌+◌, ◌-◌, ◌<◌, ◌≤◌, ℕ, Bool, List, length, refl, arith, ap, subst, sym, ⊎_elim, length-set}
 use Rattle.std.proofs.Math.Nat.{suc-mul}
 use Rattle.std.proofs.lemmas.Bool.{cases_lt}
 use Rattle.tabled_size.specs.declared.steps.Steps.{Steps}
@@ -45,12 +45,12 @@ loop-turn-preserved c =
     let p = suc-mul c.loop-turn._turn (length c.args.values.now + 1) in
     record {
       underway = subst (λ ys. Underway (λ values left new. IsMinShrunk right values mins left new) c.args.values.now mins c.args.by ys (left - d)) list
-        (Underway-take (λ values left new. IsMinShrunk right values mins left new) c.args.values.now mins c.args.by xs left i d u inside fits (omega arith)
+          (Underway-take (λ values left new. IsMinShrunk right values mins left new) c.args.values.now mins c.args.by xs left i d u inside fits (omega arith)
           (λ new pos r. min_at_once right mins i d xs (left - d) new named fits r));
       fewer = λ some. subst (λ ys. spare_places ys mins + (c.loop-turn._turn + 1) ≤ length ys) list
-        (let a = spare_places-less xs mins i d inside above (omega arith) in
-        let b = c.loop-turn.invariant.fewer (omega arith) in
-        let e = length-set xs i (at xs i - d) in omega arith);
+          (let a = spare_places-less xs mins i d inside above (omega arith) in
+          let b = c.loop-turn.invariant.fewer (omega arith) in
+          let e = length-set xs i (at xs i - d) in omega arith);
       unchanged = λ z. absurd (omega arith);
       steps = let a = c.loop-turn.invariant.steps in let b = c.least.ensures.steps in let e = c.visit-column.ensures.steps in omega arith;
     }
@@ -67,12 +67,14 @@ returns-clause-shrinks c =
     let mins = c.args.mins.now in
     let xs = c.loop-turn.values in
     let inv = c.loop-turn.invariant in
-    let len = inv.underway.permitted.same_length in
-    (inv.underway.onward xs (ended c.args.self.now.right xs mins c.loop-turn.left (λ some. elim c.loop-turn-test.branch [
-      else-loop-turn-test w ↦ spare_places-none xs mins (let a = inv.fewer some in let b = w.loop-turn-test.false in omega arith)
-    | then-loop-turn-test+then-left-eq0 w ↦ absurd (let z = w.if-left-eq0.true in omega arith)
-    | then-loop-turn-test+else-left-eq0+in_default w ↦ w.in_default.ensures.answer
-    ])), refl)
+    let len = inv.underway.permitted.same_length in (
+      inv.underway.onward xs (ended c.args.self.now.right xs mins c.loop-turn.left (λ some. elim c.loop-turn-test.branch [
+        | else-loop-turn-test w ↦ spare_places-none xs mins (let a = inv.fewer some in let b = w.loop-turn-test.false in omega arith)
+        | then-loop-turn-test+then-left-eq0 w ↦ absurd (let z = w.if-left-eq0.true in omega arith)
+        | then-loop-turn-test+else-left-eq0+in_default w ↦ w.in_default.ensures.answer
+      ])),
+      refl,
+    )
 
 pub returns-clause-visits : goal.returns-clause-visits
 returns-clause-visits c =
@@ -84,9 +86,9 @@ returns-clause-visits c =
     let before = c.args.steps.now.count in
     let s = inv.steps in
     elim c.loop-turn-test.branch [
-      else-loop-turn-test w ↦ IsBounded-turns old xs before c.loop-turn-test.steps.count turn 0 (omega arith) (omega arith) inv.unchanged (let e = ap (λ (k : Steps). k.count) w.steps-is in omega arith)
-    | then-loop-turn-test+then-left-eq0 w ↦ IsBounded-turns old xs before c.loop-turn-test.steps.count turn 0 (let l = w.loop-turn-test.true in omega arith) (omega arith) inv.unchanged (let e = ap (λ (k : Steps). k.count) w.steps-is in omega arith)
-    | then-loop-turn-test+else-left-eq0+in_default w ↦ IsBounded-turns old xs before c.loop-turn-test.steps.count turn (length old) (let l = w.loop-turn-test.true in omega arith) (omega arith) inv.unchanged (let e = ap (λ (k : Steps). k.count) w.steps-is in let f = w.least.ensures.steps in omega arith)
+      | else-loop-turn-test w ↦ IsBounded-turns old xs before c.loop-turn-test.steps.count turn 0 (omega arith) (omega arith) inv.unchanged (let e = ap (λ (k : Steps). k.count) w.steps-is in omega arith)
+      | then-loop-turn-test+then-left-eq0 w ↦ IsBounded-turns old xs before c.loop-turn-test.steps.count turn 0 (let l = w.loop-turn-test.true in omega arith) (omega arith) inv.unchanged (let e = ap (λ (k : Steps). k.count) w.steps-is in omega arith)
+      | then-loop-turn-test+else-left-eq0+in_default w ↦ IsBounded-turns old xs before c.loop-turn-test.steps.count turn (length old) (let l = w.loop-turn-test.true in omega arith) (omega arith) inv.unchanged (let e = ap (λ (k : Steps). k.count) w.steps-is in let f = w.least.ensures.steps in omega arith)
     ]
 
 pub returns-clause-between : goal.returns-clause-between

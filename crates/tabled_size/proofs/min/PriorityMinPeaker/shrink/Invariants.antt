@@ -1,4 +1,4 @@
-use Rattle.std.proofs.Common.{◌≡◌, ◌⊎◌, ℕ, ◌+◌, ◌*◌, ◌<◌, ◌≤◌, List, length}
+use Rattle.std.proofs.Common.{◌≡◌, ◌+◌, ◌*◌, ◌<◌, ◌≤◌, length}
 use Rattle.tabled_size.specs.Shrunk.{IsMinShrunk}
 use Rattle.tabled_size.specs.Visits.{counted}
 use Rattle.tabled_size.proofs.Underway.{Underway}

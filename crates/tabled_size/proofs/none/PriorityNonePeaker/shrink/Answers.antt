@@ -1,6 +1,6 @@
-use Rattle.std.proofs.Common.{◌≡◌, ◌+◌, ◌-◌, ◌<◌, ◌≤◌, ℕ, length, min, arith, ap, sym, subst, ◌∙◌}
+use Rattle.std.proofs.Common.{◌-◌, ◌<◌, ◌≤◌, length, arith, ap, sym, subst, ◌∙◌}
 use Rattle.tabled_size.specs.declared.filling.Filling.TheVariants.{Rounds}
-use Rattle.tabled_size.specs.Permitted.{at, spare, taken, IsTakenFrom}
+use Rattle.tabled_size.specs.Permitted.{at, taken}
 use Rattle.tabled_size.specs.Shrunk.{IsRoundShrunk, place_after}
 use Rattle.tabled_size.specs.RoundLaws.{IsRoundShrunk-still}
 use Rattle.tabled_size.specs.Filling.{first_level, last_level, IsReached}
@@ -15,7 +15,7 @@ returns-then-wanted-eq0-clause-shrinks c =
     let old = c.args.values.now in
     let mins = c.args.mins.now in
     let w = wanted_taken (first_level Rounds old mins) (last_level Rounds old mins) old mins c.args.by c.filled.result c.min-wanted.result (omega arith)
-      (λ i. rounds_spare (at old i) (at mins i) (c.filled.ensures.values_fit i)) c.filled.ensures.total c.min-wanted.ensures in
+    (λ i. rounds_spare (at old i) (at mins i) (c.filled.ensures.values_fit i)) c.filled.ensures.total c.min-wanted.ensures in
     IsRoundShrunk-still c.args.self.now.kept old mins c.args.by (sym w ∙ c.if-wanted-eq0.true)
 
 pub returns-then-wanted-eq0-clause-visits : goal.returns-then-wanted-eq0-clause-visits
@@ -32,14 +32,14 @@ returns-clause-shrinks c =
     let span = c.round_span-span.result in
     let v = c.filled.ensures.values_fit in
     let w = wanted_taken from to old mins c.args.by c.filled.result c.min-wanted.result (omega arith)
-      (λ i. rounds_spare (at old i) (at mins i) (v i)) c.filled.ensures.total c.min-wanted.ensures in
+    (λ i. rounds_spare (at old i) (at mins i) (v i)) c.filled.ensures.total c.min-wanted.ensures in
     let t = taken_by_shares from to old mins c.args.by c.lower.new.values reached.level reached.rest span.first span.last
-      (subst (λ k. IsReached from to (length old) k reached.level reached.rest) w c.reach-reached.ensures.reached) c.round_span-span.ensures.span
-      (λ i. let e : at old i - at mins i - 0 ≤ at old i - at mins i = omega arith in e) c.lower.ensures.same_length c.lower.ensures.each in
+    (subst (λ k. IsReached from to (length old) k reached.level reached.rest) w c.reach-reached.ensures.reached) c.round_span-span.ensures.span
+    (λ i. let e : at old i - at mins i - 0 ≤ at old i - at mins i = omega arith in e) c.lower.ensures.same_length c.lower.ensures.each in
     let some : 0 < taken old mins c.args.by = omega arith in
     subst (λ k. IsRoundShrunk c.args.self.now.kept old mins c.args.by c.lower.new.values k) (sym (c.place_after-self.ensures ∙ ap (λ n. place_after n span.last) c.lower.ensures.same_length))
-      (round_shrunk c.args.self.now.kept old mins c.args.by c.lower.new.values reached.level span.first span.last some t
-        c.round_span-span.ensures.started c.round_span-span.ensures.opened c.lower.ensures.each)
+    (round_shrunk c.args.self.now.kept old mins c.args.by c.lower.new.values reached.level span.first span.last some t
+    c.round_span-span.ensures.started c.round_span-span.ensures.opened c.lower.ensures.each)
 
 pub returns-clause-total : goal.returns-clause-total
 returns-clause-total c =
@@ -47,7 +47,7 @@ returns-clause-total c =
     let old = c.args.values.now in
     let mins = c.args.mins.now in
     let w = wanted_taken (first_level Rounds old mins) (last_level Rounds old mins) old mins c.args.by c.filled.result c.min-wanted.result (omega arith)
-      (λ i. rounds_spare (at old i) (at mins i) (c.filled.ensures.values_fit i)) c.filled.ensures.total c.min-wanted.ensures in
+    (λ i. rounds_spare (at old i) (at mins i) (c.filled.ensures.values_fit i)) c.filled.ensures.total c.min-wanted.ensures in
     let t = s.takes.total in
     omega arith
 
