@@ -1,5 +1,6 @@
 pub mod ConstSizes
 pub mod Estimates
+pub mod FilledIn
 pub mod Filling
 pub mod Grown
 pub mod GrownLaws

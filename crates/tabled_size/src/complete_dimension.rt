@@ -114,6 +114,11 @@ impl CompleteDimension {
         self.height.as_deref()
     }
 
+    /// What the lists grow by.
+    pub(crate) fn allocator(&self) -> Global {
+        self.alloc
+    }
+
     /// The same sizes. Refused for memory.
     pub fn clone(&self) -> Result<Self, TableError>
         ensures widths { IfOk result (λ sizes. widths_of sizes ≡ widths_of self.now) }

@@ -7,6 +7,7 @@ mod complete_dimension;
 mod const_dimension;
 mod dimension;
 mod estimate;
+mod estimating;
 mod filling;
 mod left;
 mod level;
