@@ -1,2 +1,4 @@
+pub mod Compact
 pub mod Frame
 pub mod Settings
+pub mod Styles

@@ -3,11 +3,21 @@
 #![tactic(auto)]
 
 mod alignment;
+mod ansi;
 mod borders;
+mod compact;
+mod compact_multiline;
+mod formatting;
 mod sides;
 mod spanned;
+mod style;
 
 pub use alignment::{AlignmentHorizontal, AlignmentVertical};
+pub use ansi::ANSIStr;
 pub use borders::{Borders, HorizontalLine};
+pub use compact::CompactConfig;
+pub use compact_multiline::CompactMultilineConfig;
+pub use formatting::Formatting;
 pub use sides::{Indent, Sides};
 pub use spanned::{CellStyle, SpannedConfig};
+pub use style::Style;
