@@ -1,0 +1,61 @@
+//! The horizontal lines that were set by their index.
+ghost use Rattle.std.specs.Prelude.{◌≡◌, ◌==◌, ℕ, if◌then◌else◌, IfOk, OnErr, OnOk, [], Some};
+ghost use Rattle.tabled_config.specs.Lines.{line_set, with_line};
+
+use crate::borders::HorizontalLine;
+use std::alloc::{AllocError, Global};
+use std::collections::BTreeMap;
+use std::marker::Model;
+
+/// Lines by index.
+#[derive(Debug, Drop)]
+pub struct Lines {
+    lines: BTreeMap<usize, HorizontalLine>,
+}
+
+impl Model for Lines {
+    ghost use Rattle.std.specs.Prelude.{ℕ, List};
+    ghost use Rattle.tabled_config.specs.declared.borders.HorizontalLine.{HorizontalLine};
+
+    ghost Value = { List (ℕ × HorizontalLine) };
+
+    ghost view = { λ l. l.lines.entries };
+}
+
+impl Lines {
+    /// No line.
+    pub fn new(alloc: Global) -> Lines
+        ensures { result ≡ [] }
+    {
+        Lines {
+            lines: BTreeMap::new(alloc),
+        }
+    }
+
+    /// The same lines.
+    pub fn clone(&self) -> Result<Lines, AllocError>
+        ensures { IfOk result (λ copy. copy ≡ self.now) }
+    {
+        Ok(Lines {
+            lines: self.lines.clone()?,
+        })
+    }
+
+    /// Sets the line at an index, in place of the one that was there. Where memory is refused, all is as
+    /// it was.
+    pub fn insert(&mut self, index: usize, line: HorizontalLine) -> Result<(), AllocError>
+        ensures ok { OnOk result (self.new ≡ with_line self.old index line) }
+        ensures latest { OnOk result ((i : ℕ) → line_set self.new i ≡ (if index == i then Some line else line_set self.old i)) }
+        ensures err { OnErr result (self.new ≡ self.old) }
+    {
+        self.lines.insert(index, line)?;
+        Ok(())
+    }
+
+    /// The line that was set at an index.
+    pub fn get(&self, index: usize) -> Option<HorizontalLine>
+        ensures { result ≡ line_set self.now index }
+    {
+        self.lines.get(&index).copied()
+    }
+}
