@@ -1,6 +1,7 @@
 pub mod Changes
 pub mod Compact
 pub mod Frame
+pub mod Lending
 pub mod Lines
 pub mod Places
 pub mod Settings

@@ -103,3 +103,30 @@ impl<T: Copy> EntityMap<T> {
         }
     }
 }
+
+impl<T: PartialEq> PartialEq for EntityMap<T> {
+    ghost use Rattle.std.specs.Prelude.{◌&&◌, reverse};
+    ghost use Rattle.std.specs.Cmp.{and_per, on_per};
+    ghost use Rattle.std.specs.Cmp.Lexicographic.{lists_per, pointwise};
+    ghost use Rattle.tabled_base.specs.contracts.position.EntityPartialEq.TheImpl.Laws.{laws-law as entity_per};
+
+    ghost eq = { λ a b. T.eq a.whole b.whole
+        && pointwise (λ p q. ⟦<Entity as PartialEq>⟧.eq p.0 q.0 && T.eq p.1 q.1) (reverse a.parts) (reverse b.parts) };
+
+    ghost laws = { and_per (on_per (λ m. m.whole) T.laws) (on_per (λ m. reverse m.parts)
+        (lists_per (and_per (on_per (λ p. p.0) entity_per) (on_per (λ p. p.1) T.laws)))) };
+
+    fn eq(&self, other: &EntityMap<T>) -> bool {
+        self.whole == other.whole && self.changes == other.changes
+    }
+}
+
+impl<T: Eq> Eq for EntityMap<T> {
+    ghost use Rattle.std.specs.Prelude.{reverse};
+    ghost use Rattle.std.specs.Cmp.{and_equiv, on_equiv};
+    ghost use Rattle.std.specs.Cmp.Lexicographic.{lists_equiv};
+    ghost use Rattle.tabled_base.specs.contracts.position.EntityEq.TheImpl.Laws.{laws-law as entity_eq};
+
+    ghost laws = { and_equiv (on_equiv (λ m. m.whole) T.Eq.laws) (on_equiv (λ m. reverse m.parts)
+        (lists_equiv (and_equiv (on_equiv (λ p. p.0) entity_eq) (on_equiv (λ p. p.1) T.Eq.laws)))) };
+}

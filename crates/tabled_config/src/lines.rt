@@ -59,3 +59,28 @@ impl Lines {
         self.lines.get(&index).copied()
     }
 }
+
+impl PartialEq for Lines {
+    ghost use Rattle.std.specs.Prelude.{◌&&◌, nat_eq};
+    ghost use Rattle.std.specs.Cmp.{and_per, nat_eq_equiv, on_per, partial_equiv_from_equiv};
+    ghost use Rattle.std.specs.Cmp.Lexicographic.{lists_per, pointwise};
+    ghost use Rattle.tabled_config.specs.contracts.borders.HorizontalLinePartialEq.TheImpl.Laws.{laws-law as line_per};
+
+    ghost eq = { λ a b. pointwise (λ p q. nat_eq p.0 q.0 && ⟦<HorizontalLine as PartialEq>⟧.eq p.1 q.1) a b };
+
+    ghost laws = { lists_per (and_per (on_per (λ p. p.0) (partial_equiv_from_equiv nat_eq_equiv))
+        (on_per (λ p. p.1) line_per)) };
+
+    fn eq(&self, other: &Lines) -> bool {
+        self.lines == other.lines
+    }
+}
+
+impl Eq for Lines {
+    ghost use Rattle.std.specs.Cmp.{and_equiv, nat_eq_equiv, on_equiv};
+    ghost use Rattle.std.specs.Cmp.Lexicographic.{lists_equiv};
+    ghost use Rattle.tabled_config.specs.contracts.borders.HorizontalLineEq.TheImpl.Laws.{laws-law as line_eq};
+
+    ghost laws = { lists_equiv (and_equiv (on_equiv (λ p. p.0) nat_eq_equiv)
+        (on_equiv (λ p. p.1) line_eq)) };
+}

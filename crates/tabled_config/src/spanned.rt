@@ -30,8 +30,8 @@ pub struct CellStyle {
 
 /// The settings of a table. For each cell the latest setting that covers it holds, and a setting for
 /// the whole table forgets all others. A horizontal line that was set by its index stands in place of
-/// the borders' line there.
-#[derive(Debug, Drop)]
+/// the borders' line there. Two are equal where the same was set in the same order.
+#[derive(Debug, Drop, PartialEq, Eq)]
 pub struct SpannedConfig {
     /// The characters of the frame.
     pub borders: Borders<char>,

@@ -15,7 +15,7 @@ ghost use Rattle.tabled_config.specs.Styles.{
 use crate::borders::{Borders, HorizontalLine};
 
 /// A frame: its borders, and the line that it sets below the first row.
-#[derive(Clone, Copy, Debug, PartialEq, Eq)]
+#[derive(Debug, Drop)]
 pub struct Style {
     borders: Borders<char>,
     below_first: Option<HorizontalLine>,
