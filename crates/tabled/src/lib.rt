@@ -23,10 +23,47 @@ pub mod builder {
     pub use tabled_base::Builder;
 }
 
+/// What a table can be set by.
+pub mod settings {
+    /// The orders in which sizes are shrunk and grown, and what is told of the lists that they leave.
+    pub mod peaker {
+        pub use tabled_size::{
+            Peaker, Priority, PriorityLeft, PriorityMax, PriorityMin, PriorityNone, PriorityRight,
+            Steps, TakesAll, is_level,
+        };
+    }
+}
+
 /// Lower layers, by the crate's names.
 pub mod grid {
+    /// Places, and what is set for them.
+    pub mod config {
+        pub use tabled_base::{Entity, Position};
+    }
+
+    /// What answers the sizes of a table.
+    pub mod dimension {
+        pub use tabled_size::{
+            CompleteDimension, ConstDimension, ConstSize, Dimension, DimensionPriority,
+            DimensionValue, Estimate, PoolTableDimension, StaticDimension, ZeroDimension,
+        };
+    }
+
     /// Records and their texts.
     pub mod records {
-        pub use tabled_base::{ExactRecords, PeekableRecords, Text, VecRecords};
+        pub use tabled_base::{
+            CellText, ExactRecords, LentRows, PeekableRecords, Text, VecRecords,
+        };
+    }
+
+    /// What texts take.
+    pub mod util {
+        /// Texts that are measured, cut and wrapped.
+        pub mod string {
+            pub use tabled_text::{
+                count_lines, cut_str, is_fullest, is_plain, line_width, lines, split_str,
+                text_width, wrap_text,
+            };
+        }
     }
 }

@@ -4,6 +4,7 @@ pub mod Each
 pub mod EstimatedSizes
 pub mod Fills
 pub mod Leading
+pub mod Marking
 pub mod Measuring
 pub mod Printing
 pub mod Rules

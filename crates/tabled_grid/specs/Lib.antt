@@ -4,6 +4,7 @@ pub mod Grid
 pub mod Holds
 pub mod Kept
 pub mod Leading
+pub mod Marks
 pub mod Picture
 pub mod PlainSheet
 pub mod Printed

@@ -3,9 +3,11 @@ ghost use Rattle.std.specs.Prelude.{◌≡◌, ◌≤◌, ◌<◌, ◌-◌, []};
 ghost use Rattle.std.specs.List.{slice_index_or};
 ghost use Rattle.tabled_text.specs.Measure.{line_columns};
 ghost use Rattle.tabled_grid.specs.Block.{above_text, before_text, block, cell_line, columns_before, fill_above, text_room};
+ghost use Rattle.tabled_grid.specs.Marks.{IsMarked};
 ghost use Rattle.tabled_grid.specs.Sent.{Sent, Writes};
 
 use crate::content::Content;
+use crate::marks::Mark;
 use crate::pieces::{put_before, put_behind, put_fill};
 use crate::text_sink::TextSink;
 use tabled_base::TableError;
@@ -95,24 +97,27 @@ fn fill_above(style: &CellStyle, height: usize, content: &Content<'_>) -> usize
     style.padding.top.size + above_text(style.vertical, free)
 }
 
-/// A line of the block of a cell.
-pub(crate) fn put_block_line<S: TextSink>(
+/// A line of the block of a cell. A line of its text is looked for from a mark on.
+pub(crate) fn put_block_line<'a, S: TextSink>(
     sink: &mut S,
     style: &CellStyle,
     width: usize,
     height: usize,
-    content: &Content<'_>,
+    content: &Content<'a>,
+    mark: &mut Mark<'a>,
     index: usize,
 ) -> Result<(), TableError>
-    requires { index < height }
-    ensures { Writes (S.sent sink.old) result (S.sent sink.new)
+    requires index { index < height }
+    requires marked { IsMarked content.now.text.now mark.old }
+    ensures printed { Writes (S.sent sink.old) result (S.sent sink.new)
         (slice_index_or (block style.now width height content.now.text.now) index []) }
+    ensures marked { IsMarked content.now.text.now mark.new }
 {
     let above = fill_above(style, height, content);
     if index < above {
         return put_fill(sink, style.padding.top.fill, width);
     }
-    match content.line(index - above) {
+    match content.line(index - above, mark) {
         Some((line, columns)) => put_cell_line(sink, style, width, content, line, columns),
         None => put_fill(sink, style.padding.bottom.fill, width),
     }

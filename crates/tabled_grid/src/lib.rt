@@ -13,6 +13,7 @@ mod io_sink;
 mod kept;
 pub mod laws;
 mod lines;
+mod marks;
 mod memory;
 mod picture;
 mod pieces;

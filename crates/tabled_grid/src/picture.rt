@@ -5,48 +5,56 @@ ghost use Rattle.tabled_grid.specs.Grid.{sheet_of};
 ghost use Rattle.tabled_grid.specs.Holds.{IsSized};
 ghost use Rattle.tabled_grid.specs.Kept.{Keeps};
 ghost use Rattle.tabled_grid.specs.Leading.{WritesLines};
+ghost use Rattle.tabled_grid.specs.Marks.{AreMarked};
 ghost use Rattle.tabled_grid.specs.Picture.{filled_picture, row_line, row_lines, row_part, rule};
 ghost use Rattle.tabled_grid.specs.Sent.{Sent, Writes};
 
 use crate::grid::Grid;
 use crate::kept::{KeptLine, put_kept_line};
 use crate::lines::{put_break, put_margin};
+use crate::marks::Marks;
 use crate::rows::put_row_line;
 use crate::text_sink::TextSink;
 use tabled_base::{PeekableRecords, TableError};
 
-fn put_inner_line<R: PeekableRecords, S: TextSink>(
+fn put_inner_line<'a, R: PeekableRecords, S: TextSink>(
     sink: &mut S,
     begun: &mut bool,
-    grid: &Grid<'_, R>,
+    grid: &Grid<'a, R>,
+    marks: &mut Marks<'a>,
     row: usize,
     index: usize,
 ) -> Result<(), TableError>
     requires sized { IsSized (sheet_of R.cells grid.now) }
     requires row_in { row < length (R.cells grid.now.records.now) }
     requires index_in { index < slice_index grid.now.heights.now row }
-    ensures { WritesLines (S.sent sink.old) begun.old result (S.sent sink.new) begun.new
+    requires marked { AreMarked (R.cells grid.now.records.now) marks.old.cells }
+    ensures printed { WritesLines (S.sent sink.old) begun.old result (S.sent sink.new) begun.new
         (row_line (sheet_of R.cells grid.now) row index ∷ []) }
+    ensures marked { AreMarked (R.cells grid.now.records.now) marks.new.cells }
 {
     put_break(sink, begun)?;
-    put_row_line(sink, grid, row, index)
+    put_row_line(sink, grid, marks, row, index)
 }
 
 /// The lines of a row.
 #[tactic(auto, unfolding(crate::specs::Picture::row_lines))]
-fn put_row<R: PeekableRecords, S: TextSink>(
+fn put_row<'a, R: PeekableRecords, S: TextSink>(
     sink: &mut S,
     begun: &mut bool,
-    grid: &Grid<'_, R>,
+    grid: &Grid<'a, R>,
+    marks: &mut Marks<'a>,
     row: usize,
 ) -> Result<(), TableError>
     requires sized { IsSized (sheet_of R.cells grid.now) }
     requires row_in { row < length (R.cells grid.now.records.now) }
-    ensures { WritesLines (S.sent sink.old) begun.old result (S.sent sink.new) begun.new
+    requires marked { AreMarked (R.cells grid.now.records.now) marks.old.cells }
+    ensures printed { WritesLines (S.sent sink.old) begun.old result (S.sent sink.new) begun.new
         (row_lines (sheet_of R.cells grid.now) row) }
+    ensures marked { AreMarked (R.cells grid.now.records.now) marks.new.cells }
 {
     'lines: for index in 0..grid.heights[row] {
-        put_inner_line(sink, begun, grid, row, index)?;
+        put_inner_line(sink, begun, grid, marks, row, index)?;
     }
     Ok(())
 }
@@ -75,58 +83,67 @@ fn put_rule<R: PeekableRecords, S: TextSink>(
 }
 
 /// A row, with the horizontal line above it.
-fn put_row_part<R: PeekableRecords, S: TextSink>(
+fn put_row_part<'a, R: PeekableRecords, S: TextSink>(
     sink: &mut S,
     begun: &mut bool,
-    grid: &Grid<'_, R>,
+    grid: &Grid<'a, R>,
     kept: &mut KeptLine,
+    marks: &mut Marks<'a>,
     row: usize,
 ) -> Result<(), TableError>
     requires sized { IsSized (sheet_of R.cells grid.now) }
     requires known { Keeps (sheet_of R.cells grid.now) kept.old }
     requires row_in { row < length (R.cells grid.now.records.now) }
+    requires marked { AreMarked (R.cells grid.now.records.now) marks.old.cells }
     ensures printed { WritesLines (S.sent sink.old) begun.old result (S.sent sink.new) begun.new
         (row_part (sheet_of R.cells grid.now) row) }
     ensures known { Keeps (sheet_of R.cells grid.now) kept.new }
+    ensures marked { AreMarked (R.cells grid.now.records.now) marks.new.cells }
 {
     put_rule(sink, begun, grid, kept, row)?;
-    put_row(sink, begun, grid, row)
+    put_row(sink, begun, grid, marks, row)
 }
 
-fn put_rows<R: PeekableRecords, S: TextSink>(
+fn put_rows<'a, R: PeekableRecords, S: TextSink>(
     sink: &mut S,
     begun: &mut bool,
-    grid: &Grid<'_, R>,
+    grid: &Grid<'a, R>,
     kept: &mut KeptLine,
+    marks: &mut Marks<'a>,
 ) -> Result<(), TableError>
     requires sized { IsSized (sheet_of R.cells grid.now) }
     requires known { Keeps (sheet_of R.cells grid.now) kept.old }
+    requires marked { AreMarked (R.cells grid.now.records.now) marks.old.cells }
     ensures printed { WritesLines (S.sent sink.old) begun.old result (S.sent sink.new) begun.new
         (flat_map (row_part (sheet_of R.cells grid.now))
         (range_with_len 0 (length (R.cells grid.now.records.now)))) }
     ensures known { Keeps (sheet_of R.cells grid.now) kept.new }
+    ensures marked { AreMarked (R.cells grid.now.records.now) marks.new.cells }
 {
     'rows: for row in 0..grid.records.count_rows() {
-        put_row_part(sink, begun, grid, kept, row)?;
+        put_row_part(sink, begun, grid, kept, marks, row)?;
     }
     Ok(())
 }
 
-fn put_lines<R: PeekableRecords, S: TextSink>(
+fn put_lines<'a, R: PeekableRecords, S: TextSink>(
     sink: &mut S,
     begun: &mut bool,
-    grid: &Grid<'_, R>,
+    grid: &Grid<'a, R>,
     kept: &mut KeptLine,
+    marks: &mut Marks<'a>,
     whole: usize,
 ) -> Result<(), TableError>
     requires sized { IsSized (sheet_of R.cells grid.now) }
     requires known { Keeps (sheet_of R.cells grid.now) kept.old }
+    requires marked { AreMarked (R.cells grid.now.records.now) marks.old.cells }
     ensures printed { WritesLines (S.sent sink.old) begun.old result (S.sent sink.new) begun.new
         (filled_picture (sheet_of R.cells grid.now) whole) }
     ensures known { Keeps (sheet_of R.cells grid.now) kept.new }
+    ensures marked { AreMarked (R.cells grid.now.records.now) marks.new.cells }
 {
     put_margin(sink, begun, grid.config.margin.top, whole)?;
-    put_rows(sink, begun, grid, kept)?;
+    put_rows(sink, begun, grid, kept, marks)?;
     put_rule(sink, begun, grid, kept, grid.records.count_rows())?;
     put_margin(sink, begun, grid.config.margin.bottom, whole)
 }
@@ -143,5 +160,6 @@ pub(crate) fn put_picture<R: PeekableRecords, S: TextSink>(
 {
     let mut begun = false;
     let mut kept = KeptLine::new();
-    put_lines(sink, &mut begun, grid, &mut kept, whole)
+    let mut marks = Marks::new();
+    put_lines(sink, &mut begun, grid, &mut kept, &mut marks, whole)
 }

@@ -1,9 +1,12 @@
 //! The lines of a row, and horizontal lines.
-ghost use Rattle.std.specs.Prelude.{◌≡◌, ◌<◌, ◌≤◌, length};
-ghost use Rattle.std.specs.List.{flat_map, range_with_len, slice_index};
-ghost use Rattle.tabled_base.specs.Cells.{columns};
+ghost use Rattle.std.specs.Prelude.{◌≡◌, ◌<◌, ◌≤◌, length, []};
+ghost use Rattle.std.specs.List.{flat_map, range_with_len, slice_index, slice_index_or};
+ghost use Rattle.tabled_base.specs.Cells.{IsInside, cell_at, columns};
+ghost use Rattle.tabled_config.specs.Settings.{style_at};
+ghost use Rattle.tabled_grid.specs.Block.{block};
 ghost use Rattle.tabled_grid.specs.Grid.{sheet_of};
 ghost use Rattle.tabled_grid.specs.Holds.{IsSized};
+ghost use Rattle.tabled_grid.specs.Marks.{AreMarked};
 ghost use Rattle.tabled_grid.specs.Picture.{cell_piece, row_line, rule_line, rule_piece};
 ghost use Rattle.tabled_grid.specs.Sent.{Sent, Writes};
 
@@ -11,82 +14,113 @@ use crate::block::put_block_line;
 use crate::content::Content;
 use crate::edges::{put_left, put_piece, put_right};
 use crate::grid::Grid;
+use crate::marks::{Mark, Marks};
 use crate::pieces::put_fill;
 use crate::text_sink::TextSink;
 use tabled_base::{PeekableRecords, Position, TableError};
 use tabled_config::HorizontalLine;
 
 /// A line of the block of a cell, with the vertical line before it.
-fn put_cell<R: PeekableRecords, S: TextSink>(
+fn put_cell<'a, R: PeekableRecords, S: TextSink>(
     sink: &mut S,
-    grid: &Grid<'_, R>,
-    row: usize,
-    column: usize,
+    grid: &Grid<'a, R>,
+    marks: &mut Marks<'a>,
+    at: Position,
     index: usize,
 ) -> Result<(), TableError>
     requires sized { IsSized (sheet_of R.cells grid.now) }
-    requires row_in { row < length (R.cells grid.now.records.now) }
-    requires column_in { column < columns (R.cells grid.now.records.now) }
-    requires index_in { index < slice_index grid.now.heights.now row }
-    ensures { Writes (S.sent sink.old) result (S.sent sink.new)
-        (cell_piece (sheet_of R.cells grid.now) row index column) }
+    requires inside { IsInside (R.cells grid.now.records.now) at.row at.column }
+    requires index_in { index < slice_index grid.now.heights.now at.row }
+    requires marked { AreMarked (R.cells grid.now.records.now) marks.old.cells }
+    ensures printed { Writes (S.sent sink.old) result (S.sent sink.new)
+        (cell_piece (sheet_of R.cells grid.now) at.row index at.column) }
+    ensures marked { AreMarked (R.cells grid.now.records.now) marks.new.cells }
 {
     put_piece(
         sink,
-        grid.config.has_bar(column),
+        grid.config.has_bar(at.column),
         grid.config.borders.vertical,
     )?;
-    let style = grid.config.style_at(row, column);
-    let at = Position { row, column };
     let content = Content {
         text: grid.records.get_text(at),
         columns: grid.records.get_width(at),
         lines: grid.records.count_lines(at),
     };
-    put_block_line(
-        sink,
-        &style,
-        grid.widths[column],
-        grid.heights[row],
-        &content,
-        index,
-    )
+    put_content_line(sink, grid, marks, &content, at, index)
 }
 
-fn put_cells<R: PeekableRecords, S: TextSink>(
+/// A line of the block of a cell whose text is at hand. Where it has some lines, the next one is marked.
+fn put_content_line<'a, R: PeekableRecords, S: TextSink>(
     sink: &mut S,
-    grid: &Grid<'_, R>,
+    grid: &Grid<'a, R>,
+    marks: &mut Marks<'a>,
+    content: &Content<'a>,
+    at: Position,
+    index: usize,
+) -> Result<(), TableError>
+    requires sized { IsSized (sheet_of R.cells grid.now) }
+    requires inside { IsInside (R.cells grid.now.records.now) at.row at.column }
+    requires index_in { index < slice_index grid.now.heights.now at.row }
+    requires text { content.now.text.now ≡ cell_at (R.cells grid.now.records.now) at.row at.column }
+    requires marked { AreMarked (R.cells grid.now.records.now) marks.old.cells }
+    ensures printed { Writes (S.sent sink.old) result (S.sent sink.new)
+        (slice_index_or (block (style_at grid.now.config.now at.row at.column)
+        (slice_index grid.now.widths.now at.column) (slice_index grid.now.heights.now at.row)
+        content.now.text.now) index []) }
+    ensures marked { AreMarked (R.cells grid.now.records.now) marks.new.cells }
+{
+    let style = grid.config.style_at(at.row, at.column);
+    let (width, height) = (grid.widths[at.column], grid.heights[at.row]);
+    if content.lines == 1 {
+        let mut start = Mark::start(content.text);
+        return put_block_line(sink, &style, width, height, content, &mut start, index);
+    }
+    let mut mark = marks.at(at, content.text);
+    put_block_line(sink, &style, width, height, content, &mut mark, index)?;
+    marks.keep(at, mark);
+    Ok(())
+}
+
+fn put_cells<'a, R: PeekableRecords, S: TextSink>(
+    sink: &mut S,
+    grid: &Grid<'a, R>,
+    marks: &mut Marks<'a>,
     row: usize,
     index: usize,
 ) -> Result<(), TableError>
     requires sized { IsSized (sheet_of R.cells grid.now) }
     requires row_in { row < length (R.cells grid.now.records.now) }
     requires index_in { index < slice_index grid.now.heights.now row }
-    ensures { Writes (S.sent sink.old) result (S.sent sink.new)
+    requires marked { AreMarked (R.cells grid.now.records.now) marks.old.cells }
+    ensures printed { Writes (S.sent sink.old) result (S.sent sink.new)
         (flat_map (cell_piece (sheet_of R.cells grid.now) row index)
         (range_with_len 0 (columns (R.cells grid.now.records.now)))) }
+    ensures marked { AreMarked (R.cells grid.now.records.now) marks.new.cells }
 {
     'cells: for column in 0..grid.records.count_columns() {
-        put_cell(sink, grid, row, column, index)?;
+        put_cell(sink, grid, marks, Position { row, column }, index)?;
     }
     Ok(())
 }
 
 /// A line of a row.
-pub(crate) fn put_row_line<R: PeekableRecords, S: TextSink>(
+pub(crate) fn put_row_line<'a, R: PeekableRecords, S: TextSink>(
     sink: &mut S,
-    grid: &Grid<'_, R>,
+    grid: &Grid<'a, R>,
+    marks: &mut Marks<'a>,
     row: usize,
     index: usize,
 ) -> Result<(), TableError>
     requires sized { IsSized (sheet_of R.cells grid.now) }
     requires row_in { row < length (R.cells grid.now.records.now) }
     requires index_in { index < slice_index grid.now.heights.now row }
-    ensures { Writes (S.sent sink.old) result (S.sent sink.new)
+    requires marked { AreMarked (R.cells grid.now.records.now) marks.old.cells }
+    ensures printed { Writes (S.sent sink.old) result (S.sent sink.new)
         (row_line (sheet_of R.cells grid.now) row index) }
+    ensures marked { AreMarked (R.cells grid.now.records.now) marks.new.cells }
 {
     put_left(sink, grid.config, grid.config.borders.left)?;
-    put_cells(sink, grid, row, index)?;
+    put_cells(sink, grid, marks, row, index)?;
     put_right(sink, grid.config, grid.config.borders.right)
 }
 

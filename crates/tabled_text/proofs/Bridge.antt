@@ -39,12 +39,13 @@ put_before (x ∷ xs) ys l ls a h =
     slice_split-cons_no is_feed x (xs ++ ys) (All-head (λ b. is_feed b ≡ false) x xs a)
     ∙ ap (onto_first x) (put_before xs ys l ls (All-tail (λ b. is_feed b ≡ false) x xs a) h)
 
-record Begins (ls : List (List ℕ)) : Type 0 where
-  first : List ℕ
-  rest : List (List ℕ)
-  parts : ls ≡ first ∷ rest
+-- a list of texts with a first one
+pub record Begins (ls : List (List ℕ)) : Type 0 where
+  pub first : List ℕ
+  pub rest : List (List ℕ)
+  pub parts : ls ≡ first ∷ rest
 
-begins : (ls : List (List ℕ)) → 0 < length ls → Begins ls
+pub begins : (ls : List (List ℕ)) → 0 < length ls → Begins ls
 begins [] h = absurd (omega arith)
 begins (l ∷ ls) h = record { first = l; rest = ls; parts = refl }
 

@@ -1,8 +1,9 @@
 -- The listed characters end no special sequence, by the tables of `unicode_width`, so that their columns add up.
-use Rattle.std.proofs.Common.{◌≡◌, ℕ, ◌≤◌, ◌<◌, Bool, true, false, cond, nat_le, ◌&&◌, ◌||◌, nat_lt, List, [], ◌∷◌, Option, None, refl, sym, ap, ◌∙◌, arith, subst, ⊎_elim, lit<, sum_by}
+use Rattle.std.proofs.Common.{◌≡◌, ℕ, ◌≤◌, ◌<◌, Bool, true, false, cond, nat_le, ◌&&◌, ◌||◌, nat_lt, List, [], ◌∷◌, Option, None, refl, sym, ap, ◌∙◌, arith, subst, ⊎_elim, lit<, sum_by, max, ◌==◌}
 use Rattle.std.specs.List.{list_all}
 use Rattle.std.proofs.lemmas.Bool.{and_parts, or_cases, or_left, or_right, and_from, leb-true, lt-ltb, eqb-true}
 use Rattle.std.proofs.lemmas.Bool.Decides.{nat_tests}
+use Rattle.std.proofs.lemmas.List.Sums.{sum_by-cons}
 use Rattle.unicode_width.specs.declared.kind.Kind.{Kind}
 use Rattle.ucd_bidi.specs.declared.JoiningGroup.TheVariants.{NoJoiningGroup}
 use Rattle.std.specs.Int.{is_in_range}
@@ -17,7 +18,7 @@ use Rattle.unicode_width.specs.Kind.{kind, named_rows, named_kind, unnamed_kind,
 use Rattle.unicode_width.specs.Width.{str_width}
 use Rattle.unicode_width.proofs.Rules.{is_simple, is_simple_kind, str_width-simple}
 use Rattle.tabled_text.specs.Plain.{is_listed, has_plain_width, is_plain_character}
-use Rattle.tabled_text.specs.Measure.{char_columns}
+use Rattle.tabled_text.specs.Measure.{char_columns, columns_of, char_count, count_of}
 
 -- no range has a member from low to high
 abbrev misses : ℕ → ℕ → List Range → Bool
@@ -127,3 +128,19 @@ is_simple-plain (c ∷ cs) h =
 -- characters that are plain take as many columns as they do one by one
 pub line_columns-plain : (cs : List ℕ) → list_all is_plain_character cs ≡ true → str_width false cs ≡ sum_by char_columns cs
 line_columns-plain cs h = str_width-simple false cs (is_simple-plain cs h)
+
+-- the same by another name
+pub columns_of-plain : (cs : List ℕ) → list_all is_plain_character cs ≡ true → columns_of cs ≡ sum_by char_columns cs
+columns_of-plain cs h = line_columns-plain cs h
+
+pub char_count-plain : (w : ℕ) → ((w == 1) || (w == 2)) ≡ true → max 1 w ≡ w
+char_count-plain w h = ⊎_elim (λ a. let e = eqb-true w 1 a in omega arith) (λ a. let e = eqb-true w 2 a in omega arith) (or_cases _ _ h)
+
+-- and count as much
+pub count_of-plain : (cs : List ℕ) → list_all is_plain_character cs ≡ true → count_of cs ≡ sum_by char_columns cs
+count_of-plain [] h = refl
+count_of-plain (c ∷ cs) h =
+    let parts = and_parts (is_plain_character c) (list_all is_plain_character cs) h in
+    let own = and_parts (has_plain_width c) (is_simple c) (and_parts (is_listed c) (has_plain_width c && is_simple c) parts.0).1 in
+    let e : char_count c ≡ char_columns c = char_count-plain (char_columns c) own.0 in
+    omega (arith, e, count_of-plain cs parts.1, sum_by-cons char_count c cs, sum_by-cons char_columns c cs)

@@ -20,7 +20,7 @@ use Rattle.tabled_text.proofs.Bridge.{each_in_lines, lines_of-chars, utf8_lines,
 
 -- ---- characters
 
-scalar-listed : (c : ℕ) → is_listed c ≡ true → IsScalar c
+pub scalar-listed : (c : ℕ) → is_listed c ≡ true → IsScalar c
 scalar-listed c h = grind (arith, nat_tests)
 
 printable-column : (c : ℕ) → is_in_range 0x20 0x7E c ≡ true → char_columns c ≡ 1
@@ -99,7 +99,8 @@ plain_line-each text h k l =
 not_feed : (c : ℕ) → is_listed c ≡ true → (c == 10) ≡ false
 not_feed c h = grind (arith, nat_tests)
 
-one_line : (cs : List ℕ) → list_all is_plain_character cs ≡ true → lines_of cs ≡ cs ∷ []
+-- plain characters are one line
+pub one_line : (cs : List ℕ) → list_all is_plain_character cs ≡ true → lines_of cs ≡ cs ∷ []
 one_line [] h = refl
 one_line (c ∷ cs) h =
     let parts = and_parts (is_plain_character c) (list_all is_plain_character cs) h in

@@ -1,3 +1,12 @@
+pub mod Breaking
+pub mod Cut
+pub mod Expected
 pub mod Lines
+pub mod Longest
 pub mod Measure
+pub mod OldText
 pub mod Plain
+pub mod Room
+pub mod Units
+pub mod Walk
+pub mod Wrapping

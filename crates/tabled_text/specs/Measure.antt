@@ -1,5 +1,5 @@
 -- How texts are measured. A text is the list of its bytes.
-use Rattle.std.specs.Prelude.{ℕ, false, List, [], ◌∷◌, ◌==◌, chars, map, max, unwrap_or}
+use Rattle.std.specs.Prelude.{ℕ, false, List, [], ◌∷◌, ◌==◌, chars, map, max, sum_by, unwrap_or}
 use Rattle.std.specs.List.{slice_split}
 use Rattle.unicode_width.specs.Width.{char_width, str_width}
 
@@ -23,3 +23,15 @@ text_columns text = greatest (map line_columns (lines_of text))
 -- the columns of a character, 0 where it has none
 abbrev pub char_columns : ℕ → ℕ
 char_columns c = unwrap_or (char_width false c) 0
+
+-- the columns of a line that is given by its characters
+abbrev pub columns_of : List ℕ → ℕ
+columns_of cs = str_width false cs
+
+-- the count of a character, for cutting and wrapping: its columns, and 1 at least
+abbrev pub char_count : ℕ → ℕ
+char_count c = max 1 (char_columns c)
+
+-- the count of a line that is given by its characters
+abbrev pub count_of : List ℕ → ℕ
+count_of cs = sum_by char_count cs

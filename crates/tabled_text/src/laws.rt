@@ -1,9 +1,17 @@
-//! Laws of plain texts, each the contract of a function.
-ghost use Rattle.std.specs.Prelude.{◌≡◌, ◌<◌, ℕ, true, List, [], ◌++◌, ◌+◌, IsTrue, chars, encode_utf8, length, sum_by};
+//! Laws of texts, each the contract of a function.
+ghost use Rattle.std.specs.Prelude.{◌≡◌, ◌<◌, ◌≤◌, ℕ, Bool, true, List, [], ◌∷◌, ◌++◌, ◌+◌, ◌*◌, All, IsTrue, chars, encode_utf8, encode_utf8_all, length, map, max, replicate, sum_by};
 ghost use Rattle.std.specs.Int.{is_in_range};
-ghost use Rattle.std.specs.List.{list_all, slice_index_or};
-ghost use Rattle.tabled_text.specs.Measure.{char_columns, line_columns, lines_of};
+ghost use Rattle.std.specs.List.{join_with_byte, list_all, slice_index_or};
+ghost use Rattle.std.specs.Str.{IsUtf8};
+ghost use Rattle.tabled_text.specs.Breaking.{EachUnitFits, HasFewestLines, IsBroken, IsLeastBreaking};
+ghost use Rattle.tabled_text.specs.Cut.{IsCut};
+ghost use Rattle.tabled_text.specs.Longest.{IsLongestCut};
+ghost use Rattle.tabled_text.specs.Measure.{char_columns, count_of, greatest, line_columns, lines_of, text_columns};
+ghost use Rattle.tabled_text.specs.OldText.{HasOldText, finds_room};
 ghost use Rattle.tabled_text.specs.Plain.{is_listed, has_plain_width, is_plain_character, IsPlain, IsPlainColumn, IsPlainLine};
+ghost use Rattle.tabled_text.specs.Room.{stays, StaysWithin};
+ghost use Rattle.tabled_text.specs.Units.{TextUnit, text_of, units};
+ghost use Rattle.tabled_text.specs.Wrapping.{IsWrapped};
 
 use crate::measure::line_width;
 
@@ -27,4 +35,87 @@ pub fn plain_lines()
     ensures joined { (front back : List ℕ) (m n : ℕ) → IsPlainLine front m → IsPlainLine back n → IsPlainLine (front ++ back) (m + n) }
     ensures each { (text : List ℕ) → IsPlain text → (k : ℕ) → k < length (lines_of text)
         → IsPlainLine (slice_index_or (lines_of text) k []) (line_columns (slice_index_or (lines_of text) k [])) }
+{}
+
+/// What a plain line takes, as a law of lists: its characters' columns add up, and its count is as great.
+pub fn plain_columns()
+    ensures sum { (line : List ℕ) → list_all is_plain_character (chars line) ≡ true
+        → line_columns line ≡ sum_by char_columns (chars line) }
+    ensures count { (line : List ℕ) → list_all is_plain_character (chars line) ≡ true
+        → line_columns line ≡ count_of (chars line) }
+    ensures replacement { IsPlainColumn 0xFFFD }
+{}
+
+/// Bounds by the bytes of a text, which keep sums in range.
+pub fn text_bounds()
+    ensures lines { (text : List ℕ) → length (lines_of text) ≤ length text + 1 }
+    ensures columns { (text : List ℕ) → IsPlain text → text_columns text ≤ 2 * length text }
+{}
+
+/// A line feed between two texts ends a line, so the lines of both stand one after another, and the wider
+/// text gives the columns.
+pub fn joined_lines()
+    ensures lines { (front back : List ℕ) → lines_of (front ++ 10 ∷ back) ≡ lines_of front ++ lines_of back }
+    ensures columns { (front back : List ℕ)
+        → text_columns (front ++ 10 ∷ back) ≡ max (text_columns front) (text_columns back) }
+    ensures each { (texts : List (List ℕ)) → 0 < length texts → All (λ text. length (lines_of text) ≡ 1) texts
+        → lines_of (join_with_byte 10 texts) ≡ texts }
+    ensures count { (texts : List (List ℕ)) → 0 < length texts
+        → length (lines_of (join_with_byte 10 texts)) ≡ sum_by (λ text. length (lines_of text)) texts }
+    ensures widest { (texts : List (List ℕ))
+        → text_columns (join_with_byte 10 texts) ≡ greatest (map text_columns texts) }
+{}
+
+/// Plain texts of which no line passes n columns: what is joined of them, no text, and copies of a character.
+pub fn texts_that_stay()
+    ensures plain { (n : ℕ) (text : List ℕ) → StaysWithin n text → IsPlain text × (text_columns text ≤ n) }
+    ensures from { (n : ℕ) (text : List ℕ) → IsPlain text → text_columns text ≤ n → StaysWithin n text }
+    ensures joined { (n : ℕ) (texts : List (List ℕ)) → 0 < length texts → All (StaysWithin n) texts
+        → StaysWithin n (join_with_byte 10 texts) }
+    ensures none { (n : ℕ) → StaysWithin n [] }
+    ensures filled { (n k c : ℕ) → k ≤ n → IsPlainColumn c → StaysWithin n (encode_utf8_all (replicate k c)) }
+{}
+
+/// A cut plain text stays in its columns, alone and with what follows it. It has no more lines than the text, and of
+/// a plain line it is the longest beginning that finds room, and the line itself where that does.
+pub fn cut_texts()
+    ensures room { (n : ℕ) (text answer : List ℕ) → IsPlain text → IsCut n text answer → StaysWithin n answer }
+    ensures suffix { (n w : ℕ) (text answer suffix : List ℕ) → IsPlain text → IsPlain suffix
+        → n + sum_by line_columns (lines_of suffix) ≤ w → IsCut n text answer → StaysWithin w (answer ++ suffix) }
+    ensures followed { (n w : ℕ) (text answer tail : List ℕ) → n ≤ w → IsPlain text
+        → IsCut n text answer → IsUtf8 tail → ((k : ℕ) → k ≤ n → stays w k (chars tail) ≡ true) → StaysWithin w (answer ++ tail) }
+    ensures lines { (n : ℕ) (text answer : List ℕ) → IsUtf8 text → IsCut n text answer
+        → length (lines_of answer) ≤ length (lines_of text) }
+    ensures longest { (n : ℕ) (line answer : List ℕ) → list_all is_plain_character (chars line) ≡ true
+        → IsCut n line answer → IsLongestCut n line answer }
+    ensures kept { (n m : ℕ) (line answer : List ℕ) → IsPlainLine line m → m ≤ n → IsCut n line answer
+        → answer ≡ line }
+{}
+
+/// There is a breaking exactly where each unit finds room, as where no character counts more than n. The units of a
+/// line, joined, are the line.
+pub fn breakings()
+    ensures units { (n : ℕ) (words : Bool) (line : List ℕ) → text_of (units n words line) ≡ line }
+    ensures permitted { (n : ℕ) (words : Bool) (text : List ℕ) (broken : List (List (List TextUnit)))
+        → IsBroken n words text broken → EachUnitFits n words text }
+    ensures exists { (n : ℕ) (words : Bool) (text : List ℕ) → 0 < n → EachUnitFits n words text
+        → (broken : List (List (List TextUnit))) × IsBroken n words text broken }
+    ensures room { (n : ℕ) (words : Bool) (text : List ℕ) → 0 < n → finds_room n (chars text) ≡ true
+        → EachUnitFits n words text }
+{}
+
+/// A wrapped plain text stays in its columns, whatever its characters take, and is the old text where that does. No
+/// breaking has fewer lines. Where each unit finds room, a wrapped text is the text of a breaking, and without the
+/// line feeds that were put in the old text.
+pub fn wrapped_texts()
+    ensures room { (n : ℕ) (words : Bool) (text answer : List ℕ) → IsPlain text → IsWrapped n words text answer
+        → StaysWithin n answer }
+    ensures fewest { (n : ℕ) (words : Bool) (text answer : List ℕ) → IsWrapped n words text answer
+        → HasFewestLines n words text answer }
+    ensures least { (n : ℕ) (words : Bool) (text answer : List ℕ) → 0 < n → EachUnitFits n words text
+        → IsWrapped n words text answer → IsLeastBreaking n words text answer }
+    ensures whole { (n : ℕ) (words : Bool) (text answer : List ℕ) → 0 < n → EachUnitFits n words text
+        → IsWrapped n words text answer → HasOldText text answer }
+    ensures kept { (n : ℕ) (words : Bool) (text answer : List ℕ) → 0 < n → IsPlain text → text_columns text ≤ n
+        → IsWrapped n words text answer → answer ≡ text }
 {}

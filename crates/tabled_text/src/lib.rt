@@ -1,16 +1,25 @@
-//! What a text takes: its lines, and the columns of each.
+//! What a text takes, where it is cut, and how it is wrapped.
 //!
 //! A column is what `unicode_width` counts, by Unicode Standard Annex 11. A text has one line more
-//! than line feeds, and is as wide as its widest line.
+//! than line feeds, and is as wide as its widest line. Cutting and wrapping count each character by
+//! itself, and 1 at least, so that they never look ahead; words that are kept are measured as a line.
+//! For plain texts both measures are the same.
 #![tactic(auto)]
 
+mod character;
+mod cut;
+mod fullest;
 pub mod laws;
 mod line;
 mod measure;
 mod plain;
 #[cfg(test)]
 mod tests;
+mod wrap;
 
-pub use line::{TextLines, lines};
+pub use cut::{cut_str, split_str};
+pub use fullest::is_fullest;
+pub use line::{TextLines, lines, split_line};
 pub use measure::{count_lines, line_width, text_measures, text_width};
 pub use plain::is_plain;
+pub use wrap::wrap_text;

@@ -17,8 +17,8 @@ pub fn lines(text: &str) -> TextLines<'_>
     TextLines { rest: Some(text) }
 }
 
-/// The first line of a text, and what follows its line feed.
-fn split_line(text: &str) -> (&str, Option<&str>)
+/// The first line of a text, and what follows its line feed, if it has one.
+pub fn split_line(text: &str) -> (&str, Option<&str>)
     ensures { lines_of text.now ≡ result.0.now ∷ lines_in result.1 }
 {
     match text.split_once('\n') {

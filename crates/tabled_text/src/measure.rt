@@ -36,6 +36,7 @@ pub fn count_lines(text: &str) -> usize
 pub fn text_measures(text: &str) -> (usize, usize)
     ensures columns { result.0 ≡ text_columns text.now }
     ensures lines { result.1 ≡ length (lines_of text.now) }
+    ensures bound { result.0 ≤ 2 * length text.now }
 {
     if text.as_bytes().contains(&b'\n') {
         (text_width(text), count_lines(text))

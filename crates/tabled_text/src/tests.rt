@@ -1,3 +1,8 @@
+//! What no clause says: worked examples, and each public call with ample memory.
+mod cuts;
+mod references;
+mod wraps;
+
 use super::*;
 
 #[test]

@@ -1,8 +1,10 @@
 //! Pictures as they stand.
 
+use crate::print_estimated;
 use crate::tests::tables::{PICTURE, TEXT, ascii, drawn, drawn_cell, modern, put_text};
+use std::alloc::Global;
 use std::test::Fail;
-use tabled_base::Entity;
+use tabled_base::{Builder, Entity};
 use tabled_config::{AlignmentHorizontal, AlignmentVertical, Indent};
 
 #[test]
@@ -95,5 +97,35 @@ fn lines_are_aligned_together_or_each_by_itself(rt: HostRuntime) -> Result<(), F
         let got = drawn_cell(rt.alloc(), "a\nbcd", &config, 5, 2)?;
         assert_eq!(rt; got.as_str(), want);
     }
+    Ok(())
+}
+
+// A line of 66 cells, from its first edge on.
+fn cells_of(alloc: Global, first: &str, cell: &str) -> Result<String, Fail> {
+    let mut line = String::from_str(alloc, first)?;
+    for _column in 0..66 {
+        line.push_str(cell)?;
+    }
+    Ok(line)
+}
+
+#[test]
+fn cells_of_many_lines_stand_side_by_side(rt: HostRuntime) -> Result<(), Fail> {
+    let mut builder = Builder::new(rt.alloc());
+    builder.add_record(["a\nbc\nd"; 66])?;
+    let mut got = String::new(rt.alloc());
+    print_estimated(rt.alloc(), &builder.build(), &ascii(rt.alloc()), &mut got)?;
+    let mut lines = got.split('\n');
+    for (first, cell) in [
+        ("+", "----+"),
+        ("|", " a  |"),
+        ("|", " bc |"),
+        ("|", " d  |"),
+        ("+", "----+"),
+    ] {
+        let want = cells_of(rt.alloc(), first, cell)?;
+        assert_eq!(rt; lines.next(), Some(want.as_str()));
+    }
+    assert_eq!(rt; lines.next(), None);
     Ok(())
 }

@@ -16,4 +16,5 @@ rows-preserved g c =
       printed = lines-further c.rows.invariant.printed c.in_ok-put_row_part.ensures.printed
           (each-more (row_part (sheet_of g.R.ExactRecords.cells c.args.grid.now)) _);
       known = c.in_ok-put_row_part.ensures.known;
+      marked = c.in_ok-put_row_part.ensures.marked;
     }

@@ -7,16 +7,16 @@ use Rattle.tabled_config.specs.Settings.{style_at}
 use Rattle.tabled_grid.specs.Picture.{cell_piece}
 use Rattle.tabled_grid.proofs.rows.put_cell.Goals as goal
 
-pub returns-in_err-put_piece : goal.returns-in_err-put_piece
+pub returns-in_err-put_piece-clause-printed : goal.returns-in_err-put_piece-clause-printed
 unfolding cell_piece
-returns-in_err-put_piece g c =
+returns-in_err-put_piece-clause-printed g c =
     stopped-first _ _
     (let grid = c.args.grid.now in
-    slice_index_or (block (style_at grid.config.now c.args.row c.args.column) (slice_index grid.widths.now c.args.column) (slice_index grid.heights.now c.args.row) (cell_at (g.R.ExactRecords.cells grid.records.now) c.args.row c.args.column)) c.args.index [])
+    slice_index_or (block (style_at grid.config.now c.args.at.row c.args.at.column) (slice_index grid.widths.now c.args.at.column) (slice_index grid.heights.now c.args.at.row) (cell_at (g.R.ExactRecords.cells grid.records.now) c.args.at.row c.args.at.column)) c.args.index [])
     c.in_err-put_piece.ensures c.from_residual.ensures.1 (rw c.has_bar.ensures refl)
 
-pub returns : goal.returns
+pub returns-clause-printed : goal.returns-clause-printed
 unfolding cell_piece
-returns g c =
-    finished _ _ _ _ c.in_ok-put_piece.ensures c.put_block_line.ensures
-    (rw (c.has_bar.ensures, c.style_at-style.ensures, c.get_text.ensures) refl)
+returns-clause-printed g c =
+    finished _ _ _ _ c.in_ok-put_piece.ensures c.put_content_line.ensures.printed
+    (rw (c.has_bar.ensures, c.get_text.ensures) refl)

@@ -4,13 +4,16 @@ use Rattle.tabled_grid.specs.Picture.{cell_piece}
 use Rattle.tabled_grid.proofs.Each.{each-more, each-rest}
 use Rattle.tabled_grid.proofs.rows.put_cells.Goals as goal
 
-pub returns-in_err-put_cell : goal.returns-in_err-put_cell
-returns-in_err-put_cell g c =
+pub returns-in_err-put_cell-clause-printed : goal.returns-in_err-put_cell-clause-printed
+returns-in_err-put_cell-clause-printed g c =
     let within = rw c.count_columns-column-end.ensures.columns at c.cells-test.true in
-    stopped _ _ _ c.cells.invariant c.in_err-put_cell.ensures c.from_residual.ensures.1
+    stopped _ _ _ c.cells.invariant.printed c.in_err-put_cell.ensures.printed c.from_residual.ensures.1
     (each-rest (cell_piece (sheet_of g.R.ExactRecords.cells c.args.grid.now) c.args.row c.args.index) _ _ within)
 
 pub cells-preserved : goal.cells-preserved
 cells-preserved g c =
-    further c.cells.invariant c.in_ok-put_cell.ensures
-    (each-more (cell_piece (sheet_of g.R.ExactRecords.cells c.args.grid.now) c.args.row c.args.index) _)
+    record {
+      printed = further c.cells.invariant.printed c.in_ok-put_cell.ensures.printed
+          (each-more (cell_piece (sheet_of g.R.ExactRecords.cells c.args.grid.now) c.args.row c.args.index) _);
+      marked = c.in_ok-put_cell.ensures.marked;
+    }

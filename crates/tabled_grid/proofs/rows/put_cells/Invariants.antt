@@ -1,4 +1,5 @@
 use Rattle.std.specs.List.{flat_map, range_with_len}
+use Rattle.tabled_grid.specs.Marks.{AreMarked}
 use Rattle.tabled_grid.specs.Sent.{Sends}
 use Rattle.tabled_grid.specs.Grid.{sheet_of}
 use Rattle.tabled_grid.specs.Picture.{cell_piece}
@@ -6,5 +7,8 @@ use Rattle.tabled_grid.proofs.rows.put_cells.Given as goal
 
 abbrev pub invariant-cells : goal.invariant-cells
 invariant-cells g l =
-    Sends (g.S.TextSink.sent l.initial.sink) (g.S.TextSink.sent l.sink)
-    (flat_map (cell_piece (sheet_of g.R.ExactRecords.cells l.grid) l.row l.index) (range_with_len 0 l.column))
+    record {
+      printed : Sends (g.S.TextSink.sent l.initial.sink) (g.S.TextSink.sent l.sink)
+          (flat_map (cell_piece (sheet_of g.R.ExactRecords.cells l.grid) l.row l.index) (range_with_len 0 l.column));
+      marked : AreMarked (g.R.ExactRecords.cells l.grid.records.now) l.marks.cells;
+    }

@@ -1,0 +1,17 @@
+-- Marks in the texts of cells.
+use Rattle.std.specs.Prelude.{◌≡◌, ℕ, List, Option, Some, None, drop}
+use Rattle.std.specs.List.{slice_index_or}
+use Rattle.tabled_base.specs.Cells.{cell_at}
+use Rattle.tabled_text.specs.Lines.{lines_in}
+use Rattle.tabled_text.specs.Measure.{lines_of}
+use Rattle.tabled_grid.specs.declared.marks.Mark.{Mark}
+use Rattle.tabled_grid.specs.declared.marks.MarkedCell.{MarkedCell}
+
+-- the lines from the mark on are those of the text from its number on
+abbrev pub IsMarked : List ℕ → Mark → Type 0
+IsMarked text mark = lines_in mark.rest ≡ drop mark.line (lines_of text)
+
+-- each mark is one in the text of its cell
+abbrev pub AreMarked : List (List (List ℕ)) → List (Option MarkedCell) → Type 0
+AreMarked cells marks =
+    (k : ℕ) (cell : MarkedCell) → slice_index_or marks k None ≡ Some cell → IsMarked (cell_at cells cell.place.row cell.place.column) cell.mark

@@ -1,0 +1,9 @@
+-- The lists that are stored.
+use Rattle.std.specs.Prelude.{ℕ, List, Option, option_map}
+use Rattle.tabled_size.specs.declared.complete_dimension.CompleteDimension.{CompleteDimension}
+
+abbrev pub widths_of : CompleteDimension → Option (List ℕ)
+widths_of sizes = option_map (λ v. v.items) sizes.width
+
+abbrev pub heights_of : CompleteDimension → Option (List ℕ)
+heights_of sizes = option_map (λ v. v.items) sizes.height

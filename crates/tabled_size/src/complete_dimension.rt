@@ -1,0 +1,180 @@
+//! Sizes that are stored or estimated.
+ghost use Rattle.std.specs.Prelude.{◌≡◌, ◌&&◌, ℕ, IfErr, IfOk, List, None, Option, Some, is_none, is_some, option_map, true};
+ghost use Rattle.tabled_base.specs.declared.error.TableError.TheVariants.{Memory};
+ghost use Rattle.tabled_size.specs.Standing.{clears_heights, clears_widths, stored_at, unless_cleared};
+ghost use Rattle.tabled_size.specs.Stored.{heights_of, widths_of};
+
+use crate::dimension::Dimension;
+use std::alloc::Global;
+use tabled_base::{Entity, TableError};
+
+/// The widths and heights of a table, each of them stored or not. What isn't stored is estimated when
+/// it is needed.
+#[derive(Debug, Drop, PartialEq, Eq, PartialOrd, Ord)]
+pub struct CompleteDimension {
+    alloc: Global,
+    width: Option<Vec<usize>>,
+    height: Option<Vec<usize>>,
+}
+
+impl CompleteDimension {
+    /// No sizes stored.
+    pub fn new(alloc: Global) -> Self
+        ensures widths { widths_of result ≡ None }
+        ensures heights { heights_of result ≡ None }
+    {
+        CompleteDimension {
+            alloc,
+            width: None,
+            height: None,
+        }
+    }
+
+    /// Whether widths and heights are stored.
+    pub fn is_complete(&self) -> bool
+        ensures { result ≡ (is_some (widths_of self.now) && is_some (heights_of self.now)) }
+    {
+        self.width.is_some() && self.height.is_some()
+    }
+
+    /// Whether neither widths nor heights are stored.
+    pub fn is_empty(&self) -> bool
+        ensures { result ≡ (is_none (widths_of self.now) && is_none (heights_of self.now)) }
+    {
+        self.width.is_none() && self.height.is_none()
+    }
+
+    /// Stores widths, in columns of text with their padding, one for each column of the table.
+    pub fn set_widths(&mut self, columns: Vec<usize>)
+        ensures widths { widths_of self.new ≡ Some columns.items }
+        ensures heights { heights_of self.new ≡ heights_of self.old }
+    {
+        self.width = Some(columns);
+    }
+
+    /// Stores heights, in lines, one for each row of the table.
+    pub fn set_heights(&mut self, rows: Vec<usize>)
+        ensures heights { heights_of self.new ≡ Some rows.items }
+        ensures widths { widths_of self.new ≡ widths_of self.old }
+    {
+        self.height = Some(rows);
+    }
+
+    /// Forgets the widths.
+    pub fn clear_width(&mut self)
+        ensures widths { widths_of self.new ≡ None }
+        ensures heights { heights_of self.new ≡ heights_of self.old }
+    {
+        self.width = None;
+    }
+
+    /// Forgets the heights.
+    pub fn clear_height(&mut self)
+        ensures heights { heights_of self.new ≡ None }
+        ensures widths { widths_of self.new ≡ widths_of self.old }
+    {
+        self.height = None;
+    }
+
+    /// Forgets widths and heights.
+    pub fn clear(&mut self)
+        ensures widths { widths_of self.new ≡ None }
+        ensures heights { heights_of self.new ≡ None }
+    {
+        self.clear_width();
+        self.clear_height();
+    }
+
+    /// Forgets what a change may have made wrong: both where the whole table or a cell was changed, the
+    /// widths for a column, the heights for a row, nothing without a hint.
+    pub fn reastimate(&mut self, hint: Option<Entity>)
+        ensures widths { widths_of self.new ≡ unless_cleared (clears_widths hint) (widths_of self.old) }
+        ensures heights { heights_of self.new ≡ unless_cleared (clears_heights hint) (heights_of self.old) }
+    {
+        match hint {
+            None => {}
+            Some(Entity::Global) => self.clear(),
+            Some(Entity::Row(_)) => self.clear_height(),
+            Some(Entity::Column(_)) => self.clear_width(),
+            Some(Entity::Cell(_, _)) => self.clear(),
+        }
+    }
+
+    /// The widths, where they are stored.
+    pub fn get_widths(&self) -> Option<&[usize]>
+        ensures { option_map (λ sizes. sizes.now) result ≡ widths_of self.now }
+    {
+        self.width.as_deref()
+    }
+
+    /// The heights, where they are stored.
+    pub fn get_heights(&self) -> Option<&[usize]>
+        ensures { option_map (λ sizes. sizes.now) result ≡ heights_of self.now }
+    {
+        self.height.as_deref()
+    }
+
+    /// The same sizes. Refused for memory.
+    pub fn clone(&self) -> Result<Self, TableError>
+        ensures widths { IfOk result (λ sizes. widths_of sizes ≡ widths_of self.now) }
+        ensures heights { IfOk result (λ sizes. heights_of sizes ≡ heights_of self.now) }
+        ensures only { IfErr result (λ e. e ≡ Memory) }
+    {
+        Ok(CompleteDimension {
+            alloc: self.alloc,
+            width: clone_sizes(&self.width)?,
+            height: clone_sizes(&self.height)?,
+        })
+    }
+}
+
+fn clone_sizes(sizes: &Option<Vec<usize>>) -> Result<Option<Vec<usize>>, TableError>
+    ensures ok { IfOk result (λ copy. option_map (λ v. v.items) copy ≡ option_map (λ v. v.items) sizes.now) }
+    ensures only { IfErr result (λ e. e ≡ Memory) }
+{
+    match sizes {
+        None => Ok(None),
+        Some(sizes) => Ok(Some(sizes.clone()?)),
+    }
+}
+
+fn has_entry(sizes: &Option<Vec<usize>>, place: usize) -> bool
+    ensures { result ≡ is_some (stored_at (option_map (λ v. v.items) sizes.now) place) }
+{
+    match sizes {
+        None => false,
+        Some(sizes) => place < sizes.len(),
+    }
+}
+
+fn get_entry(sizes: &Option<Vec<usize>>, place: usize) -> usize
+    requires { is_some (stored_at (option_map (λ v. v.items) sizes.now) place) ≡ true }
+    ensures { Some result ≡ stored_at (option_map (λ v. v.items) sizes.now) place }
+{
+    match sizes {
+        None => unreachable!(),
+        Some(sizes) => sizes[place],
+    }
+}
+
+impl Dimension for CompleteDimension {
+    ghost width_at = { λ s column. stored_at (widths_of s) column };
+
+    ghost height_at = { λ s row. stored_at (heights_of s) row };
+
+    fn has_width(&self, column: usize) -> bool {
+        has_entry(&self.width, column)
+    }
+
+    fn has_height(&self, row: usize) -> bool {
+        has_entry(&self.height, row)
+    }
+
+    fn get_width(&self, column: usize) -> usize {
+        get_entry(&self.width, column)
+    }
+
+    fn get_height(&self, row: usize) -> usize {
+        get_entry(&self.height, row)
+    }
+}

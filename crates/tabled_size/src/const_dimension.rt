@@ -1,0 +1,126 @@
+//! Sizes that are arrays or single values.
+ghost use Rattle.std.specs.Prelude.{◌≡◌, ◌⊎◌, IfErr, OnErr, OnOk, ◌<◌, Some, is_some, length, true};
+ghost use Rattle.tabled_size.specs.declared.const_dimension.ConstSize.TheVariants.{List as Listed, Value};
+ghost use Rattle.tabled_size.specs.ConstSizes.{size_at};
+ghost use Rattle.tabled_size.specs.Permitted.{at};
+ghost use Rattle.tabled_base.specs.declared.error.TableError.TheVariants.{Memory, Range};
+
+use crate::dimension::{Dimension, Estimate};
+use tabled_base::TableError;
+
+/// Sizes by an array, or one for all.
+#[derive(Debug, Clone, Copy)]
+pub enum ConstSize<const N: usize> {
+    /// One for each of the first columns or rows.
+    List([usize; N]),
+    /// The same for all.
+    Value(usize),
+}
+
+impl From<usize> for ConstSize<0> {
+    ghost from_gives = { λ size all. all ≡ Value size };
+
+    fn from(size: usize) -> Self {
+        ConstSize::Value(size)
+    }
+}
+
+impl<const N: usize> From<[usize; N]> for ConstSize<N> {
+    ghost from_gives = { λ sizes all. all ≡ Listed sizes };
+
+    fn from(sizes: [usize; N]) -> Self {
+        ConstSize::List(sizes)
+    }
+}
+
+fn entry(sizes: &[usize], place: usize) -> usize
+    requires { place < length sizes.now }
+    ensures { result ≡ at sizes.now place }
+{
+    sizes[place]
+}
+
+impl<const N: usize> ConstSize<N> {
+    fn has(&self, place: usize) -> bool
+        ensures { result ≡ is_some (size_at self.now place) }
+    {
+        match self {
+            ConstSize::List(list) => place < list.len(),
+            ConstSize::Value(_) => true,
+        }
+    }
+
+    fn get(&self, place: usize) -> usize
+        requires { is_some (size_at self.now place) ≡ true }
+        ensures { Some result ≡ size_at self.now place }
+    {
+        match self {
+            ConstSize::List(list) => entry(list, place),
+            ConstSize::Value(all) => *all,
+        }
+    }
+}
+
+/// Widths and heights that stay.
+#[derive(Debug, Clone, Copy)]
+pub struct ConstDimension<const COLUMNS: usize, const ROWS: usize> {
+    width: ConstSize<COLUMNS>,
+    height: ConstSize<ROWS>,
+}
+
+impl<const COLUMNS: usize, const ROWS: usize> ConstDimension<COLUMNS, ROWS> {
+    /// The given widths and heights.
+    pub const fn new(width: ConstSize<COLUMNS>, height: ConstSize<ROWS>) -> Self
+        ensures widths { result.width ≡ width.entry }
+        ensures heights { result.height ≡ height.entry }
+    {
+        ConstDimension { width, height }
+    }
+}
+
+impl<const COLUMNS: usize, const ROWS: usize> From<ConstDimension<COLUMNS, ROWS>>
+    for (ConstSize<COLUMNS>, ConstSize<ROWS>) {
+    ghost from_gives = { λ sizes pair. (pair.0 ≡ sizes.width) × (pair.1 ≡ sizes.height) };
+
+    fn from(sizes: ConstDimension<COLUMNS, ROWS>) -> Self {
+        (sizes.width, sizes.height)
+    }
+}
+
+impl<const COLUMNS: usize, const ROWS: usize> Dimension for ConstDimension<COLUMNS, ROWS> {
+    ghost width_at = { λ s column. size_at s.width column };
+
+    ghost height_at = { λ s row. size_at s.height row };
+
+    fn has_width(&self, column: usize) -> bool {
+        self.width.has(column)
+    }
+
+    fn has_height(&self, row: usize) -> bool {
+        self.height.has(row)
+    }
+
+    fn get_width(&self, column: usize) -> usize {
+        self.width.get(column)
+    }
+
+    fn get_height(&self, row: usize) -> usize {
+        self.height.get(row)
+    }
+}
+
+impl<R, C, const COLUMNS: usize, const ROWS: usize> Estimate<R, C>
+    for ConstDimension<COLUMNS, ROWS> {
+    ghost estimates = { λ s records config t. t ≡ s };
+
+    ghost passes = { λ s records config. ⊥ };
+
+    fn estimate(&mut self, _records: &R, _config: &C) -> Result<(), TableError>
+        ensures ok { OnOk result (self.new ≡ self.old) }
+        ensures err { OnErr result (self.new ≡ self.old) }
+        ensures only { IfErr result (λ e. (e ≡ Memory) ⊎ ((e ≡ Range) × ⊥)) }
+        ensures never { OnErr result ⊥ }
+    {
+        Ok(())
+    }
+}

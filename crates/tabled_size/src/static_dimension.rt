@@ -1,0 +1,132 @@
+//! Sizes that are given once.
+ghost use Rattle.std.specs.Prelude.{◌≡◌, ◌⊎◌, IfErr, IfOk, OnErr, OnOk, Some, is_some, true};
+ghost use Rattle.tabled_base.specs.declared.error.TableError.TheVariants.{Memory, Range};
+ghost use Rattle.tabled_size.specs.Values.{value_at, IsSameValue};
+
+use crate::dimension::{Dimension, Estimate};
+use tabled_base::TableError;
+
+/// Widths or heights.
+#[derive(Debug, Drop)]
+pub enum DimensionValue {
+    /// The same for all.
+    Exact(usize),
+    /// One for each of the first columns or rows.
+    List(Vec<usize>),
+    /// One for each of the first columns or rows, and one for the rest.
+    Partial(Vec<usize>, usize),
+}
+
+impl DimensionValue {
+    /// The size of a column or row. A `List` has to have the entry.
+    pub fn get(&self, col: usize) -> usize
+        requires { is_some (value_at self.now col) ≡ true }
+        ensures { Some result ≡ value_at self.now col }
+    {
+        match self {
+            DimensionValue::Exact(size) => *size,
+            DimensionValue::List(sizes) => sizes[col],
+            DimensionValue::Partial(sizes, rest) => {
+                if col < sizes.len() { sizes[col] } else { *rest }
+            }
+        }
+    }
+
+    fn has(&self, col: usize) -> bool
+        ensures { result ≡ is_some (value_at self.now col) }
+    {
+        match self {
+            DimensionValue::Exact(_) => true,
+            DimensionValue::List(sizes) => col < sizes.len(),
+            DimensionValue::Partial(_, _) => true,
+        }
+    }
+
+    /// The same value. Refused for memory.
+    pub fn clone(&self) -> Result<Self, TableError>
+        ensures ok { IfOk result (IsSameValue self.now) }
+        ensures only { IfErr result (λ e. e ≡ Memory) }
+    {
+        match self {
+            DimensionValue::Exact(size) => Ok(DimensionValue::Exact(*size)),
+            DimensionValue::List(sizes) => Ok(DimensionValue::List(sizes.clone()?)),
+            DimensionValue::Partial(sizes, rest) => {
+                Ok(DimensionValue::Partial(sizes.clone()?, *rest))
+            }
+        }
+    }
+}
+
+/// Widths and heights that stay.
+#[derive(Debug, Drop)]
+pub struct StaticDimension {
+    width: DimensionValue,
+    height: DimensionValue,
+}
+
+impl StaticDimension {
+    /// The given widths and heights.
+    pub fn new(width: DimensionValue, height: DimensionValue) -> Self
+        ensures widths { result.width ≡ width }
+        ensures heights { result.height ≡ height }
+    {
+        StaticDimension { width, height }
+    }
+
+    /// The same sizes. Refused for memory.
+    pub fn clone(&self) -> Result<Self, TableError>
+        ensures widths { IfOk result (λ sizes. IsSameValue self.now.width sizes.width) }
+        ensures heights { IfOk result (λ sizes. IsSameValue self.now.height sizes.height) }
+        ensures only { IfErr result (λ e. e ≡ Memory) }
+    {
+        Ok(StaticDimension {
+            width: self.width.clone()?,
+            height: self.height.clone()?,
+        })
+    }
+}
+
+impl From<StaticDimension> for (DimensionValue, DimensionValue) {
+    ghost from_gives = { λ sizes pair. (pair.0 ≡ sizes.width) × (pair.1 ≡ sizes.height) };
+
+    fn from(sizes: StaticDimension) -> Self {
+        (sizes.width, sizes.height)
+    }
+}
+
+impl Dimension for StaticDimension {
+    ghost width_at = { λ s column. value_at s.width column };
+
+    ghost height_at = { λ s row. value_at s.height row };
+
+    fn has_width(&self, column: usize) -> bool {
+        self.width.has(column)
+    }
+
+    fn has_height(&self, row: usize) -> bool {
+        self.height.has(row)
+    }
+
+    fn get_width(&self, column: usize) -> usize {
+        self.width.get(column)
+    }
+
+    fn get_height(&self, row: usize) -> usize {
+        self.height.get(row)
+    }
+}
+
+impl<R, C> Estimate<R, C> for StaticDimension {
+    ghost estimates = { λ s records config t. t ≡ s };
+
+    ghost passes = { λ s records config. ⊥ };
+
+    fn estimate(&mut self, _records: &R, _config: &C) -> Result<(), TableError>
+        ensures ok { OnOk result (self.new ≡ self.old) }
+        ensures err { OnErr result (self.new ≡ self.old) }
+        ensures only { IfErr result (λ e. (e ≡ Memory) ⊎ ((e ≡ Range) × ⊥)) }
+        ensures never { OnErr result ⊥ }
+    {
+        Ok(())
+    }
+}

@@ -1,0 +1,5 @@
+//! What no clause says, and each public call at a concrete type.
+
+mod dimensions;
+mod priorities;
+mod stepwise;

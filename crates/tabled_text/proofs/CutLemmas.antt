@@ -1,0 +1,321 @@
+-- One more character at the end of a beginning.
+use Rattle.std.proofs.Common.{◌≡◌, ℕ, ◌+◌, ◌-◌, ◌<◌, ◌≤◌, Bool, true, false, cond, List, [], ◌∷◌, ◌++◌, length, take, drop, refl, sym, ap, ◌∙◌, subst, arith, All, replicate, length-append, chars, ⊎_elim, ◌==◌, zero, suc}
+use Rattle.std.specs.List.{onto_first}
+use Rattle.std.specs.Str.{IsUtf8}
+use Rattle.std.specs.Prelude.{encode_utf8, encode_utf8_all}
+use Rattle.std.proofs.lemmas.List.Elements.{All-nil, All-cons, All-head, All-tail, All-push}
+use Rattle.std.proofs.lemmas.List.{append_assoc, append-nil, take_at, drop_at, take-append-le, length_push, take-take, length-take-le}
+use Rattle.std.proofs.lemmas.List.Sums.{sum_by_push}
+use Rattle.std.proofs.lemmas.Str.{IsUtf8-nil, chars-nil, chars-append, IsUtf8-append, chars_past_char, chars-encodes, IsUtf8-encode, scalars-chars}
+use Rattle.std.proofs.lemmas.Bool.{and_parts, ne_eqb, cases_lt}
+use Rattle.tabled_text.specs.Measure.{lines_of, count_of, char_count}
+use Rattle.tabled_text.specs.Cut.{last_of, last_line, IsReached, IsLongestReached, missing_columns, following, IsParted, IsCut, IsSplit, NeedsFill}
+use Rattle.std.specs.Char.{IsScalar}
+use Rattle.std.specs.Str.{IsCharBoundary}
+use lib.Utf8.{scalar, scalars}
+use Rattle.std.proofs.lemmas.Str.{IsCharBoundary-at_seam}
+
+abbrev onto_last : ℕ → List (List ℕ) → List (List ℕ)
+onto_last y [] = (y ∷ []) ∷ []
+onto_last y (x ∷ []) = (x ++ y ∷ []) ∷ []
+onto_last y (x ∷ z ∷ xs) = x ∷ onto_last y (z ∷ xs)
+
+-- a list with a first element
+record IsCons (xs : List (List ℕ)) : Type 0 where
+  first : List ℕ
+  rest : List (List ℕ)
+  is : xs ≡ first ∷ rest
+
+abbrev is_feed : ℕ → Bool
+is_feed c = c == 10
+
+IsCons-onto_first : (x : ℕ) (xs : List (List ℕ)) → IsCons (onto_first x xs)
+IsCons-onto_first x [] = record { first = x ∷ []; rest = []; is = refl }
+IsCons-onto_first x (y ∷ ys) = record { first = x ∷ y; rest = ys; is = refl }
+
+IsCons-cond : (b : Bool) (xs ys : List (List ℕ)) → IsCons xs → IsCons ys → IsCons (cond b xs ys)
+IsCons-cond true xs ys p q = p
+IsCons-cond false xs ys p q = q
+
+IsCons-lines : (cs : List ℕ) → IsCons (lines_of cs)
+IsCons-lines [] = record { first = []; rest = []; is = refl }
+IsCons-lines (c ∷ cs) = IsCons-cond (is_feed c) ([] ∷ lines_of cs) (onto_first c (lines_of cs)) (record { first = []; rest = lines_of cs; is = refl }) (IsCons-onto_first c (lines_of cs))
+
+abbrev pushed : Bool → ℕ → List (List ℕ) → List (List ℕ)
+pushed b y S = cond b (S ++ [] ∷ []) (onto_last y S)
+
+pushed-cons : (b : Bool) (y : ℕ) (S : List (List ℕ)) → IsCons S → pushed b y ([] ∷ S) ≡ [] ∷ pushed b y S
+pushed-cons true y S h = refl
+pushed-cons false y S h = subst (λ s. onto_last y ([] ∷ s) ≡ [] ∷ onto_last y s) (sym h.is) refl
+
+onto_first-onto_last : (x y : ℕ) (s : List ℕ) (ss : List (List ℕ)) → onto_first x (onto_last y (s ∷ ss)) ≡ onto_last y (onto_first x (s ∷ ss))
+onto_first-onto_last x y s [] = refl
+onto_first-onto_last x y s (t ∷ ts) = refl
+
+pushed-onto_first : (b : Bool) (x y : ℕ) (S : List (List ℕ)) → IsCons S → onto_first x (pushed b y S) ≡ pushed b y (onto_first x S)
+pushed-onto_first true x y S h = subst (λ s. onto_first x (s ++ [] ∷ []) ≡ onto_first x s ++ [] ∷ []) (sym h.is) refl
+pushed-onto_first false x y S h = subst (λ s. onto_first x (onto_last y s) ≡ onto_last y (onto_first x s)) (sym h.is) (onto_first-onto_last x y h.first h.rest)
+
+pushed-cond : (a b : Bool) (x y : ℕ) (S : List (List ℕ)) → IsCons S → cond a ([] ∷ pushed b y S) (onto_first x (pushed b y S)) ≡ pushed b y (cond a ([] ∷ S) (onto_first x S))
+pushed-cond true b x y S h = sym (pushed-cons b y S h)
+pushed-cond false b x y S h = pushed-onto_first b x y S h
+
+lines_of-nil_push : (b : Bool) (y : ℕ) → cond b ([] ∷ [] ∷ []) ((y ∷ []) ∷ []) ≡ pushed b y ([] ∷ [])
+lines_of-nil_push true y = refl
+lines_of-nil_push false y = refl
+
+-- the lines of a text with one more character
+pub lines_of-push : (cs : List ℕ) (y : ℕ) → lines_of (cs ++ y ∷ []) ≡ pushed (is_feed y) y (lines_of cs)
+lines_of-push [] y = lines_of-nil_push (is_feed y) y
+lines_of-push (c ∷ cs) y =
+    ap (λ s. cond (is_feed c) ([] ∷ s) (onto_first c s)) (lines_of-push cs y) ∙ pushed-cond (is_feed c) (is_feed y) c y (lines_of cs) (IsCons-lines cs)
+
+last_of-push : (S : List (List ℕ)) (x : List ℕ) → last_of (S ++ x ∷ []) ≡ x
+last_of-push [] x = refl
+last_of-push (s ∷ []) x = refl
+last_of-push (s ∷ t ∷ S) x = last_of-push (t ∷ S) x
+
+last_of-onto_last : (y : ℕ) (s : List ℕ) (S : List (List ℕ)) → last_of (onto_last y (s ∷ S)) ≡ last_of (s ∷ S) ++ y ∷ []
+last_of-onto_last y s [] = refl
+last_of-onto_last y s (t ∷ []) = refl
+last_of-onto_last y s (t ∷ u ∷ S) = last_of-onto_last y t (u ∷ S)
+
+All-last_of : (P : List ℕ → Type 0) (s : List ℕ) (S : List (List ℕ)) → All P (s ∷ S) → P (last_of (s ∷ S))
+All-last_of P s [] h = All-head P s [] h
+All-last_of P s (t ∷ S) h = All-last_of P t S (All-tail P s (t ∷ S) h)
+
+All-onto_last : (P : List ℕ → Type 0) (y : ℕ) (s : List ℕ) (S : List (List ℕ)) → All P (s ∷ S) → P (last_of (s ∷ S) ++ y ∷ []) → All P (onto_last y (s ∷ S))
+All-onto_last P y s [] h p = All-cons P (s ++ y ∷ []) [] p (All-nil P)
+All-onto_last P y s (t ∷ S) h p = All-cons P s (onto_last y (t ∷ S)) (All-head P s (t ∷ S) h) (All-onto_last P y t S (All-tail P s (t ∷ S) h) p)
+
+-- the last line with one more character
+pub last_line-feed : (cs : List ℕ) → last_line (cs ++ 10 ∷ []) ≡ []
+last_line-feed cs = ap last_of (lines_of-push cs 10) ∙ last_of-push (lines_of cs) []
+
+pub last_line-push : (cs : List ℕ) (y : ℕ) → is_feed y ≡ false → last_line (cs ++ y ∷ []) ≡ last_line cs ++ y ∷ []
+last_line-push cs y h =
+    let k = IsCons-lines cs in
+    ap last_of (lines_of-push cs y ∙ ap (λ b. pushed b y (lines_of cs)) h)
+    ∙ subst (λ S. last_of (onto_last y S) ≡ last_of S ++ y ∷ []) (sym k.is) (last_of-onto_last y k.first k.rest)
+
+All-lines_feed : (P : List ℕ → Type 0) (cs : List ℕ) → All P (lines_of cs) → P [] → All P (lines_of (cs ++ 10 ∷ []))
+All-lines_feed P cs h p = subst (All P) (sym (lines_of-push cs 10)) (All-push P (lines_of cs) [] h p)
+
+All-lines_push : (P : List ℕ → Type 0) (cs : List ℕ) (y : ℕ) → is_feed y ≡ false → All P (lines_of cs) → P (last_line cs ++ y ∷ []) → All P (lines_of (cs ++ y ∷ []))
+All-lines_push P cs y e h p =
+    let k = IsCons-lines cs in
+    subst (All P) (sym (lines_of-push cs y ∙ ap (λ b. pushed b y (lines_of cs)) e))
+    (subst (λ S. All P S → P (last_of S ++ y ∷ []) → All P (onto_last y S)) (sym k.is) (All-onto_last P y k.first k.rest) h p)
+
+pub All-last_line : (P : List ℕ → Type 0) (cs : List ℕ) → All P (lines_of cs) → P (last_line cs)
+All-last_line P cs h = let k = IsCons-lines cs in subst (λ S. All P S → P (last_of S)) (sym k.is) (All-last_of P k.first k.rest) h
+
+count_of-push : (cs : List ℕ) (y : ℕ) → count_of (cs ++ y ∷ []) ≡ count_of cs + char_count y
+count_of-push cs y = sum_by_push char_count cs y
+
+-- a reached beginning, as long as it can be so far
+pub IsReached-nil : (n : ℕ) → IsReached n []
+IsReached-nil n = record {
+  fits = All-cons (λ l. count_of l ≤ n) [] [] (omega arith) (All-nil (λ l. count_of l ≤ n));
+  shorter = λ k h. absurd (omega arith);
+}
+
+open-push : (n : ℕ) (cs : List ℕ) (y : ℕ) → IsReached n cs → count_of (last_line cs) < n → (k : ℕ) → k < length (cs ++ y ∷ []) → count_of (last_line (take k (cs ++ y ∷ []))) < n
+open-push n cs y r h k lt =
+    let len = length_push cs y in
+    ⊎_elim (λ below. let le : k ≤ length cs = omega arith in subst (λ l. count_of (last_line l) < n) (sym (take-append-le k cs (y ∷ []) le)) (r.shorter k below))
+    (λ above. let is : length cs ≡ k = omega arith in subst (λ l. count_of (last_line l) < n) (sym (take_at cs (y ∷ []) k is)) h)
+    (cases_lt k (length cs))
+
+pub IsReached-feed : (n : ℕ) (cs : List ℕ) → IsReached n cs → count_of (last_line cs) < n → IsReached n (cs ++ 10 ∷ [])
+IsReached-feed n cs r h = record {
+  fits = All-lines_feed (λ l. count_of l ≤ n) cs r.fits (omega arith);
+  shorter = open-push n cs 10 r h;
+}
+
+pub IsReached-push : (n : ℕ) (cs : List ℕ) (y : ℕ) → (y ≡ 10 → ⊥) → IsReached n cs → count_of (last_line cs) < n → count_of (last_line cs) + char_count y ≤ n → IsReached n (cs ++ y ∷ [])
+IsReached-push n cs y ne r h room = record {
+  fits = All-lines_push (λ l. count_of l ≤ n) cs y (ne_eqb y 10 ne) r.fits (let e = count_of-push (last_line cs) y in omega arith);
+  shorter = open-push n cs y r h;
+}
+
+-- where the walk stops
+pub longest_at_end : (n : ℕ) (cs : List ℕ) → IsReached n cs → IsLongestReached n cs cs []
+longest_at_end n cs r = record { parts = sym (append-nil cs); reached = r; longest = λ k h _. h }
+
+pub longest_at_full : (n : ℕ) (text front rest : List ℕ) → text ≡ front ++ rest → IsReached n front → count_of (last_line front) ≡ n → IsLongestReached n text front rest
+longest_at_full n text front rest e r full = record {
+  parts = e;
+  reached = r;
+  longest = λ k h o. ⊎_elim (λ past.
+      let len : length (take k text) ≡ k = length-take-le k text h in
+      let front_is : take (length front) (take k text) ≡ front = take-take (length front) k text (omega arith) ∙ ap (take (length front)) e ∙ take_at front rest (length front) refl in
+      let low : count_of (last_line front) < n = subst (λ l. count_of (last_line l) < n) front_is (o.shorter (length front) (omega arith)) in
+      absurd (omega arith)) (λ le. le) (cases_lt (length front) k);
+}
+
+pub longest_at_wide : (n : ℕ) (text front rest : List ℕ) (y : ℕ) → text ≡ front ++ y ∷ rest → IsReached n front → (y ≡ 10 → ⊥) → n < count_of (last_line front) + char_count y → IsLongestReached n text front (y ∷ rest)
+longest_at_wide n text front rest y e r ne wide = record {
+  parts = e;
+  reached = r;
+  longest = λ k h o. ⊎_elim (λ past.
+      let more = front ++ y ∷ [] in
+      let len_more : length more ≡ length front + 1 = length_push front y in
+      let len : length (take k text) ≡ k = length-take-le k text h in
+      let whole : text ≡ more ++ rest = e ∙ sym (append_assoc front (y ∷ []) rest) in
+      let front_is : take (length more) (take k text) ≡ more = take-take (length more) k text (omega arith) ∙ ap (take (length more)) whole ∙ take_at more rest (length more) refl in
+      let count : count_of (last_line more) ≡ count_of (last_line front) + char_count y = ap count_of (last_line-push front y (ne_eqb y 10 ne)) ∙ count_of-push (last_line front) y in
+      ⊎_elim (λ further.
+      let low : count_of (last_line more) < n = subst (λ l. count_of (last_line l) < n) front_is (o.shorter (length more) (omega arith)) in absurd (omega arith))
+      (λ last.
+      let is : take k text ≡ more = ap (λ j. take j text) (let j : k ≡ length more = omega arith in j) ∙ ap (take (length more)) whole ∙ take_at more rest (length more) refl in
+      let low : count_of (last_line more) ≤ n = subst (λ l. count_of (last_line l) ≤ n) is (All-last_line (λ l. count_of l ≤ n) (take k text) o.fits) in absurd (omega arith))
+      (cases_lt (length more) k)) (λ le. le) (cases_lt (length front) k);
+}
+
+-- a loop has taken front off the text, which is reached, and rest is left
+pub record Walked (n : ℕ) (text rest : List ℕ) (columns : ℕ) : Type 0 where
+  pub front : List ℕ
+  pub parts : text ≡ front ++ rest
+  pub utf8 : IsUtf8 front
+  pub columns_are : columns ≡ count_of (last_line (chars front))
+  pub reached : IsReached n (chars front)
+
+pub Walked-start : (n : ℕ) (text : List ℕ) → Walked n text text 0
+Walked-start n text = record { front = []; parts = refl; utf8 = IsUtf8-nil; columns_are = ap (λ l. count_of (last_line l)) (sym chars-nil); reached = subst (IsReached n) (sym chars-nil) (IsReached-nil n) }
+
+pub Walked-le : {n columns : ℕ} {text rest : List ℕ} → Walked n text rest columns → columns ≤ n
+Walked-le {n} {columns} w = let h = All-last_line (λ l. count_of l ≤ n) (chars w.front) w.reached.fits in let e = w.columns_are in omega arith
+
+-- what a step over one character needs
+more_bytes : (text front rest after : List ℕ) (y : ℕ) → text ≡ front ++ rest → rest ≡ encode_utf8 y ++ after → text ≡ (front ++ encode_utf8 y) ++ after
+more_bytes text front rest after y e f = e ∙ ap (λ l. front ++ l) f ∙ sym (append_assoc front (encode_utf8 y) after)
+
+-- the first character of a text
+IsScalar-first : (rest : List ℕ) (y : ℕ) (cs : List ℕ) → IsUtf8 rest → chars rest ≡ y ∷ cs → IsScalar y
+IsScalar-first rest y cs v e = (and_parts (scalar y) (scalars cs) (subst (λ l. scalars l ≡ true) e (scalars-chars rest v))).0
+
+-- the characters of a text with one more
+pub chars-push : (front : List ℕ) (y : ℕ) → IsUtf8 front → IsScalar y → chars (front ++ encode_utf8 y) ≡ chars front ++ y ∷ []
+chars-push front y u s =
+    chars-append front (encode_utf8 y) u
+    ∙ ap (λ l. chars front ++ l) (chars_past_char (encode_utf8 y) [] y (IsUtf8-encode y s) (sym (append-nil (encode_utf8 y))) ∙ ap (λ l. y ∷ l) chars-nil)
+
+chars_after : (text front rest after : List ℕ) (y : ℕ) → text ≡ front ++ rest → IsUtf8 front → chars rest ≡ y ∷ chars after → chars text ≡ chars front ++ y ∷ chars after
+chars_after text front rest after y e u f = ap chars e ∙ chars-append front rest u ∙ ap (λ l. chars front ++ l) f
+
+pub Walked-feed : {n columns : ℕ} {text rest : List ℕ} (after : List ℕ) (y : ℕ) → Walked n text rest columns → IsUtf8 rest → rest ≡ encode_utf8 y ++ after → chars rest ≡ y ∷ chars after → (columns ≡ n → ⊥) → y ≡ 10 → Walked n text after 0
+Walked-feed {n} {columns} {text} {rest} after y w v e f ne feed =
+    let s = IsScalar-first rest y (chars after) v f in
+    let cs : chars (w.front ++ encode_utf8 y) ≡ chars w.front ++ 10 ∷ [] = chars-push w.front y w.utf8 s ∙ ap (λ z. chars w.front ++ z ∷ []) feed in
+    let le = Walked-le w in
+    let is = w.columns_are in
+    record {
+      front = w.front ++ encode_utf8 y;
+      parts = more_bytes text w.front rest after y w.parts e;
+      utf8 = IsUtf8-append w.front (encode_utf8 y) w.utf8 (IsUtf8-encode y s);
+      columns_are = sym (ap (λ l. count_of (last_line l)) cs ∙ ap count_of (last_line-feed (chars w.front)));
+      reached = subst (IsReached n) (sym cs) (IsReached-feed n (chars w.front) w.reached (omega arith));
+    }
+
+pub Walked-push : {n columns : ℕ} {text rest : List ℕ} (after : List ℕ) (y : ℕ) → Walked n text rest columns → IsUtf8 rest → rest ≡ encode_utf8 y ++ after → chars rest ≡ y ∷ chars after → (columns ≡ n → ⊥) → (y ≡ 10 → ⊥) → columns + char_count y ≤ n → Walked n text after (columns + char_count y)
+Walked-push {n} {columns} {text} {rest} after y w v e f ne no_feed room =
+    let s = IsScalar-first rest y (chars after) v f in
+    let cs = chars-push w.front y w.utf8 s in
+    let le = Walked-le w in
+    let is = w.columns_are in
+    let count = ap (λ l. count_of (last_line l)) cs ∙ ap count_of (last_line-push (chars w.front) y (ne_eqb y 10 no_feed)) ∙ count_of-push (last_line (chars w.front)) y in
+    record {
+      front = w.front ++ encode_utf8 y;
+      parts = more_bytes text w.front rest after y w.parts e;
+      utf8 = IsUtf8-append w.front (encode_utf8 y) w.utf8 (IsUtf8-encode y s);
+      columns_are = omega arith;
+      reached = subst (IsReached n) (sym cs) (IsReached-push n (chars w.front) y no_feed w.reached (omega arith) (omega arith));
+    }
+
+-- ---- what a stop says: b is the front that was split off
+pub IsParted-wide : {n columns : ℕ} {text rest : List ℕ} (after : List ℕ) (y : ℕ) (b : List ℕ) → chars rest ≡ y ∷ chars after → (y ≡ 10 → ⊥) → n < columns + char_count y → (columns ≡ n → ⊥) → (w : Walked n text rest columns) → b ≡ w.front → IsParted n (chars text) (chars b) (n - columns) (chars after)
+IsParted-wide {n} {columns} {text} {rest} after y b f no_feed wide ne w same =
+    let is = w.columns_are in
+    let le = Walked-le w in
+    let e = chars_after text w.front rest after y w.parts w.utf8 f in
+    let k : n - columns ≡ n - count_of (last_line (chars w.front)) = omega arith in
+    let nonzero : ((n - columns) == 0) ≡ false = ne_eqb (n - columns) 0 (λ z. omega arith) in
+    subst (λ l. IsParted n (chars text) (chars l) (n - columns) (chars after)) (sym same) record {
+      rest = y ∷ chars after;
+      longest = longest_at_wide n (chars text) (chars w.front) (chars after) y e w.reached no_feed (omega arith);
+      columns = k;
+      dropped = sym (ap (λ t. cond t (y ∷ chars after) (chars after)) nonzero);
+    }
+
+missing_at_full : (n : ℕ) (front rest : List ℕ) → count_of (last_line front) ≡ n → 0 ≡ missing_columns n front rest
+missing_at_full n front [] e = refl
+missing_at_full n front (c ∷ rest) e = omega arith
+
+pub IsParted-full : {n columns : ℕ} {text rest : List ℕ} (b : List ℕ) → (w : Walked n text rest columns) → columns ≡ n → b ≡ w.front → IsParted n (chars text) (chars b) 0 (chars rest)
+IsParted-full {n} {columns} {text} {rest} b w full same =
+    let is = w.columns_are in
+    let at : count_of (last_line (chars w.front)) ≡ n = omega arith in
+    subst (λ l. IsParted n (chars text) (chars l) 0 (chars rest)) (sym same) record {
+      rest = chars rest;
+      longest = longest_at_full n (chars text) (chars w.front) (chars rest) (ap chars w.parts ∙ chars-append w.front rest w.utf8) w.reached at;
+      columns = missing_at_full n (chars w.front) (chars rest) at;
+      dropped = refl;
+    }
+
+pub IsParted-end : {n columns : ℕ} {text rest : List ℕ} (b : List ℕ) → (w : Walked n text rest columns) → chars rest ≡ [] → b ≡ w.front → IsParted n (chars text) (chars b) 0 (chars rest)
+IsParted-end {n} {columns} {text} {rest} b w none same =
+    let whole : chars text ≡ chars w.front = ap chars w.parts ∙ chars-append w.front rest w.utf8 ∙ ap (λ l. chars w.front ++ l) none ∙ append-nil (chars w.front) in
+    subst (λ l. IsParted n (chars text) (chars l) 0 (chars rest)) (sym same) record {
+      rest = [];
+      longest = subst (λ l. IsLongestReached n l (chars w.front) []) (sym whole) (longest_at_end n (chars w.front) w.reached);
+      columns = refl;
+      dropped = none;
+    }
+
+-- where the text is split
+pub front_length : {n columns : ℕ} {text rest : List ℕ} → (w : Walked n text rest columns) → length text - length rest ≡ length w.front
+front_length {n} {columns} {text} {rest} w = omega (arith, ap length w.parts, length-append w.front rest)
+
+pub front_taken : {n columns : ℕ} {text rest : List ℕ} → (w : Walked n text rest columns) → take (length text - length rest) text ≡ w.front
+front_taken {n} {columns} {text} {rest} w = ap (λ k. take k text) (front_length w) ∙ ap (take (length w.front)) w.parts ∙ take_at w.front rest (length w.front) refl
+
+pub rest_taken : {n columns : ℕ} {text rest : List ℕ} → (w : Walked n text rest columns) → drop (length text - length rest) text ≡ rest
+rest_taken {n} {columns} {text} {rest} w = ap (λ k. drop k text) (front_length w) ∙ ap (drop (length w.front)) w.parts ∙ drop_at w.front rest (length w.front) refl
+
+pub front_boundary : {n columns : ℕ} {text rest : List ℕ} → (w : Walked n text rest columns) → IsUtf8 rest → IsCharBoundary text (length text - length rest)
+front_boundary {n} {columns} {text} {rest} w u = subst (IsCharBoundary text) (sym (front_length w)) (IsCharBoundary-at_seam text w.front rest w.parts u)
+
+scalars-replicate : (n : ℕ) → scalars (replicate n 0xFFFD) ≡ true
+scalars-replicate zero = refl
+scalars-replicate (suc n) = scalars-replicate n
+
+pub chars-filled : (front : List ℕ) (n : ℕ) → IsUtf8 front → chars (front ++ encode_utf8_all (replicate n 0xFFFD)) ≡ chars front ++ replicate n 0xFFFD
+chars-filled front n u = chars-append front (encode_utf8_all (replicate n 0xFFFD)) u ∙ ap (λ l. chars front ++ l) (chars-encodes (replicate n 0xFFFD) (scalars-replicate n))
+
+replacements_utf8 : (n : ℕ) → IsUtf8 (encode_utf8_all (replicate n 0xFFFD))
+replacements_utf8 n = (replicate n 0xFFFD, (scalars-replicate n, refl))
+
+-- the beginning, filled up, is the cut text
+pub IsCut-filled : {n missing : ℕ} {text front answer after : List ℕ} → IsUtf8 front → IsParted n (chars text) (chars front) missing after
+    → answer ≡ front ++ encode_utf8_all (replicate missing 0xFFFD) → IsCut n text answer
+IsCut-filled {n} {missing} {front = front} u p e = record {
+  front = chars front;
+  rest = p.rest;
+  longest = p.longest;
+  utf8 = subst IsUtf8 (sym e) (IsUtf8-append front (encode_utf8_all (replicate missing 0xFFFD)) u (replacements_utf8 missing));
+  characters = ap chars e ∙ chars-filled front missing u ∙ ap (λ k. chars front ++ replicate k 0xFFFD) p.columns;
+}
+
+-- with what follows
+pub IsSplit-filled : {n missing : ℕ} {text front answer after : List ℕ} → IsUtf8 front → IsUtf8 after → IsParted n (chars text) (chars front) missing (chars after)
+    → answer ≡ front ++ encode_utf8_all (replicate missing 0xFFFD) → IsSplit n text answer after
+unfolding IsCut-filled
+IsSplit-filled u v p e = record {
+  cut = IsCut-filled u p e;
+  utf8 = v;
+  characters = p.dropped ∙ ap (λ k. following k p.rest) p.columns;
+}
+
+pub NeedsFill-from : {n missing : ℕ} {text front after : List ℕ} → IsParted n (chars text) front missing after → 0 < missing → NeedsFill n text
+NeedsFill-from {front = front} p some = record { front = front; rest = p.rest; longest = p.longest; missing = subst (λ k. 0 < k) p.columns some }

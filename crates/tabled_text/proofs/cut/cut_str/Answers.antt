@@ -1,0 +1,12 @@
+use Rattle.std.proofs.Common.{◌≡◌, ◌++◌, encode_utf8_all, replicate}
+use Rattle.std.specs.Cow.{cow_str_bytes}
+use Rattle.std.proofs.lemmas.Result.{IfOk-weaker}
+use Rattle.tabled_text.specs.Cut.{IsCut}
+use Rattle.tabled_text.proofs.CutLemmas.{IsCut-filled}
+use Rattle.tabled_text.proofs.cut.cut_str.Goals as goal
+
+pub returns-clause-cut : goal.returns-clause-cut
+returns-clause-cut c =
+    let parts = c.part-parts.result in
+    IfOk-weaker c.fill.result (λ answer. cow_str_bytes answer ≡ parts.front.now ++ encode_utf8_all (replicate parts.missing 0xFFFD))
+    (λ answer. IsCut c.args.n c.args.text.now (cow_str_bytes answer)) (λ answer e. IsCut-filled c.part-parts.ensures.front c.part-parts.ensures.parted e) c.fill.ensures.text

@@ -1,0 +1,15 @@
+-- A text with line feeds put in.
+use Rattle.std.specs.Prelude.{◌≡◌, ℕ, Bool, nat_le, List, chars, map}
+use Rattle.std.specs.List.{AllZip, flat_map, join_with_byte, list_all}
+use Rattle.tabled_text.specs.Measure.{lines_of, char_count}
+
+-- each line of the old text was cut into parts, and the parts of all lines stand on lines of their own: without the
+-- line feeds between the parts of a line, the new text is the old one. Texts are bytes, parts are characters
+pub record HasOldText (old new : List ℕ) : Type 0 where
+  pub parts : List (List (List ℕ))
+  pub each : AllZip (λ line cut. flat_map (λ part. part) cut ≡ line) (lines_of (chars old)) parts
+  pub joined : chars new ≡ join_with_byte 10 (map (join_with_byte 10) parts)
+
+-- no character counts more than n
+abbrev pub finds_room : ℕ → List ℕ → Bool
+finds_room n cs = list_all (λ c. nat_le (char_count c) n) cs

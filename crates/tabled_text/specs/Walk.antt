@@ -1,0 +1,50 @@
+-- What the private functions that wrap and check do: unit after unit, with no look ahead.
+use Rattle.std.specs.Prelude.{ℕ, ◌+◌, Bool, true, false, ◌||◌, nat_le, List, [], ◌∷◌, ◌++◌, chars, Option, Some, None, if◌then◌else◌}
+use Rattle.std.specs.Borrow.{Bor}
+use Rattle.std.specs.List.{list_all}
+use Rattle.tabled_text.specs.Measure.{columns_of}
+use Rattle.tabled_text.specs.OldText.{finds_room}
+use Rattle.tabled_text.specs.Units.{TextUnit, units, words_of}
+use Rattle.tabled_text.specs.Wrapping.{needed, shown}
+
+-- the words of what follows a space, if one does
+abbrev pub words_in : Option (Bor (List ℕ)) → List (List ℕ)
+words_in (Some text) = words_of (chars text.now)
+words_in None = []
+
+-- the column at which a unit begins that needs so many, and what is written before it
+abbrev pub begin_at : ℕ → ℕ → ℕ → ℕ
+begin_at n used needed = if nat_le (used + needed) n then used else 0
+
+abbrev pub begin_text : ℕ → ℕ → ℕ → List ℕ
+begin_text n used needed = if nat_le (used + needed) n then [] else 10 ∷ []
+
+-- what a unit writes, and the columns that its line then has
+abbrev pub put_text : ℕ → ℕ → TextUnit → List ℕ
+put_text n used unit = begin_text n used (needed n unit) ++ shown n (begin_at n used (needed n unit)) unit
+
+abbrev pub put_used : ℕ → ℕ → TextUnit → ℕ
+put_used n used unit = begin_at n used (needed n unit) + unit.width
+
+-- what all units write, and the columns that the last line then has
+abbrev pub put_all : ℕ → ℕ → List TextUnit → List ℕ
+put_all n used [] = []
+put_all n used (unit ∷ units) = put_text n used unit ++ put_all n (put_used n used unit) units
+
+abbrev pub used_after : ℕ → ℕ → List TextUnit → ℕ
+used_after n used [] = used
+used_after n used (unit ∷ units) = used_after n (put_used n used unit) units
+
+-- what the lines that are left write, where some were written before or none was
+abbrev pub pending : ℕ → Bool → Bool → List (List ℕ) → List ℕ
+pending n words begun [] = []
+pending n words begun (line ∷ lines) =
+    (if begun then 10 ∷ [] else []) ++ (put_all n 0 (units n words line) ++ pending n words true lines)
+
+-- whether each unit of a word, and of a line, is at most n wide
+abbrev pub fits_word : ℕ → List ℕ → Bool
+fits_word n word = nat_le (columns_of word) n || finds_room n word
+
+abbrev pub fits_line : ℕ → Bool → List ℕ → Bool
+fits_line n false line = finds_room n line
+fits_line n true line = list_all (fits_word n) (words_of line)

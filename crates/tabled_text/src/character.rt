@@ -1,0 +1,24 @@
+//! The characters of a text, one after another, and what each counts.
+ghost use Rattle.std.specs.Prelude.{◌≡◌, ◌<◌, ◌≤◌, ◌∷◌, [], ◌++◌, chars, encode_utf8, length, MatchOption};
+ghost use Rattle.tabled_text.specs.Measure.{char_count};
+
+use unicode_width::UnicodeWidthChar;
+
+/// What a character counts where texts are cut and wrapped: its columns, and 1 at least.
+pub(crate) fn char_count(c: char) -> usize
+    ensures value { result ≡ char_count c }
+    ensures low { 1 ≤ result }
+    ensures high { result ≤ 3 }
+{
+    c.width().unwrap_or(0).max(1)
+}
+
+/// The first character of a text, and what follows it.
+pub(crate) fn split_first(text: &str) -> Option<(char, &str)>
+    ensures { MatchOption result (chars text.now ≡ []) (λ x. (text.now ≡ encode_utf8 x.0 ++ x.1.now)
+        × (length x.1.now < length text.now) × (chars text.now ≡ x.0 ∷ chars x.1.now)) }
+{
+    let mut chars = text.chars();
+    let first = chars.next()?;
+    Some((first, chars.as_str()))
+}

@@ -1,0 +1,105 @@
+//! Cutting a text to some columns.
+ghost use Rattle.std.specs.Prelude.{◌≡◌, ◌++◌, ◌<◌, chars, replicate, encode_utf8_all, IfOk, OnErr, OnOk, IsUtf8, string_bytes};
+ghost use Rattle.std.specs.Cow.{cow_str_bytes, IsOwnedStr};
+ghost use Rattle.tabled_text.specs.Cut.{IsCut, IsSplit, IsParted, NeedsFill};
+
+use crate::character::{char_count, split_first};
+use std::alloc::{AllocError, Global};
+use std::borrow::CowStr;
+
+/// A text in two parts, without a character that is dropped between them.
+#[derive(Drop)]
+struct Parts<'a> {
+    front: &'a str,
+    missing: usize,
+    after: &'a str,
+}
+
+/// The two parts of a text that is cut to n columns.
+fn part(text: &str, n: usize) -> Parts<'_>
+    ensures parted { IsParted n (chars text.now) (chars result.front.now) result.missing (chars result.after.now) }
+    ensures front { IsUtf8 result.front.now }
+    ensures after { IsUtf8 result.after.now }
+{
+    let mut rest = text;
+    let mut columns = 0;
+    while let Some((c, after)) = split_first(rest) {
+        if columns == n {
+            break;
+        }
+        if c == '\n' {
+            columns = 0;
+        } else {
+            let count = char_count(c);
+            if count > n - columns {
+                let (front, _) = text.split_at(text.len() - rest.len());
+                return Parts {
+                    front,
+                    missing: n - columns,
+                    after,
+                };
+            }
+            columns += count;
+        }
+        rest = after;
+    }
+    let (front, after) = text.split_at(text.len() - rest.len());
+    Parts {
+        front,
+        missing: 0,
+        after,
+    }
+}
+
+/// Appends n copies of a character.
+fn push_copies(text: &mut String, c: char, n: usize) -> Result<(), AllocError>
+    ensures { OnOk result (string_bytes text.new ≡ string_bytes text.old ++ encode_utf8_all (replicate n c)) }
+{
+    for _i in 0..n {
+        text.push(c)?;
+    }
+    Ok(())
+}
+
+/// The beginning of a text, with U+FFFD in the columns that are missing.
+fn fill(alloc: Global, front: &str, missing: usize) -> Result<CowStr<'_, Global>, AllocError>
+    ensures text { IfOk result (λ answer.
+        cow_str_bytes answer ≡ front.now ++ encode_utf8_all (replicate missing 0xFFFD)) }
+    ensures owned { IfOk result (λ answer. IsOwnedStr answer → 0 < missing) }
+    ensures err { OnErr result (0 < missing) }
+{
+    if missing == 0 {
+        return Ok(CowStr::Borrowed(front));
+    }
+    let mut answer = String::from_str(alloc, front)?;
+    push_copies(&mut answer, '\u{FFFD}', missing)?;
+    Ok(CowStr::Owned(answer))
+}
+
+/// The longest beginning of a text of which no line passes n columns, each character counted by itself (1 at
+/// least). It ends at a full line, also before a line feed. A character that would pass n is dropped, and
+/// U+FFFD stands in each column that is left; where there is none, the text is lent. Refused only where memory
+/// for U+FFFD is.
+pub fn cut_str(alloc: Global, text: &str, n: usize) -> Result<CowStr<'_, Global>, AllocError>
+    ensures cut { IfOk result (λ answer. IsCut n text.now (cow_str_bytes answer)) }
+    ensures owned { IfOk result (λ answer. IsOwnedStr answer → NeedsFill n text.now) }
+    ensures err { OnErr result (NeedsFill n text.now) }
+{
+    let parts = part(text, n);
+    fill(alloc, parts.front, parts.missing)
+}
+
+/// A text as `cut_str` cuts it, and what follows its beginning and a dropped character. Refused as `cut_str` is.
+pub fn split_str(
+    alloc: Global,
+    text: &str,
+    n: usize,
+) -> Result<(CowStr<'_, Global>, &str), AllocError>
+    ensures cut { IfOk result (λ parts. IsSplit n text.now (cow_str_bytes parts.0) parts.1.now) }
+    ensures owned { IfOk result (λ parts. IsOwnedStr parts.0 → NeedsFill n text.now) }
+    ensures err { OnErr result (NeedsFill n text.now) }
+{
+    let parts = part(text, n);
+    let front = fill(alloc, parts.front, parts.missing)?;
+    Ok((front, parts.after))
+}

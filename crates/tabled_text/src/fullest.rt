@@ -1,0 +1,130 @@
+//! Whether a text is another one wrapped. Nothing is written: the walk that wraps tells what is expected next.
+ghost use Rattle.std.specs.Prelude.{◌≡◌, ◌++◌, ◌↔◌, ◌<◌, ℕ, List, [], Some, None, Option, chars, encode_utf8, IsTrue};
+ghost use Rattle.std.specs.List.{list_all};
+ghost use Rattle.std.specs.Option.{option_copied};
+ghost use Rattle.tabled_text.specs.Breaking.{HasFewestLines, IsLeastBreaking};
+ghost use Rattle.tabled_text.specs.Expected.{Expects, Expects-nothing, Expects-more};
+ghost use Rattle.tabled_text.specs.Measure.{lines_of};
+ghost use Rattle.tabled_text.specs.OldText.{finds_room};
+ghost use Rattle.tabled_text.specs.Units.{words_of};
+ghost use Rattle.tabled_text.specs.Walk.{fits_word, fits_line};
+ghost use Rattle.tabled_text.specs.Wrapping.{IsRoomyWrapping};
+
+use crate::character::char_count;
+use crate::line::lines;
+use crate::measure::line_width;
+use crate::wrap::{Sink, put_lines, split_word};
+use std::convert::Infallible;
+
+/// The text without a beginning, if it begins so.
+fn strip<'a>(rest: Option<&'a [u8]>, text: &[u8]) -> Option<&'a [u8]>
+    ensures { (z : List ℕ)
+        → (option_copied rest.entry ≡ Some (text.now ++ z)) ↔ (option_copied result ≡ Some z) }
+{
+    rest?.strip_prefix(text)
+}
+
+/// A text that is expected piece by piece: what is left of it, or nothing if a piece differed.
+#[derive(Drop)]
+struct Expected<'a> {
+    rest: Option<&'a [u8]>,
+}
+
+impl<'a> Sink for Expected<'a> {
+    type Error = Infallible;
+
+    ghost adds = { λ s x t. Expects (option_copied s.rest) x (option_copied t.rest) };
+
+    fn put_str(&mut self, text: &str) -> Result<(), Infallible> {
+        self.rest = strip(self.rest, text.as_bytes());
+        Ok(())
+    }
+
+    fn put_char(&mut self, c: char) -> Result<(), Infallible> {
+        let mut bytes = [0; 4];
+        let text = c.encode_utf8(&mut bytes);
+        self.rest = strip(self.rest, text.as_bytes());
+        Ok(())
+    }
+
+    ghost adds_nothing = { λ s. Expects-nothing (option_copied s.rest) };
+
+    ghost adds_more = { λ s t u x y h k.
+        Expects-more (option_copied s.rest) (option_copied t.rest) (option_copied u.rest) x y h k };
+}
+
+/// Whether nothing more is expected.
+fn is_done(rest: Option<&[u8]>) -> bool
+    ensures { IsTrue result ↔ (option_copied rest.entry ≡ Some []) }
+{
+    match rest {
+        Some(rest) => rest.is_empty(),
+        None => false,
+    }
+}
+
+/// Whether no character of a text counts more than n.
+fn chars_fit(text: &str, n: usize) -> bool
+    ensures { result ≡ finds_room n (chars text.now) }
+{
+    text.chars().all(|c| char_count(c) <= n)
+}
+
+/// Whether each unit of the words of a line is at most n wide.
+fn words_fit(line: &str, n: usize) -> bool
+    ensures { result ≡ list_all (fits_word n) (words_of (chars line.now)) }
+{
+    let mut rest = line;
+    'words: loop {
+        let (word, after) = split_word(rest);
+        if line_width(word) > n && !chars_fit(word, n) {
+            return false;
+        }
+        match after {
+            None => return true,
+            Some(next) => rest = next,
+        }
+    }
+}
+
+/// What the widest characters count.
+const WIDEST: usize = 3;
+
+/// Whether each unit of a text is at most n wide. Where even the widest character is, nothing is read.
+fn units_fit(text: &str, n: usize, words: bool) -> bool
+    ensures { result ≡ list_all (fits_line n words) (lines_of (chars text.now)) }
+{
+    if n >= WIDEST {
+        return true;
+    }
+    for line in lines(text) {
+        let fits = if words {
+            words_fit(line, n)
+        } else {
+            chars_fit(line, n)
+        };
+        if !fits {
+            return false;
+        }
+    }
+    true
+}
+
+/// Whether each unit of a text is at most n wide, n is at least 1, and `wrapped` is what `wrap_text` gives. Then
+/// it has the fewest lines of all breakings of the text. Takes no memory.
+pub fn is_fullest(text: &str, wrapped: &str, n: usize, words: bool) -> bool
+    ensures fullest { IsTrue result ↔ IsRoomyWrapping n words text.now wrapped.now }
+    ensures fewest { IsTrue result → HasFewestLines n words text.now wrapped.now }
+    ensures least { IsTrue result → IsLeastBreaking n words text.now wrapped.now }
+{
+    if n == 0 || !units_fit(text, n, words) {
+        return false;
+    }
+    let mut expected = Expected {
+        rest: Some(wrapped.as_bytes()),
+    };
+    match put_lines(&mut expected, n, words, text) {
+        Ok(()) => is_done(expected.rest),
+        Err(never) => match never {},
+    }
+}

@@ -1,0 +1,228 @@
+//! Wrapping a text to some columns. One walk adds unit to unit; where they are written is a parameter.
+ghost use Rattle.std.specs.Prelude.{◌≡◌, ◌++◌, ◌<◌, ◌≤◌, ◌+◌, ◌∷◌, chars, encode_utf8_all, length, map, IfOk, OnOk, IfSome, IsUtf8, string_bytes, List, ℕ, [], encode_utf8, replicate, false};
+ghost use Rattle.std.proofs.Common.{sym, ap, ◌∙◌, append-nil, append_assoc};
+ghost use Rattle.tabled_text.specs.Measure.{lines_of};
+ghost use Rattle.tabled_text.specs.Units.{TextUnit, unit_of_char, words_of, units, units_of_word, units_of_words};
+ghost use Rattle.tabled_text.specs.Breaking.{EachUnitFits, HasFewestLines, IsLeastBreaking};
+ghost use Rattle.tabled_text.specs.Wrapping.{IsWrapped};
+ghost use Rattle.tabled_text.specs.Walk.{words_in, begin_at, begin_text, put_text, put_used, put_all, used_after, pending};
+
+use crate::character::{char_count, split_first};
+use crate::line::lines;
+use crate::measure::line_width;
+use std::alloc::{AllocError, Global};
+
+/// What takes a text piece by piece.
+pub(crate) trait Sink {
+    type Error;
+
+    // The sink, what it is given, and the sink afterwards.
+    ghost adds: { Self → List ℕ → Self → Type 0 };
+
+    fn put_str(&mut self, text: &str) -> Result<(), Self::Error>
+        ensures { OnOk result (adds self.old text.now self.new) };
+
+    fn put_char(&mut self, c: char) -> Result<(), Self::Error>
+        ensures { OnOk result (adds self.old (encode_utf8 c) self.new) };
+
+    ghost adds_nothing: { (s : Self) → adds s [] s };
+
+    ghost adds_more: { (s t u : Self) (x y : List ℕ) → adds s x t → adds t y u → adds s (x ++ y) u };
+}
+
+impl Sink for String {
+    type Error = AllocError;
+
+    ghost adds = { λ s x t. string_bytes t ≡ string_bytes s ++ x };
+
+    fn put_str(&mut self, text: &str) -> Result<(), AllocError> {
+        self.push_str(text)
+    }
+
+    fn put_char(&mut self, c: char) -> Result<(), AllocError> {
+        self.push(c)
+    }
+
+    ghost adds_nothing = { λ s. sym (append-nil (string_bytes s)) };
+
+    ghost adds_more = { λ s t u x y h k. k ∙ ap (λ l. l ++ y) h ∙ append_assoc (string_bytes s) x y };
+}
+
+/// Gives n copies of a character.
+fn put_copies<S: Sink>(out: &mut S, c: char, n: usize) -> Result<(), S::Error>
+    ensures { OnOk result (S.adds out.old (encode_utf8_all (replicate n c)) out.new) }
+{
+    for _i in 0..n {
+        out.put_char(c)?;
+    }
+    Ok(())
+}
+
+/// The column at which a unit begins that needs some columns: on a new line if they are not left.
+fn begin<S: Sink>(out: &mut S, used: usize, n: usize, needed: usize) -> Result<usize, S::Error>
+    ensures at { IfOk result (λ column. column ≡ begin_at n used needed) }
+    ensures text { OnOk result (S.adds out.old (begin_text n used needed) out.new) }
+{
+    if used <= n && needed <= n - used {
+        return Ok(used);
+    }
+    out.put_char('\n')?;
+    Ok(0)
+}
+
+/// Writes a word.
+fn put_word<S: Sink>(
+    out: &mut S,
+    used: usize,
+    n: usize,
+    word: &str,
+    width: usize,
+) -> Result<usize, S::Error>
+    requires { width ≤ n }
+    ensures used { IfOk result (λ column.
+        column ≡ put_used n used (record { text = chars word.now; width = width })) }
+    ensures text { OnOk result (S.adds out.old
+        (encode_utf8_all (put_text n used (record { text = chars word.now; width = width }))) out.new) }
+{
+    let column = begin(out, used, n, width)?;
+    out.put_str(word)?;
+    Ok(column + width)
+}
+
+/// Writes a character.
+fn put_char<S: Sink>(out: &mut S, used: usize, n: usize, c: char) -> Result<usize, S::Error>
+    requires { 0 < n }
+    ensures used { IfOk result (λ column. column ≡ put_used n used (unit_of_char c)) }
+    ensures text { OnOk result (S.adds out.old (encode_utf8_all (put_text n used (unit_of_char c))) out.new) }
+{
+    let count = char_count(c);
+    if count <= n {
+        let column = begin(out, used, n, count)?;
+        out.put_char(c)?;
+        return Ok(column + count);
+    }
+    let column = begin(out, used, n, 1)?;
+    put_copies(out, '\u{FFFD}', n - column)?;
+    Ok(column + count)
+}
+
+/// Writes the characters of a text.
+fn put_chars<S: Sink>(out: &mut S, used: usize, n: usize, text: &str) -> Result<usize, S::Error>
+    requires { 0 < n }
+    ensures used { IfOk result (λ column. column ≡ used_after n used (map unit_of_char (chars text.now))) }
+    ensures text { OnOk result (S.adds out.old
+        (encode_utf8_all (put_all n used (map unit_of_char (chars text.now)))) out.new) }
+{
+    let mut column = used;
+    let mut rest = text;
+    while let Some((c, after)) = split_first(rest) {
+        column = put_char(out, column, n, c)?;
+        rest = after;
+    }
+    Ok(column)
+}
+
+/// Writes a word, or its characters where it is too long for a line.
+fn put_unit<S: Sink>(out: &mut S, used: usize, n: usize, word: &str) -> Result<usize, S::Error>
+    requires { 0 < n }
+    ensures used { IfOk result (λ column. column ≡ used_after n used (units_of_word n (chars word.now))) }
+    ensures text { OnOk result (S.adds out.old
+        (encode_utf8_all (put_all n used (units_of_word n (chars word.now)))) out.new) }
+{
+    if word.is_empty() {
+        return Ok(used);
+    }
+    let width = line_width(word);
+    if width <= n {
+        put_word(out, used, n, word, width)
+    } else {
+        put_chars(out, used, n, word)
+    }
+}
+
+/// The first word of a line, and what follows its space.
+pub(crate) fn split_word(text: &str) -> (&str, Option<&str>)
+    ensures words { words_of (chars text.now) ≡ chars result.0.now ∷ words_in result.1 }
+    ensures word { IsUtf8 result.0.now }
+    ensures after { IfSome result.1 (λ after. IsUtf8 after.now × (length after.now < length text.now)) }
+{
+    match text.split_once(' ') {
+        Some((word, after)) => (word, Some(after)),
+        None => (text, None),
+    }
+}
+
+/// Writes the words of a line and the spaces between them.
+fn put_words<S: Sink>(out: &mut S, n: usize, line: &str) -> Result<(), S::Error>
+    requires { 0 < n }
+    ensures { OnOk result (S.adds out.old
+        (encode_utf8_all (put_all n 0 (units_of_words n (words_of (chars line.now))))) out.new) }
+{
+    let mut column = 0;
+    let mut rest = line;
+    'words: loop {
+        let (word, after) = split_word(rest);
+        column = put_unit(out, column, n, word)?;
+        match after {
+            None => return Ok(()),
+            Some(next) => {
+                column = put_word(out, column, n, " ", 1)?;
+                rest = next;
+            }
+        }
+    }
+}
+
+/// Writes a line, broken.
+fn put_line<S: Sink>(out: &mut S, n: usize, words: bool, line: &str) -> Result<(), S::Error>
+    requires { 0 < n }
+    ensures { OnOk result (S.adds out.old
+        (encode_utf8_all (put_all n 0 (units n words (chars line.now)))) out.new) }
+{
+    if words {
+        return put_words(out, n, line);
+    }
+    put_chars(out, 0, n, line)?;
+    Ok(())
+}
+
+/// Writes the lines of a text, broken.
+pub(crate) fn put_lines<S: Sink>(
+    out: &mut S,
+    n: usize,
+    words: bool,
+    text: &str,
+) -> Result<(), S::Error>
+    requires { 0 < n }
+    ensures { OnOk result (S.adds out.old
+        (encode_utf8_all (pending n words false (lines_of (chars text.now)))) out.new) }
+{
+    let mut begun = false;
+    for line in lines(text) {
+        if begun {
+            out.put_char('\n')?;
+        }
+        begun = true;
+        put_line(out, n, words, line)?;
+    }
+    Ok(())
+}
+
+/// A text in lines of at most n columns, empty for no columns. Each line takes units while they fit. Units are
+/// the characters, each counted by itself (1 at least), or with `words` the spaces, the words of at most n
+/// columns, measured as lines, and the characters of longer words. A character that is wider than n is written
+/// as U+FFFD in the columns that are left, at least one. No other breaking has fewer lines. Refused only where
+/// memory is.
+pub fn wrap_text(alloc: Global, text: &str, n: usize, words: bool) -> Result<String, AllocError>
+    ensures wrapped { IfOk result (λ answer. IsWrapped n words text.now (string_bytes answer)) }
+    ensures fewest { IfOk result (λ answer. HasFewestLines n words text.now (string_bytes answer)) }
+    ensures least { 0 < n → EachUnitFits n words text.now
+        → IfOk result (λ answer. IsLeastBreaking n words text.now (string_bytes answer)) }
+{
+    let mut out = String::new(alloc);
+    if n == 0 {
+        return Ok(out);
+    }
+    put_lines(&mut out, n, words, text)?;
+    Ok(out)
+}
