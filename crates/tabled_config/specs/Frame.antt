@@ -3,6 +3,27 @@ use Rattle.std.specs.Prelude.{ℕ, ◌==◌, if◌then◌else◌, Bool, ◌||◌
 use Rattle.tabled_config.specs.declared.borders.Borders.{Borders}
 use Rattle.tabled_config.specs.declared.borders.HorizontalLine.{HorizontalLine}
 
+-- no line at all
+abbrev pub no_borders : {T : Type 0} → Borders T
+no_borders =
+    record {
+      top = None;
+      top_left = None;
+      top_right = None;
+      top_intersection = None;
+      bottom = None;
+      bottom_left = None;
+      bottom_right = None;
+      bottom_intersection = None;
+      horizontal = None;
+      vertical = None;
+      left = None;
+      right = None;
+      left_intersection = None;
+      right_intersection = None;
+      intersection = None;
+    }
+
 -- a vertical line is there if any of its characters is
 abbrev pub has_left : Borders ℕ → Bool
 has_left b = is_some b.left || (is_some b.top_left || (is_some b.bottom_left || is_some b.left_intersection))

@@ -1,2 +1,9 @@
+pub mod Changes
+pub mod Compact
 pub mod Frame
+pub mod Lending
+pub mod Lines
+pub mod Places
 pub mod Settings
+pub mod Spanned
+pub mod Styles

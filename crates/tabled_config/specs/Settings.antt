@@ -1,18 +1,31 @@
 -- What a configuration says of each place. The layers above read it by these words alone.
-use Rattle.std.specs.Prelude.{ℕ, ◌==◌, if◌then◌else◌, Bool, false, Option}
+use Rattle.std.specs.Prelude.{ℕ, ◌==◌, if◌then◌else◌, Bool, false, Option, Some, None}
 use Rattle.tabled_config.specs.declared.borders.HorizontalLine.{HorizontalLine}
 use Rattle.tabled_config.specs.declared.spanned.CellStyle.{CellStyle}
 use Rattle.tabled_config.specs.declared.spanned.SpannedConfig.{SpannedConfig}
+use Rattle.tabled_config.specs.Changes.{setting_at}
 use Rattle.tabled_config.specs.Frame.{border_at, has_inner}
+use Rattle.tabled_config.specs.Lines.{line_set}
 
 -- how the text of a cell stands in its place
 unfoldable pub style_at : SpannedConfig → ℕ → ℕ → CellStyle
-style_at config row column = config.style
+style_at config row column =
+    record {
+      padding = setting_at config.padding row column;
+      horizontal = setting_at config.alignment_horizontal row column;
+      vertical = setting_at config.alignment_vertical row column;
+      line_alignment = setting_at config.line_alignment row column;
+    }
+
+-- a line set by its index, and else that of the borders
+abbrev pub in_place_of : Option HorizontalLine → Option HorizontalLine → Option HorizontalLine
+in_place_of (Some line) border = Some line
+in_place_of None border = border
 
 -- the horizontal line above the row i of some rows, or below the last row
 unfoldable pub rule_at : SpannedConfig → ℕ → ℕ → Option HorizontalLine
-rule_at config rows i = border_at config.borders rows i
+rule_at config rows i = in_place_of (line_set config.lines i) (border_at config.borders rows i)
 
--- whether a vertical line stands before a column
+-- whether a vertical line stands before a column; lines set by their index make none stand
 abbrev pub has_bar : SpannedConfig → ℕ → Bool
 has_bar config column = if column == 0 then false else has_inner config.borders

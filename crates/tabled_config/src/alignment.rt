@@ -1,7 +1,7 @@
 //! Where a text stands in its room.
 
 /// Where a text stands among the columns of its room.
-#[derive(Clone, Copy, Debug, PartialEq, Eq)]
+#[derive(Clone, Copy, Debug, PartialEq, Eq, PartialOrd, Ord, Hash)]
 pub enum AlignmentHorizontal {
     /// At the left end.
     Left,
@@ -12,7 +12,7 @@ pub enum AlignmentHorizontal {
 }
 
 /// Where a text stands among the lines of its cell.
-#[derive(Clone, Copy, Debug, PartialEq, Eq)]
+#[derive(Clone, Copy, Debug, PartialEq, Eq, PartialOrd, Ord, Hash)]
 pub enum AlignmentVertical {
     /// At the top.
     Top,

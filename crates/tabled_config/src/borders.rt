@@ -2,7 +2,7 @@
 ghost use Rattle.std.specs.Prelude.{◌≡◌};
 
 /// The fifteen places of a frame. What is missing is a space where its line is there.
-#[derive(Clone, Copy, Debug, PartialEq, Eq)]
+#[derive(Clone, Copy, Debug, PartialEq, Eq, PartialOrd, Ord, Hash)]
 pub struct Borders<T> {
     /// The top line.
     pub top: Option<T>,
@@ -37,7 +37,7 @@ pub struct Borders<T> {
 }
 
 /// The characters of one horizontal line.
-#[derive(Clone, Copy, Debug, PartialEq, Eq)]
+#[derive(Clone, Copy, Debug, PartialEq, Eq, PartialOrd, Ord, Hash)]
 pub struct HorizontalLine {
     /// Over the columns.
     pub main: Option<char>,
@@ -61,6 +61,33 @@ impl HorizontalLine {
             || self.intersection.is_some()
             || self.right.is_some();
         any.then_some(self)
+    }
+}
+
+impl<T> Borders<T> {
+    ghost use Rattle.tabled_config.specs.Frame.{no_borders};
+
+    /// No line at all.
+    pub fn empty() -> Borders<T>
+        ensures { result ≡ no_borders }
+    {
+        Borders {
+            top: None,
+            top_left: None,
+            top_right: None,
+            top_intersection: None,
+            bottom: None,
+            bottom_left: None,
+            bottom_right: None,
+            bottom_intersection: None,
+            horizontal: None,
+            vertical: None,
+            left: None,
+            right: None,
+            left_intersection: None,
+            right_intersection: None,
+            intersection: None,
+        }
     }
 }
 

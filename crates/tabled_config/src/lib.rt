@@ -3,11 +3,29 @@
 #![tactic(auto)]
 
 mod alignment;
+mod ansi;
 mod borders;
+mod colored;
+mod compact;
+mod compact_multiline;
+mod entity_map;
+mod formatting;
+mod lines;
+mod places;
 mod sides;
 mod spanned;
+mod style;
 
 pub use alignment::{AlignmentHorizontal, AlignmentVertical};
+pub use ansi::ANSIStr;
 pub use borders::{Borders, HorizontalLine};
+pub use colored::ColoredConfig;
+pub use compact::CompactConfig;
+pub use compact_multiline::CompactMultilineConfig;
+pub use formatting::Formatting;
 pub use sides::{Indent, Sides};
 pub use spanned::{CellStyle, SpannedConfig};
+pub use style::Style;
+
+#[cfg(test)]
+mod tests;

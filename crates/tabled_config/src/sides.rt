@@ -2,7 +2,7 @@
 ghost use Rattle.std.specs.Prelude.{◌≡◌};
 
 /// A run of one character: columns on the left and right, lines at the top and bottom.
-#[derive(Clone, Copy, Debug, PartialEq, Eq)]
+#[derive(Clone, Copy, Debug, PartialEq, Eq, PartialOrd, Ord, Hash)]
 pub struct Indent {
     /// How many columns or lines it takes.
     pub size: usize,
@@ -34,7 +34,7 @@ impl Indent {
 }
 
 /// One value for each side.
-#[derive(Clone, Copy, Debug, PartialEq, Eq)]
+#[derive(Clone, Copy, Debug, PartialEq, Eq, PartialOrd, Ord, Hash)]
 pub struct Sides<T> {
     /// The left side.
     pub left: T,
@@ -44,4 +44,27 @@ pub struct Sides<T> {
     pub top: T,
     /// The bottom.
     pub bottom: T,
+}
+
+impl<T> Sides<T> {
+    /// One value for each side, in this order.
+    pub fn new(left: T, right: T, top: T, bottom: T) -> Sides<T>
+        ensures { result ≡ record { left = left; right = right; top = top; bottom = bottom } }
+    {
+        Sides {
+            left,
+            right,
+            top,
+            bottom,
+        }
+    }
+}
+
+impl<T: Copy> Sides<T> {
+    /// The same value on all sides.
+    pub fn filled(value: T) -> Sides<T>
+        ensures { result ≡ record { left = value; right = value; top = value; bottom = value } }
+    {
+        Sides::new(value, value, value, value)
+    }
 }

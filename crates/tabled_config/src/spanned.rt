@@ -1,9 +1,19 @@
 //! The configuration of a table.
-ghost use Rattle.std.specs.Prelude.{◌≡◌};
+ghost use Rattle.std.specs.Prelude.{◌≡◌, ◌==◌, ℕ, if◌then◌else◌, IfErr, IfOk, IsOk, OnErr, OnOk, Some};
+ghost use Rattle.tabled_base.specs.declared.error.TableError.TheVariants.{Memory};
+ghost use Rattle.tabled_config.specs.Changes.{setting_at, with_change};
+ghost use Rattle.tabled_config.specs.Lines.{line_set, with_line};
+ghost use Rattle.tabled_config.specs.Places.{IsWhole};
 
 use crate::alignment::{AlignmentHorizontal, AlignmentVertical};
 use crate::borders::{Borders, HorizontalLine};
+use crate::compact::CompactConfig;
+use crate::compact_multiline::CompactMultilineConfig;
+use crate::entity_map::EntityMap;
+use crate::lines::Lines;
 use crate::sides::{Indent, Sides};
+use std::alloc::{AllocError, Global};
+use tabled_base::{Entity, Position, TableError};
 
 /// How the text of a cell stands in its place.
 #[derive(Clone, Copy, Debug)]
@@ -18,27 +28,292 @@ pub struct CellStyle {
     pub line_alignment: bool,
 }
 
-/// The settings of a table: its borders, its margin, and one style for all cells.
-#[derive(Clone, Copy, Debug)]
+/// The settings of a table. For each cell the latest setting that covers it holds, and a setting for
+/// the whole table forgets all others. A horizontal line that was set by its index stands in place of
+/// the borders' line there. Two are equal where the same was set in the same order.
+#[derive(Debug, Drop, PartialEq, Eq)]
 pub struct SpannedConfig {
     /// The characters of the frame.
     pub borders: Borders<char>,
     /// What stands around the frame.
     pub margin: Sides<Indent>,
-    /// How the cells' texts stand.
-    pub style: CellStyle,
+    padding: EntityMap<Sides<Indent>>,
+    alignment_horizontal: EntityMap<AlignmentHorizontal>,
+    alignment_vertical: EntityMap<AlignmentVertical>,
+    line_alignment: EntityMap<bool>,
+    trim_horizontal: EntityMap<bool>,
+    trim_vertical: EntityMap<bool>,
+    lines: Lines,
 }
 
 impl SpannedConfig {
     ghost use Rattle.tabled_config.specs.Settings.{has_bar, rule_at, style_at};
+    ghost use Rattle.tabled_config.specs.Spanned.{
+      new_spanned,
+      spanned_of_compact,
+      spanned_of_multiline,
+    };
+
+    /// No borders, padding, margin or lines, texts at the left and the top. It takes no memory.
+    pub fn new(alloc: Global) -> SpannedConfig
+        ensures { result ≡ new_spanned }
+    {
+        let none = Sides::filled(Indent::zero());
+        SpannedConfig {
+            borders: Borders::empty(),
+            margin: none,
+            padding: EntityMap::new(alloc, none),
+            alignment_horizontal: EntityMap::new(alloc, AlignmentHorizontal::Left),
+            alignment_vertical: EntityMap::new(alloc, AlignmentVertical::Top),
+            line_alignment: EntityMap::new(alloc, false),
+            trim_horizontal: EntityMap::new(alloc, false),
+            trim_vertical: EntityMap::new(alloc, false),
+            lines: Lines::new(alloc),
+        }
+    }
+
+    /// What a compact configuration says, for all cells, and else what `new` gives. The colours are
+    /// dropped. It takes no memory.
+    pub fn from_compact(alloc: Global, compact: CompactConfig) -> SpannedConfig
+        ensures { result ≡ spanned_of_compact compact }
+    {
+        let mut config = SpannedConfig::new(alloc);
+        config.borders = *compact.get_borders();
+        config.margin = *compact.get_margin();
+        config.padding.set_all(*compact.get_padding());
+        config
+            .alignment_horizontal
+            .set_all(compact.get_alignment_horizontal());
+        config
+    }
+
+    /// The same for cells of several lines: the vertical alignment and the flags are kept too. It takes
+    /// no memory.
+    pub fn from_multiline(alloc: Global, multiline: CompactMultilineConfig) -> SpannedConfig
+        ensures { result ≡ spanned_of_multiline multiline }
+    {
+        let formatting = multiline.get_formatting();
+        let mut config = SpannedConfig::from_compact(alloc, CompactConfig::from(multiline));
+        config
+            .alignment_vertical
+            .set_all(multiline.get_alignment_vertical());
+        config
+            .line_alignment
+            .set_all(formatting.allow_lines_alignment);
+        config.trim_horizontal.set_all(formatting.horizontal_trim);
+        config.trim_vertical.set_all(formatting.vertical_trim);
+        config
+    }
+
+    /// The same settings.
+    pub fn clone(&self) -> Result<SpannedConfig, AllocError>
+        ensures { IfOk result (λ copy. copy ≡ self.now) }
+    {
+        Ok(SpannedConfig {
+            borders: self.borders,
+            margin: self.margin,
+            padding: self.padding.clone()?,
+            alignment_horizontal: self.alignment_horizontal.clone()?,
+            alignment_vertical: self.alignment_vertical.clone()?,
+            line_alignment: self.line_alignment.clone()?,
+            trim_horizontal: self.trim_horizontal.clone()?,
+            trim_vertical: self.trim_vertical.clone()?,
+            lines: self.lines.clone()?,
+        })
+    }
+
+    /// Sets the borders.
+    pub fn set_borders(&mut self, borders: Borders<char>)
+        ensures { self.new ≡ record self.old { borders = borders } }
+    {
+        self.borders = borders;
+    }
+
+    /// The borders.
+    pub fn get_borders(&self) -> &Borders<char>
+        ensures { result.now ≡ self.now.borders }
+    {
+        &self.borders
+    }
+
+    /// Sets the margin.
+    pub fn set_margin(&mut self, margin: Sides<Indent>)
+        ensures { self.new ≡ record self.old { margin = margin } }
+    {
+        self.margin = margin;
+    }
+
+    /// The margin.
+    pub fn get_margin(&self) -> &Sides<Indent>
+        ensures { result.now ≡ self.now.margin }
+    {
+        &self.margin
+    }
+
+    /// Sets the columns and lines kept free around the texts of an entity. Refused with `Memory` alone, and then all
+    /// is as it was.
+    pub fn set_padding(&mut self, entity: Entity, padding: Sides<Indent>) -> Result<(), TableError>
+        ensures ok { OnOk result (self.new
+            ≡ record self.old { padding = with_change self.old.padding entity padding }) }
+        ensures err { OnErr result (self.new ≡ self.old) }
+        ensures only { IfErr result (λ e. e ≡ Memory) }
+        ensures whole { IsWhole entity → IsOk result }
+    {
+        self.padding.set(entity, padding)?;
+        Ok(())
+    }
+
+    /// The columns and lines kept free around the text of a cell.
+    pub fn get_padding(&self, at: Position) -> Sides<Indent>
+        ensures { result ≡ setting_at self.now.padding at.row at.column }
+    {
+        self.padding.get(at.row, at.column)
+    }
+
+    /// Sets where the texts of an entity stand among their columns. Refused with `Memory` alone, and then all
+    /// is as it was.
+    pub fn set_alignment_horizontal(
+        &mut self,
+        entity: Entity,
+        alignment: AlignmentHorizontal,
+    ) -> Result<(), TableError>
+        ensures ok { OnOk result (self.new
+            ≡ record self.old { alignment_horizontal = with_change self.old.alignment_horizontal entity alignment }) }
+        ensures err { OnErr result (self.new ≡ self.old) }
+        ensures only { IfErr result (λ e. e ≡ Memory) }
+        ensures whole { IsWhole entity → IsOk result }
+    {
+        self.alignment_horizontal.set(entity, alignment)?;
+        Ok(())
+    }
+
+    /// Where the text of a cell stands among its columns.
+    pub fn get_alignment_horizontal(&self, at: Position) -> AlignmentHorizontal
+        ensures { result ≡ setting_at self.now.alignment_horizontal at.row at.column }
+    {
+        self.alignment_horizontal.get(at.row, at.column)
+    }
+
+    /// Sets where the texts of an entity stand among their lines. Refused with `Memory` alone, and then all
+    /// is as it was.
+    pub fn set_alignment_vertical(
+        &mut self,
+        entity: Entity,
+        alignment: AlignmentVertical,
+    ) -> Result<(), TableError>
+        ensures ok { OnOk result (self.new
+            ≡ record self.old { alignment_vertical = with_change self.old.alignment_vertical entity alignment }) }
+        ensures err { OnErr result (self.new ≡ self.old) }
+        ensures only { IfErr result (λ e. e ≡ Memory) }
+        ensures whole { IsWhole entity → IsOk result }
+    {
+        self.alignment_vertical.set(entity, alignment)?;
+        Ok(())
+    }
+
+    /// Where the text of a cell stands among its lines.
+    pub fn get_alignment_vertical(&self, at: Position) -> AlignmentVertical
+        ensures { result ≡ setting_at self.now.alignment_vertical at.row at.column }
+    {
+        self.alignment_vertical.get(at.row, at.column)
+    }
+
+    /// Sets whether each line of an entity's texts is aligned by its own columns. Refused with `Memory` alone, and then all
+    /// is as it was.
+    pub fn set_line_alignment(&mut self, entity: Entity, allowed: bool) -> Result<(), TableError>
+        ensures ok { OnOk result (self.new
+            ≡ record self.old { line_alignment = with_change self.old.line_alignment entity allowed }) }
+        ensures err { OnErr result (self.new ≡ self.old) }
+        ensures only { IfErr result (λ e. e ≡ Memory) }
+        ensures whole { IsWhole entity → IsOk result }
+    {
+        self.line_alignment.set(entity, allowed)?;
+        Ok(())
+    }
+
+    /// Whether each line of a cell is aligned by its own columns, and not by those of the widest.
+    pub fn get_line_alignment(&self, at: Position) -> bool
+        ensures { result ≡ setting_at self.now.line_alignment at.row at.column }
+    {
+        self.line_alignment.get(at.row, at.column)
+    }
+
+    /// Sets whether spaces at the ends of an entity's lines are to go. Refused with `Memory` alone, and then all
+    /// is as it was.
+    pub fn set_trim_horizontal(&mut self, entity: Entity, trimmed: bool) -> Result<(), TableError>
+        ensures ok { OnOk result (self.new
+            ≡ record self.old { trim_horizontal = with_change self.old.trim_horizontal entity trimmed }) }
+        ensures err { OnErr result (self.new ≡ self.old) }
+        ensures only { IfErr result (λ e. e ≡ Memory) }
+        ensures whole { IsWhole entity → IsOk result }
+    {
+        self.trim_horizontal.set(entity, trimmed)?;
+        Ok(())
+    }
+
+    /// Whether spaces at the ends of a cell's lines are to go.
+    pub fn get_trim_horizontal(&self, at: Position) -> bool
+        ensures { result ≡ setting_at self.now.trim_horizontal at.row at.column }
+    {
+        self.trim_horizontal.get(at.row, at.column)
+    }
+
+    /// Sets whether empty lines at the ends of an entity's texts are to go. Refused with `Memory` alone, and then all
+    /// is as it was.
+    pub fn set_trim_vertical(&mut self, entity: Entity, trimmed: bool) -> Result<(), TableError>
+        ensures ok { OnOk result (self.new
+            ≡ record self.old { trim_vertical = with_change self.old.trim_vertical entity trimmed }) }
+        ensures err { OnErr result (self.new ≡ self.old) }
+        ensures only { IfErr result (λ e. e ≡ Memory) }
+        ensures whole { IsWhole entity → IsOk result }
+    {
+        self.trim_vertical.set(entity, trimmed)?;
+        Ok(())
+    }
+
+    /// Whether empty lines at the ends of a cell's text are to go.
+    pub fn get_trim_vertical(&self, at: Position) -> bool
+        ensures { result ≡ setting_at self.now.trim_vertical at.row at.column }
+    {
+        self.trim_vertical.get(at.row, at.column)
+    }
+
+    /// Sets the horizontal line above a row, or below the last one, in place of the borders' line.
+    /// Refused with `Memory` alone, and then all is as it was.
+    pub fn insert_horizontal_line(
+        &mut self,
+        row: usize,
+        line: HorizontalLine,
+    ) -> Result<(), TableError>
+        ensures ok { OnOk result (self.new
+            ≡ record self.old { lines = with_line self.old.lines row line }) }
+        ensures latest { OnOk result ((i : ℕ) → line_set self.new.lines i
+            ≡ (if row == i then Some line else line_set self.old.lines i)) }
+        ensures err { OnErr result (self.new ≡ self.old) }
+        ensures only { IfErr result (λ e. e ≡ Memory) }
+    {
+        self.lines.insert(row, line)?;
+        Ok(())
+    }
+
+    /// The horizontal line that was set above a row.
+    pub fn get_horizontal_line(&self, row: usize) -> Option<HorizontalLine>
+        ensures { result ≡ line_set self.now.lines row }
+    {
+        self.lines.get(row)
+    }
 
     /// How the text of the cell at a place stands.
     #[tactic(auto, unfolding(crate::specs::Settings::style_at))]
     pub fn style_at(&self, row: usize, column: usize) -> CellStyle
         ensures { result ≡ style_at self.now row column }
     {
-        let _place = (row, column);
-        self.style
+        CellStyle {
+            padding: self.padding.get(row, column),
+            horizontal: self.alignment_horizontal.get(row, column),
+            vertical: self.alignment_vertical.get(row, column),
+            line_alignment: self.line_alignment.get(row, column),
+        }
     }
 
     /// The horizontal line above the row `index` of so many rows, or below the last one.
@@ -46,7 +321,10 @@ impl SpannedConfig {
     pub fn rule_at(&self, rows: usize, index: usize) -> Option<HorizontalLine>
         ensures { result ≡ rule_at self.now rows index }
     {
-        self.borders.line_at(rows, index)
+        match self.lines.get(index) {
+            Some(line) => Some(line),
+            None => self.borders.line_at(rows, index),
+        }
     }
 
     /// Whether a vertical line stands before a column.

@@ -81,7 +81,8 @@ impl Table {
         ensures columns { ArePlain (cells_of self.now)
             → EachLineTakes (total_width (sheet self.now)) (picture (sheet self.now)) }
     {
-        total_estimated_width(self.records.allocator(), &self.records, &new_config())
+        let config = new_config(self.records.allocator());
+        total_estimated_width(self.records.allocator(), &self.records, &config)
     }
 
     /// The lines of the printed table, 0 for an empty one. Refused for memory, and with `Range` where
@@ -93,7 +94,8 @@ impl Table {
             ⊎ ((e ≡ Range) × (2 ^ 64 ≤ total_height (sheet self.now)))) }
         ensures lines { length (picture (sheet self.now)) ≡ total_height (sheet self.now) }
     {
-        total_estimated_height(self.records.allocator(), &self.records, &new_config())
+        let config = new_config(self.records.allocator());
+        total_estimated_height(self.records.allocator(), &self.records, &config)
     }
 
     /// Prints the table piece by piece: the picture of its sizes, its lines joined by line feeds. An
@@ -103,7 +105,8 @@ impl Table {
         ensures printed { Prints (sheet self.now) (S.sent sink.old) result (S.sent sink.new) }
         ensures only { IfErr result (λ e. (e ≡ Memory) ⊎ ((e ≡ Range) ⊎ (e ≡ Writer))) }
     {
-        print_estimated(self.records.allocator(), &self.records, &new_config(), sink)
+        let config = new_config(self.records.allocator());
+        print_estimated(self.records.allocator(), &self.records, &config, sink)
     }
 
     /// The text that `write_to` writes. Refused for memory, and with `Range` where a total passes the

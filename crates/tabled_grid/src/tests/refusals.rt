@@ -14,7 +14,7 @@ fn sizes_are_tested_before_the_first_byte(rt: HostRuntime) {
     ];
     for (widths, heights, want) in cases {
         let mut sink = String::new(rt.alloc());
-        let answer = put_text(rt.alloc(), &mut sink, TEXT, &ascii(), widths, heights);
+        let answer = put_text(rt.alloc(), &mut sink, TEXT, &ascii(rt.alloc()), widths, heights);
         assert_eq!(rt; answer, Err(want));
         assert_eq!(rt; sink.as_str(), "");
     }
@@ -22,7 +22,7 @@ fn sizes_are_tested_before_the_first_byte(rt: HostRuntime) {
 
 #[test]
 fn a_total_past_the_range_is_refused(rt: HostRuntime) {
-    let mut config = ascii();
+    let mut config = ascii(rt.alloc());
     config.margin.left.size = usize::MAX;
     let mut sink = String::new(rt.alloc());
     let answer = put_text(rt.alloc(), &mut sink, TEXT, &config, &[5, 4], &[1, 1]);
@@ -32,7 +32,7 @@ fn a_total_past_the_range_is_refused(rt: HostRuntime) {
 
 #[test]
 fn an_empty_table_has_no_lines(rt: HostRuntime) -> Result<(), Fail> {
-    let mut config = ascii();
+    let mut config = ascii(rt.alloc());
     config.margin.left.size = usize::MAX;
     assert_eq!(rt; drawn(rt.alloc(), "", &config, &[], &[])?.as_str(), "");
     Ok(())

@@ -4,9 +4,7 @@ use crate::{Grid, TextSink, print_grid};
 use std::alloc::Global;
 use std::test::Fail;
 use tabled_base::{Builder, TableError, text_rows};
-use tabled_config::{
-    AlignmentHorizontal, AlignmentVertical, Borders, CellStyle, Indent, Sides, SpannedConfig,
-};
+use tabled_config::{Borders, CompactConfig, Indent, Sides, SpannedConfig, Style};
 
 // The cells a, bb and ccc, and an empty one.
 pub const TEXT: &str = "a\tbb\nccc";
@@ -19,65 +17,21 @@ pub const PICTURE: &str = "\
 | ccc |    |
 +-----+----+";
 
-// The borders whose characters are, row by row, those of the top line, of a row's line, of a line
-// between rows and of the bottom line.
-fn borders(top: [char; 4], side: char, inner: [char; 4], bottom: [char; 4]) -> Borders<char> {
-    Borders {
-        top_left: Some(top[0]),
-        top: Some(top[1]),
-        top_intersection: Some(top[2]),
-        top_right: Some(top[3]),
-        left: Some(side),
-        vertical: Some(side),
-        right: Some(side),
-        left_intersection: Some(inner[0]),
-        horizontal: Some(inner[1]),
-        intersection: Some(inner[2]),
-        right_intersection: Some(inner[3]),
-        bottom_left: Some(bottom[0]),
-        bottom: Some(bottom[1]),
-        bottom_intersection: Some(bottom[2]),
-        bottom_right: Some(bottom[3]),
-    }
-}
-
-fn with_borders(borders: Borders<char>) -> SpannedConfig {
+fn with_borders(alloc: Global, borders: Borders<char>) -> SpannedConfig {
     let none = Indent::zero();
     let one = Indent::spaced(1);
-    SpannedConfig {
-        borders,
-        margin: Sides {
-            left: none,
-            right: none,
-            top: none,
-            bottom: none,
-        },
-        style: CellStyle {
-            padding: Sides {
-                left: one,
-                right: one,
-                top: none,
-                bottom: none,
-            },
-            horizontal: AlignmentHorizontal::Left,
-            vertical: AlignmentVertical::Top,
-            line_alignment: false,
-        },
-    }
+    let compact = CompactConfig::new()
+        .set_borders(borders)
+        .set_padding(Sides::new(one, one, none, none));
+    SpannedConfig::from_compact(alloc, compact)
 }
 
-pub fn ascii() -> SpannedConfig {
-    let line = ['+', '-', '+', '+'];
-    with_borders(borders(line, '|', line, line))
+pub fn ascii(alloc: Global) -> SpannedConfig {
+    with_borders(alloc, Style::ascii().get_borders())
 }
 
-pub fn modern() -> SpannedConfig {
-    with_borders(borders(
-        ['┌', '─', '┬', '┐'],
-        '│',
-        ['├', '─', '┼', '┤'],
-        ['└', '─', '┴', '┘'],
-    ))
+pub fn modern(alloc: Global) -> SpannedConfig {
+    with_borders(alloc, Style::modern().get_borders())
 }
 
 // Prints the rows of a text.

@@ -46,7 +46,7 @@ fn writer_of(alloc: Global, step: usize, room: usize) -> Meagre {
 // Prints the table of the tests, and answers how often the writer failed beside what came out.
 fn put_table(alloc: Global, writer: &mut Meagre) -> (Result<(), TableError>, usize) {
     let mut sink = IoSink::new(writer);
-    let answer = put_text(alloc, &mut sink, TEXT, &ascii(), &[5, 4], &[1, 1]);
+    let answer = put_text(alloc, &mut sink, TEXT, &ascii(alloc), &[5, 4], &[1, 1]);
     (answer, sink.failures())
 }
 

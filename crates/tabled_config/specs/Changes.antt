@@ -1,0 +1,39 @@
+-- What was set, in order, and what it says of each cell.
+use Rattle.std.specs.Prelude.{ℕ, ◌==◌, ◌&&◌, if◌then◌else◌, Bool, true, List, [], ◌∷◌}
+use Rattle.tabled_base.specs.declared.position.Entity.{Entity}
+use Rattle.tabled_base.specs.declared.position.Entity.TheVariants.{Global, Row, Column, Cell}
+
+-- one setting of a table: what was set for the whole of it, and what was set for parts of it since
+-- then, the latest first
+pub record Changes (T : Type 0) : Type 0 where
+  pub whole : T
+  pub parts : List (Entity × T)
+
+-- whether the cell in a row and a column belongs to an entity
+abbrev pub covers : Entity → ℕ → ℕ → Bool
+covers Global row column = true
+covers (Row r) row column = r == row
+covers (Column c) row column = c == column
+covers (Cell r c) row column = r == row && c == column
+
+module _ {T : Type 0} where
+  -- what the first of some parts that covers a cell says, and else what the whole table has
+  abbrev pub first_covering : T → List (Entity × T) → ℕ → ℕ → T
+  first_covering whole [] row column = whole
+  first_covering whole (part ∷ earlier) row column =
+      if covers part.0 row column then part.1 else first_covering whole earlier row column
+
+  -- the latest setting that covers a cell
+  abbrev pub setting_at : Changes T → ℕ → ℕ → T
+  setting_at changes row column = first_covering changes.whole changes.parts row column
+
+  -- the settings after one more; one for the whole table forgets all others
+  abbrev pub with_change : Changes T → Entity → T → Changes T
+  with_change changes Global value = record { whole = value; parts = [] }
+  with_change changes (Row r) value = record changes { parts = (Row r, value) ∷ changes.parts }
+  with_change changes (Column c) value = record changes { parts = (Column c, value) ∷ changes.parts }
+  with_change changes (Cell r c) value = record changes { parts = (Cell r c, value) ∷ changes.parts }
+
+  -- one value for the whole table
+  abbrev pub for_all : T → Changes T
+  for_all value = record { whole = value; parts = [] }

@@ -1,0 +1,46 @@
+//! The configuration of a table that is printed as a whole.
+ghost use Rattle.std.specs.Prelude.{◌≡◌, IfOk};
+ghost use Rattle.std.specs.Borrow.{sem};
+ghost use Rattle.tabled_config.specs.Lending.{LendsConfig};
+
+use crate::spanned::SpannedConfig;
+use std::alloc::AllocError;
+
+/// The settings of a table. It has no colours of its own.
+#[derive(Debug, Drop, PartialEq, Eq)]
+pub struct ColoredConfig {
+    config: SpannedConfig,
+}
+
+impl ColoredConfig {
+    /// The settings of a configuration.
+    pub fn new(config: SpannedConfig) -> ColoredConfig
+        ensures { result.config ≡ config }
+    {
+        ColoredConfig { config }
+    }
+
+    /// The settings.
+    pub fn as_ref(&self) -> &SpannedConfig
+        ensures { result.now ≡ self.now.config }
+    {
+        &self.config
+    }
+
+    /// The settings, to be changed.
+    pub fn as_mut(&mut self) -> &mut SpannedConfig
+        ensures* lends { sem 𝓛 (LendsConfig self.entry result) }
+        ensures value { result.now ≡ self.old.config }
+    {
+        &mut self.config
+    }
+
+    /// The same settings.
+    pub fn clone(&self) -> Result<ColoredConfig, AllocError>
+        ensures { IfOk result (λ copy. copy ≡ self.now) }
+    {
+        Ok(ColoredConfig {
+            config: self.config.clone()?,
+        })
+    }
+}

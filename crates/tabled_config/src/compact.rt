@@ -1,0 +1,157 @@
+//! The settings of a compact table: one for all cells.
+ghost use Rattle.std.specs.Prelude.{◌≡◌};
+ghost use Rattle.tabled_config.specs.Compact.{IsColorless, IsPlainCompact};
+
+use crate::alignment::AlignmentHorizontal;
+use crate::ansi::ANSIStr;
+use crate::borders::Borders;
+use crate::sides::{Indent, Sides};
+
+/// The settings of a table whose cells all have the same: it takes no memory.
+#[derive(Clone, Copy, Debug, PartialEq, Eq, PartialOrd, Ord, Hash)]
+pub struct CompactConfig {
+    margin: Sides<Indent>,
+    padding: Sides<Indent>,
+    borders: Borders<char>,
+    borders_color: Borders<ANSIStr<'static>>,
+    margin_color: Sides<ANSIStr<'static>>,
+    padding_color: Sides<ANSIStr<'static>>,
+    alignment_horizontal: AlignmentHorizontal,
+}
+
+impl CompactConfig {
+    /// No borders, no padding, no margin and no colours, texts at the left.
+    pub fn new() -> CompactConfig
+        ensures { IsPlainCompact result }
+    {
+        let none = Sides::filled(Indent::zero());
+        let colorless = Sides::filled(ANSIStr::new("", ""));
+        CompactConfig {
+            margin: none,
+            padding: none,
+            borders: Borders::empty(),
+            borders_color: Borders::empty(),
+            margin_color: colorless,
+            padding_color: colorless,
+            alignment_horizontal: AlignmentHorizontal::Left,
+        }
+    }
+
+    /// Sets the margin around the frame.
+    pub fn set_margin(self, margin: Sides<Indent>) -> CompactConfig
+        ensures { result ≡ record self { margin = margin } }
+    {
+        CompactConfig { margin, ..self }
+    }
+
+    /// The margin around the frame.
+    pub fn get_margin(&self) -> &Sides<Indent>
+        ensures { result.now ≡ self.now.margin }
+    {
+        &self.margin
+    }
+
+    /// Sets the padding of all cells.
+    pub fn set_padding(self, padding: Sides<Indent>) -> CompactConfig
+        ensures { result ≡ record self { padding = padding } }
+    {
+        CompactConfig { padding, ..self }
+    }
+
+    /// The padding of all cells.
+    pub fn get_padding(&self) -> &Sides<Indent>
+        ensures { result.now ≡ self.now.padding }
+    {
+        &self.padding
+    }
+
+    /// Sets the borders.
+    pub fn set_borders(self, borders: Borders<char>) -> CompactConfig
+        ensures { result ≡ record self { borders = borders } }
+    {
+        CompactConfig { borders, ..self }
+    }
+
+    /// The borders.
+    pub fn get_borders(&self) -> &Borders<char>
+        ensures { result.now ≡ self.now.borders }
+    {
+        &self.borders
+    }
+
+    /// Sets the colours of the borders.
+    pub fn set_borders_color(self, colors: Borders<ANSIStr<'static>>) -> CompactConfig
+        ensures { result ≡ record self { borders_color = colors.entry } }
+    {
+        CompactConfig {
+            borders_color: colors,
+            ..self
+        }
+    }
+
+    /// The colours of the borders.
+    pub fn get_borders_color(&self) -> &Borders<ANSIStr<'static>>
+        ensures { result.now ≡ self.now.borders_color }
+    {
+        &self.borders_color
+    }
+
+    /// Sets the colours of the margin.
+    pub fn set_margin_color(self, colors: Sides<ANSIStr<'static>>) -> CompactConfig
+        ensures { result ≡ record self { margin_color = colors.entry } }
+    {
+        CompactConfig {
+            margin_color: colors,
+            ..self
+        }
+    }
+
+    /// The colours of the margin.
+    pub fn get_margin_color(&self) -> &Sides<ANSIStr<'static>>
+        ensures { result.now ≡ self.now.margin_color }
+    {
+        &self.margin_color
+    }
+
+    /// Sets the colours of the padding.
+    pub fn set_padding_color(self, colors: Sides<ANSIStr<'static>>) -> CompactConfig
+        ensures { result ≡ record self { padding_color = colors.entry } }
+    {
+        CompactConfig {
+            padding_color: colors,
+            ..self
+        }
+    }
+
+    /// The colours of the padding.
+    pub fn get_padding_color(&self) -> &Sides<ANSIStr<'static>>
+        ensures { result.now ≡ self.now.padding_color }
+    {
+        &self.padding_color
+    }
+
+    /// Sets where the texts stand among their columns.
+    pub fn set_alignment_horizontal(self, alignment: AlignmentHorizontal) -> CompactConfig
+        ensures { result ≡ record self { alignment_horizontal = alignment } }
+    {
+        CompactConfig {
+            alignment_horizontal: alignment,
+            ..self
+        }
+    }
+
+    /// Where the texts stand among their columns.
+    pub fn get_alignment_horizontal(&self) -> AlignmentHorizontal
+        ensures { result ≡ self.now.alignment_horizontal }
+    {
+        self.alignment_horizontal
+    }
+}
+
+impl Default for CompactConfig {
+    ghost is_default = { IsPlainCompact };
+
+    fn default() -> CompactConfig {
+        CompactConfig::new()
+    }
+}
