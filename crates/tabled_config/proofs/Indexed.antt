@@ -1,5 +1,5 @@
 -- What a map of changes finds by its places is the latest setting that covers a cell.
-use Rattle.std.proofs.Common.{◌≡◌, ℕ, ◌-◌, ◌<◌, List, length, reverse, Option, Some, ap, sym, ◌∙◌, subst, get_or}
+use Rattle.std.proofs.Common.{[], ◌∷◌, suc, refl, arith, ◌≡◌, ℕ, ◌-◌, ◌<◌, List, length, reverse, Option, Some, ap, sym, ◌∙◌, subst, get_or}
 use Rattle.std.proofs.lemmas.List.{reverse-reverse, get_or-reverse}
 use Rattle.tabled_base.specs.declared.position.Entity.{Entity}
 use Rattle.tabled_base.specs.declared.position.Entity.TheVariants.{Global, Row, Column, Cell}
@@ -26,3 +26,8 @@ module _ {T : Type 0} where
 
 pub item-reversed : {X : Type 0} (items : List X) (i : ℕ) (d : X) → i < length (reverse items) → get_or items i d ≡ get_or (reverse items) (length (reverse items) - 1 - i) d
 item-reversed items i d h = ap (λ xs. get_or xs i d) (sym (reverse-reverse items)) ∙ get_or-reverse (reverse items) i d h
+
+-- where nothing was set for a part, each cell has what the whole table has
+pub nothing_set : {T : Type 0} (whole : T) (items : List (Entity × T)) (row column : ℕ) → length items ≡ 0 → whole ≡ first_covering whole (reverse items) row column
+nothing_set whole [] row column h = refl
+nothing_set whole (item ∷ items) row column h = let e : suc (length items) ≡ 0 = h in absurd (omega arith)

@@ -97,6 +97,9 @@ impl<T: Copy> EntityMap<T> {
     pub fn get(&self, row: usize, column: usize) -> T
         ensures { result ≡ setting_at self.now row column }
     {
+        if self.changes.is_empty() {
+            return self.whole;
+        }
         match self.places.latest(row, column) {
             Some(place) => self.changes[place].1,
             None => self.whole,

@@ -3,7 +3,7 @@ use Rattle.std.proofs.lemmas.List.{length-reverse, get_or_read}
 use Rattle.tabled_base.specs.declared.position.Entity.{Entity}
 use Rattle.tabled_base.specs.declared.position.Entity.TheVariants.{Global}
 use Rattle.tabled_config.specs.Changes.{setting_at}
-use Rattle.tabled_config.proofs.Indexed.{found-below, said_at-found, item-reversed}
+use Rattle.tabled_config.proofs.Indexed.{nothing_set, found-below, said_at-found, item-reversed}
 use Rattle.tabled_config.proofs.entity_map.EntityMap.get.Goals as goal
 
 pub index-requires : goal.index-requires
@@ -29,4 +29,9 @@ returns-in-Some g c =
 pub returns-in-None : goal.returns-in-None
 returns-in-None g c =
     said_at-found c.self.inside.whole c.self.inside.places (reverse c.self.inside.changes.items) c.args.row c.args.column None c.self.invariant c.in-None.ensures
+    ∙ ap (λ v. setting_at v c.args.row c.args.column) c.self.view_is
+
+pub returns-then-is_empty : goal.returns-then-is_empty
+returns-then-is_empty g c =
+    nothing_set c.self.inside.whole c.self.inside.changes.items c.args.row c.args.column (grind (arith, c.if-is_empty.true, c.is_empty.ensures, c.self.inside.changes.ok.0))
     ∙ ap (λ v. setting_at v c.args.row c.args.column) c.self.view_is
