@@ -25,6 +25,13 @@ pub mod builder {
 
 /// What a table can be set by.
 pub mod settings {
+    pub use tabled_config::Style;
+
+    /// Frames, and the lines that they are made of.
+    pub mod style {
+        pub use tabled_config::{HorizontalLine, Style};
+    }
+
     /// The orders in which sizes are shrunk and grown, and what is told of the lists that they leave.
     pub mod peaker {
         pub use tabled_size::{
@@ -39,6 +46,10 @@ pub mod grid {
     /// Places, and what is set for them.
     pub mod config {
         pub use tabled_base::{Entity, Position};
+        pub use tabled_config::{
+            ANSIStr, AlignmentHorizontal, AlignmentVertical, Borders, ColoredConfig, CompactConfig,
+            CompactMultilineConfig, Formatting, HorizontalLine, Indent, Sides, SpannedConfig,
+        };
     }
 
     /// What answers the sizes of a table.
