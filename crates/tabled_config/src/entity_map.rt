@@ -94,6 +94,7 @@ impl<T: Copy> EntityMap<T> {
     }
 
     /// The value of a cell.
+    #[inline]
     pub fn get(&self, row: usize, column: usize) -> T
         ensures { result ≡ setting_at self.now row column }
     {

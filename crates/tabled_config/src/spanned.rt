@@ -164,8 +164,11 @@ impl SpannedConfig {
     }
 
     /// The columns and lines kept free around the text of a cell.
+    #[inline]
+    #[tactic(auto, unfolding(crate::specs::Settings::style_at))]
     pub fn get_padding(&self, at: Position) -> Sides<Indent>
-        ensures { result ≡ setting_at self.now.padding at.row at.column }
+        ensures set { result ≡ setting_at self.now.padding at.row at.column }
+        ensures style { result ≡ (style_at self.now at.row at.column).padding }
     {
         self.padding.get(at.row, at.column)
     }
@@ -304,6 +307,7 @@ impl SpannedConfig {
     }
 
     /// How the text of the cell at a place stands.
+    #[inline]
     #[tactic(auto, unfolding(crate::specs::Settings::style_at))]
     pub fn style_at(&self, row: usize, column: usize) -> CellStyle
         ensures { result ≡ style_at self.now row column }

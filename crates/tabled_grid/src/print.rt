@@ -20,7 +20,7 @@ fn is_held<R: PeekableRecords>(grid: &Grid<'_, R>, row: usize, column: usize) ->
     requires column_in { column < columns (R.cells grid.now.records.now) }
     ensures { IsTrue result ↔ IsHeld (sheet_of R.cells grid.now) row column }
 {
-    let padding = grid.config.style_at(row, column).padding;
+    let padding = grid.config.get_padding(Position { row, column });
     let width = grid.widths[column];
     let used = grid.records.get_width(Position { row, column });
     padding.left.size <= width

@@ -71,13 +71,16 @@ fn put_content_line<'a, R: PeekableRecords, S: TextSink>(
 {
     let style = grid.config.style_at(at.row, at.column);
     let (width, height) = (grid.widths[at.column], grid.heights[at.row]);
-    if content.lines == 1 {
-        let mut start = Mark::start(content.text);
-        return put_block_line(sink, &style, width, height, content, &mut start, index);
-    }
-    let mut mark = marks.at(at, content.text);
+    let has_some = content.lines > 1;
+    let mut mark = if has_some {
+        marks.at(at, content.text)
+    } else {
+        Mark::start(content.text)
+    };
     put_block_line(sink, &style, width, height, content, &mut mark, index)?;
-    marks.keep(at, mark);
+    if has_some {
+        marks.keep(at, mark);
+    }
     Ok(())
 }
 

@@ -20,7 +20,7 @@ fn needed_width<R: PeekableRecords>(
         (2 ^ 64 ≤ needed_width (R.cells records.now) config.now at.row at.column)
         (λ n. n ≡ needed_width (R.cells records.now) config.now at.row at.column) }
 {
-    let padding = config.style_at(at.row, at.column).padding;
+    let padding = config.get_padding(at);
     let sides = padding.left.size.checked_add(padding.right.size)?;
     records.get_width(at).checked_add(sides)
 }
@@ -36,7 +36,7 @@ fn needed_height<R: PeekableRecords>(
         (2 ^ 64 ≤ needed_height (R.cells records.now) config.now at.row at.column)
         (λ n. n ≡ needed_height (R.cells records.now) config.now at.row at.column) }
 {
-    let padding = config.style_at(at.row, at.column).padding;
+    let padding = config.get_padding(at);
     let sides = padding.top.size.checked_add(padding.bottom.size)?;
     records.count_lines(at).checked_add(sides)
 }
