@@ -6,7 +6,8 @@ use crate::{
 };
 use std::process::Abort;
 use std::test::Fail;
-use tabled_base::Entity;
+use tabled_base::{Entity, TableError, text_rows};
+use tabled_config::{Indent, Sides, SpannedConfig};
 
 // The widths and the heights of the first four places, 99 where there is none.
 fn shown<D: Dimension>(sizes: &D) -> ([usize; 4], [usize; 4]) {
@@ -137,4 +138,36 @@ fn a_pool_keeps_its_priorities(rt: HostRuntime) {
         (DimensionPriority::First, DimensionPriority::List)
     );
     assert!(rt; DimensionPriority::First < DimensionPriority::Last);
+}
+
+#[test]
+fn what_is_not_stored_is_estimated(rt: HostRuntime) -> Result<(), Fail> {
+    let records = text_rows(rt.alloc(), "a\tbb\nccc")?;
+    let mut config = SpannedConfig::new(rt.alloc());
+    let one = Indent::spaced(1);
+    config.set_padding(Entity::Column(0), Sides::new(one, one, one, Indent::zero()))?;
+    let mut sizes = CompleteDimension::new(rt.alloc());
+    sizes.estimate(&records, &config)?;
+    assert_eq!(rt; shown(&sizes), ([5, 2, 99, 99], [2, 2, 99, 99]));
+    sizes.clear_width();
+    sizes.set_heights(vec![in rt.alloc(); 7]?);
+    sizes.estimate(&records, &config)?;
+    assert_eq!(rt; shown(&sizes), ([5, 2, 99, 99], [7, 99, 99, 99]));
+    sizes.set_widths(vec![in rt.alloc(); 9]?);
+    sizes.clear_height();
+    sizes.estimate(&records, &config)?;
+    assert_eq!(rt; shown(&sizes), ([9, 99, 99, 99], [2, 2, 99, 99]));
+    Ok(())
+}
+
+#[test]
+fn an_estimate_past_the_range_is_refused(rt: HostRuntime) -> Result<(), Fail> {
+    let records = text_rows(rt.alloc(), "a")?;
+    let mut config = SpannedConfig::new(rt.alloc());
+    let (none, most) = (Indent::zero(), Indent::spaced(usize::MAX));
+    config.set_padding(Entity::Global, Sides::new(most, none, none, none))?;
+    let mut sizes = CompleteDimension::new(rt.alloc());
+    assert_eq!(rt; sizes.estimate(&records, &config), Err(TableError::Range));
+    assert!(rt; sizes.is_empty());
+    Ok(())
 }
