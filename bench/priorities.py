@@ -1,0 +1,171 @@
+#!/usr/bin/env python3
+"""Counts the steps and times the calls of the five priorities over 10, 100 and 1,000 columns.
+
+usage: priorities.py [FOLDER]
+
+A small program is written into FOLDER (else a temporary folder) beside copies of the crates, built with
+`rt run`, and its rows are printed: steps and median microseconds of shrinking and growing by 1, a million,
+10^12 and 10^15. A step is one visit of one column. Where the bodies are direct, both are flat in the amount.
+
+Sizes are random numbers of all magnitudes up to 10^15, minimums are 1.
+"""
+
+import collections
+import pathlib
+import shutil
+import statistics
+import subprocess
+import sys
+import tempfile
+
+TOP = pathlib.Path(__file__).resolve().parent.parent
+CRATES = ("tabled_text", "tabled_base", "tabled_config", "tabled_size")
+
+PROGRAM = """\
+//! Counts the steps and times the calls of the priorities.
+#![tactic(auto)]
+ghost use Rattle.std.specs.Prelude.{◌≡◌, ◌+◌, ◌<◌, ◌^◌, IfOk, IsTrue, length, sum, vec_len};
+
+use std::alloc::{AllocError, Global};
+use std::time::Instant;
+use tabled_size::{Peaker, Priority, Steps};
+
+const ROUNDS: usize = 5;
+
+fn fits(values: &[usize], by: usize) -> bool
+    ensures { IsTrue result → sum values.now + by < 2 ^ 64 }
+{
+    let mut total: usize = by;
+    for value in values {
+        match total.checked_add(*value) {
+            Some(sum) => total = sum,
+            None => return false,
+        }
+    }
+    true
+}
+
+fn sizes(alloc: Global, count: usize) -> Result<Vec<usize>, AllocError>
+    ensures { IfOk result (λ v. vec_len v ≡ count) }
+{
+    let mut list = vec![in alloc; 1usize; count]?;
+    let mut state: usize = 1;
+    for place in 0..count {
+        state = state.wrapping_mul(6364136223846793005).wrapping_add(1442695040888963407);
+        let magnitude = state / 4294967296 % 50;
+        list[place] = 1 + 1_000_000_000_000_000 / (magnitude + 1) / (magnitude + 1) / (magnitude + 1);
+    }
+    Ok(list)
+}
+
+fn measure<P: Peaker + Copy>(
+    rt: &HostRuntime,
+    name: &str,
+    start: P,
+    count: usize,
+    by: usize,
+) -> Result<(), anyhow::Error> {
+    let alloc = rt.alloc();
+    let mins = vec![in alloc; 1usize; count]?;
+    for _round in 0..ROUNDS {
+        let mut list = sizes(alloc, count)?;
+        let mut priority = start;
+        let mut steps = Steps::new();
+        let begin = Instant::now(rt)?;
+        let taken = priority.shrink(&mins, &mut list, by, &mut steps);
+        let time = begin.elapsed(rt)?.as_nanos();
+        let visits = steps.count();
+        println!(rt; "{name} shrink {count} {by} {visits} {time} {taken}")?;
+
+        let mut list = sizes(alloc, count)?;
+        let mut priority = start;
+        let mut steps = Steps::new();
+        if fits(&list, by) {
+            let begin = Instant::now(rt)?;
+            let added = priority.grow(&mut list, by, &mut steps);
+            let time = begin.elapsed(rt)?.as_nanos();
+            let visits = steps.count();
+            println!(rt; "{name} grow {count} {by} {visits} {time} {added}")?;
+        }
+    }
+    Ok(())
+}
+
+fn main(rt: HostRuntime) -> Result<(), anyhow::Error> {
+    for count in [10, 100, 1000] {
+        for by in [1, 1_000_000, 1_000_000_000_000, 1_000_000_000_000_000] {
+            measure(&rt, "none", Priority::none(), count, by)?;
+            measure(&rt, "min", Priority::min(true), count, by)?;
+            measure(&rt, "max", Priority::max(true), count, by)?;
+            measure(&rt, "left", Priority::left(), count, by)?;
+            measure(&rt, "right", Priority::right(), count, by)?;
+        }
+    }
+    Ok(())
+}
+"""
+
+INVARIANTS = """\
+use Rattle.std.proofs.Common.{◌≡◌, ◌+◌, ◌^◌, ◌<◌, sum, take}
+use Rattle.size_times.proofs.fits.Given as goal
+
+abbrev pub invariant-loop-value : goal.invariant-loop-value
+invariant-loop-value l = record {
+  total : l.total ≡ sum (take l.value-index l.values) + l.by;
+  fits : l.total < 2 ^ 64;
+}
+"""
+
+ANSWERS = """\
+use Rattle.std.proofs.Common.{◌≡◌, ◌+◌, sum, take, arith, ap}
+use Rattle.std.proofs.lemmas.List.{take_all}
+use Rattle.size_times.proofs.fits.Goals as goal
+
+pub returns : goal.returns
+returns c =
+    let e : sum (take c.loop-value.value-index c.args.values.now) ≡ sum c.args.values.now = ap sum (take_all c.loop-value.value-index c.args.values.now (omega arith)) in
+    λ _. omega (arith, c.loop-value.invariant.total, c.loop-value.invariant.fits, e)
+"""
+
+
+def built(folder):
+    """The program, built beside copies of the crates and of what was proved of them."""
+    lines = (TOP / "crates.txt").read_text().splitlines()
+    wanted = [line for line in lines if line.split(":")[0] in CRATES]
+    (folder / "crates.txt").write_text("\n".join(wanted) + "\nsize_times: tabled_size anyhow\n")
+    shutil.copy(TOP / "HANDLES", folder)
+    for name in CRATES:
+        shutil.copytree(TOP / "crates" / name, folder / "crates" / name, dirs_exist_ok=True)
+    crate = folder / "crates/size_times"
+    (crate / "src").mkdir(parents=True, exist_ok=True)
+    (crate / "src/main.rt").write_text(PROGRAM)
+    (crate / "proofs/fits").mkdir(parents=True, exist_ok=True)
+    (crate / "proofs/fits/Invariants.antt").write_text(INVARIANTS)
+    (crate / "proofs/fits/Answers.antt").write_text(ANSWERS)
+    run = subprocess.run(["rt", "run"], cwd=crate, stdin=subprocess.DEVNULL, capture_output=True, text=True)
+    if run.returncode != 0:
+        sys.exit(run.stdout + run.stderr)
+    return crate / "out/size_times"
+
+
+def main():
+    given = sys.argv[1:]
+    if given and given[0].startswith("-"):
+        sys.exit(__doc__)
+    with tempfile.TemporaryDirectory() as temporary:
+        folder = pathlib.Path(given[0] if given else temporary)
+        folder.mkdir(parents=True, exist_ok=True)
+        run = subprocess.run([built(folder)], stdin=subprocess.DEVNULL, capture_output=True, check=True)
+    found = collections.defaultdict(list)
+    for row in run.stdout.decode().splitlines():
+        name, call, count, by, visits, time, _moved = row.split()
+        found[name, call, int(count), int(by)].append((int(visits), int(time)))
+    print(f"{'priority':14} {'columns':>7} {'amount':>18} {'steps':>9} {'of 8(c+1)(c+1)':>15} {'us':>9}")
+    for (name, call, count, by), rounds in sorted(found.items()):
+        visits = rounds[0][0]
+        bound = 8 * (count + 1) * (count + 1)
+        time = statistics.median(time for _visits, time in rounds)
+        print(f"{name + ' ' + call:14} {count:7} {by:18,} {visits:9,} {visits / bound:15.2f} {time / 1000:9.1f}")
+
+
+main()
