@@ -106,11 +106,25 @@ fn main(rt: HostRuntime) -> Result<(), anyhow::Error> {
 """
 
 INVARIANTS = """\
-use Rattle.std.proofs.Common.{◌≡◌, ◌+◌, sum, take}
+use Rattle.std.proofs.Common.{◌≡◌, ◌+◌, ◌^◌, ◌<◌, sum, take}
 use Rattle.size_times.proofs.fits.Given as goal
 
 abbrev pub invariant-loop-value : goal.invariant-loop-value
-invariant-loop-value l = l.total ≡ sum (take l.value-index l.values) + l.by
+invariant-loop-value l = record {
+  total : l.total ≡ sum (take l.value-index l.values) + l.by;
+  fits : l.total < 2 ^ 64;
+}
+"""
+
+ANSWERS = """\
+use Rattle.std.proofs.Common.{◌≡◌, ◌+◌, sum, take, arith, ap}
+use Rattle.std.proofs.lemmas.List.{take_all}
+use Rattle.size_times.proofs.fits.Goals as goal
+
+pub returns : goal.returns
+returns c =
+    let e : sum (take c.loop-value.value-index c.args.values.now) ≡ sum c.args.values.now = ap sum (take_all c.loop-value.value-index c.args.values.now (omega arith)) in
+    λ _. omega (arith, c.loop-value.invariant.total, c.loop-value.invariant.fits, e)
 """
 
 
@@ -127,6 +141,7 @@ def built(folder):
     (crate / "src/main.rt").write_text(PROGRAM)
     (crate / "proofs/fits").mkdir(parents=True, exist_ok=True)
     (crate / "proofs/fits/Invariants.antt").write_text(INVARIANTS)
+    (crate / "proofs/fits/Answers.antt").write_text(ANSWERS)
     run = subprocess.run(["rt", "run"], cwd=crate, stdin=subprocess.DEVNULL, capture_output=True, text=True)
     if run.returncode != 0:
         sys.exit(run.stdout + run.stderr)
