@@ -1,6 +1,9 @@
 //! What no clause says: that calls succeed, and what they answer on settings that a table has.
 
-use crate::{AlignmentHorizontal, HorizontalLine, Indent, Sides, SpannedConfig};
+use crate::{
+    AlignmentHorizontal, AlignmentVertical, ColoredConfig, CompactConfig, CompactMultilineConfig,
+    Formatting, HorizontalLine, Indent, Sides, SpannedConfig, Style,
+};
 use std::cmp::Ordering;
 use std::test::Fail;
 use tabled_base::{Entity, Position};
@@ -35,6 +38,49 @@ fn a_clone_is_equal(rt: HostRuntime) -> Result<(), Fail> {
     let config = SpannedConfig::new(rt.alloc());
     let copy = config.clone()?;
     assert!(rt; copy == config);
+    Ok(())
+}
+
+#[test]
+fn a_setting_for_all_forgets_the_others(rt: HostRuntime) -> Result<(), Fail> {
+    let mut config = SpannedConfig::new(rt.alloc());
+    config.set_line_alignment(Entity::Cell(1, 2), true)?;
+    config.set_line_alignment(Entity::Global, false)?;
+    assert!(rt; !config.get_line_alignment(Position::new(1, 2)));
+    Ok(())
+}
+
+#[test]
+fn flags_are_handed_on(rt: HostRuntime) -> Result<(), Fail> {
+    let mut multiline = CompactMultilineConfig::new();
+    multiline.set_formatting(Formatting::new(true, false, true));
+    let config = SpannedConfig::from_multiline(rt.alloc(), multiline);
+    assert!(rt; config.get_trim_horizontal(Position::new(5, 5)));
+    assert!(rt; !config.get_trim_vertical(Position::new(5, 5)));
+    Ok(())
+}
+
+#[test]
+fn a_colored_configuration_is_changed_in_place(rt: HostRuntime) -> Result<(), Fail> {
+    let mut colored = ColoredConfig::new(SpannedConfig::new(rt.alloc()));
+    colored
+        .as_mut()
+        .set_alignment_vertical(Entity::Row(0), AlignmentVertical::Bottom)?;
+    let got = colored.as_ref().get_alignment_vertical(Position::new(0, 3));
+    assert_eq!(rt; got, AlignmentVertical::Bottom);
+    Ok(())
+}
+
+#[test]
+fn defaults_are_new_ones(rt: HostRuntime) -> Result<(), Fail> {
+    assert_eq!(rt; Formatting::default(), Formatting::new(false, false, false));
+    assert_eq!(rt; CompactConfig::default(), CompactConfig::new());
+    Ok(())
+}
+
+#[test]
+fn psql_sets_its_line_below_the_first_row(rt: HostRuntime) -> Result<(), Fail> {
+    assert_eq!(rt; Style::psql().get_horizontal_line(1), Some(DASHES));
     Ok(())
 }
 
