@@ -14,6 +14,6 @@ spaced size = record { size = size; fill = 32 }
 unfoldable pub new_config : SpannedConfig
 new_config =
     record new_spanned {
-        borders = ascii.borders;
-        padding = for_all (record { left = spaced 1; right = spaced 1; top = spaced 0; bottom = spaced 0 })
+      borders = ascii.borders;
+      padding = for_all (record { left = spaced 1; right = spaced 1; top = spaced 0; bottom = spaced 0 });
     }

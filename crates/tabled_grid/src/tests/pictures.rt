@@ -17,7 +17,14 @@ fn cells_stand_in_ascii_borders(rt: HostRuntime) -> Result<(), Fail> {
 #[test]
 fn bytes_are_those_of_the_text(rt: HostRuntime) -> Result<(), Fail> {
     let mut bytes: Vec<u8> = Vec::new(rt.alloc());
-    put_text(rt.alloc(), &mut bytes, TEXT, &ascii(rt.alloc()), &[5, 4], &[1, 1])?;
+    put_text(
+        rt.alloc(),
+        &mut bytes,
+        TEXT,
+        &ascii(rt.alloc()),
+        &[5, 4],
+        &[1, 1],
+    )?;
     assert_eq!(rt; bytes.as_slice(), PICTURE.as_bytes());
     Ok(())
 }
@@ -26,7 +33,14 @@ fn bytes_are_those_of_the_text(rt: HostRuntime) -> Result<(), Fail> {
 fn a_lent_sink_is_a_sink(rt: HostRuntime) -> Result<(), Fail> {
     let mut text = String::new(rt.alloc());
     let mut lent = &mut text;
-    put_text(rt.alloc(), &mut lent, TEXT, &ascii(rt.alloc()), &[5, 4], &[1, 1])?;
+    put_text(
+        rt.alloc(),
+        &mut lent,
+        TEXT,
+        &ascii(rt.alloc()),
+        &[5, 4],
+        &[1, 1],
+    )?;
     assert_eq!(rt; text.as_str(), PICTURE);
     Ok(())
 }

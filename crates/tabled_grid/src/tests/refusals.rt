@@ -14,7 +14,14 @@ fn sizes_are_tested_before_the_first_byte(rt: HostRuntime) {
     ];
     for (widths, heights, want) in cases {
         let mut sink = String::new(rt.alloc());
-        let answer = put_text(rt.alloc(), &mut sink, TEXT, &ascii(rt.alloc()), widths, heights);
+        let answer = put_text(
+            rt.alloc(),
+            &mut sink,
+            TEXT,
+            &ascii(rt.alloc()),
+            widths,
+            heights,
+        );
         assert_eq!(rt; answer, Err(want));
         assert_eq!(rt; sink.as_str(), "");
     }
