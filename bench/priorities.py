@@ -11,14 +11,11 @@ Sizes are random numbers of all magnitudes up to 10^15, minimums are 1.
 """
 
 import collections
-import pathlib
-import shutil
 import statistics
 import subprocess
-import sys
-import tempfile
 
-TOP = pathlib.Path(__file__).resolve().parent.parent
+import building
+
 CRATES = ("tabled_text", "tabled_base", "tabled_config", "tabled_size")
 
 PROGRAM = """\
@@ -128,34 +125,14 @@ returns c =
 """
 
 
-def built(folder):
-    """The program, built beside copies of the crates and of what was proved of them."""
-    lines = (TOP / "crates.txt").read_text().splitlines()
-    wanted = [line for line in lines if line.split(":")[0] in CRATES]
-    (folder / "crates.txt").write_text("\n".join(wanted) + "\nsize_times: tabled_size anyhow\n")
-    shutil.copy(TOP / "HANDLES", folder)
-    for name in CRATES:
-        shutil.copytree(TOP / "crates" / name, folder / "crates" / name, dirs_exist_ok=True)
-    crate = folder / "crates/size_times"
-    (crate / "src").mkdir(parents=True, exist_ok=True)
-    (crate / "src/main.rt").write_text(PROGRAM)
-    (crate / "proofs/fits").mkdir(parents=True, exist_ok=True)
-    (crate / "proofs/fits/Invariants.antt").write_text(INVARIANTS)
-    (crate / "proofs/fits/Answers.antt").write_text(ANSWERS)
-    run = subprocess.run(["rt", "run"], cwd=crate, stdin=subprocess.DEVNULL, capture_output=True, text=True)
-    if run.returncode != 0:
-        sys.exit(run.stdout + run.stderr)
-    return crate / "out/size_times"
-
-
 def main():
-    given = sys.argv[1:]
-    if given and given[0].startswith("-"):
-        sys.exit(__doc__)
-    with tempfile.TemporaryDirectory() as temporary:
-        folder = pathlib.Path(given[0] if given else temporary)
-        folder.mkdir(parents=True, exist_ok=True)
-        run = subprocess.run([built(folder)], stdin=subprocess.DEVNULL, capture_output=True, check=True)
+    files = {
+        "src/main.rt": PROGRAM,
+        "proofs/fits/Invariants.antt": INVARIANTS,
+        "proofs/fits/Answers.antt": ANSWERS,
+    }
+    with building.program(__doc__, "size_times", CRATES, files) as program:
+        run = subprocess.run([program], stdin=subprocess.DEVNULL, capture_output=True, check=True)
     found = collections.defaultdict(list)
     for row in run.stdout.decode().splitlines():
         name, call, count, by, visits, time, _moved = row.split()

@@ -12,15 +12,12 @@ Cyrillic and Chinese. Wrapping is to 40 columns; a cut at 80 goes over the whole
 """
 
 import collections
-import pathlib
 import random
-import shutil
 import statistics
 import subprocess
-import sys
-import tempfile
 
-TOP = pathlib.Path(__file__).resolve().parent.parent
+import building
+
 ALPHABETS = {"ascii": "abcdefghijklmnopqrstuvwxyz", "mixed": "abcабвгде中文字"}
 MEGABYTES = (1, 10, 100)
 
@@ -70,21 +67,6 @@ fn main(rt: HostRuntime) -> Result<(), anyhow::Error> {
 """
 
 
-def built(folder):
-    """The program, built beside a copy of the crate and of what was proved of it."""
-    line = next(l for l in (TOP / "crates.txt").read_text().splitlines() if l.startswith("tabled_text:"))
-    (folder / "crates.txt").write_text(f"{line}\ntext_times: tabled_text anyhow\n")
-    shutil.copy(TOP / "HANDLES", folder)
-    shutil.copytree(TOP / "crates/tabled_text", folder / "crates/tabled_text", dirs_exist_ok=True)
-    crate = folder / "crates/text_times"
-    (crate / "src").mkdir(parents=True, exist_ok=True)
-    (crate / "src/main.rt").write_text(PROGRAM)
-    run = subprocess.run(["rt", "run"], cwd=crate, stdin=subprocess.DEVNULL, capture_output=True, text=True)
-    if run.returncode != 0:
-        sys.exit(run.stdout + run.stderr)
-    return crate / "out/text_times"
-
-
 def columns(word):
     return sum(2 if c >= "一" else 1 for c in word)
 
@@ -103,27 +85,26 @@ def text(alphabet, size):
     return ("\n".join(lines) + "\n").encode() * size
 
 
+def show(kind, data, rows):
+    times = collections.defaultdict(list)
+    for row in rows:
+        name, time, _length = row.split()
+        times[name].append(int(time))
+    copy = statistics.median(times["copy"])
+    print(f"{kind}, {len(data) / 1e6:.1f} MB")
+    for name, found in times.items():
+        time = statistics.median(found)
+        print(f"  {name:18} {time / 1e6:8.2f} ms  x{time / copy:6.1f}  {time / len(data):6.2f} ns a byte")
+
+
 def main():
-    given = sys.argv[1:]
-    if given and given[0].startswith("-"):
-        sys.exit(__doc__)
-    with tempfile.TemporaryDirectory() as temporary:
-        folder = pathlib.Path(given[0] if given else temporary)
-        folder.mkdir(parents=True, exist_ok=True)
-        program = built(folder)
+    files = {"src/main.rt": PROGRAM}
+    with building.program(__doc__, "text_times", ["tabled_text"], files) as program:
         for kind, alphabet in ALPHABETS.items():
             for size in MEGABYTES:
                 data = text(alphabet, size)
                 run = subprocess.run([program], input=data, capture_output=True, check=True)
-                times = collections.defaultdict(list)
-                for row in run.stdout.decode().splitlines():
-                    name, time, _length = row.split()
-                    times[name].append(int(time))
-                copy = statistics.median(times["copy"])
-                print(f"{kind}, {len(data) / 1e6:.1f} MB")
-                for name, found in times.items():
-                    time = statistics.median(found)
-                    print(f"  {name:18} {time / 1e6:8.2f} ms  x{time / copy:6.1f}  {time / len(data):6.2f} ns a byte")
+                show(kind, data, run.stdout.decode().splitlines())
 
 
 main()

@@ -1,0 +1,40 @@
+"""Small programs of the benchmarks, each built with `rt run` beside copies of the crates that it stands on."""
+
+import contextlib
+import pathlib
+import shutil
+import subprocess
+import sys
+import tempfile
+
+TOP = pathlib.Path(__file__).resolve().parent.parent
+
+
+def build(folder, name, crates, files):
+    """Builds the program in a folder. It may use the last of the crates; the files lie in its crate."""
+    lines = (TOP / "crates.txt").read_text().splitlines()
+    wanted = [line for line in lines if line.split(":")[0] in crates]
+    (folder / "crates.txt").write_text("\n".join([*wanted, f"{name}: {crates[-1]} anyhow"]) + "\n")
+    shutil.copy(TOP / "HANDLES", folder)
+    for crate in crates:
+        shutil.copytree(TOP / "crates" / crate, folder / "crates" / crate, dirs_exist_ok=True)
+    own = folder / "crates" / name
+    for path, text in files.items():
+        (own / path).parent.mkdir(parents=True, exist_ok=True)
+        (own / path).write_text(text)
+    run = subprocess.run(["rt", "run"], cwd=own, stdin=subprocess.DEVNULL, capture_output=True, text=True)
+    if run.returncode != 0:
+        sys.exit(run.stdout + run.stderr)
+    return own / "out" / name
+
+
+@contextlib.contextmanager
+def program(usage, name, crates, files):
+    """The built program, in the folder that the script was given or else in a temporary one."""
+    given = sys.argv[1:]
+    if given and given[0].startswith("-"):
+        sys.exit(usage)
+    with tempfile.TemporaryDirectory() as temporary:
+        folder = pathlib.Path(given[0] if given else temporary)
+        folder.mkdir(parents=True, exist_ok=True)
+        yield build(folder, name, crates, files)
