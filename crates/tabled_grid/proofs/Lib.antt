@@ -9,4 +9,5 @@ pub mod Measuring
 pub mod Printing
 pub mod Rules
 pub mod Sending
+pub mod StandingSizes
 pub mod Whole

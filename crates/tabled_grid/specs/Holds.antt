@@ -2,6 +2,8 @@
 use Rattle.std.specs.Prelude.{ℕ, ◌<◌, ◌≤◌, length}
 use Rattle.std.specs.List.{slice_index}
 use Rattle.tabled_base.specs.Cells.{columns}
+use Rattle.tabled_base.specs.declared.error.TableError.{TableError}
+use Rattle.tabled_base.specs.declared.error.TableError.TheVariants.{Narrow}
 use Rattle.tabled_size.specs.Estimates.{needed_width}
 use Rattle.tabled_size.specs.Sheet.{Sheet}
 
@@ -29,3 +31,8 @@ pub record IsFirstNarrow (t : Sheet) (row column : ℕ) : Type 0 where
   pub row_in : row < length t.cells
   pub at : IsNarrowIn t row column
   pub above : (r c : ℕ) → r < row → c < columns t.cells → IsHeld t r c
+
+-- a refusal that names it
+abbrev pub IsNarrow : Sheet → TableError → Type 0
+IsNarrow t (Narrow row column) = IsFirstNarrow t row column
+IsNarrow t _ = ⊥

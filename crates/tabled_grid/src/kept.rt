@@ -13,6 +13,7 @@ use crate::rows::put_rule_line;
 use crate::text_sink::TextSink;
 use tabled_base::{PeekableRecords, TableError};
 use tabled_config::HorizontalLine;
+use tabled_size::Dimension;
 
 /// The horizontal line that was laid out last, and its text where the room held the whole.
 #[derive(Drop)]
@@ -53,10 +54,14 @@ impl KeptLine {
     }
 
     /// Lays a line out.
-    fn lay_out<R: PeekableRecords>(&mut self, grid: &Grid<'_, R>, line: &HorizontalLine)
-        requires sized { IsSized (sheet_of R.cells grid.now) }
+    fn lay_out<R: PeekableRecords, D: Dimension>(
+        &mut self,
+        grid: &Grid<'_, R, D>,
+        line: &HorizontalLine,
+    )
+        requires sized { IsSized (sheet_of R.cells D.width_at D.height_at grid.now) }
         ensures line { self.new.line ≡ Some line.now }
-        ensures kept { Keeps (sheet_of R.cells grid.now) self.new }
+        ensures kept { Keeps (sheet_of R.cells D.width_at D.height_at grid.now) self.new }
     {
         self.room.clear();
         self.whole = put_rule_line(&mut self.room, grid, line).is_ok();
@@ -65,17 +70,17 @@ impl KeptLine {
 }
 
 /// A horizontal line, which is laid out anew only where it is another than the kept one.
-pub(crate) fn put_kept_line<R: PeekableRecords, S: TextSink>(
+pub(crate) fn put_kept_line<R: PeekableRecords, D: Dimension, S: TextSink>(
     sink: &mut S,
-    grid: &Grid<'_, R>,
+    grid: &Grid<'_, R, D>,
     line: &HorizontalLine,
     kept: &mut KeptLine,
 ) -> Result<(), TableError>
-    requires sized { IsSized (sheet_of R.cells grid.now) }
-    requires known { Keeps (sheet_of R.cells grid.now) kept.old }
+    requires sized { IsSized (sheet_of R.cells D.width_at D.height_at grid.now) }
+    requires known { Keeps (sheet_of R.cells D.width_at D.height_at grid.now) kept.old }
     ensures printed { Writes (S.sent sink.old) result (S.sent sink.new)
-        (rule_line (sheet_of R.cells grid.now) line.now) }
-    ensures known { Keeps (sheet_of R.cells grid.now) kept.new }
+        (rule_line (sheet_of R.cells D.width_at D.height_at grid.now) line.now) }
+    ensures known { Keeps (sheet_of R.cells D.width_at D.height_at grid.now) kept.new }
 {
     if !kept.is(line) {
         kept.lay_out(grid, line);

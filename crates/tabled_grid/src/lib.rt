@@ -7,7 +7,6 @@
 mod block;
 mod content;
 mod edges;
-mod estimated;
 mod grid;
 mod io_sink;
 mod kept;
@@ -20,12 +19,12 @@ mod pieces;
 mod print;
 mod room;
 mod rows;
+mod standing;
 mod text_sink;
 
-pub use estimated::print_estimated;
-pub use grid::Grid;
 pub use io_sink::IoSink;
 pub use print::print_grid;
+pub use standing::{print_estimated, print_standing};
 pub use text_sink::TextSink;
 
 #[cfg(test)]

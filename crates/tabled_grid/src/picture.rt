@@ -16,21 +16,22 @@ use crate::marks::Marks;
 use crate::rows::put_row_line;
 use crate::text_sink::TextSink;
 use tabled_base::{PeekableRecords, TableError};
+use tabled_size::Dimension;
 
-fn put_inner_line<'a, R: PeekableRecords, S: TextSink>(
+fn put_inner_line<'a, R: PeekableRecords, D: Dimension, S: TextSink>(
     sink: &mut S,
     begun: &mut bool,
-    grid: &Grid<'a, R>,
+    grid: &Grid<'a, R, D>,
     marks: &mut Marks<'a>,
     row: usize,
     index: usize,
 ) -> Result<(), TableError>
-    requires sized { IsSized (sheet_of R.cells grid.now) }
+    requires sized { IsSized (sheet_of R.cells D.width_at D.height_at grid.now) }
     requires row_in { row < length (R.cells grid.now.records.now) }
-    requires index_in { index < slice_index grid.now.heights.now row }
+    requires index_in { index < slice_index (sheet_of R.cells D.width_at D.height_at grid.now).heights row }
     requires marked { AreMarked (R.cells grid.now.records.now) marks.old.cells }
     ensures printed { WritesLines (S.sent sink.old) begun.old result (S.sent sink.new) begun.new
-        (row_line (sheet_of R.cells grid.now) row index ∷ []) }
+        (row_line (sheet_of R.cells D.width_at D.height_at grid.now) row index ∷ []) }
     ensures marked { AreMarked (R.cells grid.now.records.now) marks.new.cells }
 {
     put_break(sink, begun)?;
@@ -39,39 +40,39 @@ fn put_inner_line<'a, R: PeekableRecords, S: TextSink>(
 
 /// The lines of a row.
 #[tactic(auto, unfolding(crate::specs::Picture::row_lines))]
-fn put_row<'a, R: PeekableRecords, S: TextSink>(
+fn put_row<'a, R: PeekableRecords, D: Dimension, S: TextSink>(
     sink: &mut S,
     begun: &mut bool,
-    grid: &Grid<'a, R>,
+    grid: &Grid<'a, R, D>,
     marks: &mut Marks<'a>,
     row: usize,
 ) -> Result<(), TableError>
-    requires sized { IsSized (sheet_of R.cells grid.now) }
+    requires sized { IsSized (sheet_of R.cells D.width_at D.height_at grid.now) }
     requires row_in { row < length (R.cells grid.now.records.now) }
     requires marked { AreMarked (R.cells grid.now.records.now) marks.old.cells }
     ensures printed { WritesLines (S.sent sink.old) begun.old result (S.sent sink.new) begun.new
-        (row_lines (sheet_of R.cells grid.now) row) }
+        (row_lines (sheet_of R.cells D.width_at D.height_at grid.now) row) }
     ensures marked { AreMarked (R.cells grid.now.records.now) marks.new.cells }
 {
-    'lines: for index in 0..grid.heights[row] {
+    'lines: for index in 0..grid.height(row) {
         put_inner_line(sink, begun, grid, marks, row, index)?;
     }
     Ok(())
 }
 
 /// The horizontal line at an index, if it is there.
-fn put_rule<R: PeekableRecords, S: TextSink>(
+fn put_rule<R: PeekableRecords, D: Dimension, S: TextSink>(
     sink: &mut S,
     begun: &mut bool,
-    grid: &Grid<'_, R>,
+    grid: &Grid<'_, R, D>,
     kept: &mut KeptLine,
     index: usize,
 ) -> Result<(), TableError>
-    requires sized { IsSized (sheet_of R.cells grid.now) }
-    requires known { Keeps (sheet_of R.cells grid.now) kept.old }
+    requires sized { IsSized (sheet_of R.cells D.width_at D.height_at grid.now) }
+    requires known { Keeps (sheet_of R.cells D.width_at D.height_at grid.now) kept.old }
     ensures printed { WritesLines (S.sent sink.old) begun.old result (S.sent sink.new) begun.new
-        (rule (sheet_of R.cells grid.now) index) }
-    ensures known { Keeps (sheet_of R.cells grid.now) kept.new }
+        (rule (sheet_of R.cells D.width_at D.height_at grid.now) index) }
+    ensures known { Keeps (sheet_of R.cells D.width_at D.height_at grid.now) kept.new }
 {
     match grid.config.rule_at(grid.records.count_rows(), index) {
         Some(line) => {
@@ -83,41 +84,41 @@ fn put_rule<R: PeekableRecords, S: TextSink>(
 }
 
 /// A row, with the horizontal line above it.
-fn put_row_part<'a, R: PeekableRecords, S: TextSink>(
+fn put_row_part<'a, R: PeekableRecords, D: Dimension, S: TextSink>(
     sink: &mut S,
     begun: &mut bool,
-    grid: &Grid<'a, R>,
+    grid: &Grid<'a, R, D>,
     kept: &mut KeptLine,
     marks: &mut Marks<'a>,
     row: usize,
 ) -> Result<(), TableError>
-    requires sized { IsSized (sheet_of R.cells grid.now) }
-    requires known { Keeps (sheet_of R.cells grid.now) kept.old }
+    requires sized { IsSized (sheet_of R.cells D.width_at D.height_at grid.now) }
+    requires known { Keeps (sheet_of R.cells D.width_at D.height_at grid.now) kept.old }
     requires row_in { row < length (R.cells grid.now.records.now) }
     requires marked { AreMarked (R.cells grid.now.records.now) marks.old.cells }
     ensures printed { WritesLines (S.sent sink.old) begun.old result (S.sent sink.new) begun.new
-        (row_part (sheet_of R.cells grid.now) row) }
-    ensures known { Keeps (sheet_of R.cells grid.now) kept.new }
+        (row_part (sheet_of R.cells D.width_at D.height_at grid.now) row) }
+    ensures known { Keeps (sheet_of R.cells D.width_at D.height_at grid.now) kept.new }
     ensures marked { AreMarked (R.cells grid.now.records.now) marks.new.cells }
 {
     put_rule(sink, begun, grid, kept, row)?;
     put_row(sink, begun, grid, marks, row)
 }
 
-fn put_rows<'a, R: PeekableRecords, S: TextSink>(
+fn put_rows<'a, R: PeekableRecords, D: Dimension, S: TextSink>(
     sink: &mut S,
     begun: &mut bool,
-    grid: &Grid<'a, R>,
+    grid: &Grid<'a, R, D>,
     kept: &mut KeptLine,
     marks: &mut Marks<'a>,
 ) -> Result<(), TableError>
-    requires sized { IsSized (sheet_of R.cells grid.now) }
-    requires known { Keeps (sheet_of R.cells grid.now) kept.old }
+    requires sized { IsSized (sheet_of R.cells D.width_at D.height_at grid.now) }
+    requires known { Keeps (sheet_of R.cells D.width_at D.height_at grid.now) kept.old }
     requires marked { AreMarked (R.cells grid.now.records.now) marks.old.cells }
     ensures printed { WritesLines (S.sent sink.old) begun.old result (S.sent sink.new) begun.new
-        (flat_map (row_part (sheet_of R.cells grid.now))
+        (flat_map (row_part (sheet_of R.cells D.width_at D.height_at grid.now))
         (range_with_len 0 (length (R.cells grid.now.records.now)))) }
-    ensures known { Keeps (sheet_of R.cells grid.now) kept.new }
+    ensures known { Keeps (sheet_of R.cells D.width_at D.height_at grid.now) kept.new }
     ensures marked { AreMarked (R.cells grid.now.records.now) marks.new.cells }
 {
     'rows: for row in 0..grid.records.count_rows() {
@@ -126,20 +127,20 @@ fn put_rows<'a, R: PeekableRecords, S: TextSink>(
     Ok(())
 }
 
-fn put_lines<'a, R: PeekableRecords, S: TextSink>(
+fn put_lines<'a, R: PeekableRecords, D: Dimension, S: TextSink>(
     sink: &mut S,
     begun: &mut bool,
-    grid: &Grid<'a, R>,
+    grid: &Grid<'a, R, D>,
     kept: &mut KeptLine,
     marks: &mut Marks<'a>,
     whole: usize,
 ) -> Result<(), TableError>
-    requires sized { IsSized (sheet_of R.cells grid.now) }
-    requires known { Keeps (sheet_of R.cells grid.now) kept.old }
+    requires sized { IsSized (sheet_of R.cells D.width_at D.height_at grid.now) }
+    requires known { Keeps (sheet_of R.cells D.width_at D.height_at grid.now) kept.old }
     requires marked { AreMarked (R.cells grid.now.records.now) marks.old.cells }
     ensures printed { WritesLines (S.sent sink.old) begun.old result (S.sent sink.new) begun.new
-        (filled_picture (sheet_of R.cells grid.now) whole) }
-    ensures known { Keeps (sheet_of R.cells grid.now) kept.new }
+        (filled_picture (sheet_of R.cells D.width_at D.height_at grid.now) whole) }
+    ensures known { Keeps (sheet_of R.cells D.width_at D.height_at grid.now) kept.new }
     ensures marked { AreMarked (R.cells grid.now.records.now) marks.new.cells }
 {
     put_margin(sink, begun, grid.config.margin.top, whole)?;
@@ -149,14 +150,14 @@ fn put_lines<'a, R: PeekableRecords, S: TextSink>(
 }
 
 /// The lines of a table that takes so many columns, joined by line feeds.
-pub(crate) fn put_picture<R: PeekableRecords, S: TextSink>(
+pub(crate) fn put_picture<R: PeekableRecords, D: Dimension, S: TextSink>(
     sink: &mut S,
-    grid: &Grid<'_, R>,
+    grid: &Grid<'_, R, D>,
     whole: usize,
 ) -> Result<(), TableError>
-    requires sized { IsSized (sheet_of R.cells grid.now) }
+    requires sized { IsSized (sheet_of R.cells D.width_at D.height_at grid.now) }
     ensures { Writes (S.sent sink.old) result (S.sent sink.new)
-        (join_with_byte 10 (filled_picture (sheet_of R.cells grid.now) whole)) }
+        (join_with_byte 10 (filled_picture (sheet_of R.cells D.width_at D.height_at grid.now) whole)) }
 {
     let mut begun = false;
     let mut kept = KeptLine::new();

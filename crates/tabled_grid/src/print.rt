@@ -1,10 +1,11 @@
 //! A table is tested first, in the order of the refusals, and printed then.
 ghost use Rattle.std.specs.Prelude.{◌≡◌, ◌↔◌, ℕ, false, ◌<◌, ◌≤◌, ◌^◌, IsTrue, length, IfNone, IfOk, IfErr, IfSome, OnOk};
 ghost use Rattle.tabled_base.specs.Cells.{columns};
+ghost use Rattle.tabled_size.specs.Reached.{reached};
 ghost use Rattle.tabled_size.specs.Sheet.{is_empty};
 ghost use Rattle.tabled_size.specs.Totals.{filled_width};
-ghost use Rattle.tabled_grid.specs.Grid.{sheet_of};
-ghost use Rattle.tabled_grid.specs.Holds.{Holds, IsHeld, IsNarrowIn, IsSized};
+ghost use Rattle.tabled_grid.specs.Grid.{sheet_by, sheet_of};
+ghost use Rattle.tabled_grid.specs.Holds.{Holds, IsHeld, IsNarrow, IsNarrowIn, IsSized};
 ghost use Rattle.tabled_grid.specs.Printed.{IsInRange, IsRefused, Prints};
 ghost use Rattle.tabled_grid.specs.Sent.{Sent};
 
@@ -12,28 +13,33 @@ use crate::grid::Grid;
 use crate::picture::put_picture;
 use crate::text_sink::TextSink;
 use tabled_base::{PeekableRecords, Position, TableError};
-use tabled_size::{filled_height, filled_width};
+use tabled_config::SpannedConfig;
+use tabled_size::{Dimension, check_heights, check_widths, filled_height, filled_width, is_empty};
 
-fn is_held<R: PeekableRecords>(grid: &Grid<'_, R>, row: usize, column: usize) -> bool
-    requires sized { IsSized (sheet_of R.cells grid.now) }
+fn is_held<R: PeekableRecords, D: Dimension>(
+    grid: &Grid<'_, R, D>,
+    row: usize,
+    column: usize,
+) -> bool
+    requires sized { columns (R.cells grid.now.records.now) ≤ length (sheet_of R.cells D.width_at D.height_at grid.now).widths }
     requires row_in { row < length (R.cells grid.now.records.now) }
     requires column_in { column < columns (R.cells grid.now.records.now) }
-    ensures { IsTrue result ↔ IsHeld (sheet_of R.cells grid.now) row column }
+    ensures { IsTrue result ↔ IsHeld (sheet_of R.cells D.width_at D.height_at grid.now) row column }
 {
     let padding = grid.config.get_padding(Position { row, column });
-    let width = grid.widths[column];
+    let width = grid.width(column);
     let used = grid.records.get_width(Position { row, column });
     padding.left.size <= width
         && padding.right.size <= width - padding.left.size
         && used <= width - padding.left.size - padding.right.size
 }
 
-fn narrow_in<R: PeekableRecords>(grid: &Grid<'_, R>, row: usize) -> Option<usize>
-    requires sized { IsSized (sheet_of R.cells grid.now) }
+fn narrow_in<R: PeekableRecords, D: Dimension>(grid: &Grid<'_, R, D>, row: usize) -> Option<usize>
+    requires sized { columns (R.cells grid.now.records.now) ≤ length (sheet_of R.cells D.width_at D.height_at grid.now).widths }
     requires row_in { row < length (R.cells grid.now.records.now) }
     ensures none { IfNone result ((c : ℕ) → c < columns (R.cells grid.now.records.now)
-        → IsHeld (sheet_of R.cells grid.now) row c) }
-    ensures some { IfSome result (IsNarrowIn (sheet_of R.cells grid.now) row) }
+        → IsHeld (sheet_of R.cells D.width_at D.height_at grid.now) row c) }
+    ensures some { IfSome result (IsNarrowIn (sheet_of R.cells D.width_at D.height_at grid.now) row) }
 {
     'columns: for column in 0..grid.records.count_columns() {
         if !is_held(grid, row, column) {
@@ -43,10 +49,14 @@ fn narrow_in<R: PeekableRecords>(grid: &Grid<'_, R>, row: usize) -> Option<usize
     None
 }
 
-fn check_narrow<R: PeekableRecords>(grid: &Grid<'_, R>) -> Result<(), TableError>
-    requires sized { IsSized (sheet_of R.cells grid.now) }
-    ensures ok { OnOk result (Holds (sheet_of R.cells grid.now)) }
-    ensures err { IfErr result (IsRefused (sheet_of R.cells grid.now)) }
+/// Whether the widths, which have to be there, hold all cells. Refused with `Narrow` at the first one
+/// that they don't hold.
+pub(crate) fn check_narrow<R: PeekableRecords, D: Dimension>(
+    grid: &Grid<'_, R, D>,
+) -> Result<(), TableError>
+    requires sized { columns (R.cells grid.now.records.now) ≤ length (sheet_of R.cells D.width_at D.height_at grid.now).widths }
+    ensures ok { OnOk result (Holds (sheet_of R.cells D.width_at D.height_at grid.now)) }
+    ensures err { IfErr result (IsNarrow (sheet_of R.cells D.width_at D.height_at grid.now)) }
 {
     'rows: for row in 0..grid.records.count_rows() {
         if let Some(column) = narrow_in(grid, row) {
@@ -56,32 +66,30 @@ fn check_narrow<R: PeekableRecords>(grid: &Grid<'_, R>) -> Result<(), TableError
     Ok(())
 }
 
-fn check_sizes<R: PeekableRecords>(grid: &Grid<'_, R>) -> Result<(), TableError>
-    ensures ok { OnOk result (IsSized (sheet_of R.cells grid.now)) }
-    ensures err { IfErr result (IsRefused (sheet_of R.cells grid.now)) }
+/// Whether widths and heights are there.
+fn check_sizes<R: PeekableRecords, D: Dimension>(grid: &Grid<'_, R, D>) -> Result<(), TableError>
+    ensures ok { OnOk result (IsSized (sheet_of R.cells D.width_at D.height_at grid.now)) }
+    ensures err { IfErr result (IsRefused (sheet_of R.cells D.width_at D.height_at grid.now)) }
 {
-    if grid.widths.len() < grid.records.count_columns() {
-        return Err(TableError::ShortWidths);
-    }
-    if grid.heights.len() < grid.records.count_rows() {
-        return Err(TableError::ShortHeights);
-    }
-    Ok(())
+    check_widths(grid.dimension, grid.records.count_columns())?;
+    check_heights(grid.dimension, grid.records.count_rows())
 }
 
 /// The total width, if both totals are in range.
-fn check_totals<R: PeekableRecords>(grid: &Grid<'_, R>) -> Result<usize, TableError>
-    requires sized { IsSized (sheet_of R.cells grid.now) }
-    requires holds { Holds (sheet_of R.cells grid.now) }
+fn check_totals<R: PeekableRecords, D: Dimension>(
+    grid: &Grid<'_, R, D>,
+) -> Result<usize, TableError>
+    requires sized { IsSized (sheet_of R.cells D.width_at D.height_at grid.now) }
+    requires holds { Holds (sheet_of R.cells D.width_at D.height_at grid.now) }
     ensures width { IfOk result (λ n. n ≡ filled_width grid.now.config.now
-        (columns (R.cells grid.now.records.now)) grid.now.widths.now) }
-    ensures in_range { OnOk result (IsInRange (sheet_of R.cells grid.now)) }
-    ensures err { IfErr result (IsRefused (sheet_of R.cells grid.now)) }
+        (columns (R.cells grid.now.records.now)) (sheet_of R.cells D.width_at D.height_at grid.now).widths) }
+    ensures in_range { OnOk result (IsInRange (sheet_of R.cells D.width_at D.height_at grid.now)) }
+    ensures err { IfErr result (IsRefused (sheet_of R.cells D.width_at D.height_at grid.now)) }
 {
-    let Some(width) = filled_width(grid.config, grid.records.count_columns(), grid.widths) else {
+    let Some(width) = filled_width(grid.config, grid.records.count_columns(), grid.dimension) else {
         return Err(TableError::Range);
     };
-    if filled_height(grid.config, grid.records.count_rows(), grid.heights).is_none() {
+    if filled_height(grid.config, grid.records.count_rows(), grid.dimension).is_none() {
         return Err(TableError::Range);
     }
     Ok(width)
@@ -90,14 +98,14 @@ fn check_totals<R: PeekableRecords>(grid: &Grid<'_, R>) -> Result<usize, TableEr
 /// Prints a table whose sizes hold its cells. Refused, before the first byte, where a total passes the
 /// greatest `usize`.
 #[tactic(auto, unfolding(crate::specs::Picture::picture))]
-pub(crate) fn print_held<R: PeekableRecords, S: TextSink>(
+pub(crate) fn print_held<R: PeekableRecords, D: Dimension, S: TextSink>(
     sink: &mut S,
-    grid: &Grid<'_, R>,
+    grid: &Grid<'_, R, D>,
 ) -> Result<(), TableError>
     requires filled { is_empty (R.cells grid.now.records.now) ≡ false }
-    requires sized { IsSized (sheet_of R.cells grid.now) }
-    requires holds { Holds (sheet_of R.cells grid.now) }
-    ensures { Prints (sheet_of R.cells grid.now) (S.sent sink.old) result (S.sent sink.new) }
+    requires sized { IsSized (sheet_of R.cells D.width_at D.height_at grid.now) }
+    requires holds { Holds (sheet_of R.cells D.width_at D.height_at grid.now) }
+    ensures { Prints (sheet_of R.cells D.width_at D.height_at grid.now) (S.sent sink.old) result (S.sent sink.new) }
 {
     let whole = check_totals(grid)?;
     put_picture(sink, grid, whole)
@@ -105,22 +113,27 @@ pub(crate) fn print_held<R: PeekableRecords, S: TextSink>(
 
 /// Prints a table piece by piece, in no memory of its own. A table with no row or no column prints
 /// nothing. Refused, before the first byte and in this order: `ShortWidths` and `ShortHeights` where
-/// sizes are missing, `Narrow` at the first cell that its column doesn't hold, `Range` where a total
-/// passes the greatest `usize`; later only for what the sink refuses.
+/// the dimension lacks a size, `Narrow` at the first cell that its column doesn't hold, `Range` where a
+/// total passes the greatest `usize`; later only for what the sink refuses.
 #[tactic(auto, unfolding(crate::specs::Picture::picture))]
-pub fn print_grid<R: PeekableRecords, S: TextSink>(
+pub fn print_grid<R: PeekableRecords, D: Dimension, S: TextSink>(
     sink: &mut S,
-    grid: &Grid<'_, R>,
+    records: &R,
+    config: &SpannedConfig,
+    dimension: &D,
 ) -> Result<(), TableError>
-    ensures { Prints (sheet_of R.cells grid.now) (S.sent sink.old) result (S.sent sink.new) }
+    ensures { Prints (sheet_by (R.cells records.now) config.now (D.width_at dimension.now)
+        (D.height_at dimension.now)) (S.sent sink.old) result (S.sent sink.new) }
 {
-    if grid.records.count_rows() == 0 {
+    if is_empty(records) {
         return Ok(());
     }
-    if grid.records.count_columns() == 0 {
-        return Ok(());
-    }
-    check_sizes(grid)?;
-    check_narrow(grid)?;
-    print_held(sink, grid)
+    let grid = Grid {
+        records,
+        config,
+        dimension,
+    };
+    check_sizes(&grid)?;
+    check_narrow(&grid)?;
+    print_held(sink, &grid)
 }

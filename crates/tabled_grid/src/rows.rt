@@ -19,21 +19,22 @@ use crate::pieces::put_fill;
 use crate::text_sink::TextSink;
 use tabled_base::{PeekableRecords, Position, TableError};
 use tabled_config::HorizontalLine;
+use tabled_size::Dimension;
 
 /// A line of the block of a cell, with the vertical line before it.
-fn put_cell<'a, R: PeekableRecords, S: TextSink>(
+fn put_cell<'a, R: PeekableRecords, D: Dimension, S: TextSink>(
     sink: &mut S,
-    grid: &Grid<'a, R>,
+    grid: &Grid<'a, R, D>,
     marks: &mut Marks<'a>,
     at: Position,
     index: usize,
 ) -> Result<(), TableError>
-    requires sized { IsSized (sheet_of R.cells grid.now) }
+    requires sized { IsSized (sheet_of R.cells D.width_at D.height_at grid.now) }
     requires inside { IsInside (R.cells grid.now.records.now) at.row at.column }
-    requires index_in { index < slice_index grid.now.heights.now at.row }
+    requires index_in { index < slice_index (sheet_of R.cells D.width_at D.height_at grid.now).heights at.row }
     requires marked { AreMarked (R.cells grid.now.records.now) marks.old.cells }
     ensures printed { Writes (S.sent sink.old) result (S.sent sink.new)
-        (cell_piece (sheet_of R.cells grid.now) at.row index at.column) }
+        (cell_piece (sheet_of R.cells D.width_at D.height_at grid.now) at.row index at.column) }
     ensures marked { AreMarked (R.cells grid.now.records.now) marks.new.cells }
 {
     put_piece(
@@ -50,27 +51,27 @@ fn put_cell<'a, R: PeekableRecords, S: TextSink>(
 }
 
 /// A line of the block of a cell whose text is at hand. Where it has some lines, the next one is marked.
-fn put_content_line<'a, R: PeekableRecords, S: TextSink>(
+fn put_content_line<'a, R: PeekableRecords, D: Dimension, S: TextSink>(
     sink: &mut S,
-    grid: &Grid<'a, R>,
+    grid: &Grid<'a, R, D>,
     marks: &mut Marks<'a>,
     content: &Content<'a>,
     at: Position,
     index: usize,
 ) -> Result<(), TableError>
-    requires sized { IsSized (sheet_of R.cells grid.now) }
+    requires sized { IsSized (sheet_of R.cells D.width_at D.height_at grid.now) }
     requires inside { IsInside (R.cells grid.now.records.now) at.row at.column }
-    requires index_in { index < slice_index grid.now.heights.now at.row }
+    requires index_in { index < slice_index (sheet_of R.cells D.width_at D.height_at grid.now).heights at.row }
     requires text { content.now.text.now ≡ cell_at (R.cells grid.now.records.now) at.row at.column }
     requires marked { AreMarked (R.cells grid.now.records.now) marks.old.cells }
     ensures printed { Writes (S.sent sink.old) result (S.sent sink.new)
         (slice_index_or (block (style_at grid.now.config.now at.row at.column)
-        (slice_index grid.now.widths.now at.column) (slice_index grid.now.heights.now at.row)
+        (slice_index (sheet_of R.cells D.width_at D.height_at grid.now).widths at.column) (slice_index (sheet_of R.cells D.width_at D.height_at grid.now).heights at.row)
         content.now.text.now) index []) }
     ensures marked { AreMarked (R.cells grid.now.records.now) marks.new.cells }
 {
     let style = grid.config.style_at(at.row, at.column);
-    let (width, height) = (grid.widths[at.column], grid.heights[at.row]);
+    let (width, height) = (grid.width(at.column), grid.height(at.row));
     let has_some = content.lines > 1;
     let mut mark = if has_some {
         marks.at(at, content.text)
@@ -84,19 +85,19 @@ fn put_content_line<'a, R: PeekableRecords, S: TextSink>(
     Ok(())
 }
 
-fn put_cells<'a, R: PeekableRecords, S: TextSink>(
+fn put_cells<'a, R: PeekableRecords, D: Dimension, S: TextSink>(
     sink: &mut S,
-    grid: &Grid<'a, R>,
+    grid: &Grid<'a, R, D>,
     marks: &mut Marks<'a>,
     row: usize,
     index: usize,
 ) -> Result<(), TableError>
-    requires sized { IsSized (sheet_of R.cells grid.now) }
+    requires sized { IsSized (sheet_of R.cells D.width_at D.height_at grid.now) }
     requires row_in { row < length (R.cells grid.now.records.now) }
-    requires index_in { index < slice_index grid.now.heights.now row }
+    requires index_in { index < slice_index (sheet_of R.cells D.width_at D.height_at grid.now).heights row }
     requires marked { AreMarked (R.cells grid.now.records.now) marks.old.cells }
     ensures printed { Writes (S.sent sink.old) result (S.sent sink.new)
-        (flat_map (cell_piece (sheet_of R.cells grid.now) row index)
+        (flat_map (cell_piece (sheet_of R.cells D.width_at D.height_at grid.now) row index)
         (range_with_len 0 (columns (R.cells grid.now.records.now)))) }
     ensures marked { AreMarked (R.cells grid.now.records.now) marks.new.cells }
 {
@@ -107,19 +108,19 @@ fn put_cells<'a, R: PeekableRecords, S: TextSink>(
 }
 
 /// A line of a row.
-pub(crate) fn put_row_line<'a, R: PeekableRecords, S: TextSink>(
+pub(crate) fn put_row_line<'a, R: PeekableRecords, D: Dimension, S: TextSink>(
     sink: &mut S,
-    grid: &Grid<'a, R>,
+    grid: &Grid<'a, R, D>,
     marks: &mut Marks<'a>,
     row: usize,
     index: usize,
 ) -> Result<(), TableError>
-    requires sized { IsSized (sheet_of R.cells grid.now) }
+    requires sized { IsSized (sheet_of R.cells D.width_at D.height_at grid.now) }
     requires row_in { row < length (R.cells grid.now.records.now) }
-    requires index_in { index < slice_index grid.now.heights.now row }
+    requires index_in { index < slice_index (sheet_of R.cells D.width_at D.height_at grid.now).heights row }
     requires marked { AreMarked (R.cells grid.now.records.now) marks.old.cells }
     ensures printed { Writes (S.sent sink.old) result (S.sent sink.new)
-        (row_line (sheet_of R.cells grid.now) row index) }
+        (row_line (sheet_of R.cells D.width_at D.height_at grid.now) row index) }
     ensures marked { AreMarked (R.cells grid.now.records.now) marks.new.cells }
 {
     put_left(sink, grid.config, grid.config.borders.left)?;
@@ -127,29 +128,29 @@ pub(crate) fn put_row_line<'a, R: PeekableRecords, S: TextSink>(
     put_right(sink, grid.config, grid.config.borders.right)
 }
 
-fn put_rule_piece<R: PeekableRecords, S: TextSink>(
+fn put_rule_piece<R: PeekableRecords, D: Dimension, S: TextSink>(
     sink: &mut S,
-    grid: &Grid<'_, R>,
+    grid: &Grid<'_, R, D>,
     line: &HorizontalLine,
     column: usize,
 ) -> Result<(), TableError>
-    requires sized { IsSized (sheet_of R.cells grid.now) }
+    requires sized { IsSized (sheet_of R.cells D.width_at D.height_at grid.now) }
     requires column_in { column < columns (R.cells grid.now.records.now) }
     ensures { Writes (S.sent sink.old) result (S.sent sink.new)
-        (rule_piece (sheet_of R.cells grid.now) line.now column) }
+        (rule_piece (sheet_of R.cells D.width_at D.height_at grid.now) line.now column) }
 {
     put_piece(sink, grid.config.has_bar(column), line.intersection)?;
-    put_fill(sink, line.main.unwrap_or(' '), grid.widths[column])
+    put_fill(sink, line.main.unwrap_or(' '), grid.width(column))
 }
 
-fn put_rule_pieces<R: PeekableRecords, S: TextSink>(
+fn put_rule_pieces<R: PeekableRecords, D: Dimension, S: TextSink>(
     sink: &mut S,
-    grid: &Grid<'_, R>,
+    grid: &Grid<'_, R, D>,
     line: &HorizontalLine,
 ) -> Result<(), TableError>
-    requires sized { IsSized (sheet_of R.cells grid.now) }
+    requires sized { IsSized (sheet_of R.cells D.width_at D.height_at grid.now) }
     ensures { Writes (S.sent sink.old) result (S.sent sink.new)
-        (flat_map (rule_piece (sheet_of R.cells grid.now) line.now)
+        (flat_map (rule_piece (sheet_of R.cells D.width_at D.height_at grid.now) line.now)
         (range_with_len 0 (columns (R.cells grid.now.records.now)))) }
 {
     'pieces: for column in 0..grid.records.count_columns() {
@@ -159,14 +160,14 @@ fn put_rule_pieces<R: PeekableRecords, S: TextSink>(
 }
 
 /// A horizontal line.
-pub(crate) fn put_rule_line<R: PeekableRecords, S: TextSink>(
+pub(crate) fn put_rule_line<R: PeekableRecords, D: Dimension, S: TextSink>(
     sink: &mut S,
-    grid: &Grid<'_, R>,
+    grid: &Grid<'_, R, D>,
     line: &HorizontalLine,
 ) -> Result<(), TableError>
-    requires sized { IsSized (sheet_of R.cells grid.now) }
+    requires sized { IsSized (sheet_of R.cells D.width_at D.height_at grid.now) }
     ensures { Writes (S.sent sink.old) result (S.sent sink.new)
-        (rule_line (sheet_of R.cells grid.now) line.now) }
+        (rule_line (sheet_of R.cells D.width_at D.height_at grid.now) line.now) }
 {
     put_left(sink, grid.config, line.left)?;
     put_rule_pieces(sink, grid, line)?;

@@ -7,9 +7,11 @@ pub mod Leveled
 pub mod Optimal
 pub mod Passing
 pub mod Ramps
+pub mod Reaching
 pub mod Shares
 pub mod Spans
 pub mod Spares
 pub mod Sums
+pub mod Totalling
 pub mod Underway
 pub mod Visiting

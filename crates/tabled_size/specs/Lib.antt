@@ -8,11 +8,14 @@ pub mod Least
 pub mod Peak
 pub mod Permitted
 pub mod PermittedLaws
+pub mod Reached
 pub mod RoundLaws
 pub mod Sheet
 pub mod Shrunk
 pub mod ShrunkLaws
 pub mod Standing
+pub mod StandingSheet
+pub mod StandingTotals
 pub mod Stored
 pub mod SumLaws
 pub mod Totals

@@ -1,8 +1,10 @@
 //! The columns and lines of a whole table.
 ghost use Rattle.std.specs.Prelude.{◌≡◌, ◌<◌, ◌≤◌, ◌^◌, MatchOption, length};
 ghost use Rattle.std.specs.List.{slice_index};
+ghost use Rattle.tabled_size.specs.Reached.{reached};
 ghost use Rattle.tabled_size.specs.Totals.{filled_height, filled_width, one_if, part_height, rules_at, sum_below};
 
+use crate::dimension::Dimension;
 use tabled_config::SpannedConfig;
 
 fn one_if(there: bool) -> usize
@@ -11,70 +13,98 @@ fn one_if(there: bool) -> usize
     if there { 1 } else { 0 }
 }
 
+/// The width of a column that is there.
+fn width_at<D: Dimension>(sizes: &D, columns: usize, column: usize) -> usize
+    requires { column < length (reached (D.width_at sizes.now) columns) }
+    ensures { result ≡ slice_index (reached (D.width_at sizes.now) columns) column }
+{
+    let _columns = columns;
+    sizes.get_width(column)
+}
+
+/// The height of a row that is there.
+fn height_at<D: Dimension>(sizes: &D, rows: usize, row: usize) -> usize
+    requires { row < length (reached (D.height_at sizes.now) rows) }
+    ensures { result ≡ slice_index (reached (D.height_at sizes.now) rows) row }
+{
+    let _rows = rows;
+    sizes.get_height(row)
+}
+
 #[tactic(auto, using(crate::proofs::Sums::sum_step))]
-fn sum_widths(widths: &[usize], columns: usize) -> Option<usize>
-    requires { columns ≤ length widths.now }
-    ensures { MatchOption result (2 ^ 64 ≤ sum_below (slice_index widths.now) columns)
-        (λ n. n ≡ sum_below (slice_index widths.now) columns) }
+fn sum_widths<D: Dimension>(sizes: &D, columns: usize) -> Option<usize>
+    requires { columns ≤ length (reached (D.width_at sizes.now) columns) }
+    ensures { let widths = reached (D.width_at sizes.now) columns in
+        MatchOption result (2 ^ 64 ≤ sum_below (slice_index widths) columns)
+        (λ n. n ≡ sum_below (slice_index widths) columns) }
 {
     let mut total: usize = 0;
     'columns: for column in 0..columns {
-        total = total.checked_add(widths[column])?;
+        total = total.checked_add(width_at(sizes, columns, column))?;
     }
     Some(total)
 }
 
-/// The columns of a table with so many columns, at least one: the widths, vertical lines and side
-/// margins. `None` where they pass the greatest `usize`.
+/// The columns of a table with so many columns, at least one, whose widths are all there: the widths,
+/// vertical lines and side margins. `None` where they pass the greatest `usize`.
 #[tactic(auto, unfolding(crate::specs::Totals::filled_width))]
-pub fn filled_width(config: &SpannedConfig, columns: usize, widths: &[usize]) -> Option<usize>
-    requires { columns ≤ length widths.now }
-    ensures { MatchOption result (2 ^ 64 ≤ filled_width config.now columns widths.now)
-        (λ n. n ≡ filled_width config.now columns widths.now) }
+pub fn filled_width<D: Dimension>(
+    config: &SpannedConfig,
+    columns: usize,
+    sizes: &D,
+) -> Option<usize>
+    requires { columns ≤ length (reached (D.width_at sizes.now) columns) }
+    ensures { let whole = filled_width config.now columns (reached (D.width_at sizes.now) columns) in
+        MatchOption result (2 ^ 64 ≤ whole) (λ n. n ≡ whole) }
 {
     let borders = &config.borders;
     let margin = &config.margin;
     let left = margin.left.size.checked_add(one_if(borders.has_left()))?;
     let right = one_if(borders.has_right()).checked_add(margin.right.size)?;
     let bars = columns.saturating_sub(1) * one_if(borders.has_inner());
-    let inside = sum_widths(widths, columns)?.checked_add(bars)?;
+    let inside = sum_widths(sizes, columns)?.checked_add(bars)?;
     left.checked_add(inside.checked_add(right)?)
 }
 
 #[tactic(auto, unfolding(crate::specs::Totals::part_height))]
-fn part_height(config: &SpannedConfig, rows: usize, heights: &[usize], row: usize) -> Option<usize>
+fn part_height<D: Dimension>(
+    config: &SpannedConfig,
+    rows: usize,
+    sizes: &D,
+    row: usize,
+) -> Option<usize>
     requires row_in { row < rows }
-    requires sized { rows ≤ length heights.now }
-    ensures { MatchOption result (2 ^ 64 ≤ part_height config.now rows heights.now row)
-        (λ n. n ≡ part_height config.now rows heights.now row) }
+    requires sized { rows ≤ length (reached (D.height_at sizes.now) rows) }
+    ensures { let part = part_height config.now rows (reached (D.height_at sizes.now) rows) row in
+        MatchOption result (2 ^ 64 ≤ part) (λ n. n ≡ part) }
 {
-    one_if(config.rule_at(rows, row).is_some()).checked_add(heights[row])
+    one_if(config.rule_at(rows, row).is_some()).checked_add(height_at(sizes, rows, row))
 }
 
 #[tactic(auto, using(crate::proofs::Sums::sum_step))]
-fn sum_rows(config: &SpannedConfig, rows: usize, heights: &[usize]) -> Option<usize>
-    requires { rows ≤ length heights.now }
-    ensures { MatchOption result (2 ^ 64 ≤ sum_below (part_height config.now rows heights.now) rows)
-        (λ n. n ≡ sum_below (part_height config.now rows heights.now) rows) }
+fn sum_rows<D: Dimension>(config: &SpannedConfig, rows: usize, sizes: &D) -> Option<usize>
+    requires { rows ≤ length (reached (D.height_at sizes.now) rows) }
+    ensures { let part = part_height config.now rows (reached (D.height_at sizes.now) rows) in
+        MatchOption result (2 ^ 64 ≤ sum_below part rows) (λ n. n ≡ sum_below part rows) }
 {
     let mut total: usize = 0;
     'rows: for row in 0..rows {
-        let height = part_height(config, rows, heights, row)?;
+        let height = part_height(config, rows, sizes, row)?;
         total = total.checked_add(height)?;
     }
     Some(total)
 }
 
-/// The lines of a table with so many rows, at least one: the heights, horizontal lines, top and bottom
-/// margin. `None` where they pass the greatest `usize`.
+/// The lines of a table with so many rows, at least one, whose heights are all there: the heights,
+/// horizontal lines, top and bottom margin. `None` where they pass the greatest `usize`.
 #[tactic(auto, unfolding(crate::specs::Totals::filled_height))]
-pub fn filled_height(config: &SpannedConfig, rows: usize, heights: &[usize]) -> Option<usize>
-    requires { rows ≤ length heights.now }
-    ensures { MatchOption result (2 ^ 64 ≤ filled_height config.now rows heights.now)
-        (λ n. n ≡ filled_height config.now rows heights.now) }
+pub fn filled_height<D: Dimension>(config: &SpannedConfig, rows: usize, sizes: &D) -> Option<usize>
+    requires { rows ≤ length (reached (D.height_at sizes.now) rows) }
+    ensures { let whole = filled_height config.now rows (reached (D.height_at sizes.now) rows) in
+        MatchOption result (2 ^ 64 ≤ whole) (λ n. n ≡ whole) }
 {
     let last = one_if(config.rule_at(rows, rows).is_some());
     let below = last.checked_add(config.margin.bottom.size)?;
-    let inside = sum_rows(config, rows, heights)?.checked_add(below)?;
+    let inside = sum_rows(config, rows, sizes)?.checked_add(below)?;
     config.margin.top.size.checked_add(inside)
 }

@@ -1,10 +1,11 @@
 //! The tables of the tests.
 
-use crate::{Grid, TextSink, print_grid};
+use crate::{TextSink, print_grid};
 use std::alloc::Global;
 use std::test::Fail;
 use tabled_base::{Builder, TableError, text_rows};
 use tabled_config::{Borders, CompactConfig, Indent, Sides, SpannedConfig, Style};
+use tabled_size::{CompleteDimension, ConstDimension, ConstSize};
 
 // The cells a, bb and ccc, and an empty one.
 pub const TEXT: &str = "a\tbb\nccc";
@@ -34,6 +35,18 @@ pub fn modern(alloc: Global) -> SpannedConfig {
     with_borders(alloc, Style::modern().get_borders())
 }
 
+// Sizes that are stored.
+fn sizes(
+    alloc: Global,
+    widths: &[usize],
+    heights: &[usize],
+) -> Result<CompleteDimension, TableError> {
+    let mut sizes = CompleteDimension::new(alloc);
+    sizes.set_widths(Vec::from_slice(alloc, widths)?);
+    sizes.set_heights(Vec::from_slice(alloc, heights)?);
+    Ok(sizes)
+}
+
 // Prints the rows of a text.
 pub fn put_text<S: TextSink>(
     alloc: Global,
@@ -44,13 +57,7 @@ pub fn put_text<S: TextSink>(
     heights: &[usize],
 ) -> Result<(), TableError> {
     let records = text_rows(alloc, text)?;
-    let grid = Grid {
-        records: &records,
-        config,
-        widths,
-        heights,
-    };
-    print_grid(sink, &grid)
+    print_grid(sink, &records, config, &sizes(alloc, widths, heights)?)
 }
 
 // The picture of the rows of a text.
@@ -78,12 +85,10 @@ pub fn drawn_cell(
     builder.add_record([text])?;
     let records = builder.build();
     let mut sink = String::new(alloc);
-    let grid = Grid {
-        records: &records,
-        config,
-        widths: &[width],
-        heights: &[height],
-    };
-    print_grid(&mut sink, &grid)?;
+    let sizes: ConstDimension<1, 1> = ConstDimension::new(
+        ConstSize::Value(width),
+        ConstSize::List([height]),
+    );
+    print_grid(&mut sink, &records, config, &sizes)?;
     Ok(sink)
 }

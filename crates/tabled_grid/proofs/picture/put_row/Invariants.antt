@@ -10,6 +10,6 @@ abbrev pub invariant-lines : goal.invariant-lines
 invariant-lines g l =
     record {
       printed : LineSends (g.S.TextSink.sent l.initial.sink) l.initial.begun (g.S.TextSink.sent l.sink) l.begun
-          (map (row_line (sheet_of g.R.ExactRecords.cells l.grid) l.row) (range_with_len 0 l.index));
+          (map (row_line (sheet_of g.R.ExactRecords.cells g.D.Dimension.width_at g.D.Dimension.height_at l.grid) l.row) (range_with_len 0 l.index));
       marked : AreMarked (g.R.ExactRecords.cells l.grid.records.now) l.marks.cells;
     }

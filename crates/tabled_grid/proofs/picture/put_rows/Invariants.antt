@@ -10,7 +10,7 @@ abbrev pub invariant-rows : goal.invariant-rows
 invariant-rows g l =
     record {
       printed : LineSends (g.S.TextSink.sent l.initial.sink) l.initial.begun (g.S.TextSink.sent l.sink) l.begun
-          (flat_map (row_part (sheet_of g.R.ExactRecords.cells l.grid)) (range_with_len 0 l.row));
-      known : Keeps (sheet_of g.R.ExactRecords.cells l.grid) l.kept;
+          (flat_map (row_part (sheet_of g.R.ExactRecords.cells g.D.Dimension.width_at g.D.Dimension.height_at l.grid)) (range_with_len 0 l.row));
+      known : Keeps (sheet_of g.R.ExactRecords.cells g.D.Dimension.width_at g.D.Dimension.height_at l.grid) l.kept;
       marked : AreMarked (g.R.ExactRecords.cells l.grid.records.now) l.marks.cells;
     }

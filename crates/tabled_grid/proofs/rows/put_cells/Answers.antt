@@ -8,12 +8,12 @@ pub returns-in_err-put_cell-clause-printed : goal.returns-in_err-put_cell-clause
 returns-in_err-put_cell-clause-printed g c =
     let within = rw c.count_columns-column-end.ensures.columns at c.cells-test.true in
     stopped _ _ _ c.cells.invariant.printed c.in_err-put_cell.ensures.printed c.from_residual.ensures.1
-    (each-rest (cell_piece (sheet_of g.R.ExactRecords.cells c.args.grid.now) c.args.row c.args.index) _ _ within)
+    (each-rest (cell_piece (sheet_of g.R.ExactRecords.cells g.D.Dimension.width_at g.D.Dimension.height_at c.args.grid.now) c.args.row c.args.index) _ _ within)
 
 pub cells-preserved : goal.cells-preserved
 cells-preserved g c =
     record {
       printed = further c.cells.invariant.printed c.in_ok-put_cell.ensures.printed
-          (each-more (cell_piece (sheet_of g.R.ExactRecords.cells c.args.grid.now) c.args.row c.args.index) _);
+          (each-more (cell_piece (sheet_of g.R.ExactRecords.cells g.D.Dimension.width_at g.D.Dimension.height_at c.args.grid.now) c.args.row c.args.index) _);
       marked = c.in_ok-put_cell.ensures.marked;
     }

@@ -9,6 +9,6 @@ abbrev pub invariant-cells : goal.invariant-cells
 invariant-cells g l =
     record {
       printed : Sends (g.S.TextSink.sent l.initial.sink) (g.S.TextSink.sent l.sink)
-          (flat_map (cell_piece (sheet_of g.R.ExactRecords.cells l.grid) l.row l.index) (range_with_len 0 l.column));
+          (flat_map (cell_piece (sheet_of g.R.ExactRecords.cells g.D.Dimension.width_at g.D.Dimension.height_at l.grid) l.row l.index) (range_with_len 0 l.column));
       marked : AreMarked (g.R.ExactRecords.cells l.grid.records.now) l.marks.cells;
     }

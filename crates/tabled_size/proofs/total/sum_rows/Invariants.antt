@@ -1,6 +1,7 @@
 use Rattle.std.proofs.Common.{◌≡◌}
+use Rattle.tabled_size.specs.Reached.{reached}
 use Rattle.tabled_size.specs.Totals.{part_height, sum_below}
 use Rattle.tabled_size.proofs.total.sum_rows.Given as goal
 
 abbrev pub invariant-rows : goal.invariant-rows
-invariant-rows l = l.total ≡ sum_below (part_height l.config l.rows l.heights) l.row
+invariant-rows g l = l.total ≡ sum_below (part_height l.config l.rows (reached (g.D.Dimension.height_at l.sizes) l.rows)) l.row

@@ -1,7 +1,8 @@
 use Rattle.std.proofs.Common.{◌≡◌}
 use Rattle.std.specs.List.{slice_index}
+use Rattle.tabled_size.specs.Reached.{reached}
 use Rattle.tabled_size.specs.Totals.{sum_below}
 use Rattle.tabled_size.proofs.total.sum_widths.Given as goal
 
 abbrev pub invariant-columns : goal.invariant-columns
-invariant-columns l = l.total ≡ sum_below (slice_index l.widths) l.column
+invariant-columns g l = l.total ≡ sum_below (slice_index (reached (g.D.Dimension.width_at l.sizes) l.columns)) l.column

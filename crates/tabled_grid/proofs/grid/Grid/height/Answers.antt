@@ -1,0 +1,12 @@
+use Rattle.std.proofs.Common.{length}
+use Rattle.tabled_size.proofs.Reaching.{reached_size, reached_there}
+use Rattle.tabled_grid.proofs.grid.Grid.height.Goals as goal
+
+pub get_height-requires : goal.get_height-requires
+get_height-requires g c =
+    reached_there (g.D.Dimension.height_at c.args.self.now.dimension.now) (length (g.R.ExactRecords.cells c.args.self.now.records.now)) c.args.row c.requires
+
+pub returns : goal.returns
+returns g c =
+    reached_size (g.D.Dimension.height_at c.args.self.now.dimension.now) (length (g.R.ExactRecords.cells c.args.self.now.records.now)) c.args.row _
+    c.requires c.get_height.ensures

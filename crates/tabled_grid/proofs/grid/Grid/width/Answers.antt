@@ -1,0 +1,12 @@
+use Rattle.tabled_base.specs.Cells.{columns}
+use Rattle.tabled_size.proofs.Reaching.{reached_size, reached_there}
+use Rattle.tabled_grid.proofs.grid.Grid.width.Goals as goal
+
+pub get_width-requires : goal.get_width-requires
+get_width-requires g c =
+    reached_there (g.D.Dimension.width_at c.args.self.now.dimension.now) (columns (g.R.ExactRecords.cells c.args.self.now.records.now)) c.args.column c.requires
+
+pub returns : goal.returns
+returns g c =
+    reached_size (g.D.Dimension.width_at c.args.self.now.dimension.now) (columns (g.R.ExactRecords.cells c.args.self.now.records.now)) c.args.column _
+    c.requires c.get_width.ensures

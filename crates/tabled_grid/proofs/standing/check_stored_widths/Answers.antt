@@ -1,0 +1,18 @@
+use Rattle.std.proofs.Common.{◌∙◌, ap, option_map, sym}
+use Rattle.tabled_grid.proofs.StandingSizes.{widths_checked, widths_estimated, widths_short}
+use Rattle.tabled_grid.proofs.standing.check_stored_widths.Goals as goal
+
+pub returns-in-Some-clause-ok : goal.returns-in-Some-clause-ok
+returns-in-Some-clause-ok g c =
+    widths_checked (g.R.ExactRecords.cells c.args.records.now) c.args.config.now _ c.args.stored.now c.in-Some.field-0.now _ c.count_columns.ensures.columns
+    (sym c.get_widths.ensures ∙ ap (option_map (λ s. s.now)) c.in-Some.is) c.check_widths.ensures.ok
+
+pub returns-in-Some-clause-err : goal.returns-in-Some-clause-err
+returns-in-Some-clause-err g c =
+    widths_short (g.R.ExactRecords.cells c.args.records.now) c.args.config.now _ c.args.stored.now c.in-Some.field-0.now _ c.count_columns.ensures.columns
+    (sym c.get_widths.ensures ∙ ap (option_map (λ s. s.now)) c.in-Some.is) c.check_widths.ensures.err
+
+pub returns-in-None-clause-ok : goal.returns-in-None-clause-ok
+returns-in-None-clause-ok g c =
+    widths_estimated (g.R.ExactRecords.cells c.args.records.now) c.args.config.now c.args.stored.now
+    (sym c.get_widths.ensures ∙ ap (option_map (λ s. s.now)) c.in-None.is)

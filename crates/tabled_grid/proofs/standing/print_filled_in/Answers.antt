@@ -1,0 +1,34 @@
+use Rattle.std.proofs.Common.{subst, sym}
+use Rattle.tabled_size.specs.Sheet.{Sheet}
+use Rattle.tabled_grid.specs.Holds.{Holds, IsSized}
+use Rattle.tabled_grid.specs.Printed.{Prints}
+use Rattle.tabled_grid.proofs.StandingSizes.{answered_filled, refused_unestimated}
+use Rattle.tabled_grid.proofs.standing.print_filled_in.Goals as goal
+
+pub returns-in_err-estimate : goal.returns-in_err-estimate
+returns-in_err-estimate g c =
+    refused_unestimated (g.R.ExactRecords.cells c.args.records.now) c.args.config.now c.args.stored.now c.in_ok-sizes.sizes _ _ _
+    c.in_ok-sizes.ensures.widths c.in_ok-sizes.ensures.heights c.requires.filled c.requires.sized c.requires.holds
+    c.in_err-estimate.ensures.only c.from_residual-in_err-estimate.ensures.1
+
+pub print_held-requires-clause-sized : goal.print_held-requires-clause-sized
+print_held-requires-clause-sized g c =
+    subst IsSized
+    (sym (answered_filled (g.R.ExactRecords.cells c.args.records.now) c.args.config.now c.args.stored.now c.in_ok-sizes.sizes c.estimate.new.self
+    c.in_ok-sizes.ensures.widths c.in_ok-sizes.ensures.heights c.in_ok-estimate.ensures.ok))
+    c.requires.sized
+
+pub print_held-requires-clause-holds : goal.print_held-requires-clause-holds
+print_held-requires-clause-holds g c =
+    subst Holds
+    (sym (answered_filled (g.R.ExactRecords.cells c.args.records.now) c.args.config.now c.args.stored.now c.in_ok-sizes.sizes c.estimate.new.self
+    c.in_ok-sizes.ensures.widths c.in_ok-sizes.ensures.heights c.in_ok-estimate.ensures.ok))
+    c.requires.holds
+
+pub returns : goal.returns
+returns g c =
+    let P : Sheet → Type 0 = λ t. Prints t (g.S.TextSink.sent c.args.sink.now) c.print_held.result (g.S.TextSink.sent c.print_held.new.sink) in
+    subst P
+    (answered_filled (g.R.ExactRecords.cells c.args.records.now) c.args.config.now c.args.stored.now c.in_ok-sizes.sizes c.estimate.new.self
+    c.in_ok-sizes.ensures.widths c.in_ok-sizes.ensures.heights c.in_ok-estimate.ensures.ok)
+    c.print_held.ensures

@@ -1,0 +1,31 @@
+use Rattle.std.proofs.Common.{◌∙◌, subst, sym}
+use Rattle.tabled_size.specs.Sheet.{Sheet}
+use Rattle.tabled_size.specs.StandingSheet.{standing}
+use Rattle.tabled_grid.specs.Holds.{Holds, IsSized}
+use Rattle.tabled_grid.specs.Printed.{Prints}
+use Rattle.tabled_grid.proofs.Printing.{prints_nothing}
+use Rattle.tabled_grid.proofs.StandingSizes.{answered_complete}
+use Rattle.tabled_grid.proofs.standing.print_standing.Goals as goal
+
+pub returns-then-is_empty : goal.returns-then-is_empty
+returns-then-is_empty g c =
+    prints_nothing (standing (g.R.ExactRecords.cells c.args.records.now) c.args.config.now c.args.stored.now) _ (sym c.is_empty.ensures ∙ c.if-is_empty.true)
+
+pub print_held-requires-clause-sized : goal.print_held-requires-clause-sized
+print_held-requires-clause-sized g c =
+    subst IsSized
+    (sym (answered_complete (g.R.ExactRecords.cells c.args.records.now) c.args.config.now c.args.stored.now (sym c.is_complete.ensures ∙ c.if-is_complete.true)))
+    c.in_ok-check_stored.ensures.sized
+
+pub print_held-requires-clause-holds : goal.print_held-requires-clause-holds
+print_held-requires-clause-holds g c =
+    subst Holds
+    (sym (answered_complete (g.R.ExactRecords.cells c.args.records.now) c.args.config.now c.args.stored.now (sym c.is_complete.ensures ∙ c.if-is_complete.true)))
+    c.in_ok-check_stored.ensures.holds
+
+pub returns-then-is_complete : goal.returns-then-is_complete
+returns-then-is_complete g c =
+    let P : Sheet → Type 0 = λ t. Prints t (g.S.TextSink.sent c.args.sink.now) c.print_held.result (g.S.TextSink.sent c.print_held.new.sink) in
+    subst P
+    (answered_complete (g.R.ExactRecords.cells c.args.records.now) c.args.config.now c.args.stored.now (sym c.is_complete.ensures ∙ c.if-is_complete.true))
+    c.print_held.ensures

@@ -1,0 +1,129 @@
+-- What a dimension answers, place by place.
+use Rattle.std.proofs.Common.{◌≡◌, ℕ, zero, suc, ◌<◌, ◌≤◌, List, [], ◌∷◌, length, map, take, Option, Some, None, is_some, Bool, true, false, nat_lt, unwrap_or, get_or, min, refl, sym, ap, ◌∙◌, arith}
+use Rattle.std.specs.List.{range_with_len, slice_index}
+use Rattle.std.proofs.lemmas.Bool.Decides.{nat_tests}
+use Rattle.std.proofs.Math.Seq.{take-length}
+use Rattle.std.proofs.lemmas.List.{ext_get_or, get_or-take, length-take}
+use Rattle.std.proofs.lemmas.List.FromFn.{get_or-map-range_with_len, length-map-range_with_len}
+use Rattle.tabled_size.specs.Reached.{leading, reached}
+use Rattle.tabled_size.specs.Standing.{entry, stored_at}
+use Rattle.tabled_size.specs.StandingSheet.{standing_sizes}
+
+leading_le : (sizes : List (Option ℕ)) → length (leading sizes) ≤ length sizes
+leading_le [] = omega arith
+leading_le (None ∷ rest) = omega arith
+leading_le (Some size ∷ rest) = omega (arith, leading_le rest)
+
+leading_entry : (sizes : List (Option ℕ)) (i : ℕ) → i < length (leading sizes) → get_or sizes i None ≡ Some (slice_index (leading sizes) i)
+leading_entry [] i h = absurd (omega arith)
+leading_entry (None ∷ rest) i h = absurd (omega arith)
+leading_entry (Some size ∷ rest) zero h = refl
+leading_entry (Some size ∷ rest) (suc i) h = leading_entry rest i (omega arith)
+
+leading_reaches : (sizes : List (Option ℕ)) (k : ℕ) → k ≤ length sizes → ((i : ℕ) → i < k → is_some (get_or sizes i None) ≡ true) → k ≤ length (leading sizes)
+leading_reaches sizes zero h there = omega arith
+leading_reaches [] (suc k) h there = absurd (omega arith)
+leading_reaches (None ∷ rest) (suc k) h there = let missing : false ≡ true = there 0 (omega arith) in cc
+leading_reaches (Some size ∷ rest) (suc k) h there = omega (arith, leading_reaches rest k (omega arith) (λ i lt. there (suc i) (omega arith)))
+
+leading_ends : (sizes : List (Option ℕ)) (i : ℕ) → get_or sizes i None ≡ None → length (leading sizes) ≤ i
+leading_ends [] i h = omega arith
+leading_ends (None ∷ rest) i h = omega arith
+leading_ends (Some size ∷ rest) zero h = let missing : Some size ≡ None = h in cc
+leading_ends (Some size ∷ rest) (suc i) h = omega (arith, leading_ends rest i h)
+
+answer : (f : ℕ → Option ℕ) (count i : ℕ) → i < count → get_or (map f (range_with_len 0 count)) i None ≡ f i
+answer f count i h = get_or-map-range_with_len f 0 count i i None h (omega arith)
+
+-- no more sizes than places
+pub reached_le : (f : ℕ → Option ℕ) (count : ℕ) → length (reached f count) ≤ count
+unfolding reached
+reached_le f count = omega (arith, leading_le (map f (range_with_len 0 count)), length-map-range_with_len f 0 count)
+
+-- the size at a place that is reached
+pub reached_at : (f : ℕ → Option ℕ) (count i : ℕ) → i < length (reached f count) → f i ≡ Some (slice_index (reached f count) i)
+unfolding reached
+reached_at f count i h =
+    sym (answer f count i (omega (arith, leading_le (map f (range_with_len 0 count)), length-map-range_with_len f 0 count)))
+    ∙ leading_entry (map f (range_with_len 0 count)) i h
+
+-- places whose sizes are there are reached
+pub reached_so : (f : ℕ → Option ℕ) (count k : ℕ) → k ≤ count → ((i : ℕ) → i < k → is_some (f i) ≡ true) → k ≤ length (reached f count)
+unfolding reached
+reached_so f count k h there =
+    leading_reaches (map f (range_with_len 0 count)) k (omega (arith, length-map-range_with_len f 0 count))
+    (λ i lt. ap is_some (answer f count i (omega arith)) ∙ there i lt)
+
+-- and none from one on whose size isn't
+pub reached_none : (f : ℕ → Option ℕ) (count i : ℕ) → i < count → f i ≡ None → length (reached f count) ≤ i
+unfolding reached
+reached_none f count i h none = leading_ends (map f (range_with_len 0 count)) i (answer f count i h ∙ none)
+
+entry_there : (sizes : List ℕ) (i : ℕ) → i < length sizes → entry sizes i ≡ Some (slice_index sizes i)
+entry_there sizes i h = let e : nat_lt i (length sizes) ≡ true = grind (arith, nat_tests) in rw e refl
+
+entry_missing : (sizes : List ℕ) (i : ℕ) → length sizes ≤ i → entry sizes i ≡ None
+entry_missing sizes i h = let e : nat_lt i (length sizes) ≡ false = grind (arith, nat_tests) in rw e refl
+
+some_there : {n : ℕ} (o : Option ℕ) → o ≡ Some n → is_some o ≡ true
+some_there o h = ap is_some h
+
+-- of a stored list the places that it has are reached
+stored_length : (sizes : List ℕ) (count k : ℕ) → k ≤ count → k ≤ length sizes → k ≤ length (reached (stored_at (Some sizes)) count)
+stored_length sizes count k h l = reached_so (stored_at (Some sizes)) count k h (λ i lt. some_there (entry sizes i) (entry_there sizes i (omega arith)))
+
+stored_no_more : (sizes : List ℕ) (count : ℕ) → length (reached (stored_at (Some sizes)) count) ≤ length sizes
+stored_no_more sizes count = by_cases (nat_lt (length sizes) count) refl
+  where
+    by_cases : (shorter : Bool) → nat_lt (length sizes) count ≡ shorter → length (reached (stored_at (Some sizes)) count) ≤ length sizes
+    by_cases true e =
+        let lt : length sizes < count = grind (arith, nat_tests) in
+        reached_none (stored_at (Some sizes)) count (length sizes) lt (entry_missing sizes (length sizes) (omega arith))
+    by_cases false e =
+        let le : count ≤ length sizes = grind (arith, nat_tests) in
+        omega (arith, reached_le (stored_at (Some sizes)) count)
+
+stored_long : (sizes : List ℕ) (count : ℕ) → length (reached (stored_at (Some sizes)) count) ≡ min count (length sizes)
+stored_long sizes count =
+    let most = stored_no_more sizes count in
+    let le = reached_le (stored_at (Some sizes)) count in
+    let least = stored_length sizes count (min count (length sizes)) (omega arith) (omega arith) in
+    omega arith
+
+same_some : {m n : ℕ} → Some m ≡ Some n → m ≡ n
+same_some h = cc
+
+-- a stored list is reached as far as the table goes
+pub reached_stored : (sizes : List ℕ) (count : ℕ) → reached (stored_at (Some sizes)) count ≡ take count sizes
+reached_stored sizes count =
+    let f = stored_at (Some sizes) in
+    let long : length (reached f count) ≡ min count (length sizes) = stored_long sizes count in
+    ext_get_or 0 (reached f count) (take count sizes) (long ∙ sym (length-take count sizes))
+    (λ i lt.
+    let there : i < length sizes = omega arith in
+    let inside : i < count = omega arith in
+    same_some (sym (reached_at f count i lt) ∙ entry_there sizes i there) ∙ sym (get_or-take count sizes i 0 inside))
+
+-- what stands where a list is stored, or filled in with estimates that go as far as the table
+pub reached_filled : (stored : Option (List ℕ)) (estimates : List ℕ) (count : ℕ) → length estimates ≡ count → reached (stored_at (Some (unwrap_or stored estimates))) count ≡ standing_sizes stored estimates count
+reached_filled None estimates count h = reached_stored estimates count ∙ ap (λ n. take n estimates) (sym h) ∙ take-length estimates
+reached_filled (Some sizes) estimates count h = reached_stored sizes count
+
+-- what stands where a list is stored
+pub reached_standing : (stored : Option (List ℕ)) (estimates : List ℕ) (count : ℕ) → is_some stored ≡ true → reached (stored_at stored) count ≡ standing_sizes stored estimates count
+reached_standing None estimates count h = let missing : false ≡ true = h in cc
+reached_standing (Some sizes) estimates count h = reached_stored sizes count
+
+pub reached_there : (f : ℕ → Option ℕ) (count i : ℕ) → i < length (reached f count) → is_some (f i) ≡ true
+reached_there f count i h = ap is_some (reached_at f count i h)
+
+pub reached_size : (f : ℕ → Option ℕ) (count i n : ℕ) → i < length (reached f count) → Some n ≡ f i → n ≡ slice_index (reached f count) i
+reached_size f count i n h e = same_some (e ∙ reached_at f count i h)
+
+missing : (o : Option ℕ) → is_some o ≡ false → o ≡ None
+missing None h = refl
+missing (Some n) h = let there : true ≡ false = h in cc
+
+-- a place whose size isn't there ends them
+pub missing_at : (f : ℕ → Option ℕ) (count i : ℕ) → i < count → is_some (f i) ≡ false → length (reached f count) < count
+missing_at f count i h none = omega (arith, reached_none f count i h (missing (f i) none))
