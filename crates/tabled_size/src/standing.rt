@@ -1,6 +1,6 @@
 //! The totals of a table with the sizes that stand: those that are stored, and else estimated ones.
 ghost use Rattle.std.specs.Prelude.{◌≡◌, ◌<◌, ◌≤◌, IfErr, Ok, OnOk, false, length, true};
-ghost use Rattle.tabled_base.specs.Cells.{columns};
+ghost use Rattle.tabled_base.specs.Cells.{IsRectangular, columns};
 ghost use Rattle.tabled_base.specs.declared.error.TableError.TheVariants.{ShortHeights, ShortWidths};
 ghost use Rattle.tabled_size.specs.Estimates.{estimated_heights, estimated_widths};
 ghost use Rattle.tabled_size.specs.Reached.{reached};
@@ -18,9 +18,11 @@ use tabled_config::SpannedConfig;
 
 /// Whether there is no row or no column.
 pub fn is_empty<R: ExactRecords>(records: &R) -> bool
-    ensures { result ≡ is_empty (R.cells records.now) }
+    ensures value { result ≡ is_empty (R.cells records.now) }
+    ensures rectangular { IsRectangular (R.cells records.now) }
 {
-    records.count_rows() == 0 || records.count_columns() == 0
+    let columns = records.count_columns();
+    records.count_rows() == 0 || columns == 0
 }
 
 /// Whether the widths of so many columns are there. Refused with `ShortWidths` where one isn't.
@@ -122,6 +124,7 @@ pub fn total_width<R: PeekableRecords>(
     ensures empty { is_empty (R.cells records.now) ≡ true → result ≡ Ok 0 }
     ensures filled { is_empty (R.cells records.now) ≡ false → AnswersWidth config.now
         (columns (R.cells records.now)) (standing (R.cells records.now) config.now stored.now).widths result }
+    ensures rectangular { IsRectangular (R.cells records.now) }
 {
     if is_empty(records) {
         return Ok(0);
@@ -143,6 +146,7 @@ pub fn total_height<R: PeekableRecords>(
     ensures empty { is_empty (R.cells records.now) ≡ true → result ≡ Ok 0 }
     ensures filled { is_empty (R.cells records.now) ≡ false → AnswersHeight config.now
         (length (R.cells records.now)) (standing (R.cells records.now) config.now stored.now).heights result }
+    ensures rectangular { IsRectangular (R.cells records.now) }
 {
     if is_empty(records) {
         return Ok(0);

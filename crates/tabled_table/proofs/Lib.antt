@@ -1,3 +1,3 @@
 pub mod NewTables
-pub mod Totals
 pub mod RowsAdded
+pub mod Sheets

@@ -1,20 +1,26 @@
 -- The settings of a new table are plain characters of one column, so its lines are straight.
-use Rattle.std.proofs.Common.{◌≡◌, ℕ, ◌+◌, ◌<◌, ◌≤◌, ◌==◌, cond, arith, Bool, true, false, List, length, Some, refl, sym, subst, ◌∙◌}
+use Rattle.std.proofs.Common.{◌≡◌, ℕ, ◌+◌, ◌<◌, ◌≤◌, ◌==◌, cond, arith, Bool, true, false, List, length, Option, None, Some, refl, ap, sym, subst, ◌∙◌}
 use Rattle.tabled_text.specs.Plain.{IsPlainColumn}
 use Rattle.tabled_text.proofs.PlainLines.{plain_column-printable, plain_column-space}
 use Rattle.tabled_base.specs.Cells.{IsRectangular, columns}
 use Rattle.tabled_config.specs.declared.borders.HorizontalLine.{HorizontalLine}
 use Rattle.tabled_config.specs.Settings.{rule_at, style_at}
-use Rattle.tabled_size.specs.Estimates.{estimated_heights}
-use Rattle.tabled_size.specs.Sheet.{is_empty}
+use Rattle.tabled_config.specs.declared.spanned.SpannedConfig.{SpannedConfig}
+use Rattle.tabled_size.specs.Estimates.{estimated_heights, estimated_widths}
+use Rattle.tabled_size.specs.Sheet.{Sheet, is_empty}
+use Rattle.tabled_size.specs.StandingSheet.{standing_sizes}
+use Rattle.tabled_size.specs.Stored.{heights_of, widths_of}
 use Rattle.tabled_size.specs.Totals.{filled_height, part_height, sum_below, total_height, total_width}
 use Rattle.tabled_size.proofs.Sums.{sum_step}
+use Rattle.tabled_grid.specs.Holds.{Holds}
 use Rattle.tabled_grid.specs.Picture.{picture}
 use Rattle.tabled_grid.specs.PlainSheet.{ArePlain, EachLineTakes, IsPlainConfig, IsPlainRule, IsPlainStyle}
 use Rattle.tabled_grid.proofs.EstimatedSizes.{holds_estimated}
 use Rattle.tabled_grid.proofs.Whole.{picture_columns, picture_lines}
 use Rattle.tabled_table.specs.NewConfig.{new_config}
-use Rattle.tabled_table.specs.TableSheet.{new_sheet}
+use Rattle.tabled_table.specs.NewTable.{IsNew}
+use Rattle.tabled_table.specs.TableSheet.{new_sheet, sheet}
+use Rattle.tabled_table.specs.declared.table.Table.{Table}
 
 plus : IsPlainColumn 43
 plus = plain_column-printable 43 refl
@@ -92,3 +98,27 @@ new_height cells filled h =
     let first : sum_below f 0 + f 0 ≤ sum_below f rows = sum_step f 0 rows h in
     let one : 1 ≤ f 0 = part_ge rows heights 0 in
     rw filled (high_enough rows heights (omega arith))
+
+abbrev built : List (List (List ℕ)) → SpannedConfig → Option (List ℕ) → Option (List ℕ) → Sheet
+built cells config widths heights = record {
+  cells = cells;
+  config = config;
+  widths = standing_sizes widths (estimated_widths cells config) (columns cells);
+  heights = standing_sizes heights (estimated_heights cells config) (length cells);
+}
+
+-- a new table has no sizes stored
+pub new_stands : (cells : List (List (List ℕ))) (table : Table) → IsNew cells table → sheet table ≡ new_sheet cells
+new_stands cells table new =
+    let widths = widths_of table.dimension in
+    let heights = heights_of table.dimension in
+    ap (λ c. built c table.config.config widths heights) new.records
+    ∙ ap (λ c. built cells c widths heights) new.config
+    ∙ ap (λ o. built cells new_config o heights) new.widths
+    ∙ ap (λ o. built cells new_config None o) new.heights
+
+pub new_is_plain : (cells : List (List (List ℕ))) (table : Table) → IsNew cells table → IsPlainConfig (sheet table).config (length cells) (columns cells)
+new_is_plain cells table new = subst (λ c. IsPlainConfig c (length cells) (columns cells)) (sym new.config) (new_plain (length cells) (columns cells))
+
+pub new_holds : (cells : List (List (List ℕ))) (table : Table) → IsNew cells table → Holds (sheet table)
+new_holds cells table new = subst Holds (sym (new_stands cells table new)) (holds_estimated cells new_config)

@@ -1,2 +1,5 @@
+pub mod Lending
 pub mod NewConfig
+pub mod NewTable
+pub mod Rows
 pub mod TableSheet

@@ -1,6 +1,7 @@
 -- What a table shows.
 use Rattle.std.specs.Prelude.{ℕ, List}
 use Rattle.tabled_size.specs.Sheet.{Sheet, estimated}
+use Rattle.tabled_size.specs.StandingSheet.{standing}
 use Rattle.tabled_table.specs.NewConfig.{new_config}
 use Rattle.tabled_table.specs.declared.table.Table.{Table}
 
@@ -12,6 +13,6 @@ new_sheet cells = estimated cells new_config
 abbrev pub cells_of : Table → List (List (List ℕ))
 cells_of table = table.records
 
--- a table with the sizes that stand
+-- a table with the sizes that stand: those that are stored, and else estimated ones
 abbrev pub sheet : Table → Sheet
-sheet table = new_sheet (cells_of table)
+sheet table = standing (cells_of table) table.config.config table.dimension

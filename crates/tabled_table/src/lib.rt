@@ -2,7 +2,8 @@
 #![tactic(auto)]
 
 mod config;
-mod print;
+pub mod laws;
+mod rows;
 mod table;
 #[cfg(test)]
 mod tests;

@@ -1,31 +1,65 @@
 //! A table of owned texts.
-ghost use Rattle.std.specs.Prelude.{◌≡◌, ◌⊎◌, ◌≤◌, ◌^◌, List, IfErr, IfOk, OnOk, length, map, string_bytes, ◌||◌, ◌==◌};
+ghost use Rattle.std.specs.Prelude.{◌≡◌, ◌⊎◌, ◌≤◌, ◌^◌, [], List, IfErr, IfOk, Ok, OnOk, false, length, map, string_bytes, true};
+ghost use Rattle.std.specs.Borrow.{Lends, sem};
+ghost use Rattle.tabled_base.specs.contracts.text.Text.{the_row as text_row};
+ghost use Rattle.tabled_base.specs.contracts.vec_records.VecRecords.{the_row as records_row};
 ghost use Rattle.std.specs.Iterator.{IsFiniteIterable};
 ghost use Rattle.tabled_base.specs.Cells.{columns};
 ghost use Rattle.tabled_base.specs.Given.{Given};
 ghost use Rattle.tabled_base.specs.declared.error.TableError.TheVariants.{Memory, Range, Writer};
 ghost use Rattle.tabled_size.specs.Sheet.{is_empty};
+ghost use Rattle.tabled_size.specs.StandingTotals.{AnswersHeight, AnswersWidth};
 ghost use Rattle.tabled_size.specs.Totals.{total_height, total_width};
+ghost use Rattle.tabled_grid.specs.Holds.{Holds};
 ghost use Rattle.tabled_grid.specs.Picture.{picture, table_text};
-ghost use Rattle.tabled_grid.specs.PlainSheet.{ArePlain, EachLineTakes};
-ghost use Rattle.tabled_grid.specs.Printed.{Prints};
+ghost use Rattle.tabled_grid.specs.PlainSheet.{ArePlain, EachLineTakes, IsPlainConfig};
+ghost use Rattle.tabled_grid.specs.Printed.{IsRefused, Prints};
 ghost use Rattle.tabled_grid.specs.Sent.{Sent};
+ghost use Rattle.tabled_table.specs.Rows.{string_row};
 
 use crate::config::new_config;
-use crate::print::{is_empty, total_estimated_height, total_estimated_width};
+use crate::rows::value_records;
 use crate::value::Tabled;
 use std::alloc::Global;
-use tabled_base::{Builder, ExactRecords, TableError, Text, VecRecords};
-use tabled_grid::{TextSink, print_estimated};
+use std::convert::AsStr;
+use tabled_base::{Builder, CellText, ExactRecords, TableError, Text, VecRecords};
+use tabled_config::ColoredConfig;
+use tabled_grid::{TextSink, print_standing};
+use tabled_size::{CompleteDimension, is_empty, total_height, total_width};
 
-/// Rows of texts, set with ascii borders and one column of padding on the left and right.
+/// Rows of texts, how they are set, and the sizes that are stored. What isn't stored is estimated when it
+/// is needed.
 #[derive(Drop)]
 pub struct Table {
     records: VecRecords<Text<String>>,
+    config: ColoredConfig,
+    dimension: CompleteDimension,
 }
 
 impl Table {
+    ghost use Rattle.tabled_table.specs.contracts.table.Table.{the_row};
+    ghost use Rattle.tabled_table.specs.Lending.{LendsConfig, LendsDimension};
+    ghost use Rattle.tabled_table.specs.NewTable.{IsNew};
     ghost use Rattle.tabled_table.specs.TableSheet.{cells_of, sheet};
+
+    /// A table of records, set as a new one. It takes no memory.
+    fn of_records(records: VecRecords<Text<String>>) -> Table
+        ensures { IsNew records result }
+    {
+        let alloc = records.allocator();
+        Table {
+            records,
+            config: ColoredConfig::new(new_config(alloc)),
+            dimension: CompleteDimension::new(alloc),
+        }
+    }
+
+    /// A table with no row. It takes no memory.
+    pub fn empty(alloc: Global) -> Table
+        ensures { IsNew [] result }
+    {
+        Table::from(Builder::new(alloc))
+    }
 
     /// A table without a header, with a row a value. Refused only for memory.
     pub fn nohead<I: IntoIterator>(alloc: Global, iter: I) -> Result<Table, TableError>
@@ -35,11 +69,58 @@ impl Table {
             I.IntoIter.remaining iter }
         ensures ok { IfOk result (λ table. (values : List I.Item)
             × Given I.into_iter_gives I.IntoIter.next_gives iter values
-            × (cells_of table ≡ map I.Item.texts values)) }
+            × IsNew (map I.Item.texts values) table) }
         ensures only { IfErr result (λ e. e ≡ Memory) }
     {
         let records = value_records(alloc, iter)?;
-        Ok(Table { records })
+        Ok(Table::of_records(records))
+    }
+
+    /// The settings.
+    pub fn get_config(&self) -> &ColoredConfig
+        ensures { result.now ≡ self.now.config }
+    {
+        &self.config
+    }
+
+    /// The settings, to be changed.
+    pub fn get_config_mut(&mut self) -> &mut ColoredConfig
+        ensures* lends { sem 𝓛 (LendsConfig self.entry result) }
+        ensures value { result.now ≡ self.old.config }
+    {
+        &mut self.config
+    }
+
+    /// The records.
+    pub fn get_records(&self) -> &VecRecords<Text<String>>
+        ensures { result.now ≡ self.now.records }
+    {
+        &self.records
+    }
+
+    /// The records, to be changed.
+    pub fn get_records_mut(&mut self) -> &mut VecRecords<Text<String>>
+        ensures* lends { sem 𝓛 (Lends the_row
+            (records_row (text_row string_row ⟦<String as AsStr>⟧) ⟦<Text<String> as CellText>⟧)
+            self.entry result (λ records. record self.old { records = records })) }
+        ensures value { result.now ≡ self.old.records }
+    {
+        &mut self.records
+    }
+
+    /// The sizes that are stored.
+    pub fn get_dimension(&self) -> &CompleteDimension
+        ensures { result.now ≡ self.now.dimension }
+    {
+        &self.dimension
+    }
+
+    /// The sizes that are stored, to be changed.
+    pub fn get_dimension_mut(&mut self) -> &mut CompleteDimension
+        ensures* lends { sem 𝓛 (LendsDimension self.entry result) }
+        ensures value { result.now ≡ self.old.dimension }
+    {
+        &mut self.dimension
     }
 
     /// How many rows and columns the table has.
@@ -71,50 +152,51 @@ impl Table {
         is_empty(&self.records)
     }
 
-    /// The columns of each line of the printed table, 0 for an empty one. Refused for memory, and with
-    /// `Range` where the sum passes the greatest `usize`.
-    #[tactic(auto, using(crate::proofs::NewTables::new_columns))]
+    /// The columns of each line of the printed table: the widths that stand, the vertical lines and the
+    /// side margins; 0 for an empty table. Refused for memory, with `ShortWidths` where fewer widths are
+    /// stored than there are columns, and with `Range` where the sum passes the greatest `usize`.
+    #[tactic(auto, using(crate::proofs::Sheets::sheet_columns))]
     pub fn total_width(&self) -> Result<usize, TableError>
-        ensures ok { IfOk result (λ n. n ≡ total_width (sheet self.now)) }
-        ensures err { IfErr result (λ e. (e ≡ Memory)
-            ⊎ ((e ≡ Range) × (2 ^ 64 ≤ total_width (sheet self.now)))) }
-        ensures columns { ArePlain (cells_of self.now)
+        ensures empty { is_empty (cells_of self.now) ≡ true → result ≡ Ok 0 }
+        ensures filled { is_empty (cells_of self.now) ≡ false → AnswersWidth (sheet self.now).config
+            (columns (cells_of self.now)) (sheet self.now).widths result }
+        ensures columns { IsPlainConfig (sheet self.now).config (length (cells_of self.now)) (columns (cells_of self.now))
+            → ArePlain (cells_of self.now) → Holds (sheet self.now)
             → EachLineTakes (total_width (sheet self.now)) (picture (sheet self.now)) }
     {
-        let config = new_config(self.records.allocator());
-        total_estimated_width(self.records.allocator(), &self.records, &config)
+        total_width(&self.records, self.config.as_ref(), &self.dimension)
     }
 
-    /// The lines of the printed table, 0 for an empty one. Refused for memory, and with `Range` where
-    /// the sum passes the greatest `usize`.
-    #[tactic(auto, using(crate::proofs::NewTables::new_lines))]
+    /// The lines of the printed table: the heights that stand, the horizontal lines, top and bottom
+    /// margin; 0 for an empty table. Refused for memory, with `ShortHeights` where fewer heights are stored
+    /// than there are rows, and with `Range` where the sum passes the greatest `usize`.
+    #[tactic(auto, using(crate::proofs::Sheets::sheet_lines))]
     pub fn total_height(&self) -> Result<usize, TableError>
-        ensures ok { IfOk result (λ n. n ≡ total_height (sheet self.now)) }
-        ensures err { IfErr result (λ e. (e ≡ Memory)
-            ⊎ ((e ≡ Range) × (2 ^ 64 ≤ total_height (sheet self.now)))) }
+        ensures empty { is_empty (cells_of self.now) ≡ true → result ≡ Ok 0 }
+        ensures filled { is_empty (cells_of self.now) ≡ false → AnswersHeight (sheet self.now).config
+            (length (cells_of self.now)) (sheet self.now).heights result }
         ensures lines { length (picture (sheet self.now)) ≡ total_height (sheet self.now) }
     {
-        let config = new_config(self.records.allocator());
-        total_estimated_height(self.records.allocator(), &self.records, &config)
+        total_height(&self.records, self.config.as_ref(), &self.dimension)
     }
 
     /// Prints the table piece by piece: the picture of its sizes, its lines joined by line feeds. An
-    /// empty table prints nothing. Refused for memory, with `Range` before the first byte where a total
-    /// passes the greatest `usize`, and for what the sink refuses; then a beginning went out.
+    /// empty table prints nothing. Refused, before the first byte and in this order: `ShortWidths` and
+    /// `ShortHeights` where fewer sizes are stored than there are columns or rows, `Narrow` at the first cell
+    /// whose text and side padding its column doesn't hold, `Range` where a total passes the greatest
+    /// `usize`; later only for what the sink refuses, and then a beginning went out. Memory is taken, and
+    /// may be refused, only where widths or heights aren't stored.
     pub fn write_to<S: TextSink>(&self, sink: &mut S) -> Result<(), TableError>
-        ensures printed { Prints (sheet self.now) (S.sent sink.old) result (S.sent sink.new) }
-        ensures only { IfErr result (λ e. (e ≡ Memory) ⊎ ((e ≡ Range) ⊎ (e ≡ Writer))) }
+        ensures { Prints (sheet self.now) (S.sent sink.old) result (S.sent sink.new) }
     {
-        let config = new_config(self.records.allocator());
-        print_estimated(self.records.allocator(), &self.records, &config, sink)
+        print_standing(&self.records, self.config.as_ref(), &self.dimension, sink)
     }
 
-    /// The text that `write_to` writes. Refused for memory, and with `Range` where a total passes the
-    /// greatest `usize`.
+    /// The text that `write_to` writes. Refused for memory, and for what a table is refused by `write_to`.
     pub fn to_string(&self) -> Result<String, TableError>
         ensures ok { IfOk result (λ text. string_bytes text ≡ table_text (sheet self.now)) }
-        ensures err { IfErr result (λ e. (e ≡ Memory) ⊎ ((e ≡ Range)
-            × ((2 ^ 64 ≤ total_width (sheet self.now)) ⊎ (2 ^ 64 ≤ total_height (sheet self.now))))) }
+        ensures err { IfErr result (λ e. (e ≡ Memory) ⊎ ((is_empty (cells_of self.now) ≡ false)
+            × IsRefused (sheet self.now) e)) }
     {
         let mut text = String::new(self.records.allocator());
         self.write_to(&mut text)?;
@@ -123,47 +205,11 @@ impl Table {
 }
 
 impl From<Builder> for Table {
-    ghost use Rattle.std.specs.Prelude.{◌≡◌};
+    ghost use Rattle.tabled_table.specs.NewTable.{IsNew};
 
-    ghost from_gives = { λ builder table. table.records ≡ builder };
+    ghost from_gives = { λ builder table. IsNew builder table };
 
     fn from(builder: Builder) -> Table {
-        Table {
-            records: builder.build(),
-        }
+        Table::of_records(builder.build())
     }
-}
-
-/// A row a value. Refused only for memory.
-fn value_records<I: IntoIterator>(
-    alloc: Global,
-    iter: I,
-) -> Result<VecRecords<Text<String>>, TableError>
-where
-    I::Item: Tabled + Drop,
-    requires { IsFiniteIterable I.into_iter_gives I.IntoIter.can_next I.IntoIter.remaining iter }
-    ensures ok { IfOk result (λ records. (values : List I.Item)
-        × Given I.into_iter_gives I.IntoIter.next_gives iter values
-        × (records ≡ map I.Item.texts values)) }
-    ensures only { IfErr result (λ e. e ≡ Memory) }
-{
-    let mut rows = Vec::new(alloc);
-    'values: for value in iter {
-        rows.push(value_row(alloc, &value)?)?;
-    }
-    Ok(VecRecords::new(rows))
-}
-
-/// The fields of a value, measured.
-fn value_row<T: Tabled>(alloc: Global, value: &T) -> Result<Vec<Text<String>>, TableError>
-    ensures texts { IfOk result (λ row. row.items ≡ T.texts value.now) }
-    ensures length { IfOk result (λ row. length row.items ≡ T.LENGTH) }
-    ensures only { IfErr result (λ e. e ≡ Memory) }
-{
-    let fields = value.fields(alloc)?;
-    let mut row = Vec::with_capacity(alloc, fields.len())?;
-    'fields: for field in fields {
-        row.push(Text::new(field.into_owned(alloc)?))?;
-    }
-    Ok(row)
 }

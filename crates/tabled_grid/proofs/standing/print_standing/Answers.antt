@@ -9,7 +9,7 @@ use Rattle.tabled_grid.proofs.standing.print_standing.Goals as goal
 
 pub returns-then-is_empty : goal.returns-then-is_empty
 returns-then-is_empty g c =
-    prints_nothing (standing (g.R.ExactRecords.cells c.args.records.now) c.args.config.now c.args.stored.now) _ (sym c.is_empty.ensures ∙ c.if-is_empty.true)
+    prints_nothing (standing (g.R.ExactRecords.cells c.args.records.now) c.args.config.now c.args.stored.now) _ (sym c.is_empty.ensures.value ∙ c.if-is_empty.true)
 
 pub print_held-requires-clause-sized : goal.print_held-requires-clause-sized
 print_held-requires-clause-sized g c =

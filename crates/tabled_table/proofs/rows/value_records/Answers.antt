@@ -1,5 +1,5 @@
 use Rattle.tabled_table.proofs.RowsAdded.{lengths_added, texts_added}
-use Rattle.tabled_table.proofs.table.value_records.Goals as goal
+use Rattle.tabled_table.proofs.rows.value_records.Goals as goal
 
 pub values-preserved : goal.values-preserved
 values-preserved g c = record {

@@ -1,7 +1,7 @@
 use Rattle.std.proofs.Common.{◌≡◌, length, map}
 use Rattle.std.specs.List.{All}
 use Rattle.tabled_base.specs.Cells.{texts_of}
-use Rattle.tabled_table.proofs.table.value_records.Given as goal
+use Rattle.tabled_table.proofs.rows.value_records.Given as goal
 
 abbrev pub invariant-values : goal.invariant-values
 invariant-values g l = record {

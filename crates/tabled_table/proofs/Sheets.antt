@@ -1,0 +1,17 @@
+-- The lines of a table's picture.
+use Rattle.std.proofs.Common.{◌≡◌, List, ℕ, length}
+use Rattle.tabled_base.specs.Cells.{IsRectangular, columns}
+use Rattle.tabled_size.specs.Sheet.{Sheet}
+use Rattle.tabled_size.specs.Totals.{total_height, total_width}
+use Rattle.tabled_grid.specs.Holds.{Holds}
+use Rattle.tabled_grid.specs.Picture.{picture}
+use Rattle.tabled_grid.specs.PlainSheet.{ArePlain, EachLineTakes, IsPlainConfig}
+use Rattle.tabled_grid.proofs.Whole.{picture_columns, picture_lines}
+
+-- where characters are plain, each takes as many columns as the whole
+pub sheet_columns : (t : Sheet) → IsRectangular t.cells → IsPlainConfig t.config (length t.cells) (columns t.cells) → ArePlain t.cells → Holds t → EachLineTakes (total_width t) (picture t)
+sheet_columns t rectangular config texts holds = picture_columns t config texts rectangular holds
+
+-- they are as many as the whole has
+pub sheet_lines : (t : Sheet) → length (picture t) ≡ total_height t
+sheet_lines t = picture_lines t

@@ -1,0 +1,5 @@
+use Rattle.tabled_table.proofs.NewTables.{new_is_plain}
+use Rattle.tabled_table.proofs.laws.new_tables.Goals as goal
+
+pub returns-clause-plain : goal.returns-clause-plain
+returns-clause-plain c = new_is_plain

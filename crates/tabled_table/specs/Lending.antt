@@ -1,0 +1,15 @@
+-- Parts of a table that are lent out to be changed. The table ends with what is left behind the
+-- reference, and its other parts as they were.
+use Rattle.std.specs.Borrow.{Fml, Lends, MutBor}
+use Rattle.tabled_config.specs.declared.colored.ColoredConfig.{ColoredConfig}
+use Rattle.tabled_config.specs.contracts.colored.ColoredConfig.{the_row as config_row}
+use Rattle.tabled_size.specs.declared.complete_dimension.CompleteDimension.{CompleteDimension}
+use Rattle.tabled_size.specs.contracts.complete_dimension.CompleteDimension.{the_row as dimension_row}
+use Rattle.tabled_table.specs.declared.table.Table.{Table}
+use Rattle.tabled_table.specs.contracts.table.Table.{the_row}
+
+abbrev pub LendsConfig : MutBor Table → MutBor ColoredConfig → Fml
+LendsConfig lender lent = Lends the_row config_row lender lent (λ config. record lender.now { config = config })
+
+abbrev pub LendsDimension : MutBor Table → MutBor CompleteDimension → Fml
+LendsDimension lender lent = Lends the_row dimension_row lender lent (λ sizes. record lender.now { dimension = sizes })

@@ -1,0 +1,8 @@
+-- The types of a table's parts as the logic holds them, for the clauses on what a `&mut` lends.
+use denote.RattleType.{RattleType}
+use Rattle.std.specs.contracts.alloc.Global as global
+use Rattle.std.specs.contracts.impls.GlobalAllocator.TheImpl.{ghosts}
+use Rattle.std.specs.contracts.string.String as text
+
+abbrev pub string_row : RattleType
+string_row = text.the_row global.the_row ghosts
