@@ -69,6 +69,14 @@ fn a_suffix_of_lines_counts_its_line_feeds(rt: HostRuntime) -> Result<(), Fail> 
 }
 
 #[test]
+fn a_suffix_is_lent(rt: HostRuntime) -> Result<(), Fail> {
+    let suffix = String::from_str(rt.alloc(), "..")?;
+    let option = Truncate::new(4).suffix(suffix.as_str());
+    assert_eq!(rt; option.shorten(rt.alloc(), "abcdef", 4)?.as_str(), "ab..");
+    Ok(())
+}
+
+#[test]
 fn a_truncate_is_copied(rt: HostRuntime) -> Result<(), Fail> {
     let option = Truncate::new(7).suffix("..").priority(PriorityMax::left());
     let copy = option.clone()?;
