@@ -39,6 +39,11 @@ pub mod settings {
             Steps, TakesAll, is_level,
         };
     }
+
+    /// How texts are made to fit some columns.
+    pub mod width {
+        pub use tabled_set::{SuffixLimit, Truncate, Wrap};
+    }
 }
 
 /// Lower layers, by the crate's names.

@@ -1,10 +1,11 @@
 //! The configuration of a table that is printed as a whole.
-ghost use Rattle.std.specs.Prelude.{◌≡◌, IfOk};
+ghost use Rattle.std.specs.Prelude.{◌≡◌, IfErr, IfOk};
+ghost use Rattle.tabled_base.specs.declared.error.TableError.TheVariants.{Memory};
 ghost use Rattle.std.specs.Borrow.{sem};
 ghost use Rattle.tabled_config.specs.Lending.{LendsConfig};
 
 use crate::spanned::SpannedConfig;
-use std::alloc::AllocError;
+use tabled_base::TableError;
 
 /// The settings of a table. It has no colours of its own.
 #[derive(Debug, Drop, PartialEq, Eq)]
@@ -35,9 +36,10 @@ impl ColoredConfig {
         &mut self.config
     }
 
-    /// The same settings.
-    pub fn clone(&self) -> Result<ColoredConfig, AllocError>
-        ensures { IfOk result (λ copy. copy ≡ self.now) }
+    /// The same settings. Refused with `Memory` alone.
+    pub fn clone(&self) -> Result<ColoredConfig, TableError>
+        ensures equal { IfOk result (λ copy. copy ≡ self.now) }
+        ensures only { IfErr result (λ e. e ≡ Memory) }
     {
         Ok(ColoredConfig {
             config: self.config.clone()?,

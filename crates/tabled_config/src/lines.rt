@@ -52,6 +52,13 @@ impl Lines {
         Ok(())
     }
 
+    /// Removes all lines.
+    pub fn clear(&mut self)
+        ensures { self.new ≡ [] }
+    {
+        self.lines.clear();
+    }
+
     /// The line that was set at an index.
     pub fn get(&self, index: usize) -> Option<HorizontalLine>
         ensures { result ≡ line_set self.now index }

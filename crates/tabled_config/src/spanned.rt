@@ -1,5 +1,5 @@
 //! The configuration of a table.
-ghost use Rattle.std.specs.Prelude.{◌≡◌, ◌==◌, ℕ, if◌then◌else◌, IfErr, IfOk, IsOk, OnErr, OnOk, Some};
+ghost use Rattle.std.specs.Prelude.{◌≡◌, ◌==◌, ℕ, if◌then◌else◌, IfErr, IfOk, IsOk, OnErr, OnOk, Some, []};
 ghost use Rattle.tabled_base.specs.declared.error.TableError.TheVariants.{Memory};
 ghost use Rattle.tabled_config.specs.Changes.{setting_at, with_change};
 ghost use Rattle.tabled_config.specs.Lines.{line_set, with_line};
@@ -12,7 +12,7 @@ use crate::compact_multiline::CompactMultilineConfig;
 use crate::entity_map::EntityMap;
 use crate::lines::Lines;
 use crate::sides::{Indent, Sides};
-use std::alloc::{AllocError, Global};
+use std::alloc::Global;
 use tabled_base::{Entity, Position, TableError};
 
 /// How the text of a cell stands in its place.
@@ -105,9 +105,10 @@ impl SpannedConfig {
         config
     }
 
-    /// The same settings.
-    pub fn clone(&self) -> Result<SpannedConfig, AllocError>
-        ensures { IfOk result (λ copy. copy ≡ self.now) }
+    /// The same settings. Refused with `Memory` alone.
+    pub fn clone(&self) -> Result<SpannedConfig, TableError>
+        ensures equal { IfOk result (λ copy. copy ≡ self.now) }
+        ensures only { IfErr result (λ e. e ≡ Memory) }
     {
         Ok(SpannedConfig {
             borders: self.borders,
@@ -297,6 +298,13 @@ impl SpannedConfig {
     {
         self.lines.insert(row, line)?;
         Ok(())
+    }
+
+    /// Removes all horizontal lines that were set by their index. It takes no memory.
+    pub fn remove_horizontal_lines(&mut self)
+        ensures { self.new ≡ record self.old { lines = [] } }
+    {
+        self.lines.clear();
     }
 
     /// The horizontal line that was set above a row.

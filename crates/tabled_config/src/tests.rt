@@ -34,10 +34,73 @@ fn a_line_by_index_is_kept(rt: HostRuntime) -> Result<(), Fail> {
 }
 
 #[test]
+fn lines_by_index_are_removed(rt: HostRuntime) -> Result<(), Fail> {
+    let mut config = SpannedConfig::new(rt.alloc());
+    config.insert_horizontal_line(1, DASHES)?;
+    config.insert_horizontal_line(4, DASHES)?;
+    config.remove_horizontal_lines();
+    assert_eq!(rt; config.get_horizontal_line(1), None);
+    assert_eq!(rt; config.get_horizontal_line(4), None);
+    Ok(())
+}
+
+#[test]
+fn a_margin_is_kept(rt: HostRuntime) -> Result<(), Fail> {
+    let mut config = SpannedConfig::new(rt.alloc());
+    let margin = Sides::new(
+        Indent::spaced(1),
+        Indent::new(2, '>'),
+        Indent::zero(),
+        Indent::new(3, 'v'),
+    );
+    config.set_margin(margin);
+    assert_eq!(rt; *config.get_margin(), margin);
+    Ok(())
+}
+
+#[test]
+fn a_padding_is_kept_in_its_column(rt: HostRuntime) -> Result<(), Fail> {
+    let mut config = SpannedConfig::new(rt.alloc());
+    let padding = Sides::filled(Indent::new(1, '.'));
+    config.set_padding(Entity::Column(2), padding)?;
+    assert_eq!(rt; config.get_padding(Position::new(7, 2)), padding);
+    assert_eq!(rt; config.get_padding(Position::new(2, 7)).left.size, 0);
+    Ok(())
+}
+
+#[test]
+fn trims_are_kept_in_their_places(rt: HostRuntime) -> Result<(), Fail> {
+    let mut config = SpannedConfig::new(rt.alloc());
+    config.set_trim_horizontal(Entity::Row(1), true)?;
+    config.set_trim_vertical(Entity::Cell(1, 2), true)?;
+    assert!(rt; config.get_trim_horizontal(Position::new(1, 0)));
+    assert!(rt; !config.get_trim_vertical(Position::new(1, 0)));
+    assert!(rt; config.get_trim_vertical(Position::new(1, 2)));
+    Ok(())
+}
+
+#[test]
 fn a_clone_is_equal(rt: HostRuntime) -> Result<(), Fail> {
-    let config = SpannedConfig::new(rt.alloc());
+    let mut config = SpannedConfig::new(rt.alloc());
+    config.set_trim_vertical(Entity::Row(1), true)?;
+    config.set_padding(Entity::Column(2), Sides::filled(Indent::spaced(1)))?;
+    config.set_line_alignment(Entity::Cell(1, 2), true)?;
+    config.insert_horizontal_line(3, DASHES)?;
     let copy = config.clone()?;
     assert!(rt; copy == config);
+    assert!(rt; copy.get_line_alignment(Position::new(1, 2)));
+    Ok(())
+}
+
+#[test]
+fn a_colored_clone_is_equal(rt: HostRuntime) -> Result<(), Fail> {
+    let mut colored = ColoredConfig::new(SpannedConfig::new(rt.alloc()));
+    let config = colored.as_mut();
+    config.set_alignment_horizontal(Entity::Row(1), AlignmentHorizontal::Right)?;
+    config.set_alignment_vertical(Entity::Column(2), AlignmentVertical::Bottom)?;
+    config.set_padding(Entity::Cell(1, 2), Sides::filled(Indent::spaced(1)))?;
+    let copy = colored.clone()?;
+    assert!(rt; copy == colored);
     Ok(())
 }
 

@@ -1,0 +1,5 @@
+pub mod Bare
+pub mod Endings
+pub mod JoinedLines
+pub mod Staying
+pub mod SuffixLemmas

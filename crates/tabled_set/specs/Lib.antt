@@ -1,0 +1,2 @@
+pub mod PlainEnding
+pub mod Truncated

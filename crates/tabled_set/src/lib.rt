@@ -1,0 +1,14 @@
+//! What is set of a table's texts: how they are wrapped, and how they are truncated.
+#![tactic(auto)]
+
+pub mod laws;
+mod suffix;
+mod truncate;
+mod wrap;
+
+pub use suffix::SuffixLimit;
+pub use truncate::Truncate;
+pub use wrap::Wrap;
+
+#[cfg(test)]
+mod tests;

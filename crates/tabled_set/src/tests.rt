@@ -1,0 +1,4 @@
+//! What no clause says: that calls succeed with ample memory, and what texts become.
+
+mod truncated;
+mod wrapped;
