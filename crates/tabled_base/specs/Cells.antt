@@ -3,6 +3,7 @@ use Rattle.std.specs.Prelude.{◌≡◌, ℕ, ◌-◌, ◌<◌, List, [], ◌∷
 use Rattle.std.specs.List.{All}
 use Rattle.std.specs.declared.alloc.Global.{Global}
 use Rattle.std.specs.declared.vec.Vec.{Vec}
+use Rattle.tabled_text.specs.Measure.{greatest}
 
 -- how many cells each of some equally long rows has
 abbrev pub columns : List (List (List ℕ)) → ℕ
@@ -25,6 +26,14 @@ cell_at cells row column = slice_index_or (slice_index_or cells row []) column [
 -- a row with empty cells behind, up to a number of columns
 abbrev pub padded : ℕ → List (List ℕ) → List (List ℕ)
 padded count row = row ++ replicate (count - length row) []
+
+-- how many cells the longest row has
+abbrev pub longest : List (List (List ℕ)) → ℕ
+longest rows = greatest (map length rows)
+
+-- the rows, the short ones padded
+abbrev pub padded_rows : List (List (List ℕ)) → List (List (List ℕ))
+padded_rows rows = map (padded (longest rows)) rows
 
 -- the rows with a further one, the short ones padded
 abbrev pub with_record : List (List (List ℕ)) → List (List ℕ) → List (List (List ℕ))

@@ -2,4 +2,5 @@ pub mod Cells
 pub mod Error
 pub mod Given
 pub mod LentRows
+pub mod RowsGiven
 pub mod TextRows

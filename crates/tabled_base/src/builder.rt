@@ -2,11 +2,12 @@
 ghost use Rattle.std.specs.Prelude.{◌≡◌, ◌≤◌, ℕ, List, [], IfOk, IfErr, OnErr, OnOk, ◌∷◌, ◌++◌, length, map, vec_capacity};
 ghost use Rattle.std.specs.Iterator.{IsFiniteIterable};
 ghost use Rattle.std.specs.List.{All};
-ghost use Rattle.tabled_base.specs.Cells.{IsRectangular, padded, row_texts, with_record};
+ghost use Rattle.tabled_base.specs.Cells.{IsRectangular, padded, padded_rows, row_texts, with_record};
 ghost use Rattle.tabled_base.specs.Given.{Given};
 ghost use Rattle.tabled_base.specs.declared.error.TableError.TheVariants.{Memory};
 
 use crate::error::TableError;
+use crate::into_records::IntoRecords;
 use crate::records::CellText;
 use crate::text::Text;
 use crate::vec_records::{VecRecords, first_length};
@@ -36,6 +37,22 @@ impl Builder {
         Builder {
             rows: Vec::new(alloc),
         }
+    }
+
+    /// A builder of the rows that a source gives, the short ones padded.
+    pub fn from_iter<I: IntoRecords>(alloc: Global, rows: I) -> Result<Builder, TableError>
+    where
+        I::Cell: CellText + Drop,
+        requires { I.ends rows }
+        ensures ok { IfOk result (λ builder. (cells : List (List I.Cell)) × I.gives rows cells
+            × (builder ≡ padded_rows (map (map I.Cell.text) cells))) }
+        ensures only { IfErr result (λ e. e ≡ Memory) }
+    {
+        let mut builder = Builder::new(alloc);
+        for row in rows.iter_rows() {
+            builder.add_record(row)?;
+        }
+        Ok(builder)
     }
 
     /// Adds a row. Where memory is refused, the builder is as it was.

@@ -4,6 +4,7 @@
 
 mod builder;
 mod error;
+mod into_records;
 mod lent_rows;
 mod position;
 mod records;
@@ -13,9 +14,10 @@ mod vec_records;
 
 pub use builder::Builder;
 pub use error::TableError;
+pub use into_records::IntoRecords;
 pub use lent_rows::LentRows;
 pub use position::{Entity, Position};
-pub use records::{CellText, ExactRecords, PeekableRecords};
+pub use records::{CellText, ExactRecords, PeekableRecords, Records};
 pub use split::text_rows;
 pub use text::Text;
 pub use vec_records::VecRecords;

@@ -3,6 +3,7 @@ ghost use Rattle.std.specs.Prelude.{◌≡◌, ℕ, List, length, string_bytes};
 ghost use Rattle.tabled_base.specs.Cells.{IsInside, IsRectangular, cell_at, columns};
 ghost use Rattle.tabled_text.specs.Measure.{lines_of, text_columns};
 
+use crate::into_records::IntoRecords;
 use crate::position::Position;
 use tabled_text::{count_lines, text_width};
 
@@ -44,6 +45,40 @@ impl CellText for String {
     fn text(&self) -> &str {
         self.as_str()
     }
+}
+
+impl<T: CellText> CellText for &T {
+    ghost text = { λ s. T.text s.now };
+
+    fn text(&self) -> &str {
+        T::text(self)
+    }
+
+    fn width(&self) -> usize {
+        T::width(self)
+    }
+
+    fn count_lines(&self) -> usize {
+        T::count_lines(self)
+    }
+}
+
+/// What gives its rows; it need not know how many there are, nor be rectangular.
+pub trait Records {
+    /// What gives the rows.
+    type Iter: IntoRecords;
+
+    // Holds of records whose rows, and the cells of each, may be asked for and end.
+    ghost ends: { Self → Type 0 };
+
+    // Holds of records and the cells, row by row, that may come of them.
+    ghost gives: { Self → List (List Self.Iter.Cell) → Type 0 };
+
+    /// What gives the rows.
+    fn iter_rows(self) -> Self::Iter
+        ensures ends { ends self → Self.Iter.ends result }
+        ensures gives { (cells : List (List Self.Iter.Cell)) → Self.Iter.gives result cells
+            → gives self cells };
 }
 
 /// Rows of equal length that are counted.

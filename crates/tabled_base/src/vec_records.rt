@@ -1,9 +1,9 @@
 //! Records in vectors.
-ghost use Rattle.std.specs.Prelude.{◌≡◌, ℕ, List};
+ghost use Rattle.std.specs.Prelude.{◌≡◌, ℕ, List, map, ⊤};
 ghost use Rattle.tabled_base.specs.Cells.{IsRectangular, columns, texts_of};
 
 use crate::position::Position;
-use crate::records::{CellText, ExactRecords, PeekableRecords};
+use crate::records::{CellText, ExactRecords, PeekableRecords, Records};
 use std::alloc::Global;
 use std::marker::Model;
 
@@ -33,6 +33,19 @@ impl<T: CellText> VecRecords<T> {
     /// What the records grow by.
     pub fn allocator(&self) -> Global {
         *self.rows.allocator()
+    }
+}
+
+/// Lent records give their rows; the texts of the cells are those of the records.
+impl<'a, T: CellText> Records for &'a VecRecords<T> {
+    type Iter = &'a [Vec<T>];
+
+    ghost ends = { λ _. ⊤ };
+
+    ghost gives = { λ records cells. map (map (λ cell. T.text cell.now)) cells ≡ records.now };
+
+    fn iter_rows(self) -> &'a [Vec<T>] {
+        self.rows.as_slice()
     }
 }
 
