@@ -1,4 +1,5 @@
 pub mod Collecting
+pub mod CopiedRows
 pub mod Giving
 pub mod LentGiving
 pub mod PaddedRows

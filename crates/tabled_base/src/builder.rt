@@ -16,7 +16,7 @@ use std::marker::Model;
 
 /// Collects rows of texts. Short rows are padded with empty cells at once, so that all are equally
 /// long.
-#[derive(Drop)]
+#[derive(Debug, Drop)]
 pub struct Builder {
     rows: Vec<Vec<Text<String>>>,
 }
