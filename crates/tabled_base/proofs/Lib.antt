@@ -1,3 +1,4 @@
+pub mod ChangedCells
 pub mod Collecting
 pub mod CopiedRows
 pub mod Giving

@@ -1,5 +1,5 @@
 -- Rows of cells. A cell is the list of its text's bytes.
-use Rattle.std.specs.Prelude.{◌≡◌, ℕ, ◌-◌, ◌<◌, List, [], ◌∷◌, ◌++◌, length, map, max, replicate, slice_index_or}
+use Rattle.std.specs.Prelude.{◌≡◌, ℕ, ◌-◌, ◌<◌, List, [], ◌∷◌, ◌++◌, length, map, max, replicate, slice_index_or, slice_set}
 use Rattle.std.specs.List.{All}
 use Rattle.std.specs.declared.alloc.Global.{Global}
 use Rattle.std.specs.declared.vec.Vec.{Vec}
@@ -22,6 +22,10 @@ pub record IsInside (cells : List (List (List ℕ))) (row column : ℕ) : Type 0
 -- the text of a cell, empty where there is no such cell
 abbrev pub cell_at : List (List (List ℕ)) → ℕ → ℕ → List ℕ
 cell_at cells row column = slice_index_or (slice_index_or cells row []) column []
+
+-- the rows with another text in one cell
+abbrev pub with_cell : List (List (List ℕ)) → ℕ → ℕ → List ℕ → List (List (List ℕ))
+with_cell cells row column text = slice_set cells row (slice_set (slice_index_or cells row []) column text)
 
 -- a row with empty cells behind, up to a number of columns
 abbrev pub padded : ℕ → List (List ℕ) → List (List ℕ)

@@ -17,7 +17,7 @@ pub use error::TableError;
 pub use into_records::IntoRecords;
 pub use lent_rows::LentRows;
 pub use position::{Entity, Position};
-pub use records::{CellText, ExactRecords, PeekableRecords, Records};
+pub use records::{CellText, ExactRecords, PeekableRecords, Records, RecordsMut};
 pub use split::text_rows;
 pub use text::Text;
 pub use vec_records::VecRecords;

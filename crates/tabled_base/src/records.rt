@@ -1,10 +1,13 @@
 //! What records of cells offer.
-ghost use Rattle.std.specs.Prelude.{◌≡◌, ℕ, List, length, string_bytes};
-ghost use Rattle.tabled_base.specs.Cells.{IsInside, IsRectangular, cell_at, columns};
+ghost use Rattle.std.specs.Prelude.{◌≡◌, ℕ, List, IfErr, OnErr, OnOk, length, string_bytes};
+ghost use Rattle.tabled_base.specs.Cells.{IsInside, IsRectangular, cell_at, columns, with_cell};
+ghost use Rattle.tabled_base.specs.declared.error.TableError.TheVariants.{Memory};
 ghost use Rattle.tabled_text.specs.Measure.{lines_of, text_columns};
 
+use crate::error::TableError;
 use crate::into_records::IntoRecords;
 use crate::position::Position;
+use std::alloc::Global;
 use tabled_text::{count_lines, text_width};
 
 /// What holds the text of a cell.
@@ -112,4 +115,18 @@ pub trait PeekableRecords: ExactRecords {
     fn count_lines(&self, at: Position) -> usize
         requires { IsInside (Self.cells self.now) at.row at.column }
         ensures { result ≡ length (lines_of (cell_at (Self.cells self.now) at.row at.column)) };
+}
+
+/// Cells that can be changed.
+pub trait RecordsMut: PeekableRecords {
+    /// Gives a cell another text. The other cells stay, and all do where memory is refused.
+    fn set(&mut self, at: Position, text: String) -> Result<(), TableError>
+        requires { IsInside (Self.cells self.old) at.row at.column }
+        ensures ok { OnOk result (Self.cells self.new
+            ≡ with_cell (Self.cells self.old) at.row at.column (string_bytes text)) }
+        ensures err { OnErr result (Self.cells self.new ≡ Self.cells self.old) }
+        ensures only { IfErr result (λ e. e ≡ Memory) };
+
+    /// What the records grow by.
+    fn allocator(&self) -> Global;
 }

@@ -5,7 +5,7 @@ ghost use Rattle.tabled_base.specs.declared.error.TableError.TheVariants.{Memory
 
 use crate::error::TableError;
 use crate::position::Position;
-use crate::records::{CellText, ExactRecords, PeekableRecords, Records};
+use crate::records::{CellText, ExactRecords, PeekableRecords, Records, RecordsMut};
 use crate::text::Text;
 use std::alloc::Global;
 use std::marker::Model;
@@ -110,6 +110,18 @@ impl<T: CellText> PeekableRecords for VecRecords<T> {
     fn count_lines(&self, at: Position) -> usize {
         let row = &self.rows[at.row];
         row[at.column].count_lines()
+    }
+}
+
+impl RecordsMut for VecRecords<Text<String>> {
+    fn set(&mut self, at: Position, text: String) -> Result<(), TableError> {
+        let row = &mut self.rows[at.row];
+        row[at.column] = Text::new(text);
+        Ok(())
+    }
+
+    fn allocator(&self) -> Global {
+        *self.rows.allocator()
     }
 }
 

@@ -1,7 +1,7 @@
-//! Copies, and what is equal.
+//! Copies, changes, and what is equal.
 
 use super::shown;
-use crate::{Builder, CellText, Text};
+use crate::{Builder, CellText, ExactRecords, PeekableRecords, Position, RecordsMut, Text};
 use std::test::Fail;
 
 #[test]
@@ -27,5 +27,15 @@ fn copied_records_are_equal(rt: HostRuntime) -> Result<(), Fail> {
     assert!(rt; other != records);
     let fewer = Builder::from_iter(alloc, [["a", "bb"]])?.build();
     assert!(rt; fewer != records);
+    Ok(())
+}
+
+#[test]
+fn one_cell_is_set(rt: HostRuntime) -> Result<(), Fail> {
+    let alloc = rt.alloc();
+    let mut records = Builder::from_iter(alloc, [["a", "bb"], ["ccc", ""]])?.build();
+    assert_eq!(rt; (records.count_rows(), records.count_columns()), (2, 2));
+    records.set(Position::new(1, 0), String::from_str(alloc, "new")?)?;
+    assert_eq!(rt; shown(alloc, &records)?.as_str(), "2x2 [a][bb] [new][]");
     Ok(())
 }
