@@ -5,6 +5,7 @@ pub mod Giving
 pub mod LentGiving
 pub mod PaddedRows
 pub mod Padding
+pub mod PickedCells
 pub mod RowLemmas
 pub mod Spans
 pub mod Splitting

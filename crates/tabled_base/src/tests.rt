@@ -2,6 +2,7 @@
 ghost use Rattle.std.specs.Prelude.{◌<◌, length};
 
 mod copies;
+mod options;
 mod rows;
 mod walks;
 
