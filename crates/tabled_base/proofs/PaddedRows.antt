@@ -1,9 +1,9 @@
 -- Rows that are padded to the longest of them.
-use Rattle.std.proofs.Common.{◌≡◌, ℕ, ◌+◌, ◌-◌, ◌≤◌, List, [], ◌∷◌, ◌++◌, length, map, max, replicate, refl, sym, ap, ◌∙◌, arith, append_assoc, All}
+use Rattle.std.proofs.Common.{◌≡◌, ℕ, ◌+◌, ◌-◌, ◌≤◌, List, [], ◌∷◌, ◌++◌, length, map, max, get_or, replicate, refl, sym, ap, ◌∙◌, arith, append_assoc, All}
 use Rattle.std.proofs.lemmas.List.{replicate-append-replicate, map-append}
-use Rattle.std.proofs.lemmas.List.Elements.{All-head, All-tail, All-cons, All-nil}
-use Rattle.tabled_base.specs.Cells.{columns, longest, padded, padded_rows, with_record}
-use Rattle.tabled_base.proofs.Padding.{length-padded}
+use Rattle.std.proofs.lemmas.List.Elements.{All-head, All-tail, All-cons, All-map, All-nil}
+use Rattle.tabled_base.specs.Cells.{IsRectangular, columns, longest, padded, padded_rows, with_record}
+use Rattle.tabled_base.proofs.Padding.{length-padded, rectangular-from_length}
 
 -- no row is longer than the longest
 within_longest : (rows : List (List (List ℕ))) → All (λ row. length row ≤ longest rows) rows
@@ -16,6 +16,13 @@ within_longest (row ∷ rows) =
 longest-more : (rows : List (List (List ℕ))) (row : List (List ℕ)) → longest (rows ++ row ∷ []) ≡ max (longest rows) (length row)
 longest-more [] row = omega arith
 longest-more (first ∷ rows) row = omega (arith, longest-more rows row)
+
+pub padded_rows-rectangular : (rows : List (List (List ℕ))) → IsRectangular (padded_rows rows)
+padded_rows-rectangular rows =
+    let n = longest rows in
+    rectangular-from_length n (padded_rows rows)
+    (All-map (λ r. length r ≡ n) (padded n) rows
+    (λ k d h. let own = within_longest rows k d h in omega (arith, length-padded n (get_or rows k d))))
 
 columns-padded : (rows : List (List (List ℕ))) → columns (padded_rows rows) ≡ longest rows
 columns-padded [] = refl

@@ -2,7 +2,7 @@
 ghost use Rattle.std.specs.Prelude.{◌≡◌, ◌≤◌, ℕ, List, [], IfOk, IfErr, OnErr, OnOk, ◌∷◌, ◌++◌, length, map, vec_capacity};
 ghost use Rattle.std.specs.Iterator.{IsFiniteIterable};
 ghost use Rattle.std.specs.List.{All};
-ghost use Rattle.tabled_base.specs.Cells.{IsRectangular, padded, padded_rows, row_texts, with_record};
+ghost use Rattle.tabled_base.specs.Cells.{IsRectangular, longest, padded, padded_rows, row_texts, with_record};
 ghost use Rattle.tabled_base.specs.Given.{Given};
 ghost use Rattle.tabled_base.specs.declared.error.TableError.TheVariants.{Memory};
 
@@ -19,6 +19,8 @@ use std::marker::Model;
 #[derive(Debug, Drop)]
 pub struct Builder {
     rows: Vec<Vec<Text<String>>>,
+    // How many cells a row that comes is given room for.
+    room: usize,
 }
 
 impl Model for Builder {
@@ -36,7 +38,29 @@ impl Builder {
     {
         Builder {
             rows: Vec::new(alloc),
+            room: 0,
         }
+    }
+
+    /// A builder with no row, and with room for so many rows, and for so many cells in each that
+    /// comes.
+    pub fn with_capacity(alloc: Global, rows: usize, columns: usize) -> Result<Builder, TableError>
+        ensures ok { IfOk result (λ builder. builder ≡ []) }
+        ensures only { IfErr result (λ e. e ≡ Memory) }
+    {
+        Ok(Builder {
+            rows: Vec::with_capacity(alloc, rows)?,
+            room: columns,
+        })
+    }
+
+    /// A builder of rows, the short ones padded. Where memory is refused, the rows are dropped.
+    pub fn from_vec(mut rows: Vec<Vec<Text<String>>>) -> Result<Builder, TableError>
+        ensures ok { IfOk result (λ builder. builder ≡ padded_rows (row_texts rows.items)) }
+        ensures only { IfErr result (λ e. e ≡ Memory) }
+    {
+        pad_all(&mut rows)?;
+        Ok(Builder { rows, room: 0 })
     }
 
     /// A builder of the rows that a source gives, the short ones padded.
@@ -68,7 +92,7 @@ impl Builder {
         ensures rectangular { IsRectangular self.new }
         ensures only { IfErr result (λ e. e ≡ Memory) }
     {
-        let row = collect_row(*self.rows.allocator(), cells)?;
+        let row = collect_row(*self.rows.allocator(), self.room, cells)?;
         push_row(&mut self.rows, row)
     }
 
@@ -99,7 +123,11 @@ impl Builder {
 }
 
 /// The texts of cells, measured.
-fn collect_row<I: IntoIterator>(alloc: Global, cells: I) -> Result<Vec<Text<String>>, TableError>
+fn collect_row<I: IntoIterator>(
+    alloc: Global,
+    room: usize,
+    cells: I,
+) -> Result<Vec<Text<String>>, TableError>
 where
     I::Item: CellText + Drop,
     requires { IsFiniteIterable I.into_iter_gives I.IntoIter.can_next I.IntoIter.remaining cells }
@@ -108,12 +136,37 @@ where
         × (row.items ≡ map I.Item.text items)) }
     ensures only { IfErr result (λ e. e ≡ Memory) }
 {
-    let mut row = Vec::new(alloc);
+    let cells = cells.into_iter();
+    let mut row = Vec::with_capacity(alloc, room)?;
     for cell in cells {
         let text = String::from_str(alloc, cell.text())?;
         row.push(Text::new(text))?;
     }
     Ok(row)
+}
+
+/// Pads the short rows.
+fn pad_all(rows: &mut Vec<Vec<Text<String>>>) -> Result<(), TableError>
+    ensures ok { OnOk result
+        (row_texts rows.new.items ≡ padded_rows (row_texts rows.old.items)) }
+    ensures only { IfErr result (λ e. e ≡ Memory) }
+{
+    let columns = longest_row(rows.as_slice());
+    let all = rows.as_mut_slice();
+    reserve_rows(all, columns)?;
+    pad_rows(all, columns);
+    Ok(())
+}
+
+/// How many cells the longest row has.
+fn longest_row(rows: &[Vec<Text<String>>]) -> usize
+    ensures { result ≡ longest (row_texts rows.now) }
+{
+    let mut columns: usize = 0;
+    for row in rows {
+        columns = columns.max(row.len());
+    }
+    columns
 }
 
 /// Puts a row behind the others, and pads the short ones.

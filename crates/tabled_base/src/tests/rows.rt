@@ -1,7 +1,9 @@
 //! Refusals, rows of a text, builders, places.
 
 use super::shown;
-use crate::{Builder, Entity, ExactRecords, PeekableRecords, Position, TableError, text_rows};
+use crate::{
+    Builder, Entity, ExactRecords, PeekableRecords, Position, TableError, Text, text_rows,
+};
 use std::process::Abort;
 use std::test::Fail;
 
@@ -53,6 +55,34 @@ fn a_builder_pads_short_rows(rt: HostRuntime) -> Result<(), Fail> {
 fn a_builder_without_rows_has_no_columns(rt: HostRuntime) -> Result<(), Fail> {
     let records = Builder::new(rt.alloc()).build();
     assert_eq!(rt; shown(rt.alloc(), &records)?.as_str(), "0x0");
+    Ok(())
+}
+
+#[test]
+fn a_builder_with_room_has_no_row(rt: HostRuntime) -> Result<(), Fail> {
+    let mut builder = Builder::with_capacity(rt.alloc(), 2, 3)?;
+    builder
+        .push_record(["a", "b", "c", "d"])?
+        .push_record(["e"])?;
+    let want = "2x4 [a][b][c][d] [e][][][]";
+    assert_eq!(rt; shown(rt.alloc(), &builder.build())?.as_str(), want);
+    let records = Builder::with_capacity(rt.alloc(), 2, 3)?.build();
+    assert_eq!(rt; records.count_rows(), 0);
+    Ok(())
+}
+
+#[test]
+fn a_builder_takes_rows_at_once(rt: HostRuntime) -> Result<(), Fail> {
+    let alloc = rt.alloc();
+    let mut rows = Vec::new(alloc);
+    rows.push(Vec::new(alloc))?;
+    let mut row = Vec::new(alloc);
+    for text in ["a", "bb"] {
+        row.push(Text::new(String::from_str(alloc, text)?))?;
+    }
+    rows.push(row)?;
+    let records = Builder::from_vec(rows)?.build();
+    assert_eq!(rt; shown(alloc, &records)?.as_str(), "2x2 [][] [a][bb]");
     Ok(())
 }
 

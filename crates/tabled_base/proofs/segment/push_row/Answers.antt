@@ -1,4 +1,4 @@
-use Rattle.std.proofs.Common.{◌≡◌, ◌-◌, ◌≤◌, ◌++◌, [], ◌∷◌, map, sym, ap, ◌∙◌, arith, append_assoc}
+use Rattle.std.proofs.Common.{◌++◌, [], ◌∷◌, map, sym, ap, ◌∙◌, arith, append_assoc}
 use Rattle.tabled_base.specs.Picks.{between}
 use Rattle.tabled_base.specs.declared.position.Entity.TheVariants.{Cell}
 use Rattle.tabled_base.proofs.PickedCells.{between-end, map-between_more}

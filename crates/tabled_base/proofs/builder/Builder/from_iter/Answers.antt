@@ -19,4 +19,4 @@ add_record-requires g c =
 pub loop-row-preserved : goal.loop-row-preserved
 loop-row-preserved g c =
     let came = c.in_ok-add_record.ensures.ok in
-    collected-more c.loop-row.invariant came.1 came.2
+    collected-more {new = c.add_record.new.self} c.loop-row.invariant came.1 came.2
