@@ -1,6 +1,5 @@
 //! Selections of many cells, or of all.
-ghost use Rattle.std.specs.Prelude.{◌≡◌, ◌++◌, ◌<◌, ◌^◌, ℕ, IfErr, IfOk, None, OnOk, map};
-ghost use Rattle.std.specs.Range.Bound.{end_index, start_index};
+ghost use Rattle.std.specs.Prelude.{◌≡◌, ◌++◌, ◌<◌, ◌^◌, ℕ, IfErr, None, OnOk, map};
 ghost use Rattle.tabled_base.specs.Picks.{between, block, segment, stretch, within};
 ghost use Rattle.tabled_base.specs.declared.error.TableError.TheVariants.{Memory};
 ghost use Rattle.tabled_base.specs.declared.position.Entity.TheVariants.{Cell, Global};

@@ -4,7 +4,6 @@ use super::shown;
 use crate::{
     Builder, Entity, ExactRecords, PeekableRecords, Position, TableError, Text, text_rows,
 };
-use std::process::Abort;
 use std::test::Fail;
 
 #[test]
