@@ -9,7 +9,7 @@ ghost use Rattle.tabled_base.specs.declared.position.Entity.{Entity};
 use crate::error::TableError;
 use crate::position::Entity;
 use crate::records::ExactRecords;
-use std::alloc;
+use std::alloc::Global;
 
 /// What names parts of records.
 pub trait Object<R: ExactRecords> {
@@ -17,7 +17,7 @@ pub trait Object<R: ExactRecords> {
     ghost picks: { Self → ℕ → ℕ → List Entity };
 
     /// The parts, in order; none of them lies outside of the records.
-    fn cells(&self, alloc: alloc::Global, records: &R) -> Result<Vec<Entity>, TableError>
+    fn cells(&self, alloc: Global, records: &R) -> Result<Vec<Entity>, TableError>
         ensures picked { IfOk result (λ all. all.items
             ≡ picks self.now (length (R.cells records.now)) (columns (R.cells records.now))) }
         ensures only { IfErr result (λ e. e ≡ Memory) };
@@ -69,7 +69,7 @@ impl<R: ExactRecords> Object<R> for Rows {
 
     ghost picks = { λ s rows columns. map Row (picked s.place rows) };
 
-    fn cells(&self, alloc: alloc::Global, records: &R) -> Result<Vec<Entity>, TableError> {
+    fn cells(&self, alloc: Global, records: &R) -> Result<Vec<Entity>, TableError> {
         let mut all = Vec::new(alloc);
         if let Some(row) = find(self.place, records.count_rows()) {
             all.push(Entity::Row(row))?;
@@ -115,7 +115,7 @@ impl<R: ExactRecords> Object<R> for Columns {
 
     ghost picks = { λ s rows columns. map Column (picked s.place columns) };
 
-    fn cells(&self, alloc: alloc::Global, records: &R) -> Result<Vec<Entity>, TableError> {
+    fn cells(&self, alloc: Global, records: &R) -> Result<Vec<Entity>, TableError> {
         let mut all = Vec::new(alloc);
         if let Some(column) = find(self.place, records.count_columns()) {
             all.push(Entity::Column(column))?;
@@ -145,7 +145,7 @@ impl<R: ExactRecords> Object<R> for Cell {
 
     ghost picks = { λ s rows columns. picked_cell s.row s.column rows columns };
 
-    fn cells(&self, alloc: alloc::Global, records: &R) -> Result<Vec<Entity>, TableError> {
+    fn cells(&self, alloc: Global, records: &R) -> Result<Vec<Entity>, TableError> {
         let mut all = Vec::new(alloc);
         if self.row < records.count_rows() && self.column < records.count_columns() {
             all.push(Entity::Cell(self.row, self.column))?;
@@ -160,7 +160,7 @@ impl<R: ExactRecords> Object<R> for (usize, usize) {
 
     ghost picks = { λ s rows columns. picked_cell s.0 s.1 rows columns };
 
-    fn cells(&self, alloc: alloc::Global, records: &R) -> Result<Vec<Entity>, TableError> {
+    fn cells(&self, alloc: Global, records: &R) -> Result<Vec<Entity>, TableError> {
         Cell::new(self.0, self.1).cells(alloc, records)
     }
 }

@@ -8,7 +8,7 @@ use crate::error::TableError;
 use crate::objects::Object;
 use crate::position::Entity;
 use crate::records::ExactRecords;
-use std::alloc;
+use std::alloc::Global;
 use std::ops::{Bound, RangeBounds};
 
 /// Rows or columns from one on, before another if there is one.
@@ -85,7 +85,7 @@ impl Stretch {
 impl<R: ExactRecords> Object<R> for Segment {
     ghost picks = { λ s rows columns. segment s.block rows columns };
 
-    fn cells(&self, alloc: alloc::Global, records: &R) -> Result<Vec<Entity>, TableError> {
+    fn cells(&self, alloc: Global, records: &R) -> Result<Vec<Entity>, TableError> {
         let mut all = Vec::new(alloc);
         match self.block {
             None => all.push(Entity::Global)?,
