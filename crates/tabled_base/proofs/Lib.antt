@@ -1,5 +1,11 @@
+pub mod ChangedCells
+pub mod Collecting
+pub mod CopiedRows
 pub mod Giving
+pub mod LentGiving
+pub mod PaddedRows
 pub mod Padding
+pub mod PickedCells
 pub mod RowLemmas
 pub mod Spans
 pub mod Splitting

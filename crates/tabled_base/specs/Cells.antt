@@ -1,8 +1,9 @@
 -- Rows of cells. A cell is the list of its text's bytes.
-use Rattle.std.specs.Prelude.{◌≡◌, ℕ, ◌-◌, ◌<◌, List, [], ◌∷◌, ◌++◌, length, map, max, replicate, slice_index_or}
+use Rattle.std.specs.Prelude.{◌≡◌, ℕ, ◌-◌, ◌<◌, List, [], ◌∷◌, ◌++◌, length, map, max, replicate, slice_index_or, slice_set}
 use Rattle.std.specs.List.{All}
 use Rattle.std.specs.declared.alloc.Global.{Global}
 use Rattle.std.specs.declared.vec.Vec.{Vec}
+use Rattle.tabled_text.specs.Measure.{greatest}
 
 -- how many cells each of some equally long rows has
 abbrev pub columns : List (List (List ℕ)) → ℕ
@@ -22,9 +23,21 @@ pub record IsInside (cells : List (List (List ℕ))) (row column : ℕ) : Type 0
 abbrev pub cell_at : List (List (List ℕ)) → ℕ → ℕ → List ℕ
 cell_at cells row column = slice_index_or (slice_index_or cells row []) column []
 
+-- the rows with another text in one cell
+abbrev pub with_cell : List (List (List ℕ)) → ℕ → ℕ → List ℕ → List (List (List ℕ))
+with_cell cells row column text = slice_set cells row (slice_set (slice_index_or cells row []) column text)
+
 -- a row with empty cells behind, up to a number of columns
 abbrev pub padded : ℕ → List (List ℕ) → List (List ℕ)
 padded count row = row ++ replicate (count - length row) []
+
+-- how many cells the longest row has
+abbrev pub longest : List (List (List ℕ)) → ℕ
+longest rows = greatest (map length rows)
+
+-- the rows, the short ones padded
+abbrev pub padded_rows : List (List (List ℕ)) → List (List (List ℕ))
+padded_rows rows = map (padded (longest rows)) rows
 
 -- the rows with a further one, the short ones padded
 abbrev pub with_record : List (List (List ℕ)) → List (List ℕ) → List (List (List ℕ))

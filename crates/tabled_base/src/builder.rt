@@ -2,11 +2,12 @@
 ghost use Rattle.std.specs.Prelude.{◌≡◌, ◌≤◌, ℕ, List, [], IfOk, IfErr, OnErr, OnOk, ◌∷◌, ◌++◌, length, map, vec_capacity};
 ghost use Rattle.std.specs.Iterator.{IsFiniteIterable};
 ghost use Rattle.std.specs.List.{All};
-ghost use Rattle.tabled_base.specs.Cells.{IsRectangular, padded, row_texts, with_record};
+ghost use Rattle.tabled_base.specs.Cells.{IsRectangular, longest, padded, padded_rows, row_texts, with_record};
 ghost use Rattle.tabled_base.specs.Given.{Given};
 ghost use Rattle.tabled_base.specs.declared.error.TableError.TheVariants.{Memory};
 
 use crate::error::TableError;
+use crate::into_records::IntoRecords;
 use crate::records::CellText;
 use crate::text::Text;
 use crate::vec_records::{VecRecords, first_length};
@@ -15,9 +16,11 @@ use std::marker::Model;
 
 /// Collects rows of texts. Short rows are padded with empty cells at once, so that all are equally
 /// long.
-#[derive(Drop)]
+#[derive(Debug, Drop)]
 pub struct Builder {
     rows: Vec<Vec<Text<String>>>,
+    // How many cells a row that comes is given room for.
+    room: usize,
 }
 
 impl Model for Builder {
@@ -35,7 +38,45 @@ impl Builder {
     {
         Builder {
             rows: Vec::new(alloc),
+            room: 0,
         }
+    }
+
+    /// A builder with no row, and with room for so many rows, and for so many cells in each that
+    /// comes.
+    pub fn with_capacity(alloc: Global, rows: usize, columns: usize) -> Result<Builder, TableError>
+        ensures ok { IfOk result (λ builder. builder ≡ []) }
+        ensures only { IfErr result (λ e. e ≡ Memory) }
+    {
+        Ok(Builder {
+            rows: Vec::with_capacity(alloc, rows)?,
+            room: columns,
+        })
+    }
+
+    /// A builder of rows, the short ones padded. Where memory is refused, the rows are dropped.
+    pub fn from_vec(mut rows: Vec<Vec<Text<String>>>) -> Result<Builder, TableError>
+        ensures ok { IfOk result (λ builder. builder ≡ padded_rows (row_texts rows.items)) }
+        ensures only { IfErr result (λ e. e ≡ Memory) }
+    {
+        pad_all(&mut rows)?;
+        Ok(Builder { rows, room: 0 })
+    }
+
+    /// A builder of the rows that a source gives, the short ones padded.
+    pub fn from_iter<I: IntoRecords>(alloc: Global, rows: I) -> Result<Builder, TableError>
+    where
+        I::Cell: CellText + Drop,
+        requires { I.ends rows }
+        ensures ok { IfOk result (λ builder. (cells : List (List I.Cell)) × I.gives rows cells
+            × (builder ≡ padded_rows (map (map I.Cell.text) cells))) }
+        ensures only { IfErr result (λ e. e ≡ Memory) }
+    {
+        let mut builder = Builder::new(alloc);
+        for row in rows.iter_rows() {
+            builder.add_record(row)?;
+        }
+        Ok(builder)
     }
 
     /// Adds a row. Where memory is refused, the builder is as it was.
@@ -51,7 +92,7 @@ impl Builder {
         ensures rectangular { IsRectangular self.new }
         ensures only { IfErr result (λ e. e ≡ Memory) }
     {
-        let row = collect_row(*self.rows.allocator(), cells)?;
+        let row = collect_row(*self.rows.allocator(), self.room, cells)?;
         push_row(&mut self.rows, row)
     }
 
@@ -82,7 +123,11 @@ impl Builder {
 }
 
 /// The texts of cells, measured.
-fn collect_row<I: IntoIterator>(alloc: Global, cells: I) -> Result<Vec<Text<String>>, TableError>
+fn collect_row<I: IntoIterator>(
+    alloc: Global,
+    room: usize,
+    cells: I,
+) -> Result<Vec<Text<String>>, TableError>
 where
     I::Item: CellText + Drop,
     requires { IsFiniteIterable I.into_iter_gives I.IntoIter.can_next I.IntoIter.remaining cells }
@@ -91,12 +136,37 @@ where
         × (row.items ≡ map I.Item.text items)) }
     ensures only { IfErr result (λ e. e ≡ Memory) }
 {
-    let mut row = Vec::new(alloc);
+    let cells = cells.into_iter();
+    let mut row = Vec::with_capacity(alloc, room)?;
     for cell in cells {
         let text = String::from_str(alloc, cell.text())?;
         row.push(Text::new(text))?;
     }
     Ok(row)
+}
+
+/// Pads the short rows.
+fn pad_all(rows: &mut Vec<Vec<Text<String>>>) -> Result<(), TableError>
+    ensures ok { OnOk result
+        (row_texts rows.new.items ≡ padded_rows (row_texts rows.old.items)) }
+    ensures only { IfErr result (λ e. e ≡ Memory) }
+{
+    let columns = longest_row(rows.as_slice());
+    let all = rows.as_mut_slice();
+    reserve_rows(all, columns)?;
+    pad_rows(all, columns);
+    Ok(())
+}
+
+/// How many cells the longest row has.
+fn longest_row(rows: &[Vec<Text<String>>]) -> usize
+    ensures { result ≡ longest (row_texts rows.now) }
+{
+    let mut columns: usize = 0;
+    for row in rows {
+        columns = columns.max(row.len());
+    }
+    columns
 }
 
 /// Puts a row behind the others, and pads the short ones.

@@ -9,7 +9,7 @@ use crate::text::Text;
 use std::marker::Model;
 
 /// Where the cells of a row stand among all cells.
-#[derive(Clone, Copy)]
+#[derive(Clone, Copy, Debug)]
 pub(crate) struct Span {
     pub start: usize,
     pub count: usize,
@@ -17,7 +17,7 @@ pub(crate) struct Span {
 
 /// Rows of a text. The cells of all rows stand one after another, and a row that is shorter than the
 /// longest is read as if empty cells stood behind it.
-#[derive(Drop)]
+#[derive(Debug, Drop)]
 pub struct LentRows<'a> {
     cells: Vec<Text<&'a str>>,
     rows: Vec<Span>,

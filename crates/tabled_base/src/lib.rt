@@ -4,18 +4,26 @@
 
 mod builder;
 mod error;
+mod into_records;
 mod lent_rows;
+mod objects;
+mod options;
 mod position;
 mod records;
+mod segment;
 mod split;
 mod text;
 mod vec_records;
 
 pub use builder::Builder;
 pub use error::TableError;
+pub use into_records::IntoRecords;
 pub use lent_rows::LentRows;
+pub use objects::{Cell, Columns, Object, Rows};
+pub use options::{CellOption, TableOption};
 pub use position::{Entity, Position};
-pub use records::{CellText, ExactRecords, PeekableRecords};
+pub use records::{CellText, ExactRecords, PeekableRecords, Records, RecordsMut};
+pub use segment::Segment;
 pub use split::text_rows;
 pub use text::Text;
 pub use vec_records::VecRecords;

@@ -1,9 +1,13 @@
 //! What records of cells offer.
-ghost use Rattle.std.specs.Prelude.{◌≡◌, ℕ, List, length, string_bytes};
-ghost use Rattle.tabled_base.specs.Cells.{IsInside, IsRectangular, cell_at, columns};
+ghost use Rattle.std.specs.Prelude.{◌≡◌, ℕ, List, IfErr, OnErr, OnOk, length, string_bytes};
+ghost use Rattle.tabled_base.specs.Cells.{IsInside, IsRectangular, cell_at, columns, with_cell};
+ghost use Rattle.tabled_base.specs.declared.error.TableError.TheVariants.{Memory};
 ghost use Rattle.tabled_text.specs.Measure.{lines_of, text_columns};
 
+use crate::error::TableError;
+use crate::into_records::IntoRecords;
 use crate::position::Position;
+use std::alloc::Global;
 use tabled_text::{count_lines, text_width};
 
 /// What holds the text of a cell.
@@ -46,6 +50,40 @@ impl CellText for String {
     }
 }
 
+impl<T: CellText> CellText for &T {
+    ghost text = { λ s. T.text s.now };
+
+    fn text(&self) -> &str {
+        T::text(self)
+    }
+
+    fn width(&self) -> usize {
+        T::width(self)
+    }
+
+    fn count_lines(&self) -> usize {
+        T::count_lines(self)
+    }
+}
+
+/// What gives its rows; it need not know how many there are, nor be rectangular.
+pub trait Records {
+    /// What gives the rows.
+    type Iter: IntoRecords;
+
+    // Holds of records whose rows, and the cells of each, may be asked for and end.
+    ghost ends: { Self → Type 0 };
+
+    // Holds of records and the cells, row by row, that may come of them.
+    ghost gives: { Self → List (List Self.Iter.Cell) → Type 0 };
+
+    /// What gives the rows.
+    fn iter_rows(self) -> Self::Iter
+        ensures ends { ends self → Self.Iter.ends result }
+        ensures gives { (cells : List (List Self.Iter.Cell)) → Self.Iter.gives result cells
+            → gives self cells };
+}
+
 /// Rows of equal length that are counted.
 pub trait ExactRecords {
     // The texts of the cells, row by row.
@@ -77,4 +115,18 @@ pub trait PeekableRecords: ExactRecords {
     fn count_lines(&self, at: Position) -> usize
         requires { IsInside (Self.cells self.now) at.row at.column }
         ensures { result ≡ length (lines_of (cell_at (Self.cells self.now) at.row at.column)) };
+}
+
+/// Cells that can be changed.
+pub trait RecordsMut: PeekableRecords {
+    /// Gives a cell another text. The other cells stay, and all do where memory is refused.
+    fn set(&mut self, at: Position, text: String) -> Result<(), TableError>
+        requires { IsInside (Self.cells self.old) at.row at.column }
+        ensures ok { OnOk result (Self.cells self.new
+            ≡ with_cell (Self.cells self.old) at.row at.column (string_bytes text)) }
+        ensures err { OnErr result (Self.cells self.new ≡ Self.cells self.old) }
+        ensures only { IfErr result (λ e. e ≡ Memory) };
+
+    /// What the records grow by.
+    fn allocator(&self) -> Global;
 }

@@ -1,14 +1,16 @@
 //! A text with its measures.
-ghost use Rattle.std.specs.Prelude.{◌≡◌, ℕ, List, length};
+ghost use Rattle.std.specs.Prelude.{◌≡◌, ℕ, List, length, IfErr, IfOk};
+ghost use Rattle.tabled_base.specs.declared.error.TableError.TheVariants.{Memory};
 ghost use Rattle.tabled_text.specs.Measure.{lines_of, text_columns};
 
+use crate::error::TableError;
 use crate::records::CellText;
 use std::convert::AsStr;
 use std::marker::Model;
 use tabled_text::text_measures;
 
 /// A text whose columns and lines were counted once. `Text<String>` owns it, `Text<&str>` lends it.
-#[derive(Drop)]
+#[derive(Debug, Drop)]
 pub struct Text<S: AsStr> {
     text: S,
     columns: usize,
@@ -52,4 +54,43 @@ impl<S: AsStr> CellText for Text<S> {
     fn count_lines(&self) -> usize {
         self.lines
     }
+}
+
+impl Text<String> {
+    /// The same text, in memory of its own.
+    pub fn clone(&self) -> Result<Text<String>, TableError>
+        ensures ok { IfOk result (λ copy. copy ≡ self.now) }
+        ensures only { IfErr result (λ e. e ≡ Memory) }
+    {
+        let Text {
+            text,
+            columns,
+            lines,
+        } = self;
+        Ok(Text {
+            text: text.clone()?,
+            columns: *columns,
+            lines: *lines,
+        })
+    }
+}
+
+impl<S: AsStr> PartialEq for Text<S> {
+    ghost use Rattle.std.specs.Prelude.{nat_eq};
+    ghost use Rattle.std.specs.Cmp.{partial_equiv_from_equiv};
+    ghost use Rattle.std.specs.Cmp.Lexicographic.{nat_list_eq_equiv, pointwise};
+
+    ghost eq = { pointwise nat_eq };
+
+    ghost laws = { partial_equiv_from_equiv nat_list_eq_equiv };
+
+    fn eq(&self, other: &Text<S>) -> bool {
+        self.text() == other.text()
+    }
+}
+
+impl<S: AsStr> Eq for Text<S> {
+    ghost use Rattle.std.specs.Cmp.Lexicographic.{nat_list_eq_equiv};
+
+    ghost laws = { nat_list_eq_equiv };
 }

@@ -1,14 +1,17 @@
 //! Records in vectors.
-ghost use Rattle.std.specs.Prelude.{◌≡◌, ℕ, List};
-ghost use Rattle.tabled_base.specs.Cells.{IsRectangular, columns, texts_of};
+ghost use Rattle.std.specs.Prelude.{◌≡◌, ℕ, List, IfErr, IfOk, map, ⊤};
+ghost use Rattle.tabled_base.specs.Cells.{IsRectangular, columns, row_texts, texts_of};
+ghost use Rattle.tabled_base.specs.declared.error.TableError.TheVariants.{Memory};
 
+use crate::error::TableError;
 use crate::position::Position;
-use crate::records::{CellText, ExactRecords, PeekableRecords};
+use crate::records::{CellText, ExactRecords, PeekableRecords, Records, RecordsMut};
+use crate::text::Text;
 use std::alloc::Global;
 use std::marker::Model;
 
 /// Rows of equal length.
-#[derive(Drop)]
+#[derive(Debug, Drop)]
 pub struct VecRecords<T: CellText> {
     rows: Vec<Vec<T>>,
 }
@@ -33,6 +36,51 @@ impl<T: CellText> VecRecords<T> {
     /// What the records grow by.
     pub fn allocator(&self) -> Global {
         *self.rows.allocator()
+    }
+}
+
+impl VecRecords<Text<String>> {
+    /// The same records, in memory of their own.
+    pub fn clone(&self) -> Result<VecRecords<Text<String>>, TableError>
+        ensures ok { IfOk result (λ copy. copy ≡ self.now) }
+        ensures only { IfErr result (λ e. e ≡ Memory) }
+    {
+        Ok(VecRecords {
+            rows: clone_rows(self.allocator(), self.rows.as_slice())?,
+        })
+    }
+}
+
+impl PartialEq for VecRecords<Text<String>> {
+    ghost use Rattle.std.specs.Prelude.{nat_eq};
+    ghost use Rattle.std.specs.Cmp.{partial_equiv_from_equiv};
+    ghost use Rattle.std.specs.Cmp.Lexicographic.{lists_equiv, nat_list_eq_equiv, pointwise};
+
+    ghost eq = { pointwise (pointwise (pointwise nat_eq)) };
+
+    ghost laws = { partial_equiv_from_equiv (lists_equiv (lists_equiv nat_list_eq_equiv)) };
+
+    fn eq(&self, other: &VecRecords<Text<String>>) -> bool {
+        self.rows == other.rows
+    }
+}
+
+impl Eq for VecRecords<Text<String>> {
+    ghost use Rattle.std.specs.Cmp.Lexicographic.{lists_equiv, nat_list_eq_equiv};
+
+    ghost laws = { lists_equiv (lists_equiv nat_list_eq_equiv) };
+}
+
+/// Lent records give their rows; the texts of the cells are those of the records.
+impl<'a, T: CellText> Records for &'a VecRecords<T> {
+    type Iter = &'a [Vec<T>];
+
+    ghost ends = { λ _. ⊤ };
+
+    ghost gives = { λ records cells. map (map (λ cell. T.text cell.now)) cells ≡ records.now };
+
+    fn iter_rows(self) -> &'a [Vec<T>] {
+        self.rows.as_slice()
     }
 }
 
@@ -65,6 +113,18 @@ impl<T: CellText> PeekableRecords for VecRecords<T> {
     }
 }
 
+impl RecordsMut for VecRecords<Text<String>> {
+    fn set(&mut self, at: Position, text: String) -> Result<(), TableError> {
+        let row = &mut self.rows[at.row];
+        row[at.column] = Text::new(text);
+        Ok(())
+    }
+
+    fn allocator(&self) -> Global {
+        *self.rows.allocator()
+    }
+}
+
 /// How many cells the first row has, 0 where there is no row.
 pub(crate) fn first_length<T: CellText>(rows: &[Vec<T>]) -> usize
     ensures { result ≡ columns (texts_of T.text rows.now) }
@@ -73,4 +133,31 @@ pub(crate) fn first_length<T: CellText>(rows: &[Vec<T>]) -> usize
         None => 0,
         Some(row) => row.len(),
     }
+}
+
+/// The rows, in memory of their own.
+fn clone_rows(
+    alloc: Global,
+    rows: &[Vec<Text<String>>],
+) -> Result<Vec<Vec<Text<String>>>, TableError>
+    ensures ok { IfOk result (λ copy. row_texts copy.items ≡ row_texts rows.now) }
+    ensures only { IfErr result (λ e. e ≡ Memory) }
+{
+    let mut copy = Vec::with_capacity(alloc, rows.len())?;
+    for row in rows {
+        copy.push(clone_row(alloc, row.as_slice())?)?;
+    }
+    Ok(copy)
+}
+
+/// The cells of a row, in memory of their own.
+fn clone_row(alloc: Global, row: &[Text<String>]) -> Result<Vec<Text<String>>, TableError>
+    ensures ok { IfOk result (λ copy. copy.items ≡ row.now) }
+    ensures only { IfErr result (λ e. e ≡ Memory) }
+{
+    let mut copy = Vec::with_capacity(alloc, row.len())?;
+    for cell in row {
+        copy.push(cell.clone()?)?;
+    }
+    Ok(copy)
 }

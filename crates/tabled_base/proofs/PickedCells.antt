@@ -1,0 +1,28 @@
+-- Cells that are picked one after another.
+use Rattle.std.proofs.Common.{◌≡◌, ℕ, ◌+◌, ◌-◌, ◌≤◌, List, [], ◌∷◌, ◌++◌, map, sym, ap, ◌∙◌, arith, append-nil}
+use Rattle.std.proofs.lemmas.List.{map-id}
+use Rattle.std.proofs.lemmas.List.Concat.{flat_map-append}
+use Rattle.std.proofs.lemmas.List.FromFn.{map-range_with_len_more}
+use Rattle.std.specs.List.{range_with_len}
+use Rattle.tabled_base.specs.Picks.{between, block}
+use Rattle.tabled_base.specs.declared.position.Entity.{Entity}
+use Rattle.tabled_base.specs.declared.position.Entity.TheVariants.{Cell}
+
+-- a further number
+pub map-between_more : {A : Type 0} (f : ℕ → A) (from to : ℕ) → from ≤ to → map f (between from (to + 1)) ≡ map f (between from to) ++ f to ∷ []
+map-between_more f from to h =
+    let next : to + 1 - from ≡ to - from + 1 = omega arith in
+    ap (λ n. map f (range_with_len from n)) next ∙ map-range_with_len_more f from (to - from) to (omega arith)
+
+-- a further row
+pub block-more : (from to : ℕ) (columns : List ℕ) → from ≤ to → block (between from (to + 1)) columns ≡ block (between from to) columns ++ map (Cell to) columns
+block-more from to columns h =
+    let row : ℕ → List Entity = λ r. map (Cell r) columns in
+    ap (λ rows. block rows columns)
+    (sym (map-id (between from (to + 1))) ∙ map-between_more (λ x. x) from to h ∙ ap (λ l. l ++ to ∷ []) (map-id (between from to)))
+    ∙ flat_map-append row (between from to) (to ∷ [])
+    ∙ ap (λ l. block (between from to) columns ++ l) (append-nil (row to))
+
+-- a walk that has come to its end
+pub between-end : (from to end : ℕ) → to - from ≡ end - from → between from to ≡ between from end
+between-end from to end e = ap (range_with_len from) e

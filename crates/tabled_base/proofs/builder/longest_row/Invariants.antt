@@ -1,0 +1,6 @@
+use Rattle.std.proofs.Common.{◌≡◌, max, drop}
+use Rattle.tabled_base.specs.Cells.{longest, row_texts}
+use Rattle.tabled_base.proofs.builder.longest_row.Given as goal
+
+abbrev pub invariant-loop-row : goal.invariant-loop-row
+invariant-loop-row l = max l.columns (longest (row_texts (drop l.row-index l.rows))) ≡ longest (row_texts l.rows)

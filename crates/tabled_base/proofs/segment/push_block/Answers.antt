@@ -1,0 +1,26 @@
+use Rattle.std.proofs.Common.{◌++◌, map, sym, ap, ◌∙◌, arith, append_assoc}
+use Rattle.tabled_base.specs.Picks.{between, block}
+use Rattle.tabled_base.specs.declared.position.Entity.TheVariants.{Cell}
+use Rattle.tabled_base.proofs.PickedCells.{between-end, block-more}
+use Rattle.tabled_base.proofs.segment.push_block.Goals as goal
+
+pub loop-row-preserved : goal.loop-row-preserved
+loop-row-preserved c =
+    let old = c.args.all.now.items in
+    let from = c.args.rows.0 in
+    let to = c.loop-row.row in
+    let columns = between c.args.columns.0 c.args.columns.1 in
+    record {
+      items =
+          c.in_ok-push_row.ensures.ok ∙ ap (λ l. l ++ map (Cell to) columns) c.loop-row.invariant.items
+          ∙ append_assoc old (block (between from to) columns) (map (Cell to) columns)
+          ∙ ap (λ l. old ++ l) (sym (block-more from to columns (omega arith)));
+      reached = omega arith;
+    }
+
+pub returns-clause-ok : goal.returns-clause-ok
+returns-clause-ok c =
+    let old = c.args.all.now.items in
+    let from = c.args.rows.0 in
+    let columns = between c.args.columns.0 c.args.columns.1 in
+    c.loop-row.invariant.items ∙ ap (λ l. old ++ block l columns) (between-end from c.loop-row.row c.args.rows.1 (omega arith))

@@ -1,0 +1,43 @@
+-- The parts that a selection names, of so many rows and columns.
+use Rattle.std.specs.Prelude.{ℕ, ◌-◌, ◌&&◌, nat_lt, List, [], ◌∷◌, map, min, if◌then◌else◌, Option, Some, None}
+use Rattle.std.specs.List.{flat_map, range_with_len}
+use Rattle.std.specs.Option.{unwrap_or}
+use Rattle.std.specs.Range.Bound.{end_index, start_index}
+use Rattle.std.specs.declared.ops.Bound.{Bound}
+use Rattle.tabled_base.specs.declared.objects.Place.{Place}
+use Rattle.tabled_base.specs.declared.objects.Place.TheVariants.{At, Last}
+use Rattle.tabled_base.specs.declared.position.Entity.{Entity}
+use Rattle.tabled_base.specs.declared.position.Entity.TheVariants.{Cell, Global}
+use Rattle.tabled_base.specs.declared.segment.Block.{Block}
+use Rattle.tabled_base.specs.declared.segment.Stretch.{Stretch}
+
+-- the one of so many rows or columns that is named, if it is there
+abbrev pub picked : Place → ℕ → List ℕ
+picked (At index) count = if nat_lt index count then index ∷ [] else []
+picked Last count = if nat_lt 0 count then (count - 1) ∷ [] else []
+
+-- a cell, if it is there
+abbrev pub picked_cell : ℕ → ℕ → ℕ → ℕ → List Entity
+picked_cell row column rows columns =
+    if nat_lt row rows && nat_lt column columns then Cell row column ∷ [] else []
+
+-- the numbers from one on and before another
+abbrev pub between : ℕ → ℕ → List ℕ
+between from to = range_with_len from (to - from)
+
+-- those of a range that are below a count
+abbrev pub within : Bound ℕ → Bound ℕ → ℕ → List ℕ
+within start end count = between (start_index start) (min (end_index end count) count)
+
+-- the same, of a range that is kept
+abbrev pub stretch : Stretch → ℕ → List ℕ
+stretch kept count = between kept.start (min (unwrap_or kept.end count) count)
+
+-- a cell for each row and each column, row by row
+abbrev pub block : List ℕ → List ℕ → List Entity
+block rows columns = flat_map (λ row. map (Cell row) columns) rows
+
+-- the whole, or the cells of a block
+abbrev pub segment : Option Block → ℕ → ℕ → List Entity
+segment None rows columns = Global ∷ []
+segment (Some kept) rows columns = block (stretch kept.rows rows) (stretch kept.columns columns)

@@ -1,0 +1,54 @@
+//! Sources of rows that are walked once.
+ghost use Rattle.std.specs.Prelude.{List};
+ghost use Rattle.tabled_base.specs.RowsGiven.{RowsEnd, RowsGiven};
+
+/// What gives rows of cells, one after another: vectors, slices and arrays of rows, owned or lent,
+/// and every iterator of rows.
+pub trait IntoRecords {
+    /// A cell.
+    type Cell;
+
+    /// The cells of a row.
+    type IterColumns: IntoIterator<Item = Self::Cell>;
+
+    /// The rows.
+    type IterRows: IntoIterator<Item = Self::IterColumns>;
+
+    // Holds of a source whose rows, and the cells of each, may be asked for and end.
+    ghost ends: { Self → Type 0 };
+
+    // Holds of a source and the cells, row by row, that may come of it.
+    ghost gives: { Self → List (List Self.Cell) → Type 0 };
+
+    /// The rows, from the first.
+    fn iter_rows(self) -> Self::IterRows
+        ensures ends { ends self → RowsEnd Self.IterRows.into_iter_gives
+            Self.IterRows.IntoIter.can_next Self.IterRows.IntoIter.next_gives
+            Self.IterRows.IntoIter.remaining Self.IterColumns.into_iter_gives
+            Self.IterColumns.IntoIter.can_next Self.IterColumns.IntoIter.remaining result }
+        ensures gives { (cells : List (List Self.Cell)) → RowsGiven Self.IterRows.into_iter_gives
+            Self.IterRows.IntoIter.next_gives Self.IterColumns.into_iter_gives
+            Self.IterColumns.IntoIter.next_gives result cells → gives self cells };
+}
+
+impl<I: IntoIterator> IntoRecords for I
+where
+    I::Item: IntoIterator,
+{
+    type Cell = <I::Item as IntoIterator>::Item;
+
+    type IterColumns = I::Item;
+
+    type IterRows = I;
+
+    ghost ends = { RowsEnd I.into_iter_gives I.IntoIter.can_next I.IntoIter.next_gives
+        I.IntoIter.remaining I.Item.into_iter_gives I.Item.IntoIter.can_next
+        I.Item.IntoIter.remaining };
+
+    ghost gives = { RowsGiven I.into_iter_gives I.IntoIter.next_gives I.Item.into_iter_gives
+        I.Item.IntoIter.next_gives };
+
+    fn iter_rows(self) -> I {
+        self
+    }
+}

@@ -1,0 +1,177 @@
+//! Selections of rows, columns and cells.
+ghost use Rattle.std.specs.Prelude.{◌≡◌, ℕ, IfErr, IfOk, List, length, map};
+ghost use Rattle.std.specs.Option.{option_to_list};
+ghost use Rattle.tabled_base.specs.Cells.{columns};
+ghost use Rattle.tabled_base.specs.Picks.{picked};
+ghost use Rattle.tabled_base.specs.declared.error.TableError.TheVariants.{Memory};
+ghost use Rattle.tabled_base.specs.declared.position.Entity.{Entity};
+
+use crate::error::TableError;
+use crate::position::Entity;
+use crate::records::ExactRecords;
+use std::alloc::Global;
+
+/// What names parts of records.
+pub trait Object<R: ExactRecords> {
+    // The parts, in order, of so many rows and columns.
+    ghost picks: { Self → ℕ → ℕ → List Entity };
+
+    /// The parts, in order; none of them lies outside of the records.
+    fn cells(&self, alloc: Global, records: &R) -> Result<Vec<Entity>, TableError>
+        ensures picked { IfOk result (λ all. all.items
+            ≡ picks self.now (length (R.cells records.now)) (columns (R.cells records.now))) }
+        ensures only { IfErr result (λ e. e ≡ Memory) };
+}
+
+/// One of some rows or columns.
+#[derive(Clone, Copy, Debug)]
+pub(crate) enum Place {
+    /// By its index.
+    At(usize),
+    /// The last.
+    Last,
+}
+
+/// One row.
+#[derive(Debug, Drop)]
+pub struct Rows {
+    place: Place,
+}
+
+impl Rows {
+    ghost use Rattle.tabled_base.specs.declared.objects.Place.TheVariants.{At, Last};
+
+    /// The row at an index, from the top.
+    pub fn one(index: usize) -> Rows
+        ensures { result.place ≡ At index }
+    {
+        let place = Place::At(index);
+        Rows { place }
+    }
+
+    /// The first row.
+    pub fn first() -> Rows
+        ensures { result.place ≡ At 0 }
+    {
+        Rows::one(0)
+    }
+
+    /// The last row.
+    pub fn last() -> Rows
+        ensures { result.place ≡ Last }
+    {
+        Rows { place: Place::Last }
+    }
+}
+
+impl<R: ExactRecords> Object<R> for Rows {
+    ghost use Rattle.tabled_base.specs.declared.position.Entity.TheVariants.{Row};
+
+    ghost picks = { λ s rows columns. map Row (picked s.place rows) };
+
+    fn cells(&self, alloc: Global, records: &R) -> Result<Vec<Entity>, TableError> {
+        let mut all = Vec::new(alloc);
+        if let Some(row) = find(self.place, records.count_rows()) {
+            all.push(Entity::Row(row))?;
+        }
+        Ok(all)
+    }
+}
+
+/// One column.
+#[derive(Debug, Drop)]
+pub struct Columns {
+    place: Place,
+}
+
+impl Columns {
+    ghost use Rattle.tabled_base.specs.declared.objects.Place.TheVariants.{At, Last};
+
+    /// The column at an index, from the left.
+    pub fn one(index: usize) -> Columns
+        ensures { result.place ≡ At index }
+    {
+        let place = Place::At(index);
+        Columns { place }
+    }
+
+    /// The first column.
+    pub fn first() -> Columns
+        ensures { result.place ≡ At 0 }
+    {
+        Columns::one(0)
+    }
+
+    /// The last column.
+    pub fn last() -> Columns
+        ensures { result.place ≡ Last }
+    {
+        Columns { place: Place::Last }
+    }
+}
+
+impl<R: ExactRecords> Object<R> for Columns {
+    ghost use Rattle.tabled_base.specs.declared.position.Entity.TheVariants.{Column};
+
+    ghost picks = { λ s rows columns. map Column (picked s.place columns) };
+
+    fn cells(&self, alloc: Global, records: &R) -> Result<Vec<Entity>, TableError> {
+        let mut all = Vec::new(alloc);
+        if let Some(column) = find(self.place, records.count_columns()) {
+            all.push(Entity::Column(column))?;
+        }
+        Ok(all)
+    }
+}
+
+/// One cell.
+#[derive(Debug, Drop)]
+pub struct Cell {
+    row: usize,
+    column: usize,
+}
+
+impl Cell {
+    /// The cell in a row and a column, both from 0.
+    pub fn new(row: usize, column: usize) -> Cell
+        ensures { result ≡ record { row = row; column = column } }
+    {
+        Cell { row, column }
+    }
+}
+
+impl<R: ExactRecords> Object<R> for Cell {
+    ghost use Rattle.tabled_base.specs.Picks.{picked_cell};
+
+    ghost picks = { λ s rows columns. picked_cell s.row s.column rows columns };
+
+    fn cells(&self, alloc: Global, records: &R) -> Result<Vec<Entity>, TableError> {
+        let mut all = Vec::new(alloc);
+        if self.row < records.count_rows() && self.column < records.count_columns() {
+            all.push(Entity::Cell(self.row, self.column))?;
+        }
+        Ok(all)
+    }
+}
+
+/// The cell in a row and a column.
+impl<R: ExactRecords> Object<R> for (usize, usize) {
+    ghost use Rattle.tabled_base.specs.Picks.{picked_cell};
+
+    ghost picks = { λ s rows columns. picked_cell s.0 s.1 rows columns };
+
+    fn cells(&self, alloc: Global, records: &R) -> Result<Vec<Entity>, TableError> {
+        Cell::new(self.0, self.1).cells(alloc, records)
+    }
+}
+
+/// The index of a row or column, where it is there.
+fn find(place: Place, count: usize) -> Option<usize>
+    ensures { option_to_list result ≡ picked place count }
+{
+    match place {
+        Place::At(index) if index < count => Some(index),
+        Place::Last if count > 0 => Some(count - 1),
+        _ => None,
+    }
+}

@@ -1,0 +1,128 @@
+//! Selections of many cells, or of all.
+ghost use Rattle.std.specs.Prelude.{◌≡◌, ◌++◌, ◌<◌, ◌^◌, ℕ, IfErr, None, OnOk, map};
+ghost use Rattle.tabled_base.specs.Picks.{between, block, segment, stretch, within};
+ghost use Rattle.tabled_base.specs.declared.error.TableError.TheVariants.{Memory};
+ghost use Rattle.tabled_base.specs.declared.position.Entity.TheVariants.{Cell, Global};
+
+use crate::error::TableError;
+use crate::objects::Object;
+use crate::position::Entity;
+use crate::records::ExactRecords;
+use std::alloc::Global;
+use std::ops::{Bound, RangeBounds};
+
+/// Rows or columns from one on, before another if there is one.
+#[derive(Clone, Copy, Debug)]
+pub(crate) struct Stretch {
+    pub start: usize,
+    pub end: Option<usize>,
+}
+
+/// The rows and columns of some cells.
+#[derive(Clone, Copy, Debug)]
+pub(crate) struct Block {
+    pub rows: Stretch,
+    pub columns: Stretch,
+}
+
+/// The whole of a table, or cells of it.
+#[derive(Debug, Drop)]
+pub struct Segment {
+    // Nothing for the whole.
+    block: Option<Block>,
+}
+
+impl Segment {
+    /// The whole table, as one part.
+    pub fn all() -> Segment
+        ensures { result.block ≡ None }
+    {
+        Segment { block: None }
+    }
+
+    /// The cells in the rows and columns of two ranges, each a part of its own, row by row.
+    pub fn new<R: RangeBounds<usize>, C: RangeBounds<usize>>(rows: R, columns: C) -> Segment
+        ensures { R.has_bounds rows → C.has_bounds columns → (m n : ℕ) → m < 2 ^ 64 → n < 2 ^ 64
+            → segment result.block m n ≡ block (within (R.start_bound rows) (R.end_bound rows) m)
+            (within (C.start_bound columns) (C.end_bound columns) n) }
+    {
+        Segment {
+            block: Some(Block {
+                rows: Stretch::new(&rows),
+                columns: Stretch::new(&columns),
+            }),
+        }
+    }
+}
+
+impl Stretch {
+    /// The ends of a range.
+    fn new<R: RangeBounds<usize>>(range: &R) -> Stretch
+        ensures { R.has_bounds range.now → (count : ℕ) → count < 2 ^ 64
+            → stretch result count ≡ within (R.start_bound range.now) (R.end_bound range.now) count }
+    {
+        let start = match range.start_bound() {
+            Bound::Included(start) => *start,
+            Bound::Excluded(before) => before.saturating_add(1),
+            Bound::Unbounded => 0,
+        };
+        let end = match range.end_bound() {
+            Bound::Included(last) => Some(last.saturating_add(1)),
+            Bound::Excluded(end) => Some(*end),
+            Bound::Unbounded => None,
+        };
+        Stretch { start, end }
+    }
+
+    /// Its ends among so many rows or columns.
+    fn ends(self, count: usize) -> (usize, usize)
+        ensures { between result.0 result.1 ≡ stretch self count }
+    {
+        (self.start, self.end.unwrap_or(count).min(count))
+    }
+}
+
+impl<R: ExactRecords> Object<R> for Segment {
+    ghost picks = { λ s rows columns. segment s.block rows columns };
+
+    fn cells(&self, alloc: Global, records: &R) -> Result<Vec<Entity>, TableError> {
+        let mut all = Vec::new(alloc);
+        match self.block {
+            None => all.push(Entity::Global)?,
+            Some(block) => {
+                let rows = block.rows.ends(records.count_rows());
+                let columns = block.columns.ends(records.count_columns());
+                push_block(&mut all, rows, columns)?;
+            }
+        }
+        Ok(all)
+    }
+}
+
+/// Adds the cells between two rows and two columns, row by row.
+fn push_block(
+    all: &mut Vec<Entity>,
+    rows: (usize, usize),
+    columns: (usize, usize),
+) -> Result<(), TableError>
+    ensures ok { OnOk result (all.new.items
+        ≡ all.old.items ++ block (between rows.0 rows.1) (between columns.0 columns.1)) }
+    ensures only { IfErr result (λ e. e ≡ Memory) }
+{
+    for row in rows.0..rows.1 {
+        push_row(all, row, columns)?;
+    }
+    Ok(())
+}
+
+/// Adds the cells of a row between two columns.
+fn push_row(all: &mut Vec<Entity>, row: usize, columns: (usize, usize)) -> Result<(), TableError>
+    ensures ok { OnOk result
+        (all.new.items ≡ all.old.items ++ map (Cell row) (between columns.0 columns.1)) }
+    ensures only { IfErr result (λ e. e ≡ Memory) }
+{
+    for column in columns.0..columns.1 {
+        all.push(Entity::Cell(row, column))?;
+    }
+    Ok(())
+}
