@@ -9,6 +9,7 @@ ghost use Rattle.tabled_base.specs.Given.{Given};
 ghost use Rattle.tabled_base.specs.declared.error.TableError.TheVariants.{Memory, Range, Writer};
 ghost use Rattle.tabled_size.specs.Sheet.{is_empty};
 ghost use Rattle.tabled_size.specs.StandingTotals.{AnswersHeight, AnswersWidth};
+ghost use Rattle.tabled_size.specs.Stored.{heights_of, widths_of};
 ghost use Rattle.tabled_size.specs.Totals.{total_height, total_width};
 ghost use Rattle.tabled_grid.specs.Holds.{Holds};
 ghost use Rattle.tabled_grid.specs.Picture.{picture, table_text};
@@ -28,8 +29,8 @@ use tabled_grid::{TextSink, print_standing};
 use tabled_size::{CompleteDimension, is_empty, total_height, total_width};
 
 /// Rows of texts, how they are set, and the sizes that are stored. What isn't stored is estimated when it
-/// is needed.
-#[derive(Drop)]
+/// is needed. Two tables are equal where their texts, settings and stored sizes are.
+#[derive(Debug, Drop, PartialEq, Eq)]
 pub struct Table {
     records: VecRecords<Text<String>>,
     config: ColoredConfig,
@@ -74,6 +75,21 @@ impl Table {
     {
         let records = value_records(alloc, iter)?;
         Ok(Table::of_records(records))
+    }
+
+    /// The same table. Refused only for memory.
+    pub fn clone(&self) -> Result<Table, TableError>
+        ensures records { IfOk result (λ table. table.records ≡ self.now.records) }
+        ensures config { IfOk result (λ table. table.config ≡ self.now.config) }
+        ensures widths { IfOk result (λ table. widths_of table.dimension ≡ widths_of self.now.dimension) }
+        ensures heights { IfOk result (λ table. heights_of table.dimension ≡ heights_of self.now.dimension) }
+        ensures only { IfErr result (λ e. e ≡ Memory) }
+    {
+        Ok(Table {
+            records: self.records.clone()?,
+            config: self.config.clone()?,
+            dimension: self.dimension.clone()?,
+        })
     }
 
     /// The settings.

@@ -1,6 +1,6 @@
 //! Tables as they are made.
 
-use crate::tests::drawing::{PAIRS, totals};
+use crate::tests::drawing::{PAIRS, table_of, totals};
 use crate::{Table, Tabled, new_config};
 use std::test::Fail;
 use tabled_base::Builder;
@@ -86,5 +86,15 @@ fn values_tell_their_names(rt: HostRuntime) -> Result<(), Fail> {
     for name in names {
         assert_eq!(rt; name.as_str(), "&str");
     }
+    Ok(())
+}
+
+#[test]
+fn a_copy_is_equal_and_another_table_is_not(rt: HostRuntime) -> Result<(), Fail> {
+    let table = table_of(rt.alloc(), PAIRS, new_config(rt.alloc()))?;
+    let copy = table.clone()?;
+    assert!(rt; copy == table);
+    let other = Table::empty(rt.alloc());
+    assert!(rt; other != table);
     Ok(())
 }
