@@ -25,7 +25,13 @@ pub mod builder {
 
 /// What a table can be set by.
 pub mod settings {
+    pub use tabled_base::{CellOption, TableOption};
     pub use tabled_config::Style;
+
+    /// Parts of a table that are chosen.
+    pub mod object {
+        pub use tabled_base::{Cell, Columns, Object, Rows, Segment};
+    }
 
     /// Frames, and the lines that they are made of.
     pub mod style {
@@ -68,7 +74,8 @@ pub mod grid {
     /// Records and their texts.
     pub mod records {
         pub use tabled_base::{
-            CellText, ExactRecords, LentRows, PeekableRecords, Text, VecRecords,
+            CellText, ExactRecords, IntoRecords, LentRows, PeekableRecords, Records, RecordsMut,
+            Text, VecRecords,
         };
     }
 
