@@ -6,6 +6,7 @@ pub mod Fills
 pub mod Leading
 pub mod Marking
 pub mod Measuring
+mod PlainTests
 pub mod Printing
 pub mod Rules
 pub mod Sending

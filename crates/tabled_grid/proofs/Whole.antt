@@ -1,5 +1,5 @@
 -- The columns and the lines of a whole picture.
-use Rattle.std.proofs.Common.{◌≡◌, ℕ, zero, suc, ◌+◌, ◌<◌, Bool, true, false, cond, List, [], ◌∷◌, ◌++◌, Option, Some, None, length, map, replicate, is_some, refl, sym, ◌∙◌, ap, subst, arith, length-append}
+use Rattle.std.proofs.Common.{◌≡◌, ℕ, zero, suc, ◌+◌, ◌<◌, ◌≤◌, Bool, true, false, cond, List, [], ◌∷◌, ◌++◌, Option, Some, None, length, map, replicate, is_some, refl, sym, ◌∙◌, ap, subst, arith, length-append}
 use Rattle.std.specs.List.{flat_map, range_with_len, slice_index}
 use Rattle.std.proofs.lemmas.List.{length-replicate}
 use Rattle.std.proofs.lemmas.List.FromFn.{length-map-range_with_len}
@@ -50,19 +50,19 @@ each-takes n [] h k d l = absurd (omega arith)
 each-takes n (x ∷ xs) h zero d l = h.0.columns
 each-takes n (x ∷ xs) h (suc k) d l = each-takes n xs h.1 k d (omega arith)
 
-each-rule_if : (t : Sheet) (o : Option HorizontalLine) (i : ℕ) → IsPlainSheet t → rule_at t.config (length t.cells) i ≡ o → EachPlain (filled_width t.config (columns t.cells) t.widths) (rule_if t o)
-each-rule_if t None i p e = tt
-each-rule_if t (Some l) i p e = (plain-rule_line t l p (p.config.rules i l e), tt)
+each-rule_if : (t : Sheet) (o : Option HorizontalLine) (i : ℕ) → IsPlainSheet t → i ≤ length t.cells → rule_at t.config (length t.cells) i ≡ o → EachPlain (filled_width t.config (columns t.cells) t.widths) (rule_if t o)
+each-rule_if t None i p b e = tt
+each-rule_if t (Some l) i p b e = (plain-rule_line t l p (p.config.rules i b l e), tt)
 
-each-rule : (t : Sheet) (i : ℕ) → IsPlainSheet t → EachPlain (filled_width t.config (columns t.cells) t.widths) (rule t i)
+each-rule : (t : Sheet) (i : ℕ) → IsPlainSheet t → i ≤ length t.cells → EachPlain (filled_width t.config (columns t.cells) t.widths) (rule t i)
 unfolding rule
-each-rule t i p = each-rule_if t (rule_at t.config (length t.cells) i) i p refl
+each-rule t i p b = each-rule_if t (rule_at t.config (length t.cells) i) i p b refl
 
 each-row : (t : Sheet) (row : ℕ) → IsPlainSheet t → row < length t.cells → EachPlain (filled_width t.config (columns t.cells) t.widths) (row_part t row)
 unfolding row_part row_lines
 each-row t row p l =
     let n = filled_width t.config (columns t.cells) t.widths in
-    each-append n (rule t row) (map (row_line t row) (range_with_len 0 (slice_index t.heights row))) (each-rule t row p)
+    each-append n (rule t row) (map (row_line t row) (range_with_len 0 (slice_index t.heights row))) (each-rule t row p (omega arith))
     (each-mapped n (row_line t row) (slice_index t.heights row) (λ i m. plain-row_line t row i p l m))
 
 each-filled : (t : Sheet) → IsPlainSheet t → EachPlain (filled_width t.config (columns t.cells) t.widths) (filled_picture t (filled_width t.config (columns t.cells) t.widths))
@@ -74,7 +74,7 @@ each-filled t p =
     let rows = length t.cells in
     each-append n (replicate top.size (fill top.fill n)) _ (each-copies n top.size (fill top.fill n) (plain-fill top.fill n p.config.margin_top))
     (each-append n (flat_map (row_part t) (range_with_len 0 rows)) _ (each-flat n (row_part t) rows (λ i l. each-row t i p l))
-    (each-append n (rule t rows) _ (each-rule t rows p) (each-copies n bottom.size (fill bottom.fill n) (plain-fill bottom.fill n p.config.margin_bottom))))
+    (each-append n (rule t rows) _ (each-rule t rows p (omega arith)) (each-copies n bottom.size (fill bottom.fill n) (plain-fill bottom.fill n p.config.margin_bottom))))
 
 either-takes : (b : Bool) (n : ℕ) (ls : List (List ℕ)) → EachLineTakes n ls → EachLineTakes (cond b 0 n) (cond b [] ls)
 either-takes true n ls h k d l = absurd (omega arith)

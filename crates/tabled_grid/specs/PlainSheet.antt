@@ -1,5 +1,5 @@
 -- Tables whose characters take known columns.
-use Rattle.std.specs.Prelude.{◌≡◌, ℕ, ◌<◌, List, Option, Some, unwrap_or}
+use Rattle.std.specs.Prelude.{◌≡◌, ℕ, ◌<◌, ◌≤◌, List, Option, Some, unwrap_or}
 use Rattle.std.specs.List.{All}
 use Rattle.tabled_text.specs.Measure.{line_columns}
 use Rattle.tabled_text.specs.Plain.{IsPlain, IsPlainColumn}
@@ -34,7 +34,7 @@ pub record IsPlainConfig (config : SpannedConfig) (rows count : ℕ) : Type 0 wh
   pub margin_right : IsPlainColumn config.margin.right.fill
   pub margin_top : IsPlainColumn config.margin.top.fill
   pub margin_bottom : IsPlainColumn config.margin.bottom.fill
-  pub rules : (i : ℕ) (line : HorizontalLine) → rule_at config rows i ≡ Some line → IsPlainRule line
+  pub rules : (i : ℕ) → i ≤ rows → (line : HorizontalLine) → rule_at config rows i ≡ Some line → IsPlainRule line
   pub styles : (row column : ℕ) → row < rows → column < count → IsPlainStyle (style_at config row column)
 
 -- the cells are plain texts

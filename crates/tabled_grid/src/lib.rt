@@ -16,6 +16,7 @@ mod marks;
 mod memory;
 mod picture;
 mod pieces;
+mod plain;
 mod print;
 mod room;
 mod rows;
@@ -23,6 +24,7 @@ mod standing;
 mod text_sink;
 
 pub use io_sink::IoSink;
+pub use plain::{is_plain_config, is_plain_records};
 pub use print::print_grid;
 pub use standing::{print_estimated, print_standing};
 pub use text_sink::TextSink;

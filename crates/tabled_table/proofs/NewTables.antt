@@ -68,7 +68,7 @@ new_plain rows count = record {
   margin_right = plain_column-space;
   margin_top = plain_column-space;
   margin_bottom = plain_column-space;
-  rules = rule_plain rows;
+  rules = λ i b. rule_plain rows i;
   styles = λ row column h k. style_plain row column;
 }
 

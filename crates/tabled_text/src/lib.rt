@@ -21,5 +21,5 @@ pub use cut::{cut_str, split_str};
 pub use fullest::is_fullest;
 pub use line::{TextLines, lines, split_line};
 pub use measure::{count_lines, line_width, text_measures, text_width};
-pub use plain::is_plain;
+pub use plain::{is_plain, is_plain_column};
 pub use wrap::wrap_text;

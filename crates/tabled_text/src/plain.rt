@@ -1,7 +1,7 @@
 //! Plain characters, whose columns add up.
 ghost use Rattle.std.specs.Prelude.{◌≡◌, ◌↔◌, IsTrue, chars};
 ghost use Rattle.std.specs.List.{list_all};
-ghost use Rattle.tabled_text.specs.Plain.{is_listed, has_plain_width, is_plain_character, is_plain_or_feed, IsPlain};
+ghost use Rattle.tabled_text.specs.Plain.{is_listed, has_plain_width, is_plain_character, is_plain_or_feed, IsPlain, IsPlainColumn};
 
 use unicode_width::UnicodeWidthChar;
 
@@ -41,4 +41,12 @@ pub fn is_plain(text: &str) -> bool
     ensures { IsTrue result ↔ IsPlain text.now }
 {
     has_plain_chars(text)
+}
+
+/// Whether a character is plain and takes one column. Borders, fills and margins of such characters are
+/// as wide as they are long.
+pub fn is_plain_column(c: char) -> bool
+    ensures { IsTrue result ↔ IsPlainColumn c }
+{
+    is_plain_char(c) && c.width() == Some(1)
 }

@@ -48,3 +48,17 @@ fn other_characters_are_not_plain(rt: HostRuntime) {
         assert!(rt; !is_plain(text), "at {text}");
     }
 }
+
+#[test]
+fn plain_characters_of_one_column(rt: HostRuntime) {
+    for c in ['a', ' ', 'я', '─'] {
+        assert!(rt; is_plain_column(c), "at {c}");
+    }
+}
+
+#[test]
+fn wide_and_other_characters_are_no_plain_columns(rt: HostRuntime) {
+    for c in ['中', 'あ', '\t', '\n'] {
+        assert!(rt; !is_plain_column(c), "at {c:?}");
+    }
+}

@@ -1,0 +1,24 @@
+use Rattle.std.proofs.Common.{◌≡◌, ℕ, ◌<◌, ◌+◌, Some, arith}
+use Rattle.tabled_config.specs.Settings.{rule_at}
+use Rattle.tabled_config.specs.declared.borders.HorizontalLine.{HorizontalLine}
+use Rattle.tabled_grid.specs.PlainSheet.{IsPlainRule}
+use Rattle.tabled_grid.proofs.PlainTests.{below_next, said_no}
+use Rattle.tabled_grid.proofs.plain.are_plain_rules.Goals as goal
+
+pub returns-then-not-is_plain_rule_at : goal.returns-then-not-is_plain_rule_at
+returns-then-not-is_plain_rule_at c =
+    let within = c.lines-test.true in
+    said_no c.is_plain_rule_at.result c.if-not-is_plain_rule_at.true (λ all. c.is_plain_rule_at.ensures.1 (all c.lines.index (omega arith)))
+
+pub lines-preserved : goal.lines-preserved
+lines-preserved c =
+    below_next (λ i. (line : HorizontalLine) → rule_at c.args.config.now c.args.rows i ≡ Some line → IsPlainRule line) c.lines.index c.lines.invariant
+    (c.is_plain_rule_at.ensures.0 c.if-not-is_plain_rule_at.false)
+
+pub returns : goal.returns
+returns c =
+    let done = c.lines-test.false in
+    let P : ℕ → Type 0 = λ i. (line : HorizontalLine) → rule_at c.args.config.now c.args.rows i ≡ Some line → IsPlainRule line in (
+      λ e i l. below_next P c.args.rows (λ k m. c.lines.invariant k (omega arith)) (c.is_plain_rule_at-2.ensures.0 e) i (omega arith),
+      λ all. c.is_plain_rule_at-2.ensures.1 (all c.args.rows (omega arith)),
+    )

@@ -1,0 +1,10 @@
+use Rattle.std.proofs.Common.{ℕ, ◌<◌}
+use Rattle.tabled_config.specs.Settings.{style_at}
+use Rattle.tabled_grid.specs.PlainSheet.{IsPlainStyle}
+use Rattle.tabled_grid.proofs.PlainTests.{below_next}
+use Rattle.tabled_grid.proofs.plain.are_plain_styles.Goals as goal
+
+pub rows-preserved : goal.rows-preserved
+rows-preserved c r k l m =
+    below_next (λ row. (column : ℕ) → column < c.args.columns → IsPlainStyle (style_at c.args.config.now row column)) c.rows.row (λ row within column inside. c.rows.invariant row column within inside)
+    (c.are_plain_styles_in.ensures.0 c.if-not-are_plain_styles_in.false) r l k m

@@ -1,0 +1,10 @@
+use Rattle.std.proofs.Common.{subst}
+use Rattle.tabled_config.specs.Settings.{style_at}
+use Rattle.tabled_grid.specs.PlainSheet.{IsPlainStyle}
+use Rattle.tabled_grid.proofs.PlainTests.{below_next}
+use Rattle.tabled_grid.proofs.plain.are_plain_styles_in.Goals as goal
+
+pub columns-preserved : goal.columns-preserved
+columns-preserved c =
+    below_next (λ k. IsPlainStyle (style_at c.args.config.now c.args.row k)) c.columns.column c.columns.invariant
+    (subst IsPlainStyle c.style_at.ensures (c.is_plain_style.ensures.0 c.if-not-is_plain_style.false))

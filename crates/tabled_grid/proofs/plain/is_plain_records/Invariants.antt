@@ -1,0 +1,7 @@
+use Rattle.std.proofs.Common.{ℕ, ◌<◌, [], slice_index_or}
+use Rattle.std.specs.List.{All}
+use Rattle.tabled_text.specs.Plain.{IsPlain}
+use Rattle.tabled_grid.proofs.plain.is_plain_records.Given as goal
+
+abbrev pub invariant-rows : goal.invariant-rows
+invariant-rows g l = (r : ℕ) → r < l.row → All IsPlain (slice_index_or (g.R.ExactRecords.cells l.records) r [])

@@ -1,0 +1,162 @@
+//! Whether a table is made of plain characters, so that all its lines take the same columns.
+ghost use Rattle.std.specs.Prelude.{◌≡◌, ◌↔◌, ◌<◌, ◌≤◌, ℕ, IsTrue, Some, [], length, slice_index_or};
+ghost use Rattle.std.specs.List.{All};
+ghost use Rattle.tabled_text.specs.Plain.{IsPlain, IsPlainColumn};
+ghost use Rattle.tabled_config.specs.Settings.{rule_at, style_at};
+ghost use Rattle.tabled_config.specs.declared.borders.HorizontalLine.{HorizontalLine};
+ghost use Rattle.tabled_grid.specs.PlainSheet.{ArePlain, IsPlainConfig, IsPlainPiece, IsPlainRule, IsPlainStyle};
+
+use tabled_base::{PeekableRecords, Position};
+use tabled_config::{CellStyle, HorizontalLine, SpannedConfig};
+use tabled_text::{is_plain, is_plain_column};
+
+fn is_plain_piece(piece: Option<char>) -> bool
+    ensures { IsTrue result ↔ IsPlainPiece piece }
+{
+    is_plain_column(piece.unwrap_or(' '))
+}
+
+fn is_plain_rule(line: HorizontalLine) -> bool
+    ensures { IsTrue result ↔ IsPlainRule line }
+{
+    is_plain_piece(line.main)
+        && is_plain_piece(line.left)
+        && is_plain_piece(line.intersection)
+        && is_plain_piece(line.right)
+}
+
+fn is_plain_style(style: CellStyle) -> bool
+    ensures { IsTrue result ↔ IsPlainStyle style }
+{
+    is_plain_column(style.padding.left.fill)
+        && is_plain_column(style.padding.right.fill)
+        && is_plain_column(style.padding.top.fill)
+        && is_plain_column(style.padding.bottom.fill)
+}
+
+/// Whether the line at an index is plain, if there is one.
+fn is_plain_rule_at(config: &SpannedConfig, rows: usize, index: usize) -> bool
+    ensures { IsTrue result ↔ ((line : HorizontalLine) → rule_at config.now rows index ≡ Some line
+        → IsPlainRule line) }
+{
+    match config.rule_at(rows, index) {
+        Some(line) => is_plain_rule(line),
+        None => true,
+    }
+}
+
+/// Whether the lines above the rows, and the one below the last, are plain.
+fn are_plain_rules(config: &SpannedConfig, rows: usize) -> bool
+    ensures { IsTrue result ↔ ((i : ℕ) → i ≤ rows → (line : HorizontalLine)
+        → rule_at config.now rows i ≡ Some line → IsPlainRule line) }
+{
+    'lines: for index in 0..rows {
+        if !is_plain_rule_at(config, rows, index) {
+            return false;
+        }
+    }
+    is_plain_rule_at(config, rows, rows)
+}
+
+/// Whether the cells of a row are padded by plain characters.
+fn are_plain_styles_in(config: &SpannedConfig, row: usize, columns: usize) -> bool
+    ensures { IsTrue result ↔ ((column : ℕ) → column < columns
+        → IsPlainStyle (style_at config.now row column)) }
+{
+    'columns: for column in 0..columns {
+        if !is_plain_style(config.style_at(row, column)) {
+            return false;
+        }
+    }
+    true
+}
+
+fn are_plain_styles(config: &SpannedConfig, rows: usize, columns: usize) -> bool
+    ensures { IsTrue result ↔ ((row column : ℕ) → row < rows → column < columns
+        → IsPlainStyle (style_at config.now row column)) }
+{
+    'rows: for row in 0..rows {
+        if !are_plain_styles_in(config, row, columns) {
+            return false;
+        }
+    }
+    true
+}
+
+/// Whether the vertical lines are plain.
+fn are_plain_verticals(config: &SpannedConfig) -> bool
+    ensures { IsTrue result ↔ (IsPlainPiece config.now.borders.vertical
+        × IsPlainPiece config.now.borders.left × IsPlainPiece config.now.borders.right) }
+{
+    is_plain_piece(config.borders.vertical)
+        && is_plain_piece(config.borders.left)
+        && is_plain_piece(config.borders.right)
+}
+
+fn is_plain_margin(config: &SpannedConfig) -> bool
+    ensures { IsTrue result ↔ (IsPlainColumn config.now.margin.left.fill
+        × IsPlainColumn config.now.margin.right.fill
+        × IsPlainColumn config.now.margin.top.fill
+        × IsPlainColumn config.now.margin.bottom.fill) }
+{
+    is_plain_column(config.margin.left.fill)
+        && is_plain_column(config.margin.right.fill)
+        && is_plain_column(config.margin.top.fill)
+        && is_plain_column(config.margin.bottom.fill)
+}
+
+/// Whether what stands around the cells is plain, but for the horizontal lines.
+fn is_plain_frame(config: &SpannedConfig) -> bool
+    ensures { IsTrue result ↔ ((IsPlainPiece config.now.borders.vertical
+        × IsPlainPiece config.now.borders.left × IsPlainPiece config.now.borders.right)
+        × (IsPlainColumn config.now.margin.left.fill
+        × IsPlainColumn config.now.margin.right.fill
+        × IsPlainColumn config.now.margin.top.fill
+        × IsPlainColumn config.now.margin.bottom.fill)) }
+{
+    are_plain_verticals(config) && is_plain_margin(config)
+}
+
+/// Whether the horizontal lines and the paddings are plain, as far as the table goes.
+fn are_plain_places(config: &SpannedConfig, rows: usize, columns: usize) -> bool
+    ensures { IsTrue result ↔ (((i : ℕ) → i ≤ rows → (line : HorizontalLine)
+        → rule_at config.now rows i ≡ Some line → IsPlainRule line)
+        × ((row column : ℕ) → row < rows → column < columns
+        → IsPlainStyle (style_at config.now row column))) }
+{
+    are_plain_rules(config, rows) && are_plain_styles(config, rows, columns)
+}
+
+/// Whether the borders, fills and margins of a table with so many rows and columns are plain characters
+/// of one column, also where they take no room. A missing character is a space. Horizontal lines and
+/// paddings count as far as the table goes.
+pub fn is_plain_config(config: &SpannedConfig, rows: usize, columns: usize) -> bool
+    ensures { IsTrue result ↔ IsPlainConfig config.now rows columns }
+{
+    is_plain_frame(config) && are_plain_places(config, rows, columns)
+}
+
+/// Whether the cells of a row are plain texts.
+fn is_plain_row<R: PeekableRecords>(records: &R, row: usize) -> bool
+    requires { row < length (R.cells records.now) }
+    ensures { IsTrue result ↔ All IsPlain (slice_index_or (R.cells records.now) row []) }
+{
+    'columns: for column in 0..records.count_columns() {
+        if !is_plain(records.get_text(Position { row, column })) {
+            return false;
+        }
+    }
+    true
+}
+
+/// Whether all cells are plain texts.
+pub fn is_plain_records<R: PeekableRecords>(records: &R) -> bool
+    ensures { IsTrue result ↔ ArePlain (R.cells records.now) }
+{
+    'rows: for row in 0..records.count_rows() {
+        if !is_plain_row(records, row) {
+            return false;
+        }
+    }
+    true
+}
