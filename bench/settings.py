@@ -1,0 +1,200 @@
+#!/usr/bin/env python3
+"""Times the printing of tables whose cells have settings of their own, of long cells, and with stored sizes.
+
+usage: settings.py [FOLDER]
+
+A small program is written into FOLDER (else a temporary folder) beside copies of the crates, built with
+`rt run`, and run. Printed are medians of its rounds: the time a printed byte, which may grow with no more
+than the logarithm of the settings, and the time a row of the table or a line of long cells, which stays the
+same where printing is linear; then the time that a setting took. Tables are printed into a text that has
+room from the second round on.
+
+Tables of words have 100 columns. In those of padding or alignment each cell was set by itself; in the stored
+ones the estimated sizes were stored. Long cells are of 5 to 15 columns; 1, 60 or 100 of them make a row.
+"""
+
+import collections
+import statistics
+import subprocess
+
+import building
+
+CRATES = (
+    "tabled_text",
+    "tabled_base",
+    "tabled_config",
+    "tabled_size",
+    "tabled_set",
+    "tabled_grid",
+    "tabled_table",
+    "tabled",
+)
+
+# Of the tables of words; the program has the same number.
+COLUMNS = 100
+
+PROGRAM = """\
+//! Times the printing of tables.
+#![tactic(auto)]
+ghost use Rattle.std.specs.Prelude.{◌≡◌, IfOk, vec_len};
+
+use std::alloc::{AllocError, Global};
+use std::time::Instant;
+use tabled::builder::Builder;
+use tabled::grid::config::{AlignmentHorizontal, Entity, Indent, Sides};
+use tabled::grid::dimension::{CompleteDimension, Estimate};
+use tabled::{Table, TableError};
+
+const ROUNDS: usize = 7;
+
+const WORDS: [&str; 5] = ["amber", "cedar", "fjord and inlet", "oasis", "a weir"];
+
+fn words(alloc: Global, columns: usize) -> Result<Vec<&'static str>, AllocError>
+    ensures { IfOk result (λ v. vec_len v ≡ columns) }
+{
+    let mut row = vec![in alloc; ""; columns]?;
+    for column in 0..columns {
+        row[column] = WORDS[column % 5];
+    }
+    Ok(row)
+}
+
+fn table_of(alloc: Global, row: &[&str], rows: usize) -> Result<Table, TableError> {
+    let mut builder = Builder::new(alloc);
+    for _row in 0..rows {
+        builder.add_record(row.iter().copied())?;
+    }
+    Ok(Table::from(builder))
+}
+
+fn pad(table: &mut Table, row: usize, column: usize) -> Result<(), TableError> {
+    let side = Indent::spaced(1 + (row % 3 + column % 2) % 2);
+    let padding = Sides::new(side, side, Indent::zero(), Indent::zero());
+    let config = table.get_config_mut().as_mut();
+    config.set_padding(Entity::Cell(row, column), padding)
+}
+
+fn align(table: &mut Table, row: usize, column: usize) -> Result<(), TableError> {
+    let alignment = if (row % 3 + column % 2) % 2 == 0 {
+        AlignmentHorizontal::Right
+    } else {
+        AlignmentHorizontal::Center
+    };
+    let config = table.get_config_mut().as_mut();
+    config.set_alignment_horizontal(Entity::Cell(row, column), alignment)
+}
+
+fn pad_cells(table: &mut Table, rows: usize, columns: usize) -> Result<(), TableError> {
+    for row in 0..rows {
+        for column in 0..columns {
+            pad(table, row, column)?;
+        }
+    }
+    Ok(())
+}
+
+fn align_cells(table: &mut Table, rows: usize, columns: usize) -> Result<(), TableError> {
+    for row in 0..rows {
+        for column in 0..columns {
+            align(table, row, column)?;
+        }
+    }
+    Ok(())
+}
+
+fn store_sizes(alloc: Global, table: &mut Table) -> Result<(), TableError> {
+    let mut sizes = CompleteDimension::new(alloc);
+    sizes.estimate(table.get_records(), table.get_config().as_ref())?;
+    *table.get_dimension_mut() = sizes;
+    Ok(())
+}
+
+fn measure(rt: &HostRuntime, name: &str, table: &Table, units: usize) -> Result<(), anyhow::Error> {
+    let mut text = String::new(rt.alloc());
+    for _round in 0..ROUNDS {
+        text.clear();
+        let start = Instant::now(rt)?;
+        table.write_to(&mut text)?;
+        let time = start.elapsed(rt)?.as_nanos();
+        let bytes = text.len();
+        println!(rt; "{name} {units} {bytes} {time}")?;
+    }
+    Ok(())
+}
+
+fn measure_words(rt: &HostRuntime, rows: usize, columns: usize) -> Result<(), anyhow::Error> {
+    let alloc = rt.alloc();
+    let row = words(alloc, columns)?;
+    let mut table = table_of(alloc, &row, rows)?;
+    measure(rt, "plain", &table, rows)?;
+    store_sizes(alloc, &mut table)?;
+    measure(rt, "plain,stored", &table, rows)?;
+
+    let mut table = table_of(alloc, &row, rows)?;
+    let start = Instant::now(rt)?;
+    pad_cells(&mut table, rows, columns)?;
+    let time = start.elapsed(rt)?.as_nanos();
+    println!(rt; "setting {rows} 0 {time}")?;
+    measure(rt, "padding", &table, rows)?;
+    store_sizes(alloc, &mut table)?;
+    measure(rt, "padding,stored", &table, rows)?;
+
+    let mut table = table_of(alloc, &row, rows)?;
+    align_cells(&mut table, rows, columns)?;
+    measure(rt, "alignment", &table, rows)?;
+    store_sizes(alloc, &mut table)?;
+    measure(rt, "alignment,stored", &table, rows)
+}
+
+fn long_text(alloc: Global, lines: usize) -> Result<String, AllocError> {
+    let mut text = String::new(alloc);
+    for line in 0..lines {
+        if line > 0 {
+            text.push('\\n')?;
+        }
+        text.push_str(WORDS[line % 5])?;
+    }
+    Ok(text)
+}
+
+fn measure_long(rt: &HostRuntime, name: &str, lines: usize, columns: usize) -> Result<(), anyhow::Error> {
+    let alloc = rt.alloc();
+    let text = long_text(alloc, lines)?;
+    let row = vec![in alloc; text.as_str(); columns]?;
+    let table = table_of(alloc, &row, 1)?;
+    measure(rt, name, &table, lines)
+}
+
+fn main(rt: HostRuntime) -> Result<(), anyhow::Error> {
+    for rows in [100, 300, 1000, 3000] {
+        measure_words(&rt, rows, 100)?;
+    }
+    for lines in [1000, 10_000, 100_000, 300_000] {
+        measure_long(&rt, "1,long", lines, 1)?;
+    }
+    for lines in [100, 300, 1000, 3000] {
+        measure_long(&rt, "60,long", lines, 60)?;
+        measure_long(&rt, "100,long", lines, 100)?;
+    }
+    Ok(())
+}
+"""
+
+
+def main():
+    with building.program(__doc__, "setting_times", CRATES, {"src/main.rt": PROGRAM}) as program:
+        run = subprocess.run([program], stdin=subprocess.DEVNULL, capture_output=True, check=True)
+    found = collections.defaultdict(list)
+    for row in run.stdout.decode().splitlines():
+        name, rows, size, time = row.split()
+        found[name, int(rows), int(size)].append(int(time))
+    print(f"{'table':16} {'rows or lines':>13} {'bytes':>10} {'ms':>8} {'ns a byte':>9} {'us a line':>9}")
+    for (name, rows, size), times in sorted(found.items()):
+        time = statistics.median(times)
+        if name == "setting":
+            print(f"{name:16} {rows:13,} {'':10} {time / 1e6:8.2f} {time / rows / COLUMNS:9.1f} ns a setting")
+        else:
+            print(f"{name:16} {rows:13,} {size:10,} {time / 1e6:8.2f} {time / size:9.2f} {time / rows / 1000:9.3f}")
+
+
+main()
