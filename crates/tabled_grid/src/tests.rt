@@ -1,6 +1,7 @@
 //! What no clause says: whole pictures, and each public call at a concrete type.
 
 mod pictures;
+mod plain;
 mod refusals;
 mod tables;
 mod writers;

@@ -1,5 +1,5 @@
 //! A table of owned texts.
-ghost use Rattle.std.specs.Prelude.{◌≡◌, ◌⊎◌, ◌≤◌, ◌^◌, [], List, IfErr, IfOk, Ok, OnOk, false, length, map, string_bytes, true};
+ghost use Rattle.std.specs.Prelude.{◌≡◌, ◌↔◌, ◌⊎◌, ◌≤◌, ◌^◌, [], List, IfErr, IfOk, IsTrue, Ok, OnOk, false, length, map, string_bytes, true};
 ghost use Rattle.std.specs.Borrow.{Lends, sem};
 ghost use Rattle.tabled_base.specs.contracts.text.Text.{the_row as text_row};
 ghost use Rattle.tabled_base.specs.contracts.vec_records.VecRecords.{the_row as records_row};
@@ -25,7 +25,7 @@ use std::alloc::Global;
 use std::convert::AsStr;
 use tabled_base::{Builder, CellText, ExactRecords, TableError, Text, VecRecords};
 use tabled_config::ColoredConfig;
-use tabled_grid::{TextSink, print_standing};
+use tabled_grid::{TextSink, is_plain_config, is_plain_records, print_standing};
 use tabled_size::{CompleteDimension, is_empty, total_height, total_width};
 
 /// Rows of texts, how they are set, and the sizes that are stored. What isn't stored is estimated when it
@@ -166,6 +166,18 @@ impl Table {
         ensures { result ≡ is_empty (cells_of self.now) }
     {
         is_empty(&self.records)
+    }
+
+    /// Whether the texts, borders, fills and margins are plain characters, and all but the texts of one
+    /// column. Then each printed line takes `total_width` columns, if the widths hold the texts, as
+    /// estimated ones do.
+    pub fn is_plain(&self) -> bool
+        ensures { IsTrue result ↔ (IsPlainConfig (sheet self.now).config (length (cells_of self.now))
+            (columns (cells_of self.now)) × ArePlain (cells_of self.now)) }
+    {
+        let config = self.config.as_ref();
+        is_plain_config(config, self.count_rows(), self.count_columns())
+            && is_plain_records(&self.records)
     }
 
     /// The columns of each line of the printed table: the widths that stand, the vertical lines and the

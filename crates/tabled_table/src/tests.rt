@@ -2,6 +2,7 @@
 
 mod alignments;
 mod drawing;
+mod plain;
 mod settings;
 mod sizes;
 mod styles;
