@@ -35,7 +35,8 @@ fn dashes(count: usize) -> &'static str
     &DASHES[..count]
 }
 
-/// A number of spaces, 64 at a time.
+/// A number of spaces, 64 at a time. Mostly there are few, and a call would take longer than they do.
+#[inline(always)]
 pub(crate) fn put_spaces<S: TextSink>(sink: &mut S, count: usize) -> Result<(), TableError>
     ensures { Writes (S.sent sink.old) result (S.sent sink.new) (fill 32 count) }
 {
