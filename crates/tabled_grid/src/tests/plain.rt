@@ -4,12 +4,19 @@ use crate::tests::tables::{TEXT, ascii};
 use crate::{is_plain_config, is_plain_records};
 use std::alloc::Global;
 use std::test::Fail;
-use tabled_base::{Entity, TableError, text_rows};
+use tabled_base::{Builder, Entity, TableError, text_rows};
 use tabled_config::{HorizontalLine, Indent, Sides, SpannedConfig};
 
 #[test]
 fn ascii_borders_are_plain(rt: HostRuntime) {
     assert!(rt; is_plain_config(&ascii(rt.alloc()), 2, 2));
+}
+
+#[test]
+fn a_border_of_two_columns_is_not_plain(rt: HostRuntime) {
+    let mut config = ascii(rt.alloc());
+    config.borders.vertical = Some('中');
+    assert!(rt; !is_plain_config(&config, 2, 2));
 }
 
 // Ascii borders, and a fill of two columns above the cell at the place (1, 1).
@@ -54,6 +61,19 @@ fn a_wide_line_is_not_plain_inside_the_table(rt: HostRuntime) -> Result<(), Fail
 #[test]
 fn plain_texts_are_plain_records(rt: HostRuntime) -> Result<(), Fail> {
     assert!(rt; is_plain_records(&text_rows(rt.alloc(), TEXT)?));
+    Ok(())
+}
+
+#[test]
+fn a_kana_in_a_cell_is_not_plain(rt: HostRuntime) -> Result<(), Fail> {
     assert!(rt; !is_plain_records(&text_rows(rt.alloc(), "a\tbb\nccc\tあ")?));
+    Ok(())
+}
+
+#[test]
+fn a_tab_in_a_cell_is_not_plain(rt: HostRuntime) -> Result<(), Fail> {
+    let mut builder = Builder::new(rt.alloc());
+    builder.add_record(["a\tb"])?;
+    assert!(rt; !is_plain_records(&builder.build()));
     Ok(())
 }

@@ -6,7 +6,7 @@ use std::test::Fail;
 use tabled_base::TableError;
 
 // Widths and heights, and why a table of two rows and two columns is refused.
-const REFUSED: [(Sizes, Sizes, TableError); 5] = [
+const REFUSED: [(Sizes, Sizes, TableError); 6] = [
     (Some(&[5]), Some(&[1]), TableError::ShortWidths),
     (Some(&[2, 2]), Some(&[1]), TableError::ShortHeights),
     (
@@ -15,6 +15,11 @@ const REFUSED: [(Sizes, Sizes, TableError); 5] = [
         TableError::Narrow { row: 0, column: 0 },
     ),
     (Some(&[5]), None, TableError::ShortWidths),
+    (
+        Some(&[2, 2]),
+        None,
+        TableError::Narrow { row: 0, column: 0 },
+    ),
     (None, Some(&[1]), TableError::ShortHeights),
 ];
 
