@@ -3,6 +3,7 @@ pub mod Compact
 pub mod Frame
 pub mod Lending
 pub mod Lines
+pub mod Options
 pub mod Places
 pub mod Settings
 pub mod Spanned

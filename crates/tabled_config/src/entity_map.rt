@@ -93,6 +93,11 @@ impl<T: Copy> EntityMap<T> {
         }
     }
 
+    /// What the settings grow by.
+    pub fn allocator(&self) -> Global {
+        *self.changes.allocator()
+    }
+
     /// The value of a cell.
     #[inline]
     pub fn get(&self, row: usize, column: usize) -> T

@@ -11,6 +11,7 @@ mod compact_multiline;
 mod entity_map;
 mod formatting;
 mod lines;
+mod options;
 mod places;
 mod sides;
 mod spanned;

@@ -12,6 +12,7 @@ use crate::compact_multiline::CompactMultilineConfig;
 use crate::entity_map::EntityMap;
 use crate::lines::Lines;
 use crate::sides::{Indent, Sides};
+use crate::style::Style;
 use std::alloc::Global;
 use tabled_base::{Entity, Position, TableError};
 
@@ -47,6 +48,7 @@ pub struct SpannedConfig {
 }
 
 impl SpannedConfig {
+    ghost use Rattle.tabled_config.specs.Options.{with_style};
     ghost use Rattle.tabled_config.specs.Settings.{has_bar, rule_at, style_at};
     ghost use Rattle.tabled_config.specs.Spanned.{
       new_spanned,
@@ -312,6 +314,27 @@ impl SpannedConfig {
         ensures { result ≡ line_set self.now.lines row }
     {
         self.lines.get(row)
+    }
+
+    /// Sets the borders of a style, and its lines by index in place of all others. Refused with `Memory` alone,
+    /// and then all is as it was.
+    pub(crate) fn set_style(&mut self, style: &Style) -> Result<(), TableError>
+        ensures ok { OnOk result (self.new ≡ with_style self.old style.now) }
+        ensures err { OnErr result (self.new ≡ self.old) }
+        ensures only { IfErr result (λ e. e ≡ Memory) }
+    {
+        let mut lines = Lines::new(self.allocator());
+        if let Some(line) = style.get_horizontal_line(1) {
+            lines.insert(1, line)?;
+        }
+        self.borders = style.get_borders();
+        self.lines = lines;
+        Ok(())
+    }
+
+    /// What the settings grow by.
+    pub(crate) fn allocator(&self) -> Global {
+        self.padding.allocator()
     }
 
     /// How the text of the cell at a place stands.

@@ -1,5 +1,7 @@
 //! What no clause says: that calls succeed, and what they answer on settings that a table has.
 
+mod options;
+
 use crate::{
     AlignmentHorizontal, AlignmentVertical, ColoredConfig, CompactConfig, CompactMultilineConfig,
     Formatting, HorizontalLine, Indent, Sides, SpannedConfig, Style,

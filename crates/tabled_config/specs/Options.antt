@@ -1,0 +1,30 @@
+-- What an option leaves of a table's configuration.
+use Rattle.std.specs.Prelude.{◌≡◌, ℕ, List, [], ◌∷◌, Option, Some, None}
+use Rattle.tabled_base.specs.declared.error.TableError.{TableError}
+use Rattle.tabled_base.specs.declared.error.TableError.TheVariants.{Memory}
+use Rattle.tabled_config.specs.declared.borders.HorizontalLine.{HorizontalLine}
+use Rattle.tabled_config.specs.declared.colored.ColoredConfig.{ColoredConfig}
+use Rattle.tabled_config.specs.declared.spanned.SpannedConfig.{SpannedConfig}
+use Rattle.tabled_config.specs.declared.style.Style.{Style}
+
+module _ {R C D : Type 0} where
+  -- the configuration becomes another, and the rest stays
+  abbrev pub Becomes : C → R → D → R → C → D → Type 0
+  Becomes config records sizes records' config' sizes' = (records' ≡ records) × ((config' ≡ config) × (sizes' ≡ sizes))
+
+  -- memory was refused, and everything stays
+  abbrev pub Stays : TableError → R → C → D → R → C → D → Type 0
+  Stays error records config sizes records' config' sizes' = (error ≡ Memory) × Becomes config records sizes records' config' sizes'
+
+-- the configuration of a printed table that holds some settings
+abbrev pub colored : SpannedConfig → ColoredConfig
+colored settings = record { config = settings }
+
+-- the lines that a style sets by their index
+abbrev pub lines_below : Option HorizontalLine → List (ℕ × HorizontalLine)
+lines_below None = []
+lines_below (Some line) = (1, line) ∷ []
+
+-- the borders of a style, and its lines by index in place of all others
+abbrev pub with_style : SpannedConfig → Style → SpannedConfig
+with_style config style = record config { borders = style.borders; lines = lines_below style.below_first }

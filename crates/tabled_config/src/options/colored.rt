@@ -1,0 +1,73 @@
+//! Configurations of whole tables as options. A lent one is copied, which wants memory.
+ghost use Rattle.std.specs.Prelude.{◌≡◌};
+ghost use Rattle.tabled_config.specs.Options.{Becomes, Stays, colored};
+
+use crate::colored::ColoredConfig;
+use crate::spanned::SpannedConfig;
+use tabled_base::{Entity, TableError, TableOption};
+
+impl<R, D> TableOption<R, ColoredConfig, D> for ColoredConfig {
+    ghost changes = { λ option r c d. Becomes option r d };
+
+    ghost refuses = { λ option e r c d r' c' d'. ⊥ };
+
+    ghost passes = { λ option r c d. ⊥ };
+
+    fn change(
+        self,
+        _records: &mut R,
+        cfg: &mut ColoredConfig,
+        _dims: &mut D,
+    ) -> Result<(), TableError> {
+        *cfg = self;
+        Ok(())
+    }
+
+    fn hint_change(&self) -> Option<Entity> {
+        Some(Entity::Global)
+    }
+}
+
+impl<R, D> TableOption<R, ColoredConfig, D> for SpannedConfig {
+    ghost changes = { λ option r c d. Becomes (colored option) r d };
+
+    ghost refuses = { λ option e r c d r' c' d'. ⊥ };
+
+    ghost passes = { λ option r c d. ⊥ };
+
+    fn change(
+        self,
+        _records: &mut R,
+        cfg: &mut ColoredConfig,
+        _dims: &mut D,
+    ) -> Result<(), TableError> {
+        *cfg = ColoredConfig::new(self);
+        Ok(())
+    }
+
+    fn hint_change(&self) -> Option<Entity> {
+        Some(Entity::Global)
+    }
+}
+
+impl<R, D> TableOption<R, ColoredConfig, D> for &SpannedConfig {
+    ghost changes = { λ option r c d. Becomes (colored option.now) r d };
+
+    ghost refuses = { λ option e. Stays e };
+
+    ghost passes = { λ option r c d. ⊥ };
+
+    fn change(
+        self,
+        _records: &mut R,
+        cfg: &mut ColoredConfig,
+        _dims: &mut D,
+    ) -> Result<(), TableError> {
+        *cfg = ColoredConfig::new(self.clone()?);
+        Ok(())
+    }
+
+    fn hint_change(&self) -> Option<Entity> {
+        Some(Entity::Global)
+    }
+}
