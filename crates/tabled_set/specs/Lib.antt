@@ -1,2 +1,6 @@
+pub mod CellChanges
+pub mod EntityChanges
+pub mod Minimums
+pub mod Narrowed
 pub mod PlainEnding
 pub mod Truncated

@@ -1,3 +1,5 @@
+pub mod Applied
+pub mod ExactTotal
 pub mod Lending
 pub mod NewConfig
 pub mod NewTable

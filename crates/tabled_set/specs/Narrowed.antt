@@ -1,0 +1,68 @@
+-- Tables whose columns shrink to a total, and whose cells are changed for the rooms that these leave.
+use Rattle.std.specs.Prelude.{◌≡◌, ◌⊎◌, ◌<◌, ◌≤◌, ◌^◌, ℕ, ◌-◌, Bool, true, false, ◌&&◌, nat_le, nat_lt, List, MatchBool, Some, None, length, take}
+use Rattle.tabled_base.specs.declared.error.TableError.{TableError}
+use Rattle.tabled_base.specs.declared.error.TableError.TheVariants.{Memory}
+use Rattle.tabled_config.specs.declared.spanned.SpannedConfig.{SpannedConfig}
+use Rattle.tabled_size.specs.Estimates.{IsTooWide}
+use Rattle.tabled_size.specs.FilledIn.{HasNoEstimate, IsFilledIn}
+use Rattle.tabled_size.specs.Permitted.{at}
+use Rattle.tabled_size.specs.Sheet.{Sheet, is_empty}
+use Rattle.tabled_size.specs.StandingSheet.{standing}
+use Rattle.tabled_size.specs.Stored.{heights_of, widths_of}
+use Rattle.tabled_size.specs.Totals.{total_width}
+use Rattle.tabled_size.specs.declared.complete_dimension.CompleteDimension.{CompleteDimension}
+use Rattle.tabled_set.specs.CellChanges.{AreChanged, precedes_by_column}
+use Rattle.tabled_set.specs.Minimums.{emptied, minimums, side_padding}
+
+-- the widths are a list that the priority may make of those that stand, taking what the total has above n, with the
+-- minimums of the columns that stand
+pub record IsShrunkTo {P : Type 0} (shrinks : P → List ℕ → List ℕ → ℕ → List ℕ → P → Type 0) (priority : P) (n : ℕ) (t : Sheet) (widths : List ℕ) : Type 0 where
+  pub last : P
+  pub shrunk : shrinks priority t.widths (take (length t.widths) (minimums t.cells t.config)) (total_width t - n) widths last
+
+-- a column that has one of the widths, which is not below its minimum
+abbrev pub has_room : Sheet → List ℕ → ℕ → Bool
+has_room t widths column = nat_lt column (length widths) && nat_le (at (minimums t.cells t.config) column) (at widths column)
+
+-- a cell of such a column is changed for the room that its width leaves beside the cell's own padding, another stays
+abbrev pub for_room : (ℕ → List ℕ → List ℕ → Type 0) → Sheet → List ℕ → ℕ → ℕ → List ℕ → List ℕ → Type 0
+for_room change t widths row column before after =
+    MatchBool (has_room t widths column) (change (at widths column - side_padding t.config row column) before after) (after ≡ before)
+
+-- a table wider than n is narrowed: its widths are shrunk and stored, every cell is changed for its room, and its
+-- heights are to be estimated anew
+pub record IsNarrowed {P : Type 0} (shrinks : P → List ℕ → List ℕ → ℕ → List ℕ → P → Type 0) (priority : P) (change : ℕ → List ℕ → List ℕ → Type 0) (n : ℕ) (t : Sheet) (cells : List (List (List ℕ))) (sizes : CompleteDimension) : Type 0 where
+  pub widths : List ℕ
+  pub shrunk : IsShrunkTo shrinks priority n t widths
+  pub changed : AreChanged (λ row column. true) (for_room change t widths) t.cells cells
+  pub stored : widths_of sizes ≡ Some widths
+  pub cleared : heights_of sizes ≡ None
+
+-- what narrowing to n leaves: an empty table as it was, one of a total of at most n with its sizes filled in, and
+-- another narrowed
+abbrev pub Narrows : {P : Type 0} → (P → List ℕ → List ℕ → ℕ → List ℕ → P → Type 0) → P → (ℕ → List ℕ → List ℕ → Type 0) → ℕ → List (List (List ℕ)) → SpannedConfig → CompleteDimension → List (List (List ℕ)) → CompleteDimension → Type 0
+Narrows shrinks priority change n cells config sizes cells' sizes' =
+    MatchBool (is_empty cells) ((cells' ≡ cells) × (sizes' ≡ sizes))
+    (MatchBool (nat_le (total_width (standing cells config sizes)) n) ((cells' ≡ cells) × IsFilledIn sizes cells config sizes')
+    (IsNarrowed shrinks priority change n (standing cells config sizes) cells' sizes'))
+
+-- memory was refused at some cell of a table wider than n: the cells before it, column by column, are changed, and
+-- the others are the old ones
+pub record IsNarrowedBefore {P : Type 0} (shrinks : P → List ℕ → List ℕ → ℕ → List ℕ → P → Type 0) (priority : P) (change : ℕ → List ℕ → List ℕ → Type 0) (n : ℕ) (t : Sheet) (cells : List (List (List ℕ))) : Type 0 where
+  pub wider : n < total_width t
+  pub widths : List ℕ
+  pub shrunk : IsShrunkTo shrinks priority n t widths
+  pub row : ℕ
+  pub column : ℕ
+  pub changed : AreChanged (precedes_by_column row column) (for_room change t widths) t.cells cells
+
+-- what a refusal leaves: all cells as they were, or for want of memory some first ones changed
+abbrev pub StopsNarrowing : {P : Type 0} → (P → List ℕ → List ℕ → ℕ → List ℕ → P → Type 0) → P → (ℕ → List ℕ → List ℕ → Type 0) → ℕ → TableError → List (List (List ℕ)) → SpannedConfig → CompleteDimension → List (List (List ℕ)) → Type 0
+StopsNarrowing shrinks priority change n error cells config sizes cells' =
+    (cells' ≡ cells) ⊎ ((error ≡ Memory) × IsNarrowedBefore shrinks priority change n (standing cells config sizes) cells')
+
+-- a sum passes the greatest number: the measure's, a cell's that isn't stored, the total, or the padding of a cell
+abbrev pub NarrowingPasses : Type 0 → List (List (List ℕ)) → SpannedConfig → CompleteDimension → Type 0
+NarrowingPasses measure_passes cells config sizes =
+    (is_empty cells ≡ false)
+    × (measure_passes ⊎ (HasNoEstimate sizes cells config ⊎ ((2 ^ 64 ≤ total_width (standing cells config sizes)) ⊎ IsTooWide (emptied cells) config)))
