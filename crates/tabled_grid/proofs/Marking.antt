@@ -34,8 +34,9 @@ none-kept n k =
       | inr h ↦ get_or_past (replicate n None) k None (omega (arith, length-replicate {A = Option MarkedCell} n None))
     ]
 
-pub no-marks : (cells : List (List (List ℕ))) (k : ℕ) (cell : MarkedCell) → slice_index_or (replicate 64 None) k None ≡ Some cell → IsMarked (cell_at cells cell.place.row cell.place.column) cell.mark
-no-marks cells k cell h = let none = none-kept 64 k in cc
+-- in places that keep nothing
+pub no-marks : (cells : List (List (List ℕ))) (n : ℕ) → AreMarked cells (replicate n None)
+no-marks cells n k cell h = let none = none-kept n k in cc
 
 -- a mark is put in the place of another
 pub mark-kept : (cells : List (List (List ℕ))) (marks : List (Option MarkedCell)) (i : ℕ) (kept : MarkedCell) → AreMarked cells marks → IsMarked (cell_at cells kept.place.row kept.place.column) kept.mark → AreMarked cells (slice_set marks i (Some kept))

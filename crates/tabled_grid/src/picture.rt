@@ -5,7 +5,7 @@ ghost use Rattle.tabled_grid.specs.Grid.{sheet_of};
 ghost use Rattle.tabled_grid.specs.Holds.{IsSized};
 ghost use Rattle.tabled_grid.specs.Kept.{Keeps};
 ghost use Rattle.tabled_grid.specs.Leading.{WritesLines};
-ghost use Rattle.tabled_grid.specs.Marks.{AreMarked};
+ghost use Rattle.tabled_grid.specs.Marks.{AreKept};
 ghost use Rattle.tabled_grid.specs.Picture.{filled_picture, row_line, row_lines, row_part, rule};
 ghost use Rattle.tabled_grid.specs.Sent.{Sent, Writes};
 
@@ -29,10 +29,10 @@ fn put_inner_line<'a, R: PeekableRecords, D: Dimension, S: TextSink>(
     requires sized { IsSized (sheet_of R.cells D.width_at D.height_at grid.now) }
     requires row_in { row < length (R.cells grid.now.records.now) }
     requires index_in { index < slice_index (sheet_of R.cells D.width_at D.height_at grid.now).heights row }
-    requires marked { AreMarked (R.cells grid.now.records.now) marks.old.cells }
+    requires marked { AreKept (R.cells grid.now.records.now) marks.old }
     ensures printed { WritesLines (S.sent sink.old) begun.old result (S.sent sink.new) begun.new
         (row_line (sheet_of R.cells D.width_at D.height_at grid.now) row index ∷ []) }
-    ensures marked { AreMarked (R.cells grid.now.records.now) marks.new.cells }
+    ensures marked { AreKept (R.cells grid.now.records.now) marks.new }
 {
     put_break(sink, begun)?;
     put_row_line(sink, grid, marks, row, index)
@@ -49,10 +49,10 @@ fn put_row<'a, R: PeekableRecords, D: Dimension, S: TextSink>(
 ) -> Result<(), TableError>
     requires sized { IsSized (sheet_of R.cells D.width_at D.height_at grid.now) }
     requires row_in { row < length (R.cells grid.now.records.now) }
-    requires marked { AreMarked (R.cells grid.now.records.now) marks.old.cells }
+    requires marked { AreKept (R.cells grid.now.records.now) marks.old }
     ensures printed { WritesLines (S.sent sink.old) begun.old result (S.sent sink.new) begun.new
         (row_lines (sheet_of R.cells D.width_at D.height_at grid.now) row) }
-    ensures marked { AreMarked (R.cells grid.now.records.now) marks.new.cells }
+    ensures marked { AreKept (R.cells grid.now.records.now) marks.new }
 {
     'lines: for index in 0..grid.height(row) {
         put_inner_line(sink, begun, grid, marks, row, index)?;
@@ -95,11 +95,11 @@ fn put_row_part<'a, R: PeekableRecords, D: Dimension, S: TextSink>(
     requires sized { IsSized (sheet_of R.cells D.width_at D.height_at grid.now) }
     requires known { Keeps (sheet_of R.cells D.width_at D.height_at grid.now) kept.old }
     requires row_in { row < length (R.cells grid.now.records.now) }
-    requires marked { AreMarked (R.cells grid.now.records.now) marks.old.cells }
+    requires marked { AreKept (R.cells grid.now.records.now) marks.old }
     ensures printed { WritesLines (S.sent sink.old) begun.old result (S.sent sink.new) begun.new
         (row_part (sheet_of R.cells D.width_at D.height_at grid.now) row) }
     ensures known { Keeps (sheet_of R.cells D.width_at D.height_at grid.now) kept.new }
-    ensures marked { AreMarked (R.cells grid.now.records.now) marks.new.cells }
+    ensures marked { AreKept (R.cells grid.now.records.now) marks.new }
 {
     put_rule(sink, begun, grid, kept, row)?;
     put_row(sink, begun, grid, marks, row)
@@ -114,12 +114,12 @@ fn put_rows<'a, R: PeekableRecords, D: Dimension, S: TextSink>(
 ) -> Result<(), TableError>
     requires sized { IsSized (sheet_of R.cells D.width_at D.height_at grid.now) }
     requires known { Keeps (sheet_of R.cells D.width_at D.height_at grid.now) kept.old }
-    requires marked { AreMarked (R.cells grid.now.records.now) marks.old.cells }
+    requires marked { AreKept (R.cells grid.now.records.now) marks.old }
     ensures printed { WritesLines (S.sent sink.old) begun.old result (S.sent sink.new) begun.new
         (flat_map (row_part (sheet_of R.cells D.width_at D.height_at grid.now))
         (range_with_len 0 (length (R.cells grid.now.records.now)))) }
     ensures known { Keeps (sheet_of R.cells D.width_at D.height_at grid.now) kept.new }
-    ensures marked { AreMarked (R.cells grid.now.records.now) marks.new.cells }
+    ensures marked { AreKept (R.cells grid.now.records.now) marks.new }
 {
     'rows: for row in 0..grid.records.count_rows() {
         put_row_part(sink, begun, grid, kept, marks, row)?;
@@ -137,11 +137,11 @@ fn put_lines<'a, R: PeekableRecords, D: Dimension, S: TextSink>(
 ) -> Result<(), TableError>
     requires sized { IsSized (sheet_of R.cells D.width_at D.height_at grid.now) }
     requires known { Keeps (sheet_of R.cells D.width_at D.height_at grid.now) kept.old }
-    requires marked { AreMarked (R.cells grid.now.records.now) marks.old.cells }
+    requires marked { AreKept (R.cells grid.now.records.now) marks.old }
     ensures printed { WritesLines (S.sent sink.old) begun.old result (S.sent sink.new) begun.new
         (filled_picture (sheet_of R.cells D.width_at D.height_at grid.now) whole) }
     ensures known { Keeps (sheet_of R.cells D.width_at D.height_at grid.now) kept.new }
-    ensures marked { AreMarked (R.cells grid.now.records.now) marks.new.cells }
+    ensures marked { AreKept (R.cells grid.now.records.now) marks.new }
 {
     put_margin(sink, begun, grid.config.margin.top, whole)?;
     put_rows(sink, begun, grid, kept, marks)?;
@@ -150,17 +150,18 @@ fn put_lines<'a, R: PeekableRecords, D: Dimension, S: TextSink>(
 }
 
 /// The lines of a table that takes so many columns, joined by line feeds.
-pub(crate) fn put_picture<R: PeekableRecords, D: Dimension, S: TextSink>(
+pub(crate) fn put_picture<'a, R: PeekableRecords, D: Dimension, S: TextSink>(
     sink: &mut S,
-    grid: &Grid<'_, R, D>,
+    grid: &Grid<'a, R, D>,
+    marks: &mut Marks<'a>,
     whole: usize,
 ) -> Result<(), TableError>
     requires sized { IsSized (sheet_of R.cells D.width_at D.height_at grid.now) }
+    requires marked { AreKept (R.cells grid.now.records.now) marks.old }
     ensures { Writes (S.sent sink.old) result (S.sent sink.new)
         (join_with_byte 10 (filled_picture (sheet_of R.cells D.width_at D.height_at grid.now) whole)) }
 {
     let mut begun = false;
     let mut kept = KeptLine::new();
-    let mut marks = Marks::new();
-    put_lines(sink, &mut begun, grid, &mut kept, &mut marks, whole)
+    put_lines(sink, &mut begun, grid, &mut kept, marks, whole)
 }

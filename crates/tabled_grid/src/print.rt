@@ -6,10 +6,12 @@ ghost use Rattle.tabled_size.specs.Sheet.{is_empty};
 ghost use Rattle.tabled_size.specs.Totals.{filled_width};
 ghost use Rattle.tabled_grid.specs.Grid.{sheet_by, sheet_of};
 ghost use Rattle.tabled_grid.specs.Holds.{Holds, IsHeld, IsNarrow, IsNarrowIn, IsSized};
+ghost use Rattle.tabled_grid.specs.Marks.{AreKept};
 ghost use Rattle.tabled_grid.specs.Printed.{IsInRange, IsRefused, Prints};
 ghost use Rattle.tabled_grid.specs.Sent.{Sent};
 
 use crate::grid::Grid;
+use crate::marks::Marks;
 use crate::picture::put_picture;
 use crate::text_sink::TextSink;
 use tabled_base::{PeekableRecords, Position, TableError};
@@ -98,17 +100,19 @@ fn check_totals<R: PeekableRecords, D: Dimension>(
 /// Prints a table whose sizes hold its cells. Refused, before the first byte, where a total passes the
 /// greatest `usize`.
 #[tactic(auto, unfolding(crate::specs::Picture::picture))]
-pub(crate) fn print_held<R: PeekableRecords, D: Dimension, S: TextSink>(
+pub(crate) fn print_held<'a, R: PeekableRecords, D: Dimension, S: TextSink>(
     sink: &mut S,
-    grid: &Grid<'_, R, D>,
+    grid: &Grid<'a, R, D>,
+    marks: &mut Marks<'a>,
 ) -> Result<(), TableError>
     requires filled { is_empty (R.cells grid.now.records.now) ≡ false }
     requires sized { IsSized (sheet_of R.cells D.width_at D.height_at grid.now) }
     requires holds { Holds (sheet_of R.cells D.width_at D.height_at grid.now) }
+    requires marked { AreKept (R.cells grid.now.records.now) marks.old }
     ensures { Prints (sheet_of R.cells D.width_at D.height_at grid.now) (S.sent sink.old) result (S.sent sink.new) }
 {
     let whole = check_totals(grid)?;
-    put_picture(sink, grid, whole)
+    put_picture(sink, grid, marks, whole)
 }
 
 /// Prints a table piece by piece, in no memory of its own. A table with no row or no column prints
@@ -135,5 +139,6 @@ pub fn print_grid<R: PeekableRecords, D: Dimension, S: TextSink>(
     };
     check_sizes(&grid)?;
     check_narrow(&grid)?;
-    print_held(sink, &grid)
+    let mut marks = Marks::new();
+    print_held(sink, &grid, &mut marks)
 }

@@ -6,7 +6,7 @@ ghost use Rattle.tabled_config.specs.Settings.{style_at};
 ghost use Rattle.tabled_grid.specs.Block.{block};
 ghost use Rattle.tabled_grid.specs.Grid.{sheet_of};
 ghost use Rattle.tabled_grid.specs.Holds.{IsSized};
-ghost use Rattle.tabled_grid.specs.Marks.{AreMarked};
+ghost use Rattle.tabled_grid.specs.Marks.{AreKept};
 ghost use Rattle.tabled_grid.specs.Picture.{cell_piece, row_line, rule_line, rule_piece};
 ghost use Rattle.tabled_grid.specs.Sent.{Sent, Writes};
 
@@ -32,10 +32,10 @@ fn put_cell<'a, R: PeekableRecords, D: Dimension, S: TextSink>(
     requires sized { IsSized (sheet_of R.cells D.width_at D.height_at grid.now) }
     requires inside { IsInside (R.cells grid.now.records.now) at.row at.column }
     requires index_in { index < slice_index (sheet_of R.cells D.width_at D.height_at grid.now).heights at.row }
-    requires marked { AreMarked (R.cells grid.now.records.now) marks.old.cells }
+    requires marked { AreKept (R.cells grid.now.records.now) marks.old }
     ensures printed { Writes (S.sent sink.old) result (S.sent sink.new)
         (cell_piece (sheet_of R.cells D.width_at D.height_at grid.now) at.row index at.column) }
-    ensures marked { AreMarked (R.cells grid.now.records.now) marks.new.cells }
+    ensures marked { AreKept (R.cells grid.now.records.now) marks.new }
 {
     put_piece(
         sink,
@@ -63,12 +63,12 @@ fn put_content_line<'a, R: PeekableRecords, D: Dimension, S: TextSink>(
     requires inside { IsInside (R.cells grid.now.records.now) at.row at.column }
     requires index_in { index < slice_index (sheet_of R.cells D.width_at D.height_at grid.now).heights at.row }
     requires text { content.now.text.now ≡ cell_at (R.cells grid.now.records.now) at.row at.column }
-    requires marked { AreMarked (R.cells grid.now.records.now) marks.old.cells }
+    requires marked { AreKept (R.cells grid.now.records.now) marks.old }
     ensures printed { Writes (S.sent sink.old) result (S.sent sink.new)
         (slice_index_or (block (style_at grid.now.config.now at.row at.column)
         (slice_index (sheet_of R.cells D.width_at D.height_at grid.now).widths at.column) (slice_index (sheet_of R.cells D.width_at D.height_at grid.now).heights at.row)
         content.now.text.now) index []) }
-    ensures marked { AreMarked (R.cells grid.now.records.now) marks.new.cells }
+    ensures marked { AreKept (R.cells grid.now.records.now) marks.new }
 {
     let style = grid.config.style_at(at.row, at.column);
     let (width, height) = (grid.width(at.column), grid.height(at.row));
@@ -95,11 +95,11 @@ fn put_cells<'a, R: PeekableRecords, D: Dimension, S: TextSink>(
     requires sized { IsSized (sheet_of R.cells D.width_at D.height_at grid.now) }
     requires row_in { row < length (R.cells grid.now.records.now) }
     requires index_in { index < slice_index (sheet_of R.cells D.width_at D.height_at grid.now).heights row }
-    requires marked { AreMarked (R.cells grid.now.records.now) marks.old.cells }
+    requires marked { AreKept (R.cells grid.now.records.now) marks.old }
     ensures printed { Writes (S.sent sink.old) result (S.sent sink.new)
         (flat_map (cell_piece (sheet_of R.cells D.width_at D.height_at grid.now) row index)
         (range_with_len 0 (columns (R.cells grid.now.records.now)))) }
-    ensures marked { AreMarked (R.cells grid.now.records.now) marks.new.cells }
+    ensures marked { AreKept (R.cells grid.now.records.now) marks.new }
 {
     'cells: for column in 0..grid.records.count_columns() {
         put_cell(sink, grid, marks, Position { row, column }, index)?;
@@ -118,10 +118,10 @@ pub(crate) fn put_row_line<'a, R: PeekableRecords, D: Dimension, S: TextSink>(
     requires sized { IsSized (sheet_of R.cells D.width_at D.height_at grid.now) }
     requires row_in { row < length (R.cells grid.now.records.now) }
     requires index_in { index < slice_index (sheet_of R.cells D.width_at D.height_at grid.now).heights row }
-    requires marked { AreMarked (R.cells grid.now.records.now) marks.old.cells }
+    requires marked { AreKept (R.cells grid.now.records.now) marks.old }
     ensures printed { Writes (S.sent sink.old) result (S.sent sink.new)
         (row_line (sheet_of R.cells D.width_at D.height_at grid.now) row index) }
-    ensures marked { AreMarked (R.cells grid.now.records.now) marks.new.cells }
+    ensures marked { AreKept (R.cells grid.now.records.now) marks.new }
 {
     put_left(sink, grid.config, grid.config.borders.left)?;
     put_cells(sink, grid, marks, row, index)?;

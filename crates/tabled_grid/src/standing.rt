@@ -9,6 +9,7 @@ ghost use Rattle.tabled_grid.specs.Printed.{IsRefused, Prints};
 ghost use Rattle.tabled_grid.specs.Sent.{Sent};
 
 use crate::grid::Grid;
+use crate::marks::Marks;
 use crate::print::{check_narrow, print_held};
 use crate::text_sink::TextSink;
 use std::alloc::Global;
@@ -110,14 +111,13 @@ pub fn print_standing<R: PeekableRecords, S: TextSink>(
     }
     check_stored(records, config, stored)?;
     if stored.is_complete() {
-        return print_held(
-            sink,
-            &Grid {
-                records,
-                config,
-                dimension: stored,
-            },
-        );
+        let grid = Grid {
+            records,
+            config,
+            dimension: stored,
+        };
+        let mut marks = Marks::new();
+        return print_held(sink, &grid, &mut marks);
     }
     print_filled_in(records, config, stored, sink)
 }
@@ -137,14 +137,13 @@ fn print_filled_in<R: PeekableRecords, S: TextSink>(
 {
     let mut sizes = stored.clone()?;
     sizes.estimate(records, config)?;
-    print_held(
-        sink,
-        &Grid {
-            records,
-            config,
-            dimension: &sizes,
-        },
-    )
+    let mut marks = Marks::for_columns(sizes.allocator(), records.count_columns())?;
+    let grid = Grid {
+        records,
+        config,
+        dimension: &sizes,
+    };
+    print_held(sink, &grid, &mut marks)
 }
 
 /// Prints records under a configuration, with the sizes that their texts ask for. Refused for memory and

@@ -115,7 +115,9 @@ impl CompleteDimension {
     }
 
     /// What the lists grow by.
-    pub(crate) fn allocator(&self) -> Global {
+    pub fn allocator(&self) -> Global
+        ensures { result ≡ self.now.alloc }
+    {
         self.alloc
     }
 

@@ -2,7 +2,7 @@ use Rattle.std.specs.List.{flat_map, range_with_len}
 use Rattle.tabled_grid.specs.Grid.{sheet_of}
 use Rattle.tabled_grid.specs.Kept.{Keeps}
 use Rattle.tabled_grid.specs.Leading.{LineSends}
-use Rattle.tabled_grid.specs.Marks.{AreMarked}
+use Rattle.tabled_grid.specs.Marks.{AreKept}
 use Rattle.tabled_grid.specs.Picture.{row_part}
 use Rattle.tabled_grid.proofs.picture.put_rows.Given as goal
 
@@ -12,5 +12,5 @@ invariant-rows g l =
       printed : LineSends (g.S.TextSink.sent l.initial.sink) l.initial.begun (g.S.TextSink.sent l.sink) l.begun
           (flat_map (row_part (sheet_of g.R.ExactRecords.cells g.D.Dimension.width_at g.D.Dimension.height_at l.grid)) (range_with_len 0 l.row));
       known : Keeps (sheet_of g.R.ExactRecords.cells g.D.Dimension.width_at g.D.Dimension.height_at l.grid) l.kept;
-      marked : AreMarked (g.R.ExactRecords.cells l.grid.records.now) l.marks.cells;
+      marked : AreKept (g.R.ExactRecords.cells l.grid.records.now) l.marks;
     }

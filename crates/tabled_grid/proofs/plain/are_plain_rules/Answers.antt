@@ -1,4 +1,4 @@
-use Rattle.std.proofs.Common.{◌≡◌, ℕ, ◌<◌, ◌+◌, Some, arith}
+use Rattle.std.proofs.Common.{◌≡◌, ℕ, Some, arith}
 use Rattle.tabled_config.specs.Settings.{rule_at}
 use Rattle.tabled_config.specs.declared.borders.HorizontalLine.{HorizontalLine}
 use Rattle.tabled_grid.specs.PlainSheet.{IsPlainRule}

@@ -1,4 +1,4 @@
-use Rattle.std.proofs.Common.{◌<◌, [], arith, refl, slice_index_or}
+use Rattle.std.proofs.Common.{[], arith, refl, slice_index_or}
 use Rattle.std.specs.List.{All}
 use Rattle.std.proofs.lemmas.List.Elements.{All-from_get_or}
 use Rattle.tabled_text.specs.Plain.{IsPlain}

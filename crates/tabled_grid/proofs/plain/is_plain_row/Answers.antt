@@ -1,4 +1,4 @@
-use Rattle.std.proofs.Common.{◌≡◌, ◌<◌, [], arith, length, refl, slice_index_or, subst, sym}
+use Rattle.std.proofs.Common.{◌≡◌, [], arith, length, refl, slice_index_or, sym}
 use Rattle.std.proofs.lemmas.List.Elements.{All-from_get_or}
 use Rattle.tabled_text.specs.Plain.{IsPlain}
 use Rattle.tabled_base.specs.Cells.{cell_at, columns}

@@ -1,5 +1,5 @@
 use Rattle.std.specs.List.{flat_map, range_with_len}
-use Rattle.tabled_grid.specs.Marks.{AreMarked}
+use Rattle.tabled_grid.specs.Marks.{AreKept}
 use Rattle.tabled_grid.specs.Sent.{Sends}
 use Rattle.tabled_grid.specs.Grid.{sheet_of}
 use Rattle.tabled_grid.specs.Picture.{cell_piece}
@@ -10,5 +10,5 @@ invariant-cells g l =
     record {
       printed : Sends (g.S.TextSink.sent l.initial.sink) (g.S.TextSink.sent l.sink)
           (flat_map (cell_piece (sheet_of g.R.ExactRecords.cells g.D.Dimension.width_at g.D.Dimension.height_at l.grid) l.row l.index) (range_with_len 0 l.column));
-      marked : AreMarked (g.R.ExactRecords.cells l.grid.records.now) l.marks.cells;
+      marked : AreKept (g.R.ExactRecords.cells l.grid.records.now) l.marks;
     }

@@ -32,3 +32,6 @@ returns g c =
     (answered_filled (g.R.ExactRecords.cells c.args.records.now) c.args.config.now c.args.stored.now c.in_ok-sizes.sizes c.estimate.new.self
     c.in_ok-sizes.ensures.widths c.in_ok-sizes.ensures.heights c.in_ok-estimate.ensures.ok)
     c.print_held.ensures
+
+pub print_held-requires-clause-marked : goal.print_held-requires-clause-marked
+print_held-requires-clause-marked g c = c.in_ok-marks.ensures.ok (g.R.ExactRecords.cells c.args.records.now)

@@ -29,3 +29,6 @@ returns-then-is_complete g c =
     subst P
     (answered_complete (g.R.ExactRecords.cells c.args.records.now) c.args.config.now c.args.stored.now (sym c.is_complete.ensures ∙ c.if-is_complete.true))
     c.print_held.ensures
+
+pub print_held-requires-clause-marked : goal.print_held-requires-clause-marked
+print_held-requires-clause-marked g c = c.new-marks.ensures (g.R.ExactRecords.cells c.args.records.now)
