@@ -1,0 +1,140 @@
+#!/usr/bin/env python3
+"""Times the wrapping and truncating of whole tables, over the files that `generate.py` writes and parts of them.
+
+usage: options.py [FOLDER]
+
+A small program is written into FOLDER (else a temporary folder) beside copies of the crates, built with `rt run`, and
+run on the first tenth and third of the rows of each file, and on all of them. Each table is narrowed to half of its
+total width, the greatest columns first, in copies that are made beforehand; its texts are read before that, too.
+Printed are medians of the rounds: milliseconds, and nanoseconds a byte of the texts, which stay the same where a call
+is linear in them.
+"""
+
+import collections
+import pathlib
+import statistics
+import subprocess
+import sys
+import tempfile
+
+import building
+
+CRATES = (
+    "tabled_text",
+    "tabled_base",
+    "tabled_config",
+    "tabled_size",
+    "tabled_set",
+    "tabled_grid",
+    "tabled_table",
+    "tabled",
+)
+
+FILES = ("long.tsv", "short.tsv", "wide.tsv", "mixed.tsv")
+PARTS = (10, 3, 1)
+
+PROGRAM = """\
+//! Times the narrowing of the table of tab-separated rows on standard input.
+#![tactic(auto)]
+
+use std::alloc::Global;
+use std::io;
+use std::time::Instant;
+use tabled::builder::Builder;
+use tabled::settings::Width;
+use tabled::settings::peaker::Priority;
+use tabled::{Table, TableError};
+
+const ROUNDS: usize = 5;
+
+fn table_of(alloc: Global, text: &str) -> Result<Table, TableError> {
+    let mut builder = Builder::new(alloc);
+    for line in text.lines() {
+        builder.add_record(line.split('\\t'))?;
+    }
+    Ok(Table::from(builder))
+}
+
+fn estimated(rt: &HostRuntime, table: &Table) -> Result<(), anyhow::Error> {
+    let start = Instant::now(rt)?;
+    let _ = table.total_width()?;
+    let time = start.elapsed(rt)?.as_nanos();
+    println!(rt; "total_width {time}")?;
+    Ok(())
+}
+
+fn wrapped(rt: &HostRuntime, table: &Table, width: usize) -> Result<(), anyhow::Error> {
+    let mut copy = table.clone()?;
+    let start = Instant::now(rt)?;
+    copy.apply(Width::wrap(width).priority(Priority::max(true)))?;
+    let time = start.elapsed(rt)?.as_nanos();
+    println!(rt; "wrap {time}")?;
+    Ok(())
+}
+
+fn wrapped_words(rt: &HostRuntime, table: &Table, width: usize) -> Result<(), anyhow::Error> {
+    let mut copy = table.clone()?;
+    let start = Instant::now(rt)?;
+    let option = Width::wrap(width).keep_words(true);
+    copy.apply(option.priority(Priority::max(true)))?;
+    let time = start.elapsed(rt)?.as_nanos();
+    println!(rt; "wrap,words {time}")?;
+    Ok(())
+}
+
+fn truncated(rt: &HostRuntime, table: &Table, width: usize) -> Result<(), anyhow::Error> {
+    let mut copy = table.clone()?;
+    let start = Instant::now(rt)?;
+    copy.apply(Width::truncate(width).priority(Priority::max(true)))?;
+    let time = start.elapsed(rt)?.as_nanos();
+    println!(rt; "truncate {time}")?;
+    Ok(())
+}
+
+fn main(rt: HostRuntime) -> Result<(), anyhow::Error> {
+    let alloc = rt.alloc();
+    let text = io::read_to_string(alloc, &mut rt.stdin())?;
+    let table = table_of(alloc, text.as_str())?;
+    let width = table.total_width()? / 2;
+    for _round in 0..ROUNDS {
+        estimated(&rt, &table)?;
+        wrapped(&rt, &table, width)?;
+        wrapped_words(&rt, &table, width)?;
+        truncated(&rt, &table, width)?;
+    }
+    Ok(())
+}
+"""
+
+
+def part(data, divisor):
+    """The first rows of a file, one of so many parts of them."""
+    rows = data.splitlines(keepends=True)
+    return b"".join(rows[: len(rows) // divisor])
+
+
+def times(program, data):
+    """The median time of each call in nanoseconds."""
+    run = subprocess.run([program], input=data, capture_output=True, check=True)
+    found = collections.defaultdict(list)
+    for row in run.stdout.decode().splitlines():
+        name, time = row.split()
+        found[name].append(int(time))
+    return {name: statistics.median(all_times) for name, all_times in found.items()}
+
+
+def main():
+    here = pathlib.Path(__file__).resolve().parent
+    with tempfile.TemporaryDirectory() as data_folder:
+        subprocess.run([sys.executable, here / "generate.py", data_folder], check=True)
+        with building.program(__doc__, "option_times", CRATES, {"src/main.rt": PROGRAM}) as program:
+            print(f"{'file':10} {'bytes':>10} {'call':12} {'ms':>8} {'ns a byte':>9}")
+            for file in FILES:
+                data = (pathlib.Path(data_folder) / file).read_bytes()
+                for divisor in PARTS:
+                    rows = part(data, divisor)
+                    for name, time in times(program, rows).items():
+                        print(f"{file:10} {len(rows):10,} {name:12} {time / 1e6:8.2f} {time / len(rows):9.2f}")
+
+
+main()
