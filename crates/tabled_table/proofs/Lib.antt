@@ -1,3 +1,5 @@
+pub mod Emptied
+pub mod ExactTotals
 pub mod NewTables
 pub mod RowsAdded
 pub mod Sheets
