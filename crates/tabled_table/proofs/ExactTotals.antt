@@ -15,13 +15,16 @@ use Rattle.tabled_base.specs.declared.position.Entity.TheVariants.{Row}
 use Rattle.tabled_config.specs.declared.spanned.SpannedConfig.{SpannedConfig}
 use Rattle.tabled_size.specs.Estimates.{estimated_heights, estimated_widths, needed_width}
 use Rattle.tabled_size.specs.FilledIn.{IsFilledIn}
+use Rattle.tabled_size.specs.Least.{HasLeastGreatest}
 use Rattle.tabled_size.specs.Permitted.{at, IsTakenFrom}
 use Rattle.tabled_size.specs.Sheet.{Sheet, estimated, is_empty}
+use Rattle.tabled_size.specs.Shrunk.{IsMaxShrunk}
 use Rattle.tabled_size.specs.Standing.{clears_heights, clears_widths, unless_cleared}
 use Rattle.tabled_size.specs.StandingSheet.{standing, standing_sizes}
 use Rattle.tabled_size.specs.Stored.{heights_of, widths_of}
 use Rattle.tabled_size.specs.Totals.{filled_width, total_width}
 use Rattle.tabled_size.specs.declared.complete_dimension.CompleteDimension.{CompleteDimension}
+use Rattle.tabled_size.proofs.Optimal.{HasLeastGreatest-from_level, IsLevel-from_max}
 use Rattle.tabled_size.proofs.ShrunkTotals.{above_minimum, filled_width-frame, frame_width, narrowed_total}
 use Rattle.tabled_size.proofs.Totalling.{heights_length, widths_length}
 use Rattle.tabled_set.specs.CellChanges.{AreChanged, if_wider, truncating, wrapping}
@@ -34,6 +37,7 @@ use Rattle.tabled_set.proofs.Staying.{StaysWithin-truncated}
 use Rattle.tabled_grid.specs.Holds.{Holds, IsSized}
 use Rattle.tabled_grid.specs.PlainSheet.{ArePlain}
 use Rattle.tabled_table.specs.Applied.{IsApplied}
+use Rattle.tabled_table.specs.BestNarrowing.{text_room}
 use Rattle.tabled_table.specs.ExactTotal.{HasEstimatedWidths, HasExactTotal, empty_width}
 use Rattle.tabled_table.specs.Narrowing.{NarrowsTable}
 use Rattle.tabled_table.specs.TableSheet.{cells_of, sheet}
@@ -97,24 +101,25 @@ IsNarrowed-wider shrinks s change n cells config sizes cells' sizes' wider h =
 
 module _ {P : Type 0} (shrinks : P → List ℕ → List ℕ → ℕ → List ℕ → P → Type 0) (s : P) (change : ℕ → List ℕ → List ℕ → Type 0) (n : ℕ)
     (cells : List (List (List ℕ))) (config : SpannedConfig) (sizes : CompleteDimension) (new : List (List (List ℕ))) (stored last : CompleteDimension)
-    (takes : TakesFrom shrinks s) (rooms : FindsRoom change) (rectangular : IsRectangular cells) (plain : ArePlain cells)
-    (estimates : (standing cells config sizes).widths ≡ estimated_widths cells config) (wider : n < total_width (standing cells config sizes))
-    (h : IsNarrowed shrinks s change n (standing cells config sizes) new stored)
-    (widths_stay : widths_of last ≡ widths_of stored) (heights_clear : heights_of last ≡ None) where
+    (takes : TakesFrom shrinks s) (estimates : (standing cells config sizes).widths ≡ estimated_widths cells config)
+    (h : IsNarrowed shrinks s change n (standing cells config sizes) new stored) (widths_stay : widths_of last ≡ widths_of stored) where
   long : length (standing cells config sizes).widths ≡ columns cells
   long = ap length estimates ∙ widths_length cells config
 
   below : (i : ℕ) → at (minimums cells config) i ≤ at (standing cells config sizes).widths i
   below i = subst (λ w. at (minimums cells config) i ≤ at w i) (sym estimates) (minimums-le cells config i)
 
-  -- the widths that are stored lose as much as is wanted, or all above the minimums
-  shrunk : IsTakenFrom (standing cells config sizes).widths (minimums cells config) (total_width (standing cells config sizes) - n) h.widths
-  shrunk =
+  -- there is a minimum for each of the widths that stood
+  by_minimums : shrinks s (standing cells config sizes).widths (minimums cells config) (total_width (standing cells config sizes) - n) h.widths h.shrunk.last
+  by_minimums =
       let t = standing cells config sizes in
       let mins = minimums cells config in
       let whole : take (length t.widths) mins ≡ mins = ap (λ k. take k mins) (long ∙ sym (minimums_length cells config)) ∙ take-length mins in
-      subst (λ m. IsTakenFrom t.widths m (total_width t - n) h.widths) whole
-      (takes h.shrunk.last t.widths (take (length t.widths) mins) h.widths (total_width t - n) h.shrunk.shrunk)
+      subst (λ m. shrinks s t.widths m (total_width t - n) h.widths h.shrunk.last) whole h.shrunk.shrunk
+
+  -- they lose as much as is wanted, or all above the minimums
+  shrunk : IsTakenFrom (standing cells config sizes).widths (minimums cells config) (total_width (standing cells config sizes) - n) h.widths
+  shrunk = takes h.shrunk.last (standing cells config sizes).widths (minimums cells config) h.widths (total_width (standing cells config sizes) - n) by_minimums
 
   kept : (i : ℕ) → at (minimums cells config) i ≤ at h.widths i
   kept = above_minimum (standing cells config sizes).widths (minimums cells config) h.widths below shrunk.permitted
@@ -136,70 +141,86 @@ module _ {P : Type 0} (shrinks : P → List ℕ → List ℕ → ℕ → List �
       (and_from (nat_lt column (length h.widths)) (nat_le (at (minimums cells config) column) (at h.widths column)) inside above)
       (h.changed.cells row column (record { row_in = r; column_in = c }))
 
-  stays : (row column : ℕ) → row < length cells → column < columns cells → StaysWithin (at h.widths column - side_padding config row column) (cell_at new row column)
-  stays row column r c = rooms (at h.widths column - side_padding config row column) (cell_at cells row column) (cell_at new row column) (plain_cell cells row column rectangular plain r c) (changed_cell row column r c)
-
   -- the widths that are stored stand
   pub new_widths : (standing new config last).widths ≡ h.widths
   new_widths =
       ap (λ o. standing_sizes o (estimated_widths new config) (columns new)) (widths_stay ∙ h.stored)
       ∙ ap (λ k. take k h.widths) (new_columns ∙ sym width_each) ∙ take-length h.widths
 
-  new_sized : IsSized (standing new config last)
-  new_sized = record {
-    columns = let e = ap length new_widths in let f = new_columns in let g = width_each in omega arith;
-    rows = subst (λ o. length new ≤ length (standing_sizes o (estimated_heights new config) (length new))) (sym heights_clear) (omega (arith, heights_length new config));
-  }
-
-  new_holds : Holds (standing new config last)
-  new_holds row column r c =
-      let r' : row < length cells = subst (λ k. row < k) h.changed.rows r in
-      let c' : column < columns cells = subst (λ k. column < k) new_columns c in
-      let fits = text_columns-stays (stays row column r' c') in
-      let own = side_padding-le cells config row column r' c' in
-      let above = kept column in
-      subst (λ ws. needed_width new config row column ≤ at ws column) (sym new_widths) (omega arith)
-
-  new_plain : ArePlain new
-  new_plain = plain_cells new (λ row column r c.
-      let r' : row < length cells = subst (λ k. row < k) h.changed.rows r in
-      let e : length (slice_index_or new row []) ≡ columns cells = h.changed.row_lengths row ∙ row_length cells row rectangular r' in
-      IsPlain-stays (stays row column r' (subst (λ k. column < k) e c)))
-
-  full : is_empty cells ≡ false
-  full = full_wider (standing cells config sizes) n wider
-
-  old_total : total_width (standing cells config sizes) ≡ sum (standing cells config sizes).widths + frame_width config (columns cells)
-  old_total = full_total (standing cells config sizes) full long
-
-  least_total : empty_width (standing cells config sizes) ≡ sum (minimums cells config) + frame_width config (columns cells)
-  least_total =
-      let none = emptied cells in
-      full_total (estimated none config) (emptied_empty cells ∙ full) (widths_length none config)
-      ∙ ap (λ k. sum (minimums cells config) + frame_width config k) (emptied_columns cells)
-
-  new_total : total_width (standing new config last) ≡ sum h.widths + frame_width config (columns cells)
-  new_total =
-      let t = standing new config last in
-      let empty = changed_empty (λ row column. true) (for_room change (standing cells config sizes) h.widths) cells new h.changed in
-      full_total t (empty ∙ full) (ap length new_widths ∙ width_each ∙ sym new_columns)
-      ∙ ap (λ ws. sum ws + frame_width config (columns new)) new_widths
-      ∙ ap (λ k. sum h.widths + frame_width config k) new_columns
-
-  pub exact_total : HasExactTotal n (standing cells config sizes) (standing new config last)
-  exact_total =
+  -- by `PriorityMax` they have the least greatest width
+  pub leveled : (right : Bool) → ((old mins new : List ℕ) (by : ℕ) (end : P) → shrinks s old mins by new end → IsMaxShrunk right old mins by new) → HasLeastGreatest (standing cells config sizes).widths (minimums cells config) (standing new config last).widths
+  leveled right max =
       let t = standing cells config sizes in
-      let frame = frame_width config (columns cells) in
       let mins = minimums cells config in
-      let taken : IsTakenFrom t.widths mins (sum t.widths + frame - n) h.widths = subst (λ k. IsTakenFrom t.widths mins (k - n) h.widths) old_total shrunk in
-      record {
-        total = new_total
-            ∙ narrowed_total t.widths mins frame n h.widths (minimums_length cells config ∙ sym long) below (subst (λ k. n < k) old_total wider) taken
-            ∙ ap (max n) (sym least_total);
-        sized = new_sized;
-        holds = new_holds;
-        plain = new_plain;
-      }
+      let by = total_width t - n in
+      subst (HasLeastGreatest t.widths mins) (sym new_widths)
+      (HasLeastGreatest-from_level t.widths mins h.widths (IsLevel-from_max right t.widths mins by h.widths (max t.widths mins h.widths by h.shrunk.last by_minimums)))
+
+  -- every cell is changed for the room that its column leaves now
+  pub changed_for_room : (row column : ℕ) → row < length cells → column < columns cells → change (text_room (standing new config last) row column) (cell_at cells row column) (cell_at new row column)
+  changed_for_room row column r c =
+      subst (λ ws. change (at ws column - side_padding config row column) (cell_at cells row column) (cell_at new row column)) (sym new_widths) (changed_cell row column r c)
+
+  -- where the cells are plain, and changed texts stay in their rooms
+  module _ (rooms : FindsRoom change) (rectangular : IsRectangular cells) (plain : ArePlain cells) (wider : n < total_width (standing cells config sizes)) (heights_clear : heights_of last ≡ None) where
+    stays : (row column : ℕ) → row < length cells → column < columns cells → StaysWithin (at h.widths column - side_padding config row column) (cell_at new row column)
+    stays row column r c = rooms (at h.widths column - side_padding config row column) (cell_at cells row column) (cell_at new row column) (plain_cell cells row column rectangular plain r c) (changed_cell row column r c)
+
+    new_sized : IsSized (standing new config last)
+    new_sized = record {
+      columns = let e = ap length new_widths in let f = new_columns in let g = width_each in omega arith;
+      rows = subst (λ o. length new ≤ length (standing_sizes o (estimated_heights new config) (length new))) (sym heights_clear) (omega (arith, heights_length new config));
+    }
+
+    new_holds : Holds (standing new config last)
+    new_holds row column r c =
+        let r' : row < length cells = subst (λ k. row < k) h.changed.rows r in
+        let c' : column < columns cells = subst (λ k. column < k) new_columns c in
+        let fits = text_columns-stays (stays row column r' c') in
+        let own = side_padding-le cells config row column r' c' in
+        let above = kept column in
+        subst (λ ws. needed_width new config row column ≤ at ws column) (sym new_widths) (omega arith)
+
+    new_plain : ArePlain new
+    new_plain = plain_cells new (λ row column r c.
+        let r' : row < length cells = subst (λ k. row < k) h.changed.rows r in
+        let e : length (slice_index_or new row []) ≡ columns cells = h.changed.row_lengths row ∙ row_length cells row rectangular r' in
+        IsPlain-stays (stays row column r' (subst (λ k. column < k) e c)))
+
+    full : is_empty cells ≡ false
+    full = full_wider (standing cells config sizes) n wider
+
+    old_total : total_width (standing cells config sizes) ≡ sum (standing cells config sizes).widths + frame_width config (columns cells)
+    old_total = full_total (standing cells config sizes) full long
+
+    least_total : empty_width (standing cells config sizes) ≡ sum (minimums cells config) + frame_width config (columns cells)
+    least_total =
+        let none = emptied cells in
+        full_total (estimated none config) (emptied_empty cells ∙ full) (widths_length none config)
+        ∙ ap (λ k. sum (minimums cells config) + frame_width config k) (emptied_columns cells)
+
+    new_total : total_width (standing new config last) ≡ sum h.widths + frame_width config (columns cells)
+    new_total =
+        let t = standing new config last in
+        let empty = changed_empty (λ row column. true) (for_room change (standing cells config sizes) h.widths) cells new h.changed in
+        full_total t (empty ∙ full) (ap length new_widths ∙ width_each ∙ sym new_columns)
+        ∙ ap (λ ws. sum ws + frame_width config (columns new)) new_widths
+        ∙ ap (λ k. sum h.widths + frame_width config k) new_columns
+
+    pub exact_total : HasExactTotal n (standing cells config sizes) (standing new config last)
+    exact_total =
+        let t = standing cells config sizes in
+        let frame = frame_width config (columns cells) in
+        let mins = minimums cells config in
+        let taken : IsTakenFrom t.widths mins (sum t.widths + frame - n) h.widths = subst (λ k. IsTakenFrom t.widths mins (k - n) h.widths) old_total shrunk in
+        record {
+          total = new_total
+              ∙ narrowed_total t.widths mins frame n h.widths (minimums_length cells config ∙ sym long) below (subst (λ k. n < k) old_total wider) taken
+              ∙ ap (max n) (sym least_total);
+          sized = new_sized;
+          holds = new_holds;
+          plain = new_plain;
+        }
 
 -- ---- tables
 FindsRoom-wrapping : (words : Bool) → FindsRoom (wrapping words)
@@ -229,7 +250,7 @@ exact_table shrinks s change n hint old new takes rooms hinted rectangular plain
     let widths : widths_of new.dimension ≡ widths_of sizes = h.cleared.widths ∙ ap (λ b. unless_cleared b (widths_of sizes)) hinted in
     let heights : heights_of new.dimension ≡ None = h.cleared.heights ∙ ap (unless_cleared (clears_heights hint)) narrowed.cleared ∙ cleared_none (clears_heights hint) in
     subst (λ c. HasExactTotal n (sheet old) (standing (cells_of new) c new.dimension)) same
-    (exact_total shrinks s change n cells config old.dimension (cells_of new) sizes new.dimension takes rooms rectangular plain estimates wider narrowed widths heights)
+    (exact_total shrinks s change n cells config old.dimension (cells_of new) sizes new.dimension takes estimates narrowed widths rooms rectangular plain wider heights)
   where
     cleared_none : (b : Bool) → unless_cleared b None ≡ None
     cleared_none true = refl

@@ -1,3 +1,4 @@
+pub mod BestTables
 pub mod Emptied
 pub mod ExactTotals
 pub mod NewTables

@@ -1,4 +1,5 @@
 pub mod Applied
+pub mod BestNarrowing
 pub mod ExactTotal
 pub mod Lending
 pub mod Narrowing

@@ -1,5 +1,5 @@
 //! Laws of tables, each the contract of a function.
-ghost use Rattle.std.specs.Prelude.{◌≡◌, ◌<◌, ℕ, Bool, List, None, Some, length};
+ghost use Rattle.std.specs.Prelude.{◌≡◌, ◌<◌, ℕ, Bool, List, None, Some, [], false, length};
 ghost use Rattle.tabled_base.specs.Cells.{IsRectangular, columns};
 ghost use Rattle.tabled_base.specs.declared.position.Entity.TheVariants.{Row};
 ghost use Rattle.tabled_grid.specs.Holds.{Holds};
@@ -7,8 +7,10 @@ ghost use Rattle.tabled_grid.specs.PlainSheet.{ArePlain, IsPlainConfig};
 ghost use Rattle.tabled_set.specs.CellChanges.{if_wider, truncating, wrapping};
 ghost use Rattle.tabled_set.specs.PlainEnding.{IsPlainLimit};
 ghost use Rattle.tabled_set.specs.declared.suffix.SuffixLimit.{SuffixLimit};
+ghost use Rattle.tabled_size.specs.declared.max.PriorityMax.{PriorityMax};
 ghost use Rattle.tabled_size.specs.Totals.{total_width};
 ghost use Rattle.tabled_table.specs.Applied.{IsApplied};
+ghost use Rattle.tabled_table.specs.BestNarrowing.{IsBestCut, IsBestWrapped, max_shrinks};
 ghost use Rattle.tabled_table.specs.ExactTotal.{HasEstimatedWidths, HasExactTotal};
 ghost use Rattle.tabled_table.specs.Narrowing.{NarrowsTable};
 ghost use Rattle.tabled_table.specs.NewTable.{IsNew};
@@ -44,4 +46,16 @@ pub fn narrowed_tables<P: TakesAll>(_priority: &P)
         → ArePlain (cells_of old) → HasEstimatedWidths old → n < total_width (sheet old)
         → IsApplied (NarrowsTable P.shrinks s (if_wider (truncating suffix limit multiline)) n) None old new
         → HasExactTotal n (sheet old) (sheet new) }
+{}
+
+/// Narrowed by `PriorityMax`, such a table has the least greatest width of all permitted lists of the sum. A wrapped
+/// cell has the fewest lines of all breakings for its room, and keeps its text where each unit finds room; a plain
+/// line that was truncated without a suffix is its longest beginning that fits.
+pub fn best_tables()
+    ensures wrapped { (s : PriorityMax) (words : Bool) (n : ℕ) (old new : Table) → HasEstimatedWidths old
+        → n < total_width (sheet old) → IsApplied (NarrowsTable max_shrinks s (wrapping words) n) (Some (Row 0)) old new
+        → IsBestWrapped words (sheet old) (sheet new) }
+    ensures truncated { (s : PriorityMax) (limit : SuffixLimit) (n : ℕ) (old new : Table) → HasEstimatedWidths old
+        → n < total_width (sheet old) → IsApplied (NarrowsTable max_shrinks s (if_wider (truncating [] limit false)) n) None old new
+        → IsBestCut (sheet old) (sheet new) }
 {}
