@@ -3,5 +3,7 @@ pub mod ExactTotal
 pub mod Lending
 pub mod NewConfig
 pub mod NewTable
+pub mod Passed
 pub mod Rows
+pub mod Stopped
 pub mod TableSheet
