@@ -5,5 +5,7 @@ pub mod Lending
 pub mod Narrowing
 pub mod NewConfig
 pub mod NewTable
+pub mod Passed
 pub mod Rows
+pub mod Stopped
 pub mod TableSheet
