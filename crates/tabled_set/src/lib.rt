@@ -2,6 +2,8 @@
 #![tactic(auto)]
 
 pub mod laws;
+mod minimums;
+mod narrowing;
 mod suffix;
 mod truncate;
 mod wrap;
