@@ -2,10 +2,12 @@
 #![tactic(auto)]
 
 pub mod laws;
+mod measurement;
 mod suffix;
 mod truncate;
 mod wrap;
 
+pub use measurement::{Height, Measurement, Width};
 pub use suffix::SuffixLimit;
 pub use truncate::Truncate;
 pub use wrap::Wrap;
