@@ -2,12 +2,14 @@
 #![tactic(auto)]
 
 pub mod laws;
+mod measurement;
 mod minimums;
 mod narrowing;
 mod suffix;
 mod truncate;
 mod wrap;
 
+pub use measurement::{Height, Measurement, Width};
 pub use suffix::SuffixLimit;
 pub use truncate::Truncate;
 pub use wrap::Wrap;

@@ -6,6 +6,7 @@ ghost use Rattle.tabled_set.specs.Truncated.{AddsEnded, HasEndedLines, IsTruncat
 ghost use Rattle.tabled_set.specs.declared.suffix.SuffixLimit.TheVariants.{Cut};
 ghost use Rattle.tabled_text.specs.Cut.{IsCut, NeedsFill};
 
+use crate::measurement::{Measurement, Width};
 use crate::suffix::{SuffixLimit, UsedSuffix, used_suffix};
 use std::alloc::{AllocError, Global};
 use std::borrow::CowStr;
@@ -27,6 +28,8 @@ impl<W> Truncate<'static, W> {
     /// Truncates to a measure. There is no suffix, a text is cut as a whole, and the columns of a table
     /// shrink one after the other.
     pub fn new(width: W) -> Truncate<'static, W>
+    where
+        W: Measurement<Width>,
         ensures width { result.width ≡ width }
         ensures suffix { result.suffix.now ≡ [] }
         ensures limit { result.limit ≡ Cut }

@@ -4,6 +4,7 @@ ghost use Rattle.tabled_base.specs.declared.error.TableError.TheVariants.{Memory
 ghost use Rattle.tabled_text.specs.Breaking.{EachUnitFits, HasFewestLines, IsLeastBreaking};
 ghost use Rattle.tabled_text.specs.Wrapping.{IsWrapped};
 
+use crate::measurement::{Measurement, Width};
 use std::alloc::Global;
 use tabled_base::TableError;
 use tabled_size::{Peaker, PriorityNone};
@@ -20,6 +21,8 @@ pub struct Wrap<W = usize, P = PriorityNone> {
 impl<W> Wrap<W> {
     /// Wraps to a measure. Words are broken, and the columns of a table shrink one after the other.
     pub fn new(width: W) -> Wrap<W>
+    where
+        W: Measurement<Width>,
         ensures width { result.width ≡ width }
         ensures keep_words { result.keep_words ≡ false }
         ensures priority { result.priority.kept ≡ 0 }
