@@ -1,5 +1,7 @@
 pub mod Bare
+pub mod ChangingCells
 pub mod Endings
+pub mod InOrder
 pub mod JoinedLines
 pub mod Staying
 pub mod SuffixLemmas
