@@ -1,6 +1,8 @@
 pub mod Bare
+pub mod ChangingCells
 pub mod Emptied
 pub mod Endings
+pub mod InOrder
 pub mod JoinedLines
 pub mod PaddedTotals
 pub mod Staying

@@ -1,6 +1,7 @@
 //! What is set of a table's texts: how they are wrapped, and how they are truncated.
 #![tactic(auto)]
 
+mod changing;
 pub mod laws;
 mod measurement;
 mod minimums;

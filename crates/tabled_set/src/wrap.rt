@@ -1,9 +1,11 @@
 //! Wrapping to some columns.
 ghost use Rattle.std.specs.Prelude.{◌≡◌, ◌<◌, IfErr, IfOk, false, string_bytes};
 ghost use Rattle.tabled_base.specs.declared.error.TableError.TheVariants.{Memory};
+ghost use Rattle.tabled_set.specs.CellChanges.{wrapping};
 ghost use Rattle.tabled_text.specs.Breaking.{EachUnitFits, HasFewestLines, IsLeastBreaking};
 ghost use Rattle.tabled_text.specs.Wrapping.{IsWrapped};
 
+use crate::changing::ChangesText;
 use crate::measurement::{Measurement, Width};
 use std::alloc::Global;
 use tabled_base::TableError;
@@ -76,5 +78,13 @@ impl Wrap<(), ()> {
         ensures only { IfErr result (λ e. e ≡ Memory) }
     {
         Ok(wrap_text(alloc, text, width, keep_words)?)
+    }
+}
+
+impl<W, P> ChangesText for Wrap<W, P> {
+    ghost makes = { λ s. wrapping s.keep_words };
+
+    fn changed_text(&self, alloc: Global, text: &str, room: usize) -> Result<String, TableError> {
+        Ok(wrap_text(alloc, text, room, self.keep_words)?)
     }
 }
