@@ -1,5 +1,9 @@
 pub mod Bare
+pub mod ChangingCells
+pub mod Emptied
 pub mod Endings
+pub mod InOrder
 pub mod JoinedLines
+pub mod PaddedTotals
 pub mod Staying
 pub mod SuffixLemmas

@@ -1,11 +1,16 @@
 //! What is set of a table's texts: how they are wrapped, and how they are truncated.
 #![tactic(auto)]
 
+mod changing;
 pub mod laws;
+mod measurement;
+mod minimums;
+mod narrowing;
 mod suffix;
 mod truncate;
 mod wrap;
 
+pub use measurement::{Height, Measurement, Width};
 pub use suffix::SuffixLimit;
 pub use truncate::Truncate;
 pub use wrap::Wrap;

@@ -2,10 +2,13 @@
 ghost use Rattle.std.specs.Prelude.{◌≡◌, IfErr, IfOk, OnErr, OnOk, [], false, string_bytes};
 ghost use Rattle.std.specs.Cow.{IsOwnedStr, cow_str_bytes};
 ghost use Rattle.tabled_base.specs.declared.error.TableError.TheVariants.{Memory};
+ghost use Rattle.tabled_set.specs.CellChanges.{truncating};
 ghost use Rattle.tabled_set.specs.Truncated.{AddsEnded, HasEndedLines, IsTruncated};
 ghost use Rattle.tabled_set.specs.declared.suffix.SuffixLimit.TheVariants.{Cut};
 ghost use Rattle.tabled_text.specs.Cut.{IsCut, NeedsFill};
 
+use crate::changing::ChangesText;
+use crate::measurement::{Measurement, Width};
 use crate::suffix::{SuffixLimit, UsedSuffix, used_suffix};
 use std::alloc::{AllocError, Global};
 use std::borrow::CowStr;
@@ -27,6 +30,8 @@ impl<W> Truncate<'static, W> {
     /// Truncates to a measure. There is no suffix, a text is cut as a whole, and the columns of a table
     /// shrink one after the other.
     pub fn new(width: W) -> Truncate<'static, W>
+    where
+        W: Measurement<Width>,
         ensures width { result.width ≡ width }
         ensures suffix { result.suffix.now ≡ [] }
         ensures limit { result.limit ≡ Cut }
@@ -123,6 +128,14 @@ impl Truncate<'static, (), ()> {
         ensures only { IfErr result (λ e. e ≡ Memory) }
     {
         Ok(cut_str(alloc, text, width)?)
+    }
+}
+
+impl<'a, W, P> ChangesText for Truncate<'a, W, P> {
+    ghost makes = { λ s. truncating s.suffix.now s.limit s.multiline };
+
+    fn changed_text(&self, alloc: Global, text: &str, room: usize) -> Result<String, TableError> {
+        self.shorten(alloc, text, room)
     }
 }
 

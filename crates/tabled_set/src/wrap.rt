@@ -1,9 +1,12 @@
 //! Wrapping to some columns.
 ghost use Rattle.std.specs.Prelude.{◌≡◌, ◌<◌, IfErr, IfOk, false, string_bytes};
 ghost use Rattle.tabled_base.specs.declared.error.TableError.TheVariants.{Memory};
+ghost use Rattle.tabled_set.specs.CellChanges.{wrapping};
 ghost use Rattle.tabled_text.specs.Breaking.{EachUnitFits, HasFewestLines, IsLeastBreaking};
 ghost use Rattle.tabled_text.specs.Wrapping.{IsWrapped};
 
+use crate::changing::ChangesText;
+use crate::measurement::{Measurement, Width};
 use std::alloc::Global;
 use tabled_base::TableError;
 use tabled_size::{Peaker, PriorityNone};
@@ -20,6 +23,8 @@ pub struct Wrap<W = usize, P = PriorityNone> {
 impl<W> Wrap<W> {
     /// Wraps to a measure. Words are broken, and the columns of a table shrink one after the other.
     pub fn new(width: W) -> Wrap<W>
+    where
+        W: Measurement<Width>,
         ensures width { result.width ≡ width }
         ensures keep_words { result.keep_words ≡ false }
         ensures priority { result.priority.kept ≡ 0 }
@@ -73,5 +78,13 @@ impl Wrap<(), ()> {
         ensures only { IfErr result (λ e. e ≡ Memory) }
     {
         Ok(wrap_text(alloc, text, width, keep_words)?)
+    }
+}
+
+impl<W, P> ChangesText for Wrap<W, P> {
+    ghost makes = { λ s. wrapping s.keep_words };
+
+    fn changed_text(&self, alloc: Global, text: &str, room: usize) -> Result<String, TableError> {
+        Ok(wrap_text(alloc, text, room, self.keep_words)?)
     }
 }

@@ -18,7 +18,7 @@ pub greatest_more : (f : ℕ → ℕ) (n : ℕ) → greatest_below f (n + 1) ≡
 greatest_more f n =
     ap greatest (map-range_with_len_more f 0 n n (omega arith)) ∙ greatest-push (map f (range_with_len 0 n)) (f n)
 
-greatest_step : (f : ℕ → ℕ) (n : ℕ) → greatest_below f (suc n) ≡ max (greatest_below f n) (f n)
+pub greatest_step : (f : ℕ → ℕ) (n : ℕ) → greatest_below f (suc n) ≡ max (greatest_below f n) (f n)
 greatest_step f n = let e : suc n ≡ n + 1 = omega arith in ap (greatest_below f) e ∙ greatest_more f n
 
 -- none of them is greater

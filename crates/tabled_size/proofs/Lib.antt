@@ -9,6 +9,7 @@ pub mod Passing
 pub mod Ramps
 pub mod Reaching
 pub mod Shares
+pub mod ShrunkTotals
 pub mod Spans
 pub mod Spares
 pub mod Sums

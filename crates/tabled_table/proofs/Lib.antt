@@ -1,3 +1,6 @@
+pub mod BestTables
+pub mod Emptied
+pub mod ExactTotals
 pub mod NewTables
 pub mod RowsAdded
 pub mod Sheets

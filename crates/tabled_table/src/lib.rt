@@ -1,6 +1,7 @@
 //! Tables: made of values or rows, measured, and printed as the picture of their sizes.
 #![tactic(auto)]
 
+mod applying;
 mod config;
 pub mod laws;
 mod rows;

@@ -32,9 +32,9 @@ use tabled_size::{CompleteDimension, is_empty, total_height, total_width};
 /// is needed. Two tables are equal where their texts, settings and stored sizes are.
 #[derive(Debug, Drop, PartialEq, Eq)]
 pub struct Table {
-    records: VecRecords<Text<String>>,
-    config: ColoredConfig,
-    dimension: CompleteDimension,
+    pub(crate) records: VecRecords<Text<String>>,
+    pub(crate) config: ColoredConfig,
+    pub(crate) dimension: CompleteDimension,
 }
 
 impl Table {

@@ -1,0 +1,76 @@
+//! Numbers that are read from a table.
+ghost use Rattle.std.specs.Prelude.{◌≡◌, ℕ, IfErr, IfOk, List, OnOk, [], false};
+ghost use Rattle.tabled_base.specs.declared.error.TableError.TheVariants.{Range};
+ghost use Rattle.tabled_config.specs.declared.spanned.SpannedConfig.{SpannedConfig};
+ghost use Rattle.tabled_set.specs.declared.suffix.SuffixLimit.TheVariants.{Cut};
+
+use crate::truncate::Truncate;
+use crate::wrap::Wrap;
+use tabled_base::{PeekableRecords, TableError};
+use tabled_config::SpannedConfig;
+
+/// The direction across a table: what measures a `Width` answers text columns, and an option of it changes
+/// how wide cells and columns are.
+pub struct Width;
+
+/// The direction down a table: what measures a `Height` answers lines, and an option of it changes how high
+/// cells and rows are.
+pub struct Height;
+
+/// A number that an option reads from the table that it changes: text columns where `A` is `Width`, lines
+/// where it is `Height`.
+pub trait Measurement<A> {
+    // The number for some cells, row by row, and a configuration.
+    ghost measures: { Self → List (List (List ℕ)) → SpannedConfig → ℕ };
+
+    // Holds where a sum or product that it is made of passes the greatest `usize`.
+    ghost passes: { Self → List (List (List ℕ)) → SpannedConfig → Type 0 };
+
+    /// Reads the number. It is refused with `Range`, exactly where a sum or product of it passes the greatest
+    /// `usize`.
+    fn measure<R: PeekableRecords>(
+        &self,
+        records: &R,
+        cfg: &SpannedConfig,
+    ) -> Result<usize, TableError>
+        ensures ok { IfOk result (λ n. n ≡ measures self.now (R.cells records.now) cfg.now) }
+        ensures fits { OnOk result (passes self.now (R.cells records.now) cfg.now → ⊥) }
+        ensures err { IfErr result (λ e. (e ≡ Range) × passes self.now (R.cells records.now) cfg.now) };
+}
+
+/// A number measures itself, whatever the table is.
+impl<A> Measurement<A> for usize {
+    ghost measures = { λ n cells config. n };
+
+    ghost passes = { λ n cells config. ⊥ };
+
+    fn measure<R: PeekableRecords>(
+        &self,
+        _records: &R,
+        _cfg: &SpannedConfig,
+    ) -> Result<usize, TableError> {
+        Ok(*self)
+    }
+}
+
+impl Width {
+    /// Wraps to a measure, as `Wrap::new` does.
+    pub fn wrap<W: Measurement<Width>>(width: W) -> Wrap<W>
+        ensures width { result.width ≡ width }
+        ensures keep_words { result.keep_words ≡ false }
+        ensures priority { result.priority.kept ≡ 0 }
+    {
+        Wrap::new(width)
+    }
+
+    /// Truncates to a measure, as `Truncate::new` does.
+    pub fn truncate<W: Measurement<Width>>(width: W) -> Truncate<'static, W>
+        ensures width { result.width ≡ width }
+        ensures suffix { result.suffix.now ≡ [] }
+        ensures limit { result.limit ≡ Cut }
+        ensures multiline { result.multiline ≡ false }
+        ensures priority { result.priority.kept ≡ 0 }
+    {
+        Truncate::new(width)
+    }
+}

@@ -1,0 +1,7 @@
+use Rattle.std.proofs.Common.{take}
+use Rattle.tabled_table.specs.Applied.{ChangesEach}
+use Rattle.tabled_table.proofs.applying.change_each.Given as goal
+
+abbrev pub invariant-loop-entity : goal.invariant-loop-entity
+invariant-loop-entity g l =
+    ChangesEach (g.O.CellOption.changes l.option) (take l.entity-index l.entities) l.fn.records l.fn.config l.records l.config

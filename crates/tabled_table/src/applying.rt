@@ -1,0 +1,182 @@
+//! Options of whole tables, and of some of their cells.
+ghost use Rattle.std.specs.Prelude.{◌≡◌, ◌⊎◌, ◌<◌, IfErr, IfOk, OnOk, length};
+ghost use Rattle.tabled_base.specs.Cells.{columns};
+ghost use Rattle.tabled_base.specs.declared.error.TableError.TheVariants.{Memory, Range};
+ghost use Rattle.tabled_table.specs.Applied.{ChangesEach, IsApplied, IsModified, IsModifyingRefused, IsRefusedBy};
+ghost use Rattle.tabled_table.specs.Passed.{IsPassedAt};
+ghost use Rattle.tabled_table.specs.TableSheet.{cells_of};
+ghost use Rattle.tabled_table.specs.Stopped.{IsPutBack, IsStopped};
+
+use crate::table::Table;
+use tabled_base::{CellOption, Entity, Object, TableError, TableOption, Text, VecRecords};
+use tabled_config::ColoredConfig;
+use tabled_size::CompleteDimension;
+
+impl Table {
+    /// Applies an option, and then forgets the stored sizes that it hints. This is `with` for callers
+    /// that need the table after a refusal: then it is as the option left it, with no sizes stored.
+    /// Refused for memory, and with `Range` where a sum or product of the option passes the greatest
+    /// `usize`.
+    pub fn apply<O: TableOption<VecRecords<Text<String>>, ColoredConfig, CompleteDimension>>(
+        &mut self,
+        option: O,
+    ) -> Result<(), TableError>
+        ensures ok { OnOk result (IsApplied (O.changes option) (O.hint option) self.old self.new) }
+        ensures err { IfErr result (λ e. IsRefusedBy (O.refuses option e) self.old self.new) }
+        ensures only { IfErr result (λ e. (e ≡ Memory) ⊎ (e ≡ Range)) }
+        ensures range { IfErr result (λ e. e ≡ Range
+            → O.passes option self.old.records self.old.config self.old.dimension) }
+    {
+        let hint = option.hint_change();
+        match option.change(&mut self.records, &mut self.config, &mut self.dimension) {
+            Ok(()) => {
+                self.dimension.reastimate(hint);
+                Ok(())
+            }
+            Err(e) => {
+                self.dimension.clear();
+                Err(e)
+            }
+        }
+    }
+
+    /// Applies an option, forgets the stored sizes that it hints, and gives the table back. Refused for
+    /// memory, and with `Range` where a sum or product of the option passes the greatest `usize`. What a
+    /// refusal leaves of the table is said by `apply`.
+    pub fn with<O: TableOption<VecRecords<Text<String>>, ColoredConfig, CompleteDimension>>(
+        &mut self,
+        option: O,
+    ) -> Result<&mut Self, TableError>
+        ensures same_reference { IfOk result (λ table. table.ghost_name ≡ self.entry.ghost_name) }
+        ensures ok { IfOk result (λ table. IsApplied (O.changes option) (O.hint option) self.old table.now) }
+        ensures only { IfErr result (λ e. (e ≡ Memory) ⊎ (e ≡ Range)) }
+        ensures range { IfErr result (λ e. e ≡ Range
+            → O.passes option self.old.records self.old.config self.old.dimension) }
+    {
+        self.apply(option)?;
+        Ok(self)
+    }
+
+    /// Applies a cell option at each part that a target names, in order, and then forgets the stored
+    /// sizes that the option hints. This is `modify` for callers that need the table after a refusal: then
+    /// the cells of the parts before the refused one are changed, no sizes are stored, and where the
+    /// target names several parts the configuration is as it was. Refused for memory, and with `Range`
+    /// where a sum or product of the option passes the greatest `usize` at one of the parts.
+    pub fn apply_to<
+        T: Object<VecRecords<Text<String>>> + Drop,
+        O: CellOption<VecRecords<Text<String>>, ColoredConfig>,
+    >(&mut self, target: T, option: &O) -> Result<(), TableError>
+        ensures ok { OnOk result (IsModified (O.changes option.now)
+            (T.picks target (length (cells_of self.old)) (columns (cells_of self.old)))
+            (O.hint option.now) self.old self.new) }
+        ensures err { IfErr result (λ e. IsModifyingRefused (O.changes option.now) (O.refuses option.now e)
+            (T.picks target (length (cells_of self.old)) (columns (cells_of self.old)))
+            e self.old self.new) }
+        ensures only { IfErr result (λ e. (e ≡ Memory) ⊎ (e ≡ Range)) }
+        ensures range { IfErr result (λ e. e ≡ Range
+            → IsPassedAt (O.changes option.now) (O.refuses option.now e) (O.passes option.now)
+            (T.picks target (length (cells_of self.old)) (columns (cells_of self.old))) self.old) }
+    {
+        match change_target(&mut self.records, &mut self.config, &target, option) {
+            Ok(()) => {
+                self.dimension.reastimate(option.hint_change());
+                Ok(())
+            }
+            Err(e) => {
+                self.dimension.clear();
+                Err(e)
+            }
+        }
+    }
+
+    /// Applies a cell option at each part that a target names, in order, forgets the stored sizes that the
+    /// option hints, and gives the table back. Refused for memory, and with `Range` where a sum or product
+    /// of the option passes the greatest `usize` at one of the parts. What a refusal leaves of the table is
+    /// said by `apply_to`.
+    pub fn modify<
+        T: Object<VecRecords<Text<String>>> + Drop,
+        O: CellOption<VecRecords<Text<String>>, ColoredConfig> + Drop,
+    >(&mut self, target: T, option: O) -> Result<&mut Self, TableError>
+        ensures same_reference { IfOk result (λ table. table.ghost_name ≡ self.entry.ghost_name) }
+        ensures ok { IfOk result (λ table. IsModified (O.changes option)
+            (T.picks target (length (cells_of self.old)) (columns (cells_of self.old)))
+            (O.hint option) self.old table.now) }
+        ensures only { IfErr result (λ e. (e ≡ Memory) ⊎ (e ≡ Range)) }
+        ensures range { IfErr result (λ e. e ≡ Range
+            → IsPassedAt (O.changes option) (O.refuses option e) (O.passes option)
+            (T.picks target (length (cells_of self.old)) (columns (cells_of self.old))) self.old) }
+    {
+        self.apply_to(target, &option)?;
+        Ok(self)
+    }
+}
+
+/// Applies an option at each part that a target names. A refusal at one of several parts leaves the
+/// configuration as it was.
+fn change_target<
+    T: Object<VecRecords<Text<String>>>,
+    O: CellOption<VecRecords<Text<String>>, ColoredConfig>,
+>(
+    records: &mut VecRecords<Text<String>>,
+    config: &mut ColoredConfig,
+    target: &T,
+    option: &O,
+) -> Result<(), TableError>
+    ensures ok { OnOk result (ChangesEach (O.changes option.now)
+        (T.picks target.now (length records.old) (columns records.old))
+        records.old config.old records.new config.new) }
+    ensures err { IfErr result (λ e. IsPutBack (O.changes option.now) (O.refuses option.now) (O.passes option.now)
+        (T.picks target.now (length records.old) (columns records.old))
+        e records.old config.old records.new config.new) }
+    ensures only { IfErr result (λ e. (e ≡ Memory) ⊎ (e ≡ Range)) }
+{
+    let entities = target.cells(records.allocator(), records)?;
+    if entities.len() > 1 {
+        change_several(records, config, entities.as_slice(), option)
+    } else {
+        change_each(records, config, entities.as_slice(), option)
+    }
+}
+
+/// Applies an option at several parts in order. A refusal leaves the configuration as it was.
+fn change_several<O: CellOption<VecRecords<Text<String>>, ColoredConfig>>(
+    records: &mut VecRecords<Text<String>>,
+    config: &mut ColoredConfig,
+    entities: &[Entity],
+    option: &O,
+) -> Result<(), TableError>
+    requires { 1 < length entities.now }
+    ensures ok { OnOk result (ChangesEach (O.changes option.now) entities.now
+        records.old config.old records.new config.new) }
+    ensures err { IfErr result (λ e. IsPutBack (O.changes option.now) (O.refuses option.now) (O.passes option.now)
+        entities.now e records.old config.old records.new config.new) }
+    ensures only { IfErr result (λ e. (e ≡ Memory) ⊎ (e ≡ Range)) }
+{
+    let before = config.clone()?;
+    match change_each(records, config, entities, option) {
+        Ok(()) => Ok(()),
+        Err(e) => {
+            *config = before;
+            Err(e)
+        }
+    }
+}
+
+/// Applies an option at some parts in order, up to one where it is refused.
+fn change_each<O: CellOption<VecRecords<Text<String>>, ColoredConfig>>(
+    records: &mut VecRecords<Text<String>>,
+    config: &mut ColoredConfig,
+    entities: &[Entity],
+    option: &O,
+) -> Result<(), TableError>
+    ensures ok { OnOk result (ChangesEach (O.changes option.now) entities.now
+        records.old config.old records.new config.new) }
+    ensures err { IfErr result (λ e. IsStopped (O.changes option.now) (O.refuses option.now) (O.passes option.now)
+        entities.now e records.old config.old records.new config.new) }
+    ensures only { IfErr result (λ e. (e ≡ Memory) ⊎ (e ≡ Range)) }
+{
+    for entity in entities {
+        option.change(records, config, *entity)?;
+    }
+    Ok(())
+}
