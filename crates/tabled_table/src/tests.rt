@@ -1,6 +1,7 @@
 //! What no clause says: that calls succeed, and that the pictures are the ones that were meant.
 
 mod alignments;
+mod applying;
 mod drawing;
 mod plain;
 mod settings;
