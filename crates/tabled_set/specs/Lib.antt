@@ -3,4 +3,5 @@ pub mod EntityChanges
 pub mod Minimums
 pub mod Narrowed
 pub mod PlainEnding
+pub mod SpanChanges
 pub mod Truncated
