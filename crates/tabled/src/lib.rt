@@ -27,6 +27,12 @@ pub mod builder {
 pub mod settings {
     pub use tabled_base::{CellOption, TableOption};
     pub use tabled_config::Style;
+    pub use tabled_set::{Height, Width};
+
+    /// Numbers that are read from a table.
+    pub mod measurement {
+        pub use tabled_set::Measurement;
+    }
 
     /// Parts of a table that are chosen.
     pub mod object {

@@ -7,10 +7,10 @@ use Rattle.tabled_base.proofs.ChangedCells.{with_cell-rows, with_cell-same, with
 use Rattle.tabled_config.specs.Changes.{covers}
 use Rattle.tabled_set.specs.CellChanges.{AreChanged}
 
-match-true : {b : Bool} (P Q : Type 0) → b ≡ true → P → MatchBool b P Q
+pub match-true : {b : Bool} (P Q : Type 0) → b ≡ true → P → MatchBool b P Q
 match-true P Q e p = subst (λ x. MatchBool x P Q) (sym e) p
 
-match-false : {b : Bool} (P Q : Type 0) → b ≡ false → Q → MatchBool b P Q
+pub match-false : {b : Bool} (P Q : Type 0) → b ≡ false → Q → MatchBool b P Q
 match-false P Q e q = subst (λ x. MatchBool x P Q) (sym e) q
 
 columns-first : (cells : List (List (List ℕ))) → columns cells ≡ length (slice_index_or cells 0 [])
@@ -127,35 +127,6 @@ pub covers-cell : (row column r c : ℕ) → covers (Cell row column) r c ≡ tr
 covers-cell row column r c e =
     let both = and_parts (row == r) (column == c) e in
     (sym (eqb-true row r both.0), sym (eqb-true column c both.1))
-
-row-after : (cells : List (List (List ℕ))) (row column : ℕ) (text : List ℕ) → row < length cells → (r : ℕ) → length (slice_index_or (with_cell cells row column text) r []) ≡ length (slice_index_or cells r [])
-row-after cells row column text h r =
-    let changed = slice_set (slice_index_or cells row []) column text in
-    ⊎_elim
-    (λ e. subst (λ k. length (slice_index_or (with_cell cells row column text) k []) ≡ length (slice_index_or cells k [])) (sym e) (ap length (get_or-set_same cells row changed [] h) ∙ length-set (slice_index_or cells row []) column text))
-    (λ other. ap length (get_or-set_other cells row r changed [] other))
-    (cases_eq r row)
-
--- one cell was given another text
-pub AreChanged-one : {change : ℕ → ℕ → List ℕ → List ℕ → Type 0} (cells : List (List (List ℕ))) (row column : ℕ) (text : List ℕ) → IsRectangular cells → IsInside cells row column → change row column (cell_at cells row column) text → AreChanged (covers (Cell row column)) change cells (with_cell cells row column text)
-AreChanged-one {change} cells row column text q h so =
-    let new = with_cell cells row column text in
-    record {
-      rows = with_cell-rows cells row column text;
-      row_lengths = row-after cells row column text h.row_in;
-      cells = λ r c inside.
-          let changed = change r c (cell_at cells r c) (cell_at new r c) in
-          let stays = cell_at new r c ≡ cell_at cells r c in
-          ⊎_elim
-          (λ yes.
-          let here = covers-cell row column r c yes in
-          let at_place : change row column (cell_at cells row column) (cell_at new row column) = subst (change row column (cell_at cells row column)) (sym (with_cell-same cells row column text q h)) so in
-          match-true changed stays yes (rw (here.0, here.1) at_place))
-          (λ no.
-          let apart : r ≡ row → c ≡ column → ⊥ = λ a b. let yes : covers (Cell row column) r c ≡ true = rw (a, b) (rw (eq-eqb row row refl, eq-eqb column column refl) refl) in let e : true ≡ false = sym yes ∙ no in cc in
-          match-false changed stays no (with_cell-other cells row column r c text h.row_in apart))
-          (cases_Bool (covers (Cell row column) r c));
-    }
 
 -- some places, and then one more
 pub AreChanged-next : {chosen next : ℕ → ℕ → Bool} {change one : ℕ → ℕ → List ℕ → List ℕ → Type 0} {old between new : List (List (List ℕ))} (row column : ℕ) → AreChanged chosen change old between → AreChanged (covers (Cell row column)) one between new → chosen row column ≡ false → ((before after : List ℕ) → one row column before after → change row column before after) → ((r c : ℕ) → next r c ≡ (chosen r c || covers (Cell row column) r c)) → AreChanged next change old new

@@ -3,6 +3,7 @@ pub mod ChangingCells
 pub mod Emptied
 pub mod Endings
 pub mod InOrder
+pub mod InSpans
 pub mod JoinedLines
 pub mod PaddedTotals
 pub mod Staying

@@ -1,4 +1,6 @@
 //! What no clause says: that calls succeed with ample memory, and what texts become.
 
+mod cells;
+mod measures;
 mod truncated;
 mod wrapped;
