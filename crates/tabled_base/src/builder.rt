@@ -122,6 +122,18 @@ impl Builder {
     }
 }
 
+/// A builder of rows that are there. It takes no memory.
+impl From<VecRecords<Text<String>>> for Builder {
+    ghost from_gives = { λ records builder. builder ≡ records };
+
+    fn from(records: VecRecords<Text<String>>) -> Builder {
+        Builder {
+            rows: records.into_rows(),
+            room: 0,
+        }
+    }
+}
+
 /// The texts of cells, measured.
 fn collect_row<I: IntoIterator>(
     alloc: Global,

@@ -37,6 +37,14 @@ impl<T: CellText> VecRecords<T> {
     pub fn allocator(&self) -> Global {
         *self.rows.allocator()
     }
+
+    /// The rows, which are equally long.
+    pub(crate) fn into_rows(self) -> Vec<Vec<T>>
+        ensures rows { texts_of T.text result.items ≡ self }
+        ensures rectangular { IsRectangular (texts_of T.text result.items) }
+    {
+        self.rows
+    }
 }
 
 impl VecRecords<Text<String>> {
