@@ -1,9 +1,8 @@
 -- Cells that are changed one after another.
-use Rattle.std.proofs.Common.{◌≡◌, ℕ, ◌<◌, ◌==◌, Bool, true, false, ◌||◌, List, [], ◌∷◌, MatchBool, length, slice_index_or, slice_set, length-set, get_or-set_same, get_or-set_other, refl, sym, ap, subst, ◌∙◌, ⊎_elim}
-use Rattle.std.proofs.lemmas.Bool.{MatchBool-at_true, MatchBool-at_false, and_parts, cases_Bool, cases_eq, eq-eqb, eqb-true}
-use Rattle.tabled_base.specs.Cells.{IsInside, IsRectangular, cell_at, columns, with_cell}
+use Rattle.std.proofs.Common.{◌≡◌, ℕ, ◌<◌, ◌==◌, Bool, true, false, ◌||◌, List, [], ◌∷◌, MatchBool, length, slice_index_or, refl, sym, ap, subst, ◌∙◌, ⊎_elim}
+use Rattle.std.proofs.lemmas.Bool.{MatchBool-at_true, MatchBool-at_false, and_parts, cases_Bool, eqb-true}
+use Rattle.tabled_base.specs.Cells.{IsInside, cell_at, columns}
 use Rattle.tabled_base.specs.declared.position.Entity.TheVariants.{Cell}
-use Rattle.tabled_base.proofs.ChangedCells.{with_cell-rows, with_cell-same, with_cell-other}
 use Rattle.tabled_config.specs.Changes.{covers}
 use Rattle.tabled_set.specs.CellChanges.{AreChanged}
 
