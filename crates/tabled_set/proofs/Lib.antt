@@ -1,5 +1,6 @@
 pub mod Bare
 pub mod ChangingCells
+pub mod ChangingColumns
 pub mod Emptied
 pub mod Endings
 pub mod InOrder

@@ -2,6 +2,7 @@
 #![tactic(auto)]
 
 mod changing;
+mod columns;
 pub mod laws;
 mod measurement;
 mod minimums;
