@@ -4,6 +4,7 @@ pub mod ChangingColumns
 pub mod Emptied
 pub mod Endings
 pub mod InOrder
+pub mod InSpans
 pub mod JoinedLines
 pub mod PaddedTotals
 pub mod Staying

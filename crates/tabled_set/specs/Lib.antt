@@ -5,4 +5,5 @@ pub mod Minimums
 pub mod Narrowed
 pub mod PlainEnding
 pub mod Shrinking
+pub mod SpanChanges
 pub mod Truncated

@@ -3,6 +3,7 @@
 
 mod changing;
 mod columns;
+mod covering;
 pub mod laws;
 mod measurement;
 mod minimums;
