@@ -6,6 +6,7 @@ pub mod Endings
 pub mod InOrder
 pub mod InSpans
 pub mod JoinedLines
+pub mod NarrowingTables
 pub mod PaddedTotals
 pub mod Staying
 pub mod SuffixLemmas

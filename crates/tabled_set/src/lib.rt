@@ -7,6 +7,7 @@ mod covering;
 pub mod laws;
 mod measurement;
 mod minimums;
+mod narrow_table;
 mod narrowing;
 mod suffix;
 mod truncate;
