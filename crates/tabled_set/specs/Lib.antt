@@ -1,4 +1,5 @@
 pub mod CellChanges
+pub mod ColumnChanges
 pub mod EntityChanges
 pub mod Minimums
 pub mod Narrowed

@@ -2,5 +2,6 @@
 
 mod cells;
 mod measures;
+mod tables;
 mod truncated;
 mod wrapped;

@@ -8,6 +8,7 @@ ghost use Rattle.tabled_set.specs.declared.suffix.SuffixLimit.TheVariants.{Cut};
 ghost use Rattle.tabled_text.specs.Cut.{IsCut, NeedsFill};
 
 mod cells;
+mod table;
 
 use crate::changing::ChangesText;
 use crate::measurement::{Measurement, Width};

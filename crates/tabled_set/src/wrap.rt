@@ -6,6 +6,7 @@ ghost use Rattle.tabled_text.specs.Breaking.{EachUnitFits, HasFewestLines, IsLea
 ghost use Rattle.tabled_text.specs.Wrapping.{IsWrapped};
 
 mod cells;
+mod table;
 
 use crate::changing::ChangesText;
 use crate::measurement::{Measurement, Width};
