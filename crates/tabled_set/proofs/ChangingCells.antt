@@ -7,10 +7,10 @@ use Rattle.tabled_base.proofs.ChangedCells.{with_cell-rows, with_cell-same, with
 use Rattle.tabled_config.specs.Changes.{covers}
 use Rattle.tabled_set.specs.CellChanges.{AreChanged}
 
-match-true : {b : Bool} (P Q : Type 0) → b ≡ true → P → MatchBool b P Q
+pub match-true : {b : Bool} (P Q : Type 0) → b ≡ true → P → MatchBool b P Q
 match-true P Q e p = subst (λ x. MatchBool x P Q) (sym e) p
 
-match-false : {b : Bool} (P Q : Type 0) → b ≡ false → Q → MatchBool b P Q
+pub match-false : {b : Bool} (P Q : Type 0) → b ≡ false → Q → MatchBool b P Q
 match-false P Q e q = subst (λ x. MatchBool x P Q) (sym e) q
 
 columns-first : (cells : List (List (List ℕ))) → columns cells ≡ length (slice_index_or cells 0 [])

@@ -1,9 +1,12 @@
 pub mod Bare
 pub mod ChangingCells
+pub mod ChangingColumns
 pub mod Emptied
 pub mod Endings
 pub mod InOrder
+pub mod InSpans
 pub mod JoinedLines
+pub mod NarrowingTables
 pub mod PaddedTotals
 pub mod Staying
 pub mod SuffixLemmas

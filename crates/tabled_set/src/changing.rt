@@ -58,6 +58,7 @@ fn set_changed<T: ChangesText, R: RecordsMut>(
 }
 
 /// Changes each cell, whatever its width is.
+#[derive(Drop)]
 pub(crate) struct Every<'a, T> {
     /// What makes the texts.
     pub(crate) by: &'a T,
@@ -77,6 +78,7 @@ impl<'a, T: ChangesText> ChangesCell for Every<'a, T> {
 }
 
 /// Changes a cell that is wider than the room, and leaves another.
+#[derive(Drop)]
 pub(crate) struct Wider<'a, T> {
     /// What makes the texts.
     pub(crate) by: &'a T,

@@ -2,9 +2,12 @@
 #![tactic(auto)]
 
 mod changing;
+mod columns;
+mod covering;
 pub mod laws;
 mod measurement;
 mod minimums;
+mod narrow_table;
 mod narrowing;
 mod suffix;
 mod truncate;

@@ -7,6 +7,9 @@ ghost use Rattle.tabled_set.specs.Truncated.{AddsEnded, HasEndedLines, IsTruncat
 ghost use Rattle.tabled_set.specs.declared.suffix.SuffixLimit.TheVariants.{Cut};
 ghost use Rattle.tabled_text.specs.Cut.{IsCut, NeedsFill};
 
+mod cells;
+mod table;
+
 use crate::changing::ChangesText;
 use crate::measurement::{Measurement, Width};
 use crate::suffix::{SuffixLimit, UsedSuffix, used_suffix};

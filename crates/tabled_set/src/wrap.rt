@@ -5,6 +5,9 @@ ghost use Rattle.tabled_set.specs.CellChanges.{wrapping};
 ghost use Rattle.tabled_text.specs.Breaking.{EachUnitFits, HasFewestLines, IsLeastBreaking};
 ghost use Rattle.tabled_text.specs.Wrapping.{IsWrapped};
 
+mod cells;
+mod table;
+
 use crate::changing::ChangesText;
 use crate::measurement::{Measurement, Width};
 use std::alloc::Global;

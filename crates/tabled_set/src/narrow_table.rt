@@ -1,0 +1,49 @@
+//! Tables that are narrowed to a total.
+ghost use Rattle.std.specs.Prelude.{◌≡◌, ◌⊎◌, ◌≤◌, ◌^◌, IfErr, OnOk, false};
+ghost use Rattle.tabled_base.specs.declared.error.TableError.TheVariants.{Memory, Range};
+ghost use Rattle.tabled_set.specs.Minimums.{emptied};
+ghost use Rattle.tabled_set.specs.Narrowed.{Narrows, StopsNarrowing};
+ghost use Rattle.tabled_size.specs.Estimates.{IsTooWide};
+ghost use Rattle.tabled_size.specs.FilledIn.{HasNoEstimate};
+ghost use Rattle.tabled_size.specs.Sheet.{is_empty};
+ghost use Rattle.tabled_size.specs.StandingSheet.{standing};
+ghost use Rattle.tabled_size.specs.Totals.{total_width};
+
+use crate::changing::ChangesCell;
+use crate::columns::change_columns;
+use crate::narrowing::narrowed_widths;
+use tabled_base::{RecordsMut, TableError};
+use tabled_config::SpannedConfig;
+use tabled_size::{CompleteDimension, Estimate, Peaker};
+
+/// Narrows a table that has a row and a column to a total of n columns. Sizes that aren't stored are
+/// estimated first. Refused for memory, or with `Range` where an estimate, the total or the side padding of
+/// a cell passes the greatest `usize`.
+pub(crate) fn narrow_table<T: ChangesCell, P: Peaker + Drop, R: RecordsMut>(
+    by: &T,
+    priority: P,
+    records: &mut R,
+    config: &SpannedConfig,
+    sizes: &mut CompleteDimension,
+    n: usize,
+) -> Result<(), TableError>
+    requires { is_empty (R.cells records.old) ≡ false }
+    ensures ok { OnOk result (Narrows P.shrinks priority (T.leaves by.now) n
+        (R.cells records.old) config.now sizes.old (R.cells records.new) sizes.new) }
+    ensures err { IfErr result (λ e. StopsNarrowing P.shrinks priority (T.leaves by.now) n e
+        (R.cells records.old) config.now sizes.old (R.cells records.new)) }
+    ensures only { IfErr result (λ e. (e ≡ Memory) ⊎ ((e ≡ Range)
+        × (HasNoEstimate sizes.old (R.cells records.old) config.now
+        ⊎ ((2 ^ 64 ≤ total_width (standing (R.cells records.old) config.now sizes.old))
+        ⊎ IsTooWide (emptied (R.cells records.old)) config.now)))) }
+{
+    sizes.estimate(records, config)?;
+    let alloc = records.allocator();
+    let Some(found) = narrowed_widths(alloc, priority, records, config, sizes, n)? else {
+        return Ok(());
+    };
+    change_columns(by, records, config, &found)?;
+    sizes.set_widths(found.widths);
+    sizes.clear_height();
+    Ok(())
+}

@@ -1,0 +1,66 @@
+//! Truncating the cells of whole tables.
+ghost use Rattle.std.specs.Prelude.{◌≡◌, None};
+ghost use Rattle.tabled_set.specs.CellChanges.{if_wider, truncating};
+ghost use Rattle.tabled_set.specs.Narrowed.{Narrows, NarrowingPasses, StopsNarrowing};
+
+use crate::changing::Wider;
+use crate::measurement::{Measurement, Width};
+use crate::narrow_table::narrow_table;
+use crate::truncate::Truncate;
+use tabled_base::{Entity, RecordsMut, TableError, TableOption};
+use tabled_config::ColoredConfig;
+use tabled_size::{CompleteDimension, Peaker, is_empty};
+
+/// A table wider than the measure is narrowed to it: its columns shrink by the excess, and each cell that is wider
+/// than its column's new width less its own padding is truncated to that. Cells of a column that ends below its
+/// minimum, its width with empty cells, stay. The widths are stored, and heights are cleared where the table was
+/// wider.
+impl<'a, W: Measurement<Width> + Drop, P: Peaker + Drop, R: RecordsMut> TableOption<
+    R,
+    ColoredConfig,
+    CompleteDimension,
+> for Truncate<'a, W, P> {
+    ghost changes = { λ s r c d r' c' d'.
+        Narrows P.shrinks s.priority (if_wider (truncating s.suffix.now s.limit s.multiline))
+        (W.measures s.width (R.cells r) c.config) (R.cells r) c.config d (R.cells r') d' × (c' ≡ c) };
+
+    ghost refuses = { λ s e r c d r' c' d'.
+        StopsNarrowing P.shrinks s.priority (if_wider (truncating s.suffix.now s.limit s.multiline))
+        (W.measures s.width (R.cells r) c.config) e (R.cells r) c.config d (R.cells r') × (c' ≡ c) };
+
+    ghost passes = { λ s r c d. NarrowingPasses (W.passes s.width (R.cells r) c.config) (R.cells r) c.config d };
+
+    ghost hint = { λ s. None };
+
+    fn change(
+        self,
+        records: &mut R,
+        cfg: &mut ColoredConfig,
+        dims: &mut CompleteDimension,
+    ) -> Result<(), TableError> {
+        if is_empty(records) {
+            return Ok(());
+        }
+        let config = cfg.as_ref();
+        let n = self.width.measure(records, config)?;
+        let texts = Truncate {
+            width: (),
+            suffix: self.suffix,
+            limit: self.limit,
+            multiline: self.multiline,
+            priority: (),
+        };
+        narrow_table(
+            &Wider { by: &texts },
+            self.priority,
+            records,
+            config,
+            dims,
+            n,
+        )
+    }
+
+    fn hint_change(&self) -> Option<Entity> {
+        None
+    }
+}

@@ -1,0 +1,62 @@
+//! Wrapping the cells of whole tables.
+ghost use Rattle.std.specs.Prelude.{◌≡◌, Some};
+ghost use Rattle.tabled_base.specs.declared.position.Entity.TheVariants.{Row};
+ghost use Rattle.tabled_set.specs.CellChanges.{wrapping};
+ghost use Rattle.tabled_set.specs.Narrowed.{Narrows, NarrowingPasses, StopsNarrowing};
+
+use crate::changing::Every;
+use crate::measurement::{Measurement, Width};
+use crate::narrow_table::narrow_table;
+use crate::wrap::Wrap;
+use tabled_base::{Entity, RecordsMut, TableError, TableOption};
+use tabled_config::ColoredConfig;
+use tabled_size::{CompleteDimension, Peaker, is_empty};
+
+/// A table wider than the measure is narrowed to it: its columns shrink by the excess, and every cell is wrapped
+/// to its column's new width less its own padding. Cells of a column that ends below its minimum, its width with
+/// empty cells, stay. The widths are stored, and where none were, of other tables too.
+impl<W: Measurement<Width> + Drop, P: Peaker + Drop, R: RecordsMut> TableOption<
+    R,
+    ColoredConfig,
+    CompleteDimension,
+> for Wrap<W, P> {
+    ghost changes = { λ s r c d r' c' d'. Narrows P.shrinks s.priority (wrapping s.keep_words)
+        (W.measures s.width (R.cells r) c.config) (R.cells r) c.config d (R.cells r') d' × (c' ≡ c) };
+
+    ghost refuses = { λ s e r c d r' c' d'. StopsNarrowing P.shrinks s.priority (wrapping s.keep_words)
+        (W.measures s.width (R.cells r) c.config) e (R.cells r) c.config d (R.cells r') × (c' ≡ c) };
+
+    ghost passes = { λ s r c d. NarrowingPasses (W.passes s.width (R.cells r) c.config) (R.cells r) c.config d };
+
+    ghost hint = { λ s. Some (Row 0) };
+
+    fn change(
+        self,
+        records: &mut R,
+        cfg: &mut ColoredConfig,
+        dims: &mut CompleteDimension,
+    ) -> Result<(), TableError> {
+        if is_empty(records) {
+            return Ok(());
+        }
+        let config = cfg.as_ref();
+        let n = self.width.measure(records, config)?;
+        let texts = Wrap {
+            width: (),
+            keep_words: self.keep_words,
+            priority: (),
+        };
+        narrow_table(
+            &Every { by: &texts },
+            self.priority,
+            records,
+            config,
+            dims,
+            n,
+        )
+    }
+
+    fn hint_change(&self) -> Option<Entity> {
+        Some(Entity::Row(0))
+    }
+}
