@@ -2,6 +2,7 @@
 
 mod alignments;
 mod drawing;
+mod exact;
 mod plain;
 mod settings;
 mod sizes;
