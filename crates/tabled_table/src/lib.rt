@@ -3,6 +3,7 @@
 
 mod applying;
 mod config;
+mod exact;
 pub mod laws;
 mod rows;
 mod table;

@@ -3,6 +3,7 @@
 mod alignments;
 mod applying;
 mod drawing;
+mod exact;
 mod plain;
 mod settings;
 mod sizes;

@@ -1,0 +1,221 @@
+//! Tables that are wrapped or truncated to a total.
+ghost use Rattle.std.specs.Prelude.{⊤};
+
+use crate::tests::drawing::{PAIRS, table_of};
+use crate::{Table, new_config};
+use std::alloc::Global;
+use std::test::Fail;
+use tabled_base::{Columns, TableError};
+use tabled_config::{SpannedConfig, Style};
+use tabled_set::{SuffixLimit, Width};
+use tabled_size::{Peaker, Priority, TakesAll};
+use tabled_text::{line_width, lines};
+
+// Columns of 6, 7 and 6.
+const GREETINGS: &[&[&str]] = &[
+    &["&str", "&str", "i32"],
+    &["1", "Hello", "100"],
+    &["2", "World", "1000"],
+];
+
+const NARROWEST: &str = "+--+--+\n|  |  |\n+--+--+\n|  |  |\n+--+--+";
+
+const LEFT_COLUMN: &str = "\
++----+----+
+| a  | bb |
++----+----+
+| cc |    |
+| c  |    |
++----+----+";
+
+const HELLO: &str = "\
++-----+
+| &st |
+| r   |
++-----+
+| Hel |
+| lo  |
+| Wor |
+| ld! |
++-----+";
+
+// The settings of a new table, with modern borders.
+fn modern(alloc: Global) -> SpannedConfig {
+    let mut config = new_config(alloc);
+    config.set_borders(Style::modern().get_borders());
+    config
+}
+
+// The first line of the greetings, wrapped to 15 columns.
+fn first_line<P: Peaker + Drop>(alloc: Global, priority: P) -> Result<String, TableError> {
+    let mut table = table_of(alloc, GREETINGS, modern(alloc))?;
+    table.apply(Width::wrap(15).priority(priority))?;
+    let text = table.to_string()?;
+    let mut first = String::new(alloc);
+    for line in lines(&text).take(1) {
+        first.push_str(line)?;
+    }
+    Ok(first)
+}
+
+// A table of rows wrapped to some columns.
+fn wrapped(alloc: Global, rows: &[&[&'static str]], width: usize) -> Result<String, TableError> {
+    let mut table = table_of(alloc, rows, new_config(alloc))?;
+    table.wrap_to(width, false, Priority::none())?;
+    table.to_string()
+}
+
+// The pairs wrapped or truncated to some columns, and what is said of the total height.
+fn narrowed<P: TakesAll + Drop>(
+    alloc: Global,
+    wraps: bool,
+    width: usize,
+    priority: P,
+) -> Result<(String, usize), TableError> {
+    let mut table = table_of(alloc, PAIRS, new_config(alloc))?;
+    if wraps {
+        table.wrap_to(width, false, priority)?;
+    } else {
+        table.truncate_to(width, "", SuffixLimit::Cut, false, priority)?;
+    }
+    Ok((table.to_string()?, table.total_height()?))
+}
+
+// Whether a text has so many lines, each of so many columns.
+fn measures(text: &str, width: usize, height: usize) -> bool {
+    let mut count: usize = 0;
+    let mut even = true;
+    for line in lines(text) {
+        count = count.saturating_add(1);
+        even = even && line_width(line) == width;
+    }
+    even && count == height
+}
+
+// Whether the pairs, which take 12 columns and 7 with empty cells, have each total that they can have.
+fn narrows_to_each<P: TakesAll + Copy + Drop>(
+    alloc: Global,
+    priority: P,
+) -> Result<bool, TableError> {
+    let mut exact = true;
+    for width in 0..14 {
+        for wraps in [true, false] {
+            let (text, height) = narrowed(alloc, wraps, width, priority)?;
+            exact = exact && measures(&text, width.clamp(7, 12), height);
+        }
+    }
+    Ok(exact)
+}
+
+#[test]
+fn columns_shrink_by_each_priority(rt: HostRuntime) -> Result<(), Fail> {
+    let alloc = rt.alloc();
+    let line = first_line(alloc, Priority::left())?;
+    assert_eq!(rt; line.as_str(), "┌──┬───┬──────┐");
+    let line = first_line(alloc, Priority::right())?;
+    assert_eq!(rt; line.as_str(), "┌──────┬───┬──┐");
+    let line = first_line(alloc, Priority::min(true))?;
+    assert_eq!(rt; line.as_str(), "┌──┬───────┬──┐");
+    Ok(())
+}
+
+#[test]
+fn the_greatest_columns_shrink_alike(rt: HostRuntime) -> Result<(), Fail> {
+    let alloc = rt.alloc();
+    let line = first_line(alloc, Priority::max(true))?;
+    assert_eq!(rt; line.as_str(), "┌────┬────┬───┐");
+    let line = first_line(alloc, Priority::max(false))?;
+    assert_eq!(rt; line.as_str(), "┌───┬────┬────┐");
+    let line = first_line(alloc, Priority::none())?;
+    assert_eq!(rt; line.as_str(), "┌───┬────┬────┐");
+    Ok(())
+}
+
+#[test]
+fn each_total_is_exact(rt: HostRuntime) -> Result<(), Fail> {
+    let alloc = rt.alloc();
+    assert!(rt; narrows_to_each(alloc, Priority::none())?);
+    assert!(rt; narrows_to_each(alloc, Priority::left())?);
+    assert!(rt; narrows_to_each(alloc, Priority::right())?);
+    Ok(())
+}
+
+#[test]
+fn each_total_is_exact_by_the_sizes(rt: HostRuntime) -> Result<(), Fail> {
+    let alloc = rt.alloc();
+    assert!(rt; narrows_to_each(alloc, Priority::min(true))?);
+    assert!(rt; narrows_to_each(alloc, Priority::min(false))?);
+    assert!(rt; narrows_to_each(alloc, Priority::max(true))?);
+    assert!(rt; narrows_to_each(alloc, Priority::max(false))?);
+    Ok(())
+}
+
+#[test]
+fn no_table_is_narrower_than_its_padding(rt: HostRuntime) -> Result<(), Fail> {
+    let text = wrapped(rt.alloc(), PAIRS, 0)?;
+    assert_eq!(rt; text.as_str(), NARROWEST);
+    Ok(())
+}
+
+#[test]
+fn a_header_is_wrapped_too(rt: HostRuntime) -> Result<(), Fail> {
+    let text = wrapped(rt.alloc(), &[&["&str"], &["Hello World!"]], 7)?;
+    assert_eq!(rt; text.as_str(), HELLO);
+    Ok(())
+}
+
+#[test]
+fn half_a_wide_character_is_replaced(rt: HostRuntime) -> Result<(), Fail> {
+    let alloc = rt.alloc();
+    let mut table = table_of(alloc, &[&["中文字"]], new_config(alloc))?;
+    table.truncate_to(9, "", SuffixLimit::Cut, false, Priority::none())?;
+    assert_eq!(rt;
+        table.to_string()?.as_str(),
+        "+-------+\n| 中文\u{FFFD} |\n+-------+"
+    );
+    Ok(())
+}
+
+#[test]
+fn one_column_is_wrapped(rt: HostRuntime) -> Result<(), Fail> {
+    let alloc = rt.alloc();
+    let mut table = table_of(alloc, PAIRS, new_config(alloc))?;
+    table.modify(Columns::first(), Width::wrap(2))?;
+    assert_eq!(rt; table.to_string()?.as_str(), LEFT_COLUMN);
+    Ok(())
+}
+
+// A priority that names no column.
+#[derive(Clone, Copy)]
+struct Never;
+
+impl Peaker for Never {
+    ghost peaks = { λ s values mins answer t. ⊤ };
+
+    ghost shrinks = { λ s old mins by new t. ⊤ };
+
+    ghost grows = { λ s old by new t. ⊤ };
+
+    fn peak(&mut self, _mins: &[usize], _values: &[usize]) -> Option<usize> {
+        None
+    }
+
+    ghost nothing = { λ s values mins. tt };
+
+    ghost ends = { λ s t values mins by fits named. tt };
+
+    ghost goes_on = { λ s t u values mins new by place fits above named rest. tt };
+
+    ghost grows_nothing = { λ s values. tt };
+
+    ghost growing_ends = { λ s t values by named. tt };
+
+    ghost growing_goes_on = { λ s t u values new by place above named rest. tt };
+}
+
+#[test]
+fn a_priority_may_leave_the_columns(rt: HostRuntime) -> Result<(), Fail> {
+    let line = first_line(rt.alloc(), Never)?;
+    assert_eq!(rt; line.as_str(), "┌──────┬───────┬──────┐");
+    Ok(())
+}
