@@ -1,7 +1,9 @@
 pub mod Applied
 pub mod ExactTotal
+pub mod Fields
 pub mod Lending
 pub mod NewConfig
 pub mod NewTable
 pub mod Rows
 pub mod TableSheet
+pub mod ValueRows

@@ -3,6 +3,7 @@
 
 mod config;
 pub mod laws;
+mod making;
 mod rows;
 mod table;
 #[cfg(test)]
