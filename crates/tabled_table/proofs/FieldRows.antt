@@ -1,7 +1,7 @@
 -- Rows of name and text are put behind others.
 use Rattle.std.proofs.Common.{◌≡◌, ℕ, List, [], ◌∷◌, ◌++◌, length, map, refl, sym, ap, subst, ◌∙◌, append-nil, append_assoc, Option, Some, None, Bor, Iter, ◌⊎◌, inl, inr}
 use Rattle.std.specs.declared.iter.Zip.{Zip}
-use Rattle.std.specs.List.{All, AllZip, flat_map, zip}
+use Rattle.std.specs.List.{All, flat_map, zip}
 use Rattle.std.specs.Iterator.Adapters.{zip_first, zip_second}
 use Rattle.std.specs.Slice.Iter.{iter_rest}
 use Rattle.std.proofs.lemmas.Grind.{flat_map-append}

@@ -2,9 +2,11 @@
 
 mod alignments;
 mod drawing;
+mod making;
 mod plain;
 mod settings;
 mod sizes;
 mod styles;
 mod tables;
+mod values;
 mod writers;
