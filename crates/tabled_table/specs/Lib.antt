@@ -1,6 +1,7 @@
 pub mod Applied
 pub mod BestNarrowing
 pub mod ExactTotal
+pub mod Fields
 pub mod Lending
 pub mod Narrowing
 pub mod NewConfig
@@ -9,3 +10,4 @@ pub mod Passed
 pub mod Rows
 pub mod Stopped
 pub mod TableSheet
+pub mod ValueRows

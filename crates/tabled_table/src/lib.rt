@@ -5,6 +5,7 @@ mod applying;
 mod config;
 mod exact;
 pub mod laws;
+mod making;
 mod rows;
 mod table;
 #[cfg(test)]

@@ -1,9 +1,10 @@
 //! A table of owned texts.
-ghost use Rattle.std.specs.Prelude.{◌≡◌, ◌↔◌, ◌⊎◌, ◌≤◌, ◌^◌, [], List, IfErr, IfOk, IsTrue, Ok, OnOk, false, length, map, string_bytes, true};
+ghost use Rattle.std.specs.Prelude.{◌≡◌, ◌↔◌, ◌⊎◌, ◌≤◌, ◌^◌, [], ℕ, List, IfErr, IfOk, IsTrue, Ok, OnOk, false, length, string_bytes, true};
 ghost use Rattle.std.specs.Borrow.{Lends, sem};
 ghost use Rattle.tabled_base.specs.contracts.text.Text.{the_row as text_row};
 ghost use Rattle.tabled_base.specs.contracts.vec_records.VecRecords.{the_row as records_row};
 ghost use Rattle.std.specs.Iterator.{IsFiniteIterable};
+ghost use Rattle.std.specs.List.{AllZip};
 ghost use Rattle.tabled_base.specs.Cells.{columns};
 ghost use Rattle.tabled_base.specs.Given.{Given};
 ghost use Rattle.tabled_base.specs.declared.error.TableError.TheVariants.{Memory, Range, Writer};
@@ -44,7 +45,7 @@ impl Table {
     ghost use Rattle.tabled_table.specs.TableSheet.{cells_of, sheet};
 
     /// A table of records, set as a new one. It takes no memory.
-    fn of_records(records: VecRecords<Text<String>>) -> Table
+    pub(crate) fn of_records(records: VecRecords<Text<String>>) -> Table
         ensures { IsNew records result }
     {
         let alloc = records.allocator();
@@ -68,9 +69,9 @@ impl Table {
         I::Item: Tabled + Drop,
         requires { IsFiniteIterable I.into_iter_gives I.IntoIter.can_next
             I.IntoIter.remaining iter }
-        ensures ok { IfOk result (λ table. (values : List I.Item)
+        ensures ok { IfOk result (λ table. (values : List I.Item) × (rows : List (List (List ℕ)))
             × Given I.into_iter_gives I.IntoIter.next_gives iter values
-            × IsNew (map I.Item.texts values) table) }
+            × AllZip I.Item.shows values rows × IsNew rows table) }
         ensures only { IfErr result (λ e. e ≡ Memory) }
     {
         let records = value_records(alloc, iter)?;
@@ -239,5 +240,14 @@ impl From<Builder> for Table {
 
     fn from(builder: Builder) -> Table {
         Table::of_records(builder.build())
+    }
+}
+
+/// The rows of the table, its settings and sizes left. It takes no memory.
+impl From<Table> for Builder {
+    ghost from_gives = { λ table builder. builder ≡ table.records };
+
+    fn from(table: Table) -> Builder {
+        Builder::from(table.records)
     }
 }

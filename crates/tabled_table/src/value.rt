@@ -1,7 +1,14 @@
 //! What can be a row of a table.
-ghost use Rattle.std.specs.Prelude.{◌≡◌, ◌∷◌, [], ◌++◌, ◌+◌, ◌-◌, ◌^◌, ℕ, List, IfOk, IfErr, codes, map, min, vec_len};
+ghost use Rattle.std.specs.Prelude.{◌≡◌, ℕ, List, IfOk, IfErr, map, vec_len};
 ghost use Rattle.std.specs.Cow.{cow_str_bytes};
 ghost use Rattle.tabled_base.specs.declared.error.TableError.TheVariants.{Memory};
+
+mod arrays;
+mod holders;
+mod integers;
+mod parts;
+mod single;
+mod tuples;
 
 use std::alloc::Global;
 use std::borrow::CowStr;
@@ -12,8 +19,8 @@ pub trait Tabled {
     // How many fields each value has.
     ghost LENGTH: { ℕ };
 
-    // The texts of a value's fields.
-    ghost texts: { Self → List (List ℕ) };
+    // Holds of a value and the texts that its fields may have.
+    ghost shows: { Self → List (List ℕ) → Type 0 };
 
     // The names of the fields.
     ghost names: { List (List ℕ) };
@@ -24,7 +31,7 @@ pub trait Tabled {
 
     /// The texts of the fields. Refused only for memory.
     fn fields(&self, alloc: Global) -> Result<Vec<CowStr<'_>>, TableError>
-        ensures texts { IfOk result (λ v. map cow_str_bytes v.items ≡ texts self.now) }
+        ensures texts { IfOk result (λ v. shows self.now (map cow_str_bytes v.items)) }
         ensures length { IfOk result (λ v. vec_len v ≡ LENGTH) }
         ensures only { IfErr result (λ e. e ≡ Memory) };
 
@@ -33,71 +40,4 @@ pub trait Tabled {
         ensures names { IfOk result (λ v. map cow_str_bytes v.items ≡ names) }
         ensures length { IfOk result (λ v. vec_len v ≡ LENGTH) }
         ensures only { IfErr result (λ e. e ≡ Memory) };
-}
-
-/// A list of one lent text.
-fn one_text(alloc: Global, text: &str) -> Result<Vec<CowStr<'_>>, TableError>
-    ensures ok { IfOk result (λ v. map cow_str_bytes v.items ≡ text.now ∷ []) }
-    ensures length { IfOk result (λ v. vec_len v ≡ 1) }
-    ensures only { IfErr result (λ e. e ≡ Memory) }
-{
-    let mut texts = Vec::new(alloc);
-    texts.push(CowStr::Borrowed(text))?;
-    Ok(texts)
-}
-
-impl Tabled for &str {
-    ghost LENGTH = { 1 };
-
-    ghost texts = { λ s. s.now ∷ [] };
-
-    ghost names = { codes "&str" ∷ [] };
-
-    fn length() -> usize
-        ensures { result ≡ 1 }
-    {
-        1
-    }
-
-    fn fields(&self, alloc: Global) -> Result<Vec<CowStr<'_>>, TableError>
-        ensures texts { IfOk result (λ v. map cow_str_bytes v.items ≡ self.now.now ∷ []) }
-        ensures length { IfOk result (λ v. vec_len v ≡ 1) }
-        ensures only { IfErr result (λ e. e ≡ Memory) }
-    {
-        one_text(alloc, self)
-    }
-
-    fn headers(alloc: Global) -> Result<Vec<CowStr<'static>>, TableError>
-        ensures names { IfOk result (λ v. map cow_str_bytes v.items ≡ codes "&str" ∷ []) }
-        ensures length { IfOk result (λ v. vec_len v ≡ 1) }
-        ensures only { IfErr result (λ e. e ≡ Memory) }
-    {
-        one_text(alloc, "&str")
-    }
-}
-
-impl<A: Tabled, B: Tabled> Tabled for (A, B) {
-    ghost LENGTH = { min (A.LENGTH + B.LENGTH) (2 ^ 64 - 1) };
-
-    ghost texts = { λ pair. A.texts pair.0 ++ B.texts pair.1 };
-
-    ghost names = { A.names ++ B.names };
-
-    fn length() -> usize {
-        A::length().saturating_add(B::length())
-    }
-
-    fn fields(&self, alloc: Global) -> Result<Vec<CowStr<'_>>, TableError> {
-        let mut all = self.0.fields(alloc)?;
-        let mut more = self.1.fields(alloc)?;
-        all.append(&mut more)?;
-        Ok(all)
-    }
-
-    fn headers(alloc: Global) -> Result<Vec<CowStr<'static>>, TableError> {
-        let mut all = A::headers(alloc)?;
-        let mut more = B::headers(alloc)?;
-        all.append(&mut more)?;
-        Ok(all)
-    }
 }

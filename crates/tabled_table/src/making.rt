@@ -1,0 +1,98 @@
+//! Tables made of values.
+ghost use Rattle.std.specs.Prelude.{◌≡◌, ◌∷◌, ℕ, List, IfErr, IfOk, map};
+ghost use Rattle.std.specs.Iterator.{IsFiniteIterable};
+ghost use Rattle.std.specs.List.{AllZip, flat_map};
+ghost use Rattle.tabled_base.specs.Cells.{padded_rows};
+ghost use Rattle.tabled_base.specs.Given.{Given};
+ghost use Rattle.tabled_base.specs.declared.error.TableError.TheVariants.{Memory};
+ghost use Rattle.tabled_table.specs.ValueRows.{pairs};
+
+use crate::rows::{field_records, named_records};
+use crate::table::Table;
+use crate::value::Tabled;
+use std::alloc::Global;
+use tabled_base::{Builder, CellText, IntoRecords, TableError};
+
+impl Table {
+    ghost use Rattle.tabled_table.specs.NewTable.{IsNew};
+
+    /// A table of the fields' names, then a row a value. Without a value it has the names alone. Refused
+    /// only for memory.
+    pub fn new<I: IntoIterator>(alloc: Global, iter: I) -> Result<Table, TableError>
+    where
+        I::Item: Tabled + Drop,
+        requires { IsFiniteIterable I.into_iter_gives I.IntoIter.can_next
+            I.IntoIter.remaining iter }
+        ensures ok { IfOk result (λ table. (values : List I.Item) × (rows : List (List (List ℕ)))
+            × Given I.into_iter_gives I.IntoIter.next_gives iter values
+            × AllZip I.Item.shows values rows × IsNew (I.Item.names ∷ rows) table) }
+        ensures only { IfErr result (λ e. e ≡ Memory) }
+    {
+        Table::with_capacity(alloc, iter, 0)
+    }
+
+    /// `new`, with room for so many values from the start.
+    pub fn with_capacity<I: IntoIterator>(
+        alloc: Global,
+        iter: I,
+        rows: usize,
+    ) -> Result<Table, TableError>
+    where
+        I::Item: Tabled + Drop,
+        requires { IsFiniteIterable I.into_iter_gives I.IntoIter.can_next
+            I.IntoIter.remaining iter }
+        ensures ok { IfOk result (λ table. (values : List I.Item) × (rows : List (List (List ℕ)))
+            × Given I.into_iter_gives I.IntoIter.next_gives iter values
+            × AllZip I.Item.shows values rows × IsNew (I.Item.names ∷ rows) table) }
+        ensures only { IfErr result (λ e. e ≡ Memory) }
+    {
+        let records = named_records(alloc, iter, rows.saturating_add(1))?;
+        Ok(Table::of_records(records))
+    }
+
+    /// A table without a header, with a row of name and text for each field of each value. Refused only
+    /// for memory.
+    pub fn kv<I: IntoIterator>(alloc: Global, iter: I) -> Result<Table, TableError>
+    where
+        I::Item: Tabled + Drop,
+        requires { IsFiniteIterable I.into_iter_gives I.IntoIter.can_next
+            I.IntoIter.remaining iter }
+        ensures ok { IfOk result (λ table. (values : List I.Item) × (rows : List (List (List ℕ)))
+            × Given I.into_iter_gives I.IntoIter.next_gives iter values
+            × AllZip I.Item.shows values rows
+            × IsNew (flat_map (pairs I.Item.names) rows) table) }
+        ensures only { IfErr result (λ e. e ≡ Memory) }
+    {
+        let records = field_records(alloc, iter)?;
+        Ok(Table::of_records(records))
+    }
+
+    /// A builder of the fields' names, then a row a value. Refused only for memory.
+    pub fn builder<I: IntoIterator>(alloc: Global, iter: I) -> Result<Builder, TableError>
+    where
+        I::Item: Tabled + Drop,
+        requires { IsFiniteIterable I.into_iter_gives I.IntoIter.can_next
+            I.IntoIter.remaining iter }
+        ensures ok { IfOk result (λ builder. (values : List I.Item)
+            × (rows : List (List (List ℕ)))
+            × Given I.into_iter_gives I.IntoIter.next_gives iter values
+            × AllZip I.Item.shows values rows × (builder ≡ I.Item.names ∷ rows)) }
+        ensures only { IfErr result (λ e. e ≡ Memory) }
+    {
+        let records = named_records(alloc, iter, 1)?;
+        Ok(Builder::from(records))
+    }
+
+    /// A table of the rows that a source gives, the short ones padded. Refused only for memory.
+    pub fn from_iter<I: IntoRecords>(alloc: Global, rows: I) -> Result<Table, TableError>
+    where
+        I::Cell: CellText + Drop,
+        requires { I.ends rows }
+        ensures ok { IfOk result (λ table. (cells : List (List I.Cell)) × I.gives rows cells
+            × IsNew (padded_rows (map (map I.Cell.text) cells)) table) }
+        ensures only { IfErr result (λ e. e ≡ Memory) }
+    {
+        let builder = Builder::from_iter(alloc, rows)?;
+        Ok(Table::from(builder))
+    }
+}

@@ -1,0 +1,72 @@
+//! Values that hold another one.
+ghost use Rattle.std.specs.Prelude.{◌≡◌, [], MatchOption, replicate};
+
+use super::Tabled;
+use super::parts::empty_texts;
+use std::alloc::Global;
+use std::borrow::CowStr;
+use tabled_base::TableError;
+
+impl<T: Tabled> Tabled for &T {
+    ghost LENGTH = { T.LENGTH };
+
+    ghost shows = { λ value row. T.shows value.now row };
+
+    ghost names = { T.names };
+
+    fn length() -> usize {
+        T::length()
+    }
+
+    fn fields(&self, alloc: Global) -> Result<Vec<CowStr<'_>>, TableError> {
+        T::fields(self, alloc)
+    }
+
+    fn headers(alloc: Global) -> Result<Vec<CowStr<'static>>, TableError> {
+        T::headers(alloc)
+    }
+}
+
+impl<T: Tabled> Tabled for Box<T> {
+    ghost LENGTH = { T.LENGTH };
+
+    ghost shows = { λ value row. T.shows value.value row };
+
+    ghost names = { T.names };
+
+    fn length() -> usize {
+        T::length()
+    }
+
+    fn fields(&self, alloc: Global) -> Result<Vec<CowStr<'_>>, TableError> {
+        T::fields(self, alloc)
+    }
+
+    fn headers(alloc: Global) -> Result<Vec<CowStr<'static>>, TableError> {
+        T::headers(alloc)
+    }
+}
+
+/// None has empty texts.
+impl<T: Tabled> Tabled for Option<T> {
+    ghost LENGTH = { T.LENGTH };
+
+    ghost shows = { λ value row. MatchOption value (row ≡ replicate T.LENGTH []) (λ some. T.shows some row) };
+
+    ghost names = { T.names };
+
+    fn length() -> usize {
+        T::length()
+    }
+
+    fn fields(&self, alloc: Global) -> Result<Vec<CowStr<'_>>, TableError> {
+        match self {
+            None => empty_texts(alloc, T::length()),
+            Some(value) => value.fields(alloc),
+        }
+    }
+
+    fn headers(alloc: Global) -> Result<Vec<CowStr<'static>>, TableError> {
+        T::headers(alloc)
+    }
+}
