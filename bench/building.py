@@ -9,6 +9,18 @@ import tempfile
 
 TOP = pathlib.Path(__file__).resolve().parent.parent
 
+# What a program of tables stands on.
+TABLED = (
+    "tabled_text",
+    "tabled_base",
+    "tabled_config",
+    "tabled_size",
+    "tabled_set",
+    "tabled_grid",
+    "tabled_table",
+    "tabled",
+)
+
 
 def build(folder, name, crates, files):
     """Builds the program in a folder. It may use the last of the crates; the files lie in its crate."""

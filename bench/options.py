@@ -5,7 +5,7 @@ usage: options.py [FOLDER]
 
 A small program is written into FOLDER (else a temporary folder) beside copies of the crates, built with `rt run`, and
 run on the first tenth and third of the rows of each file, and on all of them. Each table is narrowed to half of its
-total width, the greatest columns first, in copies that are made beforehand; its texts are read before that, too.
+total width, the greatest columns first, in copies that are made beforehand.
 Printed are medians of the rounds: milliseconds, and nanoseconds a byte of the texts, which stay the same where a call
 is linear in them.
 """
@@ -19,17 +19,6 @@ import tempfile
 
 import building
 
-CRATES = (
-    "tabled_text",
-    "tabled_base",
-    "tabled_config",
-    "tabled_size",
-    "tabled_set",
-    "tabled_grid",
-    "tabled_table",
-    "tabled",
-)
-
 FILES = ("long.tsv", "short.tsv", "wide.tsv", "mixed.tsv")
 PARTS = (10, 3, 1)
 
@@ -41,8 +30,11 @@ use std::alloc::Global;
 use std::io;
 use std::time::Instant;
 use tabled::builder::Builder;
-use tabled::settings::Width;
+use tabled::grid::config::ColoredConfig;
+use tabled::grid::dimension::CompleteDimension;
+use tabled::grid::records::{Text, VecRecords};
 use tabled::settings::peaker::Priority;
+use tabled::settings::{TableOption, Width};
 use tabled::{Table, TableError};
 
 const ROUNDS: usize = 5;
@@ -55,40 +47,29 @@ fn table_of(alloc: Global, text: &str) -> Result<Table, TableError> {
     Ok(Table::from(builder))
 }
 
-fn estimated(rt: &HostRuntime, table: &Table) -> Result<(), anyhow::Error> {
+fn measure<O>(
+    rt: &HostRuntime,
+    name: &str,
+    table: &Table,
+    option: O,
+) -> Result<(), anyhow::Error>
+where
+    O: TableOption<VecRecords<Text<String>>, ColoredConfig, CompleteDimension> + Drop,
+{
+    let mut copy = table.clone()?;
     let start = Instant::now(rt)?;
-    let _ = table.total_width()?;
+    copy.apply(option)?;
     let time = start.elapsed(rt)?.as_nanos();
-    println!(rt; "total_width {time}")?;
+    println!(rt; "{name} {time}")?;
     Ok(())
 }
 
-fn wrapped(rt: &HostRuntime, table: &Table, width: usize) -> Result<(), anyhow::Error> {
-    let mut copy = table.clone()?;
-    let start = Instant::now(rt)?;
-    copy.apply(Width::wrap(width).priority(Priority::max(true)))?;
-    let time = start.elapsed(rt)?.as_nanos();
-    println!(rt; "wrap {time}")?;
-    Ok(())
-}
-
-fn wrapped_words(rt: &HostRuntime, table: &Table, width: usize) -> Result<(), anyhow::Error> {
-    let mut copy = table.clone()?;
-    let start = Instant::now(rt)?;
-    let option = Width::wrap(width).keep_words(true);
-    copy.apply(option.priority(Priority::max(true)))?;
-    let time = start.elapsed(rt)?.as_nanos();
-    println!(rt; "wrap,words {time}")?;
-    Ok(())
-}
-
-fn truncated(rt: &HostRuntime, table: &Table, width: usize) -> Result<(), anyhow::Error> {
-    let mut copy = table.clone()?;
-    let start = Instant::now(rt)?;
-    copy.apply(Width::truncate(width).priority(Priority::max(true)))?;
-    let time = start.elapsed(rt)?.as_nanos();
-    println!(rt; "truncate {time}")?;
-    Ok(())
+fn measure_all(rt: &HostRuntime, table: &Table, width: usize) -> Result<(), anyhow::Error> {
+    let greatest = Priority::max(true);
+    measure(rt, "wrap", table, Width::wrap(width).priority(greatest))?;
+    let words = Width::wrap(width).keep_words(true);
+    measure(rt, "wrap,words", table, words.priority(greatest))?;
+    measure(rt, "truncate", table, Width::truncate(width).priority(greatest))
 }
 
 fn main(rt: HostRuntime) -> Result<(), anyhow::Error> {
@@ -97,10 +78,7 @@ fn main(rt: HostRuntime) -> Result<(), anyhow::Error> {
     let table = table_of(alloc, text.as_str())?;
     let width = table.total_width()? / 2;
     for _round in 0..ROUNDS {
-        estimated(&rt, &table)?;
-        wrapped(&rt, &table, width)?;
-        wrapped_words(&rt, &table, width)?;
-        truncated(&rt, &table, width)?;
+        measure_all(&rt, &table, width)?;
     }
     Ok(())
 }
@@ -127,7 +105,7 @@ def main():
     here = pathlib.Path(__file__).resolve().parent
     with tempfile.TemporaryDirectory() as data_folder:
         subprocess.run([sys.executable, here / "generate.py", data_folder], check=True)
-        with building.program(__doc__, "option_times", CRATES, {"src/main.rt": PROGRAM}) as program:
+        with building.program(__doc__, "option_times", building.TABLED, {"src/main.rt": PROGRAM}) as program:
             print(f"{'file':10} {'bytes':>10} {'call':12} {'ms':>8} {'ns a byte':>9}")
             for file in FILES:
                 data = (pathlib.Path(data_folder) / file).read_bytes()

@@ -19,17 +19,6 @@ import subprocess
 
 import building
 
-CRATES = (
-    "tabled_text",
-    "tabled_base",
-    "tabled_config",
-    "tabled_size",
-    "tabled_set",
-    "tabled_grid",
-    "tabled_table",
-    "tabled",
-)
-
 # Of the tables of words; the program has the same number.
 COLUMNS = 100
 
@@ -182,7 +171,7 @@ fn main(rt: HostRuntime) -> Result<(), anyhow::Error> {
 
 
 def main():
-    with building.program(__doc__, "setting_times", CRATES, {"src/main.rt": PROGRAM}) as program:
+    with building.program(__doc__, "setting_times", building.TABLED, {"src/main.rt": PROGRAM}) as program:
         run = subprocess.run([program], stdin=subprocess.DEVNULL, capture_output=True, check=True)
     found = collections.defaultdict(list)
     for row in run.stdout.decode().splitlines():
