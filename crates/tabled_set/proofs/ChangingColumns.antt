@@ -1,19 +1,19 @@
 -- Columns that are changed one after another.
-use Rattle.std.proofs.Common.{◌≡◌, ℕ, ◌+◌, ◌-◌, ◌<◌, ◌==◌, Bool, true, false, ◌&&◌, ◌||◌, nat_lt, nat_le, MatchBool, List, [], length, take, Some, None, Result, Ok, Err, OnErr, if◌then◌else◌, refl, sym, ap, subst, ◌∙◌, ⊎_elim, arith, rules}
-use Rattle.std.proofs.lemmas.Bool.{MatchBool-at_true, MatchBool-at_false, and_parts, cases_Bool, eqb-true}
+use Rattle.std.proofs.Common.{◌≡◌, ℕ, ◌+◌, ◌-◌, ◌<◌, ◌==◌, Bool, true, false, ◌&&◌, ◌||◌, nat_lt, nat_le, MatchBool, List, length, take, Some, None, Result, Ok, Err, OnErr, if◌then◌else◌, refl, sym, ap, subst, ◌∙◌, ⊎_elim, arith}
+use Rattle.std.proofs.lemmas.Bool.{and_parts, cases_Bool, eqb-true}
 use Rattle.std.proofs.lemmas.Bool.Decides.{nat_tests}
 use Rattle.std.proofs.lemmas.List.{get_or-take}
-use Rattle.tabled_base.specs.Cells.{IsInside, cell_at, columns}
+use Rattle.tabled_base.specs.Cells.{cell_at}
 use Rattle.tabled_base.specs.declared.position.Entity.TheVariants.{Cell}
 use Rattle.tabled_config.specs.Changes.{covers}
 use Rattle.tabled_config.specs.declared.spanned.SpannedConfig.{SpannedConfig}
 use Rattle.tabled_size.specs.Permitted.{at}
 use Rattle.tabled_size.specs.Sheet.{Sheet}
-use Rattle.tabled_set.specs.CellChanges.{AreChanged, precedes_by_column}
+use Rattle.tabled_set.specs.CellChanges.{AreChanged}
 use Rattle.tabled_set.specs.ColumnChanges.{ChangesColumnBefore, ChangesColumnsBefore, for_width, is_permitted}
 use Rattle.tabled_set.specs.Minimums.{minimums, side_padding}
 use Rattle.tabled_set.specs.Narrowed.{for_room, has_room}
-use Rattle.tabled_set.proofs.ChangingCells.{AreChanged-as, AreChanged-both, AreChanged-same, AreChanged-staying, IsEither, IsInside-changed, match-false, match-true}
+use Rattle.tabled_set.proofs.ChangingCells.{AreChanged-as, AreChanged-both, AreChanged-staying, match-false, match-true}
 
 -- ---- one column
 

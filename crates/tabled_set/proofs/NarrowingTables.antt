@@ -1,16 +1,16 @@
 -- Tables that are narrowed.
-use Rattle.std.proofs.Common.{◌≡◌, ℕ, ◌⊎◌, ⊎_elim, inl, inr, Result, Ok, Err, IfErr, ◌+◌, ◌-◌, ◌<◌, ◌≤◌, ◌^◌, true, false, nat_le, List, MatchBool, Option, Some, None, length, min, take, unwrap_or, refl, sym, ap, subst, ◌∙◌, cond, arith}
+use Rattle.std.proofs.Common.{◌≡◌, ℕ, ◌⊎◌, ⊎_elim, inl, inr, Result, Ok, Err, IfErr, ◌-◌, ◌<◌, ◌≤◌, ◌^◌, true, false, nat_le, List, Option, Some, None, length, take, unwrap_or, refl, sym, ap, subst, ◌∙◌, cond, arith}
 use Rattle.std.specs.Result.{IsErrAnd}
 use Rattle.std.proofs.Math.Seq.{take-length}
 use Rattle.std.proofs.lemmas.Bool.Decides.{nat_tests}
-use Rattle.std.proofs.lemmas.List.{get_or-take, length-take}
+use Rattle.std.proofs.lemmas.List.{length-take}
 use Rattle.tabled_base.specs.Cells.{columns}
 use Rattle.tabled_base.specs.declared.error.TableError.{TableError}
 use Rattle.tabled_base.specs.declared.error.TableError.TheVariants.{Memory, Range}
 use Rattle.tabled_config.specs.declared.spanned.SpannedConfig.{SpannedConfig}
 use Rattle.tabled_size.specs.Estimates.{IsTooWide, estimated_heights, estimated_widths}
 use Rattle.tabled_size.specs.FilledIn.{HasNoEstimate, IsFilledIn}
-use Rattle.tabled_size.specs.Permitted.{FitsMinimums, at}
+use Rattle.tabled_size.specs.Permitted.{FitsMinimums}
 use Rattle.tabled_size.specs.Sheet.{Sheet, is_empty}
 use Rattle.tabled_size.specs.StandingSheet.{standing, standing_sizes}
 use Rattle.tabled_size.specs.Stored.{heights_of, widths_of}
@@ -20,7 +20,7 @@ use Rattle.tabled_size.proofs.Totalling.{heights_length, widths_length}
 use Rattle.tabled_set.specs.CellChanges.{AreChanged}
 use Rattle.tabled_set.specs.ColumnChanges.{ChangesColumnsBefore, for_width}
 use Rattle.tabled_set.specs.Minimums.{emptied, minimums}
-use Rattle.tabled_set.specs.Narrowed.{IsNarrowed, IsNarrowedBefore, IsShrunkTo, Narrows, StopsNarrowing}
+use Rattle.tabled_set.specs.Narrowed.{IsNarrowed, Narrows, StopsNarrowing}
 use Rattle.tabled_set.specs.Shrinking.{IsFound, IsShrunkBy}
 use Rattle.tabled_set.proofs.ChangingCells.{match-false, match-true}
 use Rattle.tabled_set.proofs.ChangingColumns.{rooms-made}

@@ -1,4 +1,4 @@
-use Rattle.std.proofs.Common.{◌≡◌, ◌≤◌, ◌<◌, ◌^◌, ◌⊎◌, ◌∙◌, ℕ, List, MatchOption, None, Option, subst}
+use Rattle.std.proofs.Common.{◌≡◌, ◌≤◌, ◌^◌, ◌⊎◌, ◌∙◌, MatchOption, None, Option, subst}
 use Rattle.tabled_base.specs.declared.error.TableError.TheVariants.{Memory, Range}
 use Rattle.tabled_size.specs.Estimates.{IsTooWide}
 use Rattle.tabled_size.specs.FilledIn.{HasNoEstimate}
