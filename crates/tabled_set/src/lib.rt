@@ -1,4 +1,4 @@
-//! What is set of a table's texts: how they are wrapped, and how they are truncated.
+//! What is set of a table's texts: measurements, and how texts, cells and whole tables are wrapped and truncated.
 #![tactic(auto)]
 
 mod changing;
