@@ -12,7 +12,7 @@ use Rattle.tabled_size.specs.Sheet.{Sheet}
 use Rattle.tabled_set.specs.CellChanges.{AreChanged}
 use Rattle.tabled_set.specs.ColumnChanges.{ChangesColumnBefore, ChangesColumnsBefore, for_width, is_permitted}
 use Rattle.tabled_set.specs.Minimums.{minimums, side_padding}
-use Rattle.tabled_set.specs.Narrowed.{for_room, has_room}
+use Rattle.tabled_set.specs.Narrowed.{for_room}
 use Rattle.tabled_set.proofs.ChangingCells.{AreChanged-as, AreChanged-both, AreChanged-staying, match-false, match-true}
 
 -- ---- one column
@@ -29,7 +29,7 @@ in_column-all column rows r c below = grind arith
 -- ---- columns of some widths
 
 -- the test of a column by a list of minimums that goes as far as the widths
-pub permitted-room : (t : Sheet) (widths mins : List ℕ) (column : ℕ) → mins ≡ take (length widths) (minimums t.cells t.config) → has_room t widths column ≡ is_permitted widths mins column
+pub permitted-room : (t : Sheet) (widths mins : List ℕ) (column : ℕ) → mins ≡ take (length widths) (minimums t.cells t.config) → is_permitted widths (minimums t.cells t.config) column ≡ is_permitted widths mins column
 permitted-room t widths mins column e = ⊎_elim
     (λ l. let below : column < length widths = grind (arith, nat_tests) in
     ap (λ m. nat_lt column (length widths) && nat_le m (at widths column)) (sym (get_or-take (length widths) (minimums t.cells t.config) column 0 below) ∙ ap (λ m. at m column) (sym e)))

@@ -12,7 +12,8 @@ use Rattle.tabled_size.specs.Stored.{heights_of, widths_of}
 use Rattle.tabled_size.specs.Totals.{total_width}
 use Rattle.tabled_size.specs.declared.complete_dimension.CompleteDimension.{CompleteDimension}
 use Rattle.tabled_set.specs.CellChanges.{AreChanged, precedes_by_column}
-use Rattle.tabled_set.specs.Minimums.{emptied, minimums, side_padding}
+use Rattle.tabled_set.specs.ColumnChanges.{for_width}
+use Rattle.tabled_set.specs.Minimums.{emptied, minimums}
 
 -- the widths are a list that the priority may make of those that stand, taking what the total has above n, with the
 -- minimums of the columns that stand
@@ -20,14 +21,9 @@ pub record IsShrunkTo {P : Type 0} (shrinks : P → List ℕ → List ℕ → �
   pub last : P
   pub shrunk : shrinks priority t.widths (take (length t.widths) (minimums t.cells t.config)) (total_width t - n) widths last
 
--- a column that has one of the widths, which is not below its minimum
-abbrev pub has_room : Sheet → List ℕ → ℕ → Bool
-has_room t widths column = nat_lt column (length widths) && nat_le (at (minimums t.cells t.config) column) (at widths column)
-
--- a cell of such a column is changed for the room that its width leaves beside the cell's own padding, another stays
+-- a cell of a column that isn't below its minimum is changed for the room that the column leaves it, another stays
 abbrev pub for_room : (ℕ → List ℕ → List ℕ → Type 0) → Sheet → List ℕ → ℕ → ℕ → List ℕ → List ℕ → Type 0
-for_room change t widths row column before after =
-    MatchBool (has_room t widths column) (change (at widths column - side_padding t.config row column) before after) (after ≡ before)
+for_room change t widths = for_width change t.config widths (minimums t.cells t.config)
 
 -- a table wider than n is narrowed: its widths are shrunk and stored, every cell is changed for its room, and its
 -- heights are to be estimated anew
