@@ -6,9 +6,10 @@ use crate::{
     AlignmentHorizontal, AlignmentVertical, ColoredConfig, CompactConfig, CompactMultilineConfig,
     Formatting, HorizontalLine, Indent, Sides, SpannedConfig, Style,
 };
+use std::alloc::Global;
 use std::cmp::Ordering;
 use std::test::Fail;
-use tabled_base::{Entity, Position};
+use tabled_base::{Entity, Position, TableError};
 
 const DASHES: HorizontalLine = HorizontalLine {
     main: Some('-'),
@@ -81,13 +82,19 @@ fn trims_are_kept_in_their_places(rt: HostRuntime) -> Result<(), Fail> {
     Ok(())
 }
 
-#[test]
-fn a_clone_is_equal(rt: HostRuntime) -> Result<(), Fail> {
-    let mut config = SpannedConfig::new(rt.alloc());
+// Settings of several kinds.
+fn of_several_kinds(alloc: Global) -> Result<SpannedConfig, TableError> {
+    let mut config = SpannedConfig::new(alloc);
     config.set_trim_vertical(Entity::Row(1), true)?;
     config.set_padding(Entity::Column(2), Sides::filled(Indent::spaced(1)))?;
     config.set_line_alignment(Entity::Cell(1, 2), true)?;
     config.insert_horizontal_line(3, DASHES)?;
+    Ok(config)
+}
+
+#[test]
+fn a_clone_is_equal(rt: HostRuntime) -> Result<(), Fail> {
+    let config = of_several_kinds(rt.alloc())?;
     let copy = config.clone()?;
     assert!(rt; copy == config);
     assert!(rt; copy.get_line_alignment(Position::new(1, 2)));
@@ -96,13 +103,8 @@ fn a_clone_is_equal(rt: HostRuntime) -> Result<(), Fail> {
 
 #[test]
 fn a_colored_clone_is_equal(rt: HostRuntime) -> Result<(), Fail> {
-    let mut colored = ColoredConfig::new(SpannedConfig::new(rt.alloc()));
-    let config = colored.as_mut();
-    config.set_alignment_horizontal(Entity::Row(1), AlignmentHorizontal::Right)?;
-    config.set_alignment_vertical(Entity::Column(2), AlignmentVertical::Bottom)?;
-    config.set_padding(Entity::Cell(1, 2), Sides::filled(Indent::spaced(1)))?;
-    let copy = colored.clone()?;
-    assert!(rt; copy == colored);
+    let colored = ColoredConfig::new(of_several_kinds(rt.alloc())?);
+    assert!(rt; colored.clone()? == colored);
     Ok(())
 }
 
