@@ -19,7 +19,7 @@ impl<T: Tabled> Tabled for &T {
     }
 
     fn fields(&self, alloc: Global) -> Result<Vec<CowStr<'_>>, TableError> {
-        T::fields(self, alloc)
+        T::fields(*self, alloc)
     }
 
     fn headers(alloc: Global) -> Result<Vec<CowStr<'static>>, TableError> {

@@ -20,7 +20,7 @@ impl<A: Tabled> Tabled for (A,) {
     }
 
     fn fields(&self, alloc: Global) -> Result<Vec<CowStr<'_>>, TableError> {
-        self.0.fields(alloc)
+        A::fields(&self.0, alloc)
     }
 
     fn headers(alloc: Global) -> Result<Vec<CowStr<'static>>, TableError> {
