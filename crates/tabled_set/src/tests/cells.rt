@@ -9,7 +9,15 @@ use tabled_base::{
 };
 use tabled_config::{ColoredConfig, SpannedConfig};
 
-const ROWS: [[&str; 2]; 2] = [["abc", "de"], ["fgh", "ijk"]];
+pub(super) const ROWS: [[&str; 2]; 2] = [["abc", "de"], ["fgh", "ijk"]];
+
+// Records of two rows.
+pub(super) fn rows_of(
+    alloc: Global,
+    rows: [[&'static str; 2]; 2],
+) -> Result<VecRecords<Text<String>>, TableError> {
+    Ok(Builder::from_iter(alloc, rows)?.build())
+}
 
 // The cells: those of a row with bars between them, the rows with slashes.
 pub(super) fn shown<R: PeekableRecords>(alloc: Global, records: &R) -> Result<String, TableError> {
@@ -37,7 +45,7 @@ fn changed<O: CellOption<VecRecords<Text<String>>, ColoredConfig>>(
     option: &O,
     entity: Entity,
 ) -> Result<String, Fail> {
-    let mut records = Builder::from_iter(alloc, ROWS)?.build();
+    let mut records = rows_of(alloc, ROWS)?;
     let mut config = ColoredConfig::new(SpannedConfig::new(alloc));
     option.change(&mut records, &mut config, entity)?;
     Ok(shown(alloc, &records)?)

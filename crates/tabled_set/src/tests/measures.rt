@@ -1,13 +1,10 @@
 //! Measures of a caller's own, and refusals.
 ghost use Rattle.std.specs.Prelude.{length};
 
-use crate::tests::cells::shown;
+use crate::tests::cells::{ROWS, rows_of, shown};
 use crate::{Height, Measurement, Width, Wrap};
-use std::alloc::Global;
 use std::test::Fail;
-use tabled_base::{
-    Builder, CellOption, Entity, ExactRecords, PeekableRecords, TableError, Text, VecRecords,
-};
+use tabled_base::{CellOption, Entity, ExactRecords, PeekableRecords, TableError};
 use tabled_config::{ColoredConfig, SpannedConfig};
 
 // As many as there are rows.
@@ -46,13 +43,9 @@ impl Measurement<Width> for Endless {
     }
 }
 
-fn four_cells(alloc: Global) -> Result<VecRecords<Text<String>>, TableError> {
-    Ok(Builder::from_iter(alloc, [["abc", "de"], ["fgh", "ijk"]])?.build())
-}
-
 #[test]
 fn a_number_measures_itself(rt: HostRuntime) -> Result<(), Fail> {
-    let records = four_cells(rt.alloc())?;
+    let records = rows_of(rt.alloc(), ROWS)?;
     let config = SpannedConfig::new(rt.alloc());
     assert_eq!(rt; Measurement::<Width>::measure(&7, &records, &config), Ok(7));
     assert_eq!(rt;
@@ -64,7 +57,7 @@ fn a_number_measures_itself(rt: HostRuntime) -> Result<(), Fail> {
 
 #[test]
 fn a_measure_reads_the_records(rt: HostRuntime) -> Result<(), Fail> {
-    let mut records = four_cells(rt.alloc())?;
+    let mut records = rows_of(rt.alloc(), ROWS)?;
     let mut config = ColoredConfig::new(SpannedConfig::new(rt.alloc()));
     Wrap::new(AsRows).change(&mut records, &mut config, Entity::Row(1))?;
     assert_eq!(rt; shown(rt.alloc(), &records)?.as_str(), "abc|de/fg\nh|ij\nk");
@@ -73,7 +66,7 @@ fn a_measure_reads_the_records(rt: HostRuntime) -> Result<(), Fail> {
 
 #[test]
 fn a_refused_measure_leaves_the_cells(rt: HostRuntime) -> Result<(), Fail> {
-    let mut records = four_cells(rt.alloc())?;
+    let mut records = rows_of(rt.alloc(), ROWS)?;
     let mut config = ColoredConfig::new(SpannedConfig::new(rt.alloc()));
     let wrapped = Width::wrap(Endless).change(&mut records, &mut config, Entity::Global);
     assert_eq!(rt; wrapped, Err(TableError::Range));
@@ -86,7 +79,7 @@ fn a_refused_measure_leaves_the_cells(rt: HostRuntime) -> Result<(), Fail> {
 // Under `--fail-alloc` each growth is refused in turn.
 #[test]
 fn a_refused_cell_leaves_those_from_it_on(rt: HostRuntime) {
-    let Ok(mut records) = four_cells(rt.alloc()) else {
+    let Ok(mut records) = rows_of(rt.alloc(), ROWS) else {
         return;
     };
     let mut config = ColoredConfig::new(SpannedConfig::new(rt.alloc()));

@@ -1,12 +1,11 @@
 //! Wrapping and truncating whole tables.
-ghost use Rattle.std.specs.Prelude.{⊤, ◌<◌, length};
+ghost use Rattle.std.specs.Prelude.{⊤};
 
+use crate::tests::cells::{rows_of, shown};
 use crate::{Truncate, Width, Wrap};
 use std::alloc::Global;
 use std::test::Fail;
-use tabled_base::{
-    Builder, ExactRecords, PeekableRecords, Position, TableError, TableOption, Text, VecRecords,
-};
+use tabled_base::{Builder, TableError, TableOption, Text, VecRecords};
 use tabled_config::{ColoredConfig, CompactConfig, Indent, Sides, SpannedConfig, Style};
 use tabled_size::{CompleteDimension, Peaker};
 
@@ -20,26 +19,6 @@ fn framed(alloc: Global, left: usize) -> ColoredConfig {
         .set_borders(Style::ascii().get_borders())
         .set_padding(padding);
     ColoredConfig::new(SpannedConfig::from_compact(alloc, compact))
-}
-
-fn show_row<R: PeekableRecords>(all: &mut String, records: &R, row: usize) -> Result<(), TableError>
-    requires { row < length (R.cells records.now) }
-{
-    for column in 0..records.count_columns() {
-        all.push_str(if column == 0 { "" } else { "|" })?;
-        all.push_str(records.get_text(Position { row, column }))?;
-    }
-    Ok(())
-}
-
-// The cells, with bars between those of a row and slashes between rows.
-fn shown<R: PeekableRecords>(alloc: Global, records: &R) -> Result<String, TableError> {
-    let mut all = String::new(alloc);
-    for row in 0..records.count_rows() {
-        all.push_str(if row == 0 { "" } else { "/" })?;
-        show_row(&mut all, records, row)?;
-    }
-    Ok(all)
 }
 
 // Sizes of which the widths may be stored.
@@ -57,7 +36,7 @@ fn changed<O: TableOption<VecRecords<Text<String>>, ColoredConfig, CompleteDimen
     option: O,
     widths: Option<&[usize]>,
 ) -> Result<String, Fail> {
-    let mut records = Builder::from_iter(alloc, ROWS)?.build();
+    let mut records = rows_of(alloc, ROWS)?;
     let mut config = framed(alloc, 1);
     let mut sizes = stored(alloc, widths)?;
     option.change(&mut records, &mut config, &mut sizes)?;
@@ -159,7 +138,7 @@ fn refused<O: TableOption<VecRecords<Text<String>>, ColoredConfig, CompleteDimen
     alloc: Global,
     option: O,
 ) -> Result<(Result<(), TableError>, String), Fail> {
-    let mut records = Builder::from_iter(alloc, ROWS)?.build();
+    let mut records = rows_of(alloc, ROWS)?;
     let mut config = framed(alloc, usize::MAX);
     let mut sizes = stored(alloc, Some(&[9, 9]))?;
     let answer = option.change(&mut records, &mut config, &mut sizes);
