@@ -1,18 +1,27 @@
 //! Tables as they are made.
 
-use crate::tests::drawing::{PAIRS, table_of, totals};
+use crate::tests::drawing::{PAIRS, drawn, table_of, totals};
 use crate::{Table, Tabled, new_config};
+use std::alloc::Global;
 use std::test::Fail;
-use tabled_base::Builder;
+use tabled_base::{Builder, TableError};
 
-pub const ROWS: [(&str, &str); 2] = [("a", "bb"), ("ccc", "")];
+const ROWS: [(&str, &str); 2] = [("a", "bb"), ("ccc", "")];
 
 pub const PICTURE: &str = "+-----+----+\n| a   | bb |\n+-----+----+\n| ccc |    |\n+-----+----+";
 
+// A table of the pairs.
+pub fn pairs(alloc: Global) -> Result<Table, TableError> {
+    Table::nohead(alloc, ROWS)
+}
+
+fn pairs_drawn(alloc: Global) -> Result<String, TableError> {
+    pairs(alloc)?.to_string()
+}
+
 #[test]
 fn a_table_of_pairs_prints_its_rows(rt: HostRuntime) -> Result<(), Fail> {
-    let table = Table::nohead(rt.alloc(), ROWS)?;
-    assert_eq!(rt; table.to_string()?.as_str(), PICTURE);
+    assert_eq!(rt; pairs_drawn(rt.alloc())?.as_str(), PICTURE);
     Ok(())
 }
 
@@ -32,25 +41,30 @@ fn counts(table: &Table) -> ((usize, usize), (usize, usize), bool) {
     )
 }
 
+fn pairs_counted(alloc: Global) -> Result<((usize, usize), (usize, usize), bool), TableError> {
+    Ok(counts(&pairs(alloc)?))
+}
+
 #[test]
 fn a_table_of_pairs_counts_its_rows_and_columns(rt: HostRuntime) -> Result<(), Fail> {
-    let table = Table::nohead(rt.alloc(), ROWS)?;
-    assert_eq!(rt; counts(&table), ((2, 2), (2, 2), false));
+    assert_eq!(rt; pairs_counted(rt.alloc())?, ((2, 2), (2, 2), false));
     Ok(())
+}
+
+fn no_rows_drawn(alloc: Global) -> Result<String, TableError> {
+    let rows: [&str; 0] = [];
+    Table::nohead(alloc, rows)?.to_string()
 }
 
 #[test]
 fn a_table_without_rows_prints_nothing(rt: HostRuntime) -> Result<(), Fail> {
-    let rows: [&str; 0] = [];
-    let table = Table::nohead(rt.alloc(), rows)?;
-    assert_eq!(rt; table.to_string()?.as_str(), "");
+    assert_eq!(rt; no_rows_drawn(rt.alloc())?.as_str(), "");
     Ok(())
 }
 
 #[test]
 fn an_empty_table_counts_nothing(rt: HostRuntime) -> Result<(), Fail> {
-    let table = Table::empty(rt.alloc());
-    assert_eq!(rt; counts(&table), ((0, 0), (0, 0), true));
+    assert_eq!(rt; counts(&Table::empty(rt.alloc())), ((0, 0), (0, 0), true));
     Ok(())
 }
 
@@ -61,20 +75,24 @@ fn an_empty_table_totals_nothing(rt: HostRuntime) -> Result<(), Fail> {
     Ok(())
 }
 
+fn built(alloc: Global) -> Result<String, TableError> {
+    let mut builder = Builder::new(alloc);
+    builder.push_record(["a", "bb"])?.push_record(["ccc"])?;
+    Table::from(builder).to_string()
+}
+
 #[test]
 fn a_builder_becomes_a_table(rt: HostRuntime) -> Result<(), Fail> {
-    let mut builder = Builder::new(rt.alloc());
-    builder.push_record(["a", "bb"])?.push_record(["ccc"])?;
-    let table = Table::from(builder);
-    assert_eq!(rt; table.to_string()?.as_str(), PICTURE);
+    assert_eq!(rt; built(rt.alloc())?.as_str(), PICTURE);
     Ok(())
 }
 
 #[test]
 fn cells_of_several_lines_and_wide_characters_stand_straight(rt: HostRuntime) -> Result<(), Fail> {
-    let table = Table::nohead(rt.alloc(), [("北京\nПекин", "1")])?;
     let want = "+-------+---+\n| 北京  | 1 |\n| Пекин |   |\n+-------+---+";
-    assert_eq!(rt; table.to_string()?.as_str(), want);
+    let rows: &[&[&str]] = &[&["北京\nПекин", "1"]];
+    let text = drawn(rt.alloc(), rows, new_config(rt.alloc()), None, None)?;
+    assert_eq!(rt; text.as_str(), want);
     Ok(())
 }
 
@@ -89,12 +107,14 @@ fn values_tell_their_names(rt: HostRuntime) -> Result<(), Fail> {
     Ok(())
 }
 
+// Whether a table equals its copy, and whether it equals an empty one.
+fn compared(alloc: Global) -> Result<(bool, bool), TableError> {
+    let table = table_of(alloc, PAIRS, new_config(alloc))?;
+    Ok((table.clone()? == table, Table::empty(alloc) == table))
+}
+
 #[test]
 fn a_copy_is_equal_and_another_table_is_not(rt: HostRuntime) -> Result<(), Fail> {
-    let table = table_of(rt.alloc(), PAIRS, new_config(rt.alloc()))?;
-    let copy = table.clone()?;
-    assert!(rt; copy == table);
-    let other = Table::empty(rt.alloc());
-    assert!(rt; other != table);
+    assert_eq!(rt; compared(rt.alloc())?, (true, false));
     Ok(())
 }

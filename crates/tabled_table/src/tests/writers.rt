@@ -1,8 +1,8 @@
 //! Printing to writers that fail, and in no memory.
 
-use crate::Table;
 use crate::tests::drawing::store;
-use crate::tests::tables::{PICTURE, ROWS};
+use crate::tests::tables::{PICTURE, pairs};
+use std::alloc::Global;
 use std::io;
 use std::io::Write;
 use std::test::Fail;
@@ -29,28 +29,45 @@ impl Write for Short {
     }
 }
 
+// What a table of pairs answers to a writer of some room, the failures that were counted, and whether
+// that went out.
+fn printed(
+    alloc: Global,
+    room: usize,
+    out: &str,
+) -> Result<(Result<(), TableError>, usize, bool), TableError> {
+    let table = pairs(alloc)?;
+    let mut writer = Short {
+        room,
+        taken: Vec::new(alloc),
+    };
+    let mut sink = IoSink::new(&mut writer);
+    let answer = table.write_to(&mut sink);
+    let failures = sink.failures();
+    Ok((answer, failures, writer.taken.as_slice() == out.as_bytes()))
+}
+
 #[test]
 fn a_full_writer_refuses_and_has_the_beginning(rt: HostRuntime) -> Result<(), Fail> {
-    let table = Table::nohead(rt.alloc(), ROWS)?;
     for (room, out) in [(5, "+----"), (0, "")] {
-        let mut writer = Short {
-            room,
-            taken: Vec::new(rt.alloc()),
-        };
-        let mut sink = IoSink::new(&mut writer);
-        assert_eq!(rt; table.write_to(&mut sink), Err(TableError::Writer));
-        assert_eq!(rt; sink.failures(), 1);
-        assert_eq!(rt; str::from_utf8(writer.taken.as_slice())?, out);
+        let answer = printed(rt.alloc(), room, out)?;
+        assert_eq!(rt; answer, (Err(TableError::Writer), 1, true));
     }
     Ok(())
 }
 
+// What a table of pairs with stored sizes answers to a room, and whether its picture stands there.
+fn held(alloc: Global) -> Result<(Result<(), TableError>, bool), TableError> {
+    let mut table = pairs(alloc)?;
+    store(alloc, &mut table, Some(&[5, 4]), Some(&[1, 1]))?;
+    let mut room = io::Cursor::new([0u8; 128]);
+    let answer = table.write_to(&mut IoSink::new(&mut room));
+    let whole = room.get_ref().as_slice().starts_with(PICTURE.as_bytes());
+    Ok((answer, whole))
+}
+
 #[test]
 fn stored_sizes_print_in_no_memory(rt: HostRuntime) -> Result<(), Fail> {
-    let mut table = Table::nohead(rt.alloc(), ROWS)?;
-    store(rt.alloc(), &mut table, Some(&[5, 4]), Some(&[1, 1]))?;
-    let mut room = io::Cursor::new([0u8; 128]);
-    assert_eq!(rt; table.write_to(&mut IoSink::new(&mut room)), Ok(()));
-    assert!(rt; room.get_ref().as_slice().starts_with(PICTURE.as_bytes()));
+    assert_eq!(rt; held(rt.alloc())?, (Ok(()), true));
     Ok(())
 }
