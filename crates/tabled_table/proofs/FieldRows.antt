@@ -1,13 +1,15 @@
 -- Rows of name and text are put behind others.
-use Rattle.std.proofs.Common.{◌≡◌, ℕ, List, [], ◌∷◌, ◌++◌, length, map, refl, sym, ap, subst, ◌∙◌, append-nil, append_assoc, Option, Some, None, Bor, Iter, ◌⊎◌, inl, inr}
+use Rattle.std.proofs.Common.{◌≡◌, ℕ, List, [], ◌∷◌, ◌++◌, length, map, refl, sym, ap, subst, ◌∙◌, append-nil, Option, None, Bor, Iter, ◌⊎◌, inl, inr}
 use Rattle.std.specs.declared.iter.Zip.{Zip}
+use Rattle.std.specs.declared.vec.IntoIter.{IntoIter}
 use Rattle.std.specs.List.{All, flat_map, zip}
 use Rattle.std.specs.Iterator.Adapters.{zip_first, zip_second}
 use Rattle.std.specs.Slice.Iter.{iter_rest}
+use Rattle.std.specs.Vec.Iter.{into_iter_items, into_iter_len, into_iter_steps}
 use Rattle.std.proofs.lemmas.Grind.{flat_map-append}
 use Rattle.std.proofs.lemmas.Fn.{fronts}
 use Rattle.std.proofs.lemmas.Iterator.{zips}
-use Rattle.std.proofs.lemmas.Slice.Zip.{Zip-more, either_empty_from_Zip}
+use Rattle.std.proofs.lemmas.List.{nil_from_length}
 use Rattle.std.proofs.lemmas.List.Elements.{All-append, All-cons, All-nil}
 use Rattle.tabled_base.specs.Cells.{IsRectangular}
 use Rattle.tabled_base.proofs.Padding.{rectangular-from_length}
@@ -40,26 +42,17 @@ rectangular_fields shows names values all h =
 -- ---- a walk over names and texts side by side
 
 -- the rows of what is to come
-abbrev left : {A B : Type 0} → (A → List ℕ) → (B → List ℕ) → Zip (Iter A) (Iter B) → List (List (List ℕ))
-left f h s = pairs (map f (iter_rest (zip_first s))) (map h (iter_rest (zip_second s)))
-
-pub next_pair : {A B : Type 0} (f : A → List ℕ) (h : B → List ℕ) (s t : Zip (Iter A) (Iter B)) (r : Option (Bor A × Bor B)) (p : Bor A × Bor B) (rows new whole : List (List (List ℕ))) → r ≡ Some p → zips fronts fronts s r t → rows ++ left f h s ≡ whole → new ≡ rows ++ (f p.0.now ∷ h p.1.now ∷ []) ∷ [] → new ++ left f h t ≡ whole
-next_pair f h s t r p rows new whole e steps so_far came =
-    let k = Zip-more s t r p e steps in
-    let row : List (List ℕ) = f p.0.now ∷ h p.1.now ∷ [] in
-    let split : left f h s ≡ row ∷ left f h t =
-    ap (λ l. pairs (map f l) (map h (iter_rest (zip_second s)))) k.0
-    ∙ ap (λ l. pairs (map f (p.0.now ∷ iter_rest (zip_first t))) (map h l)) k.1 in
-    ap (λ u. u ++ left f h t) came ∙ append_assoc rows (row ∷ []) (left f h t) ∙ ap (λ u. rows ++ u) (sym split) ∙ so_far
+abbrev left : {A B Z : Type 0} → (A → List ℕ) → (B → List ℕ) → Zip (Iter A) (IntoIter B Z) → List (List (List ℕ))
+left f h s = pairs (map f (iter_rest (zip_first s))) (map h (into_iter_items (zip_second s)))
 
 no_texts : (names : List (List ℕ)) → pairs names [] ≡ []
 no_texts [] = refl
 no_texts (name ∷ names) = refl
 
-pub no_pair : {A B : Type 0} (f : A → List ℕ) (h : B → List ℕ) (s t : Zip (Iter A) (Iter B)) (r : Option (Bor A × Bor B)) (rows whole : List (List (List ℕ))) → r ≡ None → zips fronts fronts s r t → rows ++ left f h s ≡ whole → rows ≡ whole
-no_pair f h s t r rows whole e steps so_far =
-    sym (append-nil rows) ∙ ap (λ u. rows ++ u) (sym (by_side (either_empty_from_Zip s t r e steps))) ∙ so_far
+pub no_pair : {A B Z : Type 0} (f : A → List ℕ) (h : B → List ℕ) (s t : Zip (Iter A) (IntoIter B Z)) (r : Option (Bor A × B)) (rows whole : List (List (List ℕ))) → r ≡ None → zips fronts into_iter_steps s r t → (rows ++ left f h s ≡ whole) × (length (into_iter_items (zip_second s)) ≡ into_iter_len (zip_second s)) → rows ≡ whole
+no_pair {A} {B} {Z} f h s t r rows whole e steps so_far =
+    sym (append-nil rows) ∙ ap (λ u. rows ++ u) (sym (ended (subst (λ o. zips fronts into_iter_steps s o t) e steps))) ∙ so_far.0
   where
-    by_side : (iter_rest (zip_first s) ≡ []) ⊎ (iter_rest (zip_second s) ≡ []) → left f h s ≡ []
-    by_side (inl a) = ap (λ l. pairs (map f l) (map h (iter_rest (zip_second s)))) a
-    by_side (inr b) = ap (λ l. pairs (map f (iter_rest (zip_first s))) (map h l)) b ∙ no_texts (map f (iter_rest (zip_first s)))
+    ended : ((u : Iter A) × fronts (zip_first s) None u) ⊎ ((u : IntoIter B Z) × into_iter_steps (zip_second s) None u) → left f h s ≡ []
+    ended (inl a) = ap (λ l. pairs (map f l) (map h (into_iter_items (zip_second s)))) (nil_from_length _ a.1.0)
+    ended (inr b) = ap (λ l. pairs (map f (iter_rest (zip_first s))) (map h l)) (nil_from_length _ (so_far.1 ∙ b.1.0)) ∙ no_texts (map f (iter_rest (zip_first s)))

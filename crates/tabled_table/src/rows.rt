@@ -1,5 +1,5 @@
 //! The rows of values.
-ghost use Rattle.std.specs.Prelude.{◌≡◌, ◌∷◌, ◌++◌, [], ℕ, List, IfErr, IfOk, OnOk, length, map, vec_len};
+ghost use Rattle.std.specs.Prelude.{◌≡◌, ◌∷◌, ◌++◌, [], ℕ, List, IfErr, IfOk, OnOk, length, map, string_bytes, vec_len};
 ghost use Rattle.std.specs.Cow.{cow_str_bytes};
 ghost use Rattle.std.specs.Iterator.{IsFiniteIterable};
 ghost use Rattle.std.specs.List.{AllZip, flat_map};
@@ -76,7 +76,7 @@ where
     let mut rows = Vec::new(alloc);
     'values: for value in values {
         let texts = value.fields(alloc)?;
-        push_fields(&mut rows, names.as_slice(), texts.as_slice())?;
+        push_fields(&mut rows, names.as_slice(), texts)?;
     }
     Ok(VecRecords::new(rows))
 }
@@ -85,27 +85,27 @@ where
 fn push_fields(
     rows: &mut Vec<Vec<Text<String>>>,
     names: &[CowStr<'_>],
-    texts: &[CowStr<'_>],
+    texts: Vec<CowStr<'_>>,
 ) -> Result<(), TableError>
     ensures ok { OnOk result (row_texts rows.new.items ≡ row_texts rows.old.items
-        ++ pairs (map cow_str_bytes names.now) (map cow_str_bytes texts.now)) }
+        ++ pairs (map cow_str_bytes names.now) (map cow_str_bytes texts.entry.items)) }
     ensures only { IfErr result (λ e. e ≡ Memory) }
 {
     let alloc = *rows.allocator();
     'fields: for (name, text) in names.iter().zip(texts) {
-        rows.push(pair(alloc, name.as_str(), text.as_str())?)?;
+        rows.push(pair(alloc, name.as_str(), text.into_owned(alloc)?)?)?;
     }
     Ok(())
 }
 
 /// A row of two texts.
-fn pair(alloc: Global, name: &str, text: &str) -> Result<Vec<Text<String>>, TableError>
-    ensures ok { IfOk result (λ row. row.items ≡ name.now ∷ text.now ∷ []) }
+fn pair(alloc: Global, name: &str, text: String) -> Result<Vec<Text<String>>, TableError>
+    ensures ok { IfOk result (λ row. row.items ≡ name.now ∷ string_bytes text ∷ []) }
     ensures only { IfErr result (λ e. e ≡ Memory) }
 {
     let mut row = Vec::with_capacity(alloc, 2)?;
     row.push(Text::new(String::from_str(alloc, name)?))?;
-    row.push(Text::new(String::from_str(alloc, text)?))?;
+    row.push(Text::new(text))?;
     Ok(row)
 }
 
