@@ -1,0 +1,39 @@
+//! Tables of values, of a text, and of comma-separated values.
+
+use anyhow::bail;
+use csv::ReaderBuilder;
+use std::alloc::Global;
+use tabled::builder::Builder;
+use tabled::{Plan, Table, TableError, render};
+
+pub const CITIES: &str =
+    "City,Country,People\nParis,France,2103778\n\"Vaduz, the capital\",Liechtenstein,5774\n北京,China,21893095\n";
+
+/// A row a value. `Table::new` puts the names of the fields above them.
+pub fn from_values(alloc: Global) -> Result<String, TableError> {
+    let rows = [("Ada", 1815), ("Grace", 1906)];
+    let table = Table::nohead(alloc, rows)?;
+    table.to_string()
+}
+
+/// A row a line, a cell between tabs; no cell is copied.
+pub fn from_text(alloc: Global) -> Result<String, TableError> {
+    let mut out = String::new(alloc);
+    let rows = "Name\tBorn\nAda\t1815\nGrace\t1906\n";
+    render(alloc, rows, Plan::Buffered, &mut out)?;
+    Ok(out)
+}
+
+/// Rows that another crate reads, with quoted cells.
+pub fn from_csv(alloc: Global, text: &str) -> anyhow::Result<Table> {
+    let mut builder = Builder::new(alloc);
+    let mut reader = ReaderBuilder::new();
+    reader.has_headers(false);
+    for record in reader.from_reader(alloc, text.as_bytes()).into_records() {
+        let Ok(record) = record else {
+            bail!("these are no comma-separated values");
+        };
+        builder.push_record(record.iter())?;
+    }
+    Ok(Table::from(builder))
+}

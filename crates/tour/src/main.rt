@@ -1,0 +1,19 @@
+//! The tour of the README: what people do with tables, printed one after the other.
+#![tactic(auto)]
+
+mod made;
+mod narrow;
+mod refused;
+
+use anyhow::Result;
+
+fn main(rt: HostRuntime) -> Result<()> {
+    let alloc = rt.alloc();
+    println!(rt; "{}\n", made::from_values(alloc)?)?;
+    println!(rt; "{}\n", made::from_text(alloc)?)?;
+    let table = made::from_csv(alloc, made::CITIES)?;
+    println!(rt; "{}\n", narrow::dressed(table)?)?;
+    println!(rt; "{}", refused::told(alloc)?)?;
+    println!(rt; "{:?}", refused::columns())?;
+    Ok(())
+}

@@ -1,0 +1,17 @@
+//! A style, numbers at the right, and a width.
+
+use tabled::grid::config::{AlignmentHorizontal, Entity};
+use tabled::settings::peaker::Priority;
+use tabled::settings::{Style, Width};
+use tabled::{Table, TableError};
+
+/// At most 36 columns a line: the widest columns give way first, and words stay whole where they can.
+pub fn dressed(mut table: Table) -> Result<String, TableError> {
+    let config = table.get_config_mut().as_mut();
+    config.set_alignment_horizontal(Entity::Column(2), AlignmentHorizontal::Right)?;
+    let narrow = Width::wrap(36).keep_words(true);
+    table
+        .with(Style::modern())?
+        .with(narrow.priority(Priority::max(true)))?;
+    table.to_string()
+}
