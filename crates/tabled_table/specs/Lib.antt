@@ -1,7 +1,6 @@
 pub mod Applied
 pub mod BestNarrowing
 pub mod ExactTotal
-pub mod Fields
 pub mod Lending
 pub mod Narrowing
 pub mod NewConfig
@@ -10,4 +9,3 @@ pub mod Passed
 pub mod Rows
 pub mod Stopped
 pub mod TableSheet
-pub mod ValueRows

@@ -6,12 +6,10 @@ mod config;
 mod exact;
 pub mod laws;
 mod making;
-mod rows;
 mod table;
 #[cfg(test)]
 mod tests;
-mod value;
 
 pub use config::new_config;
 pub use table::Table;
-pub use value::Tabled;
+pub use tabled_value::Tabled;

@@ -5,13 +5,12 @@ ghost use Rattle.std.specs.List.{AllZip, flat_map};
 ghost use Rattle.tabled_base.specs.Cells.{padded_rows};
 ghost use Rattle.tabled_base.specs.Given.{Given};
 ghost use Rattle.tabled_base.specs.declared.error.TableError.TheVariants.{Memory};
-ghost use Rattle.tabled_table.specs.ValueRows.{pairs};
+ghost use Rattle.tabled_value.specs.ValueRows.{pairs};
 
-use crate::rows::{field_records, named_records};
 use crate::table::Table;
-use crate::value::Tabled;
 use std::alloc::Global;
 use tabled_base::{Builder, CellText, IntoRecords, TableError};
+use tabled_value::{Tabled, field_records, named_records};
 
 impl Table {
     ghost use Rattle.tabled_table.specs.NewTable.{IsNew};

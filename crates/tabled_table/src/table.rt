@@ -20,14 +20,13 @@ ghost use Rattle.tabled_grid.specs.Sent.{Sent};
 ghost use Rattle.tabled_table.specs.Rows.{string_row};
 
 use crate::config::new_config;
-use crate::rows::value_records;
-use crate::value::Tabled;
 use std::alloc::Global;
 use std::convert::AsStr;
 use tabled_base::{Builder, CellText, ExactRecords, TableError, Text, VecRecords};
 use tabled_config::ColoredConfig;
 use tabled_grid::{TextSink, is_plain_config, is_plain_records, print_standing};
 use tabled_size::{CompleteDimension, is_empty, total_height, total_width};
+use tabled_value::{Tabled, value_records};
 
 /// Rows of texts, how they are set, and the sizes that are stored. What isn't stored is estimated when it
 /// is needed. Two tables are equal where their texts, settings and stored sizes are.

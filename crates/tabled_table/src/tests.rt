@@ -10,5 +10,4 @@ mod settings;
 mod sizes;
 mod styles;
 mod tables;
-mod values;
 mod writers;

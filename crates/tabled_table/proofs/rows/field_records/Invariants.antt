@@ -1,6 +1,0 @@
-use Rattle.tabled_base.specs.Cells.{row_texts}
-use Rattle.tabled_table.specs.ValueRows.{FieldsAdded}
-use Rattle.tabled_table.proofs.rows.field_records.Given as goal
-
-abbrev pub invariant-values : goal.invariant-values
-invariant-values g l = FieldsAdded g.I.Item.Tabled.shows g.I.Item.Tabled.names l.yielded (row_texts l.rows.items)

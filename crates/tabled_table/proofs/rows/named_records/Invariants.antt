@@ -1,8 +1,0 @@
-use Rattle.std.proofs.Common.{[], ◌∷◌}
-use Rattle.tabled_base.specs.Cells.{row_texts}
-use Rattle.tabled_table.specs.ValueRows.{ValuesAdded}
-use Rattle.tabled_table.proofs.rows.named_records.Given as goal
-
-abbrev pub invariant-values : goal.invariant-values
-invariant-values g l =
-    ValuesAdded g.I.Item.Tabled.shows g.I.Item.Tabled.LENGTH l.yielded (g.I.Item.Tabled.names ∷ []) (row_texts l.rows.items)

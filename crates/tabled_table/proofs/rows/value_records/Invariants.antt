@@ -1,7 +1,0 @@
-use Rattle.std.proofs.Common.{[]}
-use Rattle.tabled_base.specs.Cells.{row_texts}
-use Rattle.tabled_table.specs.ValueRows.{ValuesAdded}
-use Rattle.tabled_table.proofs.rows.value_records.Given as goal
-
-abbrev pub invariant-values : goal.invariant-values
-invariant-values g l = ValuesAdded g.I.Item.Tabled.shows g.I.Item.Tabled.LENGTH l.yielded [] (row_texts l.rows.items)

@@ -1,0 +1,3 @@
+pub mod FieldRows
+pub mod Joining
+pub mod RowsAdded

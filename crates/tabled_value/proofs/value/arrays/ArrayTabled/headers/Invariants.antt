@@ -1,0 +1,11 @@
+use Rattle.std.proofs.Common.{◌≡◌, map, vec_len}
+use Rattle.std.specs.Prelude.{decimal}
+use Rattle.std.specs.List.{range_with_len}
+use Rattle.std.specs.Cow.{cow_str_bytes}
+use Rattle.tabled_value.proofs.value.arrays.ArrayTabled.headers.Given as goal
+
+abbrev pub invariant-places : goal.invariant-places
+invariant-places g l = record {
+  texts : map cow_str_bytes l.names.items ≡ map decimal (range_with_len 0 l.place-counter);
+  length : vec_len l.names ≡ l.place-counter;
+}

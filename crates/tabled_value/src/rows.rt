@@ -1,0 +1,123 @@
+//! The rows of values.
+ghost use Rattle.std.specs.Prelude.{◌≡◌, ◌∷◌, ◌++◌, [], ℕ, List, IfErr, IfOk, OnOk, length, map, string_bytes, vec_len};
+ghost use Rattle.std.specs.Cow.{cow_str_bytes};
+ghost use Rattle.std.specs.Iterator.{IsFiniteIterable};
+ghost use Rattle.std.specs.List.{AllZip, flat_map};
+ghost use Rattle.tabled_base.specs.Cells.{row_texts};
+ghost use Rattle.tabled_base.specs.Given.{Given};
+ghost use Rattle.tabled_base.specs.declared.error.TableError.TheVariants.{Memory};
+ghost use Rattle.tabled_value.specs.ValueRows.{pairs};
+
+use crate::value::Tabled;
+use std::alloc::Global;
+use std::borrow::CowStr;
+use tabled_base::{TableError, Text, VecRecords};
+
+/// A row a value. Refused only for memory.
+#[tactic(auto, using(crate::proofs::RowsAdded::all_added, crate::proofs::RowsAdded::rectangular_all))]
+pub fn value_records<I: IntoIterator>(
+    alloc: Global,
+    iter: I,
+) -> Result<VecRecords<Text<String>>, TableError>
+where
+    I::Item: Tabled + Drop,
+    requires { IsFiniteIterable I.into_iter_gives I.IntoIter.can_next I.IntoIter.remaining iter }
+    ensures ok { IfOk result (λ records. (values : List I.Item)
+        × Given I.into_iter_gives I.IntoIter.next_gives iter values
+        × AllZip I.Item.shows values records) }
+    ensures only { IfErr result (λ e. e ≡ Memory) }
+{
+    let mut rows = Vec::new(alloc);
+    'values: for value in iter {
+        rows.push(measured(alloc, value.fields(alloc)?)?)?;
+    }
+    Ok(VecRecords::new(rows))
+}
+
+/// The names of the fields, then a row a value, with room for so many rows. Refused only for memory.
+pub fn named_records<I: IntoIterator>(
+    alloc: Global,
+    iter: I,
+    room: usize,
+) -> Result<VecRecords<Text<String>>, TableError>
+where
+    I::Item: Tabled + Drop,
+    requires { IsFiniteIterable I.into_iter_gives I.IntoIter.can_next I.IntoIter.remaining iter }
+    ensures ok { IfOk result (λ records. (values : List I.Item) × (rows : List (List (List ℕ)))
+        × Given I.into_iter_gives I.IntoIter.next_gives iter values
+        × AllZip I.Item.shows values rows × (records ≡ I.Item.names ∷ rows)) }
+    ensures only { IfErr result (λ e. e ≡ Memory) }
+{
+    let values = iter.into_iter();
+    let mut rows = Vec::with_capacity(alloc, room)?;
+    rows.push(measured(alloc, I::Item::headers(alloc)?)?)?;
+    'values: for value in values {
+        rows.push(measured(alloc, value.fields(alloc)?)?)?;
+    }
+    Ok(VecRecords::new(rows))
+}
+
+/// A row of name and text for each field of each value. Refused only for memory.
+pub fn field_records<I: IntoIterator>(
+    alloc: Global,
+    iter: I,
+) -> Result<VecRecords<Text<String>>, TableError>
+where
+    I::Item: Tabled + Drop,
+    requires { IsFiniteIterable I.into_iter_gives I.IntoIter.can_next I.IntoIter.remaining iter }
+    ensures ok { IfOk result (λ records. (values : List I.Item) × (rows : List (List (List ℕ)))
+        × Given I.into_iter_gives I.IntoIter.next_gives iter values
+        × AllZip I.Item.shows values rows
+        × (records ≡ flat_map (pairs I.Item.names) rows)) }
+    ensures only { IfErr result (λ e. e ≡ Memory) }
+{
+    let values = iter.into_iter();
+    let names = I::Item::headers(alloc)?;
+    let mut rows = Vec::new(alloc);
+    'values: for value in values {
+        let texts = value.fields(alloc)?;
+        push_fields(&mut rows, names.as_slice(), texts)?;
+    }
+    Ok(VecRecords::new(rows))
+}
+
+/// Puts a row of name and text for each field behind others.
+fn push_fields(
+    rows: &mut Vec<Vec<Text<String>>>,
+    names: &[CowStr<'_>],
+    texts: Vec<CowStr<'_>>,
+) -> Result<(), TableError>
+    ensures ok { OnOk result (row_texts rows.new.items ≡ row_texts rows.old.items
+        ++ pairs (map cow_str_bytes names.now) (map cow_str_bytes texts.entry.items)) }
+    ensures only { IfErr result (λ e. e ≡ Memory) }
+{
+    let alloc = *rows.allocator();
+    'fields: for (name, text) in names.iter().zip(texts) {
+        rows.push(pair(alloc, name.as_str(), text.into_owned(alloc)?)?)?;
+    }
+    Ok(())
+}
+
+/// A row of two texts.
+fn pair(alloc: Global, name: &str, text: String) -> Result<Vec<Text<String>>, TableError>
+    ensures ok { IfOk result (λ row. row.items ≡ name.now ∷ string_bytes text ∷ []) }
+    ensures only { IfErr result (λ e. e ≡ Memory) }
+{
+    let mut row = Vec::with_capacity(alloc, 2)?;
+    row.push(Text::new(String::from_str(alloc, name)?))?;
+    row.push(Text::new(text))?;
+    Ok(row)
+}
+
+/// Texts, measured.
+fn measured(alloc: Global, texts: Vec<CowStr<'_>>) -> Result<Vec<Text<String>>, TableError>
+    ensures texts { IfOk result (λ row. row.items ≡ map cow_str_bytes texts.entry.items) }
+    ensures length { IfOk result (λ row. length row.items ≡ vec_len texts.entry) }
+    ensures only { IfErr result (λ e. e ≡ Memory) }
+{
+    let mut row = Vec::with_capacity(alloc, texts.len())?;
+    'texts: for text in texts {
+        row.push(Text::new(text.into_owned(alloc)?))?;
+    }
+    Ok(row)
+}

@@ -1,0 +1,3 @@
+//! What no contract says: the names of types and the texts of values, from a table of cases.
+
+mod values;

@@ -1,0 +1,164 @@
+//! Tuples: the fields of each part, one behind the other.
+ghost use Rattle.std.specs.Prelude.{◌+◌, ◌++◌, ◌-◌, ◌^◌, min};
+ghost use Rattle.tabled_value.specs.Fields.{Joined};
+
+use super::Tabled;
+use super::parts::joined;
+use std::alloc::Global;
+use std::borrow::CowStr;
+use tabled_base::TableError;
+
+impl<A: Tabled> Tabled for (A,) {
+    ghost LENGTH = { A.LENGTH };
+
+    ghost shows = { λ t row. A.shows t.0 row };
+
+    ghost names = { A.names };
+
+    fn length() -> usize {
+        A::length()
+    }
+
+    fn fields(&self, alloc: Global) -> Result<Vec<CowStr<'_>>, TableError> {
+        A::fields(&self.0, alloc)
+    }
+
+    fn headers(alloc: Global) -> Result<Vec<CowStr<'static>>, TableError> {
+        A::headers(alloc)
+    }
+}
+
+impl<A: Tabled, B: Tabled> Tabled for (A, B) {
+    ghost LENGTH = { min (A.LENGTH + B.LENGTH) (2 ^ 64 - 1) };
+
+    ghost shows = { λ t row. Joined (A.shows t.0) (B.shows t.1) row };
+
+    ghost names = { A.names ++ B.names };
+
+    fn length() -> usize {
+        A::length().saturating_add(B::length())
+    }
+
+    fn fields(&self, alloc: Global) -> Result<Vec<CowStr<'_>>, TableError> {
+        joined(self.0.fields(alloc)?, self.1.fields(alloc)?)
+    }
+
+    fn headers(alloc: Global) -> Result<Vec<CowStr<'static>>, TableError> {
+        joined(A::headers(alloc)?, B::headers(alloc)?)
+    }
+}
+
+impl<A: Tabled, B: Tabled, C: Tabled> Tabled for (A, B, C) {
+    ghost LENGTH = { min (A.LENGTH + B.LENGTH + C.LENGTH) (2 ^ 64 - 1) };
+
+    ghost shows = { λ t row. Joined (A.shows t.0) (Joined (B.shows t.1) (C.shows t.2)) row };
+
+    ghost names = { A.names ++ (B.names ++ C.names) };
+
+    fn length() -> usize {
+        A::length()
+            .saturating_add(B::length())
+            .saturating_add(C::length())
+    }
+
+    fn fields(&self, alloc: Global) -> Result<Vec<CowStr<'_>>, TableError> {
+        let rest = joined(self.1.fields(alloc)?, self.2.fields(alloc)?)?;
+        joined(self.0.fields(alloc)?, rest)
+    }
+
+    fn headers(alloc: Global) -> Result<Vec<CowStr<'static>>, TableError> {
+        let rest = joined(B::headers(alloc)?, C::headers(alloc)?)?;
+        joined(A::headers(alloc)?, rest)
+    }
+}
+
+impl<A: Tabled, B: Tabled, C: Tabled, D: Tabled> Tabled for (A, B, C, D) {
+    ghost LENGTH = { min (A.LENGTH + B.LENGTH + C.LENGTH + D.LENGTH) (2 ^ 64 - 1) };
+
+    ghost shows = { λ t row. Joined (A.shows t.0) (Joined (B.shows t.1) (Joined (C.shows t.2) (D.shows t.3))) row };
+
+    ghost names = { A.names ++ (B.names ++ (C.names ++ D.names)) };
+
+    fn length() -> usize {
+        A::length()
+            .saturating_add(B::length())
+            .saturating_add(C::length())
+            .saturating_add(D::length())
+    }
+
+    fn fields(&self, alloc: Global) -> Result<Vec<CowStr<'_>>, TableError> {
+        let rest = joined(self.2.fields(alloc)?, self.3.fields(alloc)?)?;
+        let rest = joined(self.1.fields(alloc)?, rest)?;
+        joined(self.0.fields(alloc)?, rest)
+    }
+
+    fn headers(alloc: Global) -> Result<Vec<CowStr<'static>>, TableError> {
+        let rest = joined(C::headers(alloc)?, D::headers(alloc)?)?;
+        let rest = joined(B::headers(alloc)?, rest)?;
+        joined(A::headers(alloc)?, rest)
+    }
+}
+
+impl<A: Tabled, B: Tabled, C: Tabled, D: Tabled, E: Tabled> Tabled for (A, B, C, D, E) {
+    ghost LENGTH = { min (A.LENGTH + B.LENGTH + C.LENGTH + D.LENGTH + E.LENGTH) (2 ^ 64 - 1) };
+
+    ghost shows = { λ t row. Joined (A.shows t.0) (Joined (B.shows t.1) (Joined (C.shows t.2) (Joined (D.shows t.3) (E.shows t.4)))) row };
+
+    ghost names = { A.names ++ (B.names ++ (C.names ++ (D.names ++ E.names))) };
+
+    fn length() -> usize {
+        A::length()
+            .saturating_add(B::length())
+            .saturating_add(C::length())
+            .saturating_add(D::length())
+            .saturating_add(E::length())
+    }
+
+    fn fields(&self, alloc: Global) -> Result<Vec<CowStr<'_>>, TableError> {
+        let rest = joined(self.3.fields(alloc)?, self.4.fields(alloc)?)?;
+        let rest = joined(self.2.fields(alloc)?, rest)?;
+        let rest = joined(self.1.fields(alloc)?, rest)?;
+        joined(self.0.fields(alloc)?, rest)
+    }
+
+    fn headers(alloc: Global) -> Result<Vec<CowStr<'static>>, TableError> {
+        let rest = joined(D::headers(alloc)?, E::headers(alloc)?)?;
+        let rest = joined(C::headers(alloc)?, rest)?;
+        let rest = joined(B::headers(alloc)?, rest)?;
+        joined(A::headers(alloc)?, rest)
+    }
+}
+
+impl<A: Tabled, B: Tabled, C: Tabled, D: Tabled, E: Tabled, F: Tabled> Tabled
+    for (A, B, C, D, E, F) {
+    ghost LENGTH = { min (A.LENGTH + B.LENGTH + C.LENGTH + D.LENGTH + E.LENGTH + F.LENGTH) (2 ^ 64 - 1) };
+
+    ghost shows = { λ t row. Joined (A.shows t.0) (Joined (B.shows t.1) (Joined (C.shows t.2) (Joined (D.shows t.3) (Joined (E.shows t.4) (F.shows t.5))))) row };
+
+    ghost names = { A.names ++ (B.names ++ (C.names ++ (D.names ++ (E.names ++ F.names)))) };
+
+    fn length() -> usize {
+        A::length()
+            .saturating_add(B::length())
+            .saturating_add(C::length())
+            .saturating_add(D::length())
+            .saturating_add(E::length())
+            .saturating_add(F::length())
+    }
+
+    fn fields(&self, alloc: Global) -> Result<Vec<CowStr<'_>>, TableError> {
+        let rest = joined(self.4.fields(alloc)?, self.5.fields(alloc)?)?;
+        let rest = joined(self.3.fields(alloc)?, rest)?;
+        let rest = joined(self.2.fields(alloc)?, rest)?;
+        let rest = joined(self.1.fields(alloc)?, rest)?;
+        joined(self.0.fields(alloc)?, rest)
+    }
+
+    fn headers(alloc: Global) -> Result<Vec<CowStr<'static>>, TableError> {
+        let rest = joined(E::headers(alloc)?, F::headers(alloc)?)?;
+        let rest = joined(D::headers(alloc)?, rest)?;
+        let rest = joined(C::headers(alloc)?, rest)?;
+        let rest = joined(B::headers(alloc)?, rest)?;
+        joined(A::headers(alloc)?, rest)
+    }
+}
