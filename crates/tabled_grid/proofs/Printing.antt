@@ -7,7 +7,7 @@ use Rattle.tabled_config.specs.declared.spanned.SpannedConfig.{SpannedConfig}
 use Rattle.tabled_size.specs.Estimates.{IsTooHigh, IsTooWide}
 use Rattle.tabled_size.specs.Sheet.{Sheet, estimated, is_empty}
 use Rattle.tabled_grid.specs.Picture.{picture, table_text}
-use Rattle.tabled_grid.specs.Printed.{IsPrintable, IsRefused, Prints}
+use Rattle.tabled_grid.specs.Printed.{Ends, IsPrintable, IsRefused, Prints}
 use Rattle.tabled_grid.specs.Sent.{Sends, Sent, Stops}
 use Rattle.tabled_grid.proofs.EstimatedSizes.{holds_estimated, passes_too_high, passes_too_wide, refused_estimated, sized_estimated}
 use Rattle.tabled_grid.proofs.Sending.{sends-none, sends-along}
@@ -20,27 +20,25 @@ picture_none t e = rw e refl
 pub prints_nothing : (t : Sheet) (a : Sent) → is_empty t.cells ≡ true → ((is_empty t.cells ≡ true) ⊎ IsPrintable t) × Sends a a (table_text t)
 prints_nothing t a e = (inl e, sends-along a a [] (table_text t) (sends-none a) (sym (picture_none t e)))
 
+-- a call that takes no memory of its own is one that may
+pub estimating : {T : Type 0} (t : Sheet) (a b : Sent) (r : Result T TableError) → Prints false t a r b → Prints true t a r b
+estimating t a b (Ok x) p = p
+estimating t a b (Err e) p =
+    (p.0, ⊎_elim (λ r. inl r) (λ h. ⊎_elim (λ m. let never = m.0 in absurd (cc)) (λ s. inr (inr s)) h) p.1)
+
 -- refused before anything was written
-refused_early : (t : Sheet) (a : Sent) (e : TableError) → is_empty t.cells ≡ false → (e ≡ Memory) ⊎ IsRefused t e → (is_empty t.cells ≡ false) × ((IsRefused t e × (a ≡ a)) ⊎ Stops a e a (table_text t))
-refused_early t a e filled cause = (
-  filled,
-  ⊎_elim
-      (λ m. let P : TableError → Type 0 = λ d. Stops a d a (table_text t) in
-      let none = sends-none a in
-      let memory : Stops a Memory a (table_text t) = record { front = []; rest = table_text t; whole = refl; added = none.added; cause = none.counted } in
-      inr (subst P (sym m) memory))
-      (λ r. inl (r, refl)) cause,
-)
+refused_early : (t : Sheet) (a : Sent) (e : TableError) → is_empty t.cells ≡ false → (e ≡ Memory) ⊎ IsRefused t e → (is_empty t.cells ≡ false) × Ends true t a e a
+refused_early t a e filled cause = (filled, ⊎_elim (λ m. inr (inl (refl, m, refl))) (λ r. inl (r, refl)) cause)
 
 -- the same, of a function that hands a refusal on
-pub refused_so : {T : Type 0} (t : Sheet) (a : Sent) (r : Result T TableError) (e : TableError) → is_empty t.cells ≡ false → (e ≡ Memory) ⊎ IsRefused t e → IsErrAnd r (λ d. d ≡ e) → Prints t a r a
+pub refused_so : {T : Type 0} (t : Sheet) (a : Sent) (r : Result T TableError) (e : TableError) → is_empty t.cells ≡ false → (e ≡ Memory) ⊎ IsRefused t e → IsErrAnd r (λ d. d ≡ e) → Prints true t a r a
 refused_so t a (Ok x) e filled cause h = absurd h
 refused_so t a (Err d) e filled cause h =
-    let P : TableError → Type 0 = λ k. (is_empty t.cells ≡ false) × ((IsRefused t k × (a ≡ a)) ⊎ Stops a k a (table_text t)) in
+    let P : TableError → Type 0 = λ k. (is_empty t.cells ≡ false) × Ends true t a k a in
     subst P (sym h) (refused_early t a e filled cause)
 
 -- a cell that is too wide, or too high
-pub refused_too_large : {T : Type 0} (cells : List (List (List ℕ))) (config : SpannedConfig) (a : Sent) (r : Result T TableError) (e : TableError) → is_empty cells ≡ false → (e ≡ Memory) ⊎ ((e ≡ Range) × (IsTooWide cells config ⊎ IsTooHigh cells config)) → IsErrAnd r (λ d. d ≡ e) → Prints (estimated cells config) a r a
+pub refused_too_large : {T : Type 0} (cells : List (List (List ℕ))) (config : SpannedConfig) (a : Sent) (r : Result T TableError) (e : TableError) → is_empty cells ≡ false → (e ≡ Memory) ⊎ ((e ≡ Range) × (IsTooWide cells config ⊎ IsTooHigh cells config)) → IsErrAnd r (λ d. d ≡ e) → Prints true (estimated cells config) a r a
 refused_too_large cells config a r e filled cause h =
     let P : TableError → Type 0 = IsRefused (estimated cells config) in
     let passes : IsTooWide cells config ⊎ IsTooHigh cells config → _ = ⊎_elim (λ w. passes_too_wide cells config w) (λ t. passes_too_high cells config t) in
@@ -56,7 +54,8 @@ stopped_only a b Range text s = absurd s.cause
 stopped_only a b Writer text s = inr (inr refl)
 
 -- no stored size can be short or narrow
-pub only_estimated : {T : Type 0} (cells : List (List (List ℕ))) (config : SpannedConfig) (a b : Sent) (r : Result T TableError) → Prints (estimated cells config) a r b → IfErr r (λ e. (e ≡ Memory) ⊎ ((e ≡ Range) ⊎ (e ≡ Writer)))
+pub only_estimated : {T : Type 0} (cells : List (List (List ℕ))) (config : SpannedConfig) (a b : Sent) (r : Result T TableError) → Prints true (estimated cells config) a r b → IfErr r (λ e. (e ≡ Memory) ⊎ ((e ≡ Range) ⊎ (e ≡ Writer)))
 only_estimated cells config a b (Ok x) p = tt
 only_estimated cells config a b (Err e) p =
-    ⊎_elim (λ r. inr (inl (refused_estimated cells config e r.0).0)) (λ s. stopped_only a b e (table_text (estimated cells config)) s) p.1
+    ⊎_elim (λ r. inr (inl (refused_estimated cells config e r.0).0))
+    (λ h. ⊎_elim (λ m. inl m.1) (λ s. stopped_only a b e (table_text (estimated cells config)) s.1) h) p.1

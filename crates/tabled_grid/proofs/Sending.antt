@@ -24,23 +24,23 @@ Appends-then (Some xs) (Some ys) None s t p q = q
 Appends-then (Some xs) (Some ys) (Some zs) s t p q = grind (arith, common_steps)
 
 pub sends-none : (a : Sent) → Sends a a []
-sends-none a = record { added = Appends-nil a.bytes a.bytes (Keeps-same a.bytes); counted = omega arith }
+sends-none a = record { added = Appends-nil a.bytes a.bytes (Keeps-same a.bytes); counted = omega arith; alike = refl }
 
 pub sends-then : (a b c : Sent) (s t : List ℕ) → Sends a b s → Sends b c t → Sends a c (s ++ t)
 sends-then a b c s t p q =
-    record { added = Appends-then a.bytes b.bytes c.bytes s t p.added q.added; counted = (let m = p.counted in let n = q.counted in omega arith) }
+    record { added = Appends-then a.bytes b.bytes c.bytes s t p.added q.added; counted = (let m = p.counted in let n = q.counted in omega arith); alike = q.alike ∙ p.alike }
 
 -- a count that rose later rose from an earlier one
 rose-then : (m n o : ℕ) → m ≤ n → Rose n o → Rose m o
 rose-then m n o l r = ⊎_elim (λ h. inl (omega arith)) (λ h. inr h) r
 
-cause-then : (e : TableError) (m n o : ℕ) → m ≤ n → IsCause e n o → IsCause e m o
-cause-then Memory m n o l c = omega arith
-cause-then Writer m n o l c = rose-then m n o l c
-cause-then ShortWidths m n o l c = absurd c
-cause-then ShortHeights m n o l c = absurd c
-cause-then (Narrow row column) m n o l c = absurd c
-cause-then Range m n o l c = absurd c
+cause-then : (e : TableError) (a b c : Sent) → b.grows ≡ a.grows → a.failures ≤ b.failures → IsCause e b c → IsCause e a c
+cause-then Memory a b c s l h = (sym s ∙ h.0, (let later = h.1 in omega arith))
+cause-then Writer a b c s l h = rose-then a.failures b.failures c.failures l h
+cause-then ShortWidths a b c s l h = absurd h
+cause-then ShortHeights a b c s l h = absurd h
+cause-then (Narrow row column) a b c s l h = absurd h
+cause-then Range a b c s l h = absurd h
 
 -- a refusal after s was sent
 pub stops-then : (a b c : Sent) (e : TableError) (s t : List ℕ) → Sends a b s → Stops b e c t → Stops a e c (s ++ t)
@@ -50,7 +50,7 @@ stops-then a b c e s t p q =
       rest = q.rest;
       whole = append_assoc s q.front q.rest ∙ ap (λ u. s ++ u) q.whole;
       added = Appends-then a.bytes b.bytes c.bytes s q.front p.added q.added;
-      cause = cause-then e a.failures b.failures c.failures p.counted q.cause;
+      cause = cause-then e a b c p.alike p.counted q.cause;
     }
 
 -- a refusal in a text is one in a longer text

@@ -133,7 +133,7 @@ module _ (cells : List (List (List ℕ))) (config : SpannedConfig) where
       (λ w. inl (subst (λ o. 2 ^ 64 ≤ filled_width config (columns cells) (standing_sizes o (estimated_widths cells config) (columns cells))) (sym w.0) (too_wide_passes cells config w.1)))
       (λ h. inr (subst (λ o. 2 ^ 64 ≤ filled_height config (length cells) (standing_sizes o (estimated_heights cells config) (length cells))) (sym h.0) (too_high_passes cells config h.1))) cause
 
-  pub refused_unestimated : {T : Type 0} (sizes copy : CompleteDimension) (a : Sent) (r : Result T TableError) (e : TableError) → widths_of copy ≡ widths_of sizes → heights_of copy ≡ heights_of sizes → is_empty cells ≡ false → IsSized (standing cells config sizes) → Holds (standing cells config sizes) → (e ≡ Memory) ⊎ ((e ≡ Range) × HasNoEstimate copy cells config) → IsErrAnd r (λ d. d ≡ e) → Prints (standing cells config sizes) a r a
+  pub refused_unestimated : {T : Type 0} (sizes copy : CompleteDimension) (a : Sent) (r : Result T TableError) (e : TableError) → widths_of copy ≡ widths_of sizes → heights_of copy ≡ heights_of sizes → is_empty cells ≡ false → IsSized (standing cells config sizes) → Holds (standing cells config sizes) → (e ≡ Memory) ⊎ ((e ≡ Range) × HasNoEstimate copy cells config) → IsErrAnd r (λ d. d ≡ e) → Prints true (standing cells config sizes) a r a
   refused_unestimated sizes copy a r e w h filled sized held cause is =
       let P : TableError → Type 0 = IsRefused (standing cells config sizes) in
       let same : HasNoEstimate copy cells config → HasNoEstimate sizes cells config = ⊎_elim (λ x. inl (sym w ∙ x.0, x.1)) (λ x. inr (sym h ∙ x.0, x.1)) in

@@ -1,8 +1,8 @@
 -- Which tables are printed, why others are refused, and what a call that prints leaves.
-use Rattle.std.specs.Prelude.{◌≡◌, ◌^◌, ◌<◌, ◌≤◌, ◌⊎◌, length, true, false, Result, Ok, Err}
+use Rattle.std.specs.Prelude.{◌≡◌, ◌^◌, ◌<◌, ◌≤◌, ◌⊎◌, Bool, length, true, false, Result, Ok, Err}
 use Rattle.tabled_base.specs.Cells.{columns}
 use Rattle.tabled_base.specs.declared.error.TableError.{TableError}
-use Rattle.tabled_base.specs.declared.error.TableError.TheVariants.{ShortWidths, ShortHeights, Narrow, Range}
+use Rattle.tabled_base.specs.declared.error.TableError.TheVariants.{Memory, ShortWidths, ShortHeights, Narrow, Range}
 use Rattle.tabled_size.specs.Sheet.{Sheet, is_empty}
 use Rattle.tabled_size.specs.Totals.{filled_height, filled_width}
 use Rattle.tabled_grid.specs.Holds.{Holds, IsFirstNarrow, IsSized}
@@ -33,10 +33,15 @@ pub record IsPrintable (t : Sheet) : Type 0 where
   pub holds : Holds t
   pub in_range : IsInRange t
 
--- what a call that prints a table leaves: on Ok its text was added, and the table is one that can be
--- printed; a table is refused for its cause before the first byte, and else the sink refused, with a
--- beginning of the text added, or memory did; a table with no row or no column is never refused
-abbrev pub Prints : {T : Type 0} → Sheet → Sent → Result T TableError → Sent → Type 0
-Prints t old (Ok _) new = ((is_empty t.cells ≡ true) ⊎ IsPrintable t) × Sends old new (table_text t)
-Prints t old (Err error) new =
-    (is_empty t.cells ≡ false) × ((IsRefused t error × (new ≡ old)) ⊎ Stops old error new (table_text t))
+-- why a call that prints stops: the table is refused for its cause, or memory was for an estimate, both before the
+-- first byte; or the table can be printed, and the sink refused, with a beginning of the text added
+abbrev pub Ends : Bool → Sheet → Sent → TableError → Sent → Type 0
+Ends estimates t old error new =
+    (IsRefused t error × (new ≡ old))
+    ⊎ (((estimates ≡ true) × (error ≡ Memory) × (new ≡ old)) ⊎ (IsPrintable t × Stops old error new (table_text t)))
+
+-- what a call that prints a table leaves, and that takes memory of its own if it estimates sizes: on Ok the table's text
+-- was added, and the table is one that can be printed; a table with no row or no column is never refused
+abbrev pub Prints : {T : Type 0} → Bool → Sheet → Sent → Result T TableError → Sent → Type 0
+Prints estimates t old (Ok _) new = ((is_empty t.cells ≡ true) ⊎ IsPrintable t) × Sends old new (table_text t)
+Prints estimates t old (Err error) new = (is_empty t.cells ≡ false) × Ends estimates t old error new

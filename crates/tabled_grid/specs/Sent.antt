@@ -1,28 +1,31 @@
 -- What a sink was sent, and what a call that writes a text leaves of it.
-use Rattle.std.specs.Prelude.{◌≡◌, ℕ, ◌-◌, ◌^◌, ◌<◌, ◌≤◌, ◌⊎◌, List, ◌++◌, Option, Result, Ok, Err}
+use Rattle.std.specs.Prelude.{◌≡◌, ℕ, ◌-◌, ◌^◌, ◌<◌, ◌≤◌, ◌⊎◌, Bool, true, List, ◌++◌, Option, Result, Ok, Err}
 use Rattle.std.specs.Io.KnownBytes.{Appends}
 use Rattle.tabled_base.specs.declared.error.TableError.{TableError}
 use Rattle.tabled_base.specs.declared.error.TableError.TheVariants.{Memory, Writer}
 
--- the bytes that a sink took, where they are known, and how often it failed
+-- the bytes that a sink took, where they are known, how often it failed, and whether it grows, so that it may be
+-- refused memory
 pub record Sent : Type 0 where
   pub bytes : Option (List ℕ)
   pub failures : ℕ
+  pub grows : Bool
 
 -- a count rose, or stands at the greatest `usize`
 abbrev pub Rose : ℕ → ℕ → Type 0
 Rose old new = (old < new) ⊎ (new ≡ 2 ^ 64 - 1)
 
--- why a sink refuses: for memory, and the count didn't fall, or a write failed, and the count rose
-abbrev pub IsCause : TableError → ℕ → ℕ → Type 0
-IsCause Memory old new = old ≤ new
-IsCause Writer old new = Rose old new
+-- why a sink refuses: for memory, if it grows, and the count didn't fall; or a write failed, and the count rose
+abbrev pub IsCause : TableError → Sent → Sent → Type 0
+IsCause Memory old new = (old.grows ≡ true) × (old.failures ≤ new.failures)
+IsCause Writer old new = Rose old.failures new.failures
 IsCause _ old new = ⊥
 
--- exactly the text was added
+-- exactly the text was added, and the sink grows no more and no less than before
 pub record Sends (old new : Sent) (text : List ℕ) : Type 0 where
   pub added : Appends old.bytes new.bytes text
   pub counted : old.failures ≤ new.failures
+  pub alike : new.grows ≡ old.grows
 
 -- a beginning of the text was added, up to a refusal with its cause
 pub record Stops (old : Sent) (error : TableError) (new : Sent) (text : List ℕ) : Type 0 where
@@ -30,7 +33,7 @@ pub record Stops (old : Sent) (error : TableError) (new : Sent) (text : List ℕ
   pub rest : List ℕ
   pub whole : front ++ rest ≡ text
   pub added : Appends old.bytes new.bytes front
-  pub cause : IsCause error old.failures new.failures
+  pub cause : IsCause error old new
 
 -- what a call that writes the text leaves, by its answer
 abbrev pub Writes : {T : Type 0} → Sent → Result T TableError → Sent → List ℕ → Type 0

@@ -1,5 +1,5 @@
 //! A writer as a sink.
-ghost use Rattle.std.specs.Prelude.{◌≡◌, ◌+◌, min, is_ok, if◌then◌else◌, IfErr};
+ghost use Rattle.std.specs.Prelude.{◌≡◌, ◌+◌, false, min, is_ok, if◌then◌else◌, IfErr};
 ghost use Rattle.tabled_base.specs.declared.error.TableError.TheVariants.{Writer};
 ghost use Rattle.tabled_grid.specs.Sent.{Sent, Took, Writes};
 
@@ -37,12 +37,12 @@ impl<W> IoSink<W> {
 }
 
 impl<W: Write> TextSink for IoSink<W> {
-    ghost sent = { λ s. record { bytes = W.contents s.writer; failures = s.failures } };
+    ghost sent = { λ s. record { bytes = W.contents s.writer; failures = s.failures; grows = false } };
 
     fn write_text(&mut self, text: &str) -> Result<(), TableError>
         ensures written { Writes
-            (record { bytes = W.contents self.old.writer; failures = self.old.failures }) result
-            (record { bytes = W.contents self.new.writer; failures = self.new.failures }) text.now }
+            (record { bytes = W.contents self.old.writer; failures = self.old.failures; grows = false }) result
+            (record { bytes = W.contents self.new.writer; failures = self.new.failures; grows = false }) text.now }
         ensures only { IfErr result (λ e. e ≡ Writer) }
         ensures counted { self.new.failures
             ≡ (if is_ok result then self.old.failures else min (self.old.failures + 1) usize.MAX) }

@@ -109,7 +109,7 @@ pub(crate) fn print_held<'a, R: PeekableRecords, D: Dimension, S: TextSink>(
     requires sized { IsSized (sheet_of R.cells D.width_at D.height_at grid.now) }
     requires holds { Holds (sheet_of R.cells D.width_at D.height_at grid.now) }
     requires marked { AreKept (R.cells grid.now.records.now) marks.old }
-    ensures { Prints (sheet_of R.cells D.width_at D.height_at grid.now) (S.sent sink.old) result (S.sent sink.new) }
+    ensures { Prints false (sheet_of R.cells D.width_at D.height_at grid.now) (S.sent sink.old) result (S.sent sink.new) }
 {
     let whole = check_totals(grid)?;
     put_picture(sink, grid, marks, whole)
@@ -126,7 +126,7 @@ pub fn print_grid<R: PeekableRecords, D: Dimension, S: TextSink>(
     config: &SpannedConfig,
     dimension: &D,
 ) -> Result<(), TableError>
-    ensures { Prints (sheet_by (R.cells records.now) config.now (D.width_at dimension.now)
+    ensures { Prints false (sheet_by (R.cells records.now) config.now (D.width_at dimension.now)
         (D.height_at dimension.now)) (S.sent sink.old) result (S.sent sink.new) }
 {
     if is_empty(records) {

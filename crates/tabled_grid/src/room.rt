@@ -1,5 +1,5 @@
 //! Room for the text of a line.
-ghost use Rattle.std.specs.Prelude.{◌≡◌, ◌≤◌, Some, IfErr, IfSome, [], take};
+ghost use Rattle.std.specs.Prelude.{◌≡◌, ◌≤◌, Some, IfErr, IfSome, [], take, true};
 ghost use Rattle.tabled_base.specs.declared.error.TableError.TheVariants.{Memory};
 ghost use Rattle.tabled_grid.specs.Sent.{Sent, Writes};
 
@@ -44,12 +44,12 @@ impl Room {
 }
 
 impl TextSink for Room {
-    ghost sent = { λ r. record { bytes = Some (take r.used r.bytes); failures = 0 } };
+    ghost sent = { λ r. record { bytes = Some (take r.used r.bytes); failures = 0; grows = true } };
 
     fn write_text(&mut self, text: &str) -> Result<(), TableError>
         ensures written { Writes
-            (record { bytes = Some (take self.old.used self.old.bytes); failures = 0 }) result
-            (record { bytes = Some (take self.new.used self.new.bytes); failures = 0 }) text.now }
+            (record { bytes = Some (take self.old.used self.old.bytes); failures = 0; grows = true }) result
+            (record { bytes = Some (take self.new.used self.new.bytes); failures = 0; grows = true }) text.now }
         ensures only { IfErr result (λ e. e ≡ Memory) }
     {
         if text.len() > ROOM - self.used {

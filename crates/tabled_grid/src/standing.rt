@@ -1,9 +1,10 @@
 //! Records with the sizes that stand: those that are stored, and else those that the texts ask for.
-ghost use Rattle.std.specs.Prelude.{◌≡◌, ◌⊎◌, ◌<◌, ◌≤◌, IfErr, OnOk, false, length};
+ghost use Rattle.std.specs.Prelude.{◌≡◌, ◌⊎◌, ◌<◌, ◌≤◌, IfErr, OnOk, false, length, not, true};
 ghost use Rattle.tabled_base.specs.Cells.{columns};
 ghost use Rattle.tabled_base.specs.declared.error.TableError.TheVariants.{Memory, Range, ShortHeights, ShortWidths, Writer};
 ghost use Rattle.tabled_size.specs.Sheet.{estimated, is_empty};
 ghost use Rattle.tabled_size.specs.StandingSheet.{standing};
+ghost use Rattle.tabled_size.specs.Stored.{is_stored};
 ghost use Rattle.tabled_grid.specs.Holds.{Holds, IsNarrow, IsSized};
 ghost use Rattle.tabled_grid.specs.Printed.{IsRefused, Prints};
 ghost use Rattle.tabled_grid.specs.Sent.{Sent};
@@ -103,7 +104,7 @@ pub fn print_standing<R: PeekableRecords, S: TextSink>(
     stored: &CompleteDimension,
     sink: &mut S,
 ) -> Result<(), TableError>
-    ensures { Prints (standing (R.cells records.now) config.now stored.now)
+    ensures { Prints (not (is_stored stored.now)) (standing (R.cells records.now) config.now stored.now)
         (S.sent sink.old) result (S.sent sink.new) }
 {
     if is_empty(records) {
@@ -132,7 +133,7 @@ fn print_filled_in<R: PeekableRecords, S: TextSink>(
     requires filled { is_empty (R.cells records.now) ≡ false }
     requires sized { IsSized (standing (R.cells records.now) config.now stored.now) }
     requires holds { Holds (standing (R.cells records.now) config.now stored.now) }
-    ensures { Prints (standing (R.cells records.now) config.now stored.now)
+    ensures { Prints true (standing (R.cells records.now) config.now stored.now)
         (S.sent sink.old) result (S.sent sink.new) }
 {
     let mut sizes = stored.clone()?;
@@ -155,7 +156,7 @@ pub fn print_estimated<R: PeekableRecords, S: TextSink>(
     config: &SpannedConfig,
     sink: &mut S,
 ) -> Result<(), TableError>
-    ensures printed { Prints (estimated (R.cells records.now) config.now)
+    ensures printed { Prints true (estimated (R.cells records.now) config.now)
         (S.sent sink.old) result (S.sent sink.new) }
     ensures only { IfErr result (λ e. (e ≡ Memory) ⊎ ((e ≡ Range) ⊎ (e ≡ Writer))) }
 {

@@ -5,11 +5,11 @@ use tabled_base::TableError;
 
 /// A place for text. It is told the pieces of a text one after another.
 pub trait TextSink {
-    // The bytes so far, where they are known, and how often a write failed.
+    // The bytes so far, where they are known, how often a write failed, and whether memory may be wanted.
     ghost sent: { Self → Sent };
 
-    /// Adds a text. Refused only for memory, or with `Writer` where a write failed; then a beginning of
-    /// the text was added.
+    /// Adds a text. Refused only for memory, by a sink that grows, or with `Writer` where a write failed;
+    /// then a beginning of the text was added.
     fn write_text(&mut self, text: &str) -> Result<(), TableError>
         ensures written { Writes (sent self.old) result (sent self.new) text.now };
 }

@@ -2,7 +2,7 @@
 ghost use Rattle.std.specs.Prelude.{◌≡◌, ◌&&◌, ℕ, IfErr, IfOk, List, None, Option, Some, is_none, is_some, option_map, true};
 ghost use Rattle.tabled_base.specs.declared.error.TableError.TheVariants.{Memory};
 ghost use Rattle.tabled_size.specs.Standing.{clears_heights, clears_widths, stored_at, unless_cleared};
-ghost use Rattle.tabled_size.specs.Stored.{heights_of, widths_of};
+ghost use Rattle.tabled_size.specs.Stored.{heights_of, is_stored, widths_of};
 
 use crate::dimension::Dimension;
 use std::alloc::Global;
@@ -32,7 +32,7 @@ impl CompleteDimension {
 
     /// Whether widths and heights are stored.
     pub fn is_complete(&self) -> bool
-        ensures { result ≡ (is_some (widths_of self.now) && is_some (heights_of self.now)) }
+        ensures { result ≡ is_stored self.now }
     {
         self.width.is_some() && self.height.is_some()
     }

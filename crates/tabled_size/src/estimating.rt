@@ -1,7 +1,8 @@
 //! Sizes that are estimated where none are stored.
-ghost use Rattle.std.specs.Prelude.{◌≡◌, ◌⊎◌, IfErr, OnErr, OnOk};
+ghost use Rattle.std.specs.Prelude.{◌≡◌, ◌⊎◌, IfErr, IsOk, IsTrue, OnErr, OnOk};
 ghost use Rattle.tabled_base.specs.declared.error.TableError.TheVariants.{Memory, Range};
 ghost use Rattle.tabled_size.specs.FilledIn.{HasNoEstimate, IsFilledIn};
+ghost use Rattle.tabled_size.specs.Stored.{is_stored};
 
 use crate::complete_dimension::CompleteDimension;
 use crate::dimension::Estimate;
@@ -16,6 +17,7 @@ impl<R: PeekableRecords> Estimate<R, SpannedConfig> for CompleteDimension {
 
     fn estimate(&mut self, records: &R, config: &SpannedConfig) -> Result<(), TableError>
         ensures ok { OnOk result (IsFilledIn self.old (R.cells records.now) config.now self.new) }
+        ensures stored { IsTrue (is_stored self.old) → IsOk result }
         ensures err { OnErr result (self.new ≡ self.old) }
         ensures only { IfErr result (λ e. (e ≡ Memory)
             ⊎ ((e ≡ Range) × HasNoEstimate self.old (R.cells records.now) config.now)) }

@@ -1,12 +1,13 @@
 //! The totals of a table with the sizes that stand: those that are stored, and else estimated ones.
-ghost use Rattle.std.specs.Prelude.{◌≡◌, ◌<◌, ◌≤◌, IfErr, Ok, OnOk, false, length, true};
+ghost use Rattle.std.specs.Prelude.{◌≡◌, ◌⊎◌, ◌<◌, ◌≤◌, IfErr, None, Ok, OnOk, false, length, true};
 ghost use Rattle.tabled_base.specs.Cells.{IsRectangular, columns};
-ghost use Rattle.tabled_base.specs.declared.error.TableError.TheVariants.{ShortHeights, ShortWidths};
+ghost use Rattle.tabled_base.specs.declared.error.TableError.TheVariants.{Memory, Range, ShortHeights, ShortWidths};
 ghost use Rattle.tabled_size.specs.Estimates.{estimated_heights, estimated_widths};
 ghost use Rattle.tabled_size.specs.Reached.{reached};
 ghost use Rattle.tabled_size.specs.Sheet.{is_empty};
 ghost use Rattle.tabled_size.specs.StandingSheet.{standing};
 ghost use Rattle.tabled_size.specs.StandingTotals.{AnswersHeight, AnswersWidth};
+ghost use Rattle.tabled_size.specs.Stored.{heights_of, widths_of};
 
 use crate::complete_dimension::CompleteDimension;
 use crate::dimension::Dimension;
@@ -59,7 +60,8 @@ fn reached_width<D: Dimension>(
     columns: usize,
     sizes: &D,
 ) -> Result<usize, TableError>
-    ensures { AnswersWidth config.now columns (reached (D.width_at sizes.now) columns) result }
+    ensures answers { AnswersWidth config.now columns (reached (D.width_at sizes.now) columns) result }
+    ensures only { IfErr result (λ e. (e ≡ ShortWidths) ⊎ (e ≡ Range)) }
 {
     check_widths(sizes, columns)?;
     match filled_width(config, columns, sizes) {
@@ -74,7 +76,8 @@ fn reached_height<D: Dimension>(
     rows: usize,
     sizes: &D,
 ) -> Result<usize, TableError>
-    ensures { AnswersHeight config.now rows (reached (D.height_at sizes.now) rows) result }
+    ensures answers { AnswersHeight config.now rows (reached (D.height_at sizes.now) rows) result }
+    ensures only { IfErr result (λ e. (e ≡ ShortHeights) ⊎ (e ≡ Range)) }
 {
     check_heights(sizes, rows)?;
     match filled_height(config, rows, sizes) {
@@ -114,7 +117,7 @@ fn estimated_height<R: PeekableRecords>(
 }
 
 /// The columns of the whole table: 0 where it has no row or no column, else the widths that stand, the
-/// vertical lines and the side margins. Refused for memory, with `ShortWidths` where a list is stored that
+/// vertical lines and the side margins. Refused for memory where no widths are stored, with `ShortWidths` where a list is stored that
 /// is shorter than the table, and with `Range` where the sum passes the greatest `usize`.
 pub fn total_width<R: PeekableRecords>(
     records: &R,
@@ -124,6 +127,7 @@ pub fn total_width<R: PeekableRecords>(
     ensures empty { is_empty (R.cells records.now) ≡ true → result ≡ Ok 0 }
     ensures filled { is_empty (R.cells records.now) ≡ false → AnswersWidth config.now
         (columns (R.cells records.now)) (standing (R.cells records.now) config.now stored.now).widths result }
+    ensures memory { IfErr result (λ e. e ≡ Memory → widths_of stored.now ≡ None) }
     ensures rectangular { IsRectangular (R.cells records.now) }
 {
     if is_empty(records) {
@@ -136,7 +140,7 @@ pub fn total_width<R: PeekableRecords>(
 }
 
 /// The lines of the whole table: 0 where it has no row or no column, else the heights that stand, the
-/// horizontal lines, top and bottom margin. Refused for memory, with `ShortHeights` where a list is stored
+/// horizontal lines, top and bottom margin. Refused for memory where no heights are stored, with `ShortHeights` where a list is stored
 /// that is shorter than the table, and with `Range` where the sum passes the greatest `usize`.
 pub fn total_height<R: PeekableRecords>(
     records: &R,
@@ -146,6 +150,7 @@ pub fn total_height<R: PeekableRecords>(
     ensures empty { is_empty (R.cells records.now) ≡ true → result ≡ Ok 0 }
     ensures filled { is_empty (R.cells records.now) ≡ false → AnswersHeight config.now
         (length (R.cells records.now)) (standing (R.cells records.now) config.now stored.now).heights result }
+    ensures memory { IfErr result (λ e. e ≡ Memory → heights_of stored.now ≡ None) }
     ensures rectangular { IsRectangular (R.cells records.now) }
 {
     if is_empty(records) {

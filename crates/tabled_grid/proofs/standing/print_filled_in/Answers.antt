@@ -1,7 +1,9 @@
-use Rattle.std.proofs.Common.{subst, sym}
+use Rattle.std.proofs.Common.{false, subst, sym}
 use Rattle.tabled_size.specs.Sheet.{Sheet}
+use Rattle.tabled_size.specs.StandingSheet.{standing}
 use Rattle.tabled_grid.specs.Holds.{Holds, IsSized}
 use Rattle.tabled_grid.specs.Printed.{Prints}
+use Rattle.tabled_grid.proofs.Printing.{estimating}
 use Rattle.tabled_grid.proofs.StandingSizes.{answered_filled, refused_unestimated}
 use Rattle.tabled_grid.proofs.standing.print_filled_in.Goals as goal
 
@@ -27,11 +29,12 @@ print_held-requires-clause-holds g c =
 
 pub returns : goal.returns
 returns g c =
-    let P : Sheet → Type 0 = λ t. Prints t (g.S.TextSink.sent c.args.sink.now) c.print_held.result (g.S.TextSink.sent c.print_held.new.sink) in
-    subst P
+    let P : Sheet → Type 0 = λ t. Prints false t (g.S.TextSink.sent c.args.sink.now) c.print_held.result (g.S.TextSink.sent c.print_held.new.sink) in
+    estimating (standing (g.R.ExactRecords.cells c.args.records.now) c.args.config.now c.args.stored.now)
+    (g.S.TextSink.sent c.args.sink.now) (g.S.TextSink.sent c.print_held.new.sink) c.print_held.result (subst P
     (answered_filled (g.R.ExactRecords.cells c.args.records.now) c.args.config.now c.args.stored.now c.in_ok-sizes.sizes c.estimate.new.self
     c.in_ok-sizes.ensures.widths c.in_ok-sizes.ensures.heights c.in_ok-estimate.ensures.ok)
-    c.print_held.ensures
+    c.print_held.ensures)
 
 pub print_held-requires-clause-marked : goal.print_held-requires-clause-marked
 print_held-requires-clause-marked g c = c.in_ok-marks.ensures.ok (g.R.ExactRecords.cells c.args.records.now)

@@ -1,6 +1,7 @@
-use Rattle.std.proofs.Common.{◌∙◌, subst, sym}
+use Rattle.std.proofs.Common.{◌∙◌, Bool, ap, false, not, subst, sym}
 use Rattle.tabled_size.specs.Sheet.{Sheet}
 use Rattle.tabled_size.specs.StandingSheet.{standing}
+use Rattle.tabled_size.specs.Stored.{is_stored}
 use Rattle.tabled_grid.specs.Holds.{Holds, IsSized}
 use Rattle.tabled_grid.specs.Printed.{Prints}
 use Rattle.tabled_grid.proofs.Printing.{prints_nothing}
@@ -25,10 +26,18 @@ print_held-requires-clause-holds g c =
 
 pub returns-then-is_complete : goal.returns-then-is_complete
 returns-then-is_complete g c =
-    let P : Sheet → Type 0 = λ t. Prints t (g.S.TextSink.sent c.args.sink.now) c.print_held.result (g.S.TextSink.sent c.print_held.new.sink) in
-    subst P
-    (answered_complete (g.R.ExactRecords.cells c.args.records.now) c.args.config.now c.args.stored.now (sym c.is_complete.ensures ∙ c.if-is_complete.true))
-    c.print_held.ensures
+    let stored = sym c.is_complete.ensures ∙ c.if-is_complete.true in
+    let P : Sheet → Type 0 = λ t. Prints false t (g.S.TextSink.sent c.args.sink.now) c.print_held.result (g.S.TextSink.sent c.print_held.new.sink) in
+    let Q : Bool → Type 0 = λ estimates. Prints estimates (standing (g.R.ExactRecords.cells c.args.records.now) c.args.config.now c.args.stored.now)
+      (g.S.TextSink.sent c.args.sink.now) c.print_held.result (g.S.TextSink.sent c.print_held.new.sink) in
+    subst Q (ap not (sym stored))
+    (subst P (answered_complete (g.R.ExactRecords.cells c.args.records.now) c.args.config.now c.args.stored.now stored) c.print_held.ensures)
+
+pub returns : goal.returns
+returns g c =
+    let Q : Bool → Type 0 = λ estimates. Prints estimates (standing (g.R.ExactRecords.cells c.args.records.now) c.args.config.now c.args.stored.now)
+      (g.S.TextSink.sent c.args.sink.now) c.print_filled_in.result (g.S.TextSink.sent c.print_filled_in.new.sink) in
+    subst Q (ap not (sym (sym c.is_complete.ensures ∙ c.if-is_complete.false))) c.print_filled_in.ensures
 
 pub print_held-requires-clause-marked : goal.print_held-requires-clause-marked
 print_held-requires-clause-marked g c = c.new-marks.ensures (g.R.ExactRecords.cells c.args.records.now)
