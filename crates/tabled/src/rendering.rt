@@ -1,5 +1,5 @@
 //! The table of a text.
-ghost use Rattle.std.specs.Prelude.{◌≡◌, ◌⊎◌, IfErr, length};
+ghost use Rattle.std.specs.Prelude.{◌≡◌, ◌⊎◌, IfErr, length, true};
 ghost use Rattle.tabled_base.specs.declared.error.TableError.TheVariants.{Memory, Range, Writer};
 ghost use Rattle.tabled_base.specs.TextRows.{text_rows};
 ghost use Rattle.tabled_size.specs.Totals.{total_height, total_width};
@@ -17,7 +17,7 @@ use tabled_table::new_config;
 
 /// Prints the table of a text that is measured whole.
 fn put_buffered<S: TextSink>(alloc: Global, text: &str, sink: &mut S) -> Result<(), TableError>
-    ensures printed { Prints (new_sheet (text_rows text.now)) (S.sent sink.old) result (S.sent sink.new) }
+    ensures printed { Prints true (new_sheet (text_rows text.now)) (S.sent sink.old) result (S.sent sink.new) }
     ensures only { IfErr result (λ e. (e ≡ Memory) ⊎ ((e ≡ Range) ⊎ (e ≡ Writer))) }
 {
     if text.is_empty() {
@@ -38,7 +38,7 @@ pub fn render<S: TextSink>(
     plan: Plan,
     sink: &mut S,
 ) -> Result<(), TableError>
-    ensures printed { Prints (new_sheet (text_rows text.now)) (S.sent sink.old) result (S.sent sink.new) }
+    ensures printed { Prints true (new_sheet (text_rows text.now)) (S.sent sink.old) result (S.sent sink.new) }
     ensures only { IfErr result (λ e. (e ≡ Memory) ⊎ ((e ≡ Range) ⊎ (e ≡ Writer))) }
     ensures columns { ArePlain (text_rows text.now)
         → EachLineTakes (total_width (new_sheet (text_rows text.now)))

@@ -1,5 +1,5 @@
 //! A table of owned texts.
-ghost use Rattle.std.specs.Prelude.{◌≡◌, ◌↔◌, ◌⊎◌, ◌≤◌, ◌^◌, [], ℕ, List, IfErr, IfOk, IsTrue, Ok, OnOk, false, length, string_bytes, true};
+ghost use Rattle.std.specs.Prelude.{◌≡◌, ◌↔◌, ◌⊎◌, ◌≤◌, ◌^◌, [], ℕ, List, IfErr, IfOk, IsTrue, None, Ok, OnOk, false, length, not, string_bytes, true};
 ghost use Rattle.std.specs.Borrow.{Lends, sem};
 ghost use Rattle.tabled_base.specs.contracts.text.Text.{the_row as text_row};
 ghost use Rattle.tabled_base.specs.contracts.vec_records.VecRecords.{the_row as records_row};
@@ -10,7 +10,7 @@ ghost use Rattle.tabled_base.specs.Given.{Given};
 ghost use Rattle.tabled_base.specs.declared.error.TableError.TheVariants.{Memory, Range, Writer};
 ghost use Rattle.tabled_size.specs.Sheet.{is_empty};
 ghost use Rattle.tabled_size.specs.StandingTotals.{AnswersHeight, AnswersWidth};
-ghost use Rattle.tabled_size.specs.Stored.{heights_of, widths_of};
+ghost use Rattle.tabled_size.specs.Stored.{heights_of, is_stored, widths_of};
 ghost use Rattle.tabled_size.specs.Totals.{total_height, total_width};
 ghost use Rattle.tabled_grid.specs.Holds.{Holds};
 ghost use Rattle.tabled_grid.specs.Picture.{picture, table_text};
@@ -181,13 +181,14 @@ impl Table {
     }
 
     /// The columns of each line of the printed table: the widths that stand, the vertical lines and the
-    /// side margins; 0 for an empty table. Refused for memory, with `ShortWidths` where fewer widths are
+    /// side margins; 0 for an empty table. Refused for memory where no widths are stored, with `ShortWidths` where fewer widths are
     /// stored than there are columns, and with `Range` where the sum passes the greatest `usize`.
     #[tactic(auto, using(crate::proofs::Sheets::sheet_columns))]
     pub fn total_width(&self) -> Result<usize, TableError>
         ensures empty { is_empty (cells_of self.now) ≡ true → result ≡ Ok 0 }
         ensures filled { is_empty (cells_of self.now) ≡ false → AnswersWidth (sheet self.now).config
             (columns (cells_of self.now)) (sheet self.now).widths result }
+        ensures memory { IfErr result (λ e. e ≡ Memory → widths_of self.now.dimension ≡ None) }
         ensures columns { IsPlainConfig (sheet self.now).config (length (cells_of self.now)) (columns (cells_of self.now))
             → ArePlain (cells_of self.now) → Holds (sheet self.now)
             → EachLineTakes (total_width (sheet self.now)) (picture (sheet self.now)) }
@@ -196,13 +197,14 @@ impl Table {
     }
 
     /// The lines of the printed table: the heights that stand, the horizontal lines, top and bottom
-    /// margin; 0 for an empty table. Refused for memory, with `ShortHeights` where fewer heights are stored
+    /// margin; 0 for an empty table. Refused for memory where no heights are stored, with `ShortHeights` where fewer heights are stored
     /// than there are rows, and with `Range` where the sum passes the greatest `usize`.
     #[tactic(auto, using(crate::proofs::Sheets::sheet_lines))]
     pub fn total_height(&self) -> Result<usize, TableError>
         ensures empty { is_empty (cells_of self.now) ≡ true → result ≡ Ok 0 }
         ensures filled { is_empty (cells_of self.now) ≡ false → AnswersHeight (sheet self.now).config
             (length (cells_of self.now)) (sheet self.now).heights result }
+        ensures memory { IfErr result (λ e. e ≡ Memory → heights_of self.now.dimension ≡ None) }
         ensures lines { length (picture (sheet self.now)) ≡ total_height (sheet self.now) }
     {
         total_height(&self.records, self.config.as_ref(), &self.dimension)
@@ -215,7 +217,7 @@ impl Table {
     /// `usize`; later only for what the sink refuses, and then a beginning went out. Memory is taken, and
     /// may be refused, only where widths or heights aren't stored.
     pub fn write_to<S: TextSink>(&self, sink: &mut S) -> Result<(), TableError>
-        ensures { Prints (sheet self.now) (S.sent sink.old) result (S.sent sink.new) }
+        ensures { Prints (not (is_stored self.now.dimension)) (sheet self.now) (S.sent sink.old) result (S.sent sink.new) }
     {
         print_standing(&self.records, self.config.as_ref(), &self.dimension, sink)
     }

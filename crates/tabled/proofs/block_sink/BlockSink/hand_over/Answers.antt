@@ -9,5 +9,6 @@ taken-preserved g c =
     (record {
       added = taken_more _ _ c.taken.self.held.items _ c.taken.self.taken c.in-Ok.n (from_place _ _ _ c.deref.ensures.value) c.in-Ok.ensures.bytes;
       counted = omega arith;
+      alike = refl;
     })
     refl
