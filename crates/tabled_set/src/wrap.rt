@@ -78,6 +78,7 @@ impl Wrap<(), ()> {
         ensures fewest { IfOk result (λ answer. HasFewestLines width keep_words text.now (string_bytes answer)) }
         ensures least { 0 < width → EachUnitFits width keep_words text.now
             → IfOk result (λ answer. IsLeastBreaking width keep_words text.now (string_bytes answer)) }
+        ensures memory { OnErr result (0 < width) }
         ensures only { IfErr result (λ e. e ≡ Memory) }
     {
         Ok(wrap_text(alloc, text, width, keep_words)?)

@@ -1,5 +1,5 @@
 //! Wrapping a text to some columns. One walk adds unit to unit; where they are written is a parameter.
-ghost use Rattle.std.specs.Prelude.{◌≡◌, ◌++◌, ◌<◌, ◌≤◌, ◌+◌, ◌∷◌, chars, encode_utf8_all, length, map, IfOk, OnOk, IfSome, IsUtf8, string_bytes, List, ℕ, [], encode_utf8, replicate, false};
+ghost use Rattle.std.specs.Prelude.{◌≡◌, ◌++◌, ◌<◌, ◌≤◌, ◌+◌, ◌∷◌, chars, encode_utf8_all, length, map, IfOk, OnOk, IfSome, IsUtf8, string_bytes, List, ℕ, OnErr, [], encode_utf8, replicate, false};
 ghost use Rattle.std.proofs.Common.{sym, ap, ◌∙◌, append-nil, append_assoc};
 ghost use Rattle.tabled_text.specs.Measure.{lines_of};
 ghost use Rattle.tabled_text.specs.Units.{TextUnit, unit_of_char, words_of, units, units_of_word, units_of_words};
@@ -212,12 +212,13 @@ pub(crate) fn put_lines<S: Sink>(
 /// the characters, each counted by itself (1 at least), or with `words` the spaces, the words of at most n
 /// columns, measured as lines, and the characters of longer words. A character that is wider than n is written
 /// as U+FFFD in the columns that are left, at least one. No other breaking has fewer lines. Refused only where
-/// memory is.
+/// memory is, and never for no columns.
 pub fn wrap_text(alloc: Global, text: &str, n: usize, words: bool) -> Result<String, AllocError>
     ensures wrapped { IfOk result (λ answer. IsWrapped n words text.now (string_bytes answer)) }
     ensures fewest { IfOk result (λ answer. HasFewestLines n words text.now (string_bytes answer)) }
     ensures least { 0 < n → EachUnitFits n words text.now
         → IfOk result (λ answer. IsLeastBreaking n words text.now (string_bytes answer)) }
+    ensures memory { OnErr result (0 < n) }
 {
     let mut out = String::new(alloc);
     if n == 0 {
