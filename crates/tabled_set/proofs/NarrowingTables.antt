@@ -24,7 +24,7 @@ use Rattle.tabled_set.specs.Narrowed.{IsNarrowed, Narrows, StopsNarrowing}
 use Rattle.tabled_set.specs.Shrinking.{IsFound, IsShrunkBy}
 use Rattle.tabled_set.proofs.ChangingCells.{match-false, match-true}
 use Rattle.tabled_set.proofs.ChangingColumns.{rooms-made}
-use Rattle.tabled_set.proofs.Emptied.{emptied-columns}
+use Rattle.tabled_set.proofs.Emptied.{minimums-length}
 
 -- ---- sizes that are filled in
 
@@ -56,15 +56,12 @@ standing-total cells config sizes widths count filled e w =
     ap (λ k. filled_width config k widths) e ∙ ap (filled_width config (columns cells)) w
     ∙ ap (λ b. cond b 0 (filled_width config (columns cells) (standing cells config sizes).widths)) (sym filled)
 
-minimums-long : (cells : List (List (List ℕ))) (config : SpannedConfig) → length (minimums cells config) ≡ columns cells
-minimums-long cells config = widths_length (emptied cells) config ∙ emptied-columns cells
-
 -- as many minimums as widths
 pub minimums-fit : (cells : List (List (List ℕ))) (config : SpannedConfig) (stored widths mins : List ℕ) (count : ℕ) → count ≡ columns cells → widths ≡ take count stored → mins ≡ take (length widths) (minimums cells config) → FitsMinimums widths mins
 minimums-fit cells config stored widths mins count e w m =
     let long = ap length m ∙ length-take (length widths) (minimums cells config) in
     let short = ap length w ∙ length-take count stored in
-    inr (omega (arith, long, short, minimums-long cells config, e))
+    inr (omega (arith, long, short, minimums-length cells config, e))
 
 module _ {P : Type 0} (shrinks : P → List ℕ → List ℕ → ℕ → List ℕ → P → Type 0) (priority : P) (n : ℕ) where
   pub found : (t : Sheet) (old mins new : List ℕ) (by total : ℕ) → n < total → by ≡ total - n → total ≡ total_width t → old ≡ t.widths → mins ≡ take (length old) (minimums t.cells t.config) → length new ≡ length old → IsShrunkBy shrinks priority old mins by new → IsFound shrinks priority n t new mins
