@@ -20,7 +20,7 @@ use Rattle.tabled_size.proofs.Totalling.{heights_length, widths_length}
 use Rattle.tabled_set.specs.CellChanges.{AreChanged}
 use Rattle.tabled_set.specs.ColumnChanges.{ChangesColumnsBefore, for_width}
 use Rattle.tabled_set.specs.Minimums.{emptied, minimums}
-use Rattle.tabled_set.specs.Narrowed.{IsNarrowed, Narrows, StopsNarrowing}
+use Rattle.tabled_set.specs.Narrowed.{IsNarrowed, Narrows, StopsNarrowing, WiderPasses}
 use Rattle.tabled_set.specs.Shrinking.{IsFound, IsShrunkBy}
 use Rattle.tabled_set.proofs.ChangingCells.{match-false, match-true}
 use Rattle.tabled_set.proofs.ChangingColumns.{rooms-made}
@@ -115,8 +115,7 @@ if-err P (Ok x) e h p = absurd h
 if-err P (Err d) e h p = subst P (sym h) p
 
 -- a total that passes the range is that of the sizes before they were filled in
-pub passes-before : (cells : List (List (List ℕ))) (config : SpannedConfig) (old mid : CompleteDimension) (e : TableError) → IsFilledIn old cells config mid → (e ≡ Memory) ⊎ ((e ≡ Range) × ((2 ^ 64 ≤ total_width (standing cells config mid)) ⊎ IsTooWide (emptied cells) config)) → (e ≡ Memory) ⊎ ((e ≡ Range) × (HasNoEstimate old cells config ⊎ ((2 ^ 64 ≤ total_width (standing cells config old)) ⊎ IsTooWide (emptied cells) config)))
-passes-before cells config old mid e filled cause = ⊎_elim
-    (λ m. inl m)
-    (λ h. inr (h.0, inr (⊎_elim (λ p. inl (subst (λ t. 2 ^ 64 ≤ total_width t) (standing-filled cells config old mid filled) p)) (λ p. inr p) h.1)))
-    cause
+pub passes-before : (n : ℕ) (cells : List (List (List ℕ))) (config : SpannedConfig) (old mid : CompleteDimension) (e : TableError) → IsFilledIn old cells config mid → (e ≡ Memory) ⊎ ((e ≡ Range) × WiderPasses n cells config mid) → (e ≡ Memory) ⊎ ((e ≡ Range) × (HasNoEstimate old cells config ⊎ WiderPasses n cells config old))
+passes-before n cells config old mid e filled cause =
+    let P : Sheet → Type 0 = λ t. (2 ^ 64 ≤ total_width t) ⊎ ((n < total_width t) × IsTooWide (emptied cells) config) in
+    ⊎_elim (λ m. inl m) (λ h. inr (h.0, inr (subst P (standing-filled cells config old mid filled) h.1))) cause

@@ -32,7 +32,8 @@ impl<'a, W: Measurement<Width> + Drop, P: Peaker + Drop, R: RecordsMut> TableOpt
         StopsNarrowing P.shrinks s.priority (if_wider (truncating s.suffix.now s.limit s.multiline))
         (W.measures s.width (R.cells r) c.config) e (R.cells r) c.config d (R.cells r') × (c' ≡ c) };
 
-    ghost passes = { λ s r c d. NarrowingPasses (W.passes s.width (R.cells r) c.config) (R.cells r) c.config d };
+    ghost passes = { λ s r c d. NarrowingPasses (W.passes s.width (R.cells r) c.config)
+        (W.measures s.width (R.cells r) c.config) (R.cells r) c.config d };
 
     // Of the sizes that are left once what is hinted was forgotten.
     ghost promises = { λ s r c d r' c' d'. (left : CompleteDimension) → AreCleared None d' left
