@@ -1,10 +1,8 @@
 -- What an option leaves of a table. The sizes that are stored are cleared as it hints, and all of them where it is refused.
-use Rattle.std.specs.Prelude.{◌≡◌, ◌⊎◌, ℕ, List, [], ◌∷◌, Option, Some, None, if◌then◌else◌, length, nat_lt, slice_get, take}
-use Rattle.tabled_base.specs.declared.error.TableError.{TableError}
-use Rattle.tabled_base.specs.declared.error.TableError.TheVariants.{Memory}
+use Rattle.std.specs.Prelude.{◌≡◌, ℕ, List, [], ◌∷◌, Option, None}
 use Rattle.tabled_base.specs.declared.position.Entity.{Entity}
 use Rattle.tabled_config.specs.declared.colored.ColoredConfig.{ColoredConfig}
-use Rattle.tabled_size.specs.Standing.{clears_heights, clears_widths, unless_cleared}
+use Rattle.tabled_size.specs.Cleared.{AreCleared}
 use Rattle.tabled_size.specs.Stored.{heights_of, widths_of}
 use Rattle.tabled_size.specs.declared.complete_dimension.CompleteDimension.{CompleteDimension}
 use Rattle.tabled_table.specs.declared.table.Table.{Table}
@@ -13,17 +11,12 @@ use Rattle.tabled_table.specs.declared.table.Table.{Table}
 abbrev pub Cells : Type 0
 Cells = List (List (List ℕ))
 
--- sizes without what a hint clears
-pub record AreCleared (hint : Option Entity) (old new : CompleteDimension) : Type 0 where
-  pub widths : widths_of new ≡ unless_cleared (clears_widths hint) (widths_of old)
-  pub heights : heights_of new ≡ unless_cleared (clears_heights hint) (heights_of old)
-
 -- no sizes are stored
 pub record AreNone (sizes : CompleteDimension) : Type 0 where
   pub widths : widths_of sizes ≡ None
   pub heights : heights_of sizes ≡ None
 
--- a table option's change, and then its hint
+-- a table option's change, or what it promises of it, and then its hint
 pub record IsApplied (changes : Cells → ColoredConfig → CompleteDimension → Cells → ColoredConfig → CompleteDimension → Type 0) (hint : Option Entity) (old new : Table) : Type 0 where
   pub sizes : CompleteDimension
   pub changed : changes old.records old.config old.dimension new.records new.config sizes
@@ -46,21 +39,3 @@ ChangesEach changes (entity ∷ entities) cells config cells' config' =
 pub record IsModified (changes : Cells → ColoredConfig → Entity → Cells → ColoredConfig → Type 0) (entities : List Entity) (hint : Option Entity) (old new : Table) : Type 0 where
   pub changed : ChangesEach changes entities old.records old.config new.records new.config
   pub cleared : AreCleared hint old.dimension new.dimension
-
--- the changes at the first entities, and a refusal at the next; of several entities the configuration is put back
-pub record IsModifiedBefore (changes refuses : Cells → ColoredConfig → Entity → Cells → ColoredConfig → Type 0) (entities : List Entity) (old new : Table) : Type 0 where
-  pub count : ℕ
-  pub entity : Entity
-  pub next : slice_get entities count ≡ Some entity
-  pub cells : Cells
-  pub config : ColoredConfig
-  pub changed : ChangesEach changes (take count entities) old.records old.config cells config
-  pub last : ColoredConfig
-  pub refused : refuses cells config entity new.records last
-  pub put_back : new.config ≡ (if nat_lt 1 (length entities) then old.config else last)
-
--- what a refused modification leaves: for want of memory all cells and the configuration as they were, or the changes
--- before the refused one; no size stays stored
-pub record IsModifyingRefused (changes refuses : Cells → ColoredConfig → Entity → Cells → ColoredConfig → Type 0) (entities : List Entity) (error : TableError) (old new : Table) : Type 0 where
-  pub parts : ((error ≡ Memory) × ((new.records ≡ old.records) × (new.config ≡ old.config))) ⊎ IsModifiedBefore changes refuses entities old new
-  pub cleared : AreNone new.dimension

@@ -1,11 +1,7 @@
 pub mod Applied
-pub mod BestNarrowing
-pub mod ExactTotal
 pub mod Lending
-pub mod Narrowing
 pub mod NewConfig
 pub mod NewTable
-pub mod Passed
 pub mod Rows
 pub mod Stopped
 pub mod TableSheet

@@ -2,10 +2,10 @@
 ghost use Rattle.std.specs.Prelude.{◌≡◌, ◌⊎◌, ◌<◌, IfErr, IfOk, OnOk, length};
 ghost use Rattle.tabled_base.specs.Cells.{columns};
 ghost use Rattle.tabled_base.specs.declared.error.TableError.TheVariants.{Memory, Range};
-ghost use Rattle.tabled_table.specs.Applied.{ChangesEach, IsApplied, IsModified, IsModifyingRefused, IsRefusedBy};
-ghost use Rattle.tabled_table.specs.Passed.{IsPassedAt};
+ghost use Rattle.tabled_table.specs.Applied.{ChangesEach, IsApplied, IsModified, IsRefusedBy};
 ghost use Rattle.tabled_table.specs.TableSheet.{cells_of};
-ghost use Rattle.tabled_table.specs.Stopped.{IsPutBack, IsStopped};
+ghost use Rattle.tabled_table.specs.Stopped.{IsModifyingRefused, IsPutBack, IsStopped};
+ghost use Rattle.tabled_table.specs.declared.table.Table.{Table};
 
 use crate::table::Table;
 use tabled_base::{CellOption, Entity, Object, TableError, TableOption, Text, VecRecords};
@@ -22,6 +22,7 @@ impl Table {
         option: O,
     ) -> Result<(), TableError>
         ensures ok { OnOk result (IsApplied (O.changes option) (O.hint option) self.old self.new) }
+        ensures promised { OnOk result (IsApplied (O.promises option) (O.hint option) self.old self.new) }
         ensures err { IfErr result (λ e. IsRefusedBy (O.refuses option e) self.old self.new) }
         ensures only { IfErr result (λ e. (e ≡ Memory) ⊎ (e ≡ Range)) }
         ensures range { IfErr result (λ e. e ≡ Range
@@ -49,6 +50,7 @@ impl Table {
     ) -> Result<&mut Self, TableError>
         ensures same_reference { IfOk result (λ table. table.ghost_name ≡ self.entry.ghost_name) }
         ensures ok { IfOk result (λ table. IsApplied (O.changes option) (O.hint option) self.old table.now) }
+        ensures promised { IfOk result (λ table. IsApplied (O.promises option) (O.hint option) self.old table.now) }
         ensures only { IfErr result (λ e. (e ≡ Memory) ⊎ (e ≡ Range)) }
         ensures range { IfErr result (λ e. e ≡ Range
             → O.passes option self.old.records self.old.config self.old.dimension) }
@@ -69,13 +71,11 @@ impl Table {
         ensures ok { OnOk result (IsModified (O.changes option.now)
             (T.picks target (length (cells_of self.old)) (columns (cells_of self.old)))
             (O.hint option.now) self.old self.new) }
-        ensures err { IfErr result (λ e. IsModifyingRefused (O.changes option.now) (O.refuses option.now e)
+        ensures err { IfErr result (λ e. IsModifyingRefused
+            (O.changes option.now) (O.refuses option.now) (O.passes option.now)
             (T.picks target (length (cells_of self.old)) (columns (cells_of self.old)))
             e self.old self.new) }
         ensures only { IfErr result (λ e. (e ≡ Memory) ⊎ (e ≡ Range)) }
-        ensures range { IfErr result (λ e. e ≡ Range
-            → IsPassedAt (O.changes option.now) (O.refuses option.now e) (O.passes option.now)
-            (T.picks target (length (cells_of self.old)) (columns (cells_of self.old))) self.old) }
     {
         match change_target(&mut self.records, &mut self.config, &target, option) {
             Ok(()) => {
@@ -101,10 +101,11 @@ impl Table {
         ensures ok { IfOk result (λ table. IsModified (O.changes option)
             (T.picks target (length (cells_of self.old)) (columns (cells_of self.old)))
             (O.hint option) self.old table.now) }
+        ensures err { IfErr result (λ e. (left : Table) × IsModifyingRefused
+            (O.changes option) (O.refuses option) (O.passes option)
+            (T.picks target (length (cells_of self.old)) (columns (cells_of self.old)))
+            e self.old left) }
         ensures only { IfErr result (λ e. (e ≡ Memory) ⊎ (e ≡ Range)) }
-        ensures range { IfErr result (λ e. e ≡ Range
-            → IsPassedAt (O.changes option) (O.refuses option e) (O.passes option)
-            (T.picks target (length (cells_of self.old)) (columns (cells_of self.old))) self.old) }
     {
         self.apply_to(target, &option)?;
         Ok(self)

@@ -1,7 +1,7 @@
 use Rattle.std.proofs.Common.{false, subst, sym}
 use Rattle.tabled_size.specs.Sheet.{Sheet}
 use Rattle.tabled_size.specs.StandingSheet.{standing}
-use Rattle.tabled_grid.specs.Holds.{Holds, IsSized}
+use Rattle.tabled_size.specs.Holds.{Holds, IsSized}
 use Rattle.tabled_grid.specs.Printed.{Prints}
 use Rattle.tabled_grid.proofs.Printing.{estimating}
 use Rattle.tabled_grid.proofs.StandingSizes.{answered_filled, refused_unestimated}

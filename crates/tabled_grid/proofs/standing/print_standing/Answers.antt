@@ -2,7 +2,7 @@ use Rattle.std.proofs.Common.{◌∙◌, Bool, ap, false, not, subst, sym}
 use Rattle.tabled_size.specs.Sheet.{Sheet}
 use Rattle.tabled_size.specs.StandingSheet.{standing}
 use Rattle.tabled_size.specs.Stored.{is_stored}
-use Rattle.tabled_grid.specs.Holds.{Holds, IsSized}
+use Rattle.tabled_size.specs.Holds.{Holds, IsSized}
 use Rattle.tabled_grid.specs.Printed.{Prints}
 use Rattle.tabled_grid.proofs.Printing.{prints_nothing}
 use Rattle.tabled_grid.proofs.StandingSizes.{answered_complete}
