@@ -19,6 +19,9 @@ pub trait TableOption<R, C, D> {
     // Holds where a sum or product of the change passes the greatest `usize`.
     ghost passes: { Self → R → C → D → Type 0 };
 
+    // What a caller may rely on after a change, of the same parts: nothing where nothing else is said.
+    ghost promises: { Self → R → C → D → R → C → D → Type 0 } = { λ _ _ _ _ _ _ _. Unit {0} };
+
     // What the change leaves to be measured anew: the whole table where nothing else is said.
     ghost hint: { Self → Option Entity } = { λ _. Some Global };
 
@@ -26,6 +29,8 @@ pub trait TableOption<R, C, D> {
     /// passes the greatest `usize`.
     fn change(self, records: &mut R, cfg: &mut C, dims: &mut D) -> Result<(), TableError>
         ensures ok { OnOk result (changes self
+            records.old cfg.old dims.old records.new cfg.new dims.new) }
+        ensures promised { OnOk result (promises self
             records.old cfg.old dims.old records.new cfg.new dims.new) }
         ensures err { IfErr result (λ e. refuses self e
             records.old cfg.old dims.old records.new cfg.new dims.new) }

@@ -9,7 +9,7 @@ use Rattle.tabled_config.specs.declared.spanned.SpannedConfig.{SpannedConfig}
 use Rattle.tabled_size.specs.Estimates.{IsTooHigh, IsTooWide, column_width, estimated_heights, estimated_widths, row_height}
 use Rattle.tabled_size.specs.Sheet.{estimated, is_empty}
 use Rattle.tabled_size.proofs.Passing.{too_high_passes, too_wide_passes, width_at, width_ge}
-use Rattle.tabled_grid.specs.Holds.{Holds, IsSized}
+use Rattle.tabled_size.specs.Holds.{Holds, IsSized}
 use Rattle.tabled_grid.specs.Printed.{IsRefused, PassesRange}
 
 -- the estimated sizes reach to the last column and the last row

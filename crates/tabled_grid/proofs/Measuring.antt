@@ -20,9 +20,10 @@ use Rattle.tabled_size.specs.Sheet.{Sheet}
 use Rattle.tabled_size.specs.Totals.{one_if, sum_below, filled_width}
 use Rattle.tabled_grid.specs.Block.{before_text, text_room, columns_before, cell_line, block, fill_above}
 use Rattle.tabled_grid.specs.Fill.{fill}
-use Rattle.tabled_grid.specs.Holds.{Holds}
+use Rattle.tabled_size.specs.Holds.{Holds}
 use Rattle.tabled_grid.specs.Picture.{piece, cell_piece, rule_piece, left_edge, right_edge, row_line, rule_line}
-use Rattle.tabled_grid.specs.PlainSheet.{IsPlainPiece, IsPlainRule, IsPlainStyle, IsPlainConfig, ArePlain}
+use Rattle.tabled_size.specs.PlainCells.{ArePlain}
+use Rattle.tabled_grid.specs.PlainSheet.{IsPlainPiece, IsPlainRule, IsPlainStyle, IsPlainConfig}
 use Rattle.tabled_grid.proofs.Blocks.{block-above, block-text, block-below}
 use Rattle.tabled_grid.proofs.Each.{each-more}
 

@@ -18,7 +18,8 @@ use Rattle.tabled_size.proofs.Passing.{too_high_passes, too_wide_passes}
 use Rattle.tabled_size.proofs.Reaching.{reached_filled, reached_standing}
 use Rattle.tabled_size.proofs.Totalling.{heights_length, reached_stands, widths_length}
 use Rattle.tabled_grid.specs.Grid.{sheet_by}
-use Rattle.tabled_grid.specs.Holds.{Holds, IsNarrow, IsSized}
+use Rattle.tabled_size.specs.Holds.{Holds, IsSized}
+use Rattle.tabled_grid.specs.Narrow.{IsNarrow}
 use Rattle.tabled_grid.specs.Printed.{IsRefused, PassesRange, Prints}
 use Rattle.tabled_grid.specs.Sent.{Sent}
 use Rattle.tabled_grid.proofs.EstimatedSizes.{holds_estimated}

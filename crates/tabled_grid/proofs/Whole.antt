@@ -10,9 +10,10 @@ use Rattle.tabled_config.specs.Settings.{rule_at}
 use Rattle.tabled_size.specs.Sheet.{Sheet, is_empty}
 use Rattle.tabled_size.specs.Totals.{filled_width, filled_height, total_width, total_height, sum_below, rules_at, part_height, one_if}
 use Rattle.tabled_grid.specs.Fill.{fill}
-use Rattle.tabled_grid.specs.Holds.{Holds}
+use Rattle.tabled_size.specs.Holds.{Holds}
 use Rattle.tabled_grid.specs.Picture.{row_line, row_lines, rule, rule_if, row_part, filled_picture, picture}
-use Rattle.tabled_grid.specs.PlainSheet.{ArePlain, EachLineTakes, IsPlainConfig}
+use Rattle.tabled_size.specs.PlainCells.{ArePlain}
+use Rattle.tabled_grid.specs.PlainSheet.{EachLineTakes, IsPlainConfig}
 use Rattle.tabled_grid.proofs.Each.{each-more, map-more}
 use Rattle.tabled_grid.proofs.Measuring.{IsPlainSheet, plain-fill, plain-row_line, plain-rule_line}
 

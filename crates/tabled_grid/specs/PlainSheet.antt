@@ -2,7 +2,7 @@
 use Rattle.std.specs.Prelude.{◌≡◌, ℕ, ◌<◌, ◌≤◌, List, Option, Some, unwrap_or}
 use Rattle.std.specs.List.{All}
 use Rattle.tabled_text.specs.Measure.{line_columns}
-use Rattle.tabled_text.specs.Plain.{IsPlain, IsPlainColumn}
+use Rattle.tabled_text.specs.Plain.{IsPlainColumn}
 use Rattle.tabled_config.specs.declared.borders.HorizontalLine.{HorizontalLine}
 use Rattle.tabled_config.specs.declared.spanned.CellStyle.{CellStyle}
 use Rattle.tabled_config.specs.declared.spanned.SpannedConfig.{SpannedConfig}
@@ -36,10 +36,6 @@ pub record IsPlainConfig (config : SpannedConfig) (rows count : ℕ) : Type 0 wh
   pub margin_bottom : IsPlainColumn config.margin.bottom.fill
   pub rules : (i : ℕ) → i ≤ rows → (line : HorizontalLine) → rule_at config rows i ≡ Some line → IsPlainRule line
   pub styles : (row column : ℕ) → row < rows → column < count → IsPlainStyle (style_at config row column)
-
--- the cells are plain texts
-abbrev pub ArePlain : List (List (List ℕ)) → Type 0
-ArePlain cells = All (All IsPlain) cells
 
 -- each line takes n columns
 abbrev pub EachLineTakes : ℕ → List (List ℕ) → Type 0

@@ -5,7 +5,8 @@ use Rattle.tabled_base.specs.declared.error.TableError.{TableError}
 use Rattle.tabled_base.specs.declared.error.TableError.TheVariants.{ShortWidths, ShortHeights, Narrow, Range}
 use Rattle.tabled_size.specs.Sheet.{Sheet, is_empty}
 use Rattle.tabled_size.specs.Totals.{filled_height, filled_width}
-use Rattle.tabled_grid.specs.Holds.{Holds, IsFirstNarrow, IsSized}
+use Rattle.tabled_size.specs.Holds.{Holds, IsSized}
+use Rattle.tabled_grid.specs.Narrow.{IsFirstNarrow}
 use Rattle.tabled_grid.specs.Picture.{table_text}
 use Rattle.tabled_grid.specs.Sent.{Sent, Sends, Stops}
 

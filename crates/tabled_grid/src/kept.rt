@@ -2,7 +2,7 @@
 //! that is known goes out in one piece.
 ghost use Rattle.std.specs.Prelude.{◌≡◌, Some, None, IfSome, take, true};
 ghost use Rattle.tabled_grid.specs.Grid.{sheet_of};
-ghost use Rattle.tabled_grid.specs.Holds.{IsSized};
+ghost use Rattle.tabled_size.specs.Holds.{IsSized};
 ghost use Rattle.tabled_grid.specs.Kept.{Keeps};
 ghost use Rattle.tabled_grid.specs.Picture.{rule_line};
 ghost use Rattle.tabled_grid.specs.Sent.{Sent, Writes};

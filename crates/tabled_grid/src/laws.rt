@@ -3,9 +3,10 @@ ghost use Rattle.std.specs.Prelude.{◌≡◌, length};
 ghost use Rattle.tabled_base.specs.Cells.{IsRectangular, columns};
 ghost use Rattle.tabled_size.specs.Sheet.{Sheet};
 ghost use Rattle.tabled_size.specs.Totals.{total_height, total_width};
-ghost use Rattle.tabled_grid.specs.Holds.{Holds};
+ghost use Rattle.tabled_size.specs.Holds.{Holds};
 ghost use Rattle.tabled_grid.specs.Picture.{picture};
-ghost use Rattle.tabled_grid.specs.PlainSheet.{ArePlain, EachLineTakes, IsPlainConfig};
+ghost use Rattle.tabled_size.specs.PlainCells.{ArePlain};
+ghost use Rattle.tabled_grid.specs.PlainSheet.{EachLineTakes, IsPlainConfig};
 
 /// The picture of a table has as many lines as the table's total height. If the cells are plain texts
 /// that the widths hold, and borders, fills and margins are plain characters of one column, each line

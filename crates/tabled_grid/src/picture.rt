@@ -2,7 +2,7 @@
 ghost use Rattle.std.specs.Prelude.{◌≡◌, ◌<◌, ◌≤◌, length, [], ◌∷◌};
 ghost use Rattle.std.specs.List.{flat_map, join_with_byte, range_with_len, slice_index};
 ghost use Rattle.tabled_grid.specs.Grid.{sheet_of};
-ghost use Rattle.tabled_grid.specs.Holds.{IsSized};
+ghost use Rattle.tabled_size.specs.Holds.{IsSized};
 ghost use Rattle.tabled_grid.specs.Kept.{Keeps};
 ghost use Rattle.tabled_grid.specs.Leading.{WritesLines};
 ghost use Rattle.tabled_grid.specs.Marks.{AreKept};

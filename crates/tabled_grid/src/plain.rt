@@ -4,7 +4,8 @@ ghost use Rattle.std.specs.List.{All};
 ghost use Rattle.tabled_text.specs.Plain.{IsPlain, IsPlainColumn};
 ghost use Rattle.tabled_config.specs.Settings.{rule_at, style_at};
 ghost use Rattle.tabled_config.specs.declared.borders.HorizontalLine.{HorizontalLine};
-ghost use Rattle.tabled_grid.specs.PlainSheet.{ArePlain, IsPlainConfig, IsPlainPiece, IsPlainRule, IsPlainStyle};
+ghost use Rattle.tabled_size.specs.PlainCells.{ArePlain};
+ghost use Rattle.tabled_grid.specs.PlainSheet.{IsPlainConfig, IsPlainPiece, IsPlainRule, IsPlainStyle};
 
 use tabled_base::{PeekableRecords, Position};
 use tabled_config::{CellStyle, HorizontalLine, SpannedConfig};

@@ -5,7 +5,7 @@ ghost use Rattle.tabled_base.specs.Cells.{IsInside, cell_at, columns};
 ghost use Rattle.tabled_config.specs.Settings.{style_at};
 ghost use Rattle.tabled_grid.specs.Block.{block};
 ghost use Rattle.tabled_grid.specs.Grid.{sheet_of};
-ghost use Rattle.tabled_grid.specs.Holds.{IsSized};
+ghost use Rattle.tabled_size.specs.Holds.{IsSized};
 ghost use Rattle.tabled_grid.specs.Marks.{AreKept};
 ghost use Rattle.tabled_grid.specs.Picture.{cell_piece, row_line, rule_line, rule_piece};
 ghost use Rattle.tabled_grid.specs.Sent.{Sent, Writes};

@@ -4,7 +4,8 @@ ghost use Rattle.tabled_base.specs.Cells.{columns};
 ghost use Rattle.tabled_base.specs.declared.error.TableError.TheVariants.{Memory, Range, ShortHeights, ShortWidths, Writer};
 ghost use Rattle.tabled_size.specs.Sheet.{estimated, is_empty};
 ghost use Rattle.tabled_size.specs.StandingSheet.{standing};
-ghost use Rattle.tabled_grid.specs.Holds.{Holds, IsNarrow, IsSized};
+ghost use Rattle.tabled_size.specs.Holds.{Holds, IsSized};
+ghost use Rattle.tabled_grid.specs.Narrow.{IsNarrow};
 ghost use Rattle.tabled_grid.specs.Printed.{IsRefused, Prints};
 ghost use Rattle.tabled_grid.specs.Sent.{Sent};
 

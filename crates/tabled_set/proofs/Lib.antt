@@ -1,8 +1,10 @@
 pub mod Bare
+pub mod Promises
 pub mod ChangingCells
 pub mod ChangingColumns
 pub mod Emptied
 pub mod Endings
+pub mod ExactTotals
 pub mod InOrder
 pub mod InSpans
 pub mod JoinedLines

@@ -20,11 +20,11 @@ use Rattle.tabled_size.proofs.Totalling.{heights_length, widths_length}
 use Rattle.tabled_set.specs.CellChanges.{AreChanged}
 use Rattle.tabled_set.specs.ColumnChanges.{ChangesColumnsBefore, for_width}
 use Rattle.tabled_set.specs.Minimums.{emptied, minimums}
-use Rattle.tabled_set.specs.Narrowed.{IsNarrowed, Narrows, StopsNarrowing}
+use Rattle.tabled_set.specs.Narrowed.{IsNarrowed, Narrows, StopsNarrowing, WiderPasses}
 use Rattle.tabled_set.specs.Shrinking.{IsFound, IsShrunkBy}
 use Rattle.tabled_set.proofs.ChangingCells.{match-false, match-true}
 use Rattle.tabled_set.proofs.ChangingColumns.{rooms-made}
-use Rattle.tabled_set.proofs.Emptied.{emptied-columns}
+use Rattle.tabled_set.proofs.Emptied.{minimums-length}
 
 -- ---- sizes that are filled in
 
@@ -56,15 +56,12 @@ standing-total cells config sizes widths count filled e w =
     ap (λ k. filled_width config k widths) e ∙ ap (filled_width config (columns cells)) w
     ∙ ap (λ b. cond b 0 (filled_width config (columns cells) (standing cells config sizes).widths)) (sym filled)
 
-minimums-long : (cells : List (List (List ℕ))) (config : SpannedConfig) → length (minimums cells config) ≡ columns cells
-minimums-long cells config = widths_length (emptied cells) config ∙ emptied-columns cells
-
 -- as many minimums as widths
 pub minimums-fit : (cells : List (List (List ℕ))) (config : SpannedConfig) (stored widths mins : List ℕ) (count : ℕ) → count ≡ columns cells → widths ≡ take count stored → mins ≡ take (length widths) (minimums cells config) → FitsMinimums widths mins
 minimums-fit cells config stored widths mins count e w m =
     let long = ap length m ∙ length-take (length widths) (minimums cells config) in
     let short = ap length w ∙ length-take count stored in
-    inr (omega (arith, long, short, minimums-long cells config, e))
+    inr (omega (arith, long, short, minimums-length cells config, e))
 
 module _ {P : Type 0} (shrinks : P → List ℕ → List ℕ → ℕ → List ℕ → P → Type 0) (priority : P) (n : ℕ) where
   pub found : (t : Sheet) (old mins new : List ℕ) (by total : ℕ) → n < total → by ≡ total - n → total ≡ total_width t → old ≡ t.widths → mins ≡ take (length old) (minimums t.cells t.config) → length new ≡ length old → IsShrunkBy shrinks priority old mins by new → IsFound shrinks priority n t new mins
@@ -118,8 +115,7 @@ if-err P (Ok x) e h p = absurd h
 if-err P (Err d) e h p = subst P (sym h) p
 
 -- a total that passes the range is that of the sizes before they were filled in
-pub passes-before : (cells : List (List (List ℕ))) (config : SpannedConfig) (old mid : CompleteDimension) (e : TableError) → IsFilledIn old cells config mid → (e ≡ Memory) ⊎ ((e ≡ Range) × ((2 ^ 64 ≤ total_width (standing cells config mid)) ⊎ IsTooWide (emptied cells) config)) → (e ≡ Memory) ⊎ ((e ≡ Range) × (HasNoEstimate old cells config ⊎ ((2 ^ 64 ≤ total_width (standing cells config old)) ⊎ IsTooWide (emptied cells) config)))
-passes-before cells config old mid e filled cause = ⊎_elim
-    (λ m. inl m)
-    (λ h. inr (h.0, inr (⊎_elim (λ p. inl (subst (λ t. 2 ^ 64 ≤ total_width t) (standing-filled cells config old mid filled) p)) (λ p. inr p) h.1)))
-    cause
+pub passes-before : (n : ℕ) (cells : List (List (List ℕ))) (config : SpannedConfig) (old mid : CompleteDimension) (e : TableError) → IsFilledIn old cells config mid → (e ≡ Memory) ⊎ ((e ≡ Range) × WiderPasses n cells config mid) → (e ≡ Memory) ⊎ ((e ≡ Range) × (HasNoEstimate old cells config ⊎ WiderPasses n cells config old))
+passes-before n cells config old mid e filled cause =
+    let P : Sheet → Type 0 = λ t. (2 ^ 64 ≤ total_width t) ⊎ ((n < total_width t) × IsTooWide (emptied cells) config) in
+    ⊎_elim (λ m. inl m) (λ h. inr (h.0, inr (subst P (standing-filled cells config old mid filled) h.1))) cause

@@ -56,8 +56,12 @@ abbrev pub StopsNarrowing : {P : Type 0} → (P → List ℕ → List ℕ → �
 StopsNarrowing shrinks priority change n error cells config sizes cells' =
     (cells' ≡ cells) ⊎ ((error ≡ Memory) × IsNarrowedBefore shrinks priority change n (standing cells config sizes) cells')
 
--- a sum passes the greatest number: the measure's, a cell's that isn't stored, the total, or the padding of a cell
-abbrev pub NarrowingPasses : Type 0 → List (List (List ℕ)) → SpannedConfig → CompleteDimension → Type 0
-NarrowingPasses measure_passes cells config sizes =
-    (is_empty cells ≡ false)
-    × (measure_passes ⊎ (HasNoEstimate sizes cells config ⊎ ((2 ^ 64 ≤ total_width (standing cells config sizes)) ⊎ IsTooWide (emptied cells) config)))
+-- the total passes the greatest number, or the padding of a cell of a table wider than n
+abbrev pub WiderPasses : ℕ → List (List (List ℕ)) → SpannedConfig → CompleteDimension → Type 0
+WiderPasses n cells config sizes =
+    (2 ^ 64 ≤ total_width (standing cells config sizes)) ⊎ ((n < total_width (standing cells config sizes)) × IsTooWide (emptied cells) config)
+
+-- a sum passes the greatest number: the measure's, a cell's that isn't stored, or one that narrowing to n needs
+abbrev pub NarrowingPasses : Type 0 → ℕ → List (List (List ℕ)) → SpannedConfig → CompleteDimension → Type 0
+NarrowingPasses measure_passes n cells config sizes =
+    (is_empty cells ≡ false) × (measure_passes ⊎ (HasNoEstimate sizes cells config ⊎ WiderPasses n cells config sizes))

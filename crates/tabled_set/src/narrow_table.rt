@@ -1,13 +1,9 @@
 //! Tables that are narrowed to a total.
-ghost use Rattle.std.specs.Prelude.{◌≡◌, ◌⊎◌, ◌≤◌, ◌^◌, IfErr, OnOk, false};
+ghost use Rattle.std.specs.Prelude.{◌≡◌, ◌⊎◌, IfErr, OnOk, false};
 ghost use Rattle.tabled_base.specs.declared.error.TableError.TheVariants.{Memory, Range};
-ghost use Rattle.tabled_set.specs.Minimums.{emptied};
-ghost use Rattle.tabled_set.specs.Narrowed.{Narrows, StopsNarrowing};
-ghost use Rattle.tabled_size.specs.Estimates.{IsTooWide};
+ghost use Rattle.tabled_set.specs.Narrowed.{Narrows, StopsNarrowing, WiderPasses};
 ghost use Rattle.tabled_size.specs.FilledIn.{HasNoEstimate};
 ghost use Rattle.tabled_size.specs.Sheet.{is_empty};
-ghost use Rattle.tabled_size.specs.StandingSheet.{standing};
-ghost use Rattle.tabled_size.specs.Totals.{total_width};
 
 use crate::changing::ChangesCell;
 use crate::columns::change_columns;
@@ -17,8 +13,8 @@ use tabled_config::SpannedConfig;
 use tabled_size::{CompleteDimension, Estimate, Peaker};
 
 /// Narrows a table that has a row and a column to a total of n columns. Sizes that aren't stored are
-/// estimated first. Refused for memory, or with `Range` where an estimate, the total or the side padding of
-/// a cell passes the greatest `usize`.
+/// estimated first. Refused for memory, or with `Range` where an estimate, the total or, in a table that is
+/// wider, the side padding of a cell passes the greatest `usize`.
 pub(crate) fn narrow_table<T: ChangesCell, P: Peaker + Drop, R: RecordsMut>(
     by: &T,
     priority: P,
@@ -34,8 +30,7 @@ pub(crate) fn narrow_table<T: ChangesCell, P: Peaker + Drop, R: RecordsMut>(
         (R.cells records.old) config.now sizes.old (R.cells records.new)) }
     ensures only { IfErr result (λ e. (e ≡ Memory) ⊎ ((e ≡ Range)
         × (HasNoEstimate sizes.old (R.cells records.old) config.now
-        ⊎ ((2 ^ 64 ≤ total_width (standing (R.cells records.old) config.now sizes.old))
-        ⊎ IsTooWide (emptied (R.cells records.old)) config.now)))) }
+        ⊎ WiderPasses n (R.cells records.old) config.now sizes.old))) }
 {
     sizes.estimate(records, config)?;
     let alloc = records.allocator();

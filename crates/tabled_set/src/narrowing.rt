@@ -2,9 +2,8 @@
 ghost use Rattle.std.specs.Prelude.{◌≡◌, ◌⊎◌, ◌≤◌, ◌^◌, IfErr, IfOk, MatchOption, Some, false, is_some, length, take, true};
 ghost use Rattle.std.specs.List.{slice_index};
 ghost use Rattle.tabled_base.specs.declared.error.TableError.TheVariants.{Memory, Range};
-ghost use Rattle.tabled_set.specs.Minimums.{emptied};
+ghost use Rattle.tabled_set.specs.Narrowed.{WiderPasses};
 ghost use Rattle.tabled_set.specs.Shrinking.{IsFound, IsShrunkBy};
-ghost use Rattle.tabled_size.specs.Estimates.{IsTooWide};
 ghost use Rattle.tabled_size.specs.Sheet.{is_empty};
 ghost use Rattle.tabled_size.specs.StandingSheet.{standing};
 ghost use Rattle.tabled_size.specs.Stored.{widths_of};
@@ -99,7 +98,7 @@ fn stored_widths(sizes: &CompleteDimension) -> &[usize]
 
 /// The widths to which the columns of a table shrink, with their minimums, or `None` where its total is at
 /// most n. The table has a row and a column, and its widths are stored. Refused for memory, or with `Range`
-/// where the total or the side padding of a cell passes the greatest `usize`.
+/// where the total or, in a table that is wider than n, the side padding of a cell passes the greatest `usize`.
 pub(crate) fn narrowed_widths<P: Peaker + Drop, R: ExactRecords>(
     alloc: Global,
     priority: P,
@@ -114,9 +113,8 @@ pub(crate) fn narrowed_widths<P: Peaker + Drop, R: ExactRecords>(
         (total_width (standing (R.cells records.now) config.now sizes.now) ≤ n)
         (λ found. IsFound P.shrinks priority n (standing (R.cells records.now) config.now sizes.now)
         found.widths.items found.mins.items)) }
-    ensures err { IfErr result (λ e. (e ≡ Memory) ⊎ ((e ≡ Range)
-        × ((2 ^ 64 ≤ total_width (standing (R.cells records.now) config.now sizes.now))
-        ⊎ IsTooWide (emptied (R.cells records.now)) config.now))) }
+    ensures err { IfErr result (λ e. (e ≡ Memory)
+        ⊎ ((e ≡ Range) × WiderPasses n (R.cells records.now) config.now sizes.now)) }
 {
     let columns = records.count_columns();
     let widths = first_widths(stored_widths(sizes), columns);

@@ -1,13 +1,16 @@
+pub mod Cleared
 pub mod ConstSizes
 pub mod Estimates
 pub mod FilledIn
 pub mod Filling
 pub mod Grown
 pub mod GrownLaws
+pub mod Holds
 pub mod Least
 pub mod Peak
 pub mod Permitted
 pub mod PermittedLaws
+pub mod PlainCells
 pub mod Reached
 pub mod RoundLaws
 pub mod Sheet

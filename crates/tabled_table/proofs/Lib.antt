@@ -1,6 +1,3 @@
-pub mod BestTables
-pub mod Emptied
-pub mod ExactTotals
 pub mod FieldRows
 pub mod Joining
 pub mod NewTables

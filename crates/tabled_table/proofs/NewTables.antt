@@ -12,9 +12,10 @@ use Rattle.tabled_size.specs.StandingSheet.{standing_sizes}
 use Rattle.tabled_size.specs.Stored.{heights_of, widths_of}
 use Rattle.tabled_size.specs.Totals.{filled_height, part_height, sum_below, total_height, total_width}
 use Rattle.tabled_size.proofs.Sums.{sum_step}
-use Rattle.tabled_grid.specs.Holds.{Holds}
+use Rattle.tabled_size.specs.Holds.{Holds}
 use Rattle.tabled_grid.specs.Picture.{picture}
-use Rattle.tabled_grid.specs.PlainSheet.{ArePlain, EachLineTakes, IsPlainConfig, IsPlainRule, IsPlainStyle}
+use Rattle.tabled_size.specs.PlainCells.{ArePlain}
+use Rattle.tabled_grid.specs.PlainSheet.{EachLineTakes, IsPlainConfig, IsPlainRule, IsPlainStyle}
 use Rattle.tabled_grid.proofs.EstimatedSizes.{holds_estimated}
 use Rattle.tabled_grid.proofs.Whole.{picture_columns, picture_lines}
 use Rattle.tabled_table.specs.NewConfig.{new_config}

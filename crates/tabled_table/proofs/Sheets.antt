@@ -3,9 +3,10 @@ use Rattle.std.proofs.Common.{◌≡◌, length}
 use Rattle.tabled_base.specs.Cells.{IsRectangular, columns}
 use Rattle.tabled_size.specs.Sheet.{Sheet}
 use Rattle.tabled_size.specs.Totals.{total_height, total_width}
-use Rattle.tabled_grid.specs.Holds.{Holds}
+use Rattle.tabled_size.specs.Holds.{Holds}
 use Rattle.tabled_grid.specs.Picture.{picture}
-use Rattle.tabled_grid.specs.PlainSheet.{ArePlain, EachLineTakes, IsPlainConfig}
+use Rattle.tabled_size.specs.PlainCells.{ArePlain}
+use Rattle.tabled_grid.specs.PlainSheet.{EachLineTakes, IsPlainConfig}
 use Rattle.tabled_grid.proofs.Whole.{picture_columns, picture_lines}
 
 -- where characters are plain, each takes as many columns as the whole

@@ -4,7 +4,7 @@ use Rattle.tabled_base.specs.declared.error.TableError.{TableError}
 use Rattle.tabled_base.specs.declared.error.TableError.TheVariants.{Memory}
 use Rattle.tabled_base.specs.declared.position.Entity.{Entity}
 use Rattle.tabled_config.specs.declared.colored.ColoredConfig.{ColoredConfig}
-use Rattle.tabled_size.specs.Standing.{clears_heights, clears_widths, unless_cleared}
+use Rattle.tabled_size.specs.Cleared.{AreCleared}
 use Rattle.tabled_size.specs.Stored.{heights_of, widths_of}
 use Rattle.tabled_size.specs.declared.complete_dimension.CompleteDimension.{CompleteDimension}
 use Rattle.tabled_table.specs.declared.table.Table.{Table}
@@ -13,17 +13,12 @@ use Rattle.tabled_table.specs.declared.table.Table.{Table}
 abbrev pub Cells : Type 0
 Cells = List (List (List ℕ))
 
--- sizes without what a hint clears
-pub record AreCleared (hint : Option Entity) (old new : CompleteDimension) : Type 0 where
-  pub widths : widths_of new ≡ unless_cleared (clears_widths hint) (widths_of old)
-  pub heights : heights_of new ≡ unless_cleared (clears_heights hint) (heights_of old)
-
 -- no sizes are stored
 pub record AreNone (sizes : CompleteDimension) : Type 0 where
   pub widths : widths_of sizes ≡ None
   pub heights : heights_of sizes ≡ None
 
--- a table option's change, and then its hint
+-- a table option's change, or what it promises of it, and then its hint
 pub record IsApplied (changes : Cells → ColoredConfig → CompleteDimension → Cells → ColoredConfig → CompleteDimension → Type 0) (hint : Option Entity) (old new : Table) : Type 0 where
   pub sizes : CompleteDimension
   pub changed : changes old.records old.config old.dimension new.records new.config sizes

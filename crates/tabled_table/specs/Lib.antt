@@ -1,9 +1,6 @@
 pub mod Applied
-pub mod BestNarrowing
-pub mod ExactTotal
 pub mod Fields
 pub mod Lending
-pub mod Narrowing
 pub mod NewConfig
 pub mod NewTable
 pub mod Passed

@@ -25,6 +25,7 @@ impl Table {
         option: O,
     ) -> Result<(), TableError>
         ensures ok { OnOk result (IsApplied (O.changes option) (O.hint option) self.old self.new) }
+        ensures promised { OnOk result (IsApplied (O.promises option) (O.hint option) self.old self.new) }
         ensures err { IfErr result (λ e. IsRefusedBy (O.refuses option e) self.old self.new) }
         ensures only { IfErr result (λ e. (e ≡ Memory) ⊎ (e ≡ Range)) }
         ensures range { IfErr result (λ e. e ≡ Range
@@ -54,6 +55,7 @@ impl Table {
             (λ last. IfErr result (λ e. IsRefusedBy (O.refuses option e) self.old last))) }
         ensures same_reference { IfOk result (λ table. table.ghost_name ≡ self.entry.ghost_name) }
         ensures ok { IfOk result (λ table. IsApplied (O.changes option) (O.hint option) self.old table.now) }
+        ensures promised { IfOk result (λ table. IsApplied (O.promises option) (O.hint option) self.old table.now) }
         ensures only { IfErr result (λ e. (e ≡ Memory) ⊎ (e ≡ Range)) }
         ensures range { IfErr result (λ e. e ≡ Range
             → O.passes option self.old.records self.old.config self.old.dimension) }

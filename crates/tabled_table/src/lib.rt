@@ -3,7 +3,6 @@
 
 mod applying;
 mod config;
-mod exact;
 pub mod laws;
 mod making;
 mod rows;

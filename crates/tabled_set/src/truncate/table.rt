@@ -2,6 +2,10 @@
 ghost use Rattle.std.specs.Prelude.{◌≡◌, None};
 ghost use Rattle.tabled_set.specs.CellChanges.{if_wider, truncating};
 ghost use Rattle.tabled_set.specs.Narrowed.{Narrows, NarrowingPasses, StopsNarrowing};
+ghost use Rattle.tabled_set.specs.Promised.{TruncatesAsPromised};
+ghost use Rattle.tabled_size.specs.Cleared.{AreCleared};
+ghost use Rattle.tabled_size.specs.StandingSheet.{standing};
+ghost use Rattle.tabled_size.specs.declared.complete_dimension.CompleteDimension.{CompleteDimension};
 
 use crate::changing::Wider;
 use crate::measurement::{Measurement, Width};
@@ -28,7 +32,14 @@ impl<'a, W: Measurement<Width> + Drop, P: Peaker + Drop, R: RecordsMut> TableOpt
         StopsNarrowing P.shrinks s.priority (if_wider (truncating s.suffix.now s.limit s.multiline))
         (W.measures s.width (R.cells r) c.config) e (R.cells r) c.config d (R.cells r') × (c' ≡ c) };
 
-    ghost passes = { λ s r c d. NarrowingPasses (W.passes s.width (R.cells r) c.config) (R.cells r) c.config d };
+    ghost passes = { λ s r c d. NarrowingPasses (W.passes s.width (R.cells r) c.config)
+        (W.measures s.width (R.cells r) c.config) (R.cells r) c.config d };
+
+    // Of the sizes that are left once what is hinted was forgotten.
+    ghost promises = { λ s r c d r' c' d'. (left : CompleteDimension) → AreCleared None d' left
+        → TruncatesAsPromised P.shrinks s.priority s.suffix.now s.limit s.multiline
+        (W.measures s.width (R.cells r) c.config)
+        (standing (R.cells r) c.config d) (standing (R.cells r') c'.config left) };
 
     ghost hint = { λ s. None };
 

@@ -3,6 +3,10 @@ ghost use Rattle.std.specs.Prelude.{◌≡◌, Some};
 ghost use Rattle.tabled_base.specs.declared.position.Entity.TheVariants.{Row};
 ghost use Rattle.tabled_set.specs.CellChanges.{wrapping};
 ghost use Rattle.tabled_set.specs.Narrowed.{Narrows, NarrowingPasses, StopsNarrowing};
+ghost use Rattle.tabled_set.specs.Promised.{WrapsAsPromised};
+ghost use Rattle.tabled_size.specs.Cleared.{AreCleared};
+ghost use Rattle.tabled_size.specs.StandingSheet.{standing};
+ghost use Rattle.tabled_size.specs.declared.complete_dimension.CompleteDimension.{CompleteDimension};
 
 use crate::changing::Every;
 use crate::measurement::{Measurement, Width};
@@ -26,7 +30,13 @@ impl<W: Measurement<Width> + Drop, P: Peaker + Drop, R: RecordsMut> TableOption<
     ghost refuses = { λ s e r c d r' c' d'. StopsNarrowing P.shrinks s.priority (wrapping s.keep_words)
         (W.measures s.width (R.cells r) c.config) e (R.cells r) c.config d (R.cells r') × (c' ≡ c) };
 
-    ghost passes = { λ s r c d. NarrowingPasses (W.passes s.width (R.cells r) c.config) (R.cells r) c.config d };
+    ghost passes = { λ s r c d. NarrowingPasses (W.passes s.width (R.cells r) c.config)
+        (W.measures s.width (R.cells r) c.config) (R.cells r) c.config d };
+
+    // Of the sizes that are left once what is hinted was forgotten.
+    ghost promises = { λ s r c d r' c' d'. (left : CompleteDimension) → AreCleared (Some (Row 0)) d' left
+        → WrapsAsPromised P.shrinks s.priority s.keep_words (W.measures s.width (R.cells r) c.config)
+        (standing (R.cells r) c.config d) (standing (R.cells r') c'.config left) };
 
     ghost hint = { λ s. Some (Row 0) };
 

@@ -1,5 +1,11 @@
 //! Tables that are wrapped or truncated to a total.
-ghost use Rattle.std.specs.Prelude.{⊤};
+ghost use Rattle.std.specs.Prelude.{◌≡◌, OnOk, false, max, ⊤};
+ghost use Rattle.tabled_set.specs.BestNarrowing.{IsBestWrapped};
+ghost use Rattle.tabled_set.specs.ExactTotal.{empty_width};
+ghost use Rattle.tabled_set.specs.Promised.{IsWiderThan};
+ghost use Rattle.tabled_size.specs.PlainCells.{ArePlain};
+ghost use Rattle.tabled_size.specs.Totals.{total_width};
+ghost use Rattle.tabled_table.specs.TableSheet.{cells_of, sheet};
 
 use crate::tests::drawing::{PAIRS, table_of};
 use crate::{Table, new_config};
@@ -7,8 +13,8 @@ use std::alloc::Global;
 use std::test::Fail;
 use tabled_base::{Columns, TableError};
 use tabled_config::{SpannedConfig, Style};
-use tabled_set::{SuffixLimit, Width};
-use tabled_size::{Peaker, Priority, TakesAll};
+use tabled_set::Width;
+use tabled_size::{Peaker, Priority};
 use tabled_text::{line_width, lines};
 
 // Columns of 6, 7 and 6.
@@ -53,18 +59,27 @@ fn begins<P: Peaker + Drop>(alloc: Global, priority: P, line: &str) -> Result<bo
     Ok(table.to_string()?.starts_with(line))
 }
 
+// Wraps by the greatest widths. What is told of the total follows from `with` alone.
+fn wrap_level(table: &mut Table, n: usize) -> Result<(), TableError>
+    ensures total { OnOk result (IsWiderThan n (sheet table.old) → ArePlain (cells_of table.old)
+        → total_width (sheet table.new) ≡ max n (empty_width (sheet table.old))) }
+    ensures best { OnOk result (IsWiderThan n (sheet table.old)
+        → IsBestWrapped false (sheet table.old) (sheet table.new)) }
+{
+    table.with(Width::wrap(n).priority(Priority::max(true)))?;
+    Ok(())
+}
+
 // A table of rows wrapped to some columns.
 fn wrapped(alloc: Global, rows: &[&[&'static str]], width: usize) -> Result<String, TableError> {
     let mut table = table_of(alloc, rows, new_config(alloc))?;
-    table.wrap_to(width, false, Priority::none())?;
-    table.to_string()
+    table.with(Width::wrap(width))?.to_string()
 }
 
 // A table of one cell truncated to some columns.
 fn truncated(alloc: Global, cell: &'static str, width: usize) -> Result<String, TableError> {
     let mut table = table_of(alloc, &[&[cell]], new_config(alloc))?;
-    table.truncate_to(width, "", SuffixLimit::Cut, false, Priority::none())?;
-    table.to_string()
+    table.with(Width::truncate(width))?.to_string()
 }
 
 // The pairs, with the first column wrapped to some columns.
@@ -75,7 +90,7 @@ fn left_wrapped(alloc: Global, width: usize) -> Result<String, TableError> {
 }
 
 // The pairs wrapped or truncated to some columns, and what is said of the total height.
-fn narrowed<P: TakesAll + Drop>(
+fn narrowed<P: Peaker + Drop>(
     alloc: Global,
     wraps: bool,
     width: usize,
@@ -83,9 +98,9 @@ fn narrowed<P: TakesAll + Drop>(
 ) -> Result<(String, usize), TableError> {
     let mut table = table_of(alloc, PAIRS, new_config(alloc))?;
     if wraps {
-        table.wrap_to(width, false, priority)?;
+        table.with(Width::wrap(width).priority(priority))?;
     } else {
-        table.truncate_to(width, "", SuffixLimit::Cut, false, priority)?;
+        table.with(Width::truncate(width).priority(priority))?;
     }
     Ok((table.to_string()?, table.total_height()?))
 }
@@ -102,7 +117,7 @@ fn measures(text: &str, width: usize, height: usize) -> bool {
 }
 
 // Whether the pairs, which take 12 columns and 7 with empty cells, have each total that they can have.
-fn narrows_to_each<P: TakesAll + Copy + Drop>(
+fn narrows_to_each<P: Peaker + Copy + Drop>(
     alloc: Global,
     priority: P,
 ) -> Result<bool, TableError> {

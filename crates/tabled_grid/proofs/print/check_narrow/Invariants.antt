@@ -1,7 +1,7 @@
 use Rattle.std.proofs.Common.{ℕ, ◌<◌}
 use Rattle.tabled_base.specs.Cells.{columns}
 use Rattle.tabled_grid.specs.Grid.{sheet_of}
-use Rattle.tabled_grid.specs.Holds.{IsHeld}
+use Rattle.tabled_size.specs.Holds.{IsHeld}
 use Rattle.tabled_grid.proofs.print.check_narrow.Given as goal
 
 abbrev pub invariant-rows : goal.invariant-rows

@@ -1,6 +1,6 @@
 use Rattle.std.proofs.Common.{ℕ, ◌<◌}
 use Rattle.tabled_grid.specs.Grid.{sheet_of}
-use Rattle.tabled_grid.specs.Holds.{IsHeld}
+use Rattle.tabled_size.specs.Holds.{IsHeld}
 use Rattle.tabled_grid.proofs.print.narrow_in.Given as goal
 
 abbrev pub invariant-columns : goal.invariant-columns

@@ -1,6 +1,6 @@
 use Rattle.std.proofs.Common.{subst, sym}
 use Rattle.tabled_size.specs.Sheet.{Sheet}
-use Rattle.tabled_grid.specs.Holds.{Holds, IsSized}
+use Rattle.tabled_size.specs.Holds.{Holds, IsSized}
 use Rattle.tabled_grid.specs.Printed.{Prints}
 use Rattle.tabled_grid.proofs.StandingSizes.{answered_filled, refused_unestimated}
 use Rattle.tabled_grid.proofs.standing.print_filled_in.Goals as goal

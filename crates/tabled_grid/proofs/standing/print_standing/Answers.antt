@@ -1,7 +1,7 @@
 use Rattle.std.proofs.Common.{◌∙◌, subst, sym}
 use Rattle.tabled_size.specs.Sheet.{Sheet}
 use Rattle.tabled_size.specs.StandingSheet.{standing}
-use Rattle.tabled_grid.specs.Holds.{Holds, IsSized}
+use Rattle.tabled_size.specs.Holds.{Holds, IsSized}
 use Rattle.tabled_grid.specs.Printed.{Prints}
 use Rattle.tabled_grid.proofs.Printing.{prints_nothing}
 use Rattle.tabled_grid.proofs.StandingSizes.{answered_complete}

@@ -1,11 +1,9 @@
 use Rattle.std.proofs.Common.{◌≡◌, ◌≤◌, ◌^◌, ◌⊎◌, ◌∙◌, MatchOption, None, Option, subst}
 use Rattle.tabled_base.specs.declared.error.TableError.TheVariants.{Memory, Range}
-use Rattle.tabled_size.specs.Estimates.{IsTooWide}
 use Rattle.tabled_size.specs.FilledIn.{HasNoEstimate}
 use Rattle.tabled_size.specs.StandingSheet.{standing}
 use Rattle.tabled_size.specs.Totals.{total_width}
-use Rattle.tabled_set.specs.Minimums.{emptied}
-use Rattle.tabled_set.specs.Narrowed.{StopsNarrowing}
+use Rattle.tabled_set.specs.Narrowed.{StopsNarrowing, WiderPasses}
 use Rattle.tabled_set.specs.Shrinking.{IsFound}
 use Rattle.tabled_set.specs.declared.columns.ColumnWidths.{ColumnWidths}
 use Rattle.tabled_set.proofs.NarrowingTables.{if-err, narrows-none, narrows-some, passes-before, stops-some}
@@ -17,9 +15,9 @@ returns-in_err-found-clause-only g c =
     let config = c.args.config.now in
     let old = c.args.sizes.now in
     if-err
-    (λ e. (e ≡ Memory) ⊎ ((e ≡ Range) × (HasNoEstimate old cells config ⊎ ((2 ^ 64 ≤ total_width (standing cells config old)) ⊎ IsTooWide (emptied cells) config))))
+    (λ e. (e ≡ Memory) ⊎ ((e ≡ Range) × (HasNoEstimate old cells config ⊎ WiderPasses c.args.n cells config old)))
     c.from_residual-in_err-found.result _ c.from_residual-in_err-found.ensures.1
-    (passes-before cells config old c.estimate.new.self _ c.in_ok-estimate.ensures.ok c.in_err-found.ensures.err)
+    (passes-before c.args.n cells config old c.estimate.new.self _ c.in_ok-estimate.ensures.ok c.in_err-found.ensures.err)
 
 pub returns-in_default-clause-ok : goal.returns-in_default-clause-ok
 returns-in_default-clause-ok g c =

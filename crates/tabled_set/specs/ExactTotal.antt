@@ -1,17 +1,15 @@
 -- Tables that were narrowed to a total.
 use Rattle.std.specs.Prelude.{◌≡◌, ℕ, max}
-use Rattle.tabled_grid.specs.Holds.{Holds, IsSized}
-use Rattle.tabled_grid.specs.PlainSheet.{ArePlain}
 use Rattle.tabled_set.specs.Minimums.{emptied}
 use Rattle.tabled_size.specs.Estimates.{estimated_widths}
+use Rattle.tabled_size.specs.Holds.{Holds, IsSized}
+use Rattle.tabled_size.specs.PlainCells.{ArePlain}
 use Rattle.tabled_size.specs.Sheet.{Sheet, estimated}
 use Rattle.tabled_size.specs.Totals.{total_width}
-use Rattle.tabled_table.specs.TableSheet.{cells_of, sheet}
-use Rattle.tabled_table.specs.declared.table.Table.{Table}
 
--- the widths that stand are the estimated ones
-abbrev pub HasEstimatedWidths : Table → Type 0
-HasEstimatedWidths table = (sheet table).widths ≡ estimated_widths (cells_of table) table.config.config
+-- the widths are the estimated ones
+abbrev pub HasEstimatedWidths : Sheet → Type 0
+HasEstimatedWidths t = t.widths ≡ estimated_widths t.cells t.config
 
 -- the columns that the table takes with empty cells
 abbrev pub empty_width : Sheet → ℕ

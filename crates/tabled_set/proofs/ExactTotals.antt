@@ -30,27 +30,20 @@ use Rattle.tabled_size.proofs.Totalling.{heights_length, widths_length}
 use Rattle.tabled_set.specs.CellChanges.{AreChanged, if_wider, truncating, wrapping}
 use Rattle.tabled_set.specs.Minimums.{emptied, minimums, side_padding}
 use Rattle.tabled_set.specs.Narrowed.{IsNarrowed, Narrows, for_room}
+use Rattle.tabled_set.specs.BestNarrowing.{text_room}
+use Rattle.tabled_set.specs.ExactTotal.{HasExactTotal, empty_width}
+use Rattle.tabled_set.specs.Promised.{TakesFrom, TakesGreatest}
 use Rattle.tabled_set.specs.PlainEnding.{IsPlainLimit}
 use Rattle.tabled_set.specs.Truncated.{IsTruncated}
 use Rattle.tabled_set.specs.declared.suffix.SuffixLimit.{SuffixLimit}
+use Rattle.tabled_set.proofs.Emptied.{emptied-columns, emptied-empty, minimums-le, minimums-length, side_padding-le}
 use Rattle.tabled_set.proofs.Staying.{StaysWithin-truncated}
-use Rattle.tabled_grid.specs.Holds.{Holds, IsSized}
-use Rattle.tabled_grid.specs.PlainSheet.{ArePlain}
-use Rattle.tabled_table.specs.Applied.{IsApplied}
-use Rattle.tabled_table.specs.BestNarrowing.{text_room}
-use Rattle.tabled_table.specs.ExactTotal.{HasEstimatedWidths, HasExactTotal, empty_width}
-use Rattle.tabled_table.specs.Narrowing.{NarrowsTable}
-use Rattle.tabled_table.specs.TableSheet.{cells_of, sheet}
-use Rattle.tabled_table.specs.declared.table.Table.{Table}
-use Rattle.tabled_table.proofs.Emptied.{emptied_columns, emptied_empty, minimums-le, minimums_length, side_padding-le}
+use Rattle.tabled_size.specs.Holds.{Holds, IsSized}
+use Rattle.tabled_size.specs.PlainCells.{ArePlain}
 
 -- a text that is changed for a room is plain and stays in it
 abbrev pub FindsRoom : (ℕ → List ℕ → List ℕ → Type 0) → Type 0
 FindsRoom change = (room : ℕ) (before after : List ℕ) → IsPlain before → change room before after → StaysWithin room after
-
--- a list that shrinks loses as much as is wanted, or as much as it can
-abbrev pub TakesFrom : {P : Type 0} → (P → List ℕ → List ℕ → ℕ → List ℕ → P → Type 0) → P → Type 0
-TakesFrom {P} shrinks s = (last : P) (old mins new : List ℕ) (by : ℕ) → shrinks s old mins by new last → IsTakenFrom old mins by new
 
 -- ---- cells that are changed
 -- the columns of equally long rows are the cells of each
@@ -114,7 +107,7 @@ module _ {P : Type 0} (shrinks : P → List ℕ → List ℕ → ℕ → List �
   by_minimums =
       let t = standing cells config sizes in
       let mins = minimums cells config in
-      let whole : take (length t.widths) mins ≡ mins = ap (λ k. take k mins) (long ∙ sym (minimums_length cells config)) ∙ take-length mins in
+      let whole : take (length t.widths) mins ≡ mins = ap (λ k. take k mins) (long ∙ sym (minimums-length cells config)) ∙ take-length mins in
       subst (λ m. shrinks s t.widths m (total_width t - n) h.widths h.shrunk.last) whole h.shrunk.shrunk
 
   -- they lose as much as is wanted, or all above the minimums
@@ -147,14 +140,15 @@ module _ {P : Type 0} (shrinks : P → List ℕ → List ℕ → ℕ → List �
       ap (λ o. standing_sizes o (estimated_widths new config) (columns new)) (widths_stay ∙ h.stored)
       ∙ ap (λ k. take k h.widths) (new_columns ∙ sym width_each) ∙ take-length h.widths
 
-  -- by `PriorityMax` they have the least greatest width
-  pub leveled : (right : Bool) → ((old mins new : List ℕ) (by : ℕ) (end : P) → shrinks s old mins by new end → IsMaxShrunk right old mins by new) → HasLeastGreatest (standing cells config sizes).widths (minimums cells config) (standing new config last).widths
-  leveled right max =
+  -- where the greatest shrink first, the greatest width is the least possible
+  pub leveled : TakesGreatest shrinks s → HasLeastGreatest (standing cells config sizes).widths (minimums cells config) (standing new config last).widths
+  leveled greatest =
       let t = standing cells config sizes in
       let mins = minimums cells config in
       let by = total_width t - n in
+      let (right, shrunk_so) = greatest h.shrunk.last t.widths mins h.widths by by_minimums in
       subst (HasLeastGreatest t.widths mins) (sym new_widths)
-      (HasLeastGreatest-from_level t.widths mins h.widths (IsLevel-from_max right t.widths mins by h.widths (max t.widths mins h.widths by h.shrunk.last by_minimums)))
+      (HasLeastGreatest-from_level t.widths mins h.widths (IsLevel-from_max right t.widths mins by h.widths shrunk_so))
 
   -- every cell is changed for the room that its column leaves now
   pub changed_for_room : (row column : ℕ) → row < length cells → column < columns cells → change (text_room (standing new config last) row column) (cell_at cells row column) (cell_at new row column)
@@ -196,8 +190,8 @@ module _ {P : Type 0} (shrinks : P → List ℕ → List ℕ → ℕ → List �
     least_total : empty_width (standing cells config sizes) ≡ sum (minimums cells config) + frame_width config (columns cells)
     least_total =
         let none = emptied cells in
-        full_total (estimated none config) (emptied_empty cells ∙ full) (widths_length none config)
-        ∙ ap (λ k. sum (minimums cells config) + frame_width config k) (emptied_columns cells)
+        full_total (estimated none config) (emptied-empty cells ∙ full) (widths_length none config)
+        ∙ ap (λ k. sum (minimums cells config) + frame_width config k) (emptied-columns cells)
 
     new_total : total_width (standing new config last) ≡ sum h.widths + frame_width config (columns cells)
     new_total =
@@ -215,55 +209,9 @@ module _ {P : Type 0} (shrinks : P → List ℕ → List ℕ → ℕ → List �
         let taken : IsTakenFrom t.widths mins (sum t.widths + frame - n) h.widths = subst (λ k. IsTakenFrom t.widths mins (k - n) h.widths) old_total shrunk in
         record {
           total = new_total
-              ∙ narrowed_total t.widths mins frame n h.widths (minimums_length cells config ∙ sym long) below (subst (λ k. n < k) old_total wider) taken
+              ∙ narrowed_total t.widths mins frame n h.widths (minimums-length cells config ∙ sym long) below (subst (λ k. n < k) old_total wider) taken
               ∙ ap (max n) (sym least_total);
           sized = new_sized;
           holds = new_holds;
           plain = new_plain;
         }
-
--- ---- tables
-FindsRoom-wrapping : (words : Bool) → FindsRoom (wrapping words)
-FindsRoom-wrapping words room before after p w = StaysWithin-wrapped p w
-
-FindsRoom-truncating : (suffix : List ℕ) (limit : SuffixLimit) (multiline : Bool) → IsPlain suffix → IsPlainLimit limit → FindsRoom (if_wider (truncating suffix limit multiline))
-FindsRoom-truncating suffix limit multiline q l room before after p w =
-    let ended = IsTruncated room suffix limit multiline before after in
-    let stays = after ≡ before in
-    ⊎_elim
-    (λ y. StaysWithin-truncated room suffix limit multiline before after q l p (MatchBool-at_true ended stays y w))
-    (λ no.
-    let same : after ≡ before = MatchBool-at_false ended stays no w in
-    subst (StaysWithin room) (sym same) (StaysWithin-from p (ltb-false room (text_columns before) no)))
-    (cases_Bool (nat_lt room (text_columns before)))
-
--- a table that an option narrows, whose hint leaves the widths
-exact_table : {P : Type 0} (shrinks : P → List ℕ → List ℕ → ℕ → List ℕ → P → Type 0) (s : P) (change : ℕ → List ℕ → List ℕ → Type 0) (n : ℕ) (hint : Option Entity) (old new : Table)
-    → TakesFrom shrinks s → FindsRoom change → clears_widths hint ≡ false → IsRectangular (cells_of old) → ArePlain (cells_of old) → HasEstimatedWidths old → n < total_width (sheet old)
-    → IsApplied (NarrowsTable shrinks s change n) hint old new → HasExactTotal n (sheet old) (sheet new)
-exact_table shrinks s change n hint old new takes rooms hinted rectangular plain estimates wider h =
-    let cells = cells_of old in
-    let config = old.config.config in
-    let sizes = h.sizes in
-    let narrowed = IsNarrowed-wider shrinks s change n cells config old.dimension (cells_of new) sizes wider h.changed.0 in
-    let same : config ≡ new.config.config = sym (ap (λ c. c.config) h.changed.1) in
-    let widths : widths_of new.dimension ≡ widths_of sizes = h.cleared.widths ∙ ap (λ b. unless_cleared b (widths_of sizes)) hinted in
-    let heights : heights_of new.dimension ≡ None = h.cleared.heights ∙ ap (unless_cleared (clears_heights hint)) narrowed.cleared ∙ cleared_none (clears_heights hint) in
-    subst (λ c. HasExactTotal n (sheet old) (standing (cells_of new) c new.dimension)) same
-    (exact_total shrinks s change n cells config old.dimension (cells_of new) sizes new.dimension takes estimates narrowed widths rooms rectangular plain wider heights)
-  where
-    cleared_none : (b : Bool) → unless_cleared b None ≡ None
-    cleared_none true = refl
-    cleared_none false = refl
-
-pub exact_wrapped : {P : Type 0} (shrinks : P → List ℕ → List ℕ → ℕ → List ℕ → P → Type 0) (s : P) (words : Bool) (n : ℕ) (old new : Table)
-    → TakesFrom shrinks s → IsRectangular (cells_of old) → ArePlain (cells_of old) → HasEstimatedWidths old → n < total_width (sheet old)
-    → IsApplied (NarrowsTable shrinks s (wrapping words) n) (Some (Row 0)) old new → HasExactTotal n (sheet old) (sheet new)
-exact_wrapped shrinks s words n old new takes =
-    exact_table shrinks s (wrapping words) n (Some (Row 0)) old new takes (FindsRoom-wrapping words) refl
-
-pub exact_truncated : {P : Type 0} (shrinks : P → List ℕ → List ℕ → ℕ → List ℕ → P → Type 0) (s : P) (suffix : List ℕ) (limit : SuffixLimit) (multiline : Bool) (n : ℕ) (old new : Table)
-    → TakesFrom shrinks s → IsPlain suffix → IsPlainLimit limit → IsRectangular (cells_of old) → ArePlain (cells_of old) → HasEstimatedWidths old → n < total_width (sheet old)
-    → IsApplied (NarrowsTable shrinks s (if_wider (truncating suffix limit multiline)) n) None old new → HasExactTotal n (sheet old) (sheet new)
-exact_truncated shrinks s suffix limit multiline n old new takes q l =
-    exact_table shrinks s (if_wider (truncating suffix limit multiline)) n None old new takes (FindsRoom-truncating suffix limit multiline q l) refl

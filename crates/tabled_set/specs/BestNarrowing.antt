@@ -6,17 +6,11 @@ use Rattle.tabled_set.specs.Minimums.{minimums, side_padding}
 use Rattle.tabled_size.specs.Least.{HasLeastGreatest}
 use Rattle.tabled_size.specs.Permitted.{at}
 use Rattle.tabled_size.specs.Sheet.{Sheet}
-use Rattle.tabled_size.specs.Shrunk.{IsMaxShrunk}
-use Rattle.tabled_size.specs.declared.max.PriorityMax.{PriorityMax}
 use Rattle.tabled_text.specs.Breaking.{EachUnitFits, HasFewestLines}
 use Rattle.tabled_text.specs.Longest.{IsLongestCut}
 use Rattle.tabled_text.specs.Measure.{text_columns}
 use Rattle.tabled_text.specs.OldText.{HasOldText}
 use Rattle.tabled_text.specs.Plain.{is_plain_character}
-
--- what `PriorityMax` may make of a list, and its state, which stays
-abbrev pub max_shrinks : PriorityMax → List ℕ → List ℕ → ℕ → List ℕ → PriorityMax → Type 0
-max_shrinks priority old mins by new last = IsMaxShrunk priority.right old mins by new × (last ≡ priority)
 
 -- what its column leaves for the text of a cell
 abbrev pub text_room : Sheet → ℕ → ℕ → ℕ
@@ -26,20 +20,18 @@ text_room t row column = at t.widths column - side_padding t.config row column
 abbrev pub HasLeastWidth : Sheet → Sheet → Type 0
 HasLeastWidth old new = HasLeastGreatest old.widths (minimums old.cells old.config) new.widths
 
--- a wrapped table with the least greatest width: no breaking of a cell's old text for its room has fewer lines, and
--- where each unit finds room, the new text is the old one with line feeds put in
+-- a wrapped table: no breaking of a cell's old text for its room has fewer lines, and where each unit finds room, the
+-- new text is the old one with line feeds put in
 pub record IsBestWrapped (words : Bool) (old new : Sheet) : Type 0 where
-  pub least : HasLeastWidth old new
   pub fewest : (row column : ℕ) → IsInside old.cells row column
       → HasFewestLines (text_room new row column) words (cell_at old.cells row column) (cell_at new.cells row column)
   pub whole : (row column : ℕ) → IsInside old.cells row column → 0 < text_room new row column
       → EachUnitFits (text_room new row column) words (cell_at old.cells row column)
       → HasOldText (cell_at old.cells row column) (cell_at new.cells row column)
 
--- a truncated table with the least greatest width, no suffix put behind the texts: a plain line that was wider than
--- its room is the longest beginning that fits
+-- a truncated table, no suffix put behind the texts: a plain line that was wider than its room is the longest
+-- beginning that fits
 pub record IsBestCut (old new : Sheet) : Type 0 where
-  pub least : HasLeastWidth old new
   pub longest : (row column : ℕ) → IsInside old.cells row column
       → list_all is_plain_character (chars (cell_at old.cells row column)) ≡ true
       → text_room new row column < text_columns (cell_at old.cells row column)

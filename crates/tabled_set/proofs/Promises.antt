@@ -1,0 +1,125 @@
+-- What wrapped and truncated tables keep of what is promised.
+use Rattle.std.proofs.Common.{◌≡◌, ℕ, ◌<◌, Bool, true, false, List, [], Option, Some, None, nat_lt, refl, sym, ap, ◌∙◌, subst, ⊎_elim}
+use Rattle.std.specs.Prelude.{MatchBool}
+use Rattle.std.proofs.lemmas.Bool.{MatchBool-at_true, MatchBool-at_false, cases_Bool, lt-ltb, ltb-false}
+use Rattle.tabled_text.specs.Measure.{text_columns}
+use Rattle.tabled_text.specs.Plain.{IsPlain}
+use Rattle.tabled_text.specs.Room.{StaysWithin}
+use Rattle.tabled_text.proofs.FewestLines.{fewest-wrapped}
+use Rattle.tabled_text.proofs.LongestLemmas.{cut_longest}
+use Rattle.tabled_text.proofs.OwnBreaking.{old_text}
+use Rattle.tabled_text.proofs.StayLemmas.{StaysWithin-from, StaysWithin-wrapped}
+use Rattle.tabled_base.specs.Cells.{IsInside, IsRectangular, cell_at}
+use Rattle.tabled_base.specs.declared.position.Entity.{Entity}
+use Rattle.tabled_base.specs.declared.position.Entity.TheVariants.{Row}
+use Rattle.tabled_config.specs.declared.spanned.SpannedConfig.{SpannedConfig}
+use Rattle.tabled_size.specs.Cleared.{AreCleared}
+use Rattle.tabled_size.specs.PlainCells.{ArePlain}
+use Rattle.tabled_size.specs.Standing.{clears_heights, clears_widths, unless_cleared}
+use Rattle.tabled_size.specs.StandingSheet.{standing}
+use Rattle.tabled_size.specs.Stored.{heights_of, widths_of}
+use Rattle.tabled_size.specs.declared.complete_dimension.CompleteDimension.{CompleteDimension}
+use Rattle.tabled_set.specs.BestNarrowing.{HasLeastWidth, IsBestCut, IsBestWrapped, text_room}
+use Rattle.tabled_set.specs.CellChanges.{if_wider, truncating, wrapping}
+use Rattle.tabled_set.specs.ExactTotal.{HasExactTotal}
+use Rattle.tabled_set.specs.Narrowed.{IsNarrowed, Narrows}
+use Rattle.tabled_set.specs.PlainEnding.{IsPlainLimit}
+use Rattle.tabled_set.specs.Promised.{IsWiderThan, TakesFrom, TakesGreatest, TruncatesAsPromised, WrapsAsPromised}
+use Rattle.tabled_set.specs.Truncated.{IsTruncated}
+use Rattle.tabled_set.specs.declared.suffix.SuffixLimit.{SuffixLimit}
+use Rattle.tabled_set.proofs.Bare.{IsCut-truncated}
+use Rattle.tabled_set.proofs.ExactTotals.{FindsRoom, IsNarrowed-wider, changed_for_room, exact_total, leveled}
+use Rattle.tabled_set.proofs.Staying.{StaysWithin-truncated}
+
+-- ---- changed texts stay in their rooms
+FindsRoom-wrapping : (words : Bool) → FindsRoom (wrapping words)
+FindsRoom-wrapping words room before after p w = StaysWithin-wrapped p w
+
+FindsRoom-truncating : (suffix : List ℕ) (limit : SuffixLimit) (multiline : Bool) → IsPlain suffix → IsPlainLimit limit → FindsRoom (if_wider (truncating suffix limit multiline))
+FindsRoom-truncating suffix limit multiline q l room before after p w =
+    let ended = IsTruncated room suffix limit multiline before after in
+    let stays = after ≡ before in
+    ⊎_elim
+    (λ y. StaysWithin-truncated room suffix limit multiline before after q l p (MatchBool-at_true ended stays y w))
+    (λ no.
+    let same : after ≡ before = MatchBool-at_false ended stays no w in
+    subst (StaysWithin room) (sym same) (StaysWithin-from p (ltb-false room (text_columns before) no)))
+    (cases_Bool (nat_lt room (text_columns before)))
+
+-- ---- a table that was narrowed, once what is hinted was forgotten, the widths never
+cleared_none : (b : Bool) → unless_cleared b None ≡ None
+cleared_none true = refl
+cleared_none false = refl
+
+module _ {P : Type 0} (shrinks : P → List ℕ → List ℕ → ℕ → List ℕ → P → Type 0) (s : P) (change : ℕ → List ℕ → List ℕ → Type 0) (n : ℕ)
+    (cells : List (List (List ℕ))) (config : SpannedConfig) (sizes : CompleteDimension) (new : List (List (List ℕ))) (stored last : CompleteDimension)
+    (hint : Option Entity) (hinted : clears_widths hint ≡ false) (narrows : Narrows shrinks s change n cells config sizes new stored) (cleared : AreCleared hint stored last)
+    (takes : TakesFrom shrinks s) (wide : IsWiderThan n (standing cells config sizes)) where
+  narrowed : IsNarrowed shrinks s change n (standing cells config sizes) new stored
+  narrowed = IsNarrowed-wider shrinks s change n cells config sizes new stored wide.wider narrows
+
+  widths_stay : widths_of last ≡ widths_of stored
+  widths_stay = cleared.widths ∙ ap (λ b. unless_cleared b (widths_of stored)) hinted
+
+  heights_clear : heights_of last ≡ None
+  heights_clear = cleared.heights ∙ ap (unless_cleared (clears_heights hint)) narrowed.cleared ∙ cleared_none (clears_heights hint)
+
+  exact_of : FindsRoom change → IsRectangular cells → ArePlain cells → HasExactTotal n (standing cells config sizes) (standing new config last)
+  exact_of rooms rectangular plain =
+      exact_total shrinks s change n cells config sizes new stored last takes wide.estimates narrowed widths_stay rooms rectangular plain wide.wider heights_clear
+
+  cell_of : (row column : ℕ) → IsInside cells row column → change (text_room (standing new config last) row column) (cell_at cells row column) (cell_at new row column)
+  cell_of row column inside =
+      changed_for_room shrinks s change n cells config sizes new stored last takes wide.estimates narrowed widths_stay row column inside.row_in inside.column_in
+
+  least_of : TakesGreatest shrinks s → HasLeastWidth (standing cells config sizes) (standing new config last)
+  least_of greatest = leveled shrinks s change n cells config sizes new stored last takes wide.estimates narrowed widths_stay greatest
+
+-- ---- what is promised
+module _ {P : Type 0} (shrinks : P → List ℕ → List ℕ → ℕ → List ℕ → P → Type 0) (s : P) (n : ℕ)
+    (cells : List (List (List ℕ))) (config : SpannedConfig) (sizes : CompleteDimension) (new : List (List (List ℕ))) (stored last : CompleteDimension) (rectangular : IsRectangular cells) where
+  takes_of : TakesGreatest shrinks s → TakesFrom shrinks s
+  takes_of greatest end old mins list by h = let (right, shrunk) = greatest end old mins list by h in shrunk.takes
+
+  pub wraps : (words : Bool) → Narrows shrinks s (wrapping words) n cells config sizes new stored → AreCleared (Some (Row 0)) stored last
+      → WrapsAsPromised shrinks s words n (standing cells config sizes) (standing new config last)
+  wraps words narrows cleared =
+      let change = wrapping words in
+      let room = text_room (standing new config last) in
+      record {
+        exact = λ takes wide plain. exact_of shrinks s change n cells config sizes new stored last (Some (Row 0)) refl narrows cleared takes wide (FindsRoom-wrapping words) rectangular plain;
+        best = λ takes wide.
+            let changed = cell_of shrinks s change n cells config sizes new stored last (Some (Row 0)) refl narrows cleared takes wide in
+            record {
+              fewest = λ row column inside. fewest-wrapped (room row column) words (cell_at cells row column) (cell_at new row column) (changed row column inside);
+              whole = λ row column inside some fits. old_text (room row column) words (cell_at cells row column) (cell_at new row column) some fits (changed row column inside);
+            };
+        least = λ greatest wide.
+            least_of shrinks s change n cells config sizes new stored last (Some (Row 0)) refl narrows cleared (takes_of greatest) wide greatest;
+      }
+
+  module _ (suffix : List ℕ) (limit : SuffixLimit) (multiline : Bool)
+      (narrows : Narrows shrinks s (if_wider (truncating suffix limit multiline)) n cells config sizes new stored) (cleared : AreCleared None stored last) where
+    longest_of : TakesFrom shrinks s → suffix ≡ [] → multiline ≡ false → IsWiderThan n (standing cells config sizes) → IsBestCut (standing cells config sizes) (standing new config last)
+    longest_of takes bare whole wide =
+        let changed = cell_of shrinks s (if_wider (truncating suffix limit multiline)) n cells config sizes new stored last None refl narrows cleared takes wide in
+        record {
+          longest = λ row column inside line long.
+              let room = text_room (standing new config last) row column in
+              let before = cell_at cells row column in
+              let after = cell_at new row column in
+              let cut : IsTruncated room suffix limit multiline before after =
+              MatchBool-at_true (IsTruncated room suffix limit multiline before after) (after ≡ before) (lt-ltb room (text_columns before) long) (changed row column inside) in
+              cut_longest room before after line (IsCut-truncated room limit before after
+              (subst (λ b. IsTruncated room [] limit b before after) whole (subst (λ l. IsTruncated room l limit multiline before after) bare cut)));
+        }
+
+    pub truncates : TruncatesAsPromised shrinks s suffix limit multiline n (standing cells config sizes) (standing new config last)
+    truncates =
+        let change = if_wider (truncating suffix limit multiline) in
+        record {
+          exact = λ takes p l wide plain. exact_of shrinks s change n cells config sizes new stored last None refl narrows cleared takes wide (FindsRoom-truncating suffix limit multiline p l) rectangular plain;
+          best = longest_of;
+          least = λ greatest wide.
+              least_of shrinks s change n cells config sizes new stored last None refl narrows cleared (takes_of greatest) wide greatest;
+        }
