@@ -122,15 +122,16 @@ with_spec 𝓤 𝓛 𝓜 𝓡 wired O L₀ g₁ d₁ m₁ =
     nothing ! $ use0 𝓛 (raw (fact 𝓤 O₁)) (fact_i 𝓤 O₁ (emp 𝓤) o₁) $ join ! $
     move ! (1 ∷ 0 ∷ []) $ use2 𝓛 (raw (G.pre z)) (id⊢ 𝓤 _) $
     let Applied = λ (n : R.Denot). IsApplied (g₁.changes x) (g₁.hint x) r.now n in
+    let Promised = λ (n : R.Denot). IsApplied (g₁.promises x) (g₁.hint x) r.now n in
     let Left = λ (e : TableError) (n : R.Denot). IsRefusedBy (g₁.refuses x e) r.now n in
     let Passes = λ (e : TableError). (e ≡ Range → g₁.passes x r.now.records r.now.config r.now.dimension) in
     calls_at ! (framed 𝓤 𝓛.H 𝓜 𝓣) G (met 𝓤 𝓛 𝓜 𝓡 (code.calls-tabled_table::table::Table::apply 𝓡.env wired) O L₀ g₁ d₁ m₁) z
     (and_then ! (get ! refl) (and_then ! (get ! refl) (no_more !))) (λ w.
     use1 𝓛 (later (some (λ (t : Done). ((‵ (flft (α ∷ []) full_share) ⊛ others) ⊛ ‵ ((result.the_row unit TE).own_val t (w ∷ []))) ⊛
     some (λ (ws : R.Denot × (Unit {0} × Unit {0})). ‵ (lasts gE z.0.0 z.0.3 ws) ⊛ (raw (fact 𝓤 (OnOk t (Applied ws.0))) ⊛
-    raw (fact 𝓤 (IfErr t (λ e. Left e ws.0))) ⊛ raw (fact 𝓤 (IfErr t IsCause)) ⊛ raw (fact 𝓤 (IfErr t Passes))))))) (id⊢ 𝓤 _) $
+    raw (fact 𝓤 (OnOk t (Promised ws.0))) ⊛ raw (fact 𝓤 (IfErr t (λ e. Left e ws.0))) ⊛ raw (fact 𝓤 (IfErr t IsCause)) ⊛ raw (fact 𝓤 (IfErr t Passes))))))) (id⊢ 𝓤 _) $
     await ! tt $ pick ! (λ t. split ! $ split ! $ split ! $ move ! (3 ∷ []) $ pick ! (λ ws. split ! $ move ! (1 ∷ []) $
-    split ! $ heard ! _ (λ applied. split ! $ heard ! _ (λ left. split ! $ heard ! _ (λ only'. heard ! _ (λ passes. fsplit ! $ fsplit ! $
+    split ! $ heard ! _ (λ applied. split ! $ heard ! _ (λ promised. split ! $ heard ! _ (λ left. split ! $ heard ! _ (λ only'. heard ! _ (λ passes. fsplit ! $ fsplit ! $
     -- [the loan's last value; its borrow; nothing; the token of α; the other tokens; the result; what the lender keeps]
     move ! (3 ∷ []) $ lft_end ! tt $ move ! (0 ∷ 6 ∷ 1 ∷ []) $ use3 𝓛 (later (‵ (Ref κ (record r { now = ws.0 })) ⊛ ‵ (flft κ q)))
     (comes_back 𝓛 R (named 0) κ (α ∷ []) q r.ghost_name b o δ r.now ws.0) $ await ! tt $ split ! $
@@ -154,6 +155,7 @@ with_spec 𝓤 𝓛 𝓜 𝓡 wired O L₀ g₁ d₁ m₁ =
           use0 𝓛 (‵ (Rests 𝓛 R TableError r P (Ok self'))) (rests_at_ok 𝓛 R TableError r P self' refl) $ move ! (1 ∷ 0 ∷ []) $
           nothing ! $ nothing ! $ fjoin ! $ nothing ! $ fjoin ! $ join ! $ move ! (2 ∷ 3 ∷ []) $ join ! $ join ! $
           use0 𝓛 (raw (fact 𝓤 ⊤)) (fact_i 𝓤 ⊤ (emp 𝓤) tt) $ use0 𝓛 (raw (fact 𝓤 ⊤)) (fact_i 𝓤 ⊤ (emp 𝓤) tt) $ join ! $
+          use0 𝓛 (raw (fact 𝓤 (Promised ws.0))) (fact_i 𝓤 (Promised ws.0) (emp 𝓤) (subst (λ (s : Done). OnOk s (Promised ws.0)) p promised)) $ join ! $
           use0 𝓛 (raw (fact 𝓤 (Applied ws.0))) (fact_i 𝓤 (Applied ws.0) (emp 𝓤) (subst (λ (s : Done). OnOk s (Applied ws.0)) p applied)) $ join ! $
           use0 𝓛 (raw (fact 𝓤 (r.ghost_name ≡ r.ghost_name))) (fact_i 𝓤 (r.ghost_name ≡ r.ghost_name) (emp 𝓤) refl) $ join ! $
           move ! (1 ∷ 2 ∷ 0 ∷ []) $ done !),
@@ -180,7 +182,8 @@ with_spec 𝓤 𝓛 𝓜 𝓡 wired O L₀ g₁ d₁ m₁ =
             use0 𝓛 (raw (fact 𝓤 (Passes e))) (fact_i 𝓤 (Passes e) (emp 𝓤) (subst (λ (s : Done). IfErr s Passes) p passes)) $
             use0 𝓛 (raw (fact 𝓤 (IsCause e))) (fact_i 𝓤 (IsCause e) (emp 𝓤) h) $ join ! $
             use0 𝓛 (raw (fact 𝓤 ⊤)) (fact_i 𝓤 ⊤ (emp 𝓤) tt) $ join ! $ use0 𝓛 (raw (fact 𝓤 ⊤)) (fact_i 𝓤 ⊤ (emp 𝓤) tt) $ join ! $
+            use0 𝓛 (raw (fact 𝓤 ⊤)) (fact_i 𝓤 ⊤ (emp 𝓤) tt) $ join ! $
             move ! (1 ∷ 2 ∷ 0 ∷ []) $ done !),
         λ none. absurd (none.1 refl),
       ),
-    )))))))))))))))
+    ))))))))))))))))
