@@ -6,6 +6,8 @@ pub mod LentGiving
 pub mod PaddedRows
 pub mod Padding
 pub mod PickedCells
+pub mod Refusals
+pub mod Rests
 pub mod RowLemmas
 pub mod Spans
 pub mod Splitting

@@ -1,6 +1,7 @@
 //! A builder of records, row by row.
 ghost use Rattle.std.specs.Prelude.{◌≡◌, ◌≤◌, ℕ, List, [], IfOk, IfErr, OnErr, OnOk, ◌∷◌, ◌++◌, length, map, vec_capacity};
 ghost use Rattle.std.specs.Iterator.{IsFiniteIterable};
+ghost use Rattle.std.specs.Borrow.{RestsIfErr, sem};
 ghost use Rattle.std.specs.List.{All};
 ghost use Rattle.tabled_base.specs.Cells.{IsRectangular, longest, padded, padded_rows, row_texts, with_record};
 ghost use Rattle.tabled_base.specs.Given.{Given};
@@ -32,6 +33,8 @@ impl Model for Builder {
 }
 
 impl Builder {
+    ghost use Rattle.tabled_base.specs.contracts.builder.Builder.{the_row};
+
     /// A builder with no row.
     pub fn new(alloc: Global) -> Builder
         ensures { result ≡ [] }
@@ -96,12 +99,13 @@ impl Builder {
         push_row(&mut self.rows, row)
     }
 
-    /// `add_record`, for chains of calls.
+    /// `add_record`, for chains of calls. Where memory is refused, the builder is as it was.
     pub fn push_record<I: IntoIterator>(&mut self, cells: I) -> Result<&mut Self, TableError>
     where
         I::Item: CellText + Drop,
         requires { IsFiniteIterable I.into_iter_gives I.IntoIter.can_next
             I.IntoIter.remaining cells }
+        ensures* rests { sem 𝓛 (RestsIfErr the_row self.entry (λ t. t.ghost_name) result (λ last. last ≡ self.old)) }
         ensures same_reference { IfOk result (λ t. t.ghost_name ≡ self.entry.ghost_name) }
         ensures ok { IfOk result (λ t. (items : List I.Item)
             × Given I.into_iter_gives I.IntoIter.next_gives cells items
@@ -109,8 +113,10 @@ impl Builder {
         ensures rectangular { IfOk result (λ t. IsRectangular t.now) }
         ensures only { IfErr result (λ e. e ≡ Memory) }
     {
-        self.add_record(cells)?;
-        Ok(self)
+        match self.add_record(cells) {
+            Ok(()) => Ok(self),
+            Err(_) => Err(TableError::Memory),
+        }
     }
 
     /// The records of the rows. It takes no memory.

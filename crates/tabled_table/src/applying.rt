@@ -1,5 +1,6 @@
 //! Options of whole tables, and of some of their cells.
 ghost use Rattle.std.specs.Prelude.{◌≡◌, ◌⊎◌, ◌<◌, IfErr, IfOk, OnOk, length};
+ghost use Rattle.std.specs.Borrow.{RestsIfErr, sem};
 ghost use Rattle.tabled_base.specs.Cells.{columns};
 ghost use Rattle.tabled_base.specs.declared.error.TableError.TheVariants.{Memory, Range};
 ghost use Rattle.tabled_table.specs.Applied.{ChangesEach, IsApplied, IsModified, IsRefusedBy};
@@ -13,6 +14,8 @@ use tabled_config::ColoredConfig;
 use tabled_size::CompleteDimension;
 
 impl Table {
+    ghost use Rattle.tabled_table.specs.contracts.table.Table.{the_row};
+
     /// Applies an option, and then forgets the stored sizes that it hints. This is `with` for callers
     /// that need the table after a refusal: then it is as the option left it, with no sizes stored.
     /// Refused for memory, and with `Range` where a sum or product of the option passes the greatest
@@ -42,12 +45,14 @@ impl Table {
     }
 
     /// Applies an option, forgets the stored sizes that it hints, and gives the table back. Refused for
-    /// memory, and with `Range` where a sum or product of the option passes the greatest `usize`. What a
-    /// refusal leaves of the table is said by `apply`.
+    /// memory, and with `Range` where a sum or product of the option passes the greatest `usize`. A refusal
+    /// leaves what `apply` leaves: the table as the option left it, with no sizes stored.
     pub fn with<O: TableOption<VecRecords<Text<String>>, ColoredConfig, CompleteDimension>>(
         &mut self,
         option: O,
     ) -> Result<&mut Self, TableError>
+        ensures* rests { sem 𝓛 (RestsIfErr the_row self.entry (λ table. table.ghost_name) result
+            (λ last. IfErr result (λ e. IsRefusedBy (O.refuses option e) self.old last))) }
         ensures same_reference { IfOk result (λ table. table.ghost_name ≡ self.entry.ghost_name) }
         ensures ok { IfOk result (λ table. IsApplied (O.changes option) (O.hint option) self.old table.now) }
         ensures promised { IfOk result (λ table. IsApplied (O.promises option) (O.hint option) self.old table.now) }
@@ -55,8 +60,10 @@ impl Table {
         ensures range { IfErr result (λ e. e ≡ Range
             → O.passes option self.old.records self.old.config self.old.dimension) }
     {
-        self.apply(option)?;
-        Ok(self)
+        match self.apply(option) {
+            Ok(()) => Ok(self),
+            Err(error) => Err(error),
+        }
     }
 
     /// Applies a cell option at each part that a target names, in order, and then forgets the stored

@@ -123,6 +123,27 @@ fn a_refused_row_leaves_the_builder(rt: HostRuntime) {
     assert_eq!(rt; records.get_text(Position { row: 1, column: 0 }), "b");
 }
 
+// Under `--fail-alloc` each growth is refused in turn.
+#[test]
+fn a_refused_push_leaves_the_builder(rt: HostRuntime) {
+    let mut builder = Builder::new(rt.alloc());
+    if builder.add_record(["a", "b"]).is_err() {
+        return;
+    }
+    let rows = match builder.push_record("c d e f".split(' ')) {
+        Ok(_) => 2,
+        Err(error) => {
+            assert_eq!(rt; error, TableError::Memory);
+            1
+        }
+    };
+    let records = builder.build();
+    assert_eq!(rt; records.count_rows(), rows);
+    assert_eq!(rt; records.count_columns(), 2 * rows);
+    assert_eq!(rt; records.get_text(Position { row: 0, column: 0 }), "a");
+    assert_eq!(rt; records.get_text(Position { row: 0, column: 1 }), "b");
+}
+
 #[test]
 fn a_text_is_refused_for_memory_alone(rt: HostRuntime) {
     match text_rows(rt.alloc(), "a\tb\nc") {
