@@ -1,2 +1,3 @@
 pub mod BlockSent
+pub mod Faults
 pub mod Output

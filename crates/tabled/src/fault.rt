@@ -1,6 +1,6 @@
 //! Why a run of the program failed.
-ghost use Rattle.std.specs.Prelude.{◌≢◌};
-ghost use Rattle.tabled.specs.declared.fault.Fault.TheVariants.{Usage};
+ghost use Rattle.std.specs.Prelude.{◌≡◌};
+ghost use Rattle.tabled.specs.Faults.{fault_of};
 
 use tabled_base::TableError;
 use thiserror::Error;
@@ -29,7 +29,7 @@ pub(crate) enum Fault {
 }
 
 impl From<TableError> for Fault {
-    ghost from_gives = { λ _ fault. fault ≢ Usage };
+    ghost from_gives = { λ error fault. fault ≡ fault_of error };
 
     fn from(error: TableError) -> Fault {
         match error {

@@ -86,6 +86,15 @@ fn status(fault: &Fault) -> u8
     }
 }
 
+/// Tells a failure on a line of its own, and answers its status.
+pub(crate) fn report<E: Write>(fault: &Fault, err: &mut E) -> u8
+    ensures usage { result ≡ 2 ↔ (fault.now ≡ Fault.Usage) }
+    ensures range { result ≤ 2 }
+{
+    let _ = writeln!(err, "{fault}");
+    status(fault)
+}
+
 /// The program: prints the table of tab-separated rows, and a line feed behind it unless it is empty.
 ///
 /// `words` are the program's arguments without its name; none is known so far. `out` gets the table in
@@ -106,9 +115,6 @@ pub fn run<I: Read, O: Write + Drop, E: Write + Drop>(
 {
     match attempt(alloc, words, input, out) {
         Ok(()) => 0,
-        Err(fault) => {
-            let _ = writeln!(err, "{fault}");
-            status(&fault)
-        }
+        Err(fault) => report(&fault, &mut err),
     }
 }
