@@ -1,7 +1,7 @@
 //! The picture of a table, written piece by piece to a sink.
 //!
-//! No line is built as a text, and printing takes no memory: the sizes are given, and each piece goes
-//! out as it comes.
+//! No line of a row is built as a text, and printing takes no memory where the sizes are given: each piece goes
+//! out as it comes. A horizontal line is kept in a room of fixed size, so that an equal one goes out at once.
 #![tactic(auto)]
 
 mod block;
