@@ -1,7 +1,5 @@
 -- What an option leaves of a table. The sizes that are stored are cleared as it hints, and all of them where it is refused.
-use Rattle.std.specs.Prelude.{◌≡◌, ◌⊎◌, ℕ, List, [], ◌∷◌, Option, Some, None, if◌then◌else◌, length, nat_lt, slice_get, take}
-use Rattle.tabled_base.specs.declared.error.TableError.{TableError}
-use Rattle.tabled_base.specs.declared.error.TableError.TheVariants.{Memory}
+use Rattle.std.specs.Prelude.{◌≡◌, ℕ, List, [], ◌∷◌, Option, None}
 use Rattle.tabled_base.specs.declared.position.Entity.{Entity}
 use Rattle.tabled_config.specs.declared.colored.ColoredConfig.{ColoredConfig}
 use Rattle.tabled_size.specs.Cleared.{AreCleared}
@@ -41,21 +39,3 @@ ChangesEach changes (entity ∷ entities) cells config cells' config' =
 pub record IsModified (changes : Cells → ColoredConfig → Entity → Cells → ColoredConfig → Type 0) (entities : List Entity) (hint : Option Entity) (old new : Table) : Type 0 where
   pub changed : ChangesEach changes entities old.records old.config new.records new.config
   pub cleared : AreCleared hint old.dimension new.dimension
-
--- the changes at the first entities, and a refusal at the next; of several entities the configuration is put back
-pub record IsModifiedBefore (changes refuses : Cells → ColoredConfig → Entity → Cells → ColoredConfig → Type 0) (entities : List Entity) (old new : Table) : Type 0 where
-  pub count : ℕ
-  pub entity : Entity
-  pub next : slice_get entities count ≡ Some entity
-  pub cells : Cells
-  pub config : ColoredConfig
-  pub changed : ChangesEach changes (take count entities) old.records old.config cells config
-  pub last : ColoredConfig
-  pub refused : refuses cells config entity new.records last
-  pub put_back : new.config ≡ (if nat_lt 1 (length entities) then old.config else last)
-
--- what a refused modification leaves: for want of memory all cells and the configuration as they were, or the changes
--- before the refused one; no size stays stored
-pub record IsModifyingRefused (changes refuses : Cells → ColoredConfig → Entity → Cells → ColoredConfig → Type 0) (entities : List Entity) (error : TableError) (old new : Table) : Type 0 where
-  pub parts : ((error ≡ Memory) × ((new.records ≡ old.records) × (new.config ≡ old.config))) ⊎ IsModifiedBefore changes refuses entities old new
-  pub cleared : AreNone new.dimension

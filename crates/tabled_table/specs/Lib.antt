@@ -3,7 +3,6 @@ pub mod Fields
 pub mod Lending
 pub mod NewConfig
 pub mod NewTable
-pub mod Passed
 pub mod Rows
 pub mod Stopped
 pub mod TableSheet

@@ -4,7 +4,8 @@ use Rattle.tabled_base.specs.declared.error.TableError.{TableError}
 use Rattle.tabled_base.specs.declared.error.TableError.TheVariants.{Memory, Range}
 use Rattle.tabled_base.specs.declared.position.Entity.{Entity}
 use Rattle.tabled_config.specs.declared.colored.ColoredConfig.{ColoredConfig}
-use Rattle.tabled_table.specs.Applied.{Cells, ChangesEach}
+use Rattle.tabled_table.specs.Applied.{AreNone, Cells, ChangesEach}
+use Rattle.tabled_table.specs.declared.table.Table.{Table}
 
 -- the changes at the first entities, and at the next one a refusal, with `Range` only where a sum or product passes the
 -- greatest `usize` there
@@ -28,3 +29,10 @@ IsPutBack changes refuses passes entities error cells config cells' config' =
     ((error ≡ Memory) × ((cells' ≡ cells) × (config' ≡ config)))
     ⊎ ((last : ColoredConfig) × IsStopped changes refuses passes entities error cells config cells' last
     × (config' ≡ (if nat_lt 1 (length entities) then config else last)))
+
+-- so of a table, whose stored sizes are forgotten
+pub record IsModifyingRefused (changes : Cells → ColoredConfig → Entity → Cells → ColoredConfig → Type 0)
+    (refuses : TableError → Cells → ColoredConfig → Entity → Cells → ColoredConfig → Type 0) (passes : Cells → ColoredConfig → Entity → Type 0)
+    (entities : List Entity) (error : TableError) (old new : Table) : Type 0 where
+  pub parts : IsPutBack changes refuses passes entities error old.records old.config new.records new.config
+  pub cleared : AreNone new.dimension

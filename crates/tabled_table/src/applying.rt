@@ -3,10 +3,10 @@ ghost use Rattle.std.specs.Prelude.{◌≡◌, ◌⊎◌, ◌<◌, IfErr, IfOk, 
 ghost use Rattle.std.specs.Borrow.{RestsIfErr, sem};
 ghost use Rattle.tabled_base.specs.Cells.{columns};
 ghost use Rattle.tabled_base.specs.declared.error.TableError.TheVariants.{Memory, Range};
-ghost use Rattle.tabled_table.specs.Applied.{ChangesEach, IsApplied, IsModified, IsModifyingRefused, IsRefusedBy};
-ghost use Rattle.tabled_table.specs.Passed.{IsPassedAt};
+ghost use Rattle.tabled_table.specs.Applied.{ChangesEach, IsApplied, IsModified, IsRefusedBy};
 ghost use Rattle.tabled_table.specs.TableSheet.{cells_of};
-ghost use Rattle.tabled_table.specs.Stopped.{IsPutBack, IsStopped};
+ghost use Rattle.tabled_table.specs.Stopped.{IsModifyingRefused, IsPutBack, IsStopped};
+ghost use Rattle.tabled_table.specs.declared.table.Table.{Table};
 
 use crate::table::Table;
 use tabled_base::{CellOption, Entity, Object, TableError, TableOption, Text, VecRecords};
@@ -78,13 +78,11 @@ impl Table {
         ensures ok { OnOk result (IsModified (O.changes option.now)
             (T.picks target (length (cells_of self.old)) (columns (cells_of self.old)))
             (O.hint option.now) self.old self.new) }
-        ensures err { IfErr result (λ e. IsModifyingRefused (O.changes option.now) (O.refuses option.now e)
+        ensures err { IfErr result (λ e. IsModifyingRefused
+            (O.changes option.now) (O.refuses option.now) (O.passes option.now)
             (T.picks target (length (cells_of self.old)) (columns (cells_of self.old)))
             e self.old self.new) }
         ensures only { IfErr result (λ e. (e ≡ Memory) ⊎ (e ≡ Range)) }
-        ensures range { IfErr result (λ e. e ≡ Range
-            → IsPassedAt (O.changes option.now) (O.refuses option.now e) (O.passes option.now)
-            (T.picks target (length (cells_of self.old)) (columns (cells_of self.old))) self.old) }
     {
         match change_target(&mut self.records, &mut self.config, &target, option) {
             Ok(()) => {
@@ -115,10 +113,11 @@ impl Table {
         ensures ok { IfOk result (λ table. IsModified (O.changes option)
             (T.picks target (length (cells_of self.old)) (columns (cells_of self.old)))
             (O.hint option) self.old table.now) }
+        ensures err { IfErr result (λ e. (left : Table) × IsModifyingRefused
+            (O.changes option) (O.refuses option) (O.passes option)
+            (T.picks target (length (cells_of self.old)) (columns (cells_of self.old)))
+            e self.old left) }
         ensures only { IfErr result (λ e. (e ≡ Memory) ⊎ (e ≡ Range)) }
-        ensures range { IfErr result (λ e. e ≡ Range
-            → IsPassedAt (O.changes option) (O.refuses option e) (O.passes option)
-            (T.picks target (length (cells_of self.old)) (columns (cells_of self.old))) self.old) }
     {
         match self.apply_own(target, option) {
             Ok(()) => Ok(self),
