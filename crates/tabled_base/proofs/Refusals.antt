@@ -14,6 +14,7 @@ use denote.Enum.Row.{tagged_with}
 use denote.Enum.Enum.{form_of, in_a_row}
 use denote.Enum.Declared.{shape}
 use denote.Steps.{nothing, only}
+use denote.Struct.Members.{Lone}
 use Rattle.std.specs.contracts.result.Result as result
 use Rattle.tabled_base.specs.contracts.error.TableError as error
 use Rattle.tabled_base.specs.contracts.error.TableError.{the_row as TE}
@@ -86,6 +87,16 @@ module _ {M : Type 1} {𝓤 : Ura M} (𝓛 : Logic 𝓤) where
   pub cause_made : (e : TableError) (h : IsCause e) → ent 𝓤 (emp 𝓤) (sem 𝓛 (TE.own_val e (cause e h ∷ [])))
   cause_made e (inl m) = subst (λ (x : TableError). ent 𝓤 (emp 𝓤) (sem 𝓛 (TE.own_val x (live 0 vnil ∷ [])))) (sym m) memory_made
   cause_made e (inr r) = subst (λ (x : TableError). ent 𝓤 (emp 𝓤) (sem 𝓛 (TE.own_val x (live 4 vnil ∷ [])))) (sym r) range_made
+
+-- a parameter's value in the machine is one
+pub single : (vs : List Val) → Lone vs → (v : Val) × (vs ≡ v ∷ [])
+single [] l = absurd l
+single (v ∷ []) l = (v, refl)
+single (v ∷ u ∷ us) l = absurd l
+
+-- the two answers are told apart
+pub apart : ◌≡◌ {A = ℕ} 0 1 → ⊥
+apart e = cc
 
 -- a walk goes on by what was answered
 pub by_done : {M : Type 1} {𝓤 : Ura M} {𝓛 : Logic 𝓤} {Γ : List (Item 𝓤)} {G : Goal 𝓤 𝓛.H} (t : Done)

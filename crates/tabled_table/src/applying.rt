@@ -98,12 +98,17 @@ impl Table {
 
     /// Applies a cell option at each part that a target names, in order, forgets the stored sizes that the
     /// option hints, and gives the table back. Refused for memory, and with `Range` where a sum or product
-    /// of the option passes the greatest `usize` at one of the parts. What a refusal leaves of the table is
-    /// said by `apply_to`.
+    /// of the option passes the greatest `usize` at one of the parts. A refusal leaves what `apply_to`
+    /// leaves: the cells of the parts before the refused one changed, no sizes stored, and where the target
+    /// names several parts the configuration as it was.
     pub fn modify<
         T: Object<VecRecords<Text<String>>> + Drop,
         O: CellOption<VecRecords<Text<String>>, ColoredConfig> + Drop,
     >(&mut self, target: T, option: O) -> Result<&mut Self, TableError>
+        ensures* rests { sem 𝓛 (RestsIfErr the_row self.entry (λ table. table.ghost_name) result
+            (λ last. IfErr result (λ e. IsModifyingRefused (O.changes option) (O.refuses option e)
+            (T.picks target (length (cells_of self.old)) (columns (cells_of self.old)))
+            e self.old last))) }
         ensures same_reference { IfOk result (λ table. table.ghost_name ≡ self.entry.ghost_name) }
         ensures ok { IfOk result (λ table. IsModified (O.changes option)
             (T.picks target (length (cells_of self.old)) (columns (cells_of self.old)))
@@ -114,8 +119,29 @@ impl Table {
             e self.old left) }
         ensures only { IfErr result (λ e. (e ≡ Memory) ⊎ (e ≡ Range)) }
     {
-        self.apply_to(target, &option)?;
-        Ok(self)
+        match self.apply_own(target, option) {
+            Ok(()) => Ok(self),
+            Err(error) => Err(error),
+        }
+    }
+
+    /// `apply_to` with an option that is let go then.
+    fn apply_own<
+        T: Object<VecRecords<Text<String>>> + Drop,
+        O: CellOption<VecRecords<Text<String>>, ColoredConfig> + Drop,
+    >(&mut self, target: T, option: O) -> Result<(), TableError>
+        ensures ok { OnOk result (IsModified (O.changes option)
+            (T.picks target (length (cells_of self.old)) (columns (cells_of self.old)))
+            (O.hint option) self.old self.new) }
+        ensures err { IfErr result (λ e. IsModifyingRefused (O.changes option) (O.refuses option e)
+            (T.picks target (length (cells_of self.old)) (columns (cells_of self.old)))
+            e self.old self.new) }
+        ensures only { IfErr result (λ e. (e ≡ Memory) ⊎ (e ≡ Range)) }
+        ensures range { IfErr result (λ e. e ≡ Range
+            → IsPassedAt (O.changes option) (O.refuses option e) (O.passes option)
+            (T.picks target (length (cells_of self.old)) (columns (cells_of self.old))) self.old) }
+    {
+        self.apply_to(target, &option)
     }
 }
 

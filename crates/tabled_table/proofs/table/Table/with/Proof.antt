@@ -31,7 +31,6 @@ use denote.RattleType.{RattleType, owns}
 use denote.Ref.{MutRef, mut_vals}
 use denote.Signature.{plain, mut_ref_to, types_at}
 use denote.Steps.{nothing, heard}
-use denote.Struct.Members.{Lone}
 use denote.Triple.Call.{calls_at}
 use denote.Triple.Clauses.{lasts}
 use denote.Triple.Spec.{triple_of}
@@ -40,7 +39,7 @@ use denote.Triple.Walked.{Stays, walk_of, stay_dropped, Goes-dropped, Goes-spent
 use Rattle.std.proofs.VecSteps.Shapes.{after}
 use Rattle.std.specs.contracts.result.Result as result
 use Rattle.tabled_base.proofs.Rests.{Rests, rests_at_ok, rests_at_err, ok_of, err_of}
-use Rattle.tabled_base.proofs.Refusals.{Done, IsCause, accepted, cause, refused, told_ok, told_err, cause_made, by_done}
+use Rattle.tabled_base.proofs.Refusals.{Done, IsCause, accepted, cause, refused, told_ok, told_err, cause_made, single, apart, by_done}
 use Rattle.tabled_base.specs.declared.error.TableError.{TableError}
 use Rattle.tabled_base.specs.declared.error.TableError.TheVariants.{Range}
 use Rattle.tabled_base.specs.contracts.error.TableError.{the_row as TE}
@@ -51,16 +50,6 @@ use Rattle.tabled_table.proofs.table.Table.with.Statement.{statement}
 use Rattle.tabled_table.proofs.table.Table.with.Code as code
 use Rattle.tabled_table.specs.contracts.table.Table.apply as g
 use Rattle.tabled_table.proofs.table.Table.apply.Met.{met}
-
--- a parameter's value in the machine is one
-single : (vs : List Val) → Lone vs → (v : Val) × (vs ≡ v ∷ [])
-single [] l = absurd l
-single (v ∷ []) l = (v, refl)
-single (v ∷ u ∷ us) l = absurd l
-
--- the two answers are told apart
-apart : ◌≡◌ {A = ℕ} 0 1 → ⊥
-apart e = cc
 
 abbrev given_args : RattleType → Dict → Args
 given_args O d = bounded (a_type ∷ []) (O, tt) (dcons d dnil)
