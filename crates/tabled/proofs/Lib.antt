@@ -1,3 +1,4 @@
 pub mod Blocks
 pub mod Reading
+pub mod Since
 pub mod TextTables

@@ -89,3 +89,8 @@ feed_some text h =
     let some : 0 < length (printed text) = something_printed text h in
     let test : (length (printed text) == 0) ≡ false = grind (arith, nat_tests) in
     ap (λ t. printed text ++ cond t [] (10 ∷ [])) test
+
+-- the output goes on behind the table
+pub feed_whole : (text : List ℕ) → (more : List ℕ) × (printed text ++ more ≡ output_text text)
+unfolding output_text
+feed_whole text = (_, refl)

@@ -1,3 +1,4 @@
 pub mod BlockSent
 pub mod Faults
 pub mod Output
+pub mod Runs

@@ -1,52 +1,44 @@
 //! A writer behind a block of bytes.
-ghost use Rattle.std.specs.Prelude.{◌≡◌, ◌≤◌, ◌<◌, [], IfErr, IfOk, OnOk, length, vec_len};
+ghost use Rattle.std.specs.Prelude.{◌≡◌, ◌<◌, ℕ, List, [], IfErr, OnOk, length};
 ghost use Rattle.tabled_base.specs.declared.error.TableError.TheVariants.{Writer};
-ghost use Rattle.tabled_grid.specs.Sent.{Rose, Sent, Writes};
+ghost use Rattle.tabled_grid.specs.Sent.{Rose, Writes};
+ghost use Rattle.tabled.specs.BlockSent.{Advances, Block, block, block_sent, sent_since, waiting};
 
-use std::alloc::{AllocError, Global};
+use crate::held::{BLOCK, Held};
 use std::io::Write;
+use std::marker::{Brand, PhantomData};
 use tabled_base::TableError;
 use tabled_grid::TextSink;
-
-/// How many bytes are handed on at a time.
-const BLOCK: usize = 1 << 16;
 
 /// Text for a writer, a block at a time. Every error of a write is a failure, `Interrupted` too, and so
 /// is a write that takes no bytes; nothing is written after a failure, and a drop writes nothing.
 #[derive(Drop)]
-pub(crate) struct BlockSink<W> {
-    writer: W,
-    // What was handed over, and how many bytes of it the writer took.
-    held: Vec<u8>,
-    taken: usize,
+pub(crate) struct BlockSink<'a, W> {
+    pub writer: &'a mut W,
+    held: &'a mut Held,
     failures: usize,
-    ghost within: { taken ≤ vec_len held },
 }
 
-impl<W: Write> BlockSink<W> {
-    ghost use Rattle.tabled.specs.BlockSent.{block_sent, waiting};
-
-    /// A sink over a writer. Refused for the memory of a block; then the writer is dropped.
-    pub fn new(alloc: Global, writer: W) -> Result<BlockSink<W>, AllocError>
-    where
-        W: Drop,
-        ensures writer { IfOk result (λ s. s.writer ≡ writer) }
-        ensures waiting { IfOk result (λ s. waiting s ≡ []) }
+impl<'a, W: Write> BlockSink<'a, W> {
+    /// A sink over a writer, with a place for a block.
+    pub fn new(writer: &'a mut W, held: &'a mut Held) -> BlockSink<'a, W>
+        ensures same_reference { result.writer.ghost_name ≡ writer.entry.ghost_name }
+        ensures writer { result.writer.now ≡ writer.old }
+        ensures held { result.held.now ≡ held.old }
     {
-        let held = Vec::with_capacity(alloc, BLOCK)?;
-        Ok(BlockSink {
+        BlockSink {
             writer,
             held,
-            taken: 0,
             failures: 0,
-        })
+        }
     }
 
     /// Counts a failure.
     fn fail(&mut self) -> TableError
         ensures error { result ≡ Writer }
-        ensures sent { (block_sent W.contents self.new).bytes ≡ (block_sent W.contents self.old).bytes }
+        ensures sent { (block_sent (block W.contents self.new)).bytes ≡ (block_sent (block W.contents self.old)).bytes }
         ensures rose { Rose self.old.failures self.new.failures }
+        ensures advanced { Advances (block W.contents self.old) (block W.contents self.new) }
     {
         self.failures = self.failures.saturating_add(1);
         TableError::Writer
@@ -54,30 +46,32 @@ impl<W: Write> BlockSink<W> {
 
     /// Hands what waits to the writer.
     fn hand_over(&mut self) -> Result<(), TableError>
-        ensures written { Writes (block_sent W.contents self.old) result
-            (block_sent W.contents self.new) [] }
-        ensures emptied { OnOk result (self.new.held.items ≡ []) }
+        ensures written { Writes (block_sent (block W.contents self.old)) result
+            (block_sent (block W.contents self.new)) [] }
+        ensures advanced { Advances (block W.contents self.old) (block W.contents self.new) }
+        ensures emptied { OnOk result (waiting self.new.held.now ≡ []) }
+        ensures cleared { OnOk result (self.new.held.now.bytes.items ≡ []) }
         ensures only { IfErr result (λ e. e ≡ Writer) }
     {
         if self.failures > 0 {
             return Err(self.fail());
         }
-        'taken: while self.taken < self.held.len() {
-            match self.writer.write(&self.held[self.taken..]) {
-                Ok(n) if n > 0 => self.taken += n,
+        'taken: while !self.held.rest().is_empty() {
+            match self.writer.write(self.held.rest()) {
+                Ok(n) if n > 0 => self.held.take(n),
                 _ => return Err(self.fail()),
             }
         }
         self.held.clear();
-        self.taken = 0;
         Ok(())
     }
 
     /// Makes room for a byte at least.
     fn make_room(&mut self) -> Result<(), TableError>
-        ensures written { Writes (block_sent W.contents self.old) result
-            (block_sent W.contents self.new) [] }
-        ensures room { OnOk result (length self.new.held.items < BLOCK) }
+        ensures written { Writes (block_sent (block W.contents self.old)) result
+            (block_sent (block W.contents self.new)) [] }
+        ensures advanced { Advances (block W.contents self.old) (block W.contents self.new) }
+        ensures room { OnOk result (length self.new.held.now.bytes.items < BLOCK) }
     {
         if self.held.len() < BLOCK {
             return Ok(());
@@ -85,24 +79,23 @@ impl<W: Write> BlockSink<W> {
         self.hand_over()
     }
 
-    /// Holds some bytes back; a single one, the commonest, without a copy of a slice.
+    /// Holds some bytes back.
     #[inline]
     fn hold(&mut self, bytes: &[u8]) -> Result<(), TableError>
-        ensures { Writes (block_sent W.contents self.old) result
-            (block_sent W.contents self.new) bytes.now }
+        ensures written { Writes (block_sent (block W.contents self.old)) result
+            (block_sent (block W.contents self.new)) bytes.now }
+        ensures advanced { Advances (block W.contents self.old) (block W.contents self.new) }
     {
-        match bytes {
-            [byte] => self.held.push(*byte)?,
-            _ => self.held.extend_from_slice(bytes)?,
-        }
+        self.held.add(bytes)?;
         Ok(())
     }
 
     /// Holds any bytes back, and hands each block that is full to the writer.
     #[inline(never)]
     fn hold_parts(&mut self, bytes: &[u8]) -> Result<(), TableError>
-        ensures { Writes (block_sent W.contents self.old) result
-            (block_sent W.contents self.new) bytes.now }
+        ensures written { Writes (block_sent (block W.contents self.old)) result
+            (block_sent (block W.contents self.new)) bytes.now }
+        ensures advanced { Advances (block W.contents self.old) (block W.contents self.new) }
     {
         let mut rest = bytes;
         'pieces: while !rest.is_empty() {
@@ -117,8 +110,9 @@ impl<W: Write> BlockSink<W> {
 
     /// Hands what waits to the writer, and has that pass it on.
     pub fn finish(&mut self) -> Result<(), TableError>
-        ensures written { Writes (block_sent W.contents self.old) result (block_sent W.contents self.new) [] }
-        ensures emptied { OnOk result (self.new.held.items ≡ []) }
+        ensures written { Writes (block_sent (block W.contents self.old)) result (block_sent (block W.contents self.new)) [] }
+        ensures advanced { Advances (block W.contents self.old) (block W.contents self.new) }
+        ensures emptied { OnOk result (waiting self.new.held.now ≡ []) }
         ensures only { IfErr result (λ e. e ≡ Writer) }
     {
         self.hand_over()?;
@@ -129,17 +123,56 @@ impl<W: Write> BlockSink<W> {
     }
 }
 
-impl<W: Write> TextSink for BlockSink<W> {
-    ghost use Rattle.tabled_grid.specs.Sent.{Writes};
-    ghost use Rattle.tabled.specs.BlockSent.{block_sent};
+/// A sink that says of which writer it is, and what that holds.
+pub(crate) trait Blocked {
+    // The writer, and what waits before it.
+    ghost block: { Self → Block };
 
-    ghost sent = { block_sent W.contents };
+    /// Adds a text, as a `TextSink` does. The writer stays the same, and keeps what it holds.
+    fn add_text(&mut self, text: &str) -> Result<(), TableError>
+        ensures written { Writes (block_sent (block self.old)) result (block_sent (block self.new)) text.now }
+        ensures advanced { Advances (block self.old) (block self.new) };
+}
+
+impl<'a, W: Write> Blocked for BlockSink<'a, W> {
+    ghost block = { block W.contents };
 
     #[inline]
-    fn write_text(&mut self, text: &str) -> Result<(), TableError> {
+    fn add_text(&mut self, text: &str) -> Result<(), TableError> {
         if self.held.len() + text.len() <= BLOCK {
             return self.hold(text.as_bytes());
         }
         self.hold_parts(text.as_bytes())
+    }
+}
+
+/// What a writer was before a sink was put before it.
+pub(crate) trait Start {
+    // The name of the reference to it.
+    ghost name: { ℕ };
+
+    // The bytes that it held.
+    ghost held: { List ℕ };
+}
+
+impl Start for Brand {
+    ghost name = { 0 };
+
+    ghost held = { [] };
+}
+
+/// A sink whose bytes are known while it is before the writer of its start, and that holds what it held.
+#[derive(Drop)]
+pub(crate) struct Since<S, B> {
+    pub sink: S,
+    pub start: PhantomData<B>,
+}
+
+impl<S: Blocked, B: Start> TextSink for Since<S, B> {
+    ghost sent = { λ s. sent_since B.name B.held (S.block s.sink) };
+
+    #[inline]
+    fn write_text(&mut self, text: &str) -> Result<(), TableError> {
+        self.sink.add_text(text)
     }
 }

@@ -1,6 +1,8 @@
 //! Reading to the end.
-ghost use Rattle.std.specs.Prelude.{◌≡◌, ◌≢◌, IfErr, IfOk, IfSome};
+ghost use Rattle.std.specs.Prelude.{◌≡◌, ◌≢◌, IfErr, IfOk, IfSome, OnOk, string_bytes};
+ghost use Rattle.std.specs.Io.KnownBytes.{IsAtEnd};
 ghost use Rattle.tabled.specs.declared.fault.Fault.TheVariants.{Usage};
+ghost use Rattle.tabled.specs.Runs.{HasRead};
 
 use crate::fault::Fault;
 use std::alloc::Global;
@@ -13,8 +15,9 @@ const BLOCK: usize = 1 << 16;
 const READS: u64 = 1 << 40;
 
 /// All that is left of a reader. Every error of a read fails, `Interrupted` too.
-pub(crate) fn read_all<I: Read>(alloc: Global, input: &mut I) -> Result<Vec<u8>, Fault>
+fn read_all<I: Read>(alloc: Global, input: &mut I) -> Result<Vec<u8>, Fault>
     ensures all { IfOk result (λ bytes. IfSome (I.remaining input.old) (λ all. bytes.items ≡ all)) }
+    ensures ended { OnOk result (IsAtEnd (I.remaining input.new)) }
     ensures read { IfErr result (λ fault. fault ≢ Usage) }
 {
     let mut bytes = Vec::new(alloc);
@@ -31,4 +34,16 @@ pub(crate) fn read_all<I: Read>(alloc: Global, input: &mut I) -> Result<Vec<u8>,
         }
     }
     Err(Fault::Input)
+}
+
+/// All that is left of a reader, which has to be UTF-8.
+pub(crate) fn read_text<I: Read>(alloc: Global, input: &mut I) -> Result<String, Fault>
+    ensures text { IfOk result (λ text. HasRead (I.remaining input.old) (I.remaining input.new) (string_bytes text)) }
+    ensures read { IfErr result (λ fault. fault ≢ Usage) }
+{
+    let bytes = read_all(alloc, input)?;
+    let Ok(text) = String::from_utf8(bytes) else {
+        return Err(Fault::Input);
+    };
+    Ok(text)
 }

@@ -4,6 +4,7 @@
 
 mod block_sink;
 mod fault;
+mod held;
 mod input;
 mod plan;
 mod program;

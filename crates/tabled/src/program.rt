@@ -1,24 +1,25 @@
 //! The program over any reader and writers.
-ghost use Rattle.std.specs.Prelude.{◌≡◌, ◌≢◌, ◌≤◌, ◌↔◌, [], length, IfErr, IfSome, IsErrOf, OnOk};
-ghost use Rattle.std.specs.Io.KnownBytes.{Appends};
-ghost use Rattle.tabled_grid.specs.Sent.{Sends, Sent};
+ghost use Rattle.std.specs.Prelude.{◌≡◌, ◌≢◌, ◌≤◌, ◌↔◌, ◌⊎◌, [], length, IfErr, IfOk, IfSome, IsErrOf, OnErr, OnOk, string_bytes};
 ghost use Rattle.tabled.specs.declared.fault.Fault.TheVariants.{Usage};
-ghost use Rattle.tabled.specs.BlockSent.{waiting};
-ghost use Rattle.tabled.specs.Output.{output_text};
+ghost use Rattle.tabled.specs.BlockSent.{Advances, block_sent};
+ghost use Rattle.tabled.specs.Output.{Puts, output_text};
+ghost use Rattle.tabled.specs.Runs.{HasBegun, HasPrinted, HasRead};
 
-use crate::block_sink::BlockSink;
+use crate::block_sink::{BlockSink, Blocked, Since, Start};
 use crate::fault::Fault;
-use crate::input::read_all;
+use crate::held::Held;
+use crate::input::read_text;
 use crate::plan::Plan;
 use crate::rendering::render;
 use std::alloc::Global;
 use std::io::{Read, Write};
+use std::marker::{Brand, PhantomData};
 use tabled_base::TableError;
 use tabled_grid::TextSink;
 
 /// The table of a text, and a line feed behind it unless it is empty.
 fn put_output<S: TextSink>(alloc: Global, text: &str, sink: &mut S) -> Result<(), TableError>
-    ensures { OnOk result (Sends (S.sent sink.old) (S.sent sink.new) (output_text text.now)) }
+    ensures { Puts (S.sent sink.old).bytes result (S.sent sink.new).bytes (output_text text.now) }
 {
     render(alloc, text, Plan::Buffered, sink)?;
     if text.is_empty() {
@@ -27,58 +28,68 @@ fn put_output<S: TextSink>(alloc: Global, text: &str, sink: &mut S) -> Result<()
     sink.write_text("\n")
 }
 
-/// The output for all that is left of a reader. All of it is read and judged before a byte is written.
-fn put_input<I: Read, S: TextSink>(alloc: Global, input: &mut I, sink: &mut S) -> Result<(), Fault>
-    ensures sent { OnOk result (IfSome (I.remaining input.old)
-        (λ all. Sends (S.sent sink.old) (S.sent sink.new) (output_text all))) }
-    ensures read { IfErr result (λ fault. fault ≢ Usage) }
+/// The same to a block, which is handed back.
+fn put_blocked<S: Blocked, B: Start>(
+    alloc: Global,
+    text: &String,
+    sink: S,
+) -> (Result<(), TableError>, S)
+    requires name { (S.block sink).name ≡ B.name }
+    requires held { IfSome (S.block sink).contents (λ held. held ≡ B.held) }
+    ensures put { Puts (block_sent (S.block sink)).bytes result.0 (block_sent (S.block result.1)).bytes
+        (output_text (string_bytes text.now)) }
+    ensures advanced { IfSome (S.block sink).contents (λ _. Advances (S.block sink) (S.block result.1)) }
 {
-    let bytes = read_all(alloc, input)?;
-    let Ok(text) = str::from_utf8(bytes.as_slice()) else {
-        return Err(Fault::Input);
+    let mut since: Since<S, B> = Since {
+        sink,
+        start: PhantomData,
     };
-    put_output(alloc, text, sink)?;
-    Ok(())
+    let result = put_output(alloc, text.as_str(), &mut since);
+    (result, since.sink)
 }
 
-/// The same to a writer, which has taken all of it on `Ok`.
-fn put_through<I: Read, O: Write>(
-    alloc: Global,
-    input: &mut I,
-    out: &mut BlockSink<O>,
-) -> Result<(), Fault>
-    requires { waiting out.old ≡ [] }
-    ensures taken { OnOk result (IfSome (I.remaining input.old)
-        (λ all. Appends (O.contents out.old.writer) (O.contents out.new.writer) (output_text all))) }
-    ensures read { IfErr result (λ fault. fault ≢ Usage) }
+/// The same to a writer, which has taken all of it on `Ok`, and else a beginning.
+fn put_through<O: Write>(alloc: Global, text: &String, out: &mut O) -> Result<(), TableError>
+    ensures { Puts (O.contents out.old) result (O.contents out.new) (output_text (string_bytes text.now)) }
 {
-    put_input(alloc, input, out)?;
-    out.finish()?;
-    Ok(())
+    let mut held = Held::new(alloc)?;
+    let sink = BlockSink::new(out, &mut held);
+    let (result, mut sink) = put_blocked::<BlockSink<'_, O>, Brand>(alloc, text, sink);
+    let result = match result {
+        Ok(()) => sink.finish(),
+        Err(error) => Err(error),
+    };
+    let BlockSink { writer, .. } = sink;
+    // The proof reads here what the writer holds.
+    let _ = &*writer;
+    result
 }
 
 /// Runs the program. Wrong words end it before anything is read.
-fn attempt<I: Read, O: Write + Drop>(
+fn attempt<I: Read, O: Write>(
     alloc: Global,
     words: &[String],
     input: &mut I,
-    out: O,
+    out: &mut O,
 ) -> Result<(), Fault>
     ensures usage { IsErrOf result Fault.Usage ↔ (length words.now ≢ 0) }
-    ensures unread { length words.now ≢ 0 → input.new ≡ input.old }
+    ensures unread { length words.now ≢ 0 → (input.new ≡ input.old) × (out.new ≡ out.old) }
+    ensures printed { OnOk result (HasPrinted (I.remaining input.old) (I.remaining input.new)
+        (O.contents out.old) (O.contents out.new)) }
+    ensures begun { OnErr result ((out.new ≡ out.old) ⊎ HasBegun (I.remaining input.old) (I.remaining input.new)
+        (O.contents out.old) (O.contents out.new)) }
 {
     if !words.is_empty() {
         return Err(Fault::Usage);
     }
-    let Ok(mut sink) = BlockSink::new(alloc, out) else {
-        return Err(Fault::Memory);
-    };
-    put_through(alloc, input, &mut sink)
+    let text = read_text(alloc, input)?;
+    put_through(alloc, &text, out)?;
+    Ok(())
 }
 
 fn status(fault: &Fault) -> u8
     ensures usage { result ≡ 2 ↔ (fault.now ≡ Fault.Usage) }
-    ensures range { result ≤ 2 }
+    ensures range { (1 ≤ result) × (result ≤ 2) }
 {
     match fault {
         Fault::Usage => 2,
@@ -89,7 +100,7 @@ fn status(fault: &Fault) -> u8
 /// Tells a failure on a line of its own, and answers its status.
 pub(crate) fn report<E: Write>(fault: &Fault, err: &mut E) -> u8
     ensures usage { result ≡ 2 ↔ (fault.now ≡ Fault.Usage) }
-    ensures range { result ≤ 2 }
+    ensures range { (1 ≤ result) × (result ≤ 2) }
 {
     let _ = writeln!(err, "{fault}");
     status(fault)
@@ -102,19 +113,24 @@ pub(crate) fn report<E: Write>(fault: &Fault, err: &mut E) -> u8
 /// reading failed or the input is no UTF-8. Answers the status: 0, 1 for a refusal, 2 for wrong words,
 /// which end the run before anything is read. The whole input is read and judged before a byte is
 /// written; a failed write to `err` changes nothing.
-pub fn run<I: Read, O: Write + Drop, E: Write + Drop>(
+pub fn run<I: Read, O: Write, E: Write>(
     alloc: Global,
     words: &[String],
     input: &mut I,
-    out: O,
-    mut err: E,
+    out: &mut O,
+    err: &mut E,
 ) -> u8
     ensures range { result ≤ 2 }
     ensures usage { result ≡ 2 ↔ (length words.now ≢ 0) }
-    ensures unread { length words.now ≢ 0 → input.new ≡ input.old }
+    ensures unread { result ≡ 2 → (input.new ≡ input.old) × (out.new ≡ out.old) }
+    ensures printed { result ≡ 0 → HasPrinted (I.remaining input.old) (I.remaining input.new)
+        (O.contents out.old) (O.contents out.new) }
+    ensures begun { result ≡ 1 → (out.new ≡ out.old) ⊎ HasBegun (I.remaining input.old) (I.remaining input.new)
+        (O.contents out.old) (O.contents out.new) }
+    ensures silent { result ≡ 0 → err.new ≡ err.old }
 {
     match attempt(alloc, words, input, out) {
         Ok(()) => 0,
-        Err(fault) => report(&fault, &mut err),
+        Err(fault) => report(&fault, err),
     }
 }

@@ -1,5 +1,5 @@
 -- Texts that are sent one after another.
-use Rattle.std.proofs.Common.{◌≡◌, ℕ, ◌≤◌, List, [], ◌∷◌, ◌++◌, length, take, drop, Option, Some, None, Result, Ok, Err, refl, sym, ◌∙◌, ap, subst, append-nil, append_assoc, arith, inl, inr, ⊎_elim}
+use Rattle.std.proofs.Common.{◌≡◌, ℕ, ◌≤◌, Bool, List, [], ◌∷◌, ◌++◌, length, take, drop, Option, Some, None, Result, Ok, Err, refl, sym, ◌∙◌, ap, subst, append-nil, append_assoc, arith, inl, inr, ⊎_elim}
 use Rattle.std.proofs.lemmas.Grind.{common_steps}
 use Rattle.std.proofs.lemmas.List.{take-append-drop}
 use Rattle.std.specs.Io.KnownBytes.{Appends, Keeps}
@@ -34,13 +34,13 @@ sends-then a b c s t p q =
 rose-then : (m n o : ℕ) → m ≤ n → Rose n o → Rose m o
 rose-then m n o l r = ⊎_elim (λ h. inl (omega arith)) (λ h. inr h) r
 
-cause-then : (e : TableError) (a b c : Sent) → b.grows ≡ a.grows → a.failures ≤ b.failures → IsCause e b c → IsCause e a c
-cause-then Memory a b c s l h = (sym s ∙ h.0, (let later = h.1 in omega arith))
-cause-then Writer a b c s l h = rose-then a.failures b.failures c.failures l h
-cause-then ShortWidths a b c s l h = absurd h
-cause-then ShortHeights a b c s l h = absurd h
-cause-then (Narrow row column) a b c s l h = absurd h
-cause-then Range a b c s l h = absurd h
+cause-then : (e : TableError) (g h : Bool) (m n o : ℕ) → h ≡ g → m ≤ n → IsCause e h n o → IsCause e g m o
+cause-then Memory g h m n o s l c = (sym s ∙ c.0, (let later = c.1 in omega arith))
+cause-then Writer g h m n o s l c = rose-then m n o l c
+cause-then ShortWidths g h m n o s l c = absurd c
+cause-then ShortHeights g h m n o s l c = absurd c
+cause-then (Narrow row column) g h m n o s l c = absurd c
+cause-then Range g h m n o s l c = absurd c
 
 -- a refusal after s was sent
 pub stops-then : (a b c : Sent) (e : TableError) (s t : List ℕ) → Sends a b s → Stops b e c t → Stops a e c (s ++ t)
@@ -50,7 +50,7 @@ stops-then a b c e s t p q =
       rest = q.rest;
       whole = append_assoc s q.front q.rest ∙ ap (λ u. s ++ u) q.whole;
       added = Appends-then a.bytes b.bytes c.bytes s q.front p.added q.added;
-      cause = cause-then e a b c p.alike p.counted q.cause;
+      cause = cause-then e a.grows b.grows a.failures b.failures c.failures p.alike p.counted q.cause;
     }
 
 -- a refusal in a text is one in a longer text

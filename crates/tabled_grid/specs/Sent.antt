@@ -16,10 +16,10 @@ abbrev pub Rose : ℕ → ℕ → Type 0
 Rose old new = (old < new) ⊎ (new ≡ 2 ^ 64 - 1)
 
 -- why a sink refuses: for memory, if it grows, and the count didn't fall; or a write failed, and the count rose
-abbrev pub IsCause : TableError → Sent → Sent → Type 0
-IsCause Memory old new = (old.grows ≡ true) × (old.failures ≤ new.failures)
-IsCause Writer old new = Rose old.failures new.failures
-IsCause _ old new = ⊥
+abbrev pub IsCause : TableError → Bool → ℕ → ℕ → Type 0
+IsCause Memory grows old new = (grows ≡ true) × (old ≤ new)
+IsCause Writer grows old new = Rose old new
+IsCause _ grows old new = ⊥
 
 -- exactly the text was added, and the sink grows no more and no less than before
 pub record Sends (old new : Sent) (text : List ℕ) : Type 0 where
@@ -33,7 +33,7 @@ pub record Stops (old : Sent) (error : TableError) (new : Sent) (text : List ℕ
   pub rest : List ℕ
   pub whole : front ++ rest ≡ text
   pub added : Appends old.bytes new.bytes front
-  pub cause : IsCause error old new
+  pub cause : IsCause error old.grows old.failures new.failures
 
 -- what a call that writes the text leaves, by its answer
 abbrev pub Writes : {T : Type 0} → Sent → Result T TableError → Sent → List ℕ → Type 0

@@ -17,8 +17,8 @@ fn main(rt: HostRuntime) -> ExitCode {
         rt.alloc(),
         words.as_slice(),
         &mut rt.stdin(),
-        rt.stdout(),
-        rt.stderr(),
+        &mut rt.stdout(),
+        &mut rt.stderr(),
     );
     ExitCode::from(status)
 }

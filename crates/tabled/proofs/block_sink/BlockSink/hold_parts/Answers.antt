@@ -1,21 +1,31 @@
 use Rattle.std.proofs.Common.{◌++◌, ◌∙◌, sym, ap, append-nil}
-use Rattle.tabled_grid.proofs.Sending.{further, stopped, took-more}
+use Rattle.tabled_grid.proofs.Sending.{further, stopped, took-more, took-none}
 use Rattle.tabled.proofs.Blocks.{two_parts}
+use Rattle.tabled.proofs.Since.{advances_none, advances_then}
 use Rattle.tabled.proofs.block_sink.BlockSink.hold_parts.Goals as goal
 
+pub pieces-init : goal.pieces-init
+pieces-init g c = record { took = took-none _ _; advanced = advances_none _ }
+
 pub returns-in_err-make_room : goal.returns-in_err-make_room
-returns-in_err-make_room g c =
-    stopped _ _ c.pieces.rest.now c.pieces.invariant.sends c.in_err-make_room.ensures.written c.from_residual.ensures.1 (sym c.pieces.invariant.whole)
+returns-in_err-make_room g c = record {
+  written = stopped _ _ c.pieces.rest.now c.pieces.invariant.took.sends c.in_err-make_room.ensures.written c.from_residual.ensures.1 (sym c.pieces.invariant.took.whole);
+  advanced = advances_then _ _ _ c.pieces.invariant.advanced c.in_err-make_room.ensures.advanced;
+}
 
 pub returns-in_err-hold : goal.returns-in_err-hold
-returns-in_err-hold g c =
-    stopped _ _ c.split_at.result.1.now
-    (further c.pieces.invariant.sends c.in_ok-make_room.ensures.written (sym (append-nil c.pieces.invariant.front)))
-    c.in_err-hold.ensures c.from_residual-in_err-hold.ensures.1
-    (sym c.pieces.invariant.whole
-    ∙ ap (λ u. c.pieces.invariant.front ++ u) (sym (two_parts _ _ _ _ c.split_at.ensures.front c.split_at.ensures.back)))
+returns-in_err-hold g c = record {
+  written = stopped _ _ c.split_at.result.1.now
+      (further c.pieces.invariant.took.sends c.in_ok-make_room.ensures.written (sym (append-nil c.pieces.invariant.took.front)))
+      c.in_err-hold.ensures.written c.from_residual-in_err-hold.ensures.1
+      (sym c.pieces.invariant.took.whole
+      ∙ ap (λ u. c.pieces.invariant.took.front ++ u) (sym (two_parts _ _ _ _ c.split_at.ensures.front c.split_at.ensures.back)));
+  advanced = advances_then _ _ _ (advances_then _ _ _ c.pieces.invariant.advanced c.in_ok-make_room.ensures.advanced) c.in_err-hold.ensures.advanced;
+}
 
 pub pieces-preserved : goal.pieces-preserved
-pieces-preserved g c =
-    took-more _ _ _ _ _ _ _ c.pieces.invariant
-    (further c.in_ok-make_room.ensures.written c.in_ok-hold.ensures (sym c.split_at.ensures.front)) c.split_at.ensures.back
+pieces-preserved g c = record {
+  took = took-more _ _ _ _ _ _ _ c.pieces.invariant.took
+      (further c.in_ok-make_room.ensures.written c.in_ok-hold.ensures.written (sym c.split_at.ensures.front)) c.split_at.ensures.back;
+  advanced = advances_then _ _ _ (advances_then _ _ _ c.pieces.invariant.advanced c.in_ok-make_room.ensures.advanced) c.in_ok-hold.ensures.advanced;
+}

@@ -1,0 +1,32 @@
+use Rattle.std.proofs.Common.{◌≡◌, List, ℕ, [], IfSome, OnOk, ap, ◌∙◌, rules, subst}
+use Rattle.tabled_grid.specs.Sent.{Writes}
+use Rattle.tabled.specs.BlockSent.{Advances, block, block_sent, waiting}
+use Rattle.tabled.specs.Output.{Puts, output_text}
+use Rattle.std.specs.Prelude.{string_bytes}
+use Rattle.tabled.proofs.Since.{ended_begun, ended_put, puts_err, puts_from}
+use Rattle.tabled.proofs.program.put_through.Goals as goal
+use Rattle.tabled.proofs.program.put_through.Goals.{in-Ok, in-Err}
+
+pub returns : goal.returns
+returns g c =
+    let text = output_text (string_bytes c.args.text.now) in
+    let a = block g.O.Write.contents c.new-sink.result in
+    let b = block g.O.Write.contents c.put_blocked-result.result.1 in
+    let d = block g.O.Write.contents c.match-result.sink in
+    let none : waiting c.new-sink.result.held.now ≡ [] = ap waiting c.new-sink.ensures.held ∙ c.in_ok-held.ensures in
+    puts_from _ _ _ c.match-result.result text (ap g.O.Write.contents c.new-sink.ensures.writer)
+    (elim c.match-result.branch [
+      | in-Ok w ↦
+          let put = subst (λ r. Puts (block_sent a).bytes r (block_sent b).bytes text) w.in-Ok.is c.put_blocked-result.ensures.put in
+          let written : Writes (block_sent b) c.match-result.result (block_sent d) [] = rw w.result-is (rw w.sink-is w.finish-result.ensures.written) in
+          let advanced : Advances b d = rw w.sink-is w.finish-result.ensures.advanced in
+          let emptied : OnOk c.match-result.result (d.waiting ≡ []) = rw w.result-is (rw w.sink-is w.finish-result.ensures.emptied) in
+          ended_put a b d _ c.match-result.result text none put c.put_blocked-result.ensures.advanced written advanced emptied
+          (λ n. let m = n ∙ c.new-sink.ensures.same_reference in ap g.O.Write.contents (search rules))
+      | in-Err w ↦
+          let put : Puts (block_sent a).bytes c.put_blocked-result.result.0 (block_sent d).bytes text = rw w.sink-is c.put_blocked-result.ensures.put in
+          let advanced : IfSome a.contents (λ _. Advances a d) = rw w.sink-is c.put_blocked-result.ensures.advanced in
+          puts_err _ _ c.match-result.result _ text w.result-is
+          (ended_begun a d _ c.put_blocked-result.result.0 text none put advanced
+          (λ n. let m = n ∙ c.new-sink.ensures.same_reference in ap g.O.Write.contents (search rules)))
+    ])
