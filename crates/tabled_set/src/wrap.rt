@@ -1,5 +1,5 @@
 //! Wrapping to some columns.
-ghost use Rattle.std.specs.Prelude.{◌≡◌, ◌<◌, IfErr, IfOk, false, string_bytes};
+ghost use Rattle.std.specs.Prelude.{◌≡◌, ◌<◌, IfErr, IfOk, OnErr, false, string_bytes};
 ghost use Rattle.tabled_base.specs.declared.error.TableError.TheVariants.{Memory};
 ghost use Rattle.tabled_set.specs.CellChanges.{wrapping};
 ghost use Rattle.tabled_text.specs.Breaking.{EachUnitFits, HasFewestLines, IsLeastBreaking};
