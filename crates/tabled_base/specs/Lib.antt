@@ -3,5 +3,6 @@ pub mod Error
 pub mod Given
 pub mod LentRows
 pub mod Picks
+pub mod PicksLaws
 pub mod RowsGiven
 pub mod TextRows

@@ -1,5 +1,5 @@
 -- The parts that a selection names, of so many rows and columns.
-use Rattle.std.specs.Prelude.{ℕ, ◌-◌, ◌&&◌, nat_lt, List, [], ◌∷◌, map, min, if◌then◌else◌, Option, Some, None}
+use Rattle.std.specs.Prelude.{ℕ, ◌-◌, ◌<◌, ◌&&◌, nat_lt, List, [], ◌∷◌, map, min, if◌then◌else◌, Option, Some, None}
 use Rattle.std.specs.List.{flat_map, range_with_len}
 use Rattle.std.specs.Option.{unwrap_or}
 use Rattle.std.specs.Range.Bound.{end_index, start_index}
@@ -7,9 +7,16 @@ use Rattle.std.specs.declared.ops.Bound.{Bound}
 use Rattle.tabled_base.specs.declared.objects.Place.{Place}
 use Rattle.tabled_base.specs.declared.objects.Place.TheVariants.{At, Last}
 use Rattle.tabled_base.specs.declared.position.Entity.{Entity}
-use Rattle.tabled_base.specs.declared.position.Entity.TheVariants.{Cell, Global}
+use Rattle.tabled_base.specs.declared.position.Entity.TheVariants.{Cell, Column, Global, Row}
 use Rattle.tabled_base.specs.declared.segment.Block.{Block}
 use Rattle.tabled_base.specs.declared.segment.Stretch.{Stretch}
+
+-- a part of so many rows and columns: none of it lies outside
+abbrev pub IsPart : ℕ → ℕ → Entity → Type 0
+IsPart rows columns Global = Unit {0}
+IsPart rows columns (Row row) = row < rows
+IsPart rows columns (Column column) = column < columns
+IsPart rows columns (Cell row column) = (row < rows) × (column < columns)
 
 -- the one of so many rows or columns that is named, if it is there
 abbrev pub picked : Place → ℕ → List ℕ

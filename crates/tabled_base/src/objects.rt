@@ -2,7 +2,8 @@
 ghost use Rattle.std.specs.Prelude.{◌≡◌, ℕ, IfErr, IfOk, List, length, map};
 ghost use Rattle.std.specs.Option.{option_to_list};
 ghost use Rattle.tabled_base.specs.Cells.{columns};
-ghost use Rattle.tabled_base.specs.Picks.{picked};
+ghost use Rattle.std.specs.List.{All};
+ghost use Rattle.tabled_base.specs.Picks.{IsPart, picked};
 ghost use Rattle.tabled_base.specs.declared.error.TableError.TheVariants.{Memory};
 ghost use Rattle.tabled_base.specs.declared.position.Entity.{Entity};
 
@@ -21,6 +22,9 @@ pub trait Object<R: ExactRecords> {
         ensures picked { IfOk result (λ all. all.items
             ≡ picks self.now (length (R.cells records.now)) (columns (R.cells records.now))) }
         ensures only { IfErr result (λ e. e ≡ Memory) };
+
+    // None of the parts lies outside.
+    ghost inside: { (s : Self) (rows columns : ℕ) → All (IsPart rows columns) (picks s rows columns) };
 }
 
 /// One of some rows or columns.
@@ -66,8 +70,11 @@ impl Rows {
 
 impl<R: ExactRecords> Object<R> for Rows {
     ghost use Rattle.tabled_base.specs.declared.position.Entity.TheVariants.{Row};
+    ghost use Rattle.tabled_base.specs.PicksLaws.{picked_rows-inside};
 
     ghost picks = { λ s rows columns. map Row (picked s.place rows) };
+
+    ghost inside = { λ s. picked_rows-inside s.place };
 
     fn cells(&self, alloc: Global, records: &R) -> Result<Vec<Entity>, TableError> {
         let mut all = Vec::new(alloc);
@@ -112,8 +119,11 @@ impl Columns {
 
 impl<R: ExactRecords> Object<R> for Columns {
     ghost use Rattle.tabled_base.specs.declared.position.Entity.TheVariants.{Column};
+    ghost use Rattle.tabled_base.specs.PicksLaws.{picked_columns-inside};
 
     ghost picks = { λ s rows columns. map Column (picked s.place columns) };
+
+    ghost inside = { λ s. picked_columns-inside s.place };
 
     fn cells(&self, alloc: Global, records: &R) -> Result<Vec<Entity>, TableError> {
         let mut all = Vec::new(alloc);
@@ -142,8 +152,11 @@ impl Cell {
 
 impl<R: ExactRecords> Object<R> for Cell {
     ghost use Rattle.tabled_base.specs.Picks.{picked_cell};
+    ghost use Rattle.tabled_base.specs.PicksLaws.{picked_cell-inside};
 
     ghost picks = { λ s rows columns. picked_cell s.row s.column rows columns };
+
+    ghost inside = { λ s. picked_cell-inside s.row s.column };
 
     fn cells(&self, alloc: Global, records: &R) -> Result<Vec<Entity>, TableError> {
         let mut all = Vec::new(alloc);
@@ -157,8 +170,11 @@ impl<R: ExactRecords> Object<R> for Cell {
 /// The cell in a row and a column.
 impl<R: ExactRecords> Object<R> for (usize, usize) {
     ghost use Rattle.tabled_base.specs.Picks.{picked_cell};
+    ghost use Rattle.tabled_base.specs.PicksLaws.{picked_cell-inside};
 
     ghost picks = { λ s rows columns. picked_cell s.0 s.1 rows columns };
+
+    ghost inside = { λ s. picked_cell-inside s.0 s.1 };
 
     fn cells(&self, alloc: Global, records: &R) -> Result<Vec<Entity>, TableError> {
         Cell::new(self.0, self.1).cells(alloc, records)

@@ -83,7 +83,11 @@ impl Stretch {
 }
 
 impl<R: ExactRecords> Object<R> for Segment {
+    ghost use Rattle.tabled_base.specs.PicksLaws.{segment-inside};
+
     ghost picks = { λ s rows columns. segment s.block rows columns };
+
+    ghost inside = { λ s. segment-inside s.block };
 
     fn cells(&self, alloc: Global, records: &R) -> Result<Vec<Entity>, TableError> {
         let mut all = Vec::new(alloc);

@@ -6,7 +6,6 @@ use Rattle.tabled_text.specs.Measure.{text_columns}
 use Rattle.tabled_text.specs.Plain.{IsPlain}
 use Rattle.tabled_text.specs.Room.{StaysWithin}
 use Rattle.tabled_text.proofs.FewestLines.{fewest-wrapped}
-use Rattle.tabled_text.proofs.LongestLemmas.{cut_longest}
 use Rattle.tabled_text.proofs.OwnBreaking.{old_text}
 use Rattle.tabled_text.proofs.StayLemmas.{StaysWithin-from, StaysWithin-wrapped}
 use Rattle.tabled_base.specs.Cells.{IsInside, IsRectangular, cell_at}
@@ -27,7 +26,7 @@ use Rattle.tabled_set.specs.PlainEnding.{IsPlainLimit}
 use Rattle.tabled_set.specs.Promised.{IsWiderThan, TakesFrom, TakesGreatest, TruncatesAsPromised, WrapsAsPromised}
 use Rattle.tabled_set.specs.Truncated.{IsTruncated}
 use Rattle.tabled_set.specs.declared.suffix.SuffixLimit.{SuffixLimit}
-use Rattle.tabled_set.proofs.Bare.{IsCut-truncated}
+use Rattle.tabled_set.proofs.Bare.{longest_lines, longest_truncated}
 use Rattle.tabled_set.proofs.ExactTotals.{FindsRoom, IsNarrowed-wider, changed_for_room, exact_total, leveled}
 use Rattle.tabled_set.proofs.Staying.{StaysWithin-truncated}
 
@@ -100,18 +99,28 @@ module _ {P : Type 0} (shrinks : P → List ℕ → List ℕ → ℕ → List �
 
   module _ (suffix : List ℕ) (limit : SuffixLimit) (multiline : Bool)
       (narrows : Narrows shrinks s (if_wider (truncating suffix limit multiline)) n cells config sizes new stored) (cleared : AreCleared None stored last) where
-    longest_of : TakesFrom shrinks s → suffix ≡ [] → multiline ≡ false → IsWiderThan n (standing cells config sizes) → IsBestCut (standing cells config sizes) (standing new config last)
-    longest_of takes bare whole wide =
-        let changed = cell_of shrinks s (if_wider (truncating suffix limit multiline)) n cells config sizes new stored last None refl narrows cleared takes wide in
+    -- a cell that was wider than its room is truncated
+    truncated_of : TakesFrom shrinks s → suffix ≡ [] → IsWiderThan n (standing cells config sizes) → (row column : ℕ) → IsInside cells row column
+        → text_room (standing new config last) row column < text_columns (cell_at cells row column)
+        → IsTruncated (text_room (standing new config last) row column) [] limit multiline (cell_at cells row column) (cell_at new row column)
+    truncated_of takes bare wide row column inside long =
+        let room = text_room (standing new config last) row column in
+        let before = cell_at cells row column in
+        let after = cell_at new row column in
+        let changed = cell_of shrinks s (if_wider (truncating suffix limit multiline)) n cells config sizes new stored last None refl narrows cleared takes wide row column inside in
+        subst (λ l. IsTruncated room l limit multiline before after) bare
+        (MatchBool-at_true (IsTruncated room suffix limit multiline before after) (after ≡ before) (lt-ltb room (text_columns before) long) changed)
+
+    longest_of : TakesFrom shrinks s → suffix ≡ [] → IsWiderThan n (standing cells config sizes) → IsBestCut multiline (standing cells config sizes) (standing new config last)
+    longest_of takes bare wide =
+        let room = text_room (standing new config last) in
         record {
-          longest = λ row column inside line long.
-              let room = text_room (standing new config last) row column in
-              let before = cell_at cells row column in
-              let after = cell_at new row column in
-              let cut : IsTruncated room suffix limit multiline before after =
-              MatchBool-at_true (IsTruncated room suffix limit multiline before after) (after ≡ before) (lt-ltb room (text_columns before) long) (changed row column inside) in
-              cut_longest room before after line (IsCut-truncated room limit before after
-              (subst (λ b. IsTruncated room [] limit b before after) whole (subst (λ l. IsTruncated room l limit multiline before after) bare cut)));
+          line = λ whole row column inside plain long.
+              longest_truncated (room row column) limit (cell_at cells row column) (cell_at new row column) plain
+              (subst (λ b. IsTruncated (room row column) [] limit b (cell_at cells row column) (cell_at new row column)) whole (truncated_of takes bare wide row column inside long));
+          lines = λ apart row column inside long.
+              longest_lines (room row column) limit (cell_at cells row column) (cell_at new row column)
+              (subst (λ b. IsTruncated (room row column) [] limit b (cell_at cells row column) (cell_at new row column)) apart (truncated_of takes bare wide row column inside long));
         }
 
     pub truncates : TruncatesAsPromised shrinks s suffix limit multiline n (standing cells config sizes) (standing new config last)

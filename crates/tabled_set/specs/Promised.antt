@@ -1,5 +1,5 @@
 -- What options that narrow a table promise of it, by the priority and the texts.
-use Rattle.std.specs.Prelude.{◌≡◌, ◌<◌, ℕ, Bool, false, List, []}
+use Rattle.std.specs.Prelude.{◌≡◌, ◌<◌, ℕ, Bool, List, []}
 use Rattle.tabled_set.specs.BestNarrowing.{HasLeastWidth, IsBestCut, IsBestWrapped}
 use Rattle.tabled_set.specs.ExactTotal.{HasEstimatedWidths, HasExactTotal}
 use Rattle.tabled_set.specs.PlainEnding.{IsPlainLimit}
@@ -38,5 +38,5 @@ pub record WrapsAsPromised {P : Type 0} (shrinks : P → List ℕ → List ℕ �
 -- truncated to n: the same totals, where the suffix is plain too; without a suffix the longest beginnings
 pub record TruncatesAsPromised {P : Type 0} (shrinks : P → List ℕ → List ℕ → ℕ → List ℕ → P → Type 0) (s : P) (suffix : List ℕ) (limit : SuffixLimit) (multiline : Bool) (n : ℕ) (old new : Sheet) : Type 0 where
   pub exact : TakesFrom shrinks s → IsPlain suffix → IsPlainLimit limit → IsWiderThan n old → ArePlain old.cells → HasExactTotal n old new
-  pub best : TakesFrom shrinks s → suffix ≡ [] → multiline ≡ false → IsWiderThan n old → IsBestCut old new
+  pub best : TakesFrom shrinks s → suffix ≡ [] → IsWiderThan n old → IsBestCut multiline old new
   pub least : TakesGreatest shrinks s → IsWiderThan n old → HasLeastWidth old new

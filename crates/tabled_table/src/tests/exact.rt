@@ -1,11 +1,12 @@
 //! Tables that are wrapped or truncated to a total.
-ghost use Rattle.std.specs.Prelude.{◌≡◌, OnOk, false, max, ⊤};
-ghost use Rattle.tabled_set.specs.BestNarrowing.{IsBestWrapped};
+ghost use Rattle.std.specs.Prelude.{◌≡◌, OnOk, [], false, max, true, ⊤};
+ghost use Rattle.tabled_set.specs.BestNarrowing.{HasLeastWidth, IsBestCut, IsBestWrapped};
 ghost use Rattle.tabled_set.specs.ExactTotal.{empty_width};
 ghost use Rattle.tabled_set.specs.Promised.{IsWiderThan};
 ghost use Rattle.tabled_size.specs.PlainCells.{ArePlain};
 ghost use Rattle.tabled_size.specs.Totals.{total_width};
 ghost use Rattle.tabled_table.specs.TableSheet.{cells_of, sheet};
+ghost use Rattle.tabled_text.specs.Plain.{IsPlain};
 
 use crate::tests::drawing::{PAIRS, table_of};
 use crate::{Table, new_config};
@@ -59,15 +60,40 @@ fn begins<P: Peaker + Drop>(alloc: Global, priority: P, line: &str) -> Result<bo
     Ok(table.to_string()?.starts_with(line))
 }
 
-// Wraps by the greatest widths. What is told of the total follows from `with` alone.
+// Wraps by the greatest widths: what is told here follows from `with` alone.
 fn wrap_level(table: &mut Table, n: usize) -> Result<(), TableError>
     ensures total { OnOk result (IsWiderThan n (sheet table.old) → ArePlain (cells_of table.old)
         → total_width (sheet table.new) ≡ max n (empty_width (sheet table.old))) }
     ensures best { OnOk result (IsWiderThan n (sheet table.old)
         → IsBestWrapped false (sheet table.old) (sheet table.new)) }
+    ensures least { OnOk result (IsWiderThan n (sheet table.old)
+        → HasLeastWidth (sheet table.old) (sheet table.new)) }
 {
     table.with(Width::wrap(n).priority(Priority::max(true)))?;
     Ok(())
+}
+
+// Truncates each line by the greatest widths, with a suffix.
+fn truncate_level(table: &mut Table, n: usize, suffix: &str) -> Result<(), TableError>
+    ensures total { OnOk result (IsPlain suffix.now → IsWiderThan n (sheet table.old)
+        → ArePlain (cells_of table.old) → total_width (sheet table.new) ≡ max n (empty_width (sheet table.old))) }
+    ensures best { OnOk result (suffix.now ≡ [] → IsWiderThan n (sheet table.old)
+        → IsBestCut true (sheet table.old) (sheet table.new)) }
+    ensures least { OnOk result (IsWiderThan n (sheet table.old)
+        → HasLeastWidth (sheet table.old) (sheet table.new)) }
+{
+    let truncate = Width::truncate(n).suffix(suffix).multiline(true);
+    table.with(truncate.priority(Priority::max(true)))?;
+    Ok(())
+}
+
+// The totals of the pairs once wrapped to 9 columns, and then truncated to 8.
+fn leveled(alloc: Global) -> Result<(usize, usize), TableError> {
+    let mut table = table_of(alloc, PAIRS, new_config(alloc))?;
+    wrap_level(&mut table, 9)?;
+    let wrapped = table.total_width()?;
+    truncate_level(&mut table, 8, "")?;
+    Ok((wrapped, table.total_width()?))
 }
 
 // A table of rows wrapped to some columns.
@@ -165,6 +191,12 @@ fn each_total_is_exact_by_the_sizes(rt: HostRuntime) -> Result<(), Fail> {
     assert!(rt; narrows_to_each(alloc, Priority::min(false))?);
     assert!(rt; narrows_to_each(alloc, Priority::max(true))?);
     assert!(rt; narrows_to_each(alloc, Priority::max(false))?);
+    Ok(())
+}
+
+#[test]
+fn a_leveled_table_has_its_total(rt: HostRuntime) -> Result<(), Fail> {
+    assert_eq!(rt; leveled(rt.alloc())?, (9, 8));
     Ok(())
 }
 

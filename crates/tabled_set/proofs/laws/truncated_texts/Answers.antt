@@ -1,5 +1,4 @@
-use Rattle.tabled_text.proofs.LongestLemmas.{cut_longest}
-use Rattle.tabled_set.proofs.Bare.{IsCut-truncated}
+use Rattle.tabled_set.proofs.Bare.{IsCut-truncated, longest_lines, longest_truncated}
 use Rattle.tabled_set.proofs.Staying.{StaysWithin-truncated}
 use Rattle.tabled_set.proofs.laws.truncated_texts.Goals as goal
 
@@ -7,5 +6,6 @@ pub returns : goal.returns
 returns g = record {
   room = StaysWithin-truncated;
   cut = IsCut-truncated;
-  longest = λ room limit line answer p h. cut_longest room line answer p (IsCut-truncated room limit line answer h);
+  longest = longest_truncated;
+  lines = longest_lines;
 }
