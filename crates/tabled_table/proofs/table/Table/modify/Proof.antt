@@ -82,8 +82,13 @@ modify_spec 𝓤 𝓛 𝓜 𝓡 wired A O L₀ L₁ g₁ d₁ g₂ d₂ d₃ d�
     let fn : Fn = inst_fn ts code.function in
     let stays : Stays En.signature.params En.kept = (stay_dropped (mut_ref_to (0 ∷ []) tt (plain (λ _. R))) no, (stay_dropped (plain (λ _. param 0 A)) no, (stay_dropped (plain (λ _. param 1 O)) no, tt))) in
     let W = walk_of 𝓛 En stays c in let 𝓣 = tables 𝓤 𝓛.H 𝓜 𝓡 𝓡.env in
-    proved_at 𝓛 En stays c 𝓜 𝓡 (Goes-spent_ref 𝓛 3 (0 ∷ []) tt (plain (λ _. R)), (Goes-dropped 𝓛 3 (plain (λ _. param 0 A)) no (λ κs x w. refl),
-    (Goes-dropped 𝓛 3 (plain (λ _. param 1 O)) no (λ κs x w. refl), tt)))
+    proved_at 𝓛 En stays c 𝓜 𝓡 (
+      Goes-spent_ref 𝓛 3 (0 ∷ []) tt (plain (λ _. R)),
+      (
+        Goes-dropped 𝓛 3 (plain (λ _. param 0 A)) no (λ κs x w. refl),
+        (Goes-dropped 𝓛 3 (plain (λ _. param 1 O)) no (λ κs x w. refl), tt),
+      ),
+    )
     (f.Key.name ts) fn (code.unfolded 𝓤 𝓛.H 𝓜 𝓡 wired (A, (O, tt)) d₁ d₂ d₃ d₄) (λ y are.
     let κs = y.0.0 in let qs = y.0.1 in let a = y.0.3 in let vss = y.0.4 in
     let κ = κs.0 in let q = qs.0 in let r = a.0 in let x = a.1.0 in let u = a.1.1.0 in let b = r.ref_ptr.0 in let o = r.ref_ptr.1 in let vs = mut_vals r in
