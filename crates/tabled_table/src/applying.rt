@@ -106,7 +106,8 @@ impl Table {
         O: CellOption<VecRecords<Text<String>>, ColoredConfig> + Drop,
     >(&mut self, target: T, option: O) -> Result<&mut Self, TableError>
         ensures* rests { sem 𝓛 (RestsIfErr the_row self.entry (λ table. table.ghost_name) result
-            (λ last. IfErr result (λ e. IsModifyingRefused (O.changes option) (O.refuses option e)
+            (λ last. IfErr result (λ e. IsModifyingRefused
+            (O.changes option) (O.refuses option) (O.passes option)
             (T.picks target (length (cells_of self.old)) (columns (cells_of self.old)))
             e self.old last))) }
         ensures same_reference { IfOk result (λ table. table.ghost_name ≡ self.entry.ghost_name) }
@@ -133,13 +134,11 @@ impl Table {
         ensures ok { OnOk result (IsModified (O.changes option)
             (T.picks target (length (cells_of self.old)) (columns (cells_of self.old)))
             (O.hint option) self.old self.new) }
-        ensures err { IfErr result (λ e. IsModifyingRefused (O.changes option) (O.refuses option e)
+        ensures err { IfErr result (λ e. IsModifyingRefused
+            (O.changes option) (O.refuses option) (O.passes option)
             (T.picks target (length (cells_of self.old)) (columns (cells_of self.old)))
             e self.old self.new) }
         ensures only { IfErr result (λ e. (e ≡ Memory) ⊎ (e ≡ Range)) }
-        ensures range { IfErr result (λ e. e ≡ Range
-            → IsPassedAt (O.changes option) (O.refuses option e) (O.passes option)
-            (T.picks target (length (cells_of self.old)) (columns (cells_of self.old))) self.old) }
     {
         self.apply_to(target, &option)
     }

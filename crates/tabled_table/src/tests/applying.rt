@@ -39,11 +39,11 @@ impl<R, C, D> TableOption<R, C, D> for Hints {
     }
 }
 
-// Sets modern borders, and answers that there was no memory. It hints nothing.
+// Sets modern borders, empties the second cell, and answers that there was no memory. It hints nothing.
 #[derive(Drop)]
 struct Broken;
 
-impl<R, D> TableOption<R, ColoredConfig, D> for Broken {
+impl<D> TableOption<VecRecords<Text<String>>, ColoredConfig, D> for Broken {
     ghost changes = { λ _ _ _ _ _ _ _. ⊤ };
 
     ghost refuses = { λ _ _ _ _ _ _ _ _. ⊤ };
@@ -54,11 +54,15 @@ impl<R, D> TableOption<R, ColoredConfig, D> for Broken {
 
     fn change(
         self,
-        _records: &mut R,
+        records: &mut VecRecords<Text<String>>,
         cfg: &mut ColoredConfig,
         _dims: &mut D,
     ) -> Result<(), TableError> {
         cfg.as_mut().set_borders(Style::modern().get_borders());
+        if records.count_rows() > 0 && records.count_columns() > 1 {
+            let empty = String::new(records.allocator());
+            records.set(Position::new(0, 1), empty)?;
+        }
         Err(TableError::Memory)
     }
 
@@ -172,11 +176,12 @@ fn without_memory(
 }
 
 #[test]
-fn a_refused_option_leaves_no_sizes(rt: HostRuntime) -> Result<(), Fail> {
+fn a_refused_option_leaves_its_changes_and_no_sizes(rt: HostRuntime) -> Result<(), Fail> {
     let (answer, sizes, text) = without_memory(rt.alloc())?;
     assert_eq!(rt; answer, Err(TableError::Memory));
     assert_eq!(rt; sizes, (false, false));
-    assert_eq!(rt; text.as_str(), MODERN);
+    let want = "┌─────┬───┐\n│ a   │   │\n├─────┼───┤\n│ ccc │ d │\n└─────┴───┘";
+    assert_eq!(rt; text.as_str(), want);
     Ok(())
 }
 

@@ -41,11 +41,10 @@ use Rattle.std.specs.contracts.result.Result as result
 use Rattle.tabled_base.proofs.Rests.{Rests, rests_at_ok, rests_at_err, ok_of, err_of}
 use Rattle.tabled_base.proofs.Refusals.{Done, IsCause, accepted, cause, refused, told_ok, told_err, cause_made, single, apart, by_done}
 use Rattle.tabled_base.specs.declared.error.TableError.{TableError}
-use Rattle.tabled_base.specs.declared.error.TableError.TheVariants.{Range}
 use Rattle.tabled_base.specs.contracts.error.TableError.{the_row as TE}
 use Rattle.tabled_base.specs.Cells.{columns}
-use Rattle.tabled_table.specs.Applied.{IsModified, IsModifyingRefused}
-use Rattle.tabled_table.specs.Passed.{IsPassedAt}
+use Rattle.tabled_table.specs.Applied.{IsModified}
+use Rattle.tabled_table.specs.Stopped.{IsModifyingRefused}
 use Rattle.tabled_table.specs.TableSheet.{cells_of}
 use Rattle.tabled_table.specs.contracts.table.Table.{the_row as R}
 use Rattle.tabled_table.specs.contracts.table.Table.modify as f
@@ -83,8 +82,13 @@ modify_spec 𝓤 𝓛 𝓜 𝓡 wired A O L₀ L₁ g₁ d₁ g₂ d₂ d₃ d�
     let fn : Fn = inst_fn ts code.function in
     let stays : Stays En.signature.params En.kept = (stay_dropped (mut_ref_to (0 ∷ []) tt (plain (λ _. R))) no, (stay_dropped (plain (λ _. param 0 A)) no, (stay_dropped (plain (λ _. param 1 O)) no, tt))) in
     let W = walk_of 𝓛 En stays c in let 𝓣 = tables 𝓤 𝓛.H 𝓜 𝓡 𝓡.env in
-    proved_at 𝓛 En stays c 𝓜 𝓡 (Goes-spent_ref 𝓛 3 (0 ∷ []) tt (plain (λ _. R)), (Goes-dropped 𝓛 3 (plain (λ _. param 0 A)) no (λ κs x w. refl),
-    (Goes-dropped 𝓛 3 (plain (λ _. param 1 O)) no (λ κs x w. refl), tt)))
+    proved_at 𝓛 En stays c 𝓜 𝓡 (
+      Goes-spent_ref 𝓛 3 (0 ∷ []) tt (plain (λ _. R)),
+      (
+        Goes-dropped 𝓛 3 (plain (λ _. param 0 A)) no (λ κs x w. refl),
+        (Goes-dropped 𝓛 3 (plain (λ _. param 1 O)) no (λ κs x w. refl), tt),
+      ),
+    )
     (f.Key.name ts) fn (code.unfolded 𝓤 𝓛.H 𝓜 𝓡 wired (A, (O, tt)) d₁ d₂ d₃ d₄) (λ y are.
     let κs = y.0.0 in let qs = y.0.1 in let a = y.0.3 in let vss = y.0.4 in
     let κ = κs.0 in let q = qs.0 in let r = a.0 in let x = a.1.0 in let u = a.1.1.0 in let b = r.ref_ptr.0 in let o = r.ref_ptr.1 in let vs = mut_vals r in
@@ -118,15 +122,15 @@ modify_spec 𝓤 𝓛 𝓜 𝓡 wired A O L₀ L₁ g₁ d₁ g₂ d₂ d₃ d�
     move ! (1 ∷ 0 ∷ []) $ use2 𝓛 (raw (G.pre z)) (id⊢ 𝓤 _) $
     let parts = g₁.picks x (length (cells_of r.now)) (columns (cells_of r.now)) in
     let Applied = λ (n : R.Denot). IsModified (g₂.changes u) parts (g₂.hint u) r.now n in
-    let Left = λ (e : TableError) (n : R.Denot). IsModifyingRefused (g₂.changes u) (g₂.refuses u e) parts e r.now n in
-    let Passes = λ (e : TableError). (e ≡ Range → IsPassedAt (g₂.changes u) (g₂.refuses u e) (g₂.passes u) parts r.now) in
+    let Left = λ (e : TableError) (n : R.Denot). IsModifyingRefused (g₂.changes u) (g₂.refuses u) (g₂.passes u) parts e r.now n in
+    let Known = λ (e : TableError). ((n : R.Denot) × Left e n) in
     calls_at ! (framed 𝓤 𝓛.H 𝓜 𝓣) G (met 𝓤 𝓛 𝓜 𝓡 (code.calls-tabled_table::table::Table::apply_own 𝓡.env wired) A O L₀ L₁ g₁ d₁ g₂ d₂ d₃ d₄ m₁ m₂ m₃ m₄) z
     (and_then ! (get ! refl) (and_then ! (get ! refl) (and_then ! (get ! refl) (no_more !)))) (λ w.
     use1 𝓛 (later (some (λ (t : Done). ((‵ (flft (α ∷ []) full_share) ⊛ others) ⊛ ‵ ((result.the_row unit TE).own_val t (w ∷ []))) ⊛
     some (λ (ws : R.Denot × (Unit {0} × (Unit {0} × Unit {0}))). ‵ (lasts gE z.0.0 z.0.3 ws) ⊛ (raw (fact 𝓤 (OnOk t (Applied ws.0))) ⊛
-    raw (fact 𝓤 (IfErr t (λ e. Left e ws.0))) ⊛ raw (fact 𝓤 (IfErr t IsCause)) ⊛ raw (fact 𝓤 (IfErr t Passes))))))) (id⊢ 𝓤 _) $
+    raw (fact 𝓤 (IfErr t (λ e. Left e ws.0))) ⊛ raw (fact 𝓤 (IfErr t IsCause))))))) (id⊢ 𝓤 _) $
     await ! tt $ pick ! (λ t. split ! $ split ! $ split ! $ move ! (3 ∷ []) $ pick ! (λ ws. split ! $ move ! (1 ∷ []) $
-    split ! $ heard ! _ (λ applied. split ! $ heard ! _ (λ left. split ! $ heard ! _ (λ only'. heard ! _ (λ passes. fsplit ! $ fsplit ! $
+    split ! $ heard ! _ (λ applied. split ! $ heard ! _ (λ left. heard ! _ (λ only'. fsplit ! $ fsplit ! $
     -- [the loan's last value; its borrow; nothing; the token of α; the other tokens; the result; what the lender keeps]
     move ! (3 ∷ []) $ lft_end ! tt $ move ! (0 ∷ 6 ∷ 1 ∷ []) $ use3 𝓛 (later (‵ (Ref κ (record r { now = ws.0 })) ⊛ ‵ (flft κ q)))
     (comes_back 𝓛 R (named 0) κ (α ∷ []) q r.ghost_name b o δ r.now ws.0) $ await ! tt $ split ! $
@@ -156,6 +160,7 @@ modify_spec 𝓤 𝓛 𝓜 𝓡 wired A O L₀ L₁ g₁ d₁ g₂ d₂ d₃ d�
       ((λ k. absurd (apart k)), λ none. absurd (none.0.1 refl)),
     )))
     (λ e p. let h : IsCause e = subst (λ (s : Done). IfErr s IsCause) p only' in
+    let was : Left e ws.0 = subst (λ (s : Done). IfErr s (λ e'. Left e' ws.0)) p left in
     rewrite ! 0 Answer p refl $ use1 𝓛 (raw (fact 𝓤 (w ≡ refused e h))) (told_err 𝓛 w e h) $ heard ! _ (λ is.
     let P = λ (n : R.Denot). Left e n in
     let failed : Result (MutBor R.Denot) TableError = Err e in
@@ -168,15 +173,15 @@ modify_spec 𝓤 𝓛 𝓜 𝓡 wired A O L₀ L₁ g₁ d₁ g₂ d₂ d₃ d�
             exec ! 𝓣.C 𝓣.Λ (env fn.locals l) (after 5 fn.body) (at_ret _ Post) $
             sets ! (of_opd ! (get ! refl)) refl (fits_result 𝓛 A O d₁ d₂ d₃ d₄ l e h) $
             returns ! (look_at ! 0 refl) $ free_all ! refl $ fsplit3 ! $ keep ! (1 ∷ 3 ∷ 6 ∷ []) $
-            use1 𝓛 (‵ (Rests 𝓛 R TableError r P failed)) (rests_at_err 𝓛 R TableError r P e ws.0 (subst (λ (s : Done). IfErr s (λ e'. Left e' ws.0)) p left)) $
+            use1 𝓛 (‵ (Rests 𝓛 R TableError r P failed)) (rests_at_err 𝓛 R TableError r P e ws.0 was) $
             use0 𝓛 (‵ (TE.own_val e (cause e h ∷ []))) (cause_made 𝓛 e h) $
             use1 𝓛 (‵ ((result.the_row Own TE).own_val failed (refused e h ∷ []))) (err_of 𝓛 Own TE e (cause e h)) $
             suffices ! _ (ends_at 𝓛 En stays c y (refused e h) failed (tt, (tt, (tt, tt))) (tt, (tt, (tt, tt)))) $
             nothing ! $ nothing ! $ fjoin ! $ nothing ! $ fjoin ! $ nothing ! $ fjoin ! $ join ! $ move ! (2 ∷ 3 ∷ []) $ join ! $ join ! $
-            use0 𝓛 (raw (fact 𝓤 (Passes e))) (fact_i 𝓤 (Passes e) (emp 𝓤) (subst (λ (s : Done). IfErr s Passes) p passes)) $
-            use0 𝓛 (raw (fact 𝓤 (IsCause e))) (fact_i 𝓤 (IsCause e) (emp 𝓤) h) $ join ! $
+            use0 𝓛 (raw (fact 𝓤 (IsCause e))) (fact_i 𝓤 (IsCause e) (emp 𝓤) h) $
+            use0 𝓛 (raw (fact 𝓤 (Known e))) (fact_i 𝓤 (Known e) (emp 𝓤) (ws.0, was)) $ join ! $
             use0 𝓛 (raw (fact 𝓤 ⊤)) (fact_i 𝓤 ⊤ (emp 𝓤) tt) $ join ! $ use0 𝓛 (raw (fact 𝓤 ⊤)) (fact_i 𝓤 ⊤ (emp 𝓤) tt) $ join ! $
             move ! (1 ∷ 2 ∷ 0 ∷ []) $ done !),
         λ none. absurd (none.1 refl),
       ),
-    ))))))))))))))))
+    )))))))))))))))
