@@ -17,7 +17,23 @@ pub use program::run;
 pub use rendering::render;
 pub use tabled_base::{TableError, Text};
 pub use tabled_grid::{IoSink, TextSink};
-pub use tabled_table::{Table, Tabled};
+pub use tabled_table::Table;
+
+/// Facts of texts, options and tables that a caller can rest on: each is the contract of a function that does nothing.
+pub mod laws {
+    pub use tabled_grid::laws::pictures;
+    pub use tabled_set::laws::truncated_texts;
+    pub use tabled_table::laws::{best_tables, narrowed_tables, new_tables};
+    pub use tabled_text::laws::{
+        breakings, cut_texts, joined_lines, plain_characters, plain_columns, plain_line_width,
+        plain_lines, text_bounds, texts_that_stay, wrapped_texts,
+    };
+}
+
+/// The tables.
+pub mod tables {
+    pub use tabled_table::Table;
+}
 
 /// Making tables row by row.
 pub mod builder {
@@ -55,18 +71,31 @@ pub mod settings {
 
     /// How texts are made to fit some columns.
     pub mod width {
-        pub use tabled_set::{SuffixLimit, Truncate, Wrap};
+        pub use tabled_set::{SuffixLimit, Truncate, Width, Wrap};
+    }
+
+    /// How texts are made to fit some lines.
+    pub mod height {
+        pub use tabled_set::Height;
     }
 }
 
 /// Lower layers, by the crate's names.
 pub mod grid {
+    pub use tabled_grid::{is_plain_config, is_plain_records, print_grid};
+
+    /// Marks that colour a text.
+    pub mod ansi {
+        pub use tabled_config::ANSIStr;
+    }
+
     /// Places, and what is set for them.
     pub mod config {
         pub use tabled_base::{Entity, Position};
         pub use tabled_config::{
-            ANSIStr, AlignmentHorizontal, AlignmentVertical, Borders, ColoredConfig, CompactConfig,
-            CompactMultilineConfig, Formatting, HorizontalLine, Indent, Sides, SpannedConfig,
+            ANSIStr, AlignmentHorizontal, AlignmentVertical, Borders, CellStyle, ColoredConfig,
+            CompactConfig, CompactMultilineConfig, Formatting, HorizontalLine, Indent, Sides,
+            SpannedConfig,
         };
     }
 
@@ -84,6 +113,11 @@ pub mod grid {
             CellText, ExactRecords, IntoRecords, LentRows, PeekableRecords, Records, RecordsMut,
             Text, VecRecords,
         };
+
+        /// Records that own their rows.
+        pub mod vec_records {
+            pub use tabled_base::{Text, VecRecords};
+        }
     }
 
     /// What texts take.
@@ -91,8 +125,8 @@ pub mod grid {
         /// Texts that are measured, cut and wrapped.
         pub mod string {
             pub use tabled_text::{
-                count_lines, cut_str, is_fullest, is_plain, line_width, lines, split_str,
-                text_width, wrap_text,
+                TextLines, count_lines, cut_str, is_fullest, is_plain, is_plain_column, line_width,
+                lines, split_str, text_width, wrap_text,
             };
         }
     }

@@ -1,7 +1,7 @@
 //! How a text becomes a table.
 
 /// The ways of `render`.
-#[derive(Clone, Copy, Debug, PartialEq, Eq)]
+#[derive(Debug, Drop)]
 pub enum Plan {
     /// The whole table is measured, and printed then.
     Buffered,

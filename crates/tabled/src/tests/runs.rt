@@ -4,8 +4,7 @@ use crate::{Plan, TableError, render, run};
 use std::alloc::Global;
 use std::test::Fail;
 
-const USAGE: &str =
-    "usage: tabprint [--wrap N | --cut N] [--priority none|min|max|left|right] [--words] [--stream]\n";
+const USAGE: &str = "usage: tabprint\n";
 
 // Runs the program, and answers its status beside what it wrote.
 fn ran(alloc: Global, words: &[String], input: &[u8]) -> (u8, Vec<u8>, Vec<u8>) {
