@@ -18,12 +18,13 @@ pub use rendering::render;
 pub use tabled_base::{TableError, Text};
 pub use tabled_grid::{IoSink, TextSink};
 pub use tabled_table::Table;
+pub use tabled_value::Tabled;
 
 /// Facts of texts, options and tables that a caller can rest on: each is the contract of a function that does nothing.
 pub mod laws {
     pub use tabled_grid::laws::pictures;
     pub use tabled_set::laws::truncated_texts;
-    pub use tabled_table::laws::{best_tables, narrowed_tables, new_tables};
+    pub use tabled_table::laws::new_tables;
     pub use tabled_text::laws::{
         breakings, cut_texts, joined_lines, plain_characters, plain_columns, plain_line_width,
         plain_lines, text_bounds, texts_that_stay, wrapped_texts,
