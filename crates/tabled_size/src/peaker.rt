@@ -4,6 +4,7 @@ ghost use Rattle.tabled_size.specs.Permitted.{FitsMinimums, IsAbove, IsPermitted
 ghost use Rattle.tabled_size.specs.PermittedLaws.{lowered};
 ghost use Rattle.tabled_size.specs.Grown.{IsNoneSmaller};
 ghost use Rattle.tabled_size.specs.GrownLaws.{raised};
+ghost use Rattle.tabled_size.specs.Visits.{changed, counted};
 
 use crate::steps::Steps;
 
@@ -27,7 +28,7 @@ pub trait Peaker {
         ensures peaks { peaks self.old values.now mins.now result self.new };
 
     /// Takes an amount from the values, or as much as `peak` lets it, and answers how much was taken.
-    /// Minimums are those of `peak`. A step is one visit of one column.
+    /// Minimums are those of `peak`. A step is one visit of one column; each column that changes was visited.
     fn shrink(
         &mut self,
         mins: &[usize],
@@ -40,7 +41,7 @@ pub trait Peaker {
         ensures permitted { IsPermitted values.old mins.now values.new }
         ensures total { sum values.new + result ≡ sum values.old }
         ensures at_most { result ≤ by }
-        ensures steps { steps.old.count ≤ steps.new.count }
+        ensures visits { counted steps.old.count (changed values.old values.new) ≤ steps.new.count }
     {
         for taken in 0..by {
             steps.add(values.len());
@@ -53,14 +54,14 @@ pub trait Peaker {
     }
 
     /// Adds an amount to the values, or as much as `peak` lets it, and answers how much was added.
-    /// Without minimums only values above zero are named, so zeros stay.
+    /// Without minimums only values above zero are named, so zeros stay. Each column that changes was visited.
     fn grow(&mut self, values: &mut [usize], by: usize, steps: &mut Steps) -> usize
         requires { sum values.old + by < 2 ^ 64 }
         ensures grows { grows self.old values.old by values.new self.new }
         ensures kept { IsNoneSmaller values.old values.new }
         ensures total { sum values.new ≡ sum values.old + result }
         ensures at_most { result ≤ by }
-        ensures steps { steps.old.count ≤ steps.new.count }
+        ensures visits { counted steps.old.count (changed values.old values.new) ≤ steps.new.count }
     {
         for added in 0..by {
             steps.add(values.len());

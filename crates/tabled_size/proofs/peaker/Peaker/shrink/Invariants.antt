@@ -1,5 +1,6 @@
 use Rattle.std.proofs.Common.{◌≡◌, ℕ, ◌+◌, ◌-◌, ◌≤◌, List, sum}
 use Rattle.tabled_size.specs.Permitted.{IsPermitted}
+use Rattle.tabled_size.specs.Visits.{changed, counted}
 use Rattle.tabled_size.proofs.peaker.Peaker.shrink.Given as goal
 
 abbrev pub invariant-loop-taken : goal.invariant-loop-taken
@@ -7,5 +8,5 @@ invariant-loop-taken g l = record {
   onward : (w : List ℕ) (u : g.row.Self.Denot) → g.Self.Peaker.shrinks l.self l.values l.mins (l.by - l.taken) w u → g.Self.Peaker.shrinks l.fn.self l.fn.values l.mins l.by w u;
   permitted : IsPermitted l.fn.values l.mins l.values;
   total : sum l.values + l.taken ≡ sum l.fn.values;
-  steps : l.fn.steps.count ≤ l.steps.count;
+  visits : counted l.fn.steps.count (changed l.fn.values l.values) ≤ l.steps.count;
 }
