@@ -10,7 +10,7 @@ use tabled_base::TableError;
 /// Text for a writer. It writes until all bytes are taken. Every error of a write is a failure,
 /// `Interrupted` too, and so is a write that takes no bytes; nothing is tried again. The writer isn't
 /// flushed.
-#[derive(Drop)]
+#[derive(Debug, Drop)]
 pub struct IoSink<W> {
     writer: W,
     failures: usize,

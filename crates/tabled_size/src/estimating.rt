@@ -8,7 +8,7 @@ use crate::complete_dimension::CompleteDimension;
 use crate::dimension::Estimate;
 use crate::estimate::{estimate_heights, estimate_sizes, estimate_widths};
 use tabled_base::{PeekableRecords, TableError};
-use tabled_config::SpannedConfig;
+use tabled_config::{ColoredConfig, SpannedConfig};
 
 impl<R: PeekableRecords> Estimate<R, SpannedConfig> for CompleteDimension {
     ghost estimates = { λ old records config new. IsFilledIn old (R.cells records) config new };
@@ -34,5 +34,21 @@ impl<R: PeekableRecords> Estimate<R, SpannedConfig> for CompleteDimension {
             }
         }
         Ok(())
+    }
+}
+
+impl<R: PeekableRecords> Estimate<R, ColoredConfig> for CompleteDimension {
+    ghost estimates = { λ old records config new. IsFilledIn old (R.cells records) config.config new };
+
+    ghost passes = { λ old records config. HasNoEstimate old (R.cells records) config.config };
+
+    fn estimate(&mut self, records: &R, config: &ColoredConfig) -> Result<(), TableError>
+        ensures ok { OnOk result (IsFilledIn self.old (R.cells records.now) config.now.config self.new) }
+        ensures stored { IsTrue (is_stored self.old) → IsOk result }
+        ensures err { OnErr result (self.new ≡ self.old) }
+        ensures only { IfErr result (λ e. (e ≡ Memory)
+            ⊎ ((e ≡ Range) × HasNoEstimate self.old (R.cells records.now) config.now.config)) }
+    {
+        Estimate::estimate(self, records, config.as_ref())
     }
 }

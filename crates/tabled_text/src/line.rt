@@ -5,7 +5,7 @@ ghost use Rattle.tabled_text.specs.Lines.{lines_in, lines_left};
 ghost use Rattle.tabled_text.specs.Measure.{lines_of};
 
 /// The lines of a text that are left, as `lines` gives them.
-#[derive(Drop)]
+#[derive(Debug, Drop)]
 pub struct TextLines<'a> {
     rest: Option<&'a str>,
 }
