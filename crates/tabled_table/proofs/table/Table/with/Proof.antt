@@ -1,10 +1,10 @@
 -- `with` by hand: the table is lent again to `apply`, comes back as that left it, and is handed on or given up.
-use Rattle.std.proofs.Common.{◌≡◌, inl, inr, ℕ, List, [], ◌∷◌, ◌++◌, refl, sym, ap, subst, ◌∙◌, lit<, MutBor}
+use Rattle.std.proofs.Common.{◌≡◌, inl, inr, ℕ, List, [], ◌∷◌, ◌++◌, refl, sym, subst, lit<, MutBor}
 use Rattle.std.proofs.raw_atomic.Walks.{proved_at}
 use Rattle.std.specs.Prelude.{Result, Ok, Err, OnOk, IfErr, ⊤}
 use seplogic.Ra.Ura.{Ura}
 use base.Fraction.{full_share}
-use base.Logic.{id⊢, emp, ent, SProp}
+use base.Logic.{id⊢, emp, SProp}
 use base.Fml.{ftrue, flft}
 use lib.Dec.{T}
 use mir.Syntax.{named, Args, Dict, Fn, a_type, dcons, dnil}
@@ -14,7 +14,7 @@ use prog.Wp.{spot_of, WpFn}
 use contract.BorrowLft.{◌⊑◌}
 use contract.Monad.{fact, fact_i}
 use contract.Running.{tables}
-use types.Logic.{Logic, sem}
+use types.Logic.{Logic}
 use types.Kit.{‵, raw, prop, ◌⊛◌, some, later, at_ret, ◌$◌, ◌∵◌, !, qed, done, move, keep, use0, use1, use2, use3, split, join, fsplit, fsplit3, fjoin, pick, await, rewrite, regoal, suffices}
 use types.Run.{enter, of_opd, lit, addr, stop, fld, no_more, and_then, first, switches, exec, returns}
 use types.Part.{agg, whole}
