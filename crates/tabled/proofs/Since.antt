@@ -9,7 +9,7 @@ use Rattle.tabled_base.specs.declared.error.TableError.TheVariants.{Writer}
 use Rattle.tabled_grid.specs.Sent.{IsCause, Rose, Sent, Sends, Stops, Writes}
 use Rattle.tabled_size.specs.Sheet.{Sheet, is_empty}
 use Rattle.tabled_grid.specs.Picture.{table_text}
-use Rattle.tabled_grid.specs.Printed.{IsRefused}
+use Rattle.tabled_grid.specs.Printed.{Ends}
 use Rattle.tabled_grid.proofs.Sending.{Appends-nil, Appends-then, Keeps-same}
 use Rattle.tabled.proofs.Blocks.{delivered, handed_over, kept_waiting}
 use Rattle.tabled.specs.BlockSent.{Advances, Block, begins, block_sent, sent_since, since}
@@ -218,17 +218,20 @@ puts_begun old new (Err d) e text h b = b
 pub begun_none : (c : Option (List ℕ)) (text : List ℕ) → Begins c c text
 begun_none c text = record { front = []; rest = text; whole = refl; added = Appends-nil c c (Keeps-same c) }
 
+begun_stopped : (t : Sheet) (old new : Sent) (e : TableError) (text more : List ℕ) → Stops old e new (table_text t) → table_text t ++ more ≡ text → Begins old.bytes new.bytes text
+begun_stopped t old new e text more s w = record {
+  front = s.front;
+  rest = s.rest ++ more;
+  whole = sym (append_assoc s.front s.rest more) ∙ ap (λ u. u ++ more) s.whole ∙ w;
+  added = s.added;
+}
+
 -- a table that was refused before the first byte, or later
-pub begun_printed : (t : Sheet) (old new : Sent) (e : TableError) (text more : List ℕ) → (is_empty t.cells ≡ false) × ((IsRefused t e × (new ≡ old)) ⊎ Stops old e new (table_text t)) → table_text t ++ more ≡ text → Begins old.bytes new.bytes text
+pub begun_printed : (t : Sheet) (old new : Sent) (e : TableError) (text more : List ℕ) → (is_empty t.cells ≡ false) × Ends true t old e new → table_text t ++ more ≡ text → Begins old.bytes new.bytes text
 begun_printed t old new e text more p w =
     let P : Sent → Type 0 = λ s. Begins old.bytes s.bytes text in
     ⊎_elim (λ r. subst P (sym r.1) (begun_none old.bytes text))
-    (λ s. let b : Begins old.bytes new.bytes text = record {
-      front = s.front;
-      rest = s.rest ++ more;
-      whole = sym (append_assoc s.front s.rest more) ∙ ap (λ u. u ++ more) s.whole ∙ w;
-      added = s.added;
-    } in b) p.1
+    (λ h. ⊎_elim (λ m. subst P (sym m.2) (begun_none old.bytes text)) (λ x. begun_stopped t old new e text more x.1 w) h) p.1
 
 -- ---- the writer in the end, whose reference is known by its name
 

@@ -11,4 +11,3 @@ mod tests;
 
 pub use config::new_config;
 pub use table::Table;
-pub use tabled_value::Tabled;

@@ -1,9 +1,10 @@
 //! Tables made of values.
 
-use crate::{Table, Tabled};
+use crate::Table;
 use std::alloc::Global;
 use std::test::Fail;
 use tabled_base::{Builder, TableError};
+use tabled_value::Tabled;
 
 const VALUES: [(&str, &str, i32); 2] = [("1", "Hello", 100), ("2", "World", 1000)];
 

@@ -1,10 +1,11 @@
 //! Tables as they are made.
 
 use crate::tests::drawing::{PAIRS, drawn, table_of, totals};
-use crate::{Table, Tabled, new_config};
+use crate::{Table, new_config};
 use std::alloc::Global;
 use std::test::Fail;
 use tabled_base::{Builder, TableError};
+use tabled_value::Tabled;
 
 const ROWS: [(&str, &str); 2] = [("a", "bb"), ("ccc", "")];
 

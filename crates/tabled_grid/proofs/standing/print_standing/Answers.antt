@@ -29,14 +29,14 @@ returns-then-is_complete g c =
     let stored = sym c.is_complete.ensures ∙ c.if-is_complete.true in
     let P : Sheet → Type 0 = λ t. Prints false t (g.S.TextSink.sent c.args.sink.now) c.print_held.result (g.S.TextSink.sent c.print_held.new.sink) in
     let Q : Bool → Type 0 = λ estimates. Prints estimates (standing (g.R.ExactRecords.cells c.args.records.now) c.args.config.now c.args.stored.now)
-      (g.S.TextSink.sent c.args.sink.now) c.print_held.result (g.S.TextSink.sent c.print_held.new.sink) in
+    (g.S.TextSink.sent c.args.sink.now) c.print_held.result (g.S.TextSink.sent c.print_held.new.sink) in
     subst Q (ap not (sym stored))
     (subst P (answered_complete (g.R.ExactRecords.cells c.args.records.now) c.args.config.now c.args.stored.now stored) c.print_held.ensures)
 
 pub returns : goal.returns
 returns g c =
     let Q : Bool → Type 0 = λ estimates. Prints estimates (standing (g.R.ExactRecords.cells c.args.records.now) c.args.config.now c.args.stored.now)
-      (g.S.TextSink.sent c.args.sink.now) c.print_filled_in.result (g.S.TextSink.sent c.print_filled_in.new.sink) in
+    (g.S.TextSink.sent c.args.sink.now) c.print_filled_in.result (g.S.TextSink.sent c.print_filled_in.new.sink) in
     subst Q (ap not (sym (sym c.is_complete.ensures ∙ c.if-is_complete.false))) c.print_filled_in.ensures
 
 pub print_held-requires-clause-marked : goal.print_held-requires-clause-marked
