@@ -15,6 +15,7 @@ TABLED = (
     "tabled_base",
     "tabled_config",
     "tabled_size",
+    "tabled_value",
     "tabled_set",
     "tabled_grid",
     "tabled_table",
