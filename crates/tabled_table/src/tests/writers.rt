@@ -1,4 +1,4 @@
-//! Printing to writers that fail, and in no memory.
+//! Printing to writers that fail, and into a room.
 
 use crate::tests::drawing::store;
 use crate::tests::tables::{PICTURE, pairs};
@@ -67,7 +67,7 @@ fn held(alloc: Global) -> Result<(Result<(), TableError>, bool), TableError> {
 }
 
 #[test]
-fn stored_sizes_print_in_no_memory(rt: HostRuntime) -> Result<(), Fail> {
+fn stored_sizes_print_into_a_room_of_fixed_size(rt: HostRuntime) -> Result<(), Fail> {
     assert_eq!(rt; held(rt.alloc())?, (Ok(()), true));
     Ok(())
 }
