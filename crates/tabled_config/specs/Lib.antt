@@ -1,10 +1,8 @@
-pub mod Changes
 pub mod Compact
 pub mod Frame
 pub mod Lending
 pub mod Lines
 pub mod Options
-pub mod Places
 pub mod Settings
 pub mod Spanned
 pub mod Styles

@@ -3,7 +3,7 @@ use Rattle.std.specs.Prelude.{ℕ, ◌==◌, if◌then◌else◌, Bool, false, O
 use Rattle.tabled_config.specs.declared.borders.HorizontalLine.{HorizontalLine}
 use Rattle.tabled_config.specs.declared.spanned.CellStyle.{CellStyle}
 use Rattle.tabled_config.specs.declared.spanned.SpannedConfig.{SpannedConfig}
-use Rattle.tabled_config.specs.Changes.{setting_at}
+use Rattle.tabled_entity.specs.Changes.{setting_at}
 use Rattle.tabled_config.specs.Frame.{border_at, has_inner}
 use Rattle.tabled_config.specs.Lines.{line_set}
 

@@ -5,7 +5,7 @@ use Rattle.tabled_config.specs.declared.alignment.AlignmentVertical.TheVariants.
 use Rattle.tabled_config.specs.declared.compact.CompactConfig.{CompactConfig}
 use Rattle.tabled_config.specs.declared.compact_multiline.CompactMultilineConfig.{CompactMultilineConfig}
 use Rattle.tabled_config.specs.declared.spanned.SpannedConfig.{SpannedConfig}
-use Rattle.tabled_config.specs.Changes.{for_all}
+use Rattle.tabled_entity.specs.Changes.{for_all}
 use Rattle.tabled_config.specs.Compact.{each_side, no_indent}
 use Rattle.tabled_config.specs.Frame.{no_borders}
 

@@ -1,20 +1,20 @@
 //! The configuration of a table.
 ghost use Rattle.std.specs.Prelude.{◌≡◌, ◌==◌, ℕ, if◌then◌else◌, IfErr, IfOk, IsOk, OnErr, OnOk, Some, []};
 ghost use Rattle.tabled_base.specs.declared.error.TableError.TheVariants.{Memory};
-ghost use Rattle.tabled_config.specs.Changes.{setting_at, with_change};
+ghost use Rattle.tabled_entity.specs.Changes.{setting_at, with_change};
 ghost use Rattle.tabled_config.specs.Lines.{line_set, with_line};
-ghost use Rattle.tabled_config.specs.Places.{IsWhole};
+ghost use Rattle.tabled_entity.specs.Places.{IsWhole};
 
 use crate::alignment::{AlignmentHorizontal, AlignmentVertical};
 use crate::borders::{Borders, HorizontalLine};
 use crate::compact::CompactConfig;
 use crate::compact_multiline::CompactMultilineConfig;
-use crate::entity_map::EntityMap;
 use crate::lines::Lines;
 use crate::sides::{Indent, Sides};
 use crate::style::Style;
 use std::alloc::Global;
 use tabled_base::{Entity, Position, TableError};
+use tabled_entity::EntityMap;
 
 /// How the text of a cell stands in its place.
 #[derive(Clone, Copy, Debug)]

@@ -17,7 +17,8 @@ use Rattle.tabled_config.specs.declared.borders.HorizontalLine.{HorizontalLine}
 use Rattle.tabled_config.specs.Frame.{has_left, has_right, has_inner}
 use Rattle.tabled_config.specs.Settings.{has_bar, style_at}
 use Rattle.tabled_size.specs.Sheet.{Sheet}
-use Rattle.tabled_size.specs.Totals.{one_if, sum_below, filled_width}
+use Rattle.tabled_priority.specs.Sums.{one_if, sum_below}
+use Rattle.tabled_size.specs.Totals.{filled_width}
 use Rattle.tabled_grid.specs.Block.{before_text, text_room, columns_before, cell_line, block, fill_above}
 use Rattle.tabled_grid.specs.Fill.{fill}
 use Rattle.tabled_size.specs.Holds.{Holds}

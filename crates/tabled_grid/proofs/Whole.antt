@@ -8,7 +8,8 @@ use Rattle.tabled_base.specs.Cells.{IsRectangular, columns}
 use Rattle.tabled_config.specs.declared.borders.HorizontalLine.{HorizontalLine}
 use Rattle.tabled_config.specs.Settings.{rule_at}
 use Rattle.tabled_size.specs.Sheet.{Sheet, is_empty}
-use Rattle.tabled_size.specs.Totals.{filled_width, filled_height, total_width, total_height, sum_below, rules_at, part_height, one_if}
+use Rattle.tabled_priority.specs.Sums.{sum_below, one_if}
+use Rattle.tabled_size.specs.Totals.{filled_width, filled_height, total_width, total_height, rules_at, part_height}
 use Rattle.tabled_grid.specs.Fill.{fill}
 use Rattle.tabled_size.specs.Holds.{Holds}
 use Rattle.tabled_grid.specs.Picture.{row_line, row_lines, rule, rule_if, row_part, filled_picture, picture}

@@ -5,9 +5,9 @@ use Rattle.std.proofs.lemmas.Bool.Decides.{nat_tests}
 use Rattle.std.proofs.lemmas.List.{get_or-take}
 use Rattle.tabled_base.specs.Cells.{cell_at}
 use Rattle.tabled_base.specs.declared.position.Entity.TheVariants.{Cell}
-use Rattle.tabled_config.specs.Changes.{covers}
+use Rattle.tabled_entity.specs.Changes.{covers}
 use Rattle.tabled_config.specs.declared.spanned.SpannedConfig.{SpannedConfig}
-use Rattle.tabled_size.specs.Permitted.{at}
+use Rattle.tabled_priority.specs.Permitted.{at}
 use Rattle.tabled_size.specs.Sheet.{Sheet}
 use Rattle.tabled_set.specs.CellChanges.{AreChanged}
 use Rattle.tabled_set.specs.ColumnChanges.{ChangesColumnBefore, ChangesColumnsBefore, for_width, is_permitted}

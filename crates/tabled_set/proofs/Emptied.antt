@@ -5,7 +5,7 @@ use Rattle.std.proofs.lemmas.List.{get_or_default, length-map}
 use Rattle.tabled_base.specs.Cells.{IsRectangular, cell_at, columns}
 use Rattle.tabled_config.specs.declared.spanned.SpannedConfig.{SpannedConfig}
 use Rattle.tabled_size.specs.Estimates.{column_width, estimated_widths, needed_width}
-use Rattle.tabled_size.specs.Permitted.{at}
+use Rattle.tabled_priority.specs.Permitted.{at}
 use Rattle.tabled_size.specs.Sheet.{is_empty}
 use Rattle.tabled_size.proofs.Passing.{width_at, width_ge}
 use Rattle.tabled_size.proofs.ShrunkTotals.{estimated_widths-le}

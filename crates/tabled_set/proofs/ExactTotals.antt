@@ -15,16 +15,16 @@ use Rattle.tabled_base.specs.declared.position.Entity.TheVariants.{Row}
 use Rattle.tabled_config.specs.declared.spanned.SpannedConfig.{SpannedConfig}
 use Rattle.tabled_size.specs.Estimates.{estimated_heights, estimated_widths, needed_width}
 use Rattle.tabled_size.specs.FilledIn.{IsFilledIn}
-use Rattle.tabled_size.specs.Least.{HasLeastGreatest}
-use Rattle.tabled_size.specs.Permitted.{at, IsTakenFrom}
+use Rattle.tabled_priority.specs.Least.{HasLeastGreatest}
+use Rattle.tabled_priority.specs.Permitted.{at, IsTakenFrom}
 use Rattle.tabled_size.specs.Sheet.{Sheet, estimated, is_empty}
-use Rattle.tabled_size.specs.Shrunk.{IsMaxShrunk}
+use Rattle.tabled_priority.specs.Shrunk.{IsMaxShrunk}
 use Rattle.tabled_size.specs.Standing.{clears_heights, clears_widths, unless_cleared}
 use Rattle.tabled_size.specs.StandingSheet.{standing, standing_sizes}
 use Rattle.tabled_size.specs.Stored.{heights_of, widths_of}
 use Rattle.tabled_size.specs.Totals.{filled_width, total_width}
 use Rattle.tabled_size.specs.declared.complete_dimension.CompleteDimension.{CompleteDimension}
-use Rattle.tabled_size.proofs.Optimal.{HasLeastGreatest-from_level, IsLevel-from_max}
+use Rattle.tabled_priority.proofs.Optimal.{HasLeastGreatest-from_level, IsLevel-from_max}
 use Rattle.tabled_size.proofs.ShrunkTotals.{above_minimum, filled_width-frame, frame_width, narrowed_total}
 use Rattle.tabled_size.proofs.Totalling.{heights_length, widths_length}
 use Rattle.tabled_set.specs.CellChanges.{AreChanged, if_wider, truncating, wrapping}

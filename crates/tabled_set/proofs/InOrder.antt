@@ -1,7 +1,7 @@
 -- Places row by row, and column by column.
 use Rattle.std.proofs.Common.{◌≡◌, ℕ, ◌+◌, ◌<◌, true, false, ◌||◌, arith}
 use Rattle.tabled_base.specs.declared.position.Entity.TheVariants.{Cell}
-use Rattle.tabled_config.specs.Changes.{covers}
+use Rattle.tabled_entity.specs.Changes.{covers}
 use Rattle.tabled_set.specs.CellChanges.{precedes_by_column, precedes_by_row}
 
 -- no place comes before itself

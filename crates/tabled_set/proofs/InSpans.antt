@@ -1,7 +1,7 @@
 -- Places that are visited row by row, in spans of rows and of columns.
 use Rattle.std.proofs.Common.{◌≡◌, ℕ, ◌+◌, ◌<◌, ◌≤◌, Bool, false, ◌&&◌, ◌||◌, nat_lt, arith}
 use Rattle.tabled_base.specs.declared.position.Entity.TheVariants.{Cell}
-use Rattle.tabled_config.specs.Changes.{covers}
+use Rattle.tabled_entity.specs.Changes.{covers}
 use Rattle.tabled_set.specs.CellChanges.{precedes_by_row}
 use Rattle.tabled_set.specs.SpanChanges.{in_row, is_within}
 use Rattle.tabled_set.specs.declared.covering.Span.{Span}

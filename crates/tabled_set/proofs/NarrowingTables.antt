@@ -10,7 +10,7 @@ use Rattle.tabled_base.specs.declared.error.TableError.TheVariants.{Memory, Rang
 use Rattle.tabled_config.specs.declared.spanned.SpannedConfig.{SpannedConfig}
 use Rattle.tabled_size.specs.Estimates.{IsTooWide, estimated_heights, estimated_widths}
 use Rattle.tabled_size.specs.FilledIn.{HasNoEstimate, IsFilledIn}
-use Rattle.tabled_size.specs.Permitted.{FitsMinimums}
+use Rattle.tabled_priority.specs.Permitted.{FitsMinimums}
 use Rattle.tabled_size.specs.Sheet.{Sheet, is_empty}
 use Rattle.tabled_size.specs.StandingSheet.{standing, standing_sizes}
 use Rattle.tabled_size.specs.Stored.{heights_of, widths_of}

@@ -3,8 +3,8 @@ use Rattle.std.specs.Prelude.{◌≡◌, ◌<◌, ◌-◌, ℕ, Bool, true, fals
 use Rattle.std.specs.List.{AllZip, join_with_byte, list_all}
 use Rattle.tabled_base.specs.Cells.{IsInside, cell_at}
 use Rattle.tabled_set.specs.Minimums.{minimums, side_padding}
-use Rattle.tabled_size.specs.Least.{HasLeastGreatest}
-use Rattle.tabled_size.specs.Permitted.{at}
+use Rattle.tabled_priority.specs.Least.{HasLeastGreatest}
+use Rattle.tabled_priority.specs.Permitted.{at}
 use Rattle.tabled_size.specs.Sheet.{Sheet}
 use Rattle.tabled_text.specs.Breaking.{EachUnitFits, HasFewestLines}
 use Rattle.tabled_text.specs.Longest.{IsLongestCut}

@@ -1,7 +1,7 @@
 -- Columns whose cells are changed from the top, one column after another.
 use Rattle.std.specs.Prelude.{◌≡◌, ℕ, ◌-◌, Bool, List, ◌==◌, ◌&&◌, MatchBool, length, nat_le, nat_lt}
 use Rattle.tabled_config.specs.declared.spanned.SpannedConfig.{SpannedConfig}
-use Rattle.tabled_size.specs.Permitted.{at}
+use Rattle.tabled_priority.specs.Permitted.{at}
 use Rattle.tabled_set.specs.CellChanges.{AreChanged, precedes_by_column}
 use Rattle.tabled_set.specs.Minimums.{side_padding}
 

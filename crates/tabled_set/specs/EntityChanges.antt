@@ -3,7 +3,7 @@ use Rattle.std.specs.Prelude.{◌≡◌, ◌⊎◌, ℕ, ◌&&◌, List}
 use Rattle.tabled_base.specs.declared.error.TableError.{TableError}
 use Rattle.tabled_base.specs.declared.error.TableError.TheVariants.{Memory}
 use Rattle.tabled_base.specs.declared.position.Entity.{Entity}
-use Rattle.tabled_config.specs.Changes.{covers}
+use Rattle.tabled_entity.specs.Changes.{covers}
 use Rattle.tabled_set.specs.CellChanges.{AreChanged, if_wider, precedes_by_row}
 
 -- the entity's cells that are wider than n are changed for that room, and all others stay

@@ -4,10 +4,10 @@ use Rattle.tabled_set.specs.BestNarrowing.{HasLeastWidth, IsBestCut, IsBestWrapp
 use Rattle.tabled_set.specs.ExactTotal.{HasEstimatedWidths, HasExactTotal}
 use Rattle.tabled_set.specs.PlainEnding.{IsPlainLimit}
 use Rattle.tabled_set.specs.declared.suffix.SuffixLimit.{SuffixLimit}
-use Rattle.tabled_size.specs.Permitted.{IsTakenFrom}
+use Rattle.tabled_priority.specs.Permitted.{IsTakenFrom}
 use Rattle.tabled_size.specs.PlainCells.{ArePlain}
 use Rattle.tabled_size.specs.Sheet.{Sheet}
-use Rattle.tabled_size.specs.Shrunk.{IsMaxShrunk}
+use Rattle.tabled_priority.specs.Shrunk.{IsMaxShrunk}
 use Rattle.tabled_size.specs.Totals.{total_width}
 use Rattle.tabled_text.specs.Plain.{IsPlain}
 

@@ -1,7 +1,7 @@
 -- Cells that are changed row by row, in spans of rows and of columns.
 use Rattle.std.specs.Prelude.{ℕ, ◌==◌, ◌&&◌, Bool, List, nat_le, nat_lt}
 use Rattle.tabled_base.specs.declared.position.Entity.{Entity}
-use Rattle.tabled_config.specs.Changes.{covers}
+use Rattle.tabled_entity.specs.Changes.{covers}
 use Rattle.tabled_set.specs.CellChanges.{AreChanged, precedes_by_row}
 use Rattle.tabled_set.specs.declared.covering.Span.{Span}
 

@@ -3,7 +3,7 @@ ghost use Rattle.std.specs.Prelude.{◌≡◌, ℕ, IfErr, IfOk, List, OnErr, On
 ghost use Rattle.tabled_base.specs.Cells.{IsInside};
 ghost use Rattle.tabled_base.specs.declared.error.TableError.TheVariants.{Memory};
 ghost use Rattle.tabled_base.specs.declared.position.Entity.TheVariants.{Cell};
-ghost use Rattle.tabled_config.specs.Changes.{covers};
+ghost use Rattle.tabled_entity.specs.Changes.{covers};
 ghost use Rattle.tabled_set.specs.CellChanges.{AreChanged, if_wider};
 
 use std::alloc::Global;

@@ -5,7 +5,7 @@ ghost use Rattle.tabled_base.specs.declared.error.TableError.TheVariants.{Memory
 ghost use Rattle.tabled_set.specs.CellChanges.{AreChanged};
 ghost use Rattle.tabled_set.specs.ColumnChanges.{ChangesColumnBefore, ChangesColumnsBefore, for_width, is_permitted};
 ghost use Rattle.tabled_set.specs.Minimums.{side_padding};
-ghost use Rattle.tabled_size.specs.Permitted.{at};
+ghost use Rattle.tabled_priority.specs.Permitted.{at};
 
 use crate::changing::ChangesCell;
 use tabled_base::{Position, RecordsMut, TableError};

@@ -2,7 +2,7 @@
 ghost use Rattle.std.specs.Prelude.{◌≡◌, ◌≤◌, ◌<◌, ◌==◌, ◌&&◌, ℕ, IfErr, OnErr, OnOk, length};
 ghost use Rattle.tabled_base.specs.Cells.{columns};
 ghost use Rattle.tabled_base.specs.declared.error.TableError.TheVariants.{Memory};
-ghost use Rattle.tabled_config.specs.Changes.{covers};
+ghost use Rattle.tabled_entity.specs.Changes.{covers};
 ghost use Rattle.tabled_set.specs.CellChanges.{AreChanged};
 ghost use Rattle.tabled_set.specs.EntityChanges.{ChangesWider, StopsWider};
 ghost use Rattle.tabled_set.specs.SpanChanges.{AreChangedBefore, IsRowChangedBefore, in_row, is_within};

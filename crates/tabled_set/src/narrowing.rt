@@ -7,7 +7,7 @@ ghost use Rattle.tabled_set.specs.Shrinking.{IsFound, IsShrunkBy};
 ghost use Rattle.tabled_size.specs.Sheet.{is_empty};
 ghost use Rattle.tabled_size.specs.StandingSheet.{standing};
 ghost use Rattle.tabled_size.specs.Stored.{widths_of};
-ghost use Rattle.tabled_size.specs.Permitted.{FitsMinimums};
+ghost use Rattle.tabled_priority.specs.Permitted.{FitsMinimums};
 ghost use Rattle.tabled_size.specs.Totals.{filled_width, total_width};
 
 use crate::columns::ColumnWidths;

@@ -5,9 +5,10 @@ use Rattle.std.proofs.lemmas.List.FromFn.{get_or-map-range_with_len}
 use Rattle.tabled_base.specs.Cells.{columns}
 use Rattle.tabled_config.specs.declared.spanned.SpannedConfig.{SpannedConfig}
 use Rattle.tabled_size.specs.Estimates.{IsTooHigh, IsTooWide, column_width, estimated_heights, estimated_widths, needed_height, needed_width, row_height}
-use Rattle.tabled_size.specs.Totals.{filled_height, filled_width, part_height, sum_below}
+use Rattle.tabled_priority.specs.Sums.{sum_below}
+use Rattle.tabled_size.specs.Totals.{filled_height, filled_width, part_height}
 use Rattle.tabled_size.proofs.Greatest.{greatest_ge}
-use Rattle.tabled_size.proofs.Sums.{sum_step}
+use Rattle.tabled_priority.proofs.Sums.{sum_step}
 
 -- the estimated width of a column, and what its cells need
 pub width_at : (cells : List (List (List ℕ))) (config : SpannedConfig) (column : ℕ) → column < columns cells → slice_index (estimated_widths cells config) column ≡ column_width cells config column

@@ -7,9 +7,10 @@ use Rattle.tabled_config.specs.Frame.{has_inner, has_left, has_right}
 use Rattle.tabled_config.specs.declared.spanned.SpannedConfig.{SpannedConfig}
 use Rattle.tabled_text.specs.Measure.{text_columns}
 use Rattle.tabled_size.specs.Estimates.{column_width, estimated_widths, needed_width}
-use Rattle.tabled_size.specs.Permitted.{at, spare, spare_total, IsPermitted, IsTakenFrom}
-use Rattle.tabled_size.specs.SumLaws.{sum-below, sum_below-plus, sum_below-same}
-use Rattle.tabled_size.specs.Totals.{filled_width, one_if, sum_below}
+use Rattle.tabled_priority.specs.Permitted.{at, spare, spare_total, IsPermitted, IsTakenFrom}
+use Rattle.tabled_priority.specs.SumLaws.{sum-below, sum_below-plus, sum_below-same}
+use Rattle.tabled_priority.specs.Sums.{one_if, sum_below}
+use Rattle.tabled_size.specs.Totals.{filled_width}
 use Rattle.tabled_size.proofs.Greatest.{greatest_below, greatest_step}
 use Rattle.tabled_size.proofs.Passing.{width_at}
 use Rattle.tabled_size.proofs.Totalling.{widths_length}

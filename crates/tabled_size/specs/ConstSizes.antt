@@ -2,7 +2,7 @@
 use Rattle.std.specs.Prelude.{ℕ, Option, Some, None, nat_lt, if◌then◌else◌}
 use Rattle.tabled_size.specs.declared.const_dimension.ConstSize.{ConstSize}
 use Rattle.tabled_size.specs.declared.const_dimension.ConstSize.TheVariants.{List as Listed, Value}
-use Rattle.tabled_size.specs.Permitted.{at}
+use Rattle.tabled_priority.specs.Permitted.{at}
 
 -- the size at a place: the entry of the array of N sizes, if it has it, or the one for all
 abbrev pub size_at : {N : ℕ} → ConstSize N → ℕ → Option ℕ

@@ -2,7 +2,7 @@
 use Rattle.std.specs.Prelude.{ℕ, Bool, true, false, List, length, Option, Some, None, nat_lt, if◌then◌else◌}
 use Rattle.tabled_base.specs.declared.position.Entity.{Entity}
 use Rattle.tabled_base.specs.declared.position.Entity.TheVariants.{Global, Row, Column, Cell}
-use Rattle.tabled_size.specs.Permitted.{at}
+use Rattle.tabled_priority.specs.Permitted.{at}
 
 -- the entry of a list, if it has it
 abbrev pub entry : List ℕ → ℕ → Option ℕ

@@ -1,19 +1,12 @@
 -- The columns and lines of a whole table.
-use Rattle.std.specs.Prelude.{ℕ, zero, suc, ◌+◌, ◌-◌, ◌*◌, if◌then◌else◌, Bool, List, is_some, length}
+use Rattle.std.specs.Prelude.{ℕ, ◌+◌, ◌-◌, ◌*◌, if◌then◌else◌, List, is_some, length}
 use Rattle.std.specs.List.{slice_index}
 use Rattle.tabled_base.specs.Cells.{columns}
 use Rattle.tabled_config.specs.declared.spanned.SpannedConfig.{SpannedConfig}
 use Rattle.tabled_config.specs.Frame.{has_left, has_right, has_inner}
 use Rattle.tabled_config.specs.Settings.{rule_at}
+use Rattle.tabled_priority.specs.Sums.{one_if, sum_below}
 use Rattle.tabled_size.specs.Sheet.{Sheet, is_empty}
-
-abbrev pub one_if : Bool → ℕ
-one_if there = if there then 1 else 0
-
--- f 0 + .. + f (n - 1)
-abbrev pub sum_below : (ℕ → ℕ) → ℕ → ℕ
-sum_below f zero = 0
-sum_below f (suc n) = sum_below f n + f n
 
 -- of a table with some columns: their widths, the vertical lines that are there, and the margin on
 -- the left and right

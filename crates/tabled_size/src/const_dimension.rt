@@ -2,7 +2,7 @@
 ghost use Rattle.std.specs.Prelude.{◌≡◌, ◌⊎◌, IfErr, OnErr, OnOk, ◌<◌, Some, is_some, length, true};
 ghost use Rattle.tabled_size.specs.declared.const_dimension.ConstSize.TheVariants.{List as Listed, Value};
 ghost use Rattle.tabled_size.specs.ConstSizes.{size_at};
-ghost use Rattle.tabled_size.specs.Permitted.{at};
+ghost use Rattle.tabled_priority.specs.Permitted.{at};
 ghost use Rattle.tabled_base.specs.declared.error.TableError.TheVariants.{Memory, Range};
 
 use crate::dimension::{Dimension, Estimate};

@@ -1,5 +1,3 @@
 //! What no clause says, and each public call at a concrete type.
 
 mod dimensions;
-mod priorities;
-mod stepwise;

@@ -2,7 +2,8 @@
 ghost use Rattle.std.specs.Prelude.{◌≡◌, ◌<◌, ◌≤◌, ◌^◌, MatchOption, length};
 ghost use Rattle.std.specs.List.{slice_index};
 ghost use Rattle.tabled_size.specs.Reached.{reached};
-ghost use Rattle.tabled_size.specs.Totals.{filled_height, filled_width, one_if, part_height, rules_at, sum_below};
+ghost use Rattle.tabled_priority.specs.Sums.{one_if, sum_below};
+ghost use Rattle.tabled_size.specs.Totals.{filled_height, filled_width, part_height, rules_at};
 
 use crate::dimension::Dimension;
 use tabled_config::SpannedConfig;
@@ -31,7 +32,7 @@ fn height_at<D: Dimension>(sizes: &D, rows: usize, row: usize) -> usize
     sizes.get_height(row)
 }
 
-#[tactic(auto, using(crate::proofs::Sums::sum_step))]
+#[tactic(auto, using(tabled_priority::proofs::Sums::sum_step))]
 fn sum_widths<D: Dimension>(sizes: &D, columns: usize) -> Option<usize>
     requires { columns ≤ length (reached (D.width_at sizes.now) columns) }
     ensures { let widths = reached (D.width_at sizes.now) columns in
@@ -81,7 +82,7 @@ fn part_height<D: Dimension>(
     one_if(config.rule_at(rows, row).is_some()).checked_add(height_at(sizes, rows, row))
 }
 
-#[tactic(auto, using(crate::proofs::Sums::sum_step))]
+#[tactic(auto, using(tabled_priority::proofs::Sums::sum_step))]
 fn sum_rows<D: Dimension>(config: &SpannedConfig, rows: usize, sizes: &D) -> Option<usize>
     requires { rows ≤ length (reached (D.height_at sizes.now) rows) }
     ensures { let part = part_height config.now rows (reached (D.height_at sizes.now) rows) in

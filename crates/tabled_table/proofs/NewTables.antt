@@ -10,8 +10,9 @@ use Rattle.tabled_size.specs.Estimates.{estimated_heights, estimated_widths}
 use Rattle.tabled_size.specs.Sheet.{Sheet, is_empty}
 use Rattle.tabled_size.specs.StandingSheet.{standing_sizes}
 use Rattle.tabled_size.specs.Stored.{heights_of, widths_of}
-use Rattle.tabled_size.specs.Totals.{filled_height, part_height, sum_below, total_height, total_width}
-use Rattle.tabled_size.proofs.Sums.{sum_step}
+use Rattle.tabled_priority.specs.Sums.{sum_below}
+use Rattle.tabled_size.specs.Totals.{filled_height, part_height, total_height, total_width}
+use Rattle.tabled_priority.proofs.Sums.{sum_step}
 use Rattle.tabled_size.specs.Holds.{Holds}
 use Rattle.tabled_grid.specs.Picture.{picture}
 use Rattle.tabled_size.specs.PlainCells.{ArePlain}

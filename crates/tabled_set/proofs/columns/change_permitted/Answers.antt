@@ -1,6 +1,6 @@
 use Rattle.std.proofs.Common.{sym, ◌∙◌}
 use Rattle.std.proofs.lemmas.Result.{on_err_weaker}
-use Rattle.tabled_size.specs.Permitted.{at}
+use Rattle.tabled_priority.specs.Permitted.{at}
 use Rattle.tabled_set.specs.ColumnChanges.{is_permitted}
 use Rattle.tabled_set.proofs.ChangingColumns.{some-permitted, width-some}
 use Rattle.tabled_set.proofs.columns.change_permitted.Goals as goal

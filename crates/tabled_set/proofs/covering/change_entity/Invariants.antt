@@ -1,5 +1,5 @@
 use Rattle.std.proofs.Common.{◌&&◌}
-use Rattle.tabled_config.specs.Changes.{covers}
+use Rattle.tabled_entity.specs.Changes.{covers}
 use Rattle.tabled_set.specs.CellChanges.{AreChanged, precedes_by_row}
 use Rattle.tabled_set.proofs.covering.change_entity.Given as goal
 

@@ -1,6 +1,7 @@
 use Rattle.std.proofs.Common.{◌≡◌}
 use Rattle.tabled_size.specs.Reached.{reached}
-use Rattle.tabled_size.specs.Totals.{part_height, sum_below}
+use Rattle.tabled_priority.specs.Sums.{sum_below}
+use Rattle.tabled_size.specs.Totals.{part_height}
 use Rattle.tabled_size.proofs.total.sum_rows.Given as goal
 
 abbrev pub invariant-rows : goal.invariant-rows

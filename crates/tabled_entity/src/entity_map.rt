@@ -1,0 +1,141 @@
+//! One setting of a table: for the whole of it, for rows, for columns and for cells.
+ghost use Rattle.std.specs.Prelude.{◌≡◌, IfOk, IsOk, OnErr, OnOk};
+ghost use Rattle.tabled_entity.specs.Changes.{for_all, setting_at, with_change};
+ghost use Rattle.tabled_entity.specs.Places.{IsPart, IsWhole};
+
+use crate::places::Places;
+use std::alloc::{AllocError, Global};
+use std::marker::Model;
+use tabled_base::Entity;
+
+/// One setting of a table. The latest one that covers a cell holds there.
+///
+/// A cell's setting is found by three look-ups among the entities that were set.
+#[derive(Debug, Drop)]
+pub struct EntityMap<T> {
+    // What was set for the whole table.
+    whole: T,
+    // What was set for parts of it since then, in order.
+    changes: Vec<(Entity, T)>,
+    // Where the latest change for each part stands.
+    places: Places,
+}
+
+impl<T> Model for EntityMap<T> {
+    ghost use Rattle.std.specs.Prelude.{reverse};
+    ghost use Rattle.tabled_entity.specs.Changes.{Changes};
+    ghost use Rattle.tabled_entity.specs.Places.{IsIndexed};
+
+    ghost Value = { Changes T };
+
+    ghost view = { λ m. record { whole = m.whole; parts = reverse m.changes.items } };
+
+    ghost invariant = { λ m. IsIndexed m.places (reverse m.changes.items) };
+}
+
+impl<T: Copy> EntityMap<T> {
+    /// One value for the whole table.
+    pub fn new(alloc: Global, value: T) -> EntityMap<T>
+        ensures { result ≡ for_all value }
+    {
+        EntityMap {
+            whole: value,
+            changes: Vec::new(alloc),
+            places: Places::new(alloc),
+        }
+    }
+
+    /// The same settings.
+    pub fn clone(&self) -> Result<EntityMap<T>, AllocError>
+        ensures { IfOk result (λ copy. copy ≡ self.now) }
+    {
+        Ok(EntityMap {
+            whole: self.whole,
+            changes: Vec::from_slice(*self.changes.allocator(), &self.changes)?,
+            places: self.places.clone()?,
+        })
+    }
+
+    /// Sets a value for the whole table, and forgets all others.
+    pub fn set_all(&mut self, value: T)
+        ensures { self.new ≡ for_all value }
+    {
+        self.whole = value;
+        self.changes.clear();
+        self.places.clear();
+    }
+
+    /// Sets a value for a part of the table. Where memory is refused, all is as it was.
+    fn set_part(&mut self, entity: Entity, value: T) -> Result<(), AllocError>
+        requires { IsPart entity }
+        ensures ok { OnOk result (self.new ≡ with_change self.old entity value) }
+        ensures err { OnErr result (self.new ≡ self.old) }
+    {
+        let place = self.changes.len();
+        self.changes.try_reserve(1)?;
+        self.places.put(entity, place)?;
+        self.changes.push((entity, value))?;
+        Ok(())
+    }
+
+    /// Sets a value for an entity. Where memory is refused, all is as it was.
+    pub fn set(&mut self, entity: Entity, value: T) -> Result<(), AllocError>
+        ensures ok { OnOk result (self.new ≡ with_change self.old entity value) }
+        ensures err { OnErr result (self.new ≡ self.old) }
+        ensures whole { IsWhole entity → IsOk result }
+    {
+        match entity {
+            Entity::Global => {
+                self.set_all(value);
+                Ok(())
+            }
+            part => self.set_part(part, value),
+        }
+    }
+
+    /// What the settings grow by.
+    pub fn allocator(&self) -> Global {
+        *self.changes.allocator()
+    }
+
+    /// The value of a cell.
+    #[inline]
+    pub fn get(&self, row: usize, column: usize) -> T
+        ensures { result ≡ setting_at self.now row column }
+    {
+        if self.changes.is_empty() {
+            return self.whole;
+        }
+        match self.places.latest(row, column) {
+            Some(place) => self.changes[place].1,
+            None => self.whole,
+        }
+    }
+}
+
+impl<T: PartialEq> PartialEq for EntityMap<T> {
+    ghost use Rattle.std.specs.Prelude.{◌&&◌, reverse};
+    ghost use Rattle.std.specs.Cmp.{and_per, on_per};
+    ghost use Rattle.std.specs.Cmp.Lexicographic.{lists_per, pointwise};
+    ghost use Rattle.tabled_base.specs.contracts.position.EntityPartialEq.TheImpl.Laws.{laws-law as entity_per};
+
+    ghost eq = { λ a b. T.eq a.whole b.whole
+        && pointwise (λ p q. ⟦<Entity as PartialEq>⟧.eq p.0 q.0 && T.eq p.1 q.1) (reverse a.parts) (reverse b.parts) };
+
+    ghost laws = { and_per (on_per (λ m. m.whole) T.laws) (on_per (λ m. reverse m.parts)
+        (lists_per (and_per (on_per (λ p. p.0) entity_per) (on_per (λ p. p.1) T.laws)))) };
+
+    fn eq(&self, other: &EntityMap<T>) -> bool {
+        self.whole == other.whole && self.changes == other.changes
+    }
+}
+
+impl<T: Eq> Eq for EntityMap<T> {
+    ghost use Rattle.std.specs.Prelude.{reverse};
+    ghost use Rattle.std.specs.Cmp.{and_equiv, on_equiv};
+    ghost use Rattle.std.specs.Cmp.Lexicographic.{lists_equiv};
+    ghost use Rattle.tabled_base.specs.contracts.position.EntityEq.TheImpl.Laws.{laws-law as entity_eq};
+
+    ghost laws = { and_equiv (on_equiv (λ m. m.whole) T.Eq.laws) (on_equiv (λ m. reverse m.parts)
+        (lists_equiv (and_equiv (on_equiv (λ p. p.0) entity_eq) (on_equiv (λ p. p.1) T.Eq.laws)))) };
+}

@@ -1,0 +1,119 @@
+//! Where the latest change for each part of a table stands in the list of changes.
+ghost use Rattle.std.specs.Prelude.{◌≡◌, IfOk, OnErr, OnOk};
+ghost use Rattle.tabled_base.specs.declared.position.Entity.TheVariants.{Cell, Column, Row};
+ghost use Rattle.tabled_entity.specs.Places.{
+  HasNone,
+  IsPart,
+  IsPlaced,
+  SamePlaces,
+  found,
+  later,
+  latest,
+};
+
+use std::alloc::{AllocError, Global};
+use std::collections::BTreeMap;
+use tabled_base::Entity;
+
+/// For rows, columns and cells, where the latest change stands.
+#[derive(Debug, Drop)]
+pub(crate) struct Places {
+    rows: BTreeMap<usize, usize>,
+    columns: BTreeMap<usize, usize>,
+    cells: BTreeMap<(usize, usize), usize>,
+}
+
+// The later of two places.
+fn later(a: Option<usize>, b: Option<usize>) -> Option<usize>
+    ensures { result ≡ later a b }
+{
+    match (a, b) {
+        (Some(i), Some(j)) => Some(i.max(j)),
+        (Some(i), None) => Some(i),
+        (None, other) => other,
+    }
+}
+
+impl Places {
+    /// No place.
+    pub fn new(alloc: Global) -> Places
+        ensures { HasNone result }
+    {
+        Places {
+            rows: BTreeMap::new(alloc),
+            columns: BTreeMap::new(alloc),
+            cells: BTreeMap::new(alloc),
+        }
+    }
+
+    /// The same places.
+    pub fn clone(&self) -> Result<Places, AllocError>
+        ensures { IfOk result (λ copy. SamePlaces self.now copy) }
+    {
+        Ok(Places {
+            rows: self.rows.clone()?,
+            columns: self.columns.clone()?,
+            cells: self.cells.clone()?,
+        })
+    }
+
+    /// Forgets all places.
+    pub fn clear(&mut self)
+        ensures { HasNone self.new }
+    {
+        self.rows.clear();
+        self.columns.clear();
+        self.cells.clear();
+    }
+
+    /// Keeps the place of a row.
+    fn put_row(&mut self, row: usize, place: usize) -> Result<(), AllocError>
+        ensures ok { OnOk result (IsPlaced self.old self.new (Row row) place) }
+        ensures err { OnErr result (SamePlaces self.old self.new) }
+    {
+        self.rows.insert(row, place)?;
+        Ok(())
+    }
+
+    /// Keeps the place of a column.
+    fn put_column(&mut self, column: usize, place: usize) -> Result<(), AllocError>
+        ensures ok { OnOk result (IsPlaced self.old self.new (Column column) place) }
+        ensures err { OnErr result (SamePlaces self.old self.new) }
+    {
+        self.columns.insert(column, place)?;
+        Ok(())
+    }
+
+    /// Keeps the place of a cell.
+    fn put_cell(&mut self, row: usize, column: usize, place: usize) -> Result<(), AllocError>
+        ensures ok { OnOk result (IsPlaced self.old self.new (Cell row column) place) }
+        ensures err { OnErr result (SamePlaces self.old self.new) }
+    {
+        self.cells.insert((row, column), place)?;
+        Ok(())
+    }
+
+    /// Keeps the place of an entity, which is not the whole table.
+    pub fn put(&mut self, entity: Entity, place: usize) -> Result<(), AllocError>
+        requires { IsPart entity }
+        ensures ok { OnOk result (IsPlaced self.old self.new entity place) }
+        ensures err { OnErr result (SamePlaces self.old self.new) }
+    {
+        match entity {
+            Entity::Global => unreachable!(),
+            Entity::Row(row) => self.put_row(row, place),
+            Entity::Column(column) => self.put_column(column, place),
+            Entity::Cell(row, column) => self.put_cell(row, column, place),
+        }
+    }
+
+    /// The latest of the places kept for the entities that a cell belongs to.
+    pub fn latest(&self, row: usize, column: usize) -> Option<usize>
+        ensures { result ≡ latest (found self.now) row column }
+    {
+        let of_row = self.rows.get(&row).copied();
+        let of_column = self.columns.get(&column).copied();
+        let of_cell = self.cells.get(&(row, column)).copied();
+        later(of_row, later(of_column, of_cell))
+    }
+}

@@ -1,0 +1,69 @@
+-- Which entries stand between their limits.
+use Rattle.std.proofs.Common.{◌≡◌, ◌≢◌, ℕ, ◌+◌, ◌-◌, ◌<◌, ◌≤◌, Bool, true, false, if◌then◌else◌, ◌&&◌, ◌||◌, ◌==◌, List, length, min, sym, ◌∙◌, arith, ⊎_elim, nat_lt}
+use Rattle.std.proofs.lemmas.Bool.Decides.{nat_tests}
+use Rattle.std.proofs.lemmas.Bool.{cases_lt, cases_eq, cases_Bool}
+use Rattle.tabled_priority.specs.Permitted.{at, taken, IsBetween, HasOneBetween, HasEvenLosses}
+use Rattle.tabled_priority.specs.PermittedLaws.{in_range}
+use Rattle.tabled_priority.specs.Shrunk.{comes_before, is_met, start, IsLeftShrunk, IsRightShrunk, IsMinShrunk, IsRoundShrunk}
+use Rattle.tabled_priority.specs.ShrunkLaws.{same_where_none}
+
+left_place : (old mins : List ℕ) (by : ℕ) (new : List ℕ) (s : IsLeftShrunk old mins by new) (i : ℕ) → IsBetween old mins new i → i ≡ s.place
+left_place old mins by new s i b =
+    let lower = b.0 in let upper = b.1 in
+    ⊎_elim
+    (λ (before : i < s.place). let e = s.before i before in absurd (omega arith))
+    (λ (here : s.place ≤ i). ⊎_elim (λ (after : s.place < i). let e = s.after i after in absurd (omega arith)) (λ le. omega arith) (cases_lt s.place i))
+    (cases_lt i s.place)
+
+pub left_between : (old mins : List ℕ) (by : ℕ) (new : List ℕ) → IsLeftShrunk old mins by new → HasOneBetween old mins new
+left_between old mins by new s i j a b = left_place old mins by new s i a ∙ sym (left_place old mins by new s j b)
+
+right_place : (old mins : List ℕ) (by : ℕ) (new : List ℕ) (s : IsRightShrunk old mins by new) (i : ℕ) → IsBetween old mins new i → i ≡ s.place
+right_place old mins by new s i b =
+    let lower = b.0 in let upper = b.1 in
+    ⊎_elim
+    (λ (before : i < s.place). let e = s.before i before in absurd (omega arith))
+    (λ (here : s.place ≤ i). ⊎_elim (λ (after : s.place < i). let e = s.after i after in absurd (omega arith)) (λ le. omega arith) (cases_lt s.place i))
+    (cases_lt i s.place)
+
+pub right_between : (old mins : List ℕ) (by : ℕ) (new : List ℕ) → IsRightShrunk old mins by new → HasOneBetween old mins new
+right_between old mins by new s i j a b = right_place old mins by new s i a ∙ sym (right_place old mins by new s j b)
+
+one_first : (right : Bool) (x y i j : ℕ) → i ≢ j
+    → (nat_lt x y || ((x == y) && (if right then nat_lt j i else nat_lt i j))) ≡ false
+    → (nat_lt y x || ((y == x) && (if right then nat_lt i j else nat_lt j i))) ≡ true
+one_first true x y i j ne h = grind (arith, nat_tests)
+one_first false x y i j ne h = grind (arith, nat_tests)
+
+min_place : (right : Bool) (old mins : List ℕ) (by : ℕ) (new : List ℕ) (s : IsMinShrunk right old mins by new) (i : ℕ) → IsBetween old mins new i → i ≡ s.place
+min_place right old mins by new s i b =
+    let lower = b.0 in let upper = b.1 in
+    ⊎_elim
+    (λ (some : 0 < taken old mins by). ⊎_elim
+    (λ here. here)
+    (λ ne. ⊎_elim
+    (λ first. let e = s.before i some (omega arith) first in absurd (omega arith))
+    (λ not_first. let e = s.after i some (omega arith) (one_first right (at old i) (at old s.place) i s.place ne not_first) in absurd (omega arith))
+    (cases_Bool (comes_before right old i s.place)))
+    (cases_eq i s.place))
+    (λ none. let e = same_where_none old mins by new s.takes (omega arith) i in absurd (omega arith))
+    (cases_lt 0 (taken old mins by))
+
+pub min_between : (right : Bool) (old mins : List ℕ) (by : ℕ) (new : List ℕ) → IsMinShrunk right old mins by new → HasOneBetween old mins new
+min_between right old mins by new s i j a b = min_place right old mins by new s i a ∙ sym (min_place right old mins by new s j b)
+
+lost : (v m new rounds : ℕ) (b : Bool) → m < new → new + min (v - m) (if b then rounds + 1 else rounds) ≡ v → (rounds ≤ v - new) × (v - new ≤ rounds + 1)
+lost v m new rounds true h e = (omega arith, omega arith)
+lost v m new rounds false h e = (omega arith, omega arith)
+
+pub round_even : (kept : ℕ) (old mins : List ℕ) (by : ℕ) (new : List ℕ) (kept' : ℕ) → IsRoundShrunk kept old mins by new kept' → HasEvenLosses old mins new
+round_even kept old mins by new kept' s i j a b = ⊎_elim
+    (λ (some : 0 < taken old mins by).
+    let len = s.takes.permitted.same_length in
+    let i_in = in_range new i (at mins i) a in
+    let j_in = in_range new j (at mins j) b in
+    let x = lost (at old i) (at mins i) (at new i) s.rounds (is_met (start kept (length old)) s.last i) a (s.losses i (omega arith) some) in
+    let y = lost (at old j) (at mins j) (at new j) s.rounds (is_met (start kept (length old)) s.last j) b (s.losses j (omega arith) some) in
+    omega (arith, x.1, y.0))
+    (λ none. let e = same_where_none old mins by new s.takes (omega arith) i in omega arith)
+    (cases_lt 0 (taken old mins by))

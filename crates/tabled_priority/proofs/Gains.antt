@@ -1,0 +1,168 @@
+-- What columns gain by their shares.
+use Rattle.std.proofs.Common.{◌≡◌, ℕ, ◌+◌, ◌-◌, ◌<◌, ◌≤◌, ◌^◌, Bool, true, false, cond, if◌then◌else◌, ◌&&◌, ◌==◌, List, [], length, sum, min, max, refl, sym, ap, ◌∙◌, subst, arith, ⊎_elim, zero, suc, nat_lt, nat_le}
+use Rattle.std.proofs.lemmas.Bool.Decides.{nat_tests}
+use Rattle.std.proofs.lemmas.Bool.{cases_lt, ne_eqb}
+use Rattle.std.proofs.lemmas.List.{get_or_past}
+use Rattle.tabled_priority.specs.declared.filling.Filling.TheVariants.{Heights, Gains}
+use Rattle.tabled_priority.specs.Permitted.{at}
+use Rattle.tabled_priority.specs.PermittedLaws.{in_range}
+use Rattle.tabled_priority.specs.Shrunk.{ceiling, is_met, start, place_after}
+use Rattle.tabled_priority.specs.ShrunkLaws.{at-le-sum}
+use Rattle.tabled_priority.specs.Sums.{sum_below, one_if}
+use Rattle.tabled_priority.specs.SumLaws.{sum_below-same, sum_below-plus, sum_below-zero, sum_below-term, sum-below}
+use Rattle.tabled_priority.specs.Grown.{added, IsGrownFrom, IsMinGrown, IsRoundGrown}
+use Rattle.tabled_priority.specs.GrownLaws.{added-some, added-none, IsMinGrown-nothing}
+use Rattle.tabled_priority.specs.Filling.{amount, filled, first_level, last_level, is_open, share, IsReached, IsSpan}
+use Rattle.tabled_priority.proofs.Shares.{shares}
+
+abbrev pub top : ℕ
+top = 18446744073709551615
+
+some_term : (f : ℕ → ℕ) (n : ℕ) → 0 < sum_below f n → (i : ℕ) × (i < n) × (0 < f i)
+some_term f zero h = absurd (omega arith)
+some_term f (suc n) h = ⊎_elim
+    (λ (here : 0 < f n). (n, (let l : n < suc n = omega arith in l), here))
+    (λ (none : f n ≤ 0). let r = some_term f n (omega arith) in (r.0, (let a = r.1 in let l : r.0 < suc n = omega arith in l), r.2))
+    (cases_lt 0 (f n))
+
+-- what is wanted, of what columns can gain up to the greatest level
+pub wanted_added : (from to : ℕ → ℕ) (old : List ℕ) (by most wanted : ℕ) → by ≤ top
+    → ((i : ℕ) → 0 < at old i → by ≤ min top (to i) - from i) → ((i : ℕ) → at old i ≡ 0 → to i ≡ 0)
+    → most ≡ min (filled from to (length old) top) top → wanted ≡ min by most → wanted ≡ added old by
+wanted_added from to old by most wanted b gain none m w = ⊎_elim
+    (λ (some : 0 < sum old).
+    let s = sum-below old in
+    let i = some_term (at old) (length old) (omega arith) in
+    let g = gain i.0 i.2 in
+    let t = sum_below-term (amount from to top) (length old) i.0 i.1 in
+    let a = added-some old by i.0 i.2 in
+    omega arith)
+    (λ (zero : sum old ≤ 0).
+    let z = λ (i : ℕ). at-le-sum old i in
+    let f = sum_below-zero (amount from to top) (length old) (λ i _. let e = none i (let q = at-le-sum old i in omega arith) in omega arith) in
+    let a = added-none old by (λ i. let q = at-le-sum old i in omega arith) in
+    omega arith)
+    (cases_lt 0 (sum old))
+
+-- a share passes no number
+pub share_fits : (from to : ℕ → ℕ) (old : List ℕ) (by wanted level rest first last : ℕ) → sum old + by < 2 ^ 64 → wanted ≤ by
+    → IsReached from to (length old) wanted level rest → IsSpan from to (length old) level rest first last
+    → (i : ℕ) → i < length old → at old i + share from to level first last i < 2 ^ 64
+share_fits from to old by wanted level rest first last room le r s i inside =
+    let t = shares from to (length old) wanted level rest first last r s in
+    let a = sum_below-term (share from to level first last) (length old) i inside in
+    let b = at-le-sum old i in
+    omega arith
+
+pub grown_by_shares : (from to : ℕ → ℕ) (old : List ℕ) (by : ℕ) (new : List ℕ) (level rest first last : ℕ)
+    → IsReached from to (length old) (added old by) level rest → IsSpan from to (length old) level rest first last
+    → ((i : ℕ) → at old i ≡ 0 → to i ≡ 0) → length new ≡ length old
+    → ((i : ℕ) → i < length old → at new i ≡ at old i + share from to level first last i) → IsGrownFrom old by new
+grown_by_shares from to old by new level rest first last r s none len each = record {
+  kept = record {
+    same_length = len;
+    least = λ i. ⊎_elim (λ inside. let e = each i inside in omega arith) (λ past. let e = get_or_past old i 0 past in omega arith) (cases_lt i (length old));
+    zeros = λ i z. ⊎_elim (λ inside. let e = each i inside in let n = none i z in omega arith) (λ past. get_or_past new i 0 (omega arith)) (cases_lt i (length old));
+  };
+  total =
+      let a = shares from to (length old) (added old by) level rest first last r s in
+      let b = sum_below-plus (at old) (share from to level first last) (length old) in
+      let c = sum_below-same (at new) (λ i. at old i + share from to level first last i) (length old) each in
+      let d = sum-below old in
+      let e = sum-below new ∙ ap (sum_below (at new)) len in
+      omega arith;
+}
+
+-- where nothing is added the list may stay
+pub IsGrownFrom-still : (old : List ℕ) (by : ℕ) → added old by ≡ 0 → IsGrownFrom old by old
+IsGrownFrom-still old by z = record { kept = record { same_length = refl; least = λ i. omega arith; zeros = λ i h. h }; total = omega arith }
+
+pub min_still : (right : Bool) (old : List ℕ) (by : ℕ) → added old by ≡ 0 → IsMinGrown right old by old
+min_still right old by z = let s = IsMinGrown-nothing right old in record { grows = IsGrownFrom-still old by z; level = s.level; place = s.place; raised = s.raised }
+
+pub round_still : (kept : ℕ) (old : List ℕ) (by : ℕ) → added old by ≡ 0 → IsRoundGrown kept old by old kept
+round_still kept old by z = record { grows = IsGrownFrom-still old by z; rounds = 0; last = 0; stays = λ _. refl; moves = λ h. absurd (omega arith); gains = λ i l h. absurd (omega arith) }
+
+-- ---- the least first
+raised_here : (v y new : ℕ) → 0 < v → y ≤ top → new ≡ v + (min y (if v == 0 then 0 else top) - v) → new ≡ max v y
+raised_here v y new pos b e =
+    let t : (if v == 0 then 0 else top) ≡ top = ap (λ k. cond k 0 top) (ne_eqb v 0 (λ z. omega arith)) in
+    let f : new ≡ v + (min y top - v) = e ∙ ap (λ k. v + (min y k - v)) t in
+    omega arith
+
+floor_right : (level first last n i : ℕ) → last + 1 ≡ n → first ≤ last → i < n → level + one_if (is_met first last i) ≡ ceiling false level first i
+floor_right level first last n i b c d = grind (arith, nat_tests)
+
+floor_left : (level last i : ℕ) → level + one_if (is_met 0 last i) ≡ ceiling true level (last + 1) i
+floor_left level last i = grind (arith, nat_tests)
+
+one_if-le : (b : Bool) → one_if b ≤ 1
+one_if-le true = omega arith
+one_if-le false = omega arith
+
+pub min_grown : (right : Bool) (old : List ℕ) (by : ℕ) (new : List ℕ) (level first last : ℕ) → level < top
+    → IsGrownFrom old by new → first ≤ last → (right ≡ true → last + 1 ≡ length old) → (right ≡ false → first ≡ 0)
+    → ((i : ℕ) → i < length old → at new i ≡ at old i + share (first_level Heights old []) (last_level Heights old []) level first last i)
+    → IsMinGrown right old by new
+min_grown true old by new level first last l g order right left each = record {
+  grows = g;
+  level = level;
+  place = first;
+  raised = λ i pos.
+      let inside = in_range old i 0 pos in
+      raised_here (at old i) (level + one_if (is_met first last i)) (at new i) pos (let o = one_if-le (is_met first last i) in omega arith) (each i inside)
+      ∙ ap (max (at old i)) (floor_right level first last (length old) i (right refl) order inside);
+}
+min_grown false old by new level first last l g order right left each =
+    let e : first ≡ 0 = left refl in
+    record {
+      grows = g;
+      level = level;
+      place = last + 1;
+      raised = λ i pos.
+          raised_here (at old i) (level + one_if (is_met first last i)) (at new i) pos (let o = one_if-le (is_met first last i) in omega arith) (each i (in_range old i 0 pos))
+          ∙ ap (λ k. max (at old i) (level + one_if (is_met k last i))) e
+          ∙ ap (max (at old i)) (floor_left level last i);
+    }
+
+-- ---- in turn
+round_gain : (v level new : ℕ) (b : Bool) → 0 < v → level < top → new ≡ v + (min (level + one_if b) (if v == 0 then 0 else top) - 0) → new ≡ v + (if b then level + 1 else level)
+round_gain v level new b pos l e =
+    let t : (if v == 0 then 0 else top) ≡ top = ap (λ k. cond k 0 top) (ne_eqb v 0 (λ z. omega arith)) in
+    let f : new ≡ v + (min (level + one_if b) top - 0) = e ∙ ap (λ k. v + (min (level + one_if b) k - 0)) t in
+    split b f
+  where
+    split : (b : Bool) → new ≡ v + (min (level + one_if b) top - 0) → new ≡ v + (if b then level + 1 else level)
+    split true f = omega arith
+    split false f = omega arith
+
+open_nonzero : (v level : ℕ) → (nat_le 0 level && nat_lt level (if v == 0 then 0 else top)) ≡ true → 0 < v
+open_nonzero v level o = grind (arith, nat_tests)
+
+pub round_grown : (kept : ℕ) (old : List ℕ) (by : ℕ) (new : List ℕ) (level first last : ℕ) → level < top
+    → 0 < added old by → IsGrownFrom old by new → first ≡ start kept (length old)
+    → is_open (first_level Gains old []) (last_level Gains old []) level last ≡ true
+    → ((i : ℕ) → i < length old → at new i ≡ at old i + share (first_level Gains old []) (last_level Gains old []) level first last i)
+    → IsRoundGrown kept old by new (place_after (length old) last)
+round_grown kept old by new level first last l some g e o each = record {
+  grows = g;
+  rounds = level;
+  last = last;
+  stays = λ z. absurd (omega arith);
+  moves = λ _. (open_nonzero (at old last) level o, refl);
+  gains = λ i inside _ pos. subst (λ k. at new i ≡ at old i + (if is_met k last i then level + 1 else level)) e
+      (round_gain (at old i) level (at new i) (is_met first last i) pos l (each i inside));
+}
+
+pub zero_end : (v : ℕ) → v ≡ 0 → (if v == 0 then 0 else top) ≡ 0
+zero_end v z = ap (λ k. cond (k == 0) 0 top) z
+
+pub heights_gain : (v by : ℕ) → 0 < v → v + by ≤ top → by ≤ min top (if v == 0 then 0 else top) - v
+heights_gain v by pos h =
+    let t : (if v == 0 then 0 else top) ≡ top = ap (λ k. cond k 0 top) (ne_eqb v 0 (λ z. omega arith)) in
+    subst (λ k. by ≤ min top k - v) (sym t) (omega arith)
+
+pub gains_gain : (v by : ℕ) → 0 < v → by ≤ top → by ≤ min top (if v == 0 then 0 else top) - 0
+gains_gain v by pos h =
+    let t : (if v == 0 then 0 else top) ≡ top = ap (λ k. cond k 0 top) (ne_eqb v 0 (λ z. omega arith)) in
+    subst (λ k. by ≤ min top k - 0) (sym t) (omega arith)

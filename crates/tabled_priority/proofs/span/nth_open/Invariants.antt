@@ -1,0 +1,11 @@
+use Rattle.std.proofs.Common.{◌≡◌, ◌<◌}
+use Rattle.tabled_priority.specs.Filling.{open_count, first_level, last_level}
+use Rattle.tabled_priority.specs.Visits.{counted}
+use Rattle.tabled_priority.proofs.span.nth_open.Given as goal
+
+abbrev pub invariant-loop-place : goal.invariant-loop-place
+invariant-loop-place l = record {
+  before : l.before ≡ open_count (first_level l.kind l.values l.mins) (last_level l.kind l.values l.mins) l.place l.level;
+  fewer : l.before < l.nth;
+  steps : l.steps.count ≡ counted l.fn.steps.count l.place;
+}

@@ -1,0 +1,295 @@
+-- The shapes of grown lists, with one more step in front.
+use Rattle.std.proofs.Common.{◌≡◌, ◌≢◌, ℕ, ◌+◌, ◌<◌, ◌≤◌, Bool, true, false, cond, not, List, [], ◌∷◌, length, sum, max, slice_set, refl, sym, ap, ◌∙◌, subst, arith, ⊎_elim, suc, length-set, nat_lt, if◌then◌else◌}
+use Rattle.std.proofs.lemmas.List.{get_or-set_same, get_or-set_other}
+use Rattle.std.proofs.lemmas.List.Sums.{sum_by-set, sum_by-cons}
+use Rattle.std.proofs.lemmas.Bool.{cases_lt, cases_eq, cases_Bool, ne_eqb, eq-eqb}
+use Rattle.std.proofs.lemmas.Bool.Decides.{nat_tests}
+use Rattle.tabled_priority.specs.Permitted.{at}
+use Rattle.tabled_priority.specs.Shrunk.{ceiling, start, place_after, is_met}
+use Rattle.tabled_priority.specs.Peak.{IsLeftmost, IsRightmost, IsGreatest, IsLeast, IsNext}
+use Rattle.tabled_priority.specs.Grown.{added, IsNoneSmaller, IsGrownFrom, IsGrownAt, IsLeftGrown, IsRightGrown, IsMaxGrown, IsMinGrown, IsRoundGrown}
+use Rattle.tabled_priority.specs.PermittedLaws.{in_range}
+use Rattle.tabled_priority.specs.ShrunkLaws.{lt-sum, level-le-ceiling, at-le-sum, before, before-le}
+use Rattle.tabled_priority.specs.RoundLaws.{met_itself, start-le, start-place_after, met_all, unmet_last, met_first, met_same}
+
+-- the list with one added at a place
+abbrev pub raised : List ℕ → ℕ → List ℕ
+raised xs i = slice_set xs i (at xs i + 1)
+
+pub record IsRaised (i : ℕ) (old new : List ℕ) : Type 0 where
+  pub here : at new i ≡ at old i + 1
+  pub there : (j : ℕ) → j ≢ i → at new j ≡ at old j
+  pub same_length : length new ≡ length old
+  pub total : sum new ≡ sum old + 1
+
+pub IsRaised-raised : (xs : List ℕ) (i k : ℕ) → k < at xs i → IsRaised i xs (raised xs i)
+IsRaised-raised xs i k h = record {
+  here = get_or-set_same xs i (at xs i + 1) 0 (in_range xs i k h);
+  there = λ j ne. get_or-set_other xs i j (at xs i + 1) 0 ne;
+  same_length = length-set xs i (at xs i + 1);
+  total = let e = sum_by-set (λ x. x) xs i (at xs i + 1) 0 (in_range xs i k h) in omega arith;
+}
+
+pub le-raised : (i : ℕ) (old new : List ℕ) → IsRaised i old new → (j : ℕ) → at old j ≤ at new j
+le-raised i old new l j = ⊎_elim
+    (λ e. let here : at new j ≡ at old j + 1 = subst (λ k. at new k ≡ at old k + 1) (sym e) l.here in omega arith)
+    (λ ne. let e = l.there j ne in omega arith) (cases_eq j i)
+
+pub added-some : (xs : List ℕ) (by i : ℕ) → 0 < at xs i → added xs by ≡ by
+added-some xs by i h = let s = at-le-sum xs i in ap (λ b. cond b 0 by) (ne_eqb (sum xs) 0 (λ z. omega arith))
+
+pub IsNoneSmaller-self : (xs : List ℕ) → IsNoneSmaller xs xs
+IsNoneSmaller-self xs = record { same_length = refl; least = λ i. omega arith; zeros = λ i h. h }
+
+-- one more is added to a place that is not zero
+pub IsNoneSmaller-raised : (old xs : List ℕ) (i : ℕ) → 0 < at xs i → IsNoneSmaller old xs → IsNoneSmaller old (raised xs i)
+IsNoneSmaller-raised old xs i h k =
+    let l = IsRaised-raised xs i 0 h in
+    record {
+      same_length = l.same_length ∙ k.same_length;
+      least = λ j. let a = k.least j in let b = le-raised i xs (raised xs i) l j in omega arith;
+      zeros = λ j z. let e = k.zeros j z in l.there j (λ q. let p : 0 < at xs j = subst (λ x. 0 < at xs x) (sym q) h in omega arith) ∙ e;
+    }
+
+pub IsGrownFrom-nothing : (xs : List ℕ) → IsGrownFrom xs 0 xs
+IsGrownFrom-nothing xs = record { kept = IsNoneSmaller-self xs; total = grind (arith, nat_tests) }
+
+pub added-none : (xs : List ℕ) (by : ℕ) → ((i : ℕ) → at xs i ≤ 0) → added xs by ≡ 0
+added-none xs by h = ap (λ b. cond b 0 by) (eq-eqb (sum xs) 0 (zero_sum xs h))
+  where
+    zero_sum : (xs : List ℕ) → ((i : ℕ) → at xs i ≤ 0) → sum xs ≡ 0
+    zero_sum [] h = refl
+    zero_sum (x ∷ xs) h = let a = h 0 in let r = zero_sum xs (λ i. h (suc i)) in omega (arith, sum_by-cons (λ (z : ℕ). z) x xs)
+
+pub IsGrownFrom-none : (xs : List ℕ) (by : ℕ) → ((i : ℕ) → at xs i ≤ 0) → IsGrownFrom xs by xs
+IsGrownFrom-none xs by h = record { kept = IsNoneSmaller-self xs; total = let e = added-none xs by h in omega arith }
+
+pub IsGrownFrom-step : (xs : List ℕ) (i by : ℕ) (new : List ℕ) → 0 < at xs i → IsGrownFrom (raised xs i) by new → IsGrownFrom xs (by + 1) new
+IsGrownFrom-step xs i by new h t =
+    let l = IsRaised-raised xs i 0 h in
+    record {
+      kept = record {
+        same_length = t.kept.same_length ∙ l.same_length;
+        least = λ j. let a = t.kept.least j in let b = le-raised i xs (raised xs i) l j in omega arith;
+        zeros = λ j z. t.kept.zeros j (l.there j (λ e. let p : 0 < at xs j = subst (λ k. 0 < at xs k) (sym e) h in omega arith) ∙ z);
+      };
+      total = let here = l.here in let a = added-some (raised xs i) by i (omega arith) in let b = added-some xs (by + 1) i h in let c = t.total in let d = l.total in omega arith;
+    }
+
+-- where nothing is added, the list is the old one
+same_grown : (old : List ℕ) (by : ℕ) (new : List ℕ) → IsGrownFrom old by new → added old by ≡ 0 → (i : ℕ) → at new i ≡ at old i
+same_grown old by new t z i = ⊎_elim
+    (λ less. let s = lt-sum old new i (sym t.kept.same_length) t.kept.least less in let e = t.total in absurd (omega arith))
+    (λ ge. let m = t.kept.least i in omega arith) (cases_lt (at old i) (at new i))
+
+-- ---- one place takes all
+pub IsGrownAt-nothing : (P : List ℕ → ℕ → Type 0) (xs : List ℕ) → IsGrownAt P xs 0 xs
+IsGrownAt-nothing P xs = record { grows = IsGrownFrom-nothing xs; place = 0; named = λ h. let e = (IsGrownFrom-nothing xs).total in absurd (omega arith); others = λ i _. refl }
+
+pub IsGrownAt-none : (P : List ℕ → ℕ → Type 0) (xs : List ℕ) (by : ℕ) → ((i : ℕ) → at xs i ≤ 0) → IsGrownAt P xs by xs
+IsGrownAt-none P xs by h = record { grows = IsGrownFrom-none xs by h; place = 0; named = λ p. let e = added-none xs by h in absurd (omega arith); others = λ i _. refl }
+
+IsGrownAt-step : (P : List ℕ → ℕ → Type 0) (xs : List ℕ) (i by : ℕ) (new : List ℕ) → 0 < at xs i → P xs i → ((j : ℕ) → P (raised xs i) j → j ≡ i) → IsGrownAt P (raised xs i) by new → IsGrownAt P xs (by + 1) new
+IsGrownAt-step P xs i by new h p one s =
+    let l = IsRaised-raised xs i 0 h in
+    record {
+      grows = IsGrownFrom-step xs i by new h s.grows;
+      place = i;
+      named = λ _. p;
+      others = λ j ne. ⊎_elim
+          (λ some. s.others j (λ e. ne (e ∙ one s.place (s.named some))) ∙ l.there j ne)
+          (λ none. same_grown (raised xs i) by new s.grows (omega arith) j ∙ l.there j ne)
+          (cases_lt 0 (added (raised xs i) by));
+    }
+
+pub IsLeftGrown-step : (xs : List ℕ) (i by : ℕ) (new : List ℕ) → IsLeftmost xs [] i → IsLeftGrown (raised xs i) by new → IsLeftGrown xs (by + 1) new
+IsLeftGrown-step xs i by new g s =
+    let h : 0 < at xs i = g.above in
+    let l = IsRaised-raised xs i 0 h in
+    let here = l.here in
+    IsGrownAt-step (λ v. IsLeftmost v []) xs i by new h g (λ j q. ⊎_elim
+    (λ e. e) (λ ne. let e = l.there j ne in ⊎_elim
+    (λ less. let a = g.first j less in let b : 0 < at (raised xs i) j = q.above in absurd (omega arith))
+    (λ ge. let a = q.first i (omega arith) in absurd (omega arith)) (cases_lt j i)) (cases_eq j i)) s
+
+pub IsRightGrown-step : (xs : List ℕ) (i by : ℕ) (new : List ℕ) → IsRightmost xs [] i → IsRightGrown (raised xs i) by new → IsRightGrown xs (by + 1) new
+IsRightGrown-step xs i by new g s =
+    let h : 0 < at xs i = g.above in
+    let l = IsRaised-raised xs i 0 h in
+    let here = l.here in
+    IsGrownAt-step (λ v. IsRightmost v []) xs i by new h g (λ j q. ⊎_elim
+    (λ e. e) (λ ne. let e = l.there j ne in ⊎_elim
+    (λ more. let a = g.last j more in let b : 0 < at (raised xs i) j = q.above in absurd (omega arith))
+    (λ le. let a = q.last i (omega arith) in absurd (omega arith)) (cases_lt i j)) (cases_eq j i)) s
+
+pub IsMaxGrown-step : (right : Bool) (xs : List ℕ) (i by : ℕ) (new : List ℕ) → IsGreatest right xs [] i → IsMaxGrown right (raised xs i) by new → IsMaxGrown right xs (by + 1) new
+IsMaxGrown-step right xs i by new g s =
+    let h : 0 < at xs i = g.above in
+    let l = IsRaised-raised xs i 0 h in
+    let here = l.here in
+    IsGrownAt-step (λ v. IsGreatest right v []) xs i by new h g (λ j q. ⊎_elim
+    (λ e. e) (λ ne. let e = l.there j ne in let b : 0 < at (raised xs i) j = q.above in let a = g.most j (omega arith) in let c = q.most i (omega arith) in absurd (omega arith)) (cases_eq j i)) s
+
+-- ---- Min
+pub IsMinGrown-nothing : (right : Bool) (xs : List ℕ) → IsMinGrown right xs 0 xs
+IsMinGrown-nothing right xs = record { grows = IsGrownFrom-nothing xs; level = 0; place = 0; raised = λ i h. let b = level-le-ceiling (not right) 0 0 i in omega (arith, b.1) }
+
+pub IsMinGrown-none : (right : Bool) (xs : List ℕ) (by : ℕ) → ((i : ℕ) → at xs i ≤ 0) → IsMinGrown right xs by xs
+IsMinGrown-none right xs by h = record { grows = IsGrownFrom-none xs by h; level = 0; place = 0; raised = λ i p. let a = h i in absurd (omega arith) }
+
+floor-here : (right : Bool) (height i j : ℕ) → (ceiling (not right) height (cond right i (i + 1)) i ≡ height + 1)
+    × (ceiling (not right) height (cond right i (i + 1)) j ≤ height + 1)
+    × (j ≢ i → (if right then nat_lt j i else nat_lt i j) ≡ true → ceiling (not right) height (cond right i (i + 1)) j ≡ height)
+floor-here true height i j = (grind (arith, nat_tests), grind (arith, nat_tests), λ ne side. grind (arith, nat_tests))
+floor-here false height i j = (grind (arith, nat_tests), grind (arith, nat_tests), λ ne side. grind (arith, nat_tests))
+
+-- a place after the least stands above it, or on its side
+least-side : (right : Bool) (x y i j : ℕ) → before right x y i j ≡ true → x ≡ y → (if right then nat_lt j i else nat_lt i j) ≡ true
+least-side true x y i j h e = grind (arith, nat_tests)
+least-side false x y i j h e = grind (arith, nat_tests)
+
+-- where the floor of i is at most its height, no other nonzero place is raised
+floor-side : (right : Bool) (level p i j : ℕ) → (if right then nat_lt j i else nat_lt i j) ≡ true → ceiling (not right) level p j ≤ ceiling (not right) level p i
+floor-side true level p i j h = grind (arith, nat_tests)
+floor-side false level p i j h = grind (arith, nat_tests)
+
+floor-other : (right : Bool) (level p i j : ℕ) (x height : ℕ) → ceiling (not right) level p i ≤ height → height ≤ x → (height ≡ x → (if right then nat_lt j i else nat_lt i j) ≡ true) → ceiling (not right) level p j ≤ x
+floor-other right level p i j x height a b c = ⊎_elim
+    (λ e. let s = floor-side right level p i j (c (sym e)) in omega arith)
+    (λ ne. let f = level-le-ceiling (not right) level p i in let g = level-le-ceiling (not right) level p j in omega (arith, f.0, f.1, g.0, g.1))
+    (cases_eq x height)
+
+pub IsMinGrown-step : (right : Bool) (xs : List ℕ) (i by : ℕ) (new : List ℕ) → IsLeast right xs [] i → IsMinGrown right (raised xs i) by new → IsMinGrown right xs (by + 1) new
+IsMinGrown-step right xs i by new g s =
+    let h : 0 < at xs i = g.above in
+    let l = IsRaised-raised xs i 0 h in
+    let here = l.here in
+    let height = at xs i in
+    let t = IsGrownFrom-step xs i by new h s.grows in
+    let own : at new i ≡ max (at (raised xs i) i) (ceiling (not right) s.level s.place i) = s.raised i (omega arith) in
+    let other : (j : ℕ) → j ≢ i → 0 < at xs j → at new j ≡ max (at xs j) (ceiling (not right) s.level s.place j) =
+    λ j ne pos. let e = l.there j ne in s.raised j (omega arith) ∙ ap (λ k. max k (ceiling (not right) s.level s.place j)) e in
+    ⊎_elim
+    (λ above. record {
+      grows = t;
+      level = s.level;
+      place = s.place;
+      raised = λ j pos. ⊎_elim (λ e. subst (λ k. at new k ≡ max (at xs k) (ceiling (not right) s.level s.place k)) (sym e) (omega arith)) (λ ne. other j ne pos) (cases_eq j i);
+    })
+    (λ low.
+    let p = cond right i (i + 1) in
+    record {
+      grows = t;
+      level = height;
+      place = p;
+      raised = λ j pos.
+          let now = floor-here right height i j in
+          ⊎_elim
+          (λ e. subst (λ k. at new k ≡ max (at xs k) (ceiling (not right) height p k)) (sym e) (let c = now.0 in omega arith))
+          (λ ne.
+          let order = g.first j ne pos in
+          let le = before-le right height (at xs j) i j order in
+          let kept = floor-other right s.level s.place i j (at xs j) height low le (λ e. least-side right height (at xs j) i j order e) in
+          let a = other j ne pos in
+          let b : ceiling (not right) height p j ≤ at xs j = ⊎_elim
+          (λ same. let c = now.2 ne (least-side right height (at xs j) i j order same) in omega arith)
+          (λ more. let c = now.1 in omega arith) (cases_eq height (at xs j)) in
+          omega arith)
+          (cases_eq j i);
+    })
+    (cases_lt height (ceiling (not right) s.level s.place i))
+
+-- ---- round the list
+pub IsRoundGrown-nothing : (kept : ℕ) (xs : List ℕ) → IsRoundGrown kept xs 0 xs kept
+IsRoundGrown-nothing kept xs = record {
+  grows = IsGrownFrom-nothing xs;
+  rounds = 0;
+  last = 0;
+  stays = λ _. refl;
+  moves = λ h. let e = (IsGrownFrom-nothing xs).total in absurd (omega arith);
+  gains = λ i l h. let e = (IsGrownFrom-nothing xs).total in absurd (omega arith);
+}
+
+pub IsRoundGrown-none : (kept : ℕ) (xs : List ℕ) (by : ℕ) → ((i : ℕ) → at xs i ≤ 0) → IsRoundGrown kept xs by xs kept
+IsRoundGrown-none kept xs by h =
+    let e = added-none xs by h in
+    record { grows = IsGrownFrom-none xs by h; rounds = 0; last = 0; stays = λ _. refl; moves = λ z. absurd (omega arith); gains = λ i l z. absurd (omega arith) }
+
+pub IsRoundGrown-step : (kept : ℕ) (xs : List ℕ) (i by : ℕ) (new : List ℕ) (kept' : ℕ) → IsNext kept xs [] i → IsRoundGrown (place_after (length xs) i) (raised xs i) by new kept' → IsRoundGrown kept xs (by + 1) new kept'
+IsRoundGrown-step kept xs i by new kept' g s =
+    let n = length xs in
+    let h : 0 < at xs i = g.above in
+    let l = IsRaised-raised xs i 0 h in
+    let here = l.here in
+    let inside : i < n = in_range xs i 0 h in
+    let s₀ = start kept n in
+    let s₁ = place_after n i in
+    let s₀_in : s₀ < n = start-le kept n (omega arith) in
+    let len = l.same_length in
+    let started : start s₁ (length (raised xs i)) ≡ s₁ = ap (start s₁) len ∙ start-place_after n i (omega arith) in
+    let t = IsGrownFrom-step xs i by new h s.grows in
+    let some_now = added-some xs (by + 1) i h in
+    let some_then = added-some (raised xs i) by i (omega arith) in
+    -- a place that is met before i is zero
+    let unmet : (j : ℕ) → j < n → j ≢ i → 0 < at xs j → is_met s₀ i j ≡ false =
+    λ j in' ne pos. ⊎_elim (λ met. let z = g.passed j in' ne met in absurd (omega arith)) (λ no. no) (cases_Bool (is_met s₀ i j)) in
+    ⊎_elim
+    (λ some.
+    let p = s.last in
+    let moved = s.moves some in
+    let moves : kept' ≡ place_after n p = moved.1 ∙ ap (λ k. place_after k p) len in
+    let gain : (j : ℕ) → j < n → 0 < at (raised xs i) j → at new j ≡ at (raised xs i) j + cond (is_met s₁ p j) (s.rounds + 1) s.rounds =
+    λ j in' pos. subst (λ k. at new j ≡ at (raised xs i) j + cond (is_met k p j) (s.rounds + 1) s.rounds) started (s.gains j (omega arith) some pos) in
+    ⊎_elim
+    (λ own. record {
+      grows = t;
+      rounds = s.rounds + 1;
+      last = i;
+      stays = λ z. absurd (omega arith);
+      moves = λ _. (h, moves ∙ ap (place_after n) own);
+      gains = λ j in' _ pos. ⊎_elim
+          (λ is. subst (λ k. at new k ≡ at xs k + cond (is_met s₀ i k) (s.rounds + 1 + 1) (s.rounds + 1)) (sym is)
+          (subst (λ b. at new i ≡ at xs i + cond b (s.rounds + 1 + 1) (s.rounds + 1)) (sym (met_itself s₀ i))
+          (let a = subst (λ b. at new i ≡ at (raised xs i) i + cond b (s.rounds + 1) s.rounds) (ap (λ k. is_met s₁ k i) own ∙ met_all n i i inside inside) (gain i inside (omega arith)) in omega arith)))
+          (λ ne. subst (λ b. at new j ≡ at xs j + cond b (s.rounds + 1 + 1) (s.rounds + 1)) (sym (unmet j in' ne pos))
+          (let e = l.there j ne in
+          let a = subst (λ b. at new j ≡ at (raised xs i) j + cond b (s.rounds + 1) s.rounds) (ap (λ k. is_met s₁ k j) own ∙ met_all n i j inside in') (gain j in' (omega arith)) in omega arith))
+          (cases_eq j i);
+    })
+    (λ other.
+    let e_p = l.there p other in
+    let p_pos : 0 < at xs p = let a = moved.0 in omega arith in
+    let p_in : p < n = in_range xs p 0 p_pos in
+    let p_unmet = unmet p p_in other p_pos in
+    record {
+      grows = t;
+      rounds = s.rounds;
+      last = p;
+      stays = λ z. absurd (omega arith);
+      moves = λ _. (p_pos, moves);
+      gains = λ j in' _ pos. ⊎_elim
+          (λ is. subst (λ k. at new k ≡ at xs k + cond (is_met s₀ p k) (s.rounds + 1) s.rounds) (sym is)
+          (subst (λ b. at new i ≡ at xs i + cond b (s.rounds + 1) s.rounds) (sym (met_first n s₀ i p s₀_in inside p_in p_unmet))
+          (let a = subst (λ b. at new i ≡ at (raised xs i) i + cond b (s.rounds + 1) s.rounds) (unmet_last n i p inside p_in other) (gain i inside (omega arith)) in omega arith)))
+          (λ ne.
+          let e = l.there j ne in
+          subst (λ b. at new j ≡ at xs j + cond b (s.rounds + 1) s.rounds) (met_same n s₀ i p j s₀_in inside p_in in' p_unmet (unmet j in' ne pos))
+          (gain j in' (omega arith) ∙ ap (λ x. x + cond (is_met s₁ p j) (s.rounds + 1) s.rounds) e))
+          (cases_eq j i);
+    })
+    (cases_eq s.last i))
+    (λ nothing.
+    let same = same_grown (raised xs i) by new s.grows (omega arith) in
+    record {
+      grows = t;
+      rounds = 0;
+      last = i;
+      stays = λ z. absurd (omega arith);
+      moves = λ _. (h, s.stays (omega arith));
+      gains = λ j in' _ pos. ⊎_elim
+          (λ is. subst (λ k. at new k ≡ at xs k + cond (is_met s₀ i k) 1 0) (sym is)
+          (subst (λ b. at new i ≡ at xs i + cond b 1 0) (sym (met_itself s₀ i)) (let a = same i in omega arith)))
+          (λ ne. subst (λ b. at new j ≡ at xs j + cond b 1 0) (sym (unmet j in' ne pos)) (let a = same j in let e = l.there j ne in omega arith))
+          (cases_eq j i);
+    })
+    (cases_lt 0 (added (raised xs i) by))

@@ -1,0 +1,56 @@
+//! The one way in which columns are read.
+ghost use Rattle.std.specs.Prelude.{◌≡◌, ◌+◌, ◌-◌, ◌<◌, ◌^◌, length, slice_set};
+ghost use Rattle.tabled_priority.specs.Permitted.{at};
+ghost use Rattle.tabled_priority.specs.Visits.{counted};
+
+use crate::steps::Steps;
+
+/// A column as it was read.
+#[derive(Clone, Copy)]
+pub(crate) struct Column {
+    /// Its size.
+    pub(crate) value: usize,
+    /// Its minimum, 0 without minimums.
+    pub(crate) least: usize,
+}
+
+impl Column {
+    /// What can be taken from it.
+    pub(crate) fn spare(&self) -> usize
+        ensures { result ≡ self.now.value - self.now.least }
+    {
+        self.value.saturating_sub(self.least)
+    }
+}
+
+/// The minimum of a place, 0 without minimums.
+pub(crate) fn minimum(mins: &[usize], place: usize) -> usize
+    ensures { result ≡ at mins.now place }
+{
+    mins.get(place).copied().unwrap_or(0)
+}
+
+/// Reads a column, and counts the visit.
+pub(crate) fn visit(mins: &[usize], values: &[usize], place: usize, steps: &mut Steps) -> Column
+    requires { place < length values.now }
+    ensures value { result.value ≡ at values.now place }
+    ensures least { result.least ≡ at mins.now place }
+    ensures steps { steps.new.count ≡ counted steps.old.count 1 }
+{
+    steps.add(1);
+    Column {
+        value: values[place],
+        least: minimum(mins, place),
+    }
+}
+
+/// Adds an amount to one column.
+pub(crate) fn add_to(values: &mut [usize], place: usize, by: usize, steps: &mut Steps)
+    requires within { place < length values.old }
+    requires room { at values.old place + by < 2 ^ 64 }
+    ensures values { values.new ≡ slice_set values.old place (at values.old place + by) }
+    ensures steps { steps.new.count ≡ counted steps.old.count 1 }
+{
+    let column = visit(&[], values, place, steps);
+    values[place] = column.value + by;
+}

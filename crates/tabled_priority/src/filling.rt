@@ -1,0 +1,120 @@
+//! How sizes change as a level rises.
+ghost use Rattle.std.specs.Prelude.{◌≡◌, ℕ, ◌+◌, ◌-◌, ◌*◌, ◌<◌, ◌≤◌, nat_le, nat_lt, ◌&&◌, length, min};
+ghost use Rattle.tabled_priority.specs.Permitted.{at};
+ghost use Rattle.tabled_priority.specs.Filling.{amount, filled, first_level, last_level, open_count, IsBase, IsReached};
+ghost use Rattle.tabled_priority.specs.Visits.{counted};
+
+use crate::column::{Column, visit};
+use crate::steps::Steps;
+
+/// What a level is. Up to a level each column takes so much of what is to be taken or added.
+#[derive(Clone, Copy)]
+pub(crate) enum Filling {
+    /// A ceiling that comes down from the greatest `usize`, by so much. A column gives what is above
+    /// it, as far as its minimum.
+    Depths,
+    /// So many rounds in which each column gives one, as far as its minimum.
+    Rounds,
+    /// A floor that rises to this size. A column that is not zero gains what it is below it.
+    Heights,
+    /// So many rounds in which each column that is not zero gains one.
+    Gains,
+}
+
+/// A column as it was read, and the levels from and up to which it takes one a level.
+#[derive(Clone, Copy)]
+pub(crate) struct Ramp {
+    pub(crate) value: usize,
+    pub(crate) from: usize,
+    pub(crate) to: usize,
+}
+
+impl Ramp {
+    /// What the column takes up to a level.
+    pub(crate) fn amount(&self, level: usize) -> usize
+        ensures { result ≡ min level self.now.to - self.now.from }
+    {
+        level.min(self.to).saturating_sub(self.from)
+    }
+
+    /// Whether it takes one more at a level.
+    pub(crate) fn is_open(&self, level: usize) -> bool
+        ensures { result ≡ (nat_le self.now.from level && nat_lt level self.now.to) }
+    {
+        self.from <= level && level < self.to
+    }
+}
+
+/// Reads a column, and says from and up to which level it takes.
+pub(crate) fn visit_ramp(
+    kind: Filling,
+    mins: &[usize],
+    values: &[usize],
+    place: usize,
+    steps: &mut Steps,
+) -> Ramp
+    requires { place < length values.now }
+    ensures value { result.value ≡ at values.now place }
+    ensures from { result.from ≡ first_level kind values.now mins.now place }
+    ensures to { result.to ≡ last_level kind values.now mins.now place }
+    ensures steps { steps.new.count ≡ counted steps.old.count 1 }
+{
+    let column = visit(mins, values, place, steps);
+    let value = column.value;
+    let nonzero_end = if value == 0 { 0 } else { usize::MAX };
+    let (from, to) = match kind {
+        Filling::Depths => (usize::MAX - value, usize::MAX - column.least),
+        Filling::Rounds => (0, column.spare()),
+        Filling::Heights => (value, nonzero_end),
+        Filling::Gains => (0, nonzero_end),
+    };
+    Ramp { value, from, to }
+}
+
+/// What all columns take up to a level, or the greatest `usize` if that is less.
+#[tactic(auto, using(crate::proofs::Sums::sum_step))]
+pub(crate) fn filled(
+    kind: Filling,
+    mins: &[usize],
+    values: &[usize],
+    level: usize,
+    steps: &mut Steps,
+) -> usize
+    ensures total { result ≡ min
+        (filled (first_level kind values.now mins.now) (last_level kind values.now mins.now) (length values.now) level)
+        18446744073709551615 }
+    ensures values_fit { (i : ℕ) → at values.now i ≤ 18446744073709551615 }
+    ensures mins_fit { (i : ℕ) → at mins.now i ≤ 18446744073709551615 }
+    ensures steps { steps.new.count ≡ counted steps.old.count (length values.now) }
+{
+    let mut total: usize = 0;
+    for place in 0..values.len() {
+        let taken = visit_ramp(kind, mins, values, place, steps).amount(level);
+        total = total.saturating_add(taken);
+    }
+    total
+}
+
+/// How many of the columns before a place take one more at a level.
+#[tactic(auto, using(crate::proofs::Sums::sum_step))]
+pub(crate) fn count_open(
+    kind: Filling,
+    mins: &[usize],
+    values: &[usize],
+    end: usize,
+    level: usize,
+    steps: &mut Steps,
+) -> usize
+    requires { end ≤ length values.now }
+    ensures count { result ≡ open_count
+        (first_level kind values.now mins.now) (last_level kind values.now mins.now) end level }
+    ensures steps { steps.new.count ≡ counted steps.old.count end }
+{
+    let mut count: usize = 0;
+    for place in 0..end {
+        if visit_ramp(kind, mins, values, place, steps).is_open(level) {
+            count += 1;
+        }
+    }
+    count
+}

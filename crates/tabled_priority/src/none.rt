@@ -1,0 +1,129 @@
+//! One size after the other.
+ghost use Rattle.std.specs.Prelude.{◌≡◌, ◌+◌, ◌<◌, ◌≤◌, ◌^◌, MatchOption, [], length, sum};
+ghost use Rattle.std.proofs.Common.{sym, subst};
+ghost use Rattle.tabled_priority.specs.Permitted.{FitsMinimums, HasEvenLosses, IsPermitted};
+ghost use Rattle.tabled_priority.specs.Peak.{NoneAbove, IsNext};
+ghost use Rattle.tabled_priority.specs.PermittedLaws.{lowered};
+ghost use Rattle.tabled_priority.specs.Shrunk.{IsRoundShrunk, place_after};
+ghost use Rattle.tabled_priority.specs.RoundLaws.{IsRoundShrunk-none, IsRoundShrunk-done, IsRoundShrunk-step};
+ghost use Rattle.tabled_priority.specs.Grown.{IsNoneSmaller, IsRoundGrown};
+ghost use Rattle.tabled_priority.specs.GrownLaws.{raised, IsRoundGrown-nothing, IsRoundGrown-none, IsRoundGrown-step};
+ghost use Rattle.tabled_priority.specs.Visits.{IsBounded};
+
+use crate::column::visit;
+use crate::filling::{Filling, filled};
+use crate::peaker::{Peaker, TakesAll};
+use crate::reach::reach;
+use crate::span::round_span;
+use crate::spread::{lower, raise};
+use crate::steps::Steps;
+
+/// It names the next size that is above its minimum, round the list, and keeps the place after it.
+#[derive(Debug, Clone, Copy, Default, PartialEq, Eq, PartialOrd, Ord, Hash)]
+pub struct PriorityNone {
+    kept: usize,
+}
+
+impl PriorityNone {
+    /// It begins with the first size.
+    pub const fn new() -> Self
+        ensures { result.kept ≡ 0 }
+    {
+        PriorityNone { kept: 0 }
+    }
+}
+
+/// The place after this one, 0 after the last.
+fn place_after(count: usize, place: usize) -> usize
+    requires { place < 18446744073709551615 }
+    ensures { result ≡ place_after count place }
+{
+    if place + 1 < count { place + 1 } else { 0 }
+}
+
+impl Peaker for PriorityNone {
+    ghost peaks = { λ s values mins answer t. MatchOption answer (NoneAbove values mins × (t ≡ s)) (λ i. IsNext s.kept values mins i × (t.kept ≡ place_after (length values) i)) };
+
+    ghost shrinks = { λ s old mins by new t. IsRoundShrunk s.kept old mins by new t.kept };
+
+    ghost grows = { λ s old by new t. IsRoundGrown s.kept old by new t.kept };
+
+    fn peak(&mut self, mins: &[usize], values: &[usize]) -> Option<usize> {
+        let count = values.len();
+        let start = if self.kept < count { self.kept } else { 0 };
+        let mut place = start;
+        for _turn in 0..count {
+            let next = place_after(count, place);
+            let column = visit(mins, values, place, &mut Steps::new());
+            if column.value > column.least {
+                self.kept = next;
+                return Some(place);
+            }
+            place = next;
+        }
+        None
+    }
+
+    fn shrink(
+        &mut self,
+        mins: &[usize],
+        values: &mut [usize],
+        by: usize,
+        steps: &mut Steps,
+    ) -> usize
+        requires { FitsMinimums values.old mins.now }
+        ensures shrinks { IsRoundShrunk self.old.kept values.old mins.now by values.new self.new.kept }
+        ensures permitted { IsPermitted values.old mins.now values.new }
+        ensures even { HasEvenLosses values.old mins.now values.new }
+        ensures total { sum values.new + result ≡ sum values.old }
+        ensures at_most { result ≤ by }
+        ensures steps { steps.old.count ≤ steps.new.count }
+        ensures visits { IsBounded values.old values.new steps.old.count steps.new.count }
+    {
+        let wanted = by.min(filled(Filling::Rounds, mins, values, usize::MAX, steps));
+        if wanted == 0 {
+            return 0;
+        }
+        let reached = reach(Filling::Rounds, mins, values, wanted, steps);
+        let span = round_span(Filling::Rounds, mins, values, self.kept, reached, steps);
+        lower(Filling::Rounds, mins, values, reached.level, span, steps);
+        self.kept = place_after(values.len(), span.last);
+        wanted
+    }
+
+    fn grow(&mut self, values: &mut [usize], by: usize, steps: &mut Steps) -> usize
+        requires { sum values.old + by < 2 ^ 64 }
+        ensures grows { IsRoundGrown self.old.kept values.old by values.new self.new.kept }
+        ensures kept { IsNoneSmaller values.old values.new }
+        ensures total { sum values.new ≡ sum values.old + result }
+        ensures at_most { result ≤ by }
+        ensures steps { steps.old.count ≤ steps.new.count }
+        ensures visits { IsBounded values.old values.new steps.old.count steps.new.count }
+    {
+        let wanted = by.min(filled(Filling::Gains, &[], values, usize::MAX, steps));
+        if wanted == 0 {
+            return 0;
+        }
+        let reached = reach(Filling::Gains, &[], values, wanted, steps);
+        let span = round_span(Filling::Gains, &[], values, self.kept, reached, steps);
+        raise(Filling::Gains, values, reached.level, span, steps);
+        self.kept = place_after(values.len(), span.last);
+        wanted
+    }
+
+    ghost nothing = { λ s values mins. IsRoundShrunk-none s.kept values mins };
+
+    ghost ends = { λ s t values mins by fits named. subst (λ k. IsRoundShrunk s.kept values mins by values k.kept) (sym named.1) (IsRoundShrunk-done s.kept values mins by named.0) };
+
+    ghost goes_on = { λ s t u values mins new by i fits above named rest. IsRoundShrunk-step s.kept values mins i by new u.kept named.0 (subst (λ k. IsRoundShrunk k (lowered values i) mins by new u.kept) named.1 rest) };
+
+    ghost grows_nothing = { λ s values. IsRoundGrown-nothing s.kept values };
+
+    ghost growing_ends = { λ s t values by named. subst (λ k. IsRoundGrown s.kept values by values k.kept) (sym named.1) (IsRoundGrown-none s.kept values by named.0) };
+
+    ghost growing_goes_on = { λ s t u values new by i above named rest. IsRoundGrown-step s.kept values i by new u.kept named.0 (subst (λ k. IsRoundGrown k (raised values i) by new u.kept) named.1 rest) };
+}
+
+impl TakesAll for PriorityNone {
+    ghost takes_all = { λ s t old mins new by h. h.takes };
+}

@@ -1,6 +1,0 @@
-use Rattle.std.proofs.Common.{ℕ, ◌+◌, ◌<◌, ◌≤◌}
-use Rattle.tabled_size.specs.Permitted.{at}
-use Rattle.tabled_size.proofs.level.is_level.Given as goal
-
-abbrev pub invariant-loop-place : goal.invariant-loop-place
-invariant-loop-place l = (k : ℕ) → k < l.place → at l.new k < at l.old k → l.top ≤ at l.new k + 1

@@ -1,9 +1,0 @@
-use Rattle.std.proofs.Common.{arith, length}
-use Rattle.tabled_size.specs.Filling.{first_level, last_level}
-use Rattle.tabled_size.proofs.Ramps.{filled-zero}
-use Rattle.tabled_size.proofs.reach.find_base.Goals as goal
-
-pub loop-place-init : goal.loop-place-init
-loop-place-init c =
-    let z = filled-zero (first_level c.args.kind c.args.values.now c.args.mins.now) (last_level c.args.kind c.args.values.now c.args.mins.now) (length c.args.values.now) in
-    record { below = omega arith; starts = λ i h. absurd (omega arith); ends = λ i h. absurd (omega arith); fewest = omega arith; most = omega arith }
