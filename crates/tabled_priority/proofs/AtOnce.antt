@@ -2,9 +2,10 @@
 use Rattle.std.proofs.Common.{◌≡◌, ℕ, ◌+◌, ◌-◌, ◌<◌, ◌≤◌, Bool, List, slice_set, sym, ap, ◌∙◌, subst, arith, zero, suc}
 use Rattle.std.proofs.lemmas.List.{set-set, set-get_or}
 use Rattle.tabled_priority.specs.Permitted.{at, spare}
-use Rattle.tabled_priority.specs.PermittedLaws.{lowered, IsLowered-lowered}
+use Rattle.tabled_priority.specs.Permitted.{lowered}
+use Rattle.tabled_priority.specs.Laws.Permitted.{IsLowered-lowered}
 use Rattle.tabled_priority.specs.Shrunk.{IsLeftShrunk, IsRightShrunk, IsMinShrunk}
-use Rattle.tabled_priority.specs.ShrunkLaws.{IsLeftShrunk-step, IsRightShrunk-step, IsMinShrunk-step, before-le, before-lt}
+use Rattle.tabled_priority.specs.Laws.Shrunk.{IsLeftShrunk-step, IsRightShrunk-step, IsMinShrunk-step, before-le, before-lt}
 use Rattle.tabled_priority.specs.Peak.{IsLeftmost, IsRightmost, IsLeast}
 
 abbrev pub less : List ℕ → ℕ → ℕ → List ℕ

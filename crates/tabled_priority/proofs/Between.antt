@@ -3,9 +3,9 @@ use Rattle.std.proofs.Common.{◌≡◌, ◌≢◌, ℕ, ◌+◌, ◌-◌, ◌<�
 use Rattle.std.proofs.lemmas.Bool.Decides.{nat_tests}
 use Rattle.std.proofs.lemmas.Bool.{cases_lt, cases_eq, cases_Bool}
 use Rattle.tabled_priority.specs.Permitted.{at, taken, IsBetween, HasOneBetween, HasEvenLosses}
-use Rattle.tabled_priority.specs.PermittedLaws.{in_range}
+use Rattle.tabled_priority.specs.Laws.Permitted.{in_range}
 use Rattle.tabled_priority.specs.Shrunk.{comes_before, is_met, start, IsLeftShrunk, IsRightShrunk, IsMinShrunk, IsRoundShrunk}
-use Rattle.tabled_priority.specs.ShrunkLaws.{same_where_none}
+use Rattle.tabled_priority.specs.Laws.Shrunk.{same_where_none}
 
 left_place : (old mins : List ℕ) (by : ℕ) (new : List ℕ) (s : IsLeftShrunk old mins by new) (i : ℕ) → IsBetween old mins new i → i ≡ s.place
 left_place old mins by new s i b =

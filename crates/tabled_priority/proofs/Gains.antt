@@ -5,13 +5,13 @@ use Rattle.std.proofs.lemmas.Bool.{cases_lt, ne_eqb}
 use Rattle.std.proofs.lemmas.List.{get_or_past}
 use Rattle.tabled_priority.specs.declared.filling.Filling.TheVariants.{Heights, Gains}
 use Rattle.tabled_priority.specs.Permitted.{at}
-use Rattle.tabled_priority.specs.PermittedLaws.{in_range}
+use Rattle.tabled_priority.specs.Laws.Permitted.{in_range}
 use Rattle.tabled_priority.specs.Shrunk.{ceiling, is_met, start, place_after}
-use Rattle.tabled_priority.specs.ShrunkLaws.{at-le-sum}
+use Rattle.tabled_priority.specs.Laws.Shrunk.{at-le-sum}
 use Rattle.tabled_priority.specs.Sums.{sum_below, one_if}
-use Rattle.tabled_priority.specs.SumLaws.{sum_below-same, sum_below-plus, sum_below-zero, sum_below-term, sum-below}
+use Rattle.tabled_priority.specs.Laws.Sums.{sum_below-same, sum_below-plus, sum_below-zero, sum_below-term, sum-below}
 use Rattle.tabled_priority.specs.Grown.{added, IsGrownFrom, IsMinGrown, IsRoundGrown}
-use Rattle.tabled_priority.specs.GrownLaws.{added-some, added-none, IsMinGrown-nothing}
+use Rattle.tabled_priority.specs.Laws.Grown.{added-some, added-none, IsMinGrown-nothing}
 use Rattle.tabled_priority.specs.Filling.{amount, filled, first_level, last_level, is_open, share, IsReached, IsSpan}
 use Rattle.tabled_priority.proofs.Shares.{shares}
 

@@ -4,7 +4,7 @@ use Rattle.std.proofs.lemmas.Bool.{cases_lt}
 use Rattle.tabled_text.specs.Measure.{greatest}
 use Rattle.tabled_priority.specs.Permitted.{at}
 use Rattle.tabled_priority.specs.Shrunk.{IsMaxShrunk}
-use Rattle.tabled_priority.specs.ShrunkLaws.{lt-sum, level-le-ceiling}
+use Rattle.tabled_priority.specs.Laws.Shrunk.{lt-sum, level-le-ceiling}
 use Rattle.tabled_priority.specs.Grown.{IsMinGrown}
 use Rattle.tabled_priority.specs.Least.{HasLeastGreatest, IsLevel, HasGreatestLeast}
 

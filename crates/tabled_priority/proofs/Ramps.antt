@@ -4,7 +4,7 @@ use Rattle.std.proofs.Math.Nat.{suc-mul}
 use Rattle.std.proofs.lemmas.Bool.Decides.{nat_tests}
 use Rattle.std.proofs.lemmas.Bool.{cases_lt}
 use Rattle.tabled_priority.specs.Sums.{one_if}
-use Rattle.tabled_priority.specs.SumLaws.{sum_below-same, sum_below-le, sum_below-plus, sum_below-zero}
+use Rattle.tabled_priority.specs.Laws.Sums.{sum_below-same, sum_below-le, sum_below-plus, sum_below-zero}
 use Rattle.tabled_priority.specs.Filling.{amount, filled, is_open, open_count, IsBase, IsReached}
 
 one_more : (a b x : ℕ) → min (x + 1) b - a ≡ (min x b - a) + one_if (nat_le a x && nat_lt x b)

@@ -4,7 +4,7 @@ use Rattle.tabled_priority.specs.declared.filling.Filling.{Filling}
 use Rattle.tabled_priority.specs.declared.filling.Filling.TheVariants.{Depths, Rounds, Heights, Gains}
 use Rattle.tabled_priority.specs.Permitted.{at, spare, spare_total, taken, IsTakenFrom}
 use Rattle.tabled_priority.specs.Sums.{sum_below, one_if}
-use Rattle.tabled_priority.specs.SumLaws.{sum_below-same, sum_below-plus, sum-below}
+use Rattle.tabled_priority.specs.Laws.Sums.{sum_below-same, sum_below-plus, sum-below}
 use Rattle.tabled_priority.specs.Shrunk.{is_met}
 use Rattle.tabled_priority.specs.Filling.{amount, filled, first_level, last_level, is_open, share, IsReached, IsSpan}
 use Rattle.tabled_priority.proofs.Ramps.{amount-more}

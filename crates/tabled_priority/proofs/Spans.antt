@@ -3,7 +3,7 @@ use Rattle.std.proofs.Common.{◌≡◌, ℕ, ◌+◌, ◌-◌, ◌<◌, ◌≤�
 use Rattle.std.proofs.lemmas.Bool.Decides.{nat_tests}
 use Rattle.std.proofs.lemmas.Bool.{cases_lt}
 use Rattle.tabled_priority.specs.Sums.{sum_below, one_if}
-use Rattle.tabled_priority.specs.SumLaws.{sum_below-same, sum_below-plus, sum_below-prefix}
+use Rattle.tabled_priority.specs.Laws.Sums.{sum_below-same, sum_below-plus, sum_below-prefix}
 use Rattle.tabled_priority.specs.Shrunk.{is_met}
 use Rattle.tabled_priority.specs.Filling.{is_open, open_count, IsSpan}
 

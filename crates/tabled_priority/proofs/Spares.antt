@@ -5,7 +5,7 @@ use Rattle.std.proofs.lemmas.List.{get_or_past}
 use Rattle.std.proofs.lemmas.Bool.Decides.{nat_tests}
 use Rattle.tabled_priority.specs.Permitted.{at}
 use Rattle.tabled_priority.specs.Sums.{sum_below, one_if}
-use Rattle.tabled_priority.specs.SumLaws.{sum_below-less, sum_below-term, sum_below-le}
+use Rattle.tabled_priority.specs.Laws.Sums.{sum_below-less, sum_below-term, sum_below-le}
 use Rattle.tabled_priority.proofs.AtOnce.{less}
 use Rattle.tabled_priority.proofs.Underway.{at-less, at-less_other}
 

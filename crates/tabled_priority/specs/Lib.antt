@@ -1,13 +1,9 @@
 pub mod Filling
 pub mod Grown
-pub mod GrownLaws
+pub mod Laws
 pub mod Least
 pub mod Peak
 pub mod Permitted
-pub mod PermittedLaws
-pub mod RoundLaws
 pub mod Shrunk
-pub mod ShrunkLaws
-pub mod SumLaws
 pub mod Sums
 pub mod Visits

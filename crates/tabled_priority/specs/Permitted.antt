@@ -1,11 +1,19 @@
 -- What shrinking may leave of a list of sizes. Lists are read by place, 0 past the end, so that no
 -- minimums at all are read as zeros.
-use Rattle.std.specs.Prelude.{◌≡◌, ℕ, ◌+◌, ◌-◌, ◌<◌, ◌≤◌, ◌⊎◌, List, length, sum, min, slice_index}
+use Rattle.std.specs.Prelude.{◌≡◌, ℕ, ◌+◌, ◌-◌, ◌<◌, ◌≤◌, ◌⊎◌, List, length, sum, min, slice_index, slice_set}
 use Rattle.tabled_priority.specs.Sums.{sum_below}
 
 -- the value at a place, 0 past the end
 abbrev pub at : List ℕ → ℕ → ℕ
 at xs i = slice_index xs i
+
+-- the list with one taken from a place
+abbrev pub lowered : List ℕ → ℕ → List ℕ
+lowered xs i = slice_set xs i (at xs i - 1)
+
+-- the list with one added at a place
+abbrev pub raised : List ℕ → ℕ → List ℕ
+raised xs i = slice_set xs i (at xs i + 1)
 
 -- minimums are as many as the values, or none
 abbrev pub FitsMinimums : List ℕ → List ℕ → Type 0

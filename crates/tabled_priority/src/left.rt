@@ -4,9 +4,9 @@ ghost use Rattle.std.proofs.Common.{refl, ◌∙◌};
 ghost use Rattle.tabled_priority.specs.Permitted.{FitsMinimums, HasOneBetween, IsPermitted};
 ghost use Rattle.tabled_priority.specs.Peak.{NoneAbove, IsLeftmost};
 ghost use Rattle.tabled_priority.specs.Shrunk.{IsLeftShrunk};
-ghost use Rattle.tabled_priority.specs.ShrunkLaws.{IsLeftShrunk-none, IsLeftShrunk-done, IsLeftShrunk-step};
+ghost use Rattle.tabled_priority.specs.Laws.Shrunk.{IsLeftShrunk-none, IsLeftShrunk-done, IsLeftShrunk-step};
 ghost use Rattle.tabled_priority.specs.Grown.{IsLeftGrown, IsNoneSmaller};
-ghost use Rattle.tabled_priority.specs.GrownLaws.{IsGrownAt-nothing, IsGrownAt-none, IsLeftGrown-step};
+ghost use Rattle.tabled_priority.specs.Laws.Grown.{IsGrownAt-nothing, IsGrownAt-none, IsLeftGrown-step};
 ghost use Rattle.tabled_priority.specs.Visits.{counted, IsBounded};
 
 use crate::column::{add_to, visit};

@@ -3,11 +3,12 @@ ghost use Rattle.std.specs.Prelude.{◌≡◌, ◌+◌, ◌<◌, ◌≤◌, ◌^
 ghost use Rattle.std.proofs.Common.{sym, subst};
 ghost use Rattle.tabled_priority.specs.Permitted.{FitsMinimums, HasEvenLosses, IsPermitted};
 ghost use Rattle.tabled_priority.specs.Peak.{NoneAbove, IsNext};
-ghost use Rattle.tabled_priority.specs.PermittedLaws.{lowered};
+ghost use Rattle.tabled_priority.specs.Permitted.{lowered};
 ghost use Rattle.tabled_priority.specs.Shrunk.{IsRoundShrunk, place_after};
-ghost use Rattle.tabled_priority.specs.RoundLaws.{IsRoundShrunk-none, IsRoundShrunk-done, IsRoundShrunk-step};
+ghost use Rattle.tabled_priority.specs.Laws.Round.{IsRoundShrunk-none, IsRoundShrunk-done, IsRoundShrunk-step};
 ghost use Rattle.tabled_priority.specs.Grown.{IsNoneSmaller, IsRoundGrown};
-ghost use Rattle.tabled_priority.specs.GrownLaws.{raised, IsRoundGrown-nothing, IsRoundGrown-none, IsRoundGrown-step};
+ghost use Rattle.tabled_priority.specs.Permitted.{raised};
+ghost use Rattle.tabled_priority.specs.Laws.Grown.{IsRoundGrown-nothing, IsRoundGrown-none, IsRoundGrown-step};
 ghost use Rattle.tabled_priority.specs.Visits.{IsBounded};
 
 use crate::column::visit;

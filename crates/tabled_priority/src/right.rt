@@ -4,9 +4,9 @@ ghost use Rattle.std.proofs.Common.{refl, ◌∙◌};
 ghost use Rattle.tabled_priority.specs.Permitted.{FitsMinimums, HasOneBetween, IsPermitted};
 ghost use Rattle.tabled_priority.specs.Peak.{NoneAbove, IsRightmost};
 ghost use Rattle.tabled_priority.specs.Shrunk.{IsRightShrunk};
-ghost use Rattle.tabled_priority.specs.ShrunkLaws.{IsRightShrunk-none, IsRightShrunk-done, IsRightShrunk-step};
+ghost use Rattle.tabled_priority.specs.Laws.Shrunk.{IsRightShrunk-none, IsRightShrunk-done, IsRightShrunk-step};
 ghost use Rattle.tabled_priority.specs.Grown.{IsRightGrown, IsNoneSmaller};
-ghost use Rattle.tabled_priority.specs.GrownLaws.{IsGrownAt-nothing, IsGrownAt-none, IsRightGrown-step};
+ghost use Rattle.tabled_priority.specs.Laws.Grown.{IsGrownAt-nothing, IsGrownAt-none, IsRightGrown-step};
 ghost use Rattle.tabled_priority.specs.Visits.{counted, IsBounded};
 
 use crate::column::{add_to, visit};

@@ -5,7 +5,7 @@ use Rattle.tabled_config.specs.Frame.{has_left, has_right, has_inner}
 use Rattle.tabled_config.specs.declared.spanned.SpannedConfig.{SpannedConfig}
 use Rattle.tabled_priority.specs.Permitted.{at}
 use Rattle.tabled_size.specs.Reached.{reached}
-use Rattle.tabled_priority.specs.SumLaws.{sum_below-same}
+use Rattle.tabled_priority.specs.Laws.Sums.{sum_below-same}
 use Rattle.tabled_priority.specs.Sums.{one_if}
 use Rattle.tabled_size.specs.Totals.{filled_width}
 use Rattle.tabled_size.proofs.Reaching.{reached_at, reached_so}

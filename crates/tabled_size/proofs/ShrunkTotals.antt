@@ -8,7 +8,7 @@ use Rattle.tabled_config.specs.declared.spanned.SpannedConfig.{SpannedConfig}
 use Rattle.tabled_text.specs.Measure.{text_columns}
 use Rattle.tabled_size.specs.Estimates.{column_width, estimated_widths, needed_width}
 use Rattle.tabled_priority.specs.Permitted.{at, spare, spare_total, IsPermitted, IsTakenFrom}
-use Rattle.tabled_priority.specs.SumLaws.{sum-below, sum_below-plus, sum_below-same}
+use Rattle.tabled_priority.specs.Laws.Sums.{sum-below, sum_below-plus, sum_below-same}
 use Rattle.tabled_priority.specs.Sums.{one_if, sum_below}
 use Rattle.tabled_size.specs.Totals.{filled_width}
 use Rattle.tabled_size.proofs.Greatest.{greatest_below, greatest_step}

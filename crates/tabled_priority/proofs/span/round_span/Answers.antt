@@ -1,6 +1,6 @@
 use Rattle.std.proofs.Common.{◌<◌, ◌≤◌, arith, length, inl, inr}
 use Rattle.tabled_priority.specs.Sums.{one_if}
-use Rattle.tabled_priority.specs.SumLaws.{sum_below-prefix}
+use Rattle.tabled_priority.specs.Laws.Sums.{sum_below-prefix}
 use Rattle.tabled_priority.specs.Filling.{first_level, last_level, is_open}
 use Rattle.tabled_priority.proofs.Spans.{span_round}
 use Rattle.tabled_priority.proofs.span.round_span.Goals as goal

@@ -1,7 +1,7 @@
 use Rattle.std.proofs.Common.{length, arith, refl, sym, subst, ◌∙◌}
 use Rattle.tabled_priority.specs.declared.filling.Filling.TheVariants.{Depths}
 use Rattle.tabled_priority.specs.Permitted.{at}
-use Rattle.tabled_priority.specs.ShrunkLaws.{IsMaxShrunk-still}
+use Rattle.tabled_priority.specs.Laws.Shrunk.{IsMaxShrunk-still}
 use Rattle.tabled_priority.specs.Filling.{first_level, last_level, IsReached}
 use Rattle.tabled_priority.proofs.Leveled.{max_shrunk}
 use Rattle.tabled_priority.proofs.Optimal.{HasLeastGreatest-from_level, IsLevel-from_max}

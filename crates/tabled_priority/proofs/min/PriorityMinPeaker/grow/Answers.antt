@@ -1,7 +1,7 @@
 use Rattle.std.proofs.Common.{[], length, arith, refl, sym, subst, ◌∙◌}
 use Rattle.tabled_priority.specs.declared.filling.Filling.TheVariants.{Heights}
 use Rattle.tabled_priority.specs.Permitted.{at}
-use Rattle.tabled_priority.specs.ShrunkLaws.{at-le-sum}
+use Rattle.tabled_priority.specs.Laws.Shrunk.{at-le-sum}
 use Rattle.tabled_priority.specs.Filling.{first_level, last_level, IsReached}
 use Rattle.tabled_priority.proofs.Gains.{wanted_added, grown_by_shares, min_still, min_grown, heights_gain, zero_end}
 use Rattle.tabled_priority.proofs.Optimal.{HasGreatestLeast-from_min}

@@ -5,8 +5,8 @@ use Rattle.tabled_priority.specs.declared.steps.Steps.{Steps}
 use Rattle.tabled_priority.specs.Permitted.{at}
 use Rattle.tabled_priority.specs.Peak.{NoneAbove}
 use Rattle.tabled_priority.specs.Shrunk.{IsMinShrunk}
-use Rattle.tabled_priority.specs.ShrunkLaws.{IsMinShrunk-none, IsMinShrunk-done}
-use Rattle.tabled_priority.specs.PermittedLaws.{in_range}
+use Rattle.tabled_priority.specs.Laws.Shrunk.{IsMinShrunk-none, IsMinShrunk-done}
+use Rattle.tabled_priority.specs.Laws.Permitted.{in_range}
 use Rattle.tabled_priority.proofs.AtOnce.{less, min_at_once}
 use Rattle.tabled_priority.proofs.Spares.{spare_places, spare_places-le, spare_places-less, spare_places-none}
 use Rattle.tabled_priority.proofs.Underway.{Underway, Underway-start, Underway-take}

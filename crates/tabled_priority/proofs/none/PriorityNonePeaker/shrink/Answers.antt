@@ -2,7 +2,7 @@ use Rattle.std.proofs.Common.{◌-◌, ◌<◌, ◌≤◌, length, arith, ap, sy
 use Rattle.tabled_priority.specs.declared.filling.Filling.TheVariants.{Rounds}
 use Rattle.tabled_priority.specs.Permitted.{at, taken}
 use Rattle.tabled_priority.specs.Shrunk.{IsRoundShrunk, place_after}
-use Rattle.tabled_priority.specs.RoundLaws.{IsRoundShrunk-still}
+use Rattle.tabled_priority.specs.Laws.Round.{IsRoundShrunk-still}
 use Rattle.tabled_priority.specs.Filling.{first_level, last_level, IsReached}
 use Rattle.tabled_priority.proofs.Leveled.{round_shrunk}
 use Rattle.tabled_priority.proofs.Shares.{wanted_taken, taken_by_shares, rounds_spare}

@@ -1,7 +1,7 @@
 use Rattle.std.proofs.Common.{◌+◌, [], arith, refl}
 use Rattle.tabled_priority.specs.Permitted.{at}
 use Rattle.tabled_priority.specs.Peak.{IsRightmost}
-use Rattle.tabled_priority.specs.GrownLaws.{IsGrownAt-none}
+use Rattle.tabled_priority.specs.Laws.Grown.{IsGrownAt-none}
 use Rattle.tabled_priority.proofs.Visiting.{IsBounded-same, IsBounded-one}
 use Rattle.tabled_priority.proofs.right.PriorityRightPeaker.grow.Goals as goal
 

@@ -3,7 +3,7 @@ use Rattle.std.proofs.lemmas.Bool.{cases_lt, cases_eq}
 use Rattle.std.proofs.lemmas.List.{get_or_past}
 use Rattle.tabled_priority.specs.Permitted.{at}
 use Rattle.tabled_priority.specs.Shrunk.{IsRightShrunk}
-use Rattle.tabled_priority.specs.ShrunkLaws.{IsRightShrunk-none, IsRightShrunk-done}
+use Rattle.tabled_priority.specs.Laws.Shrunk.{IsRightShrunk-none, IsRightShrunk-done}
 use Rattle.tabled_priority.proofs.AtOnce.{less, right_at_once}
 use Rattle.tabled_priority.proofs.Underway.{Underway, Underway-take, at-less, at-less_other}
 use Rattle.tabled_priority.proofs.Between.{right_between}

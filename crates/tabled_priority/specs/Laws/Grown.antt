@@ -1,20 +1,16 @@
 -- The shapes of grown lists, with one more step in front.
-use Rattle.std.proofs.Common.{◌≡◌, ◌≢◌, ℕ, ◌+◌, ◌<◌, ◌≤◌, Bool, true, false, cond, not, List, [], ◌∷◌, length, sum, max, slice_set, refl, sym, ap, ◌∙◌, subst, arith, ⊎_elim, suc, length-set, nat_lt, if◌then◌else◌}
+use Rattle.std.proofs.Common.{◌≡◌, ◌≢◌, ℕ, ◌+◌, ◌<◌, ◌≤◌, Bool, true, false, cond, not, List, [], ◌∷◌, length, sum, max, refl, sym, ap, ◌∙◌, subst, arith, ⊎_elim, suc, length-set, nat_lt, if◌then◌else◌}
 use Rattle.std.proofs.lemmas.List.{get_or-set_same, get_or-set_other}
 use Rattle.std.proofs.lemmas.List.Sums.{sum_by-set, sum_by-cons}
 use Rattle.std.proofs.lemmas.Bool.{cases_lt, cases_eq, cases_Bool, ne_eqb, eq-eqb}
 use Rattle.std.proofs.lemmas.Bool.Decides.{nat_tests}
-use Rattle.tabled_priority.specs.Permitted.{at}
+use Rattle.tabled_priority.specs.Permitted.{at, raised}
 use Rattle.tabled_priority.specs.Shrunk.{ceiling, start, place_after, is_met}
 use Rattle.tabled_priority.specs.Peak.{IsLeftmost, IsRightmost, IsGreatest, IsLeast, IsNext}
 use Rattle.tabled_priority.specs.Grown.{added, IsNoneSmaller, IsGrownFrom, IsGrownAt, IsLeftGrown, IsRightGrown, IsMaxGrown, IsMinGrown, IsRoundGrown}
-use Rattle.tabled_priority.specs.PermittedLaws.{in_range}
-use Rattle.tabled_priority.specs.ShrunkLaws.{lt-sum, level-le-ceiling, at-le-sum, before, before-le}
-use Rattle.tabled_priority.specs.RoundLaws.{met_itself, start-le, start-place_after, met_all, unmet_last, met_first, met_same}
-
--- the list with one added at a place
-abbrev pub raised : List ℕ → ℕ → List ℕ
-raised xs i = slice_set xs i (at xs i + 1)
+use Rattle.tabled_priority.specs.Laws.Permitted.{in_range}
+use Rattle.tabled_priority.specs.Laws.Shrunk.{lt-sum, level-le-ceiling, at-le-sum, before, before-le}
+use Rattle.tabled_priority.specs.Laws.Round.{met_itself, start-le, start-place_after, met_all, unmet_last, met_first, met_same}
 
 pub record IsRaised (i : ℕ) (old new : List ℕ) : Type 0 where
   pub here : at new i ≡ at old i + 1

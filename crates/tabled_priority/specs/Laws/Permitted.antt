@@ -1,15 +1,11 @@
 -- One step of shrinking: a place above its minimum loses one.
-use Rattle.std.proofs.Common.{◌≡◌, ℕ, ◌+◌, ◌-◌, ◌<◌, ◌≤◌, List, length, sum, min, slice_set, refl, sym, ap, ◌∙◌, subst, arith, ⊎_elim, ◌≢◌, length-set}
+use Rattle.std.proofs.Common.{◌≡◌, ℕ, ◌+◌, ◌-◌, ◌<◌, ◌≤◌, List, length, sum, min, refl, sym, ap, ◌∙◌, subst, arith, ⊎_elim, ◌≢◌, length-set}
 use Rattle.std.proofs.lemmas.List.{get_or-set_same, get_or-set_other, get_or_past}
 use Rattle.std.proofs.lemmas.List.Sums.{sum_by-set}
 use Rattle.std.proofs.lemmas.Bool.{cases_lt, cases_eq}
-use Rattle.tabled_priority.specs.SumLaws.{sum_below-less, sum_below-zero}
+use Rattle.tabled_priority.specs.Laws.Sums.{sum_below-less, sum_below-zero}
 use Rattle.tabled_priority.specs.Sums.{sum_below}
-use Rattle.tabled_priority.specs.Permitted.{at, low, spare, spare_total, IsPermitted, IsTakenFrom}
-
--- the list with one taken from a place
-abbrev pub lowered : List ℕ → ℕ → List ℕ
-lowered xs i = slice_set xs i (at xs i - 1)
+use Rattle.tabled_priority.specs.Permitted.{at, low, lowered, spare, spare_total, IsPermitted, IsTakenFrom}
 
 pub in_range : (xs : List ℕ) (i k : ℕ) → k < at xs i → i < length xs
 in_range xs i k h = ⊎_elim (λ l. l) (λ past. let e = get_or_past xs i 0 past in absurd (omega arith)) (cases_lt i (length xs))

@@ -6,8 +6,9 @@ use Rattle.std.proofs.lemmas.Bool.Decides.{nat_tests}
 use Rattle.tabled_priority.specs.Permitted.{at, spare, taken}
 use Rattle.tabled_priority.specs.Shrunk.{start, place_after, is_met, IsRoundShrunk}
 use Rattle.tabled_priority.specs.Peak.{IsNext}
-use Rattle.tabled_priority.specs.PermittedLaws.{lowered, IsLowered-lowered, in_range, IsTakenFrom-none, IsTakenFrom-done, IsTakenFrom-step}
-use Rattle.tabled_priority.specs.ShrunkLaws.{IsTakenFrom-still, same_where_none, taken-step}
+use Rattle.tabled_priority.specs.Permitted.{lowered}
+use Rattle.tabled_priority.specs.Laws.Permitted.{IsLowered-lowered, in_range, IsTakenFrom-none, IsTakenFrom-done, IsTakenFrom-step}
+use Rattle.tabled_priority.specs.Laws.Shrunk.{IsTakenFrom-still, same_where_none, taken-step}
 
 -- ---- places round a list of n
 pub met_itself : (s i : ℕ) → is_met s i i ≡ true

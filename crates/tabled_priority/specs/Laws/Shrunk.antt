@@ -7,7 +7,8 @@ use Rattle.std.proofs.lemmas.Bool.Decides.{nat_tests}
 use Rattle.tabled_priority.specs.Permitted.{at, low, taken, IsTakenFrom}
 use Rattle.tabled_priority.specs.Shrunk.{IsLeftShrunk, IsRightShrunk, ceiling, IsMaxShrunk, comes_before, IsMinShrunk}
 use Rattle.tabled_priority.specs.Peak.{IsLeftmost, IsRightmost, IsGreatest, IsLeast}
-use Rattle.tabled_priority.specs.PermittedLaws.{lowered, IsLowered-lowered, low-lowered, spare_total-lowered, IsTakenFrom-none, IsTakenFrom-done, IsTakenFrom-step}
+use Rattle.tabled_priority.specs.Permitted.{lowered}
+use Rattle.tabled_priority.specs.Laws.Permitted.{IsLowered-lowered, low-lowered, spare_total-lowered, IsTakenFrom-none, IsTakenFrom-done, IsTakenFrom-step}
 
 -- ---- Left
 pub IsLeftShrunk-none : (xs mins : List ℕ) → IsLeftShrunk xs mins 0 xs
