@@ -1,10 +1,32 @@
 -- Bytes that wait behind a writer.
-use Rattle.std.proofs.Common.{◌≡◌, ℕ, ◌+◌, ◌-◌, List, [], ◌++◌, length, take, drop, Option, Some, None, sym, ap, subst, ◌∙◌, append-nil, append_assoc, arith}
+use Rattle.std.proofs.Common.{
+  ◌≡◌,
+  ℕ,
+  ◌+◌,
+  ◌-◌,
+  List,
+  [],
+  ◌++◌,
+  length,
+  take,
+  drop,
+  Option,
+  Some,
+  None,
+  sym,
+  ap,
+  subst,
+  ◌∙◌,
+  append-nil,
+  append_assoc,
+  arith,
+}
 use Rattle.std.specs.Io.KnownBytes.{Appends, Keeps, append_known}
 use Rattle.std.proofs.lemmas.List.{drop-drop, length-drop, take-append-drop, take_all}
 
 -- the writer took n bytes of what waited
-pub handed_over : (a b : Option (List ℕ)) (waiting : List ℕ) (n : ℕ) → Appends a b (take n waiting) → Appends (append_known a waiting) (append_known b (drop n waiting)) []
+pub handed_over : (a b : Option (List ℕ)) (waiting : List ℕ) (n : ℕ) → Appends a b (take n waiting)
+    → Appends (append_known a waiting) (append_known b (drop n waiting)) []
 handed_over None b waiting n h = tt
 handed_over (Some xs) None waiting n h = h
 handed_over (Some xs) (Some ys) waiting n h =
@@ -23,7 +45,8 @@ held_back None waiting more = tt
 held_back (Some xs) waiting more = sym (append_assoc xs waiting more)
 
 -- nothing waited before, and nothing waits now: the writer took all
-pub delivered : (a b : Option (List ℕ)) (before behind text : List ℕ) → before ≡ [] → behind ≡ [] → Appends (append_known a before) (append_known b behind) text → Appends a b text
+pub delivered : (a b : Option (List ℕ)) (before behind text : List ℕ) → before ≡ [] → behind ≡ []
+    → Appends (append_known a before) (append_known b behind) text → Appends a b text
 delivered None b before behind text e f h = tt
 delivered (Some xs) None before behind text e f h = h
 delivered (Some xs) (Some ys) before behind text e f h =
@@ -35,7 +58,8 @@ from_place t items rest e =
     take_all (length rest - t) (drop t rest) (omega (arith, length-drop t rest)) ∙ ap (drop t) e
 
 -- the writer took n bytes from a place on
-pub taken_more : (a b : Option (List ℕ)) (items buffer : List ℕ) (t n : ℕ) → buffer ≡ drop t items → Appends a b (take n buffer) → Appends (append_known a (drop t items)) (append_known b (drop (t + n) items)) []
+pub taken_more : (a b : Option (List ℕ)) (items buffer : List ℕ) (t n : ℕ) → buffer ≡ drop t items
+    → Appends a b (take n buffer) → Appends (append_known a (drop t items)) (append_known b (drop (t + n) items)) []
 taken_more a b items buffer t n e h =
     let P : List ℕ → Type 0 = λ u. Appends a b (take n u) in
     let Q : List ℕ → Type 0 = λ u. Appends (append_known a (drop t items)) (append_known b u) [] in

@@ -1,5 +1,42 @@
 -- A writer that stays the same, and keeps what it held, while a sink stands before it.
-use Rattle.std.proofs.Common.{◌≡◌, ℕ, ◌≤◌, ◌==◌, ◌&&◌, if◌then◌else◌, Bool, true, false, List, [], ◌∷◌, ◌++◌, take, drop, Option, Some, None, Result, Ok, Err, IfSome, MatchResult, OnOk, refl, sym, ap, subst, ◌∙◌, append-nil, append_assoc, arith, ◌⊎◌, inl, inr, ⊎_elim}
+use Rattle.std.proofs.Common.{
+  ◌≡◌,
+  ℕ,
+  ◌≤◌,
+  ◌==◌,
+  ◌&&◌,
+  if◌then◌else◌,
+  Bool,
+  true,
+  false,
+  List,
+  [],
+  ◌∷◌,
+  ◌++◌,
+  take,
+  drop,
+  Option,
+  Some,
+  None,
+  Result,
+  Ok,
+  Err,
+  IfSome,
+  MatchResult,
+  OnOk,
+  refl,
+  sym,
+  ap,
+  subst,
+  ◌∙◌,
+  append-nil,
+  append_assoc,
+  arith,
+  ◌⊎◌,
+  inl,
+  inr,
+  ⊎_elim,
+}
 use Rattle.std.proofs.lemmas.Bool.Decides.{nat_tests}
 use Rattle.std.proofs.lemmas.List.{append_cancel_left}
 use Rattle.std.specs.Io.KnownBytes.{Appends, Keeps, append_known}
@@ -60,17 +97,21 @@ begins_rest (x ∷ xs) (y ∷ ys) h =
 
 -- ---- through a sink whose bytes are known since a start
 
-kept_test : (start : ℕ) (held : List ℕ) (na nb : ℕ) (xs ys more : List ℕ) → nb ≡ na → ys ≡ xs ++ more → ((start == na) && begins held xs) ≡ true → ((start == nb) && begins held ys) ≡ true
+kept_test : (start : ℕ) (held : List ℕ) (na nb : ℕ) (xs ys more : List ℕ) → nb ≡ na → ys ≡ xs ++ more
+    → ((start == na) && begins held xs) ≡ true → ((start == nb) && begins held ys) ≡ true
 kept_test start held na nb xs ys more e w h =
     let (name, front) = both_true (start == na) (begins held xs) h in
     true_both (start == nb) (begins held ys) (ap (λ n. start == n) e ∙ name) (ap (λ u. begins held u) w ∙ begins_more held xs more front)
 
-tested : (t u : Bool) (xs ys wa wb text : List ℕ) → (t ≡ true → u ≡ true) → Appends (append_known (Some xs) wa) (append_known (Some ys) wb) text → Appends (append_known (if t then Some xs else None) wa) (append_known (if u then Some ys else None) wb) text
+tested : (t u : Bool) (xs ys wa wb text : List ℕ) → (t ≡ true → u ≡ true)
+    → Appends (append_known (Some xs) wa) (append_known (Some ys) wb) text
+    → Appends (append_known (if t then Some xs else None) wa) (append_known (if u then Some ys else None) wb) text
 tested false u xs ys wa wb text i h = tt
 tested true true xs ys wa wb text i h = h
 tested true false xs ys wa wb text i h = let never : false ≡ true = i refl in let bad : ⊥ = cc in absurd bad
 
-since_appends : (start : ℕ) (held : List ℕ) (na nb : ℕ) (ca cb : Option (List ℕ)) (wa wb text more : List ℕ) → nb ≡ na → Appends ca cb more → Appends (append_known ca wa) (append_known cb wb) text
+since_appends : (start : ℕ) (held : List ℕ) (na nb : ℕ) (ca cb : Option (List ℕ)) (wa wb text more : List ℕ) → nb ≡ na
+    → Appends ca cb more → Appends (append_known ca wa) (append_known cb wb) text
     → Appends (append_known (since start held na ca) wa) (append_known (since start held nb cb) wb) text
 since_appends start held na nb None cb wa wb text more e p h = tt
 since_appends start held na nb (Some xs) None wa wb text more e p h = absurd p
@@ -78,10 +119,16 @@ since_appends start held na nb (Some xs) (Some ys) wa wb text more e p h =
     tested ((start == na) && begins held xs) ((start == nb) && begins held ys) xs ys wa wb text (kept_test start held na nb xs ys more e p) h
 
 -- a text that a block takes is taken so
-pub since_writes : {T : Type 0} (start : ℕ) (held : List ℕ) (a b : Block) (r : Result T TableError) (text : List ℕ) → Writes (block_sent a) r (block_sent b) text → Advances a b
+pub since_writes : {T : Type 0} (start : ℕ) (held : List ℕ) (a b : Block) (r : Result T TableError) (text : List ℕ)
+    → Writes (block_sent a) r (block_sent b) text → Advances a b
     → Writes (sent_since start held a) r (sent_since start held b) text
 since_writes start held a b (Ok x) text h p =
-    record { added = since_appends start held a.name b.name a.contents b.contents a.waiting b.waiting text p.more p.same p.added h.added; counted = h.counted; alike = refl }
+    record {
+      added = since_appends start held a.name b.name a.contents b.contents a.waiting b.waiting text p.more
+          p.same p.added h.added;
+      counted = h.counted;
+      alike = refl;
+    }
 since_writes start held a b (Err e) text h p = record {
   front = h.front;
   rest = h.rest;
@@ -99,14 +146,16 @@ record Still (start : ℕ) (held : List ℕ) (name : ℕ) (c : Option (List ℕ)
   holds : Appends (Some held) c more
   known : since start held name c ≡ c
 
-still_if : (start : ℕ) (held : List ℕ) (name : ℕ) (xs ys w text : List ℕ) (t : Bool) → t ≡ ((start == name) && begins held ys) → Appends (Some xs) (append_known (if t then Some ys else None) w) text → Still start held name (Some ys)
+still_if : (start : ℕ) (held : List ℕ) (name : ℕ) (xs ys w text : List ℕ) (t : Bool) → t
+    ≡ ((start == name) && begins held ys) → Appends (Some xs) (append_known (if t then Some ys else None) w) text → Still start held name (Some ys)
 still_if start held name xs ys w text true e h =
     let (first, front) = both_true (start == name) (begins held ys) (sym e) in
     let (rest, whole) = begins_rest held ys front in
     record { is = grind (arith, nat_tests); more = rest; holds = whole; known = ap (λ t. if t then Some ys else None) (sym e) }
 still_if start held name xs ys w text false e h = absurd h
 
-still : (start : ℕ) (held : List ℕ) (name : ℕ) (c : Option (List ℕ)) (xs w text : List ℕ) → Appends (Some xs) (append_known (since start held name c) w) text → Still start held name c
+still : (start : ℕ) (held : List ℕ) (name : ℕ) (c : Option (List ℕ)) (xs w text : List ℕ)
+    → Appends (Some xs) (append_known (since start held name c) w) text → Still start held name c
 still start held name None xs w text h = absurd h
 still start held name (Some ys) xs w text h = still_if start held name xs ys w text ((start == name) && begins held ys) refl h
 
@@ -115,11 +164,14 @@ pub record Left {T E : Type 0} (na nb : ℕ) (ca cb : Option (List ℕ)) (wa wb 
   pub put : Puts (append_known ca wa) r (append_known cb wb) text
   pub advanced : IfSome ca (λ _. (nb ≡ na) × ((more : List ℕ) × Appends ca cb more))
 
-left_ok : (start : ℕ) (held : List ℕ) (nb : ℕ) (cb : Option (List ℕ)) (xs wb text : List ℕ) → Still start held nb cb → Appends (Some xs) (append_known (since start held nb cb) wb) text → Appends (Some xs) (append_known cb wb) text
+left_ok : (start : ℕ) (held : List ℕ) (nb : ℕ) (cb : Option (List ℕ)) (xs wb text : List ℕ) → Still start held nb cb
+    → Appends (Some xs) (append_known (since start held nb cb) wb) text → Appends (Some xs) (append_known cb wb) text
 left_ok start held nb cb xs wb text s h =
     let P : Option (List ℕ) → Type 0 = λ c. Appends (Some xs) (append_known c wb) text in subst P s.known h
 
-left_some : {T E : Type 0} (start : ℕ) (held : List ℕ) (na nb : ℕ) (cb : Option (List ℕ)) (wa wb : List ℕ) (r : Result T E) (text : List ℕ) → na ≡ start → Puts (Some (held ++ wa)) r (append_known (since start held nb cb) wb) text → Left na nb (Some held) cb wa wb r text
+left_some : {T E : Type 0} (start : ℕ) (held : List ℕ) (na nb : ℕ) (cb : Option (List ℕ)) (wa wb : List ℕ)
+    (r : Result T E) (text : List ℕ) → na ≡ start → Puts (Some (held ++ wa)) r
+    (append_known (since start held nb cb) wb) text → Left na nb (Some held) cb wa wb r text
 left_some start held na nb cb wa wb (Ok x) text e h =
     let s = still start held nb cb (held ++ wa) wb text h in
     record { put = left_ok start held nb cb (held ++ wa) wb text s h; advanced = (s.is ∙ sym e, (s.more, s.holds)) }
@@ -138,7 +190,8 @@ left_none : {T E : Type 0} (new : Option (List ℕ)) (r : Result T E) (text : Li
 left_none new (Ok x) text = tt
 left_none new (Err e) text = record { front = []; rest = text; whole = refl; added = tt }
 
-left_all : {T E : Type 0} (start : ℕ) (held : List ℕ) (na nb : ℕ) (ca cb : Option (List ℕ)) (wa wb : List ℕ) (r : Result T E) (text : List ℕ) → na ≡ start → IfSome ca (λ xs. xs ≡ held)
+left_all : {T E : Type 0} (start : ℕ) (held : List ℕ) (na nb : ℕ) (ca cb : Option (List ℕ)) (wa wb : List ℕ)
+    (r : Result T E) (text : List ℕ) → na ≡ start → IfSome ca (λ xs. xs ≡ held)
     → Puts (append_known (since start held na ca) wa) r (append_known (since start held nb cb) wb) text → Left na nb ca cb wa wb r text
 left_all start held na nb None cb wa wb r text e k h = record { put = left_none (append_known cb wb) r text; advanced = tt }
 left_all {T} {E} start held na nb (Some xs) cb wa wb r text e k h =
@@ -147,20 +200,24 @@ left_all {T} {E} start held na nb (Some xs) cb wa wb r text e k h =
     let R : List ℕ → Type 0 = λ u. Left {T = T} {E = E} na nb (Some u) cb wa wb r text in
     subst R (sym k) (left_some start held na nb cb wa wb r text e (subst P (start_known start held na e) (subst Q k h)))
 
-pub left : {T E : Type 0} (start : ℕ) (held : List ℕ) (a b : Block) (r : Result T E) (text : List ℕ) → a.name ≡ start → IfSome a.contents (λ xs. xs ≡ held)
-    → Puts (sent_since start held a).bytes r (sent_since start held b).bytes text → Left a.name b.name a.contents b.contents a.waiting b.waiting r text
+pub left : {T E : Type 0} (start : ℕ) (held : List ℕ) (a b : Block) (r : Result T E) (text : List ℕ) → a.name ≡ start
+    → IfSome a.contents (λ xs. xs ≡ held)
+    → Puts (sent_since start held a).bytes r (sent_since start held b).bytes text
+    → Left a.name b.name a.contents b.contents a.waiting b.waiting r text
 left start held a b r text e k h = left_all start held a.name b.name a.contents b.contents a.waiting b.waiting r text e k h
 
 along : {A : Type 0} {P Q : Type 0} (o : Option A) → (P → Q) → IfSome o (λ _. P) → IfSome o (λ _. Q)
 along None f h = tt
 along (Some x) f h = f h
 
-pub left_advances : {T E : Type 0} (a b : Block) (r : Result T E) (text : List ℕ) → Left a.name b.name a.contents b.contents a.waiting b.waiting r text → IfSome a.contents (λ _. Advances a b)
+pub left_advances : {T E : Type 0} (a b : Block) (r : Result T E) (text : List ℕ)
+    → Left a.name b.name a.contents b.contents a.waiting b.waiting r text → IfSome a.contents (λ _. Advances a b)
 left_advances a b r text h = along a.contents (λ k. record { same = k.0; more = k.1.0; added = k.1.1 }) h.advanced
 
 -- ---- what the writer has in the end
 
-begun : (ca cb : Option (List ℕ)) (wa wb text front rest more : List ℕ) → wa ≡ [] → Appends ca cb more → Appends (append_known ca wa) (append_known cb wb) front → front ++ rest ≡ text → Begins ca cb text
+begun : (ca cb : Option (List ℕ)) (wa wb text front rest more : List ℕ) → wa ≡ [] → Appends ca cb more
+    → Appends (append_known ca wa) (append_known cb wb) front → front ++ rest ≡ text → Begins ca cb text
 begun None cb wa wb text front rest more e p h w = record { front = []; rest = text; whole = refl; added = tt }
 begun (Some xs) None wa wb text front rest more e p h w = absurd p
 begun (Some xs) (Some ys) wa wb text front rest more e p h w =
@@ -179,7 +236,8 @@ took_none (Some xs) (Some ys) n buffer h p =
     let e : n ≡ 0 = omega arith in p ∙ ap (λ k. xs ++ take k buffer) e ∙ append-nil xs
 
 -- a writer failed that had taken what was handed to it before
-pub failed : (a : Sent) (cb cc : Option (List ℕ)) (w : List ℕ) (f : ℕ) (d : Sent) (e : TableError) → Sends a (record { bytes = append_known cb w; failures = f; grows = true }) [] → Keeps cb cc
+pub failed : (a : Sent) (cb cc : Option (List ℕ)) (w : List ℕ) (f : ℕ) (d : Sent) (e : TableError)
+    → Sends a (record { bytes = append_known cb w; failures = f; grows = true }) [] → Keeps cb cc
     → d.bytes ≡ append_known cc w → Rose f d.failures → e ≡ Writer → Stops a e d []
 failed a cb cc w f d e p keeps same rose is =
     let P : Option (List ℕ) → Type 0 = λ u. Appends (append_known cb w) u [] in
@@ -194,7 +252,8 @@ failed a cb cc w f d e p keeps same rose is =
     }
 
 -- a writer took n bytes of what waited
-pub took : (a b : Option (List ℕ)) (old buffer new : List ℕ) (n : ℕ) → buffer ≡ old → new ≡ drop n old → Appends a b (take n buffer) → Appends (append_known a old) (append_known b new) []
+pub took : (a b : Option (List ℕ)) (old buffer new : List ℕ) (n : ℕ) → buffer ≡ old → new ≡ drop n old
+    → Appends a b (take n buffer) → Appends (append_known a old) (append_known b new) []
 took a b old buffer new n e w h =
     let P : List ℕ → Type 0 = λ u. Appends a b (take n u) in
     let Q : List ℕ → Type 0 = λ u. Appends (append_known a old) (append_known b u) [] in
@@ -211,14 +270,16 @@ pub puts_writes : {T : Type 0} (a b : Sent) (r : Result T TableError) (text : Li
 puts_writes a b (Ok x) text h = h.added
 puts_writes a b (Err e) text h = record { front = h.front; rest = h.rest; whole = h.whole; added = h.added }
 
-pub puts_begun : {T E : Type 0} (old new : Option (List ℕ)) (r : Result T E) (e : E) (text : List ℕ) → IsErrAnd r (λ d. d ≡ e) → Begins old new text → Puts old r new text
+pub puts_begun : {T E : Type 0} (old new : Option (List ℕ)) (r : Result T E) (e : E) (text : List ℕ) → IsErrAnd r
+    (λ d. d ≡ e) → Begins old new text → Puts old r new text
 puts_begun old new (Ok x) e text h b = absurd h
 puts_begun old new (Err d) e text h b = b
 
 pub begun_none : (c : Option (List ℕ)) (text : List ℕ) → Begins c c text
 begun_none c text = record { front = []; rest = text; whole = refl; added = Appends-nil c c (Keeps-same c) }
 
-begun_stopped : (t : Sheet) (old new : Sent) (e : TableError) (text more : List ℕ) → Stops old e new (table_text t) → table_text t ++ more ≡ text → Begins old.bytes new.bytes text
+begun_stopped : (t : Sheet) (old new : Sent) (e : TableError) (text more : List ℕ) → Stops old e new (table_text t)
+    → table_text t ++ more ≡ text → Begins old.bytes new.bytes text
 begun_stopped t old new e text more s w = record {
   front = s.front;
   rest = s.rest ++ more;
@@ -227,7 +288,8 @@ begun_stopped t old new e text more s w = record {
 }
 
 -- a table that was refused before the first byte, or later
-pub begun_printed : (t : Sheet) (old new : Sent) (e : TableError) (text more : List ℕ) → (is_empty t.cells ≡ false) × Ends true t old e new → table_text t ++ more ≡ text → Begins old.bytes new.bytes text
+pub begun_printed : (t : Sheet) (old new : Sent) (e : TableError) (text more : List ℕ) → (is_empty t.cells ≡ false)
+    × Ends true t old e new → table_text t ++ more ≡ text → Begins old.bytes new.bytes text
 begun_printed t old new e text more p w =
     let P : Sent → Type 0 = λ s. Begins old.bytes s.bytes text in
     ⊎_elim (λ r. subst P (sym r.1) (begun_none old.bytes text))
@@ -235,20 +297,23 @@ begun_printed t old new e text more p w =
 
 -- ---- the writer in the end, whose reference is known by its name
 
-ended : (na nb : ℕ) (ca cb cf : Option (List ℕ)) (wa wb text front rest : List ℕ) → wa ≡ [] → IfSome ca (λ _. (nb ≡ na) × ((more : List ℕ) × Appends ca cb more)) → (nb ≡ na → cf ≡ cb)
+ended : (na nb : ℕ) (ca cb cf : Option (List ℕ)) (wa wb text front rest : List ℕ) → wa ≡ [] → IfSome ca
+    (λ _. (nb ≡ na) × ((more : List ℕ) × Appends ca cb more)) → (nb ≡ na → cf ≡ cb)
     → Appends (append_known ca wa) (append_known cb wb) front → front ++ rest ≡ text → Begins ca cf text
 ended na nb None cb cf wa wb text front rest e p k h w = record { front = []; rest = text; whole = refl; added = tt }
 ended na nb (Some xs) cb cf wa wb text front rest e p k h w =
     let P : Option (List ℕ) → Type 0 = λ c. Begins (Some xs) c text in
     subst P (sym (k p.0)) (begun (Some xs) cb wa wb text front rest p.1.0 e p.1.1 h w)
 
-ended_block : (a b : Block) (cf : Option (List ℕ)) (text front rest : List ℕ) → a.waiting ≡ [] → IfSome a.contents (λ _. Advances a b) → (b.name ≡ a.name → cf ≡ b.contents)
+ended_block : (a b : Block) (cf : Option (List ℕ)) (text front rest : List ℕ) → a.waiting ≡ [] → IfSome a.contents
+    (λ _. Advances a b) → (b.name ≡ a.name → cf ≡ b.contents)
     → Appends (append_known a.contents a.waiting) (append_known b.contents b.waiting) front → front ++ rest ≡ text → Begins a.contents cf text
 ended_block a b cf text front rest e p k h w =
     ended a.name b.name a.contents b.contents cf a.waiting b.waiting text front rest e (along a.contents (λ q. (q.same, (q.more, q.added))) p) k h w
 
 -- where a sink refused
-pub ended_begun : {T E : Type 0} (a b : Block) (cf : Option (List ℕ)) (r : Result T E) (text : List ℕ) → a.waiting ≡ [] → Puts (block_sent a).bytes r (block_sent b).bytes text → IfSome a.contents (λ _. Advances a b)
+pub ended_begun : {T E : Type 0} (a b : Block) (cf : Option (List ℕ)) (r : Result T E) (text : List ℕ) → a.waiting
+    ≡ [] → Puts (block_sent a).bytes r (block_sent b).bytes text → IfSome a.contents (λ _. Advances a b)
     → (b.name ≡ a.name → cf ≡ b.contents) → Begins a.contents cf text
 ended_begun a b cf (Ok x) text e h p k = ended_block a b cf text text [] e p k h (append-nil text)
 ended_begun a b cf (Err d) text e h p k = ended_block a b cf text h.front h.rest e p k h.added h.whole
@@ -258,10 +323,13 @@ exact None cb cf text h k = tt
 exact (Some xs) cb cf text h k = let P : Option (List ℕ) → Type 0 = λ c. Appends (Some xs) c text in subst P (sym k) h
 
 -- where it took all, and what waited was handed over then
-pub ended_put : {T : Type 0} (a b d : Block) (cf : Option (List ℕ)) (r : Result T TableError) (text : List ℕ) → a.waiting ≡ [] → Appends (block_sent a).bytes (block_sent b).bytes text → IfSome a.contents (λ _. Advances a b)
-    → Writes (block_sent b) r (block_sent d) [] → Advances b d → OnOk r (d.waiting ≡ []) → (d.name ≡ a.name → cf ≡ d.contents) → Puts a.contents r cf text
+pub ended_put : {T : Type 0} (a b d : Block) (cf : Option (List ℕ)) (r : Result T TableError) (text : List ℕ)
+    → a.waiting ≡ [] → Appends (block_sent a).bytes (block_sent b).bytes text → IfSome a.contents (λ _. Advances a b)
+    → Writes (block_sent b) r (block_sent d) [] → Advances b d → OnOk r (d.waiting ≡ [])
+    → (d.name ≡ a.name → cf ≡ d.contents) → Puts a.contents r cf text
 ended_put a b d cf (Ok x) text e h p q m o k =
-    let both : Appends (block_sent a).bytes (block_sent d).bytes (text ++ []) = Appends-then (block_sent a).bytes (block_sent b).bytes (block_sent d).bytes text [] h q.added in
+    let both : Appends (block_sent a).bytes (block_sent d).bytes (text ++ []) = Appends-then (block_sent a).bytes
+    (block_sent b).bytes (block_sent d).bytes text [] h q.added in
     let P : List ℕ → Type 0 = λ u. Appends (block_sent a).bytes (block_sent d).bytes u in
     exact a.contents d.contents cf text
     (delivered a.contents d.contents a.waiting d.waiting text e o (subst P (append-nil text) both))
@@ -274,8 +342,10 @@ ended_put a b d cf (Err x) text e h p q m o k =
 pub begun_from : (old same new : Option (List ℕ)) (text : List ℕ) → same ≡ old → Begins same new text → Begins old new text
 begun_from old same new text e h = let P : Option (List ℕ) → Type 0 = λ c. Begins c new text in subst P e h
 
-pub puts_from : {T E : Type 0} (old same new : Option (List ℕ)) (r : Result T E) (text : List ℕ) → same ≡ old → Puts same r new text → Puts old r new text
+pub puts_from : {T E : Type 0} (old same new : Option (List ℕ)) (r : Result T E) (text : List ℕ) → same ≡ old
+    → Puts same r new text → Puts old r new text
 puts_from old same new r text e h = let P : Option (List ℕ) → Type 0 = λ c. Puts c r new text in subst P e h
 
-pub puts_err : {T E : Type 0} (old new : Option (List ℕ)) (r : Result T E) (e : E) (text : List ℕ) → r ≡ Err e → Begins old new text → Puts old r new text
+pub puts_err : {T E : Type 0} (old new : Option (List ℕ)) (r : Result T E) (e : E) (text : List ℕ) → r ≡ Err e
+    → Begins old new text → Puts old r new text
 puts_err {T} {E} old new r e text h b = let P : Result T E → Type 0 = λ x. Puts old x new text in subst P (sym h) b

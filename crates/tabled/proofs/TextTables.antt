@@ -5,9 +5,9 @@ use Rattle.std.proofs.lemmas.Bool.Decides.{nat_tests}
 use Rattle.std.proofs.lemmas.List.{length-map}
 use Rattle.std.proofs.lemmas.List.Splits.{length-slice_split}
 use Rattle.tabled_text.specs.Measure.{lines_of}
-use Rattle.tabled_base.specs.Cells.{IsRectangular, padded}
+use Rattle.tabled_base.specs.Cells.{IsRectangular, lengthened}
 use Rattle.tabled_base.specs.TextRows.{cells_of, most_cells, row_lines, text_rows, without_last_feed}
-use Rattle.tabled_base.proofs.Padding.{length-padded}
+use Rattle.tabled_base.proofs.Lengthening.{length-lengthened}
 use Rattle.tabled_base.proofs.Splitting.{rows-rectangular}
 use Rattle.tabled_size.specs.Sheet.{is_empty}
 use Rattle.tabled_size.specs.Totals.{total_height, total_width}
@@ -23,7 +23,8 @@ unfolding text_rows
 text_rectangular text = rows-rectangular (row_lines text)
 
 -- the lines of the table of a text of plain cells are equally wide
-pub text_columns : (text : List ℕ) → ArePlain (text_rows text) → EachLineTakes (total_width (new_sheet (text_rows text))) (picture (new_sheet (text_rows text)))
+pub text_columns : (text : List ℕ) → ArePlain (text_rows text)
+    → EachLineTakes (total_width (new_sheet (text_rows text))) (picture (new_sheet (text_rows text)))
 text_columns text plain = new_columns (text_rows text) (text_rectangular text) plain
 
 -- and as many as its total height says
@@ -32,11 +33,11 @@ text_lines text = new_lines (text_rows text)
 
 -- ---- empty or not
 
-filled_rows : (n : ℕ) (lines : List (List ℕ)) → 0 < length lines → is_empty (map (λ line. padded n (cells_of line)) lines) ≡ false
+filled_rows : (n : ℕ) (lines : List (List ℕ)) → 0 < length lines → is_empty (map (λ line. lengthened n (cells_of line)) lines) ≡ false
 filled_rows n [] h = absurd (omega arith)
 filled_rows n (line ∷ lines) h =
     let cells : length (cells_of line) ≡ _ = length-slice_split (λ b. b == 9) line in
-    let long = length-padded n (cells_of line) in
+    let long = length-lengthened n (cells_of line) in
     grind (arith, nat_tests)
 
 some_lines : (text : List ℕ) → false ≡ (length text == 0) → 0 < length (row_lines text)
@@ -53,13 +54,13 @@ text_filled text h = filled_rows (most_cells (row_lines text)) (row_lines text) 
 some_rows : (text : List ℕ) → false ≡ (length text == 0) → 0 < length (text_rows text)
 unfolding text_rows
 some_rows text h =
-    let e = length-map (row_lines text) (λ line. padded (most_cells (row_lines text)) (cells_of line)) in
+    let e = length-map (row_lines text) (λ line. lengthened (most_cells (row_lines text)) (cells_of line)) in
     omega (arith, e, some_lines text h)
 
 pub text_empty : (text : List ℕ) → true ≡ (length text == 0) → is_empty (text_rows text) ≡ true
 unfolding text_rows
 text_empty text h =
-    ap (λ lines. is_empty (map (λ line. padded (most_cells lines) (cells_of line)) lines))
+    ap (λ lines. is_empty (map (λ line. lengthened (most_cells lines) (cells_of line)) lines))
     (let e : row_lines text ≡ [] = ap (λ t. cond t [] (lines_of (without_last_feed text))) (sym h) in e)
 
 -- ---- the line feed behind the table

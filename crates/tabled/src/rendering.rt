@@ -29,7 +29,7 @@ fn put_buffered<S: TextSink>(alloc: Global, text: &str, sink: &mut S) -> Result<
 }
 
 /// Prints the table of a text: a row a line (a last line feed ends the last row, and the empty text has
-/// none), a cell between tabs, short rows padded with empty cells. No cell is copied. Refused for memory,
+/// none), a cell between tabs, short rows lengthened with empty cells. No cell is copied. Refused for memory,
 /// with `Range` before the first byte where a total passes the greatest `usize`, and for what the sink
 /// refuses; then a beginning went out.
 #[tactic(auto, using(crate::proofs::TextTables::text_columns, crate::proofs::TextTables::text_lines))]

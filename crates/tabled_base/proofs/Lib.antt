@@ -2,9 +2,9 @@ pub mod ChangedCells
 pub mod Collecting
 pub mod CopiedRows
 pub mod Giving
+pub mod LengthenedRows
+pub mod Lengthening
 pub mod LentGiving
-pub mod PaddedRows
-pub mod Padding
 pub mod PickedCells
 pub mod Refusals
 pub mod Rests

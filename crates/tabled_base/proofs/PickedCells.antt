@@ -15,7 +15,8 @@ map-between_more f from to h =
     ap (λ n. map f (range_with_len from n)) next ∙ map-range_with_len_more f from (to - from) to (omega arith)
 
 -- a further row
-pub block-more : (from to : ℕ) (columns : List ℕ) → from ≤ to → block (between from (to + 1)) columns ≡ block (between from to) columns ++ map (Cell to) columns
+pub block-more : (from to : ℕ) (columns : List ℕ) → from ≤ to → block (between from (to + 1)) columns
+    ≡ block (between from to) columns ++ map (Cell to) columns
 block-more from to columns h =
     let row : ℕ → List Entity = λ r. map (Cell r) columns in
     ap (λ rows. block rows columns)

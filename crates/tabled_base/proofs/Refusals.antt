@@ -68,21 +68,25 @@ module _ {M : Type 1} {𝓤 : Ura M} (𝓛 : Logic 𝓤) (w : Val) where
       use0 𝓛 (raw (fact 𝓤 (w ≡ refused Range (inr refl)))) (fact_i 𝓤 (w ≡ refused Range (inr refl)) (emp 𝓤) is) $ keep ! (0 ∷ []) $ done !))))))))
 
   pub told_err : (e : TableError) (h : IsCause e) → ent 𝓤 (sem 𝓛 ((result.the_row unit TE).own_val (Err e) (w ∷ []))) (fact 𝓤 (w ≡ refused e h))
-  told_err e (inl m) = subst (λ (x : TableError). ent 𝓤 (sem 𝓛 ((result.the_row unit TE).own_val (Err x) (w ∷ []))) (fact 𝓤 (w ≡ refused e (inl m)))) (sym m) told_memory
-  told_err e (inr r) = subst (λ (x : TableError). ent 𝓤 (sem 𝓛 ((result.the_row unit TE).own_val (Err x) (w ∷ []))) (fact 𝓤 (w ≡ refused e (inr r)))) (sym r) told_range
+  told_err e (inl m) = subst (λ (x : TableError). ent 𝓤 (sem 𝓛 ((result.the_row unit TE).own_val (Err x) (w ∷ [])))
+      (fact 𝓤 (w ≡ refused e (inl m)))) (sym m) told_memory
+  told_err e (inr r) = subst (λ (x : TableError). ent 𝓤 (sem 𝓛 ((result.the_row unit TE).own_val (Err x) (w ∷ [])))
+      (fact 𝓤 (w ≡ refused e (inr r)))) (sym r) told_range
 
 module _ {M : Type 1} {𝓤 : Ura M} (𝓛 : Logic 𝓤) where
   memory_made : ent 𝓤 (emp 𝓤) (sem 𝓛 (TE.own_val Memory (live 0 vnil ∷ [])))
   memory_made =
       qed 𝓛 [] ∵ nothing ! $ feq_i ! (List Val) [] [] refl $ fjoin ! $ fpack ! (Valss []) (in_a_row [] (owns [] tt) []) tt $
       feq_i ! (List Val) (live 0 (of_list []) ∷ []) (live 0 (of_list []) ∷ []) refl $ fjoin ! $
-      fpack ! (List Val) (tagged_with (form_of (shape error.the_type)) (form_of (shape error.the_type)).payload (error.the_type.to Memory) (live 0 (of_list []) ∷ [])) [] $ done !
+      fpack ! (List Val) (tagged_with (form_of (shape error.the_type)) (form_of (shape error.the_type)).payload
+      (error.the_type.to Memory) (live 0 (of_list []) ∷ [])) [] $ done !
 
   range_made : ent 𝓤 (emp 𝓤) (sem 𝓛 (TE.own_val Range (live 4 vnil ∷ [])))
   range_made =
       qed 𝓛 [] ∵ nothing ! $ feq_i ! (List Val) [] [] refl $ fjoin ! $ fpack ! (Valss []) (in_a_row [] (owns [] tt) []) tt $
       feq_i ! (List Val) (live 4 (of_list []) ∷ []) (live 4 (of_list []) ∷ []) refl $ fjoin ! $
-      fpack ! (List Val) (tagged_with (form_of (shape error.the_type)) (form_of (shape error.the_type)).payload (error.the_type.to Range) (live 4 (of_list []) ∷ [])) [] $ done !
+      fpack ! (List Val) (tagged_with (form_of (shape error.the_type)) (form_of (shape error.the_type)).payload
+      (error.the_type.to Range) (live 4 (of_list []) ∷ [])) [] $ done !
 
   pub cause_made : (e : TableError) (h : IsCause e) → ent 𝓤 (emp 𝓤) (sem 𝓛 (TE.own_val e (cause e h ∷ [])))
   cause_made e (inl m) = subst (λ (x : TableError). ent 𝓤 (emp 𝓤) (sem 𝓛 (TE.own_val x (live 0 vnil ∷ [])))) (sym m) memory_made

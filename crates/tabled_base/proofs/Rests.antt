@@ -50,21 +50,26 @@ module _ {M : Type 1} {𝓤 : Ura M} (𝓛 : Logic 𝓤) (R : RattleType) (E : T
   pub rests_at_err : (e : E) (v : R.Denot) → P v → ent 𝓤 (sem 𝓛 (fobs s.ghost_name (R.coded.code v))) (sem 𝓛 (Rests (Err e)))
   unfolding follows_by such_by
   rests_at_err e v p =
-      qed 𝓛 (‵ (fobs s.ghost_name (R.coded.code v)) ∷ []) ∵ use1 𝓛 (‵ (fres s.ghost_name (R.coded.code v))) (𝓛.names.obs-res s.ghost_name (R.coded.code v)) $
+      qed 𝓛 (‵ (fobs s.ghost_name (R.coded.code v)) ∷ []) ∵ use1 𝓛 (‵ (fres s.ghost_name (R.coded.code v)))
+      (𝓛.names.obs-res s.ghost_name (R.coded.code v)) $
       fpack ! (Ways (Err e)) (Way (Err e)) ((λ w. w, v), λ w. tt, p) $ done !
 
 -- a `Result` in the machine, made of what it holds
 module _ {M : Type 1} {𝓤 : Ura M} (𝓛 : Logic 𝓤) (R E : RattleType) where
-  pub ok_of : (x : R.Denot) (v : Val) → ent 𝓤 (sem 𝓛 (R.own_val x (v ∷ []))) (sem 𝓛 ((result.the_row R E).own_val (Ok x) (live 0 (of_list (v ∷ [])) ∷ [])))
+  pub ok_of : (x : R.Denot) (v : Val) → ent 𝓤 (sem 𝓛 (R.own_val x (v ∷ [])))
+      (sem 𝓛 ((result.the_row R E).own_val (Ok x) (live 0 (of_list (v ∷ [])) ∷ [])))
   ok_of x v =
       qed 𝓛 (‵ (R.own_val x (v ∷ [])) ∷ []) ∵ nothing ! $ move ! (1 ∷ 0 ∷ []) $ fjoin ! $ feq_i ! (List Val) (v ∷ []) (v ∷ []) refl $ fjoin ! $
       fpack ! (Valss (R ∷ [])) (in_a_row (R ∷ []) (owns (R ∷ []) (x, tt)) (v ∷ [])) (v ∷ [], tt) $
       feq_i ! (List Val) (live 0 (of_list (v ∷ [])) ∷ []) (live 0 (of_list (v ∷ [])) ∷ []) refl $ fjoin ! $
-      fpack ! (List Val) (tagged_with (form_of (shape (result.the_type R E))) (form_of (shape (result.the_type R E))).payload ((result.the_type R E).to (Ok x)) (live 0 (of_list (v ∷ [])) ∷ [])) (v ∷ []) $ done !
+      fpack ! (List Val) (tagged_with (form_of (shape (result.the_type R E)))
+      (form_of (shape (result.the_type R E))).payload ((result.the_type R E).to (Ok x)) (live 0 (of_list (v ∷ [])) ∷ [])) (v ∷ []) $ done !
 
-  pub err_of : (x : E.Denot) (v : Val) → ent 𝓤 (sem 𝓛 (E.own_val x (v ∷ []))) (sem 𝓛 ((result.the_row R E).own_val (Err x) (live 1 (of_list (v ∷ [])) ∷ [])))
+  pub err_of : (x : E.Denot) (v : Val) → ent 𝓤 (sem 𝓛 (E.own_val x (v ∷ [])))
+      (sem 𝓛 ((result.the_row R E).own_val (Err x) (live 1 (of_list (v ∷ [])) ∷ [])))
   err_of x v =
       qed 𝓛 (‵ (E.own_val x (v ∷ [])) ∷ []) ∵ nothing ! $ move ! (1 ∷ 0 ∷ []) $ fjoin ! $ feq_i ! (List Val) (v ∷ []) (v ∷ []) refl $ fjoin ! $
       fpack ! (Valss (E ∷ [])) (in_a_row (E ∷ []) (owns (E ∷ []) (x, tt)) (v ∷ [])) (v ∷ [], tt) $
       feq_i ! (List Val) (live 1 (of_list (v ∷ [])) ∷ []) (live 1 (of_list (v ∷ [])) ∷ []) refl $ fjoin ! $
-      fpack ! (List Val) (tagged_with (form_of (shape (result.the_type R E))) (form_of (shape (result.the_type R E))).payload ((result.the_type R E).to (Err x)) (live 1 (of_list (v ∷ [])) ∷ [])) (v ∷ []) $ done !
+      fpack ! (List Val) (tagged_with (form_of (shape (result.the_type R E)))
+      (form_of (shape (result.the_type R E))).payload ((result.the_type R E).to (Err x)) (live 1 (of_list (v ∷ [])) ∷ [])) (v ∷ []) $ done !

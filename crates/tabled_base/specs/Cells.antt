@@ -28,20 +28,20 @@ abbrev pub with_cell : List (List (List ℕ)) → ℕ → ℕ → List ℕ → L
 with_cell cells row column text = slice_set cells row (slice_set (slice_index_or cells row []) column text)
 
 -- a row with empty cells behind, up to a number of columns
-abbrev pub padded : ℕ → List (List ℕ) → List (List ℕ)
-padded count row = row ++ replicate (count - length row) []
+abbrev pub lengthened : ℕ → List (List ℕ) → List (List ℕ)
+lengthened count row = row ++ replicate (count - length row) []
 
 -- how many cells the longest row has
 abbrev pub longest : List (List (List ℕ)) → ℕ
 longest rows = greatest (map length rows)
 
--- the rows, the short ones padded
-abbrev pub padded_rows : List (List (List ℕ)) → List (List (List ℕ))
-padded_rows rows = map (padded (longest rows)) rows
+-- the rows, the short ones lengthened
+abbrev pub lengthened_rows : List (List (List ℕ)) → List (List (List ℕ))
+lengthened_rows rows = map (lengthened (longest rows)) rows
 
--- the rows with a further one, the short ones padded
+-- the rows with a further one, the short ones lengthened
 abbrev pub with_record : List (List (List ℕ)) → List (List ℕ) → List (List (List ℕ))
-with_record cells record' = map (padded (max (columns cells) (length record'))) (cells ++ record' ∷ [])
+with_record cells record' = map (lengthened (max (columns cells) (length record'))) (cells ++ record' ∷ [])
 
 -- the texts in rows that stand in vectors
 abbrev pub texts_of : {T : Type 0} → (T → List ℕ) → List (Vec T Global) → List (List (List ℕ))

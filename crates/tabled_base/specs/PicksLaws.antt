@@ -1,5 +1,31 @@
 -- No part that a selection names lies outside of the records.
-use Rattle.std.proofs.Common.{◌≡◌, ℕ, ◌+◌, ◌-◌, ◌<◌, ◌≤◌, ◌&&◌, Bool, true, false, nat_lt, List, [], ◌∷◌, map, min, zero, suc, Option, Some, None, sym, subst, arith, ⊎_elim}
+use Rattle.std.proofs.Common.{
+  ◌≡◌,
+  ℕ,
+  ◌+◌,
+  ◌-◌,
+  ◌<◌,
+  ◌≤◌,
+  ◌&&◌,
+  Bool,
+  true,
+  false,
+  nat_lt,
+  List,
+  [],
+  ◌∷◌,
+  map,
+  min,
+  zero,
+  suc,
+  Option,
+  Some,
+  None,
+  sym,
+  subst,
+  arith,
+  ⊎_elim,
+}
 use Rattle.std.specs.Prelude.{if◌then◌else◌}
 use Rattle.std.specs.List.{All, flat_map, range_with_len}
 use Rattle.std.specs.Option.{unwrap_or}
@@ -26,7 +52,8 @@ picked-below (At index) count = one_if_below index count
 picked-below Last count =
     let P : ℕ → Type 0 = λ i. i < count in
     ⊎_elim
-    (λ yes. let some = ltb-true 0 count yes in subst (λ b. All P (if b then (count - 1) ∷ [] else [])) (sym yes) (All-cons P (count - 1) [] (omega arith) (All-nil P)))
+    (λ yes. let some = ltb-true 0 count yes in subst
+    (λ b. All P (if b then (count - 1) ∷ [] else [])) (sym yes) (All-cons P (count - 1) [] (omega arith) (All-nil P)))
     (λ no. subst (λ b. All P (if b then (count - 1) ∷ [] else [])) (sym no) (All-nil P))
     (cases_Bool (nat_lt 0 count))
 
@@ -51,14 +78,16 @@ picked_cell-inside row column rows columns =
 -- numbers that end at or before a count
 range-below : (from n count : ℕ) → from + n ≤ count → All (λ i. i < count) (range_with_len from n)
 range-below from zero count h = All-nil (λ i. i < count)
-range-below from (suc n) count h = All-cons (λ i. i < count) from (range_with_len (from + 1) n) (omega arith) (range-below (from + 1) n count (omega arith))
+range-below from (suc n) count h = All-cons (λ i. i < count) from (range_with_len (from + 1) n) (omega arith)
+    (range-below (from + 1) n count (omega arith))
 
 stretch-below : (kept : Stretch) (count : ℕ) → All (λ i. i < count) (stretch kept count)
 stretch-below kept count =
     let end = min (unwrap_or kept.end count) count in
     ⊎_elim
     (λ some. range-below kept.start (end - kept.start) count (omega arith))
-    (λ none. let e : end - kept.start ≡ 0 = omega arith in subst (λ n. All (λ i. i < count) (range_with_len kept.start n)) (sym e) (All-nil (λ i. i < count)))
+    (λ none. let e : end - kept.start ≡ 0 = omega arith in
+    subst (λ n. All (λ i. i < count) (range_with_len kept.start n)) (sym e) (All-nil (λ i. i < count)))
     (cases_lt kept.start end)
 
 block-inside : (rows columns : List ℕ) (m n : ℕ) → All (λ i. i < m) rows → All (λ i. i < n) columns → All (IsPart m n) (block rows columns)
@@ -72,4 +101,5 @@ block-inside (row ∷ rows) columns m n r c =
 pub segment-inside : (kept : Option Block) (rows columns : ℕ) → All (IsPart rows columns) (segment kept rows columns)
 segment-inside None rows columns = All-cons (IsPart rows columns) Global [] tt (All-nil (IsPart rows columns))
 segment-inside (Some kept) rows columns =
-    block-inside (stretch kept.rows rows) (stretch kept.columns columns) rows columns (stretch-below kept.rows rows) (stretch-below kept.columns columns)
+    block-inside (stretch kept.rows rows) (stretch kept.columns columns) rows columns (stretch-below kept.rows rows)
+    (stretch-below kept.columns columns)

@@ -2,7 +2,7 @@
 use Rattle.std.specs.Prelude.{ℕ, ◌-◌, ◌==◌, if◌then◌else◌, List, [], length, map, take}
 use Rattle.std.specs.List.{slice_index, slice_split}
 use Rattle.tabled_text.specs.Measure.{greatest, lines_of}
-use Rattle.tabled_base.specs.Cells.{padded}
+use Rattle.tabled_base.specs.Cells.{lengthened}
 
 -- the text without a line feed at its end
 abbrev pub without_last_feed : List ℕ → List ℕ
@@ -21,7 +21,7 @@ cells_of line = slice_split (λ b. b == 9) line
 abbrev pub most_cells : List (List ℕ) → ℕ
 most_cells lines = greatest (map (λ line. length (cells_of line)) lines)
 
--- the rows of a text, short ones padded with empty cells
+-- the rows of a text, short ones lengthened with empty cells
 unfoldable pub text_rows : List ℕ → List (List (List ℕ))
 text_rows text =
-    map (λ line. padded (most_cells (row_lines text)) (cells_of line)) (row_lines text)
+    map (λ line. lengthened (most_cells (row_lines text)) (cells_of line)) (row_lines text)

@@ -3,7 +3,7 @@ ghost use Rattle.std.specs.Prelude.{◌≡◌, ◌≤◌, ℕ, List, [], IfOk, I
 ghost use Rattle.std.specs.Iterator.{IsFiniteIterable};
 ghost use Rattle.std.specs.Borrow.{RestsIfErr, sem};
 ghost use Rattle.std.specs.List.{All};
-ghost use Rattle.tabled_base.specs.Cells.{IsRectangular, longest, padded, padded_rows, row_texts, with_record};
+ghost use Rattle.tabled_base.specs.Cells.{IsRectangular, longest, lengthened, lengthened_rows, row_texts, with_record};
 ghost use Rattle.tabled_base.specs.Given.{Given};
 ghost use Rattle.tabled_base.specs.declared.error.TableError.TheVariants.{Memory};
 
@@ -15,7 +15,7 @@ use crate::vec_records::{VecRecords, first_length};
 use std::alloc::Global;
 use std::marker::Model;
 
-/// Collects rows of texts. Short rows are padded with empty cells at once, so that all are equally
+/// Collects rows of texts. Short rows are lengthened with empty cells at once, so that all are equally
 /// long.
 #[derive(Debug, Drop)]
 pub struct Builder {
@@ -57,22 +57,22 @@ impl Builder {
         })
     }
 
-    /// A builder of rows, the short ones padded. Where memory is refused, the rows are dropped.
+    /// A builder of rows, the short ones lengthened. Where memory is refused, the rows are dropped.
     pub fn from_vec(mut rows: Vec<Vec<Text<String>>>) -> Result<Builder, TableError>
-        ensures ok { IfOk result (λ builder. builder ≡ padded_rows (row_texts rows.items)) }
+        ensures ok { IfOk result (λ builder. builder ≡ lengthened_rows (row_texts rows.items)) }
         ensures only { IfErr result (λ e. e ≡ Memory) }
     {
-        pad_all(&mut rows)?;
+        lengthen_all(&mut rows)?;
         Ok(Builder { rows, room: 0 })
     }
 
-    /// A builder of the rows that a source gives, the short ones padded.
+    /// A builder of the rows that a source gives, the short ones lengthened.
     pub fn from_iter<I: IntoRecords>(alloc: Global, rows: I) -> Result<Builder, TableError>
     where
         I::Cell: CellText + Drop,
         requires { I.ends rows }
         ensures ok { IfOk result (λ builder. (cells : List (List I.Cell)) × I.gives rows cells
-            × (builder ≡ padded_rows (map (map I.Cell.text) cells))) }
+            × (builder ≡ lengthened_rows (map (map I.Cell.text) cells))) }
         ensures only { IfErr result (λ e. e ≡ Memory) }
     {
         let mut builder = Builder::new(alloc);
@@ -164,15 +164,15 @@ where
 }
 
 /// Pads the short rows.
-fn pad_all(rows: &mut Vec<Vec<Text<String>>>) -> Result<(), TableError>
+fn lengthen_all(rows: &mut Vec<Vec<Text<String>>>) -> Result<(), TableError>
     ensures ok { OnOk result
-        (row_texts rows.new.items ≡ padded_rows (row_texts rows.old.items)) }
+        (row_texts rows.new.items ≡ lengthened_rows (row_texts rows.old.items)) }
     ensures only { IfErr result (λ e. e ≡ Memory) }
 {
     let columns = longest_row(rows.as_slice());
     let all = rows.as_mut_slice();
     reserve_rows(all, columns)?;
-    pad_rows(all, columns);
+    lengthen_rows(all, columns);
     Ok(())
 }
 
@@ -187,7 +187,7 @@ fn longest_row(rows: &[Vec<Text<String>>]) -> usize
     columns
 }
 
-/// Puts a row behind the others, and pads the short ones.
+/// Puts a row behind the others, and lengthens the short ones.
 fn push_row(rows: &mut Vec<Vec<Text<String>>>, row: Vec<Text<String>>) -> Result<(), TableError>
     requires { IsRectangular (row_texts rows.old.items) }
     ensures ok { OnOk result
@@ -203,36 +203,36 @@ fn push_row(rows: &mut Vec<Vec<Text<String>>>, row: Vec<Text<String>>) -> Result
     }
 }
 
-/// Puts a row behind others that are shorter, and pads these.
+/// Puts a row behind others that are shorter, and lengthens these.
 fn push_longer(rows: &mut Vec<Vec<Text<String>>>, row: Vec<Text<String>>) -> Result<(), TableError>
     ensures ok { let longest = length row.items in OnOk result
         (row_texts rows.new.items
-        ≡ map (padded longest) (row_texts rows.old.items) ++ row.items ∷ []) }
+        ≡ map (lengthened longest) (row_texts rows.old.items) ++ row.items ∷ []) }
     ensures err { OnErr result (row_texts rows.new.items ≡ row_texts rows.old.items) }
     ensures only { IfErr result (λ e. e ≡ Memory) }
 {
     let columns = row.len();
     reserve_rows(rows.as_mut_slice(), columns)?;
     rows.reserve(1)?;
-    pad_rows(rows.as_mut_slice(), columns);
+    lengthen_rows(rows.as_mut_slice(), columns);
     rows.push_reserved(row);
     Ok(())
 }
 
-/// Puts a row behind others that are as long as it or longer, and pads it.
+/// Puts a row behind others that are as long as it or longer, and lengthens it.
 fn push_shorter(
     rows: &mut Vec<Vec<Text<String>>>,
     mut row: Vec<Text<String>>,
     columns: usize,
 ) -> Result<(), TableError>
     ensures ok { OnOk result
-        (row_texts rows.new.items ≡ row_texts rows.old.items ++ padded columns row.items ∷ []) }
+        (row_texts rows.new.items ≡ row_texts rows.old.items ++ lengthened columns row.items ∷ []) }
     ensures err { OnErr result (row_texts rows.new.items ≡ row_texts rows.old.items) }
     ensures only { IfErr result (λ e. e ≡ Memory) }
 {
     row.reserve(columns.saturating_sub(row.len()))?;
     rows.reserve(1)?;
-    pad_row(&mut row, columns);
+    lengthen_row(&mut row, columns);
     rows.push_reserved(row);
     Ok(())
 }
@@ -250,19 +250,19 @@ fn reserve_rows(rows: &mut [Vec<Text<String>>], columns: usize) -> Result<(), Ta
 }
 
 /// Pads rows that have the room.
-fn pad_rows(rows: &mut [Vec<Text<String>>], columns: usize)
+fn lengthen_rows(rows: &mut [Vec<Text<String>>], columns: usize)
     requires { All (λ row. columns ≤ vec_capacity row) rows.old }
-    ensures { row_texts rows.new ≡ map (padded columns) (row_texts rows.old) }
+    ensures { row_texts rows.new ≡ map (lengthened columns) (row_texts rows.old) }
 {
     for row in rows.iter_mut() {
-        pad_row(row, columns);
+        lengthen_row(row, columns);
     }
 }
 
 /// Pads a row that has the room.
-fn pad_row(row: &mut Vec<Text<String>>, columns: usize)
+fn lengthen_row(row: &mut Vec<Text<String>>, columns: usize)
     requires { columns ≤ vec_capacity row.old }
-    ensures items { row.new.items ≡ padded columns row.old.items }
+    ensures items { row.new.items ≡ lengthened columns row.old.items }
     ensures capacity { vec_capacity row.new ≡ vec_capacity row.old }
 {
     let alloc = *row.allocator();

@@ -10,7 +10,7 @@ use std::marker::Model;
 
 /// Where the cells of a row stand among all cells.
 #[derive(Clone, Copy, Debug)]
-pub(crate) struct Span {
+pub(crate) struct RowRange {
     pub start: usize,
     pub count: usize,
 }
@@ -20,7 +20,7 @@ pub(crate) struct Span {
 #[derive(Debug, Drop)]
 pub struct LentRows<'a> {
     cells: Vec<Text<&'a str>>,
-    rows: Vec<Span>,
+    rows: Vec<RowRange>,
     // How many cells the longest row has.
     columns: usize,
 }
@@ -35,7 +35,11 @@ impl<'a> Model for LentRows<'a> {
 
 impl<'a> LentRows<'a> {
     /// Rows of cells that stand one after another, none longer than so many columns.
-    pub(crate) fn new(cells: Vec<Text<&'a str>>, rows: Vec<Span>, columns: usize) -> LentRows<'a>
+    pub(crate) fn new(
+        cells: Vec<Text<&'a str>>,
+        rows: Vec<RowRange>,
+        columns: usize,
+    ) -> LentRows<'a>
         requires { ArePlaced (length cells.items) columns rows.items }
         ensures { result ≡ spread cells.entry.items columns rows.items }
     {
@@ -46,7 +50,7 @@ impl<'a> LentRows<'a> {
         }
     }
 
-    /// The cell at a place, if it isn't one that only pads its row.
+    /// The cell at a place, if it isn't one that only lengthens its row.
     fn cell(&self, at: Position) -> Option<&Text<&'a str>>
         requires { IsInside self.now at.row at.column }
         ensures { MatchOption result (cell_at self.now at.row at.column ≡ [])

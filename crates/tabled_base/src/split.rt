@@ -1,17 +1,17 @@
 //! The rows and cells of a text.
 ghost use Rattle.std.specs.Prelude.{◌≡◌, ◌++◌, IfErr, IfOk, map};
-ghost use Rattle.tabled_base.specs.Cells.{padded};
+ghost use Rattle.tabled_base.specs.Cells.{lengthened};
 ghost use Rattle.tabled_base.specs.TextRows.{cells_of, most_cells, text_rows, without_last_feed};
 ghost use Rattle.tabled_base.specs.declared.error.TableError.TheVariants.{Memory};
 ghost use Rattle.tabled_text.specs.Measure.{lines_of};
 
 use crate::error::TableError;
-use crate::lent_rows::{LentRows, Span};
+use crate::lent_rows::{LentRows, RowRange};
 use crate::text::Text;
 use std::alloc::Global;
 use tabled_text::lines;
 
-/// The rows of a text by line feeds, with cells by tabs, short rows padded with empty cells. A last
+/// The rows of a text by line feeds, with cells by tabs, short rows lengthened with empty cells. A last
 /// line feed ends the last row, and the empty text has no row. Every cell lends the text.
 #[tactic(auto, unfolding(crate::specs::TextRows::text_rows))]
 pub fn text_rows(alloc: Global, text: &str) -> Result<LentRows<'_>, TableError>
@@ -38,7 +38,7 @@ fn without_last_feed(text: &str) -> &str
 
 /// The lines of a text as rows.
 fn split_rows(alloc: Global, text: &str) -> Result<LentRows<'_>, TableError>
-    ensures ok { IfOk result (λ rows. rows ≡ map (λ line. padded (most_cells (lines_of text.now)) (cells_of line))
+    ensures ok { IfOk result (λ rows. rows ≡ map (λ line. lengthened (most_cells (lines_of text.now)) (cells_of line))
         (lines_of text.now)) }
     ensures only { IfErr result (λ e. e ≡ Memory) }
 {
@@ -50,7 +50,7 @@ fn split_rows(alloc: Global, text: &str) -> Result<LentRows<'_>, TableError>
         push_cells(&mut cells, line)?;
         let count = cells.len() - start;
         columns = columns.max(count);
-        rows.push(Span { start, count })?;
+        rows.push(RowRange { start, count })?;
     }
     Ok(LentRows::new(cells, rows, columns))
 }

@@ -1,5 +1,28 @@
 -- The change at the latest of the places for a cell's entities is the first that covers the cell.
-use Rattle.std.proofs.Common.{◌≡◌, ℕ, suc, ◌-◌, ◌<◌, nat_eq, ◌&&◌, true, false, cond, List, [], ◌∷◌, length, Option, Some, None, refl, ap, ◌∙◌, arith, get_or}
+use Rattle.std.proofs.Common.{
+  ◌≡◌,
+  ℕ,
+  suc,
+  ◌-◌,
+  ◌<◌,
+  nat_eq,
+  ◌&&◌,
+  true,
+  false,
+  cond,
+  List,
+  [],
+  ◌∷◌,
+  length,
+  Option,
+  Some,
+  None,
+  refl,
+  ap,
+  ◌∙◌,
+  arith,
+  get_or,
+}
 use Rattle.tabled_base.specs.declared.position.Entity.{Entity}
 use Rattle.tabled_base.specs.declared.position.Entity.TheVariants.{Global, Row, Column, Cell}
 use Rattle.tabled_entity.specs.Changes.{covers, first_covering}
@@ -51,7 +74,8 @@ module _ {T : Type 0} where
   said_at whole parts None = whole
   said_at whole parts (Some i) = (get_or parts (length parts - 1 - i) (Global, whole)).1
 
-  said_at-more : (whole : T) (part : Entity × T) (earlier : List (Entity × T)) (o : Option ℕ) → IsBelow (length earlier) o → said_at whole (part ∷ earlier) o ≡ said_at whole earlier o
+  said_at-more : (whole : T) (part : Entity × T) (earlier : List (Entity × T)) (o : Option ℕ)
+      → IsBelow (length earlier) o → said_at whole (part ∷ earlier) o ≡ said_at whole earlier o
   said_at-more whole part earlier None h = refl
   said_at-more whole part earlier (Some i) h =
       let k : i < length earlier = h in
@@ -64,7 +88,9 @@ module _ {T : Type 0} where
       ap (λ n. (get_or (part ∷ earlier) n (Global, whole)).1) e
 
   -- one change more is the latest for the cells that it covers
-  place-more : (entity : Entity) (value : T) (earlier : List (Entity × T)) (row column : ℕ) → last_for Global ((entity, value) ∷ earlier) ≡ None → latest_place ((entity, value) ∷ earlier) row column ≡ cond (covers entity row column) (Some (length earlier)) (latest_place earlier row column)
+  place-more : (entity : Entity) (value : T) (earlier : List (Entity × T)) (row column : ℕ)
+      → last_for Global ((entity, value) ∷ earlier) ≡ None → latest_place ((entity, value) ∷ earlier) row column
+      ≡ cond (covers entity row column) (Some (length earlier)) (latest_place earlier row column)
   place-more Global value earlier row column h = cc
   place-more (Row r) value earlier row column h =
       let a = last_for (Row row) earlier in
@@ -94,17 +120,20 @@ module _ {T : Type 0} where
         | false ↦ refl
       ]
 
-  none-before : (entity : Entity) (value : T) (earlier : List (Entity × T)) → last_for Global ((entity, value) ∷ earlier) ≡ None → last_for Global earlier ≡ None
+  none-before : (entity : Entity) (value : T) (earlier : List (Entity × T))
+      → last_for Global ((entity, value) ∷ earlier) ≡ None → last_for Global earlier ≡ None
   none-before Global value earlier h = cc
   none-before (Row r) value earlier h = h
   none-before (Column c) value earlier h = h
   none-before (Cell r c) value earlier h = h
 
-  pub said_at-latest : (whole : T) (parts : List (Entity × T)) (row column : ℕ) → last_for Global parts ≡ None → said_at whole parts (latest_place parts row column) ≡ first_covering whole parts row column
+  pub said_at-latest : (whole : T) (parts : List (Entity × T)) (row column : ℕ) → last_for Global parts ≡ None
+      → said_at whole parts (latest_place parts row column) ≡ first_covering whole parts row column
   said_at-latest whole [] row column h = refl
   said_at-latest whole (part ∷ earlier) row column h =
       ap (said_at whole (part ∷ earlier)) (place-more part.0 part.1 earlier row column h)
-      ∙ elim (covers part.0 row column) as (λ t. said_at whole (part ∷ earlier) (cond t (Some (length earlier)) (latest_place earlier row column)) ≡ cond t part.1 (first_covering whole earlier row column)) [
+      ∙ elim (covers part.0 row column) as (λ t. said_at whole (part ∷ earlier)
+      (cond t (Some (length earlier)) (latest_place earlier row column)) ≡ cond t part.1 (first_covering whole earlier row column)) [
         | true ↦ said_at-newest whole part earlier
         | false ↦
             said_at-more whole part earlier (latest_place earlier row column) (below-latest_place earlier row column)

@@ -9,25 +9,30 @@ use Rattle.tabled_entity.specs.Places.{IsIndexed, found, last_for, later, latest
 use Rattle.tabled_entity.proofs.Covering.{IsBelow, latest_place, below-latest_place, said_at, said_at-latest}
 
 module _ {T : Type 0} where
-  indexed-latest : (places : Places) (parts : List (Entity × T)) (row column : ℕ) → IsIndexed places parts → latest (found places) row column ≡ latest_place parts row column
+  indexed-latest : (places : Places) (parts : List (Entity × T)) (row column : ℕ) → IsIndexed places parts
+      → latest (found places) row column ≡ latest_place parts row column
   indexed-latest places parts row column p =
       ap (λ a. later a (later (found places (Column column)) (found places (Cell row column)))) (p.found (Row row))
       ∙ (ap (λ b. later (last_for (Row row) parts) (later b (found places (Cell row column)))) (p.found (Column column))
       ∙ ap (λ d. later (last_for (Row row) parts) (later (last_for (Column column) parts) d)) (p.found (Cell row column)))
 
-  pub found-below : (places : Places) (parts : List (Entity × T)) (row column i : ℕ) → IsIndexed places parts → Some i ≡ latest (found places) row column → i < length parts
+  pub found-below : (places : Places) (parts : List (Entity × T)) (row column i : ℕ) → IsIndexed places parts → Some i
+      ≡ latest (found places) row column → i < length parts
   found-below places parts row column i p e =
       subst (IsBelow (length parts)) (sym (e ∙ indexed-latest places parts row column p)) (below-latest_place parts row column)
 
-  pub said_at-found : (whole : T) (places : Places) (parts : List (Entity × T)) (row column : ℕ) (o : Option ℕ) → IsIndexed places parts → o ≡ latest (found places) row column → said_at whole parts o ≡ first_covering whole parts row column
+  pub said_at-found : (whole : T) (places : Places) (parts : List (Entity × T)) (row column : ℕ) (o : Option ℕ)
+      → IsIndexed places parts → o ≡ latest (found places) row column → said_at whole parts o ≡ first_covering whole parts row column
   said_at-found whole places parts row column o p e =
       ap (said_at whole parts) (e ∙ indexed-latest places parts row column p)
       ∙ said_at-latest whole parts row column (sym (p.found Global))
 
-pub item-reversed : {X : Type 0} (items : List X) (i : ℕ) (d : X) → i < length (reverse items) → get_or items i d ≡ get_or (reverse items) (length (reverse items) - 1 - i) d
+pub item-reversed : {X : Type 0} (items : List X) (i : ℕ) (d : X) → i < length (reverse items) → get_or items i d
+    ≡ get_or (reverse items) (length (reverse items) - 1 - i) d
 item-reversed items i d h = ap (λ xs. get_or xs i d) (sym (reverse-reverse items)) ∙ get_or-reverse (reverse items) i d h
 
 -- where nothing was set for a part, each cell has what the whole table has
-pub nothing_set : {T : Type 0} (whole : T) (items : List (Entity × T)) (row column : ℕ) → length items ≡ 0 → whole ≡ first_covering whole (reverse items) row column
+pub nothing_set : {T : Type 0} (whole : T) (items : List (Entity × T)) (row column : ℕ) → length items ≡ 0 → whole
+    ≡ first_covering whole (reverse items) row column
 nothing_set whole [] row column h = refl
 nothing_set whole (item ∷ items) row column h = let e : suc (length items) ≡ 0 = h in absurd (omega arith)

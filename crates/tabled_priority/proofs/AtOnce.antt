@@ -47,7 +47,8 @@ rightmost_stays mins i xs n h =
     let here = l.here in
     record { above = omega arith; last = λ j lt. let e = l.there j (λ q. omega arith) in let f = n.last j lt in omega arith }
 
-least_stays : (right : Bool) (mins : List ℕ) (i : ℕ) (xs : List ℕ) → IsLeast right xs mins i → at mins i + 1 < at xs i → IsLeast right (lowered xs i) mins i
+least_stays : (right : Bool) (mins : List ℕ) (i : ℕ) (xs : List ℕ) → IsLeast right xs mins i → at mins i + 1 < at xs i
+    → IsLeast right (lowered xs i) mins i
 least_stays right mins i xs n h =
     let l = IsLowered-lowered xs i (at mins i) n.above in
     let here = l.here in
@@ -59,17 +60,20 @@ least_stays right mins i xs n h =
           before-lt right (at (lowered xs i) i) (at (lowered xs i) j) i j (omega arith);
     }
 
-pub left_at_once : (mins : List ℕ) (i d : ℕ) (xs : List ℕ) (by : ℕ) (new : List ℕ) → IsLeftmost xs mins i → d ≤ spare xs mins i → IsLeftShrunk (less xs i d) mins by new → IsLeftShrunk xs mins (by + d) new
+pub left_at_once : (mins : List ℕ) (i d : ℕ) (xs : List ℕ) (by : ℕ) (new : List ℕ) → IsLeftmost xs mins i
+    → d ≤ spare xs mins i → IsLeftShrunk (less xs i d) mins by new → IsLeftShrunk xs mins (by + d) new
 left_at_once mins i d xs by new named fits rest =
     lowered_at_once (λ ys k. IsLeftShrunk ys mins k new) (λ ys. IsLeftmost ys mins i) mins i
     (λ ys k n _ r. IsLeftShrunk-step ys mins i k new n r) (leftmost_stays mins i) d xs by named fits rest
 
-pub right_at_once : (mins : List ℕ) (i d : ℕ) (xs : List ℕ) (by : ℕ) (new : List ℕ) → IsRightmost xs mins i → d ≤ spare xs mins i → IsRightShrunk (less xs i d) mins by new → IsRightShrunk xs mins (by + d) new
+pub right_at_once : (mins : List ℕ) (i d : ℕ) (xs : List ℕ) (by : ℕ) (new : List ℕ) → IsRightmost xs mins i
+    → d ≤ spare xs mins i → IsRightShrunk (less xs i d) mins by new → IsRightShrunk xs mins (by + d) new
 right_at_once mins i d xs by new named fits rest =
     lowered_at_once (λ ys k. IsRightShrunk ys mins k new) (λ ys. IsRightmost ys mins i) mins i
     (λ ys k n _ r. IsRightShrunk-step ys mins i k new n r) (rightmost_stays mins i) d xs by named fits rest
 
-pub min_at_once : (right : Bool) (mins : List ℕ) (i d : ℕ) (xs : List ℕ) (by : ℕ) (new : List ℕ) → IsLeast right xs mins i → d ≤ spare xs mins i → IsMinShrunk right (less xs i d) mins by new → IsMinShrunk right xs mins (by + d) new
+pub min_at_once : (right : Bool) (mins : List ℕ) (i d : ℕ) (xs : List ℕ) (by : ℕ) (new : List ℕ)
+    → IsLeast right xs mins i → d ≤ spare xs mins i → IsMinShrunk right (less xs i d) mins by new → IsMinShrunk right xs mins (by + d) new
 min_at_once right mins i d xs by new named fits rest =
     lowered_at_once (λ ys k. IsMinShrunk right ys mins k new) (λ ys. IsLeast right ys mins i) mins i
     (λ ys k n _ r. IsMinShrunk-step right ys mins i k new n r) (least_stays right mins i) d xs by named fits rest

@@ -1,5 +1,28 @@
 -- Which entries stand between their limits.
-use Rattle.std.proofs.Common.{◌≡◌, ◌≢◌, ℕ, ◌+◌, ◌-◌, ◌<◌, ◌≤◌, Bool, true, false, if◌then◌else◌, ◌&&◌, ◌||◌, ◌==◌, List, length, min, sym, ◌∙◌, arith, ⊎_elim, nat_lt}
+use Rattle.std.proofs.Common.{
+  ◌≡◌,
+  ◌≢◌,
+  ℕ,
+  ◌+◌,
+  ◌-◌,
+  ◌<◌,
+  ◌≤◌,
+  Bool,
+  true,
+  false,
+  if◌then◌else◌,
+  ◌&&◌,
+  ◌||◌,
+  ◌==◌,
+  List,
+  length,
+  min,
+  sym,
+  ◌∙◌,
+  arith,
+  ⊎_elim,
+  nat_lt,
+}
 use Rattle.std.proofs.lemmas.Bool.Decides.{nat_tests}
 use Rattle.std.proofs.lemmas.Bool.{cases_lt, cases_eq, cases_Bool}
 use Rattle.tabled_priority.specs.Permitted.{at, taken, IsBetween, HasOneBetween, HasEvenLosses}
@@ -12,7 +35,8 @@ left_place old mins by new s i b =
     let lower = b.0 in let upper = b.1 in
     ⊎_elim
     (λ (before : i < s.place). let e = s.before i before in absurd (omega arith))
-    (λ (here : s.place ≤ i). ⊎_elim (λ (after : s.place < i). let e = s.after i after in absurd (omega arith)) (λ le. omega arith) (cases_lt s.place i))
+    (λ (here : s.place ≤ i). ⊎_elim (λ (after : s.place < i). let e = s.after i after in absurd (omega arith))
+    (λ le. omega arith) (cases_lt s.place i))
     (cases_lt i s.place)
 
 pub left_between : (old mins : List ℕ) (by : ℕ) (new : List ℕ) → IsLeftShrunk old mins by new → HasOneBetween old mins new
@@ -23,7 +47,8 @@ right_place old mins by new s i b =
     let lower = b.0 in let upper = b.1 in
     ⊎_elim
     (λ (before : i < s.place). let e = s.before i before in absurd (omega arith))
-    (λ (here : s.place ≤ i). ⊎_elim (λ (after : s.place < i). let e = s.after i after in absurd (omega arith)) (λ le. omega arith) (cases_lt s.place i))
+    (λ (here : s.place ≤ i). ⊎_elim (λ (after : s.place < i). let e = s.after i after in absurd (omega arith))
+    (λ le. omega arith) (cases_lt s.place i))
     (cases_lt i s.place)
 
 pub right_between : (old mins : List ℕ) (by : ℕ) (new : List ℕ) → IsRightShrunk old mins by new → HasOneBetween old mins new
@@ -35,7 +60,8 @@ one_first : (right : Bool) (x y i j : ℕ) → i ≢ j
 one_first true x y i j ne h = grind (arith, nat_tests)
 one_first false x y i j ne h = grind (arith, nat_tests)
 
-min_place : (right : Bool) (old mins : List ℕ) (by : ℕ) (new : List ℕ) (s : IsMinShrunk right old mins by new) (i : ℕ) → IsBetween old mins new i → i ≡ s.place
+min_place : (right : Bool) (old mins : List ℕ) (by : ℕ) (new : List ℕ) (s : IsMinShrunk right old mins by new) (i : ℕ)
+    → IsBetween old mins new i → i ≡ s.place
 min_place right old mins by new s i b =
     let lower = b.0 in let upper = b.1 in
     ⊎_elim
@@ -52,11 +78,13 @@ min_place right old mins by new s i b =
 pub min_between : (right : Bool) (old mins : List ℕ) (by : ℕ) (new : List ℕ) → IsMinShrunk right old mins by new → HasOneBetween old mins new
 min_between right old mins by new s i j a b = min_place right old mins by new s i a ∙ sym (min_place right old mins by new s j b)
 
-lost : (v m new rounds : ℕ) (b : Bool) → m < new → new + min (v - m) (if b then rounds + 1 else rounds) ≡ v → (rounds ≤ v - new) × (v - new ≤ rounds + 1)
+lost : (v m new rounds : ℕ) (b : Bool) → m < new → new + min (v - m) (if b then rounds + 1 else rounds) ≡ v
+    → (rounds ≤ v - new) × (v - new ≤ rounds + 1)
 lost v m new rounds true h e = (omega arith, omega arith)
 lost v m new rounds false h e = (omega arith, omega arith)
 
-pub round_even : (kept : ℕ) (old mins : List ℕ) (by : ℕ) (new : List ℕ) (kept' : ℕ) → IsRoundShrunk kept old mins by new kept' → HasEvenLosses old mins new
+pub round_even : (kept : ℕ) (old mins : List ℕ) (by : ℕ) (new : List ℕ) (kept' : ℕ)
+    → IsRoundShrunk kept old mins by new kept' → HasEvenLosses old mins new
 round_even kept old mins by new kept' s i j a b = ⊎_elim
     (λ (some : 0 < taken old mins by).
     let len = s.takes.permitted.same_length in

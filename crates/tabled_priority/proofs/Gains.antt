@@ -1,9 +1,41 @@
 -- What columns gain by their shares.
-use Rattle.std.proofs.Common.{◌≡◌, ℕ, ◌+◌, ◌-◌, ◌<◌, ◌≤◌, ◌^◌, Bool, true, false, cond, if◌then◌else◌, ◌&&◌, ◌==◌, List, [], length, sum, min, max, refl, sym, ap, ◌∙◌, subst, arith, ⊎_elim, zero, suc, nat_lt, nat_le}
+use Rattle.std.proofs.Common.{
+  ◌≡◌,
+  ℕ,
+  ◌+◌,
+  ◌-◌,
+  ◌<◌,
+  ◌≤◌,
+  ◌^◌,
+  Bool,
+  true,
+  false,
+  cond,
+  if◌then◌else◌,
+  ◌&&◌,
+  ◌==◌,
+  List,
+  [],
+  length,
+  sum,
+  min,
+  max,
+  refl,
+  sym,
+  ap,
+  ◌∙◌,
+  subst,
+  arith,
+  ⊎_elim,
+  zero,
+  suc,
+  nat_lt,
+  nat_le,
+}
 use Rattle.std.proofs.lemmas.Bool.Decides.{nat_tests}
 use Rattle.std.proofs.lemmas.Bool.{cases_lt, ne_eqb}
 use Rattle.std.proofs.lemmas.List.{get_or_past}
-use Rattle.tabled_priority.specs.declared.filling.Filling.TheVariants.{Heights, Gains}
+use Rattle.tabled_priority.specs.declared.schedule.Schedule.TheVariants.{Heights, Gains}
 use Rattle.tabled_priority.specs.Permitted.{at}
 use Rattle.tabled_priority.specs.Laws.Permitted.{in_range}
 use Rattle.tabled_priority.specs.Shrunk.{ceiling, is_met, start, place_after}
@@ -12,7 +44,7 @@ use Rattle.tabled_priority.specs.Sums.{sum_below, one_if}
 use Rattle.tabled_priority.specs.Laws.Sums.{sum_below-same, sum_below-plus, sum_below-zero, sum_below-term, sum-below}
 use Rattle.tabled_priority.specs.Grown.{added, IsGrownFrom, IsMinGrown, IsRoundGrown}
 use Rattle.tabled_priority.specs.Laws.Grown.{added-some, added-none, IsMinGrown-nothing}
-use Rattle.tabled_priority.specs.Filling.{amount, filled, first_level, last_level, is_open, share, IsReached, IsSpan}
+use Rattle.tabled_priority.specs.Schedule.{amount, total_amount, first_level, last_level, is_open, share, IsReached, IsSpan}
 use Rattle.tabled_priority.proofs.Shares.{shares}
 
 abbrev pub top : ℕ
@@ -28,7 +60,7 @@ some_term f (suc n) h = ⊎_elim
 -- what is wanted, of what columns can gain up to the greatest level
 pub wanted_added : (from to : ℕ → ℕ) (old : List ℕ) (by most wanted : ℕ) → by ≤ top
     → ((i : ℕ) → 0 < at old i → by ≤ min top (to i) - from i) → ((i : ℕ) → at old i ≡ 0 → to i ≡ 0)
-    → most ≡ min (filled from to (length old) top) top → wanted ≡ min by most → wanted ≡ added old by
+    → most ≡ min (total_amount from to (length old) top) top → wanted ≡ min by most → wanted ≡ added old by
 wanted_added from to old by most wanted b gain none m w = ⊎_elim
     (λ (some : 0 < sum old).
     let s = sum-below old in
@@ -61,8 +93,10 @@ pub grown_by_shares : (from to : ℕ → ℕ) (old : List ℕ) (by : ℕ) (new :
 grown_by_shares from to old by new level rest first last r s none len each = record {
   kept = record {
     same_length = len;
-    least = λ i. ⊎_elim (λ inside. let e = each i inside in omega arith) (λ past. let e = get_or_past old i 0 past in omega arith) (cases_lt i (length old));
-    zeros = λ i z. ⊎_elim (λ inside. let e = each i inside in let n = none i z in omega arith) (λ past. get_or_past new i 0 (omega arith)) (cases_lt i (length old));
+    least = λ i. ⊎_elim (λ inside. let e = each i inside in omega arith) (λ past. let e = get_or_past old i 0 past in
+        omega arith) (cases_lt i (length old));
+    zeros = λ i z. ⊎_elim (λ inside. let e = each i inside in let n = none i z in omega arith)
+        (λ past. get_or_past new i 0 (omega arith)) (cases_lt i (length old));
   };
   total =
       let a = shares from to (length old) (added old by) level rest first last r s in
@@ -78,10 +112,18 @@ pub IsGrownFrom-still : (old : List ℕ) (by : ℕ) → added old by ≡ 0 → I
 IsGrownFrom-still old by z = record { kept = record { same_length = refl; least = λ i. omega arith; zeros = λ i h. h }; total = omega arith }
 
 pub min_still : (right : Bool) (old : List ℕ) (by : ℕ) → added old by ≡ 0 → IsMinGrown right old by old
-min_still right old by z = let s = IsMinGrown-nothing right old in record { grows = IsGrownFrom-still old by z; level = s.level; place = s.place; raised = s.raised }
+min_still right old by z = let s = IsMinGrown-nothing right old in
+    record { grows = IsGrownFrom-still old by z; level = s.level; place = s.place; raised = s.raised }
 
 pub round_still : (kept : ℕ) (old : List ℕ) (by : ℕ) → added old by ≡ 0 → IsRoundGrown kept old by old kept
-round_still kept old by z = record { grows = IsGrownFrom-still old by z; rounds = 0; last = 0; stays = λ _. refl; moves = λ h. absurd (omega arith); gains = λ i l h. absurd (omega arith) }
+round_still kept old by z = record {
+  grows = IsGrownFrom-still old by z;
+  rounds = 0;
+  last = 0;
+  stays = λ _. refl;
+  moves = λ h. absurd (omega arith);
+  gains = λ i l h. absurd (omega arith);
+}
 
 -- ---- the least first
 raised_here : (v y new : ℕ) → 0 < v → y ≤ top → new ≡ v + (min y (if v == 0 then 0 else top) - v) → new ≡ max v y
@@ -110,7 +152,8 @@ min_grown true old by new level first last l g order right left each = record {
   place = first;
   raised = λ i pos.
       let inside = in_range old i 0 pos in
-      raised_here (at old i) (level + one_if (is_met first last i)) (at new i) pos (let o = one_if-le (is_met first last i) in omega arith) (each i inside)
+      raised_here (at old i) (level + one_if (is_met first last i)) (at new i) pos
+      (let o = one_if-le (is_met first last i) in omega arith) (each i inside)
       ∙ ap (max (at old i)) (floor_right level first last (length old) i (right refl) order inside);
 }
 min_grown false old by new level first last l g order right left each =
@@ -120,13 +163,15 @@ min_grown false old by new level first last l g order right left each =
       level = level;
       place = last + 1;
       raised = λ i pos.
-          raised_here (at old i) (level + one_if (is_met first last i)) (at new i) pos (let o = one_if-le (is_met first last i) in omega arith) (each i (in_range old i 0 pos))
+          raised_here (at old i) (level + one_if (is_met first last i)) (at new i) pos
+          (let o = one_if-le (is_met first last i) in omega arith) (each i (in_range old i 0 pos))
           ∙ ap (λ k. max (at old i) (level + one_if (is_met k last i))) e
           ∙ ap (max (at old i)) (floor_left level last i);
     }
 
 -- ---- in turn
-round_gain : (v level new : ℕ) (b : Bool) → 0 < v → level < top → new ≡ v + (min (level + one_if b) (if v == 0 then 0 else top) - 0) → new ≡ v + (if b then level + 1 else level)
+round_gain : (v level new : ℕ) (b : Bool) → 0 < v → level < top → new
+    ≡ v + (min (level + one_if b) (if v == 0 then 0 else top) - 0) → new ≡ v + (if b then level + 1 else level)
 round_gain v level new b pos l e =
     let t : (if v == 0 then 0 else top) ≡ top = ap (λ k. cond k 0 top) (ne_eqb v 0 (λ z. omega arith)) in
     let f : new ≡ v + (min (level + one_if b) top - 0) = e ∙ ap (λ k. v + (min (level + one_if b) k - 0)) t in

@@ -1,13 +1,38 @@
--- Lists that were filled up to a level are those of the priorities.
-use Rattle.std.proofs.Common.{◌≡◌, ℕ, ◌+◌, ◌-◌, ◌<◌, ◌≤◌, Bool, true, false, if◌then◌else◌, ◌&&◌, List, length, min, max, refl, sym, ap, ◌∙◌, subst, arith, ⊎_elim, nat_lt, nat_le}
+-- Lists that were total_amount up to a level are those of the priorities.
+use Rattle.std.proofs.Common.{
+  ◌≡◌,
+  ℕ,
+  ◌+◌,
+  ◌-◌,
+  ◌<◌,
+  ◌≤◌,
+  Bool,
+  true,
+  false,
+  if◌then◌else◌,
+  ◌&&◌,
+  List,
+  length,
+  min,
+  max,
+  refl,
+  sym,
+  ap,
+  ◌∙◌,
+  subst,
+  arith,
+  ⊎_elim,
+  nat_lt,
+  nat_le,
+}
 use Rattle.std.proofs.lemmas.Bool.Decides.{nat_tests}
 use Rattle.std.proofs.lemmas.Bool.{cases_lt}
 use Rattle.std.proofs.lemmas.List.{get_or_past}
-use Rattle.tabled_priority.specs.declared.filling.Filling.TheVariants.{Depths, Rounds}
+use Rattle.tabled_priority.specs.declared.schedule.Schedule.TheVariants.{Depths, Rounds}
 use Rattle.tabled_priority.specs.Permitted.{at, low, spare, taken, IsTakenFrom}
 use Rattle.tabled_priority.specs.Shrunk.{ceiling, is_met, start, place_after, IsMaxShrunk, IsRoundShrunk}
 use Rattle.tabled_priority.specs.Sums.{one_if}
-use Rattle.tabled_priority.specs.Filling.{first_level, last_level, is_open, share}
+use Rattle.tabled_priority.specs.Schedule.{first_level, last_level, is_open, share}
 
 abbrev top : ℕ
 top = 18446744073709551615
@@ -17,7 +42,8 @@ top = 18446744073709551615
 cut_here : (m v y new : ℕ) → v ≤ top → m ≤ top → y ≤ top → new + (min y (top - m) - (top - v)) ≡ v → new ≡ max (min v m) (min v (top - y))
 cut_here m v y new a b c e = omega arith
 
-ceiling_right : (level first last n i : ℕ) → level < top → last + 1 ≡ n → first ≤ last → i < n → top - (level + one_if (is_met first last i)) ≡ ceiling true (top - level - 1) first i
+ceiling_right : (level first last n i : ℕ) → level < top → last + 1 ≡ n → first ≤ last → i < n
+    → top - (level + one_if (is_met first last i)) ≡ ceiling true (top - level - 1) first i
 ceiling_right level first last n i a b c d = grind (arith, nat_tests)
 
 ceiling_left : (level last i : ℕ) → level < top → top - (level + one_if (is_met 0 last i)) ≡ ceiling false (top - level - 1) (last + 1) i
@@ -41,12 +67,14 @@ max_shrunk true old mins by new level first last v m l t order right left each =
   place = first;
   cut = λ i. ⊎_elim
       (λ (inside : i < length old).
-      cut_here (at mins i) (at old i) (level + one_if (is_met first last i)) (at new i) (v i) (m i) (let o = one_if-le (is_met first last i) in omega arith) (each i)
+      cut_here (at mins i) (at old i) (level + one_if (is_met first last i)) (at new i) (v i) (m i)
+      (let o = one_if-le (is_met first last i) in omega arith) (each i)
       ∙ ap (λ k. max (low old mins i) (min (at old i) k)) (ceiling_right level first last (length old) i l (right refl) order inside))
       (λ (past : length old ≤ i).
       let e = get_or_past old i 0 past in
       let f = each i in
-      subst (λ x. at new i ≡ max (min x (at mins i)) (min x (ceiling true (top - level - 1) first i))) (sym e) (past_cut (at mins i) (ceiling true (top - level - 1) first i) (at new i) (omega arith)))
+      subst (λ x. at new i ≡ max (min x (at mins i)) (min x (ceiling true (top - level - 1) first i))) (sym e)
+      (past_cut (at mins i) (ceiling true (top - level - 1) first i) (at new i) (omega arith)))
       (cases_lt i (length old));
 }
 max_shrunk false old mins by new level first last v m l t order right left each =
@@ -56,7 +84,8 @@ max_shrunk false old mins by new level first last v m l t order right left each 
       level = top - level - 1;
       place = last + 1;
       cut = λ i.
-          cut_here (at mins i) (at old i) (level + one_if (is_met first last i)) (at new i) (v i) (m i) (let o = one_if-le (is_met first last i) in omega arith) (each i)
+          cut_here (at mins i) (at old i) (level + one_if (is_met first last i)) (at new i) (v i) (m i)
+          (let o = one_if-le (is_met first last i) in omega arith) (each i)
           ∙ ap (λ k. max (low old mins i) (min (at old i) (top - (level + one_if (is_met k last i))))) e
           ∙ ap (λ k. max (low old mins i) (min (at old i) k)) (ceiling_left level last i l);
     }
@@ -66,7 +95,8 @@ round_share : (v m level new : ℕ) (b : Bool) → new + (min (level + one_if b)
 round_share v m level new true h = omega arith
 round_share v m level new false h = omega arith
 
-last_share : (v m level new : ℕ) (b : Bool) → b ≡ true → (nat_le 0 level && nat_lt level (v - m)) ≡ true → new + (min (level + one_if b) (v - m) - 0) ≡ v → new + (level + 1) ≡ v
+last_share : (v m level new : ℕ) (b : Bool) → b ≡ true → (nat_le 0 level && nat_lt level (v - m)) ≡ true
+    → new + (min (level + one_if b) (v - m) - 0) ≡ v → new + (level + 1) ≡ v
 last_share v m level new true e o h = let l : level < v - m = grind (arith, nat_tests) in omega arith
 last_share v m level new false e o h = absurd cc
 

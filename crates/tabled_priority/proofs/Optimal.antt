@@ -57,7 +57,8 @@ HasGreatestLeast-from_min right old by new s = record {
       let c = s.raised i pos in
       let l = level-le-ceiling (not right) s.level s.place i in
       let below : (j : ℕ) → at new j ≤ at other j = λ j. ⊎_elim
-      (λ p. let d = s.raised j p in let m = level-le-ceiling (not right) s.level s.place j in let a = all j p in let b = more.least j in omega (arith, l.0, m.1))
+      (λ p. let d = s.raised j p in let m = level-le-ceiling (not right) s.level s.place j in let a = all j p in
+      let b = more.least j in omega (arith, l.0, m.1))
       (λ z. let d = s.grows.kept.zeros j (omega arith) in omega arith) (cases_lt 0 (at old j)) in
       let a = all i pos in
       let less = lt-sum new other i (s.grows.kept.same_length ∙ sym more.same_length) below (omega arith) in

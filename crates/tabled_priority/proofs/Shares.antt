@@ -1,36 +1,39 @@
 -- What columns take or gain by their shares.
 use Rattle.std.proofs.Common.{◌≡◌, ℕ, ◌+◌, ◌-◌, ◌≤◌, Bool, true, false, cond, ◌&&◌, ◌==◌, List, length, min, refl, ap, ◌∙◌, arith}
-use Rattle.tabled_priority.specs.declared.filling.Filling.{Filling}
-use Rattle.tabled_priority.specs.declared.filling.Filling.TheVariants.{Depths, Rounds, Heights, Gains}
+use Rattle.tabled_priority.specs.declared.schedule.Schedule.{Schedule}
+use Rattle.tabled_priority.specs.declared.schedule.Schedule.TheVariants.{Depths, Rounds, Heights, Gains}
 use Rattle.tabled_priority.specs.Permitted.{at, spare, spare_total, taken, IsTakenFrom}
 use Rattle.tabled_priority.specs.Sums.{sum_below, one_if}
 use Rattle.tabled_priority.specs.Laws.Sums.{sum_below-same, sum_below-plus, sum-below}
 use Rattle.tabled_priority.specs.Shrunk.{is_met}
-use Rattle.tabled_priority.specs.Filling.{amount, filled, first_level, last_level, is_open, share, IsReached, IsSpan}
+use Rattle.tabled_priority.specs.Schedule.{amount, total_amount, first_level, last_level, is_open, share, IsReached, IsSpan}
 use Rattle.tabled_priority.proofs.Ramps.{amount-more}
 
 -- the levels of a column depend on its value alone
-pub first_level-at : (kind : Filling) (xs ys mins : List ℕ) (i : ℕ) → at xs i ≡ at ys i → first_level kind xs mins i ≡ first_level kind ys mins i
+pub first_level-at : (kind : Schedule) (xs ys mins : List ℕ) (i : ℕ) → at xs i ≡ at ys i → first_level kind xs mins i ≡ first_level kind ys mins i
 first_level-at Depths xs ys mins i e = ap (λ x. 18446744073709551615 - x) e
 first_level-at Rounds xs ys mins i e = refl
 first_level-at Heights xs ys mins i e = e
 first_level-at Gains xs ys mins i e = refl
 
-pub last_level-at : (kind : Filling) (xs ys mins : List ℕ) (i : ℕ) → at xs i ≡ at ys i → last_level kind xs mins i ≡ last_level kind ys mins i
+pub last_level-at : (kind : Schedule) (xs ys mins : List ℕ) (i : ℕ) → at xs i ≡ at ys i → last_level kind xs mins i ≡ last_level kind ys mins i
 last_level-at Depths xs ys mins i e = refl
 last_level-at Rounds xs ys mins i e = ap (λ x. x - at mins i) e
 last_level-at Heights xs ys mins i e = ap (λ x. cond (x == 0) 0 18446744073709551615) e
 last_level-at Gains xs ys mins i e = ap (λ x. cond (x == 0) 0 18446744073709551615) e
 
 -- what a column was found to take is its share
-pub share-at : (kind : Filling) (xs ys mins : List ℕ) (i from to level height first last took : ℕ) → at xs i ≡ at ys i → from ≡ first_level kind xs mins i → to ≡ last_level kind xs mins i
-    → height ≡ level + one_if (is_met first last i) → took ≡ min height to - from → took ≡ share (first_level kind ys mins) (last_level kind ys mins) level first last i
+pub share-at : (kind : Schedule) (xs ys mins : List ℕ) (i from to level height first last took : ℕ) → at xs i ≡ at ys i
+    → from ≡ first_level kind xs mins i → to ≡ last_level kind xs mins i
+    → height ≡ level + one_if (is_met first last i) → took ≡ min height to - from → took
+    ≡ share (first_level kind ys mins) (last_level kind ys mins) level first last i
 share-at kind xs ys mins i from to level height first last took e f t h k =
     k ∙ ap (λ x. min x to - from) h
     ∙ ap (λ x. min (level + one_if (is_met first last i)) x - from) (t ∙ last_level-at kind xs ys mins i e)
     ∙ ap (λ x. min (level + one_if (is_met first last i)) (last_level kind ys mins i) - x) (f ∙ first_level-at kind xs ys mins i e)
 
-share-more : (from to : ℕ → ℕ) (level i : ℕ) (b : Bool) → amount from to (level + one_if b) i ≡ amount from to level i + one_if (is_open from to level i && b)
+share-more : (from to : ℕ → ℕ) (level i : ℕ) (b : Bool) → amount from to (level + one_if b) i
+    ≡ amount from to level i + one_if (is_open from to level i && b)
 share-more from to level i true = amount-more from to level i ∙ ap (λ t. amount from to level i + one_if t) (and_true (is_open from to level i))
   where
     and_true : (t : Bool) → t ≡ (t && true)
@@ -45,9 +48,12 @@ share-more from to level i false =
     and_false false = refl
 
 -- all shares together
-pub shares : (from to : ℕ → ℕ) (n wanted level rest first last : ℕ) → IsReached from to n wanted level rest → IsSpan from to n level rest first last → sum_below (share from to level first last) n ≡ wanted
+pub shares : (from to : ℕ → ℕ) (n wanted level rest first last : ℕ) → IsReached from to n wanted level rest
+    → IsSpan from to n level rest first last → sum_below (share from to level first last) n ≡ wanted
 shares from to n wanted level rest first last r s =
-    let a = sum_below-same (share from to level first last) (λ i. amount from to level i + one_if (is_open from to level i && is_met first last i)) n (λ i _. share-more from to level i (is_met first last i)) in
+    let a = sum_below-same (share from to level first last)
+    (λ i. amount from to level i + one_if (is_open from to level i && is_met first last i)) n
+    (λ i _. share-more from to level i (is_met first last i)) in
     let b = sum_below-plus (amount from to level) (λ i. one_if (is_open from to level i && is_met first last i)) n in
     let t = r.total in
     let c = s.count in
@@ -55,7 +61,8 @@ shares from to n wanted level rest first last r s =
 
 -- ---- shrinking
 -- a column gives no more than it can
-pub share-spare : (from to : ℕ → ℕ) (xs mins : List ℕ) (level first last i : ℕ) → to i - from i ≤ spare xs mins i → share from to level first last i ≤ spare xs mins i
+pub share-spare : (from to : ℕ → ℕ) (xs mins : List ℕ) (level first last i : ℕ) → to i - from i ≤ spare xs mins i
+    → share from to level first last i ≤ spare xs mins i
 share-spare from to xs mins level first last i h = omega arith
 
 pub taken_by_shares : (from to : ℕ → ℕ) (old mins : List ℕ) (by : ℕ) (new : List ℕ) (level rest first last : ℕ)
@@ -78,16 +85,18 @@ taken_by_shares from to old mins by new level rest first last r s fits len each 
 }
 
 -- up to the greatest level columns give all they can
-pub spare_total-filled : (from to : ℕ → ℕ) (old mins : List ℕ) (top : ℕ) → ((i : ℕ) → min top (to i) - from i ≡ spare old mins i) → filled from to (length old) top ≡ spare_total old mins
-spare_total-filled from to old mins top h = sum_below-same (amount from to top) (spare old mins) (length old) (λ i _. h i)
+pub spare_total-total_amount : (from to : ℕ → ℕ) (old mins : List ℕ) (top : ℕ)
+    → ((i : ℕ) → min top (to i) - from i ≡ spare old mins i) → total_amount from to (length old) top ≡ spare_total old mins
+spare_total-total_amount from to old mins top h = sum_below-same (amount from to top) (spare old mins) (length old) (λ i _. h i)
 
 -- what is wanted, of what columns can give up to the greatest level
 pub wanted_taken : (from to : ℕ → ℕ) (old mins : List ℕ) (by most wanted : ℕ) → by ≤ 18446744073709551615
     → ((i : ℕ) → min 18446744073709551615 (to i) - from i ≡ spare old mins i)
-    → most ≡ min (filled from to (length old) 18446744073709551615) 18446744073709551615 → wanted ≡ min by most → wanted ≡ taken old mins by
-wanted_taken from to old mins by most wanted b h m w = let e = spare_total-filled from to old mins 18446744073709551615 h in omega arith
+    → most ≡ min (total_amount from to (length old) 18446744073709551615) 18446744073709551615 → wanted ≡ min by most → wanted ≡ taken old mins by
+wanted_taken from to old mins by most wanted b h m w = let e = spare_total-total_amount from to old mins 18446744073709551615 h in omega arith
 
-pub depths_spare : (v m : ℕ) → v ≤ 18446744073709551615 → m ≤ 18446744073709551615 → min 18446744073709551615 (18446744073709551615 - m) - (18446744073709551615 - v) ≡ v - m
+pub depths_spare : (v m : ℕ) → v ≤ 18446744073709551615 → m ≤ 18446744073709551615
+    → min 18446744073709551615 (18446744073709551615 - m) - (18446744073709551615 - v) ≡ v - m
 depths_spare v m a b = omega arith
 
 pub depths_within : (v m : ℕ) → v ≤ 18446744073709551615 → m ≤ 18446744073709551615 → 18446744073709551615 - m - (18446744073709551615 - v) ≤ v - m

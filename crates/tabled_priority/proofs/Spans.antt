@@ -5,7 +5,7 @@ use Rattle.std.proofs.lemmas.Bool.{cases_lt}
 use Rattle.tabled_priority.specs.Sums.{sum_below, one_if}
 use Rattle.tabled_priority.specs.Laws.Sums.{sum_below-same, sum_below-plus, sum_below-prefix}
 use Rattle.tabled_priority.specs.Shrunk.{is_met}
-use Rattle.tabled_priority.specs.Filling.{is_open, open_count, IsSpan}
+use Rattle.tabled_priority.specs.Schedule.{is_open, open_count, IsSpan}
 
 past_none : (b : Bool) (i k : ℕ) → k ≤ i → one_if (b && nat_lt i k) ≡ 0
 past_none true i k h = grind (arith, nat_tests)
@@ -21,7 +21,8 @@ count_below o k (suc n) h = ⊎_elim
     (λ (less : k < suc n). let r = count_below o k n (omega arith) in let t = past_none (o n) n k (omega arith) in omega arith)
     (λ (all : suc n ≤ k).
     let e : suc n ≡ k = omega arith in
-    sum_below-same (λ i. one_if (o i && nat_lt i k)) (λ i. one_if (o i)) (suc n) (λ i inside. below_all (o i) i k (omega arith)) ∙ ap (sum_below (λ i. one_if (o i))) e)
+    sum_below-same (λ i. one_if (o i && nat_lt i k)) (λ i. one_if (o i)) (suc n)
+    (λ i inside. below_all (o i) i k (omega arith)) ∙ ap (sum_below (λ i. one_if (o i))) e)
     (cases_lt k (suc n))
 
 straight : (b : Bool) (f l i : ℕ) → f ≤ l → one_if (b && is_met f l i) + one_if (b && nat_lt i f) ≡ one_if (b && nat_lt i (suc l))
@@ -32,19 +33,23 @@ around : (b : Bool) (f l i : ℕ) → l < f → one_if (b && is_met f l i) + one
 around true f l i h = grind (arith, nat_tests)
 around false f l i h = refl
 
-pub count_straight : (o : ℕ → Bool) (n f l : ℕ) → f ≤ l → l < n → sum_below (λ i. one_if (o i && is_met f l i)) n + sum_below (λ i. one_if (o i)) f ≡ sum_below (λ i. one_if (o i)) (suc l)
+pub count_straight : (o : ℕ → Bool) (n f l : ℕ) → f ≤ l → l < n → sum_below
+    (λ i. one_if (o i && is_met f l i)) n + sum_below (λ i. one_if (o i)) f ≡ sum_below (λ i. one_if (o i)) (suc l)
 count_straight o n f l h inside =
     let p = sum_below-plus (λ i. one_if (o i && is_met f l i)) (λ i. one_if (o i && nat_lt i f)) n in
-    let s = sum_below-same (λ i. one_if (o i && is_met f l i) + one_if (o i && nat_lt i f)) (λ i. one_if (o i && nat_lt i (suc l))) n (λ i _. straight (o i) f l i h) in
+    let s = sum_below-same (λ i. one_if (o i && is_met f l i) + one_if (o i && nat_lt i f))
+    (λ i. one_if (o i && nat_lt i (suc l))) n (λ i _. straight (o i) f l i h) in
     let a = count_below o f n (omega arith) in
     let b = count_below o (suc l) n (omega arith) in
     omega arith
 
-pub count_around : (o : ℕ → Bool) (n f l : ℕ) → l < f → f ≤ n → sum_below (λ i. one_if (o i && is_met f l i)) n + sum_below (λ i. one_if (o i)) f ≡ sum_below (λ i. one_if (o i)) n + sum_below (λ i. one_if (o i)) (suc l)
+pub count_around : (o : ℕ → Bool) (n f l : ℕ) → l < f → f ≤ n → sum_below
+    (λ i. one_if (o i && is_met f l i)) n + sum_below (λ i. one_if (o i)) f ≡ sum_below (λ i. one_if (o i)) n + sum_below (λ i. one_if (o i)) (suc l)
 count_around o n f l h inside =
     let p = sum_below-plus (λ i. one_if (o i && is_met f l i)) (λ i. one_if (o i && nat_lt i f)) n in
     let q = sum_below-plus (λ i. one_if (o i)) (λ i. one_if (o i && nat_lt i (suc l))) n in
-    let s = sum_below-same (λ i. one_if (o i && is_met f l i) + one_if (o i && nat_lt i f)) (λ i. one_if (o i) + one_if (o i && nat_lt i (suc l))) n (λ i _. around (o i) f l i h) in
+    let s = sum_below-same (λ i. one_if (o i && is_met f l i) + one_if (o i && nat_lt i f))
+    (λ i. one_if (o i) + one_if (o i && nat_lt i (suc l))) n (λ i _. around (o i) f l i h) in
     let a = count_below o f n inside in
     let b = count_below o (suc l) n (omega arith) in
     omega arith
@@ -56,22 +61,27 @@ one_open b e = ap one_if e
 pub open-count : (from to : ℕ → ℕ) (level l : ℕ) → is_open from to level l ≡ true → open_count from to (suc l) level ≡ open_count from to l level + 1
 open-count from to level l e = let o = one_open (is_open from to level l) e in omega arith
 
-pub span_left : (from to : ℕ → ℕ) (n level rest last : ℕ) → last < n → is_open from to level last ≡ true → open_count from to last level + 1 ≡ rest → IsSpan from to n level rest 0 last
+pub span_left : (from to : ℕ → ℕ) (n level rest last : ℕ) → last < n → is_open from to level last ≡ true
+    → open_count from to last level + 1 ≡ rest → IsSpan from to n level rest 0 last
 span_left from to n level rest last inside o nth =
     let c = count_straight (is_open from to level) n 0 last (omega arith) inside in
     let e = open-count from to level last o in
     record { first_in = omega arith; last_in = inside; count = omega arith }
 
-pub span_right : (from to : ℕ → ℕ) (n level rest first : ℕ) → first < n → open_count from to first level + rest ≡ open_count from to n level → IsSpan from to n level rest first (n - 1)
+pub span_right : (from to : ℕ → ℕ) (n level rest first : ℕ) → first < n → open_count from to first level + rest
+    ≡ open_count from to n level → IsSpan from to n level rest first (n - 1)
 span_right from to n level rest first inside nth =
     let c = count_straight (is_open from to level) n first (n - 1) (omega arith) (omega arith) in
-    let e : open_count from to (suc (n - 1)) level ≡ open_count from to n level = ap (λ k. open_count from to k level) (let z : suc (n - 1) ≡ n = omega arith in z) in
+    let e : open_count from to (suc (n - 1)) level ≡ open_count from to n level = ap
+    (λ k. open_count from to k level) (let z : suc (n - 1) ≡ n = omega arith in z) in
     record { first_in = inside; last_in = omega arith; count = omega arith }
 
-pub span_round : (from to : ℕ → ℕ) (n level rest first last nth : ℕ) → first < n → last < n → is_open from to level last ≡ true → open_count from to last level + 1 ≡ nth
+pub span_round : (from to : ℕ → ℕ) (n level rest first last nth : ℕ) → first < n → last < n
+    → is_open from to level last ≡ true → open_count from to last level + 1 ≡ nth
     → 0 < rest → rest ≤ open_count from to n level → open_count from to first level ≤ open_count from to n level
     → ((rest ≤ open_count from to n level - open_count from to first level) × (nth ≡ open_count from to first level + rest))
-    ⊎ ((open_count from to n level - open_count from to first level < rest) × (nth ≡ rest - (open_count from to n level - open_count from to first level)))
+    ⊎ ((open_count from to n level - open_count from to first level < rest)
+    × (nth ≡ rest - (open_count from to n level - open_count from to first level)))
     → IsSpan from to n level rest first last
 span_round from to n level rest first last nth first_in last_in o at some enough within choice =
     let e = open-count from to level last o in

@@ -31,11 +31,13 @@ one_if-not : (m x : ℕ) → x ≤ m → one_if (nat_lt m x) ≡ 0
 one_if-not m x h = grind (arith, nat_tests)
 
 -- one place loses all that it can
-pub spare_places-less : (values mins : List ℕ) (i d : ℕ) → i < length values → at mins i < at values i → at values i - d ≤ at mins i → spare_places (less values i d) mins + 1 ≡ spare_places values mins
+pub spare_places-less : (values mins : List ℕ) (i d : ℕ) → i < length values → at mins i < at values i
+    → at values i - d ≤ at mins i → spare_places (less values i d) mins + 1 ≡ spare_places values mins
 spare_places-less values mins i d inside above gone =
     let here = at-less values i d inside in
     ap (λ n. sum_below (λ j. one_if (nat_lt (at mins j) (at (less values i d) j))) n + 1) (length-set values i (at values i - d))
-    ∙ sum_below-less (λ j. one_if (nat_lt (at mins j) (at values j))) (λ j. one_if (nat_lt (at mins j) (at (less values i d) j))) (length values) i 1 inside
+    ∙ sum_below-less (λ j. one_if (nat_lt (at mins j) (at values j)))
+    (λ j. one_if (nat_lt (at mins j) (at (less values i d) j))) (length values) i 1 inside
     (let a = one_if-above (at mins i) (at values i) above in let b = one_if-not (at mins i) (at (less values i d) i) (omega arith) in omega arith)
     (λ j ne. ap (λ x. one_if (nat_lt (at mins j) x)) (at-less_other values i d j ne))
 

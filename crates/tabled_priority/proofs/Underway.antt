@@ -49,8 +49,10 @@ Underway-take R old mins by values left i d u h fits some one =
           (cases_lt 0 d));
       permitted = record {
         same_length = length-set values i (at values i - d) ∙ u.permitted.same_length;
-        least = λ j. ⊎_elim (λ q. subst (λ k. low old mins k ≤ at (less values i d) k) (sym q) (omega arith)) (λ ne. let a = there j ne in let b = u.permitted.least j in omega arith) (cases_eq j i);
-        most = λ j. ⊎_elim (λ q. subst (λ k. at (less values i d) k ≤ at old k) (sym q) (omega arith)) (λ ne. let a = there j ne in let b = u.permitted.most j in omega arith) (cases_eq j i);
+        least = λ j. ⊎_elim (λ q. subst (λ k. low old mins k ≤ at (less values i d) k) (sym q) (omega arith))
+            (λ ne. let a = there j ne in let b = u.permitted.least j in omega arith) (cases_eq j i);
+        most = λ j. ⊎_elim (λ q. subst (λ k. at (less values i d) k ≤ at old k) (sym q) (omega arith))
+            (λ ne. let a = there j ne in let b = u.permitted.most j in omega arith) (cases_eq j i);
       };
       total = omega arith;
       some = omega arith;

@@ -22,11 +22,13 @@ square-le : (c : ℕ) → c + 1 ≤ (c + 1) * (c + 1)
 square-le c = search (arith)
 
 -- a square number of visits is enough room for some passes
-pub IsBounded-from : (old new : List ℕ) (before after visits : ℕ) → counted before (changed old new) ≤ after → after ≤ counted before visits → visits ≤ 8 * (length old + 1) * (length old + 1) → IsBounded old new before after
+pub IsBounded-from : (old new : List ℕ) (before after visits : ℕ) → counted before (changed old new) ≤ after
+    → after ≤ counted before visits → visits ≤ 8 * (length old + 1) * (length old + 1) → IsBounded old new before after
 IsBounded-from old new before after visits a b c = record { fewest = a; most = omega arith }
 
 -- one pass, at most
-pub IsBounded-pass : (old new : List ℕ) (before after : ℕ) → counted before (changed old new) ≤ after → after ≤ counted before (length old) → IsBounded old new before after
+pub IsBounded-pass : (old new : List ℕ) (before after : ℕ) → counted before (changed old new) ≤ after
+    → after ≤ counted before (length old) → IsBounded old new before after
 IsBounded-pass old new before after a b = IsBounded-from old new before after (length old) a b (let s = square-le (length old) in omega arith)
 
 -- nothing changed
@@ -34,17 +36,20 @@ pub IsBounded-same : (old : List ℕ) (before after : ℕ) → before ≤ after 
 IsBounded-same old before after a b = IsBounded-pass old old before after (let z = changed-self old in omega arith) b
 
 -- one column was found and changed
-pub IsBounded-one : (old : List ℕ) (i y before found after : ℕ) → counted before 0 ≤ found → found ≤ counted before (length old) → after ≡ counted found 1 → IsBounded old (set old i y) before after
+pub IsBounded-one : (old : List ℕ) (i y before found after : ℕ) → counted before 0 ≤ found
+    → found ≤ counted before (length old) → after ≡ counted found 1 → IsBounded old (set old i y) before after
 IsBounded-one old i y before found after a b c =
     let s = square-le (length old) in
     IsBounded-from old (set old i y) before after (length old + 1) (let z = changed-set old i y in omega arith) (omega arith) (omega arith)
 
 -- a whole pass
-pub IsBounded-whole : (old new : List ℕ) (before after n : ℕ) → length old ≤ n → after ≡ counted before n → n ≤ length old → IsBounded old new before after
+pub IsBounded-whole : (old new : List ℕ) (before after n : ℕ) → length old ≤ n → after ≡ counted before n
+    → n ≤ length old → IsBounded old new before after
 IsBounded-whole old new before after n a b c = IsBounded-pass old new before after (let z = changed-le old new in omega arith) (omega arith)
 
 -- some turns of a pass and a visit, and another pass at most; without a turn nothing changed
-pub IsBounded-turns : (old new : List ℕ) (before after turns rest : ℕ) → turns ≤ length old → rest ≤ length old → (turns ≡ 0 → new ≡ old) → after ≡ counted before (turns * (length old + 1) + rest) → IsBounded old new before after
+pub IsBounded-turns : (old new : List ℕ) (before after turns rest : ℕ) → turns ≤ length old → rest ≤ length old
+    → (turns ≡ 0 → new ≡ old) → after ≡ counted before (turns * (length old + 1) + rest) → IsBounded old new before after
 IsBounded-turns old new before after zero rest t r same e =
     let z = changed-self old in
     let n : changed old new ≡ 0 = subst (λ ys. changed old ys ≡ 0) (sym (same refl)) z in

@@ -54,4 +54,5 @@ pub record IsRoundGrown (kept : ℕ) (old : List ℕ) (by : ℕ) (new : List ℕ
   pub last : ℕ
   pub stays : added old by ≡ 0 → kept' ≡ kept
   pub moves : 0 < added old by → (0 < at old last) × (kept' ≡ place_after (length old) last)
-  pub gains : (i : ℕ) → i < length old → 0 < added old by → 0 < at old i → at new i ≡ at old i + (if is_met (start kept (length old)) last i then rounds + 1 else rounds)
+  pub gains : (i : ℕ) → i < length old → 0 < added old by → 0 < at old i → at new i
+      ≡ at old i + (if is_met (start kept (length old)) last i then rounds + 1 else rounds)

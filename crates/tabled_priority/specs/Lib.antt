@@ -1,9 +1,9 @@
-pub mod Filling
 pub mod Grown
 pub mod Laws
 pub mod Least
 pub mod Peak
 pub mod Permitted
+pub mod Schedule
 pub mod Shrunk
 pub mod Sums
 pub mod Visits

@@ -67,4 +67,5 @@ pub record IsRoundShrunk (kept : ℕ) (old mins : List ℕ) (by : ℕ) (new : Li
   pub stays : taken old mins by ≡ 0 → kept' ≡ kept
   pub moves : 0 < taken old mins by → kept' ≡ place_after (length old) last
   pub reached : 0 < taken old mins by → at new last + (rounds + 1) ≡ at old last
-  pub losses : (i : ℕ) → i < length old → 0 < taken old mins by → at new i + min (spare old mins i) (if is_met (start kept (length old)) last i then rounds + 1 else rounds) ≡ at old i
+  pub losses : (i : ℕ) → i < length old → 0 < taken old mins by
+      → at new i + min (spare old mins i) (if is_met (start kept (length old)) last i then rounds + 1 else rounds) ≡ at old i

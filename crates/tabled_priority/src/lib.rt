@@ -4,7 +4,6 @@
 #![tactic(auto)]
 
 mod column;
-mod filling;
 mod left;
 mod level;
 mod max;
@@ -14,6 +13,7 @@ mod peaker;
 mod priority;
 mod reach;
 mod right;
+mod schedule;
 mod span;
 mod spread;
 mod steps;

@@ -13,9 +13,9 @@ ghost use Rattle.tabled_priority.specs.Laws.Grown.{IsGrownAt-nothing, IsGrownAt-
 ghost use Rattle.tabled_priority.specs.Visits.{counted, IsBounded};
 
 use crate::column::{add_to, visit};
-use crate::filling::{Filling, filled};
 use crate::peaker::{Peaker, TakesAll};
 use crate::reach::reach;
+use crate::schedule::{Schedule, total_amount};
 use crate::span::side_span;
 use crate::spread::lower;
 use crate::steps::Steps;
@@ -98,13 +98,13 @@ impl Peaker for PriorityMax {
         ensures level { IsLevel values.old mins.now values.new }
         ensures least { HasLeastGreatest values.old mins.now values.new }
     {
-        let wanted = by.min(filled(Filling::Depths, mins, values, usize::MAX, steps));
+        let wanted = by.min(total_amount(Schedule::Depths, mins, values, usize::MAX, steps));
         if wanted == 0 {
             return 0;
         }
-        let reached = reach(Filling::Depths, mins, values, wanted, steps);
-        let span = side_span(Filling::Depths, mins, values, self.right, reached, steps);
-        lower(Filling::Depths, mins, values, reached.level, span, steps);
+        let reached = reach(Schedule::Depths, mins, values, wanted, steps);
+        let span = side_span(Schedule::Depths, mins, values, self.right, reached, steps);
+        lower(Schedule::Depths, mins, values, reached.level, span, steps);
         wanted
     }
 
@@ -128,13 +128,21 @@ impl Peaker for PriorityMax {
 
     ghost ends = { λ s t values mins by fits named. (IsMaxShrunk-done s.right values mins by named.0, named.1) };
 
-    ghost goes_on = { λ s t u values mins new by i fits above named rest. (IsMaxShrunk-step s.right values mins i by new named.0 (subst (λ k. IsMaxShrunk k.right (lowered values i) mins by new) named.1 rest.0), rest.1 ∙ named.1) };
+    ghost goes_on = { λ s t u values mins new by i fits above named rest. (
+      IsMaxShrunk-step s.right values mins i by new named.0
+          (subst (λ k. IsMaxShrunk k.right (lowered values i) mins by new) named.1 rest.0),
+      rest.1 ∙ named.1,
+    ) };
 
     ghost grows_nothing = { λ s values. (IsGrownAt-nothing (λ v. IsGreatest s.right v []) values, refl) };
 
     ghost growing_ends = { λ s t values by named. (IsGrownAt-none (λ v. IsGreatest s.right v []) values by named.0, named.1) };
 
-    ghost growing_goes_on = { λ s t u values new by i above named rest. (IsMaxGrown-step s.right values i by new named.0 (subst (λ k. IsMaxGrown k.right (raised values i) by new) named.1 rest.0), rest.1 ∙ named.1) };
+    ghost growing_goes_on = { λ s t u values new by i above named rest. (
+      IsMaxGrown-step s.right values i by new named.0
+          (subst (λ k. IsMaxGrown k.right (raised values i) by new) named.1 rest.0),
+      rest.1 ∙ named.1,
+    ) };
 }
 
 impl TakesAll for PriorityMax {

@@ -13,9 +13,9 @@ ghost use Rattle.tabled_priority.specs.Laws.Grown.{IsMinGrown-nothing, IsMinGrow
 ghost use Rattle.tabled_priority.specs.Visits.{counted, IsBounded};
 
 use crate::column::visit;
-use crate::filling::{Filling, filled};
 use crate::peaker::{Peaker, TakesAll};
 use crate::reach::reach;
+use crate::schedule::{Schedule, total_amount};
 use crate::span::side_span;
 use crate::spread::raise;
 use crate::steps::Steps;
@@ -119,13 +119,13 @@ impl Peaker for PriorityMin {
         ensures visits { IsBounded values.old values.new steps.old.count steps.new.count }
         ensures least { HasGreatestLeast values.old values.new }
     {
-        let wanted = by.min(filled(Filling::Heights, &[], values, usize::MAX, steps));
+        let wanted = by.min(total_amount(Schedule::Heights, &[], values, usize::MAX, steps));
         if wanted == 0 {
             return 0;
         }
-        let reached = reach(Filling::Heights, &[], values, wanted, steps);
-        let span = side_span(Filling::Heights, &[], values, self.right, reached, steps);
-        raise(Filling::Heights, values, reached.level, span, steps);
+        let reached = reach(Schedule::Heights, &[], values, wanted, steps);
+        let span = side_span(Schedule::Heights, &[], values, self.right, reached, steps);
+        raise(Schedule::Heights, values, reached.level, span, steps);
         wanted
     }
 
@@ -133,13 +133,21 @@ impl Peaker for PriorityMin {
 
     ghost ends = { λ s t values mins by fits named. (IsMinShrunk-done s.right values mins by named.0, named.1) };
 
-    ghost goes_on = { λ s t u values mins new by i fits above named rest. (IsMinShrunk-step s.right values mins i by new named.0 (subst (λ k. IsMinShrunk k.right (lowered values i) mins by new) named.1 rest.0), rest.1 ∙ named.1) };
+    ghost goes_on = { λ s t u values mins new by i fits above named rest. (
+      IsMinShrunk-step s.right values mins i by new named.0
+          (subst (λ k. IsMinShrunk k.right (lowered values i) mins by new) named.1 rest.0),
+      rest.1 ∙ named.1,
+    ) };
 
     ghost grows_nothing = { λ s values. (IsMinGrown-nothing s.right values, refl) };
 
     ghost growing_ends = { λ s t values by named. (IsMinGrown-none s.right values by named.0, named.1) };
 
-    ghost growing_goes_on = { λ s t u values new by i above named rest. (IsMinGrown-step s.right values i by new named.0 (subst (λ k. IsMinGrown k.right (raised values i) by new) named.1 rest.0), rest.1 ∙ named.1) };
+    ghost growing_goes_on = { λ s t u values new by i above named rest. (
+      IsMinGrown-step s.right values i by new named.0
+          (subst (λ k. IsMinGrown k.right (raised values i) by new) named.1 rest.0),
+      rest.1 ∙ named.1,
+    ) };
 }
 
 impl TakesAll for PriorityMin {

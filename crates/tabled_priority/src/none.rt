@@ -12,9 +12,9 @@ ghost use Rattle.tabled_priority.specs.Laws.Grown.{IsRoundGrown-nothing, IsRound
 ghost use Rattle.tabled_priority.specs.Visits.{IsBounded};
 
 use crate::column::visit;
-use crate::filling::{Filling, filled};
 use crate::peaker::{Peaker, TakesAll};
 use crate::reach::reach;
+use crate::schedule::{Schedule, total_amount};
 use crate::span::round_span;
 use crate::spread::{lower, raise};
 use crate::steps::Steps;
@@ -43,7 +43,8 @@ fn place_after(count: usize, place: usize) -> usize
 }
 
 impl Peaker for PriorityNone {
-    ghost peaks = { λ s values mins answer t. MatchOption answer (NoneAbove values mins × (t ≡ s)) (λ i. IsNext s.kept values mins i × (t.kept ≡ place_after (length values) i)) };
+    ghost peaks = { λ s values mins answer t. MatchOption answer (NoneAbove values mins × (t ≡ s))
+        (λ i. IsNext s.kept values mins i × (t.kept ≡ place_after (length values) i)) };
 
     ghost shrinks = { λ s old mins by new t. IsRoundShrunk s.kept old mins by new t.kept };
 
@@ -81,13 +82,13 @@ impl Peaker for PriorityNone {
         ensures steps { steps.old.count ≤ steps.new.count }
         ensures visits { IsBounded values.old values.new steps.old.count steps.new.count }
     {
-        let wanted = by.min(filled(Filling::Rounds, mins, values, usize::MAX, steps));
+        let wanted = by.min(total_amount(Schedule::Rounds, mins, values, usize::MAX, steps));
         if wanted == 0 {
             return 0;
         }
-        let reached = reach(Filling::Rounds, mins, values, wanted, steps);
-        let span = round_span(Filling::Rounds, mins, values, self.kept, reached, steps);
-        lower(Filling::Rounds, mins, values, reached.level, span, steps);
+        let reached = reach(Schedule::Rounds, mins, values, wanted, steps);
+        let span = round_span(Schedule::Rounds, mins, values, self.kept, reached, steps);
+        lower(Schedule::Rounds, mins, values, reached.level, span, steps);
         self.kept = place_after(values.len(), span.last);
         wanted
     }
@@ -101,28 +102,32 @@ impl Peaker for PriorityNone {
         ensures steps { steps.old.count ≤ steps.new.count }
         ensures visits { IsBounded values.old values.new steps.old.count steps.new.count }
     {
-        let wanted = by.min(filled(Filling::Gains, &[], values, usize::MAX, steps));
+        let wanted = by.min(total_amount(Schedule::Gains, &[], values, usize::MAX, steps));
         if wanted == 0 {
             return 0;
         }
-        let reached = reach(Filling::Gains, &[], values, wanted, steps);
-        let span = round_span(Filling::Gains, &[], values, self.kept, reached, steps);
-        raise(Filling::Gains, values, reached.level, span, steps);
+        let reached = reach(Schedule::Gains, &[], values, wanted, steps);
+        let span = round_span(Schedule::Gains, &[], values, self.kept, reached, steps);
+        raise(Schedule::Gains, values, reached.level, span, steps);
         self.kept = place_after(values.len(), span.last);
         wanted
     }
 
     ghost nothing = { λ s values mins. IsRoundShrunk-none s.kept values mins };
 
-    ghost ends = { λ s t values mins by fits named. subst (λ k. IsRoundShrunk s.kept values mins by values k.kept) (sym named.1) (IsRoundShrunk-done s.kept values mins by named.0) };
+    ghost ends = { λ s t values mins by fits named. subst
+        (λ k. IsRoundShrunk s.kept values mins by values k.kept) (sym named.1) (IsRoundShrunk-done s.kept values mins by named.0) };
 
-    ghost goes_on = { λ s t u values mins new by i fits above named rest. IsRoundShrunk-step s.kept values mins i by new u.kept named.0 (subst (λ k. IsRoundShrunk k (lowered values i) mins by new u.kept) named.1 rest) };
+    ghost goes_on = { λ s t u values mins new by i fits above named rest. IsRoundShrunk-step s.kept values mins i by
+        new u.kept named.0 (subst (λ k. IsRoundShrunk k (lowered values i) mins by new u.kept) named.1 rest) };
 
     ghost grows_nothing = { λ s values. IsRoundGrown-nothing s.kept values };
 
-    ghost growing_ends = { λ s t values by named. subst (λ k. IsRoundGrown s.kept values by values k.kept) (sym named.1) (IsRoundGrown-none s.kept values by named.0) };
+    ghost growing_ends = { λ s t values by named. subst
+        (λ k. IsRoundGrown s.kept values by values k.kept) (sym named.1) (IsRoundGrown-none s.kept values by named.0) };
 
-    ghost growing_goes_on = { λ s t u values new by i above named rest. IsRoundGrown-step s.kept values i by new u.kept named.0 (subst (λ k. IsRoundGrown k (raised values i) by new u.kept) named.1 rest) };
+    ghost growing_goes_on = { λ s t u values new by i above named rest. IsRoundGrown-step s.kept values i by new
+        u.kept named.0 (subst (λ k. IsRoundGrown k (raised values i) by new u.kept) named.1 rest) };
 }
 
 impl TakesAll for PriorityNone {

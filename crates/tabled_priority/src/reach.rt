@@ -1,9 +1,9 @@
 //! The level up to which just enough is taken.
 ghost use Rattle.std.specs.Prelude.{◌≡◌, ◌+◌, ◌*◌, ◌<◌, ◌≤◌, length};
-ghost use Rattle.tabled_priority.specs.Filling.{filled, first_level, last_level, IsBase, IsReached};
+ghost use Rattle.tabled_priority.specs.Schedule.{total_amount, first_level, last_level, IsBase, IsReached};
 ghost use Rattle.tabled_priority.specs.Visits.{counted};
 
-use crate::filling::{Filling, count_open, filled, visit_ramp};
+use crate::schedule::{Schedule, count_open, total_amount, visit_ramp};
 use crate::steps::Steps;
 
 /// The highest level up to which less is taken than is wanted, and the rest that is wanted.
@@ -15,7 +15,7 @@ pub(crate) struct Reached {
 
 /// A level, if it is higher than the base and takes less than is wanted, else the base.
 fn better_base(
-    kind: Filling,
+    kind: Schedule,
     mins: &[usize],
     values: &[usize],
     wanted: usize,
@@ -23,14 +23,15 @@ fn better_base(
     level: usize,
     steps: &mut Steps,
 ) -> usize
-    requires { filled (first_level kind values.now mins.now) (last_level kind values.now mins.now) (length values.now) base < wanted }
+    requires { total_amount (first_level kind values.now mins.now) (last_level kind values.now mins.now) (length values.now) base < wanted }
     ensures higher { base ≤ result }
-    ensures below { filled (first_level kind values.now mins.now) (last_level kind values.now mins.now) (length values.now) result < wanted }
-    ensures tried { result < level → wanted ≤ filled (first_level kind values.now mins.now) (last_level kind values.now mins.now) (length values.now) level }
+    ensures below { total_amount (first_level kind values.now mins.now) (last_level kind values.now mins.now) (length values.now) result < wanted }
+    ensures tried { result < level → wanted ≤ total_amount (first_level kind values.now mins.now)
+        (last_level kind values.now mins.now) (length values.now) level }
     ensures fewest { steps.old.count ≤ steps.new.count }
     ensures most { steps.new.count ≤ counted steps.old.count (length values.now) }
 {
-    if level > base && filled(kind, mins, values, level, steps) < wanted {
+    if level > base && total_amount(kind, mins, values, level, steps) < wanted {
         level
     } else {
         base
@@ -39,7 +40,7 @@ fn better_base(
 
 /// The highest of the levels at which columns start and end that takes less than is wanted, or 0.
 fn find_base(
-    kind: Filling,
+    kind: Schedule,
     mins: &[usize],
     values: &[usize],
     wanted: usize,
@@ -61,22 +62,24 @@ fn find_base(
 
 /// From the base on each open column takes one a level, until less than one for each is left.
 pub(crate) fn reach(
-    kind: Filling,
+    kind: Schedule,
     mins: &[usize],
     values: &[usize],
     wanted: usize,
     steps: &mut Steps,
 ) -> Reached
     requires some { 0 < wanted }
-    requires enough { wanted ≤ filled (first_level kind values.now mins.now) (last_level kind values.now mins.now) (length values.now) 18446744073709551615 }
-    ensures reached { IsReached (first_level kind values.now mins.now) (last_level kind values.now mins.now) (length values.now) wanted result.level result.rest }
+    requires enough { wanted ≤ total_amount (first_level kind values.now mins.now) (last_level kind values.now mins.now)
+        (length values.now) 18446744073709551615 }
+    ensures reached { IsReached (first_level kind values.now mins.now) (last_level kind values.now mins.now)
+        (length values.now) wanted result.level result.rest }
     ensures below { result.level < 18446744073709551615 }
     ensures fewest { steps.old.count ≤ steps.new.count }
     ensures most { steps.new.count ≤ counted steps.old.count (length values.now * (2 * length values.now + 1) + 2 * length values.now) }
 {
     let base = find_base(kind, mins, values, wanted, steps);
     let open = count_open(kind, mins, values, values.len(), base, steps);
-    let missing = wanted - filled(kind, mins, values, base, steps);
+    let missing = wanted - total_amount(kind, mins, values, base, steps);
     let levels = (missing - 1) / open;
     Reached {
         level: base + levels,

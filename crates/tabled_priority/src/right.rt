@@ -95,7 +95,8 @@ impl Peaker for PriorityRight {
 
     ghost ends = { λ s t values mins by fits named. (IsRightShrunk-done values mins by named.0, named.1) };
 
-    ghost goes_on = { λ s t u values mins new by i fits above named rest. (IsRightShrunk-step values mins i by new named.0 rest.0, rest.1 ∙ named.1) };
+    ghost goes_on = { λ s t u values mins new by i fits above named rest.
+        (IsRightShrunk-step values mins i by new named.0 rest.0, rest.1 ∙ named.1) };
 
     ghost grows_nothing = { λ s values. (IsGrownAt-nothing (λ v. IsRightmost v []) values, refl) };
 

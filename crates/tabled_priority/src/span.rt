@@ -1,12 +1,12 @@
 //! Which columns take one more for the rest.
 ghost use Rattle.std.specs.Prelude.{◌≡◌, ◌+◌, ◌*◌, ◌<◌, ◌≤◌, true, false, length};
-ghost use Rattle.tabled_priority.specs.Filling.{first_level, last_level, is_open, open_count, share, IsSpan};
+ghost use Rattle.tabled_priority.specs.Schedule.{first_level, last_level, is_open, open_count, share, IsSpan};
 ghost use Rattle.tabled_priority.specs.Shrunk.{is_met, start};
 ghost use Rattle.tabled_priority.specs.Sums.{one_if};
 ghost use Rattle.tabled_priority.specs.Visits.{counted};
 
-use crate::filling::{Filling, count_open, visit_ramp};
 use crate::reach::Reached;
+use crate::schedule::{Schedule, count_open, visit_ramp};
 use crate::steps::Steps;
 
 /// The places from the first to the last, round the list.
@@ -34,7 +34,7 @@ impl Span {
 /// The place of the n-th column from the left that takes one more at a level.
 #[tactic(auto, using(crate::proofs::Sums::sum_step))]
 fn nth_open(
-    kind: Filling,
+    kind: Schedule,
     mins: &[usize],
     values: &[usize],
     level: usize,
@@ -63,7 +63,7 @@ fn nth_open(
 
 /// The places on one side, the right or the left, with so many open columns as are a rest.
 pub(crate) fn side_span(
-    kind: Filling,
+    kind: Schedule,
     mins: &[usize],
     values: &[usize],
     right: bool,
@@ -71,8 +71,10 @@ pub(crate) fn side_span(
     steps: &mut Steps,
 ) -> Span
     requires some { 0 < reached.rest }
-    requires enough { reached.rest ≤ open_count (first_level kind values.now mins.now) (last_level kind values.now mins.now) (length values.now) reached.level }
-    ensures span { IsSpan (first_level kind values.now mins.now) (last_level kind values.now mins.now) (length values.now) reached.level reached.rest result.first result.last }
+    requires enough { reached.rest ≤ open_count (first_level kind values.now mins.now)
+        (last_level kind values.now mins.now) (length values.now) reached.level }
+    ensures span { IsSpan (first_level kind values.now mins.now) (last_level kind values.now mins.now)
+        (length values.now) reached.level reached.rest result.first result.last }
     ensures to_right { right ≡ true → result.last + 1 ≡ length values.now }
     ensures from_left { right ≡ false → result.first ≡ 0 }
     ensures ordered { result.first ≤ result.last }
@@ -96,7 +98,7 @@ pub(crate) fn side_span(
 /// The places from the kept one round the list with so many open columns as are a rest, of which the
 /// last is one.
 pub(crate) fn round_span(
-    kind: Filling,
+    kind: Schedule,
     mins: &[usize],
     values: &[usize],
     kept: usize,
@@ -104,8 +106,10 @@ pub(crate) fn round_span(
     steps: &mut Steps,
 ) -> Span
     requires some { 0 < reached.rest }
-    requires enough { reached.rest ≤ open_count (first_level kind values.now mins.now) (last_level kind values.now mins.now) (length values.now) reached.level }
-    ensures span { IsSpan (first_level kind values.now mins.now) (last_level kind values.now mins.now) (length values.now) reached.level reached.rest result.first result.last }
+    requires enough { reached.rest ≤ open_count (first_level kind values.now mins.now)
+        (last_level kind values.now mins.now) (length values.now) reached.level }
+    ensures span { IsSpan (first_level kind values.now mins.now) (last_level kind values.now mins.now)
+        (length values.now) reached.level reached.rest result.first result.last }
     ensures started { result.first ≡ start kept (length values.now) }
     ensures opened { is_open (first_level kind values.now mins.now) (last_level kind values.now mins.now) reached.level result.last ≡ true }
     ensures fewest { steps.old.count ≤ steps.new.count }

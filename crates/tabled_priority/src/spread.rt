@@ -1,16 +1,16 @@
 //! Taking from all columns, or adding to them, up to a level.
 ghost use Rattle.std.specs.Prelude.{◌≡◌, ℕ, ◌+◌, ◌<◌, ◌≤◌, ◌^◌, [], length};
 ghost use Rattle.tabled_priority.specs.Permitted.{at};
-ghost use Rattle.tabled_priority.specs.Filling.{first_level, last_level, share};
+ghost use Rattle.tabled_priority.specs.Schedule.{first_level, last_level, share};
 ghost use Rattle.tabled_priority.specs.Visits.{counted};
 
-use crate::filling::{Filling, visit_ramp};
+use crate::schedule::{Schedule, visit_ramp};
 use crate::span::Span;
 use crate::steps::Steps;
 
 /// Takes from each column its share up to a level, in the span one level more.
 pub(crate) fn lower(
-    kind: Filling,
+    kind: Schedule,
     mins: &[usize],
     values: &mut [usize],
     level: usize,
@@ -18,9 +18,11 @@ pub(crate) fn lower(
     steps: &mut Steps,
 )
     requires room { level < 18446744073709551615 }
-    requires fits { (i : ℕ) → share (first_level kind values.old mins.now) (last_level kind values.old mins.now) level span.first span.last i ≤ at values.old i }
+    requires fits { (i : ℕ) → share (first_level kind values.old mins.now) (last_level kind values.old mins.now) level
+        span.first span.last i ≤ at values.old i }
     ensures same_length { length values.new ≡ length values.old }
-    ensures each { (i : ℕ) → at values.new i + share (first_level kind values.old mins.now) (last_level kind values.old mins.now) level span.first span.last i ≡ at values.old i }
+    ensures each { (i : ℕ) → at values.new i + share (first_level kind values.old mins.now)
+        (last_level kind values.old mins.now) level span.first span.last i ≡ at values.old i }
     ensures steps { steps.new.count ≡ counted steps.old.count (length values.old) }
 {
     for place in 0..values.len() {
@@ -32,16 +34,18 @@ pub(crate) fn lower(
 
 /// Adds to each column its share up to a level, in the span one level more.
 pub(crate) fn raise(
-    kind: Filling,
+    kind: Schedule,
     values: &mut [usize],
     level: usize,
     span: Span,
     steps: &mut Steps,
 )
     requires room { level < 18446744073709551615 }
-    requires fits { (i : ℕ) → i < length values.old → at values.old i + share (first_level kind values.old []) (last_level kind values.old []) level span.first span.last i < 2 ^ 64 }
+    requires fits { (i : ℕ) → i < length values.old
+        → at values.old i + share (first_level kind values.old []) (last_level kind values.old []) level span.first span.last i < 2 ^ 64 }
     ensures same_length { length values.new ≡ length values.old }
-    ensures each { (i : ℕ) → i < length values.old → at values.new i ≡ at values.old i + share (first_level kind values.old []) (last_level kind values.old []) level span.first span.last i }
+    ensures each { (i : ℕ) → i < length values.old → at values.new i
+        ≡ at values.old i + share (first_level kind values.old []) (last_level kind values.old []) level span.first span.last i }
     ensures steps { steps.new.count ≡ counted steps.old.count (length values.old) }
 {
     for place in 0..values.len() {

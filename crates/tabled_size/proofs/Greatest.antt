@@ -1,5 +1,29 @@
 -- The greatest of the first numbers of a sequence, one number further.
-use Rattle.std.proofs.Common.{◌≡◌, ℕ, zero, suc, ◌+◌, ◌<◌, ◌≤◌, List, [], ◌∷◌, ◌++◌, length, take, drop, map, max, replicate, arith, refl, sym, ap, ◌∙◌, ⊎_elim}
+use Rattle.std.proofs.Common.{
+  ◌≡◌,
+  ℕ,
+  zero,
+  suc,
+  ◌+◌,
+  ◌<◌,
+  ◌≤◌,
+  List,
+  [],
+  ◌∷◌,
+  ◌++◌,
+  length,
+  take,
+  drop,
+  map,
+  max,
+  replicate,
+  arith,
+  refl,
+  sym,
+  ap,
+  ◌∙◌,
+  ⊎_elim,
+}
 use Rattle.std.specs.List.{range_with_len, slice_index}
 use Rattle.std.proofs.lemmas.Bool.{cases_lt}
 use Rattle.std.proofs.lemmas.List.FromFn.{fill_by_all, get_or-map-range_with_len, length-map-range_with_len, map-range_with_len_more}
@@ -50,7 +74,9 @@ written_back n new old e =
     ap (λ k. take k (new ++ drop (length new) old)) (sym e) ∙ take-append_seam new (drop (length new) old)
 
 -- a list of such numbers, each one number further
-pub greatest_each : (f : ℕ → ℕ → ℕ) (xs : List ℕ) (rows n : ℕ) → xs ≡ map (λ c. greatest_below (λ r. f r c) rows) (range_with_len 0 n) → map (λ c. max (slice_index xs c) (f rows c)) (range_with_len 0 n) ≡ map (λ c. greatest_below (λ r. f r c) (rows + 1)) (range_with_len 0 n)
+pub greatest_each : (f : ℕ → ℕ → ℕ) (xs : List ℕ) (rows n : ℕ) → xs ≡ map
+    (λ c. greatest_below (λ r. f r c) rows) (range_with_len 0 n) → map
+    (λ c. max (slice_index xs c) (f rows c)) (range_with_len 0 n) ≡ map (λ c. greatest_below (λ r. f r c) (rows + 1)) (range_with_len 0 n)
 greatest_each f xs rows n e =
     mapped_same (λ c. max (slice_index xs c) (f rows c)) (λ c. greatest_below (λ r. f r c) (rows + 1)) n
     (λ c l.

@@ -4,26 +4,39 @@ use Rattle.std.specs.List.{slice_index}
 use Rattle.std.proofs.lemmas.List.FromFn.{get_or-map-range_with_len}
 use Rattle.tabled_base.specs.Cells.{columns}
 use Rattle.tabled_config.specs.declared.spanned.SpannedConfig.{SpannedConfig}
-use Rattle.tabled_size.specs.Estimates.{IsTooHigh, IsTooWide, column_width, estimated_heights, estimated_widths, needed_height, needed_width, row_height}
+use Rattle.tabled_size.specs.Estimates.{
+  IsTooHigh,
+  IsTooWide,
+  column_width,
+  estimated_heights,
+  estimated_widths,
+  needed_height,
+  needed_width,
+  row_height,
+}
 use Rattle.tabled_priority.specs.Sums.{sum_below}
 use Rattle.tabled_size.specs.Totals.{filled_height, filled_width, part_height}
 use Rattle.tabled_size.proofs.Greatest.{greatest_ge}
 use Rattle.tabled_priority.proofs.Sums.{sum_step}
 
 -- the estimated width of a column, and what its cells need
-pub width_at : (cells : List (List (List ℕ))) (config : SpannedConfig) (column : ℕ) → column < columns cells → slice_index (estimated_widths cells config) column ≡ column_width cells config column
+pub width_at : (cells : List (List (List ℕ))) (config : SpannedConfig) (column : ℕ) → column < columns cells
+    → slice_index (estimated_widths cells config) column ≡ column_width cells config column
 unfolding estimated_widths
 width_at cells config column h = get_or-map-range_with_len (column_width cells config) 0 (columns cells) column column 0 h (omega arith)
 
-pub height_at : (cells : List (List (List ℕ))) (config : SpannedConfig) (row : ℕ) → row < length cells → slice_index (estimated_heights cells config) row ≡ row_height cells config row
+pub height_at : (cells : List (List (List ℕ))) (config : SpannedConfig) (row : ℕ) → row < length cells
+    → slice_index (estimated_heights cells config) row ≡ row_height cells config row
 unfolding estimated_heights
 height_at cells config row h = get_or-map-range_with_len (row_height cells config) 0 (length cells) row row 0 h (omega arith)
 
-pub width_ge : (cells : List (List (List ℕ))) (config : SpannedConfig) (row column : ℕ) → row < length cells → needed_width cells config row column ≤ column_width cells config column
+pub width_ge : (cells : List (List (List ℕ))) (config : SpannedConfig) (row column : ℕ) → row < length cells
+    → needed_width cells config row column ≤ column_width cells config column
 unfolding column_width
 width_ge cells config row column h = greatest_ge (λ r. needed_width cells config r column) (length cells) row h
 
-pub height_ge : (cells : List (List (List ℕ))) (config : SpannedConfig) (row column : ℕ) → column < columns cells → needed_height cells config row column ≤ row_height cells config row
+pub height_ge : (cells : List (List (List ℕ))) (config : SpannedConfig) (row column : ℕ) → column < columns cells
+    → needed_height cells config row column ≤ row_height cells config row
 unfolding row_height
 height_ge cells config row column h = greatest_ge (needed_height cells config row) (columns cells) column h
 
@@ -32,7 +45,8 @@ unfolding part_height
 part_ge config rows heights row = omega arith
 
 -- a too wide cell makes the whole too wide
-pub too_wide_passes : (cells : List (List (List ℕ))) (config : SpannedConfig) → IsTooWide cells config → 2 ^ 64 ≤ filled_width config (columns cells) (estimated_widths cells config)
+pub too_wide_passes : (cells : List (List (List ℕ))) (config : SpannedConfig) → IsTooWide cells config
+    → 2 ^ 64 ≤ filled_width config (columns cells) (estimated_widths cells config)
 unfolding filled_width
 too_wide_passes cells config h =
     let f = slice_index (estimated_widths cells config) in
@@ -43,7 +57,8 @@ too_wide_passes cells config h =
     omega arith
 
 -- a too high cell makes the whole too high
-pub too_high_passes : (cells : List (List (List ℕ))) (config : SpannedConfig) → IsTooHigh cells config → 2 ^ 64 ≤ filled_height config (length cells) (estimated_heights cells config)
+pub too_high_passes : (cells : List (List (List ℕ))) (config : SpannedConfig) → IsTooHigh cells config
+    → 2 ^ 64 ≤ filled_height config (length cells) (estimated_heights cells config)
 unfolding filled_height
 too_high_passes cells config h =
     let heights = estimated_heights cells config in

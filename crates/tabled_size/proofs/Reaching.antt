@@ -1,5 +1,34 @@
 -- What a dimension answers, place by place.
-use Rattle.std.proofs.Common.{◌≡◌, ℕ, zero, suc, ◌<◌, ◌≤◌, List, [], ◌∷◌, length, map, take, Option, Some, None, is_some, Bool, true, false, nat_lt, unwrap_or, get_or, min, refl, sym, ap, ◌∙◌, arith}
+use Rattle.std.proofs.Common.{
+  ◌≡◌,
+  ℕ,
+  zero,
+  suc,
+  ◌<◌,
+  ◌≤◌,
+  List,
+  [],
+  ◌∷◌,
+  length,
+  map,
+  take,
+  Option,
+  Some,
+  None,
+  is_some,
+  Bool,
+  true,
+  false,
+  nat_lt,
+  unwrap_or,
+  get_or,
+  min,
+  refl,
+  sym,
+  ap,
+  ◌∙◌,
+  arith,
+}
 use Rattle.std.specs.List.{range_with_len, slice_index}
 use Rattle.std.proofs.lemmas.Bool.Decides.{nat_tests}
 use Rattle.std.proofs.Math.Seq.{take-length}
@@ -20,7 +49,8 @@ leading_entry (None ∷ rest) i h = absurd (omega arith)
 leading_entry (Some size ∷ rest) zero h = refl
 leading_entry (Some size ∷ rest) (suc i) h = leading_entry rest i (omega arith)
 
-leading_reaches : (sizes : List (Option ℕ)) (k : ℕ) → k ≤ length sizes → ((i : ℕ) → i < k → is_some (get_or sizes i None) ≡ true) → k ≤ length (leading sizes)
+leading_reaches : (sizes : List (Option ℕ)) (k : ℕ) → k ≤ length sizes
+    → ((i : ℕ) → i < k → is_some (get_or sizes i None) ≡ true) → k ≤ length (leading sizes)
 leading_reaches sizes zero h there = omega arith
 leading_reaches [] (suc k) h there = absurd (omega arith)
 leading_reaches (None ∷ rest) (suc k) h there = let missing : false ≡ true = there 0 (omega arith) in cc
@@ -70,7 +100,8 @@ some_there o h = ap is_some h
 
 -- of a stored list the places that it has are reached
 stored_length : (sizes : List ℕ) (count k : ℕ) → k ≤ count → k ≤ length sizes → k ≤ length (reached (stored_at (Some sizes)) count)
-stored_length sizes count k h l = reached_so (stored_at (Some sizes)) count k h (λ i lt. some_there (entry sizes i) (entry_there sizes i (omega arith)))
+stored_length sizes count k h l = reached_so (stored_at (Some sizes)) count k h
+    (λ i lt. some_there (entry sizes i) (entry_there sizes i (omega arith)))
 
 stored_no_more : (sizes : List ℕ) (count : ℕ) → length (reached (stored_at (Some sizes)) count) ≤ length sizes
 stored_no_more sizes count = by_cases (nat_lt (length sizes) count) refl
@@ -105,12 +136,14 @@ reached_stored sizes count =
     same_some (sym (reached_at f count i lt) ∙ entry_there sizes i there) ∙ sym (get_or-take count sizes i 0 inside))
 
 -- what stands where a list is stored, or filled in with estimates that go as far as the table
-pub reached_filled : (stored : Option (List ℕ)) (estimates : List ℕ) (count : ℕ) → length estimates ≡ count → reached (stored_at (Some (unwrap_or stored estimates))) count ≡ standing_sizes stored estimates count
+pub reached_filled : (stored : Option (List ℕ)) (estimates : List ℕ) (count : ℕ) → length estimates ≡ count
+    → reached (stored_at (Some (unwrap_or stored estimates))) count ≡ standing_sizes stored estimates count
 reached_filled None estimates count h = reached_stored estimates count ∙ ap (λ n. take n estimates) (sym h) ∙ take-length estimates
 reached_filled (Some sizes) estimates count h = reached_stored sizes count
 
 -- what stands where a list is stored
-pub reached_standing : (stored : Option (List ℕ)) (estimates : List ℕ) (count : ℕ) → is_some stored ≡ true → reached (stored_at stored) count ≡ standing_sizes stored estimates count
+pub reached_standing : (stored : Option (List ℕ)) (estimates : List ℕ) (count : ℕ) → is_some stored ≡ true
+    → reached (stored_at stored) count ≡ standing_sizes stored estimates count
 reached_standing None estimates count h = let missing : false ≡ true = h in cc
 reached_standing (Some sizes) estimates count h = reached_stored sizes count
 

@@ -16,7 +16,8 @@ use Rattle.tabled_size.proofs.Passing.{width_at}
 use Rattle.tabled_size.proofs.Totalling.{widths_length}
 
 -- where no minimum is above its value, what can be taken is what the values are above the minimums
-pub spare_total-sum : (values mins : List ℕ) → length mins ≡ length values → ((i : ℕ) → at mins i ≤ at values i) → spare_total values mins + sum mins ≡ sum values
+pub spare_total-sum : (values mins : List ℕ) → length mins ≡ length values → ((i : ℕ) → at mins i ≤ at values i)
+    → spare_total values mins + sum mins ≡ sum values
 spare_total-sum values mins long below =
     let n = length values in
     let a : sum values ≡ sum_below (at values) n = sum-below values in
@@ -26,7 +27,9 @@ spare_total-sum values mins long below =
     omega arith
 
 -- the total is the wanted one, or that of the minimums where this is greater
-pub narrowed_total : (old mins : List ℕ) (frame n : ℕ) (new : List ℕ) → length mins ≡ length old → ((i : ℕ) → at mins i ≤ at old i) → n < sum old + frame → IsTakenFrom old mins (sum old + frame - n) new → sum new + frame ≡ max n (sum mins + frame)
+pub narrowed_total : (old mins : List ℕ) (frame n : ℕ) (new : List ℕ) → length mins ≡ length old
+    → ((i : ℕ) → at mins i ≤ at old i) → n < sum old + frame → IsTakenFrom old mins (sum old + frame - n) new
+    → sum new + frame ≡ max n (sum mins + frame)
 narrowed_total old mins frame n new long below more t =
     let s = spare_total-sum old mins long below in
     let e = t.total in
@@ -43,7 +46,8 @@ frame_width config count =
     + ((count - 1) * one_if (has_inner config.borders) + (one_if (has_right config.borders) + config.margin.right.size))
 
 -- where there is a width a column, the whole is their sum and the frame
-pub filled_width-frame : (config : SpannedConfig) (count : ℕ) (widths : List ℕ) → length widths ≡ count → filled_width config count widths ≡ sum widths + frame_width config count
+pub filled_width-frame : (config : SpannedConfig) (count : ℕ) (widths : List ℕ) → length widths ≡ count
+    → filled_width config count widths ≡ sum widths + frame_width config count
 unfolding filled_width
 filled_width-frame config count widths long =
     let a : sum widths ≡ sum_below (at widths) count = sum-below widths ∙ ap (sum_below (at widths)) long in
@@ -59,16 +63,22 @@ greatest_below-le f g (suc n) h =
     omega arith
 
 -- texts that are nowhere wider ask for no wider column
-column_width-le : (old new : List (List (List ℕ))) (config : SpannedConfig) (column : ℕ) → length new ≡ length old → ((row : ℕ) → text_columns (cell_at new row column) ≤ text_columns (cell_at old row column)) → column_width new config column ≤ column_width old config column
+column_width-le : (old new : List (List (List ℕ))) (config : SpannedConfig) (column : ℕ) → length new ≡ length old
+    → ((row : ℕ) → text_columns (cell_at new row column) ≤ text_columns (cell_at old row column))
+    → column_width new config column ≤ column_width old config column
 unfolding column_width
 column_width-le old new config column rows h =
     let f = λ (row : ℕ). needed_width new config row column in
     let g = λ (row : ℕ). needed_width old config row column in
     let e : greatest_below f (length new) ≡ greatest_below f (length old) = ap (greatest_below f) rows in
-    let r : greatest_below f (length old) ≤ greatest_below g (length old) = greatest_below-le f g (length old) (λ row. let a = h row in omega arith) in
+    let r : greatest_below f (length old) ≤ greatest_below g (length old) = greatest_below-le f g (length old)
+    (λ row. let a = h row in omega arith) in
     omega arith
 
-pub estimated_widths-le : (old new : List (List (List ℕ))) (config : SpannedConfig) → length new ≡ length old → columns new ≡ columns old → ((row column : ℕ) → text_columns (cell_at new row column) ≤ text_columns (cell_at old row column)) → (i : ℕ) → at (estimated_widths new config) i ≤ at (estimated_widths old config) i
+pub estimated_widths-le : (old new : List (List (List ℕ))) (config : SpannedConfig) → length new ≡ length old
+    → columns new ≡ columns old → ((row column : ℕ)
+    → text_columns (cell_at new row column) ≤ text_columns (cell_at old row column)) → (i : ℕ)
+    → at (estimated_widths new config) i ≤ at (estimated_widths old config) i
 estimated_widths-le old new config rows count h i = ⊎_elim
     (λ inside.
     let a = width_at new config i (omega arith) in

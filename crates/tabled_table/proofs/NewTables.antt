@@ -1,5 +1,27 @@
 -- The settings of a new table are plain characters of one column, so its lines are straight.
-use Rattle.std.proofs.Common.{◌≡◌, ℕ, ◌+◌, ◌<◌, ◌≤◌, ◌==◌, cond, arith, Bool, true, false, List, length, Option, None, Some, refl, ap, sym, subst, ◌∙◌}
+use Rattle.std.proofs.Common.{
+  ◌≡◌,
+  ℕ,
+  ◌+◌,
+  ◌<◌,
+  ◌≤◌,
+  ◌==◌,
+  cond,
+  arith,
+  Bool,
+  true,
+  false,
+  List,
+  length,
+  Option,
+  None,
+  Some,
+  refl,
+  ap,
+  sym,
+  subst,
+  ◌∙◌,
+}
 use Rattle.tabled_text.specs.Plain.{IsPlainColumn}
 use Rattle.tabled_text.proofs.PlainLines.{plain_column-printable, plain_column-space}
 use Rattle.tabled_base.specs.Cells.{IsRectangular, columns}
@@ -75,7 +97,8 @@ new_plain rows count = record {
 }
 
 -- each line of a new table of plain texts takes as many columns as the whole
-pub new_columns : (cells : List (List (List ℕ))) → IsRectangular cells → ArePlain cells → EachLineTakes (total_width (new_sheet cells)) (picture (new_sheet cells))
+pub new_columns : (cells : List (List (List ℕ))) → IsRectangular cells → ArePlain cells
+    → EachLineTakes (total_width (new_sheet cells)) (picture (new_sheet cells))
 new_columns cells h plain =
     picture_columns (new_sheet cells) (new_plain (length cells) (columns cells)) plain h (holds_estimated cells new_config)
 
@@ -119,7 +142,8 @@ new_stands cells table new =
     ∙ ap (λ o. built cells new_config o heights) new.widths
     ∙ ap (λ o. built cells new_config None o) new.heights
 
-pub new_is_plain : (cells : List (List (List ℕ))) (table : Table) → IsNew cells table → IsPlainConfig (sheet table).config (length cells) (columns cells)
+pub new_is_plain : (cells : List (List (List ℕ))) (table : Table) → IsNew cells table
+    → IsPlainConfig (sheet table).config (length cells) (columns cells)
 new_is_plain cells table new = subst (λ c. IsPlainConfig c (length cells) (columns cells)) (sym new.config) (new_plain (length cells) (columns cells))
 
 pub new_holds : (cells : List (List (List ℕ))) (table : Table) → IsNew cells table → Holds (sheet table)

@@ -10,7 +10,8 @@ use Rattle.tabled_grid.specs.PlainSheet.{EachLineTakes, IsPlainConfig}
 use Rattle.tabled_grid.proofs.Whole.{picture_columns, picture_lines}
 
 -- where characters are plain, each takes as many columns as the whole
-pub sheet_columns : (t : Sheet) → IsRectangular t.cells → IsPlainConfig t.config (length t.cells) (columns t.cells) → ArePlain t.cells → Holds t → EachLineTakes (total_width t) (picture t)
+pub sheet_columns : (t : Sheet) → IsRectangular t.cells → IsPlainConfig t.config (length t.cells) (columns t.cells)
+    → ArePlain t.cells → Holds t → EachLineTakes (total_width t) (picture t)
 sheet_columns t rectangular config texts holds = picture_columns t config texts rectangular holds
 
 -- they are as many as the whole has

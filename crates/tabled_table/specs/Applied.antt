@@ -17,25 +17,29 @@ pub record AreNone (sizes : CompleteDimension) : Type 0 where
   pub heights : heights_of sizes ≡ None
 
 -- a table option's change, or what it promises of it, and then its hint
-pub record IsApplied (changes : Cells → ColoredConfig → CompleteDimension → Cells → ColoredConfig → CompleteDimension → Type 0) (hint : Option Entity) (old new : Table) : Type 0 where
+pub record IsApplied (changes : Cells → ColoredConfig → CompleteDimension → Cells → ColoredConfig → CompleteDimension
+    → Type 0) (hint : Option Entity) (old new : Table) : Type 0 where
   pub sizes : CompleteDimension
   pub changed : changes old.records old.config old.dimension new.records new.config sizes
   pub cleared : AreCleared hint sizes new.dimension
 
 -- a table option's refusal
-pub record IsRefusedBy (refuses : Cells → ColoredConfig → CompleteDimension → Cells → ColoredConfig → CompleteDimension → Type 0) (old new : Table) : Type 0 where
+pub record IsRefusedBy (refuses : Cells → ColoredConfig → CompleteDimension → Cells → ColoredConfig
+    → CompleteDimension → Type 0) (old new : Table) : Type 0 where
   pub sizes : CompleteDimension
   pub refused : refuses old.records old.config old.dimension new.records new.config sizes
   pub cleared : AreNone new.dimension
 
 -- a cell option's changes at some entities, one after the other
-abbrev pub ChangesEach : (Cells → ColoredConfig → Entity → Cells → ColoredConfig → Type 0) → List Entity → Cells → ColoredConfig → Cells → ColoredConfig → Type 0
+abbrev pub ChangesEach : (Cells → ColoredConfig → Entity → Cells → ColoredConfig → Type 0) → List Entity → Cells
+    → ColoredConfig → Cells → ColoredConfig → Type 0
 ChangesEach changes [] cells config cells' config' = (cells' ≡ cells) × (config' ≡ config)
 ChangesEach changes (entity ∷ entities) cells config cells' config' =
     (between : Cells) × (between_config : ColoredConfig) × changes cells config entity between between_config
     × ChangesEach changes entities between between_config cells' config'
 
 -- the changes at each entity in turn, and then the hint
-pub record IsModified (changes : Cells → ColoredConfig → Entity → Cells → ColoredConfig → Type 0) (entities : List Entity) (hint : Option Entity) (old new : Table) : Type 0 where
+pub record IsModified (changes : Cells → ColoredConfig → Entity → Cells → ColoredConfig → Type 0)
+    (entities : List Entity) (hint : Option Entity) (old new : Table) : Type 0 where
   pub changed : ChangesEach changes entities old.records old.config new.records new.config
   pub cleared : AreCleared hint old.dimension new.dimension

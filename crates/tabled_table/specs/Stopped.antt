@@ -23,7 +23,8 @@ pub record IsStopped (changes : Cells → ColoredConfig → Entity → Cells →
 
 -- what a refused modification of some entities leaves: all as it was for want of memory, or the changes before a refused
 -- one, and of several entities the configuration as it was
-abbrev pub IsPutBack : (Cells → ColoredConfig → Entity → Cells → ColoredConfig → Type 0) → (TableError → Cells → ColoredConfig → Entity → Cells → ColoredConfig → Type 0)
+abbrev pub IsPutBack : (Cells → ColoredConfig → Entity → Cells → ColoredConfig → Type 0)
+    → (TableError → Cells → ColoredConfig → Entity → Cells → ColoredConfig → Type 0)
     → (Cells → ColoredConfig → Entity → Type 0) → List Entity → TableError → Cells → ColoredConfig → Cells → ColoredConfig → Type 0
 IsPutBack changes refuses passes entities error cells config cells' config' =
     ((error ≡ Memory) × ((cells' ≡ cells) × (config' ≡ config)))

@@ -2,7 +2,7 @@
 ghost use Rattle.std.specs.Prelude.{◌≡◌, ◌∷◌, ℕ, List, IfErr, IfOk, map};
 ghost use Rattle.std.specs.Iterator.{IsFiniteIterable};
 ghost use Rattle.std.specs.List.{AllZip, flat_map};
-ghost use Rattle.tabled_base.specs.Cells.{padded_rows};
+ghost use Rattle.tabled_base.specs.Cells.{lengthened_rows};
 ghost use Rattle.tabled_base.specs.Given.{Given};
 ghost use Rattle.tabled_base.specs.declared.error.TableError.TheVariants.{Memory};
 ghost use Rattle.tabled_value.specs.ValueRows.{pairs};
@@ -82,13 +82,13 @@ impl Table {
         Ok(Builder::from(records))
     }
 
-    /// A table of the rows that a source gives, the short ones padded. Refused only for memory.
+    /// A table of the rows that a source gives, the short ones lengthened. Refused only for memory.
     pub fn from_iter<I: IntoRecords>(alloc: Global, rows: I) -> Result<Table, TableError>
     where
         I::Cell: CellText + Drop,
         requires { I.ends rows }
         ensures ok { IfOk result (λ table. (cells : List (List I.Cell)) × I.gives rows cells
-            × IsNew (padded_rows (map (map I.Cell.text) cells)) table) }
+            × IsNew (lengthened_rows (map (map I.Cell.text) cells)) table) }
         ensures only { IfErr result (λ e. e ≡ Memory) }
     {
         let builder = Builder::from_iter(alloc, rows)?;

@@ -1,5 +1,40 @@
 -- The lines of a text's bytes, as lines of its characters, and the columns of a text by its lines.
-use Rattle.std.proofs.Common.{◌≡◌, ℕ, zero, suc, ◌<◌, ◌≤◌, Bool, true, false, cond, ◌==◌, ◌||◌, ◌&&◌, List, [], ◌∷◌, ◌++◌, chars, length, get_or, map, max, encode_utf8, encode_utf8_all, refl, sym, ap, ◌∙◌, subst, arith, All, ⊎_elim, lit<, append-nil}
+use Rattle.std.proofs.Common.{
+  ◌≡◌,
+  ℕ,
+  zero,
+  suc,
+  ◌<◌,
+  ◌≤◌,
+  Bool,
+  true,
+  false,
+  cond,
+  ◌==◌,
+  ◌||◌,
+  ◌&&◌,
+  List,
+  [],
+  ◌∷◌,
+  ◌++◌,
+  chars,
+  length,
+  get_or,
+  map,
+  max,
+  encode_utf8,
+  encode_utf8_all,
+  refl,
+  sym,
+  ap,
+  ◌∙◌,
+  subst,
+  arith,
+  All,
+  ⊎_elim,
+  lit<,
+  append-nil,
+}
 use Rattle.std.specs.List.{list_all, list_any, onto_first, slice_index_or, join_with_byte}
 use Rattle.std.specs.Str.{IsUtf8}
 use Rattle.std.proofs.Math.Utf8.{scalar, scalars}
@@ -64,7 +99,8 @@ lines_of-encoded (c ∷ cs) =
     ∙ ap (λ b. map encode_utf8_all (cond b ([] ∷ lines_of cs) (onto_first c (lines_of cs)))) (sym yes))
     (λ no.
     let b = begins (lines_of cs) (some_line cs) in
-    put_before (encode_utf8 c) rest (encode_utf8_all b.first) (map encode_utf8_all b.rest) (no_feed c no) (lines_of-encoded cs ∙ ap (map encode_utf8_all) b.parts)
+    put_before (encode_utf8 c) rest (encode_utf8_all b.first) (map encode_utf8_all b.rest) (no_feed c no)
+    (lines_of-encoded cs ∙ ap (map encode_utf8_all) b.parts)
     ∙ ap (λ ls. map encode_utf8_all (onto_first c ls)) (sym b.parts)
     ∙ ap (λ t. map encode_utf8_all (cond t ([] ∷ lines_of cs) (onto_first c (lines_of cs)))) (sym no))
     (cases_Bool (is_feed c))
@@ -83,7 +119,8 @@ each_in_lines p (c ∷ cs) h =
     let own : p c ≡ true = subst (λ t. (t || p c) ≡ true) no parts.0 in
     let all = subst (All P) b.parts more in
     let e : lines_of (c ∷ cs) ≡ (c ∷ b.first) ∷ b.rest = slice_split-cons_no is_feed c cs no ∙ ap (onto_first c) b.parts in
-    subst (All P) (sym e) (All-cons P (c ∷ b.first) b.rest (and_from (p c) (list_all p b.first) own (All-head P b.first b.rest all)) (All-tail P b.first b.rest all)))
+    subst (All P) (sym e) (All-cons P (c ∷ b.first) b.rest
+    (and_from (p c) (list_all p b.first) own (All-head P b.first b.rest all)) (All-tail P b.first b.rest all)))
     (cases_Bool (is_feed c))
 
 list_all-scalars : (cs : List ℕ) → list_all scalar cs ≡ scalars cs
@@ -121,7 +158,8 @@ lines_of-chars text u =
 pub utf8_lines : (text : List ℕ) → IsUtf8 text → All IsUtf8 (lines_of text)
 utf8_lines text u =
     let cs = chars text in
-    let each : All (λ l. IsUtf8 (encode_utf8_all l)) (lines_of cs) = λ k d h. (get_or (lines_of cs) k d, (sym (list_all-scalars (get_or (lines_of cs) k d)) ∙ scalar_lines cs (scalars-chars text u) k d h, refl)) in
+    let each : All (λ l. IsUtf8 (encode_utf8_all l)) (lines_of cs) = λ k d h.
+    (get_or (lines_of cs) k d, (sym (list_all-scalars (get_or (lines_of cs) k d)) ∙ scalar_lines cs (scalars-chars text u) k d h, refl)) in
     subst (All IsUtf8) (sym (lines_of-text text u)) (All-map IsUtf8 encode_utf8_all (lines_of cs) each)
 
 -- no line is longer than its text
@@ -131,7 +169,8 @@ lines_length (c ∷ text) =
     let P : List ℕ → Type 0 = λ l. length l ≤ suc (length text) in
     let more : All P (lines_of text) = λ k d h. let own = lines_length text k d h in omega arith in
     ⊎_elim
-    (λ yes. subst (λ b. All P (cond b ([] ∷ lines_of text) (onto_first c (lines_of text)))) (sym yes) (All-cons P [] (lines_of text) (omega arith) more))
+    (λ yes. subst (λ b. All P (cond b ([] ∷ lines_of text) (onto_first c (lines_of text)))) (sym yes)
+    (All-cons P [] (lines_of text) (omega arith) more))
     (λ no.
     let b = begins (lines_of text) (some_line text) in
     let all : All (λ l. length l ≤ length text) (b.first ∷ b.rest) = subst (All (λ l. length l ≤ length text)) b.parts (lines_length text) in

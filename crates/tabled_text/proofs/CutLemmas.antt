@@ -1,5 +1,37 @@
 -- One more character at the end of a beginning.
-use Rattle.std.proofs.Common.{◌≡◌, ℕ, ◌+◌, ◌-◌, ◌<◌, ◌≤◌, Bool, true, false, cond, List, [], ◌∷◌, ◌++◌, length, take, drop, refl, sym, ap, ◌∙◌, subst, arith, All, replicate, length-append, chars, ⊎_elim, ◌==◌, zero, suc}
+use Rattle.std.proofs.Common.{
+  ◌≡◌,
+  ℕ,
+  ◌+◌,
+  ◌-◌,
+  ◌<◌,
+  ◌≤◌,
+  Bool,
+  true,
+  false,
+  cond,
+  List,
+  [],
+  ◌∷◌,
+  ◌++◌,
+  length,
+  take,
+  drop,
+  refl,
+  sym,
+  ap,
+  ◌∙◌,
+  subst,
+  arith,
+  All,
+  replicate,
+  length-append,
+  chars,
+  ⊎_elim,
+  ◌==◌,
+  zero,
+  suc,
+}
 use Rattle.std.specs.List.{onto_first}
 use Rattle.std.specs.Str.{IsUtf8}
 use Rattle.std.specs.Prelude.{encode_utf8, encode_utf8_all}
@@ -39,7 +71,8 @@ IsCons-cond false xs ys p q = q
 
 IsCons-lines : (cs : List ℕ) → IsCons (lines_of cs)
 IsCons-lines [] = record { first = []; rest = []; is = refl }
-IsCons-lines (c ∷ cs) = IsCons-cond (is_feed c) ([] ∷ lines_of cs) (onto_first c (lines_of cs)) (record { first = []; rest = lines_of cs; is = refl }) (IsCons-onto_first c (lines_of cs))
+IsCons-lines (c ∷ cs) = IsCons-cond (is_feed c) ([] ∷ lines_of cs) (onto_first c (lines_of cs))
+    (record { first = []; rest = lines_of cs; is = refl }) (IsCons-onto_first c (lines_of cs))
 
 abbrev pushed : Bool → ℕ → List (List ℕ) → List (List ℕ)
 pushed b y S = cond b (S ++ [] ∷ []) (onto_last y S)
@@ -54,9 +87,11 @@ onto_first-onto_last x y s (t ∷ ts) = refl
 
 pushed-onto_first : (b : Bool) (x y : ℕ) (S : List (List ℕ)) → IsCons S → onto_first x (pushed b y S) ≡ pushed b y (onto_first x S)
 pushed-onto_first true x y S h = subst (λ s. onto_first x (s ++ [] ∷ []) ≡ onto_first x s ++ [] ∷ []) (sym h.is) refl
-pushed-onto_first false x y S h = subst (λ s. onto_first x (onto_last y s) ≡ onto_last y (onto_first x s)) (sym h.is) (onto_first-onto_last x y h.first h.rest)
+pushed-onto_first false x y S h = subst (λ s. onto_first x (onto_last y s) ≡ onto_last y (onto_first x s)) (sym h.is)
+    (onto_first-onto_last x y h.first h.rest)
 
-pushed-cond : (a b : Bool) (x y : ℕ) (S : List (List ℕ)) → IsCons S → cond a ([] ∷ pushed b y S) (onto_first x (pushed b y S)) ≡ pushed b y (cond a ([] ∷ S) (onto_first x S))
+pushed-cond : (a b : Bool) (x y : ℕ) (S : List (List ℕ)) → IsCons S
+    → cond a ([] ∷ pushed b y S) (onto_first x (pushed b y S)) ≡ pushed b y (cond a ([] ∷ S) (onto_first x S))
 pushed-cond true b x y S h = sym (pushed-cons b y S h)
 pushed-cond false b x y S h = pushed-onto_first b x y S h
 
@@ -68,7 +103,8 @@ lines_of-nil_push false y = refl
 pub lines_of-push : (cs : List ℕ) (y : ℕ) → lines_of (cs ++ y ∷ []) ≡ pushed (is_feed y) y (lines_of cs)
 lines_of-push [] y = lines_of-nil_push (is_feed y) y
 lines_of-push (c ∷ cs) y =
-    ap (λ s. cond (is_feed c) ([] ∷ s) (onto_first c s)) (lines_of-push cs y) ∙ pushed-cond (is_feed c) (is_feed y) c y (lines_of cs) (IsCons-lines cs)
+    ap (λ s. cond (is_feed c) ([] ∷ s) (onto_first c s)) (lines_of-push cs y) ∙ pushed-cond (is_feed c) (is_feed y) c
+    y (lines_of cs) (IsCons-lines cs)
 
 last_of-push : (S : List (List ℕ)) (x : List ℕ) → last_of (S ++ x ∷ []) ≡ x
 last_of-push [] x = refl
@@ -84,7 +120,8 @@ All-last_of : (P : List ℕ → Type 0) (s : List ℕ) (S : List (List ℕ)) →
 All-last_of P s [] h = All-head P s [] h
 All-last_of P s (t ∷ S) h = All-last_of P t S (All-tail P s (t ∷ S) h)
 
-All-onto_last : (P : List ℕ → Type 0) (y : ℕ) (s : List ℕ) (S : List (List ℕ)) → All P (s ∷ S) → P (last_of (s ∷ S) ++ y ∷ []) → All P (onto_last y (s ∷ S))
+All-onto_last : (P : List ℕ → Type 0) (y : ℕ) (s : List ℕ) (S : List (List ℕ)) → All P (s ∷ S)
+    → P (last_of (s ∷ S) ++ y ∷ []) → All P (onto_last y (s ∷ S))
 All-onto_last P y s [] h p = All-cons P (s ++ y ∷ []) [] p (All-nil P)
 All-onto_last P y s (t ∷ S) h p = All-cons P s (onto_last y (t ∷ S)) (All-head P s (t ∷ S) h) (All-onto_last P y t S (All-tail P s (t ∷ S) h) p)
 
@@ -101,7 +138,8 @@ last_line-push cs y h =
 All-lines_feed : (P : List ℕ → Type 0) (cs : List ℕ) → All P (lines_of cs) → P [] → All P (lines_of (cs ++ 10 ∷ []))
 All-lines_feed P cs h p = subst (All P) (sym (lines_of-push cs 10)) (All-push P (lines_of cs) [] h p)
 
-All-lines_push : (P : List ℕ → Type 0) (cs : List ℕ) (y : ℕ) → is_feed y ≡ false → All P (lines_of cs) → P (last_line cs ++ y ∷ []) → All P (lines_of (cs ++ y ∷ []))
+All-lines_push : (P : List ℕ → Type 0) (cs : List ℕ) (y : ℕ) → is_feed y ≡ false → All P (lines_of cs)
+    → P (last_line cs ++ y ∷ []) → All P (lines_of (cs ++ y ∷ []))
 All-lines_push P cs y e h p =
     let k = IsCons-lines cs in
     subst (All P) (sym (lines_of-push cs y ∙ ap (λ b. pushed b y (lines_of cs)) e))
@@ -120,10 +158,12 @@ IsReached-nil n = record {
   shorter = λ k h. absurd (omega arith);
 }
 
-open-push : (n : ℕ) (cs : List ℕ) (y : ℕ) → IsReached n cs → count_of (last_line cs) < n → (k : ℕ) → k < length (cs ++ y ∷ []) → count_of (last_line (take k (cs ++ y ∷ []))) < n
+open-push : (n : ℕ) (cs : List ℕ) (y : ℕ) → IsReached n cs → count_of (last_line cs) < n → (k : ℕ)
+    → k < length (cs ++ y ∷ []) → count_of (last_line (take k (cs ++ y ∷ []))) < n
 open-push n cs y r h k lt =
     let len = length_push cs y in
-    ⊎_elim (λ below. let le : k ≤ length cs = omega arith in subst (λ l. count_of (last_line l) < n) (sym (take-append-le k cs (y ∷ []) le)) (r.shorter k below))
+    ⊎_elim (λ below. let le : k ≤ length cs = omega arith in
+    subst (λ l. count_of (last_line l) < n) (sym (take-append-le k cs (y ∷ []) le)) (r.shorter k below))
     (λ above. let is : length cs ≡ k = omega arith in subst (λ l. count_of (last_line l) < n) (sym (take_at cs (y ∷ []) k is)) h)
     (cases_lt k (length cs))
 
@@ -133,7 +173,8 @@ IsReached-feed n cs r h = record {
   shorter = open-push n cs 10 r h;
 }
 
-pub IsReached-push : (n : ℕ) (cs : List ℕ) (y : ℕ) → (y ≡ 10 → ⊥) → IsReached n cs → count_of (last_line cs) < n → count_of (last_line cs) + char_count y ≤ n → IsReached n (cs ++ y ∷ [])
+pub IsReached-push : (n : ℕ) (cs : List ℕ) (y : ℕ) → (y ≡ 10 → ⊥) → IsReached n cs → count_of (last_line cs) < n
+    → count_of (last_line cs) + char_count y ≤ n → IsReached n (cs ++ y ∷ [])
 IsReached-push n cs y ne r h room = record {
   fits = All-lines_push (λ l. count_of l ≤ n) cs y (ne_eqb y 10 ne) r.fits (let e = count_of-push (last_line cs) y in omega arith);
   shorter = open-push n cs y r h;
@@ -143,18 +184,21 @@ IsReached-push n cs y ne r h room = record {
 pub longest_at_end : (n : ℕ) (cs : List ℕ) → IsReached n cs → IsLongestReached n cs cs []
 longest_at_end n cs r = record { parts = sym (append-nil cs); reached = r; longest = λ k h _. h }
 
-pub longest_at_full : (n : ℕ) (text front rest : List ℕ) → text ≡ front ++ rest → IsReached n front → count_of (last_line front) ≡ n → IsLongestReached n text front rest
+pub longest_at_full : (n : ℕ) (text front rest : List ℕ) → text ≡ front ++ rest → IsReached n front
+    → count_of (last_line front) ≡ n → IsLongestReached n text front rest
 longest_at_full n text front rest e r full = record {
   parts = e;
   reached = r;
   longest = λ k h o. ⊎_elim (λ past.
       let len : length (take k text) ≡ k = length-take-le k text h in
-      let front_is : take (length front) (take k text) ≡ front = take-take (length front) k text (omega arith) ∙ ap (take (length front)) e ∙ take_at front rest (length front) refl in
+      let front_is : take (length front) (take k text)
+      ≡ front = take-take (length front) k text (omega arith) ∙ ap (take (length front)) e ∙ take_at front rest (length front) refl in
       let low : count_of (last_line front) < n = subst (λ l. count_of (last_line l) < n) front_is (o.shorter (length front) (omega arith)) in
       absurd (omega arith)) (λ le. le) (cases_lt (length front) k);
 }
 
-pub longest_at_wide : (n : ℕ) (text front rest : List ℕ) (y : ℕ) → text ≡ front ++ y ∷ rest → IsReached n front → (y ≡ 10 → ⊥) → n < count_of (last_line front) + char_count y → IsLongestReached n text front (y ∷ rest)
+pub longest_at_wide : (n : ℕ) (text front rest : List ℕ) (y : ℕ) → text ≡ front ++ y ∷ rest → IsReached n front
+    → (y ≡ 10 → ⊥) → n < count_of (last_line front) + char_count y → IsLongestReached n text front (y ∷ rest)
 longest_at_wide n text front rest y e r ne wide = record {
   parts = e;
   reached = r;
@@ -163,13 +207,18 @@ longest_at_wide n text front rest y e r ne wide = record {
       let len_more : length more ≡ length front + 1 = length_push front y in
       let len : length (take k text) ≡ k = length-take-le k text h in
       let whole : text ≡ more ++ rest = e ∙ sym (append_assoc front (y ∷ []) rest) in
-      let front_is : take (length more) (take k text) ≡ more = take-take (length more) k text (omega arith) ∙ ap (take (length more)) whole ∙ take_at more rest (length more) refl in
-      let count : count_of (last_line more) ≡ count_of (last_line front) + char_count y = ap count_of (last_line-push front y (ne_eqb y 10 ne)) ∙ count_of-push (last_line front) y in
+      let front_is : take (length more) (take k text)
+      ≡ more = take-take (length more) k text (omega arith) ∙ ap (take (length more)) whole ∙ take_at more rest (length more) refl in
+      let count : count_of (last_line more) ≡ count_of (last_line front) + char_count y = ap count_of
+      (last_line-push front y (ne_eqb y 10 ne)) ∙ count_of-push (last_line front) y in
       ⊎_elim (λ further.
-      let low : count_of (last_line more) < n = subst (λ l. count_of (last_line l) < n) front_is (o.shorter (length more) (omega arith)) in absurd (omega arith))
+      let low : count_of (last_line more) < n = subst
+      (λ l. count_of (last_line l) < n) front_is (o.shorter (length more) (omega arith)) in absurd (omega arith))
       (λ last.
-      let is : take k text ≡ more = ap (λ j. take j text) (let j : k ≡ length more = omega arith in j) ∙ ap (take (length more)) whole ∙ take_at more rest (length more) refl in
-      let low : count_of (last_line more) ≤ n = subst (λ l. count_of (last_line l) ≤ n) is (All-last_line (λ l. count_of l ≤ n) (take k text) o.fits) in absurd (omega arith))
+      let is : take k text ≡ more = ap (λ j. take j text) (let j : k ≡ length more = omega arith in
+      j) ∙ ap (take (length more)) whole ∙ take_at more rest (length more) refl in
+      let low : count_of (last_line more) ≤ n = subst
+      (λ l. count_of (last_line l) ≤ n) is (All-last_line (λ l. count_of l ≤ n) (take k text) o.fits) in absurd (omega arith))
       (cases_lt (length more) k)) (λ le. le) (cases_lt (length front) k);
 }
 
@@ -182,13 +231,20 @@ pub record Walked (n : ℕ) (text rest : List ℕ) (columns : ℕ) : Type 0 wher
   pub reached : IsReached n (chars front)
 
 pub Walked-start : (n : ℕ) (text : List ℕ) → Walked n text text 0
-Walked-start n text = record { front = []; parts = refl; utf8 = IsUtf8-nil; columns_are = ap (λ l. count_of (last_line l)) (sym chars-nil); reached = subst (IsReached n) (sym chars-nil) (IsReached-nil n) }
+Walked-start n text = record {
+  front = [];
+  parts = refl;
+  utf8 = IsUtf8-nil;
+  columns_are = ap (λ l. count_of (last_line l)) (sym chars-nil);
+  reached = subst (IsReached n) (sym chars-nil) (IsReached-nil n);
+}
 
 pub Walked-le : {n columns : ℕ} {text rest : List ℕ} → Walked n text rest columns → columns ≤ n
 Walked-le {n} {columns} w = let h = All-last_line (λ l. count_of l ≤ n) (chars w.front) w.reached.fits in let e = w.columns_are in omega arith
 
 -- what a step over one character needs
-more_bytes : (text front rest after : List ℕ) (y : ℕ) → text ≡ front ++ rest → rest ≡ encode_utf8 y ++ after → text ≡ (front ++ encode_utf8 y) ++ after
+more_bytes : (text front rest after : List ℕ) (y : ℕ) → text ≡ front ++ rest → rest ≡ encode_utf8 y ++ after → text
+    ≡ (front ++ encode_utf8 y) ++ after
 more_bytes text front rest after y e f = e ∙ ap (λ l. front ++ l) f ∙ sym (append_assoc front (encode_utf8 y) after)
 
 -- the first character of a text
@@ -199,12 +255,15 @@ IsScalar-first rest y cs v e = (and_parts (scalar y) (scalars cs) (subst (λ l. 
 pub chars-push : (front : List ℕ) (y : ℕ) → IsUtf8 front → IsScalar y → chars (front ++ encode_utf8 y) ≡ chars front ++ y ∷ []
 chars-push front y u s =
     chars-append front (encode_utf8 y) u
-    ∙ ap (λ l. chars front ++ l) (chars_past_char (encode_utf8 y) [] y (IsUtf8-encode y s) (sym (append-nil (encode_utf8 y))) ∙ ap (λ l. y ∷ l) chars-nil)
+    ∙ ap (λ l. chars front ++ l) (chars_past_char (encode_utf8 y) [] y (IsUtf8-encode y s)
+    (sym (append-nil (encode_utf8 y))) ∙ ap (λ l. y ∷ l) chars-nil)
 
-chars_after : (text front rest after : List ℕ) (y : ℕ) → text ≡ front ++ rest → IsUtf8 front → chars rest ≡ y ∷ chars after → chars text ≡ chars front ++ y ∷ chars after
+chars_after : (text front rest after : List ℕ) (y : ℕ) → text ≡ front ++ rest → IsUtf8 front → chars rest
+    ≡ y ∷ chars after → chars text ≡ chars front ++ y ∷ chars after
 chars_after text front rest after y e u f = ap chars e ∙ chars-append front rest u ∙ ap (λ l. chars front ++ l) f
 
-pub Walked-feed : {n columns : ℕ} {text rest : List ℕ} (after : List ℕ) (y : ℕ) → Walked n text rest columns → IsUtf8 rest → rest ≡ encode_utf8 y ++ after → chars rest ≡ y ∷ chars after → (columns ≡ n → ⊥) → y ≡ 10 → Walked n text after 0
+pub Walked-feed : {n columns : ℕ} {text rest : List ℕ} (after : List ℕ) (y : ℕ) → Walked n text rest columns
+    → IsUtf8 rest → rest ≡ encode_utf8 y ++ after → chars rest ≡ y ∷ chars after → (columns ≡ n → ⊥) → y ≡ 10 → Walked n text after 0
 Walked-feed {n} {columns} {text} {rest} after y w v e f ne feed =
     let s = IsScalar-first rest y (chars after) v f in
     let cs : chars (w.front ++ encode_utf8 y) ≡ chars w.front ++ 10 ∷ [] = chars-push w.front y w.utf8 s ∙ ap (λ z. chars w.front ++ z ∷ []) feed in
@@ -218,13 +277,16 @@ Walked-feed {n} {columns} {text} {rest} after y w v e f ne feed =
       reached = subst (IsReached n) (sym cs) (IsReached-feed n (chars w.front) w.reached (omega arith));
     }
 
-pub Walked-push : {n columns : ℕ} {text rest : List ℕ} (after : List ℕ) (y : ℕ) → Walked n text rest columns → IsUtf8 rest → rest ≡ encode_utf8 y ++ after → chars rest ≡ y ∷ chars after → (columns ≡ n → ⊥) → (y ≡ 10 → ⊥) → columns + char_count y ≤ n → Walked n text after (columns + char_count y)
+pub Walked-push : {n columns : ℕ} {text rest : List ℕ} (after : List ℕ) (y : ℕ) → Walked n text rest columns
+    → IsUtf8 rest → rest ≡ encode_utf8 y ++ after → chars rest ≡ y ∷ chars after → (columns ≡ n → ⊥) → (y ≡ 10 → ⊥)
+    → columns + char_count y ≤ n → Walked n text after (columns + char_count y)
 Walked-push {n} {columns} {text} {rest} after y w v e f ne no_feed room =
     let s = IsScalar-first rest y (chars after) v f in
     let cs = chars-push w.front y w.utf8 s in
     let le = Walked-le w in
     let is = w.columns_are in
-    let count = ap (λ l. count_of (last_line l)) cs ∙ ap count_of (last_line-push (chars w.front) y (ne_eqb y 10 no_feed)) ∙ count_of-push (last_line (chars w.front)) y in
+    let count = ap (λ l. count_of (last_line l)) cs ∙ ap count_of
+    (last_line-push (chars w.front) y (ne_eqb y 10 no_feed)) ∙ count_of-push (last_line (chars w.front)) y in
     record {
       front = w.front ++ encode_utf8 y;
       parts = more_bytes text w.front rest after y w.parts e;
@@ -234,7 +296,9 @@ Walked-push {n} {columns} {text} {rest} after y w v e f ne no_feed room =
     }
 
 -- ---- what a stop says: b is the front that was split off
-pub IsParted-wide : {n columns : ℕ} {text rest : List ℕ} (after : List ℕ) (y : ℕ) (b : List ℕ) → chars rest ≡ y ∷ chars after → (y ≡ 10 → ⊥) → n < columns + char_count y → (columns ≡ n → ⊥) → (w : Walked n text rest columns) → b ≡ w.front → IsParted n (chars text) (chars b) (n - columns) (chars after)
+pub IsParted-wide : {n columns : ℕ} {text rest : List ℕ} (after : List ℕ) (y : ℕ) (b : List ℕ) → chars rest
+    ≡ y ∷ chars after → (y ≡ 10 → ⊥) → n < columns + char_count y → (columns ≡ n → ⊥)
+    → (w : Walked n text rest columns) → b ≡ w.front → IsParted n (chars text) (chars b) (n - columns) (chars after)
 IsParted-wide {n} {columns} {text} {rest} after y b f no_feed wide ne w same =
     let is = w.columns_are in
     let le = Walked-le w in
@@ -252,7 +316,8 @@ missing_at_full : (n : ℕ) (front rest : List ℕ) → count_of (last_line fron
 missing_at_full n front [] e = refl
 missing_at_full n front (c ∷ rest) e = omega arith
 
-pub IsParted-full : {n columns : ℕ} {text rest : List ℕ} (b : List ℕ) → (w : Walked n text rest columns) → columns ≡ n → b ≡ w.front → IsParted n (chars text) (chars b) 0 (chars rest)
+pub IsParted-full : {n columns : ℕ} {text rest : List ℕ} (b : List ℕ) → (w : Walked n text rest columns) → columns ≡ n
+    → b ≡ w.front → IsParted n (chars text) (chars b) 0 (chars rest)
 IsParted-full {n} {columns} {text} {rest} b w full same =
     let is = w.columns_are in
     let at : count_of (last_line (chars w.front)) ≡ n = omega arith in
@@ -263,9 +328,11 @@ IsParted-full {n} {columns} {text} {rest} b w full same =
       dropped = refl;
     }
 
-pub IsParted-end : {n columns : ℕ} {text rest : List ℕ} (b : List ℕ) → (w : Walked n text rest columns) → chars rest ≡ [] → b ≡ w.front → IsParted n (chars text) (chars b) 0 (chars rest)
+pub IsParted-end : {n columns : ℕ} {text rest : List ℕ} (b : List ℕ) → (w : Walked n text rest columns) → chars rest
+    ≡ [] → b ≡ w.front → IsParted n (chars text) (chars b) 0 (chars rest)
 IsParted-end {n} {columns} {text} {rest} b w none same =
-    let whole : chars text ≡ chars w.front = ap chars w.parts ∙ chars-append w.front rest w.utf8 ∙ ap (λ l. chars w.front ++ l) none ∙ append-nil (chars w.front) in
+    let whole : chars text ≡ chars w.front = ap chars w.parts ∙ chars-append w.front rest w.utf8 ∙ ap
+    (λ l. chars w.front ++ l) none ∙ append-nil (chars w.front) in
     subst (λ l. IsParted n (chars text) (chars l) 0 (chars rest)) (sym same) record {
       rest = [];
       longest = subst (λ l. IsLongestReached n l (chars w.front) []) (sym whole) (longest_at_end n (chars w.front) w.reached);
@@ -278,20 +345,25 @@ pub front_length : {n columns : ℕ} {text rest : List ℕ} → (w : Walked n te
 front_length {n} {columns} {text} {rest} w = omega (arith, ap length w.parts, length-append w.front rest)
 
 pub front_taken : {n columns : ℕ} {text rest : List ℕ} → (w : Walked n text rest columns) → take (length text - length rest) text ≡ w.front
-front_taken {n} {columns} {text} {rest} w = ap (λ k. take k text) (front_length w) ∙ ap (take (length w.front)) w.parts ∙ take_at w.front rest (length w.front) refl
+front_taken {n} {columns} {text} {rest} w = ap (λ k. take k text) (front_length w) ∙ ap (take (length w.front))
+    w.parts ∙ take_at w.front rest (length w.front) refl
 
 pub rest_taken : {n columns : ℕ} {text rest : List ℕ} → (w : Walked n text rest columns) → drop (length text - length rest) text ≡ rest
-rest_taken {n} {columns} {text} {rest} w = ap (λ k. drop k text) (front_length w) ∙ ap (drop (length w.front)) w.parts ∙ drop_at w.front rest (length w.front) refl
+rest_taken {n} {columns} {text} {rest} w = ap (λ k. drop k text) (front_length w) ∙ ap (drop (length w.front)) w.parts
+    ∙ drop_at w.front rest (length w.front) refl
 
-pub front_boundary : {n columns : ℕ} {text rest : List ℕ} → (w : Walked n text rest columns) → IsUtf8 rest → IsCharBoundary text (length text - length rest)
-front_boundary {n} {columns} {text} {rest} w u = subst (IsCharBoundary text) (sym (front_length w)) (IsCharBoundary-at_seam text w.front rest w.parts u)
+pub front_boundary : {n columns : ℕ} {text rest : List ℕ} → (w : Walked n text rest columns) → IsUtf8 rest
+    → IsCharBoundary text (length text - length rest)
+front_boundary {n} {columns} {text} {rest} w u = subst (IsCharBoundary text) (sym (front_length w))
+    (IsCharBoundary-at_seam text w.front rest w.parts u)
 
 scalars-replicate : (n : ℕ) → scalars (replicate n 0xFFFD) ≡ true
 scalars-replicate zero = refl
 scalars-replicate (suc n) = scalars-replicate n
 
 pub chars-filled : (front : List ℕ) (n : ℕ) → IsUtf8 front → chars (front ++ encode_utf8_all (replicate n 0xFFFD)) ≡ chars front ++ replicate n 0xFFFD
-chars-filled front n u = chars-append front (encode_utf8_all (replicate n 0xFFFD)) u ∙ ap (λ l. chars front ++ l) (chars-encodes (replicate n 0xFFFD) (scalars-replicate n))
+chars-filled front n u = chars-append front (encode_utf8_all (replicate n 0xFFFD)) u ∙ ap
+    (λ l. chars front ++ l) (chars-encodes (replicate n 0xFFFD) (scalars-replicate n))
 
 replacements_utf8 : (n : ℕ) → IsUtf8 (encode_utf8_all (replicate n 0xFFFD))
 replacements_utf8 n = (replicate n 0xFFFD, (scalars-replicate n, refl))
@@ -308,7 +380,8 @@ IsCut-filled {n} {missing} {front = front} u p e = record {
 }
 
 -- with what follows
-pub IsSplit-filled : {n missing : ℕ} {text front answer after : List ℕ} → IsUtf8 front → IsUtf8 after → IsParted n (chars text) (chars front) missing (chars after)
+pub IsSplit-filled : {n missing : ℕ} {text front answer after : List ℕ} → IsUtf8 front → IsUtf8 after
+    → IsParted n (chars text) (chars front) missing (chars after)
     → answer ≡ front ++ encode_utf8_all (replicate missing 0xFFFD) → IsSplit n text answer after
 unfolding IsCut-filled
 IsSplit-filled u v p e = record {

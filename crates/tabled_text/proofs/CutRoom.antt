@@ -1,5 +1,31 @@
 -- Cut plain texts stay in their columns, and so does what follows them.
-use Rattle.std.proofs.Common.{◌≡◌, ℕ, ◌+◌, ◌-◌, ◌<◌, ◌≤◌, Bool, true, ◌==◌, List, [], ◌∷◌, ◌++◌, length, refl, sym, ◌∙◌, subst, arith, All, sum_by, replicate, zero, suc, chars}
+use Rattle.std.proofs.Common.{
+  ◌≡◌,
+  ℕ,
+  ◌+◌,
+  ◌-◌,
+  ◌<◌,
+  ◌≤◌,
+  Bool,
+  true,
+  ◌==◌,
+  List,
+  [],
+  ◌∷◌,
+  ◌++◌,
+  length,
+  refl,
+  sym,
+  ◌∙◌,
+  subst,
+  arith,
+  All,
+  sum_by,
+  replicate,
+  zero,
+  suc,
+  chars,
+}
 use Rattle.std.specs.List.{list_all, join_with_byte}
 use Rattle.std.proofs.lemmas.List.{append_assoc, append-nil}
 use Rattle.std.proofs.lemmas.List.Splits.{join_with_byte-slice_split, length-slice_split}
@@ -30,19 +56,23 @@ last_used-last [] some h = absurd (omega arith)
 last_used-last (l ∷ []) some h = let e = count_of-plain l h.0 in omega arith
 last_used-last (l ∷ m ∷ ls) some h = last_used-last (m ∷ ls) (omega arith) h.1
 
-stays-join : (n used : ℕ) (ls : List (List ℕ)) (tail : List ℕ) → 0 < length ls → Lines n used ls → stays n (last_used used ls) tail ≡ true → stays n used (join_with_byte 10 ls ++ tail) ≡ true
+stays-join : (n used : ℕ) (ls : List (List ℕ)) (tail : List ℕ) → 0 < length ls → Lines n used ls
+    → stays n (last_used used ls) tail ≡ true → stays n used (join_with_byte 10 ls ++ tail) ≡ true
 stays-join n used [] tail some h s = absurd (omega arith)
 stays-join n used (l ∷ []) tail some h s = stays-line n used l tail h.0 s
 stays-join n used (l ∷ m ∷ ls) tail some h s =
     let rest = stays-join n 0 (m ∷ ls) tail (omega arith) h.2 s in
     subst (λ t. stays n used t ≡ true) (sym (append_assoc l (10 ∷ join_with_byte 10 (m ∷ ls)) tail))
-    (stays-line n used l (10 ∷ (join_with_byte 10 (m ∷ ls) ++ tail)) h.0 (stays-break n (used + sum_by char_columns l) (join_with_byte 10 (m ∷ ls) ++ tail) h.1 rest))
+    (stays-line n used l (10 ∷ (join_with_byte 10 (m ∷ ls) ++ tail)) h.0
+    (stays-break n (used + sum_by char_columns l) (join_with_byte 10 (m ∷ ls) ++ tail) h.1 rest))
 
 pub lines_some : (cs : List ℕ) → 0 < length (lines_of cs)
 lines_some cs = let e = length-slice_split (λ c. c == 10) cs in omega arith
 
-pub stays-text : (n used : ℕ) (cs tail : List ℕ) → Lines n used (lines_of cs) → stays n (last_used used (lines_of cs)) tail ≡ true → stays n used (cs ++ tail) ≡ true
-stays-text n used cs tail h s = subst (λ t. stays n used (t ++ tail) ≡ true) (join_with_byte-slice_split 10 cs) (stays-join n used (lines_of cs) tail (lines_some cs) h s)
+pub stays-text : (n used : ℕ) (cs tail : List ℕ) → Lines n used (lines_of cs)
+    → stays n (last_used used (lines_of cs)) tail ≡ true → stays n used (cs ++ tail) ≡ true
+stays-text n used cs tail h s = subst (λ t. stays n used (t ++ tail) ≡ true) (join_with_byte-slice_split 10 cs)
+    (stays-join n used (lines_of cs) tail (lines_some cs) h s)
 
 Lines-counted : (n : ℕ) (ls : List (List ℕ)) → EachPlain ls → All (λ l. count_of l ≤ n) ls → Lines n 0 ls
 Lines-counted n [] p h = tt
@@ -64,14 +94,17 @@ Lines-sum n used (l ∷ ls) p h =
 
 list_all-front : (p : ℕ → Bool) (xs ys : List ℕ) → list_all p (xs ++ ys) ≡ true → list_all p xs ≡ true
 list_all-front p [] ys h = refl
-list_all-front p (x ∷ xs) ys h = let parts = and_parts (p x) (list_all p (xs ++ ys)) h in and_from (p x) (list_all p xs) parts.0 (list_all-front p xs ys parts.1)
+list_all-front p (x ∷ xs) ys h = let parts = and_parts (p x) (list_all p (xs ++ ys)) h in
+    and_from (p x) (list_all p xs) parts.0 (list_all-front p xs ys parts.1)
 
-pub copies : (c k : ℕ) → is_plain_character c ≡ true → char_columns c ≡ 1 → (list_all is_plain_character (replicate k c) ≡ true) × (sum_by char_columns (replicate k c) ≡ k)
+pub copies : (c k : ℕ) → is_plain_character c ≡ true → char_columns c ≡ 1
+    → (list_all is_plain_character (replicate k c) ≡ true) × (sum_by char_columns (replicate k c) ≡ k)
 copies c zero h e = (refl, refl)
 copies c (suc k) h e =
     let r = copies c k h e in (
       and_from (is_plain_character c) (list_all is_plain_character (replicate k c)) h r.0,
-      sum_by-cons char_columns c (replicate k c) ∙ (let b = r.1 in let f : char_columns c + sum_by char_columns (replicate k c) ≡ suc k = omega arith in f),
+      sum_by-cons char_columns c (replicate k c) ∙ (let b = r.1 in
+          let f : char_columns c + sum_by char_columns (replicate k c) ≡ suc k = omega arith in f),
     )
 
 missing-le : (n : ℕ) (front rest : List ℕ) → missing_columns n front rest ≤ n - count_of (last_line front)
@@ -104,7 +137,8 @@ stays-cut n text answer plain cut =
     subst (λ t. stays n 0 t ≡ true) (append-nil (chars answer)) (stays-cut_before n n (omega arith) text answer [] plain cut (stays-nothing n))
 
 -- a plain text stays from a column on if there is room for the columns of all its lines
-pub stays-whole : (w k : ℕ) (s tail : List ℕ) → is_plain_text s ≡ true → k + sum_by columns_of (lines_of s) ≤ w → ((j : ℕ) → j ≤ w → stays w j tail ≡ true) → stays w k (s ++ tail) ≡ true
+pub stays-whole : (w k : ℕ) (s tail : List ℕ) → is_plain_text s ≡ true → k + sum_by columns_of (lines_of s) ≤ w
+    → ((j : ℕ) → j ≤ w → stays w j tail ≡ true) → stays w k (s ++ tail) ≡ true
 stays-whole w k s tail plain le h =
     let each = EachPlain-lines s plain in
     let lines = Lines-sum w k (lines_of s) each (omega arith) in

@@ -16,18 +16,22 @@ Each-onto q c [] h l = (and_from (q c) true h refl, tt)
 Each-onto q c (x ∷ ls) h l = (and_from (q c) (list_all q x) h l.0, l.1)
 
 -- a split leaves out the characters that it is made at
-pub Each-split : (p q r : ℕ → Bool) → ((c : ℕ) → q c ≡ true → p c ≡ false → r c ≡ true) → (cs : List ℕ) → list_all q cs ≡ true → Each r (slice_split p cs)
+pub Each-split : (p q r : ℕ → Bool) → ((c : ℕ) → q c ≡ true → p c ≡ false → r c ≡ true) → (cs : List ℕ)
+    → list_all q cs ≡ true → Each r (slice_split p cs)
 Each-split p q r f [] h = (refl, tt)
 Each-split p q r f (c ∷ cs) h =
     let parts = and_parts (q c) (list_all q cs) h in
     let rest = Each-split p q r f cs parts.1 in
     ⊎_elim
-    (λ y. let own : Each r ([] ∷ slice_split p cs) = (refl, rest) in subst (λ b. Each r (cond b ([] ∷ slice_split p cs) (onto_first c (slice_split p cs)))) (sym y) own)
-    (λ no. subst (λ b. Each r (cond b ([] ∷ slice_split p cs) (onto_first c (slice_split p cs)))) (sym no) (Each-onto r c (slice_split p cs) (f c parts.0 no) rest))
+    (λ y. let own : Each r ([] ∷ slice_split p cs) = (refl, rest) in
+    subst (λ b. Each r (cond b ([] ∷ slice_split p cs) (onto_first c (slice_split p cs)))) (sym y) own)
+    (λ no. subst (λ b. Each r (cond b ([] ∷ slice_split p cs) (onto_first c (slice_split p cs)))) (sym no)
+    (Each-onto r c (slice_split p cs) (f c parts.0 no) rest))
     (cases_Bool (p c))
 
 -- all characters of a text but its line feeds
-pub Each-lines : (p q : ℕ → Bool) → ((c : ℕ) → q c ≡ true → (c == 10) ≡ false → p c ≡ true) → (cs : List ℕ) → list_all q cs ≡ true → Each p (slice_split (λ c. c == 10) cs)
+pub Each-lines : (p q : ℕ → Bool) → ((c : ℕ) → q c ≡ true → (c == 10) ≡ false → p c ≡ true) → (cs : List ℕ)
+    → list_all q cs ≡ true → Each p (slice_split (λ c. c == 10) cs)
 Each-lines p q f cs h = Each-split (λ c. c == 10) q p f cs h
 
 -- each character of each unit passes

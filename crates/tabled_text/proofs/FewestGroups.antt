@@ -1,5 +1,30 @@
 -- The fullest breaking: it has the fewest groups, and is the only one.
-use Rattle.std.proofs.Common.{◌≡◌, ℕ, ◌+◌, ◌<◌, ◌≤◌, Bool, List, [], ◌∷◌, ◌++◌, length, refl, sym, ap, ◌∙◌, subst, arith, All, sum_by, length-append, ⊎_elim, ◌⊎◌, inl, inr}
+use Rattle.std.proofs.Common.{
+  ◌≡◌,
+  ℕ,
+  ◌+◌,
+  ◌<◌,
+  ◌≤◌,
+  Bool,
+  List,
+  [],
+  ◌∷◌,
+  ◌++◌,
+  length,
+  refl,
+  sym,
+  ap,
+  ◌∙◌,
+  subst,
+  arith,
+  All,
+  sum_by,
+  length-append,
+  ⊎_elim,
+  ◌⊎◌,
+  inl,
+  inr,
+}
 use Rattle.std.specs.List.{flat_map, AllZip}
 use Rattle.std.proofs.lemmas.List.{append_assoc}
 use Rattle.std.proofs.lemmas.List.Sums.{sum_by-append, sum_by-cons}
@@ -38,7 +63,8 @@ split_append (x ∷ b) X (y ∷ Y) Z e =
     ⊎_elim (λ w. inl w) (λ p. inr (past x y b Y Z X head p)) (split_append b X Y Z tail)
 
 -- a breaking that has at least these pieces left has at least as many groups
-fewest_from : (n : ℕ) → 0 < n → (F B : List (List TextUnit)) (P : List TextUnit) → AreFullest n F → All (λ g. 0 < length g) F → All (λ g. width_of g ≤ n) B
+fewest_from : (n : ℕ) → 0 < n → (F B : List (List TextUnit)) (P : List TextUnit) → AreFullest n F → All
+    (λ g. 0 < length g) F → All (λ g. width_of g ≤ n) B
     → flat_map (λ g. g) B ≡ P ++ flat_map (λ g. g) F → length F ≤ length B
 fewest_from n pos [] B P full some fits e = omega arith
 fewest_from n pos (g ∷ F) [] P full some fits e =
@@ -52,11 +78,13 @@ fewest_from n pos (g ∷ (p ∷ h) ∷ F) (b ∷ B) P full some fits e =
     let e' : b ++ flat_map (λ g. g) B ≡ (P ++ g) ++ rest = e ∙ sym (append_assoc P g rest) in
     let room = All-head (λ g. width_of g ≤ n) b B fits in
     ⊎_elim (λ w.
-    let more = fewest_from n pos ((p ∷ h) ∷ F) B w.left full.2 (All-tail (λ g. 0 < length g) g ((p ∷ h) ∷ F) some) (All-tail (λ g. width_of g ≤ n) b B fits) w.is in
+    let more = fewest_from n pos ((p ∷ h) ∷ F) B w.left full.2 (All-tail (λ g. 0 < length g) g ((p ∷ h) ∷ F) some)
+    (All-tail (λ g. width_of g ≤ n) b B fits) w.is in
     omega arith)
     (λ past.
     let same : p ≡ past.first = let t = past.next in cc in
-    let sum : width_of b ≡ width_of (P ++ g) + width_of (past.first ∷ past.more) = ap width_of past.is ∙ sum_by-append (λ p. p.width) (P ++ g) (past.first ∷ past.more) in
+    let sum : width_of b ≡ width_of (P ++ g) + width_of (past.first ∷ past.more) = ap width_of past.is ∙ sum_by-append
+    (λ p. p.width) (P ++ g) (past.first ∷ past.more) in
     let first = sum_by-cons (λ p. p.width) past.first past.more in
     let front = sum_by-append (λ p. p.width) P g in
     let need = needed-le n p pos in
@@ -66,13 +94,15 @@ fewest_from n pos (g ∷ (p ∷ h) ∷ F) (b ∷ B) P full some fits e =
     (split_append b (flat_map (λ g. g) B) (P ++ g) rest e')
 
 -- no breaking has fewer groups than the fullest
-pub fewest_groups : (n : ℕ) → 0 < n → (pieces : List TextUnit) (F B : List (List TextUnit)) → IsFullest n pieces F → IsBreaking n pieces B → length F ≤ length B
+pub fewest_groups : (n : ℕ) → 0 < n → (pieces : List TextUnit) (F B : List (List TextUnit)) → IsFullest n pieces F
+    → IsBreaking n pieces B → length F ≤ length B
 fewest_groups n pos [] F B f b = let e = f.grouping.none refl in let e' = b.grouping.none refl in omega arith
 fewest_groups n pos (p ∷ pieces) F B f b =
     fewest_from n pos F B [] f.fullest (f.grouping.some (omega arith)) b.fits (b.grouping.whole ∙ sym f.grouping.whole)
 
 -- over all lines of a text: no breaking has fewer groups in all
-pub fewest_lines : (n : ℕ) → 0 < n → (words : Bool) (lines : List (List ℕ)) (broken other : List (List (List TextUnit))) → AllZip (λ line groups. IsFullest n (units n words line) groups) lines broken
+pub fewest_lines : (n : ℕ) → 0 < n → (words : Bool) (lines : List (List ℕ))
+    (broken other : List (List (List TextUnit))) → AllZip (λ line groups. IsFullest n (units n words line) groups) lines broken
     → AllZip (λ line groups. IsBreaking n (units n words line) groups) lines other → sum_by length broken ≤ sum_by length other
 fewest_lines n pos words [] [] [] f b = omega arith
 fewest_lines n pos words [] [] (o ∷ os) f b = absurd b

@@ -1,5 +1,34 @@
 -- The lines of a wrapped text are the groups of its breaking, and no breaking has fewer.
-use Rattle.std.proofs.Common.{◌≡◌, ℕ, ◌+◌, ◌-◌, ◌<◌, ◌≤◌, Bool, true, false, cond, ◌==◌, nat_le, List, [], ◌∷◌, ◌++◌, chars, length, refl, sym, ap, ◌∙◌, subst, arith, sum_by, replicate, ⊎_elim, suc}
+use Rattle.std.proofs.Common.{
+  ◌≡◌,
+  ℕ,
+  ◌+◌,
+  ◌-◌,
+  ◌<◌,
+  ◌≤◌,
+  Bool,
+  true,
+  false,
+  cond,
+  ◌==◌,
+  nat_le,
+  List,
+  [],
+  ◌∷◌,
+  ◌++◌,
+  chars,
+  length,
+  refl,
+  sym,
+  ap,
+  ◌∙◌,
+  subst,
+  arith,
+  sum_by,
+  replicate,
+  ⊎_elim,
+  suc,
+}
 use Rattle.std.specs.Prelude.{MatchBool}
 use Rattle.std.specs.List.{list_all, onto_first, flat_map, AllZip}
 use Rattle.std.specs.Str.{IsUtf8}
@@ -57,7 +86,8 @@ rows-break rest = let e : suc (rows rest) ≡ 1 + rows rest = omega arith in e
 shown_unfed : (n used : ℕ) (u : TextUnit) → list_all no_feed u.text ≡ true → list_all no_feed (shown n used u) ≡ true
 shown_unfed n used u h = ⊎_elim
     (λ y. subst (λ b. list_all no_feed (cond b u.text (replicate (n - used) 0xFFFD)) ≡ true) (sym y) h)
-    (λ no. subst (λ b. list_all no_feed (cond b u.text (replicate (n - used) 0xFFFD)) ≡ true) (sym no) (list_all-copies no_feed 0xFFFD (n - used) refl))
+    (λ no. subst (λ b. list_all no_feed (cond b u.text (replicate (n - used) 0xFFFD)) ≡ true) (sym no)
+    (list_all-copies no_feed 0xFFFD (n - used) refl))
     (cases_Bool (nat_le u.width n))
 
 rows-group : (n used : ℕ) (g : List TextUnit) (rest : List ℕ) → EachUnit no_feed g → rows (text_from n used g ++ rest) ≡ rows rest
@@ -67,7 +97,8 @@ rows-group n used (u ∷ g) rest h =
     ∙ rows-line (shown n used u) (text_from n (used + u.width) g ++ rest) (shown_unfed n used u h.0) ∙ rows-group n (used + u.width) g rest h.1
 
 -- as many breaks as groups, but for the first
-rows-groups : (n : ℕ) (g : List TextUnit) (gs : List (List TextUnit)) (rest : List ℕ) → EachUnit no_feed (flat_map (λ x. x) (g ∷ gs)) → rows (text_of_groups n (g ∷ gs) ++ rest) ≡ length gs + rows rest
+rows-groups : (n : ℕ) (g : List TextUnit) (gs : List (List TextUnit)) (rest : List ℕ)
+    → EachUnit no_feed (flat_map (λ x. x) (g ∷ gs)) → rows (text_of_groups n (g ∷ gs) ++ rest) ≡ length gs + rows rest
 rows-groups n g [] rest h = let e = rows-group n 0 g rest (EachUnit-parts no_feed g [] h).0 in omega arith
 rows-groups n g (k ∷ gs) rest h =
     let parts = EachUnit-parts no_feed g (flat_map (λ x. x) (k ∷ gs)) h in
@@ -81,14 +112,16 @@ groups_some [] groups h = let e = h.none refl in omega arith
 groups_some (u ∷ us) [] h = let e : length (flat_map (λ (g : List TextUnit). g) []) ≡ length (u ∷ us) = ap length h.whole in absurd (omega arith)
 groups_some (u ∷ us) (g ∷ gs) h = omega arith
 
-rows-broken : (n : ℕ) (words : Bool) (line : List ℕ) (groups : List (List TextUnit)) (rest : List ℕ) → list_all no_feed line ≡ true → IsFullest n (units n words line) groups
+rows-broken : (n : ℕ) (words : Bool) (line : List ℕ) (groups : List (List TextUnit)) (rest : List ℕ)
+    → list_all no_feed line ≡ true → IsFullest n (units n words line) groups
     → rows (text_of_groups n groups ++ rest) + 1 ≡ length groups + rows rest
 rows-broken n words line [] rest plain f = let s = groups_some (units n words line) [] f.grouping in absurd (omega arith)
 rows-broken n words line (g ∷ gs) rest plain f =
     let unfed = subst (EachUnit no_feed) (sym f.grouping.whole) (EachUnit-units no_feed refl n words line plain) in
     let e = rows-groups n g gs rest unfed in omega arith
 
-rows-lines : (n : ℕ) (words : Bool) (lines : List (List ℕ)) (broken : List (List (List TextUnit))) → 0 < length lines → Each no_feed lines → AllZip (λ line groups. IsFullest n (units n words line) groups) lines broken
+rows-lines : (n : ℕ) (words : Bool) (lines : List (List ℕ)) (broken : List (List (List TextUnit))) → 0 < length lines
+    → Each no_feed lines → AllZip (λ line groups. IsFullest n (units n words line) groups) lines broken
     → rows (text_of_lines n broken) ≡ sum_by length broken
 rows-lines n words [] broken some p f = absurd (omega arith)
 rows-lines n words (l ∷ ls) [] some p f = absurd f
@@ -106,7 +139,8 @@ rows-lines n words (l ∷ m ∷ ls) (g ∷ h ∷ gs) some p f =
     omega (arith, sum_by-cons (λ (x : List (List TextUnit)). length x) g (h ∷ gs))
 
 -- the lines of a wrapped text are the groups of the fullest breaking
-pub rows-wrapped : (n : ℕ) (words : Bool) (text answer : List ℕ) → (f : IsFullestText n words text answer) → length (lines_of answer) ≡ sum_by length f.broken
+pub rows-wrapped : (n : ℕ) (words : Bool) (text answer : List ℕ) → (f : IsFullestText n words text answer)
+    → length (lines_of answer) ≡ sum_by length f.broken
 rows-wrapped n words text answer f = ap rows f.answered ∙ rows-lines n words (lines_of text) f.broken (rows_some text) (no_feeds text) f.fullest
 
 -- a text has as many lines as its characters do
@@ -119,7 +153,8 @@ fewest-wrapped n words text answer w broken b =
     let pos = b.columns in
     let cs = chars text in
     let nonzero : (n == 0) ≡ false = grind (arith, nat_tests) in
-    let full : IsFullestText n words cs (chars answer) = subst (λ b. MatchBool b (answer ≡ []) (IsFullestText n words cs (chars answer))) nonzero w.wrapped in
+    let full : IsFullestText n words cs (chars answer) = subst
+    (λ b. MatchBool b (answer ≡ []) (IsFullestText n words cs (chars answer))) nonzero w.wrapped in
     let e = count-chars answer w.utf8 ∙ rows-wrapped n words cs (chars answer) full in
     let least = fewest_lines n pos words (lines_of cs) full.broken broken full.fullest b.each in
     omega arith
@@ -129,16 +164,20 @@ fewest-wrapped n words text answer w broken b =
 rows-append : (xs ys : List ℕ) → rows (xs ++ ys) + 1 ≡ rows xs + rows ys
 rows-append [] ys = let e : rows [] ≡ 1 = refl in omega arith
 rows-append (c ∷ xs) ys = let more = rows-append xs ys in ⊎_elim
-    (λ y. subst (λ b. length (cond b ([] ∷ lines_of (xs ++ ys)) (onto_first c (lines_of (xs ++ ys)))) + 1 ≡ length (cond b ([] ∷ lines_of xs) (onto_first c (lines_of xs))) + rows ys) (sym y) (omega arith))
-    (λ no. subst (λ b. length (cond b ([] ∷ lines_of (xs ++ ys)) (onto_first c (lines_of (xs ++ ys)))) + 1 ≡ length (cond b ([] ∷ lines_of xs) (onto_first c (lines_of xs))) + rows ys) (sym no)
-    (ap (λ k. k + 1) (length-onto c (lines_of (xs ++ ys)) (rows_some (xs ++ ys))) ∙ more ∙ ap (λ k. k + rows ys) (sym (length-onto c (lines_of xs) (rows_some xs)))))
+    (λ y. subst (λ b. length (cond b ([] ∷ lines_of (xs ++ ys)) (onto_first c (lines_of (xs ++ ys)))) + 1
+    ≡ length (cond b ([] ∷ lines_of xs) (onto_first c (lines_of xs))) + rows ys) (sym y) (omega arith))
+    (λ no. subst (λ b. length (cond b ([] ∷ lines_of (xs ++ ys)) (onto_first c (lines_of (xs ++ ys)))) + 1
+    ≡ length (cond b ([] ∷ lines_of xs) (onto_first c (lines_of xs))) + rows ys) (sym no)
+    (ap (λ k. k + 1) (length-onto c (lines_of (xs ++ ys)) (rows_some (xs ++ ys))) ∙ more ∙ ap
+    (λ k. k + rows ys) (sym (length-onto c (lines_of xs) (rows_some xs)))))
     (cases_Bool (c == 10))
 
 -- a cut text has no more lines than the text
 pub lines-cut : (n : ℕ) (text answer : List ℕ) → IsUtf8 text → IsCut n text answer → length (lines_of answer) ≤ length (lines_of text)
 lines-cut n text answer u c =
     let copies : List ℕ = replicate (missing_columns n c.front c.rest) 0xFFFD in
-    let filled : rows copies ≡ 1 = ap rows (sym (append-nil copies)) ∙ rows-line copies [] (list_all-copies no_feed 0xFFFD (missing_columns n c.front c.rest) refl) in
+    let filled : rows copies ≡ 1 = ap rows (sym (append-nil copies)) ∙ rows-line copies []
+    (list_all-copies no_feed 0xFFFD (missing_columns n c.front c.rest) refl) in
     let own : rows (chars answer) + 1 ≡ rows c.front + rows copies = ap (λ t. rows t + 1) c.characters ∙ rows-append c.front copies in
     let whole : rows (chars text) + 1 ≡ rows c.front + rows c.rest = ap (λ t. rows t + 1) c.longest.parts ∙ rows-append c.front c.rest in
     omega (arith, own, whole, filled, rows_some c.rest, count-chars answer c.utf8, count-chars text u)

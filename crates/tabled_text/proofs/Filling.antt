@@ -1,5 +1,30 @@
 -- The walk that adds unit to unit, as a function, and that it gives the fullest breaking.
-use Rattle.std.proofs.Common.{◌≡◌, ℕ, ◌+◌, ◌<◌, ◌≤◌, Bool, true, false, cond, List, [], ◌∷◌, ◌++◌, length, refl, sym, ap, ◌∙◌, subst, arith, All, length-append, ⊎_elim, nat_le}
+use Rattle.std.proofs.Common.{
+  ◌≡◌,
+  ℕ,
+  ◌+◌,
+  ◌<◌,
+  ◌≤◌,
+  Bool,
+  true,
+  false,
+  cond,
+  List,
+  [],
+  ◌∷◌,
+  ◌++◌,
+  length,
+  refl,
+  sym,
+  ap,
+  ◌∙◌,
+  subst,
+  arith,
+  All,
+  length-append,
+  ⊎_elim,
+  nat_le,
+}
 use Rattle.std.specs.List.{flat_map}
 use Rattle.std.proofs.lemmas.List.{append_assoc, append-nil}
 use Rattle.std.proofs.lemmas.List.Sums.{sum_by-cons, sum_by_push}
@@ -13,7 +38,8 @@ use Rattle.tabled_text.specs.Breaking.{IsGrouping}
 
 pub put_all-append : (n used : ℕ) (xs ys : List TextUnit) → put_all n used (xs ++ ys) ≡ put_all n used xs ++ put_all n (used_after n used xs) ys
 put_all-append n used [] ys = refl
-put_all-append n used (x ∷ xs) ys = ap (λ l. put_text n used x ++ l) (put_all-append n (put_used n used x) xs ys) ∙ sym (append_assoc (put_text n used x) (put_all n (put_used n used x) xs) (put_all n (used_after n (put_used n used x) xs) ys))
+put_all-append n used (x ∷ xs) ys = ap (λ l. put_text n used x ++ l) (put_all-append n (put_used n used x) xs ys) ∙
+    sym (append_assoc (put_text n used x) (put_all n (put_used n used x) xs) (put_all n (used_after n (put_used n used x) xs) ys))
 
 pub used_after-append : (n used : ℕ) (xs ys : List TextUnit) → used_after n used (xs ++ ys) ≡ used_after n (used_after n used xs) ys
 used_after-append n used [] ys = refl
@@ -31,40 +57,63 @@ record Begins (n : ℕ) (current : List TextUnit) (groups : List (List TextUnit)
   others : List (List TextUnit)
   is : groups ≡ (current ++ more) ∷ others
 
-Begins-cond : (n : ℕ) (b : Bool) (current : List TextUnit) (p : TextUnit) (xs ys : List (List TextUnit)) → Begins n (current ++ p ∷ []) xs → Begins n current ys → Begins n current (cond b xs ys)
-Begins-cond n true current p xs ys h g = record { more = p ∷ h.more; others = h.others; is = h.is ∙ ap (λ l. l ∷ h.others) (append_assoc current (p ∷ []) h.more) }
+Begins-cond : (n : ℕ) (b : Bool) (current : List TextUnit) (p : TextUnit) (xs ys : List (List TextUnit))
+    → Begins n (current ++ p ∷ []) xs → Begins n current ys → Begins n current (cond b xs ys)
+Begins-cond n true current p xs ys h g = record {
+  more = p ∷ h.more;
+  others = h.others;
+  is = h.is ∙ ap (λ l. l ∷ h.others) (append_assoc current (p ∷ []) h.more);
+}
 Begins-cond n false current p xs ys h g = g
 
 Begins-groups : (n : ℕ) (current pieces : List TextUnit) → Begins n current (groups_from n current pieces)
 Begins-groups n current [] = record { more = []; others = []; is = ap (λ l. l ∷ []) (sym (append-nil current)) }
 Begins-groups n current (p ∷ pieces) =
-    Begins-cond n (nat_le (width_of current + needed n p) n) current p (groups_from n (current ++ p ∷ []) pieces) (current ∷ groups_from n (p ∷ []) pieces)
-    (Begins-groups n (current ++ p ∷ []) pieces) (record { more = []; others = groups_from n (p ∷ []) pieces; is = ap (λ l. l ∷ groups_from n (p ∷ []) pieces) (sym (append-nil current)) })
+    Begins-cond n (nat_le (width_of current + needed n p) n) current p (groups_from n (current ++ p ∷ []) pieces)
+    (current ∷ groups_from n (p ∷ []) pieces)
+    (Begins-groups n (current ++ p ∷ []) pieces) (record {
+      more = [];
+      others = groups_from n (p ∷ []) pieces;
+      is = ap (λ l. l ∷ groups_from n (p ∷ []) pieces) (sym (append-nil current));
+    })
 
 -- ---- its text
-text_from-push : (n used : ℕ) (g : List TextUnit) (p : TextUnit) → text_from n used (g ++ p ∷ []) ≡ text_from n used g ++ shown n (used + width_of g) p
+text_from-push : (n used : ℕ) (g : List TextUnit) (p : TextUnit) → text_from n used (g ++ p ∷ [])
+    ≡ text_from n used g ++ shown n (used + width_of g) p
 text_from-push n used [] p = append-nil (shown n used p) ∙ ap (λ k. shown n k p) (let e : used ≡ used + 0 = omega arith in e)
 text_from-push n used (q ∷ g) p =
-    ap (λ l. shown n used q ++ l) (text_from-push n (used + q.width) g p) ∙ sym (append_assoc (shown n used q) (text_from n (used + q.width) g) (shown n (used + q.width + width_of g) p))
-    ∙ ap (λ k. (shown n used q ++ text_from n (used + q.width) g) ++ shown n k p) (let e : used + q.width + width_of g ≡ used + width_of (q ∷ g) = omega (arith, sum_by-cons (λ (r : TextUnit). r.width) q g) in e)
+    ap (λ l. shown n used q ++ l) (text_from-push n (used + q.width) g p) ∙ sym
+    (append_assoc (shown n used q) (text_from n (used + q.width) g) (shown n (used + q.width + width_of g) p))
+    ∙ ap (λ k. (shown n used q ++ text_from n (used + q.width) g) ++ shown n k p)
+    (let e : used + q.width + width_of g ≡ used + width_of (q ∷ g) = omega (arith, sum_by-cons (λ (r : TextUnit). r.width) q g) in e)
 
-join-cons : (n : ℕ) (g : List TextUnit) (groups : List (List TextUnit)) (current : List TextUnit) → Begins n current groups → text_of_groups n (g ∷ groups) ≡ text_from n 0 g ++ (10 ∷ text_of_groups n groups)
+join-cons : (n : ℕ) (g : List TextUnit) (groups : List (List TextUnit)) (current : List TextUnit)
+    → Begins n current groups → text_of_groups n (g ∷ groups) ≡ text_from n 0 g ++ (10 ∷ text_of_groups n groups)
 join-cons n g groups current b = subst (λ G. text_of_groups n (g ∷ G) ≡ text_from n 0 g ++ (10 ∷ text_of_groups n G)) (sym b.is) refl
 
-pub put_text-fits : (n used : ℕ) (p : TextUnit) → nat_le (used + needed n p) n ≡ true → (put_text n used p ≡ shown n used p) × (put_used n used p ≡ used + p.width)
+pub put_text-fits : (n used : ℕ) (p : TextUnit) → nat_le (used + needed n p) n ≡ true
+    → (put_text n used p ≡ shown n used p) × (put_used n used p ≡ used + p.width)
 put_text-fits n used p h = (ap (λ b. cond b [] (10 ∷ []) ++ shown n (cond b used 0) p) h, ap (λ b. cond b used 0 + p.width) h)
 
-pub put_text-breaks : (n used : ℕ) (p : TextUnit) → nat_le (used + needed n p) n ≡ false → (put_text n used p ≡ 10 ∷ shown n 0 p) × (put_used n used p ≡ p.width)
-put_text-breaks n used p h = (ap (λ b. cond b [] (10 ∷ []) ++ shown n (cond b used 0) p) h, ap (λ b. cond b used 0 + p.width) h ∙ (let e : 0 + p.width ≡ p.width = omega arith in e))
+pub put_text-breaks : (n used : ℕ) (p : TextUnit) → nat_le (used + needed n p) n ≡ false
+    → (put_text n used p ≡ 10 ∷ shown n 0 p) × (put_used n used p ≡ p.width)
+put_text-breaks n used p h = (
+  ap (λ b. cond b [] (10 ∷ []) ++ shown n (cond b used 0) p) h,
+  ap
+      (λ b. cond b used 0 + p.width) h ∙ (let e : 0 + p.width ≡ p.width = omega arith in e),
+)
 
-text_of_groups-from : (n : ℕ) (current pieces : List TextUnit) → text_of_groups n (groups_from n current pieces) ≡ text_from n 0 current ++ put_all n (width_of current) pieces
+text_of_groups-from : (n : ℕ) (current pieces : List TextUnit) → text_of_groups n (groups_from n current pieces)
+    ≡ text_from n 0 current ++ put_all n (width_of current) pieces
 text_of_groups-from n current [] = sym (append-nil (text_from n 0 current))
 text_of_groups-from n current (p ∷ pieces) = ⊎_elim
     (λ yes.
     let put = put_text-fits n (width_of current) p yes in
     ap (λ b. text_of_groups n (cond b (groups_from n (current ++ p ∷ []) pieces) (current ∷ groups_from n (p ∷ []) pieces))) yes
     ∙ text_of_groups-from n (current ++ p ∷ []) pieces
-    ∙ ap (λ l. l ++ put_all n (width_of (current ++ p ∷ [])) pieces) (text_from-push n 0 current p ∙ ap (λ k. text_from n 0 current ++ shown n k p) (let e : 0 + width_of current ≡ width_of current = omega arith in e))
+    ∙ ap (λ l. l ++ put_all n (width_of (current ++ p ∷ [])) pieces)
+    (text_from-push n 0 current p ∙ ap (λ k. text_from n 0 current ++ shown n k p)
+    (let e : 0 + width_of current ≡ width_of current = omega arith in e))
     ∙ append_assoc (text_from n 0 current) (shown n (width_of current) p) (put_all n (width_of (current ++ p ∷ [])) pieces)
     ∙ ap (λ l. text_from n 0 current ++ l) (ap (λ l. l ++ put_all n (width_of (current ++ p ∷ [])) pieces) (sym put.0)
     ∙ ap (λ k. put_text n (width_of current) p ++ put_all n k pieces) (sum_by_push (λ (r : TextUnit). r.width) current p ∙ sym put.1)))
@@ -72,9 +121,12 @@ text_of_groups-from n current (p ∷ pieces) = ⊎_elim
     let put = put_text-breaks n (width_of current) p no in
     ap (λ b. text_of_groups n (cond b (groups_from n (current ++ p ∷ []) pieces) (current ∷ groups_from n (p ∷ []) pieces))) no
     ∙ join-cons n current (groups_from n (p ∷ []) pieces) (p ∷ []) (Begins-groups n (p ∷ []) pieces)
-    ∙ ap (λ l. text_from n 0 current ++ (10 ∷ l)) (text_of_groups-from n (p ∷ []) pieces ∙ ap (λ l. l ++ put_all n (width_of (p ∷ [])) pieces) (append-nil (shown n 0 p)))
+    ∙ ap (λ l. text_from n 0 current ++ (10 ∷ l)) (text_of_groups-from n (p ∷ []) pieces ∙ ap
+    (λ l. l ++ put_all n (width_of (p ∷ [])) pieces) (append-nil (shown n 0 p)))
     ∙ ap (λ l. text_from n 0 current ++ (l ++ put_all n (width_of (p ∷ [])) pieces)) (sym put.0)
-    ∙ ap (λ k. text_from n 0 current ++ (put_text n (width_of current) p ++ put_all n k pieces)) (let e : width_of (p ∷ []) ≡ put_used n (width_of current) p = sum_by-cons (λ (r : TextUnit). r.width) p [] ∙ (let z : p.width + 0 ≡ p.width = omega arith in z) ∙ sym put.1 in e))
+    ∙ ap (λ k. text_from n 0 current ++ (put_text n (width_of current) p ++ put_all n k pieces))
+    (let e : width_of (p ∷ []) ≡ put_used n (width_of current) p = sum_by-cons
+    (λ (r : TextUnit). r.width) p [] ∙ (let z : p.width + 0 ≡ p.width = omega arith in z) ∙ sym put.1 in e))
     (cases_Bool (nat_le (width_of current + needed n p) n))
 
 -- ---- its groups
@@ -90,7 +142,8 @@ flat-from n current (p ∷ pieces) = ⊎_elim
 some-from : (n : ℕ) (current pieces : List TextUnit) → 0 < length current → All (λ g. 0 < length g) (groups_from n current pieces)
 some-from n current [] h = All-cons (λ g. 0 < length g) current [] h (All-nil (λ g. 0 < length g))
 some-from n current (p ∷ pieces) h = ⊎_elim
-    (λ yes. subst (λ b. All (λ g. 0 < length g) (cond b (groups_from n (current ++ p ∷ []) pieces) (current ∷ groups_from n (p ∷ []) pieces))) (sym yes)
+    (λ yes. subst (λ b. All (λ g. 0 < length g) (cond b (groups_from n (current ++ p ∷ []) pieces)
+    (current ∷ groups_from n (p ∷ []) pieces))) (sym yes)
     (some-from n (current ++ p ∷ []) pieces (omega (arith, length-append current (p ∷ [])))))
     (λ no. subst (λ b. All (λ g. 0 < length g) (cond b (groups_from n (current ++ p ∷ []) pieces) (current ∷ groups_from n (p ∷ []) pieces))) (sym no)
     (All-cons (λ g. 0 < length g) current (groups_from n (p ∷ []) pieces) h (some-from n (p ∷ []) pieces (omega arith))))
@@ -103,14 +156,16 @@ Fits-push : (n used : ℕ) (g : List TextUnit) (p : TextUnit) → Fits n used g 
 Fits-push n used [] p f h = (omega arith, tt)
 Fits-push n used (q ∷ g) p f h = (f.0, Fits-push n (used + q.width) g p f.1 (omega (arith, sum_by-cons (λ (r : TextUnit). r.width) q g)))
 
-IsFull-begins : (n : ℕ) (current : List TextUnit) (p : TextUnit) (groups : List (List TextUnit)) → Begins n (p ∷ []) groups → Fits n 0 current → n < width_of current + needed n p → AreFullest n groups → AreFullest n (current ∷ groups)
+IsFull-begins : (n : ℕ) (current : List TextUnit) (p : TextUnit) (groups : List (List TextUnit))
+    → Begins n (p ∷ []) groups → Fits n 0 current → n < width_of current + needed n p → AreFullest n groups → AreFullest n (current ∷ groups)
 IsFull-begins n current p groups b f h a = subst (λ G. AreFullest n G → AreFullest n (current ∷ G)) (sym b.is) (λ a. (f, h, a)) a
 
 fullest-from : (n : ℕ) (current pieces : List TextUnit) → 0 < n → Fits n 0 current → AreFullest n (groups_from n current pieces)
 fullest-from n current [] pos f = f
 fullest-from n current (p ∷ pieces) pos f = ⊎_elim
     (λ yes. subst (λ b. AreFullest n (cond b (groups_from n (current ++ p ∷ []) pieces) (current ∷ groups_from n (p ∷ []) pieces))) (sym yes)
-    (fullest-from n (current ++ p ∷ []) pieces pos (Fits-push n 0 current p f (let l = leb-true (width_of current + needed n p) n yes in omega arith))))
+    (fullest-from n (current ++ p ∷ []) pieces pos
+    (Fits-push n 0 current p f (let l = leb-true (width_of current + needed n p) n yes in omega arith))))
     (λ no. subst (λ b. AreFullest n (cond b (groups_from n (current ++ p ∷ []) pieces) (current ∷ groups_from n (p ∷ []) pieces))) (sym no)
     (IsFull-begins n current p (groups_from n (p ∷ []) pieces) (Begins-groups n (p ∷ []) pieces) f (leb-false (width_of current + needed n p) n no)
     (fullest-from n (p ∷ []) pieces pos (let l = needed-le-line n p pos in (omega arith, tt)))))
@@ -118,7 +173,8 @@ fullest-from n current (p ∷ pieces) pos f = ⊎_elim
 
 -- the first unit goes into the first group
 first-from : (n : ℕ) (p : TextUnit) (pieces : List TextUnit) → 0 < n → groups_from n [] (p ∷ pieces) ≡ groups_from n (p ∷ []) pieces
-first-from n p pieces pos = ap (λ b. cond b (groups_from n (p ∷ []) pieces) ([] ∷ groups_from n (p ∷ []) pieces)) (le-leb (0 + needed n p) n (let l = needed-le-line n p pos in omega arith))
+first-from n p pieces pos = ap (λ b. cond b (groups_from n (p ∷ []) pieces) ([] ∷ groups_from n (p ∷ []) pieces))
+    (le-leb (0 + needed n p) n (let l = needed-le-line n p pos in omega arith))
 
 groups_are : (n : ℕ) (pieces : List TextUnit) → 0 < n → IsGrouping pieces (groups_from n [] pieces)
 groups_are n [] pos = record { whole = refl; some = λ h. absurd (omega arith); none = λ _. refl }
@@ -142,7 +198,8 @@ written_fullest n pieces pos = record {
 }
 
 -- ---- the fullest breaking is the only one: its text is what the walk writes
-pub put_all-fits : (n used : ℕ) (g rest : List TextUnit) → Fits n used g → put_all n used (g ++ rest) ≡ text_from n used g ++ put_all n (used + width_of g) rest
+pub put_all-fits : (n used : ℕ) (g rest : List TextUnit) → Fits n used g → put_all n used (g ++ rest)
+    ≡ text_from n used g ++ put_all n (used + width_of g) rest
 put_all-fits n used [] rest f = ap (λ k. put_all n k rest) (let e : used ≡ used + 0 = omega arith in e)
 put_all-fits n used (p ∷ g) rest f =
     let put = put_text-fits n used p (le-leb (used + needed n p) n f.0) in
@@ -150,21 +207,26 @@ put_all-fits n used (p ∷ g) rest f =
     ∙ ap (λ k. shown n used p ++ put_all n k (g ++ rest)) put.1
     ∙ ap (λ l. shown n used p ++ l) (put_all-fits n (used + p.width) g rest f.1)
     ∙ sym (append_assoc (shown n used p) (text_from n (used + p.width) g) (put_all n (used + p.width + width_of g) rest))
-    ∙ ap (λ k. (shown n used p ++ text_from n (used + p.width) g) ++ put_all n k rest) (let e : used + p.width + width_of g ≡ used + width_of (p ∷ g) = omega (arith, sum_by-cons (λ (r : TextUnit). r.width) p g) in e)
+    ∙ ap (λ k. (shown n used p ++ text_from n (used + p.width) g) ++ put_all n k rest)
+    (let e : used + p.width + width_of g ≡ used + width_of (p ∷ g) = omega (arith, sum_by-cons (λ (r : TextUnit). r.width) p g) in e)
 
 -- a unit that does not fit begins a new line
-put_all-breaks : (n used : ℕ) (p : TextUnit) (pieces : List TextUnit) → 0 < n → n < used + needed n p → put_all n used (p ∷ pieces) ≡ 10 ∷ put_all n 0 (p ∷ pieces)
+put_all-breaks : (n used : ℕ) (p : TextUnit) (pieces : List TextUnit) → 0 < n → n < used + needed n p
+    → put_all n used (p ∷ pieces) ≡ 10 ∷ put_all n 0 (p ∷ pieces)
 put_all-breaks n used p pieces pos h =
     let breaks = put_text-breaks n used p (lt-leb (used + needed n p) n h) in
     let fits = put_text-fits n 0 p (le-leb (0 + needed n p) n (let l = needed-le-line n p pos in omega arith)) in
     let same : put_used n used p ≡ put_used n 0 p = breaks.1 ∙ sym (fits.1 ∙ (let e : 0 + p.width ≡ p.width = omega arith in e)) in
-    ap (λ l. l ++ put_all n (put_used n used p) pieces) (breaks.0 ∙ ap (λ l. 10 ∷ l) (sym fits.0)) ∙ ap (λ k. 10 ∷ (put_text n 0 p ++ put_all n k pieces)) same
+    ap (λ l. l ++ put_all n (put_used n used p) pieces) (breaks.0 ∙ ap (λ l. 10 ∷ l) (sym fits.0)) ∙ ap
+    (λ k. 10 ∷ (put_text n 0 p ++ put_all n k pieces)) same
 
-pub text_of_groups-fullest : (n : ℕ) → 0 < n → (F : List (List TextUnit)) → AreFullest n F → All (λ g. 0 < length g) F → text_of_groups n F ≡ put_all n 0 (flat_map (λ g. g) F)
+pub text_of_groups-fullest : (n : ℕ) → 0 < n → (F : List (List TextUnit)) → AreFullest n F → All (λ g. 0 < length g) F
+    → text_of_groups n F ≡ put_all n 0 (flat_map (λ g. g) F)
 text_of_groups-fullest n pos [] full some = refl
 text_of_groups-fullest n pos (g ∷ []) full some =
     sym (put_all-fits n 0 g [] full ∙ append-nil (text_from n 0 g))
-text_of_groups-fullest n pos (g ∷ [] ∷ F) full some = let h = All-head (λ g. 0 < length g) [] F (All-tail (λ g. 0 < length g) g ([] ∷ F) some) in absurd (omega arith)
+text_of_groups-fullest n pos (g ∷ [] ∷ F) full some = let h = All-head
+    (λ g. 0 < length g) [] F (All-tail (λ g. 0 < length g) g ([] ∷ F) some) in absurd (omega arith)
 text_of_groups-fullest n pos (g ∷ (p ∷ h) ∷ F) full some =
     let rest = h ++ flat_map (λ g. g) F in
     ap (λ l. text_from n 0 g ++ (10 ∷ l)) (text_of_groups-fullest n pos ((p ∷ h) ∷ F) full.2 (All-tail (λ g. 0 < length g) g ((p ∷ h) ∷ F) some))

@@ -1,5 +1,30 @@
 -- Whether each unit of a text is at most n wide, word by word and character by character.
-use Rattle.std.proofs.Common.{◌≡◌, ℕ, ◌<◌, ◌≤◌, ◌↔◌, Bool, true, false, cond, ◌&&◌, ◌||◌, ◌==◌, nat_le, List, [], ◌∷◌, chars, sym, ap, ◌∙◌, refl, map, All, arith}
+use Rattle.std.proofs.Common.{
+  ◌≡◌,
+  ℕ,
+  ◌<◌,
+  ◌≤◌,
+  ◌↔◌,
+  Bool,
+  true,
+  false,
+  cond,
+  ◌&&◌,
+  ◌||◌,
+  ◌==◌,
+  nat_le,
+  List,
+  [],
+  ◌∷◌,
+  chars,
+  sym,
+  ap,
+  ◌∙◌,
+  refl,
+  map,
+  All,
+  arith,
+}
 use Rattle.std.specs.List.{list_all}
 use Rattle.std.proofs.lemmas.Bool.{and_parts, and_from, leb-true, le-leb, or_right}
 use Rattle.std.proofs.lemmas.List.Elements.{All-head, All-tail, All-cons, All-nil}
@@ -56,33 +81,39 @@ narrow-All n (u ∷ us) =
     let more = narrow-All n us in (
       λ h. (let parts = and_parts (nat_le u.width n) (narrow n us) h in
           All-cons (λ (u : TextUnit). u.width ≤ n) u us (leb-true u.width n parts.0) (more.0 parts.1)),
-      λ h. and_from (nat_le u.width n) (narrow n us) (le-leb u.width n (All-head (λ (u : TextUnit). u.width ≤ n) u us h)) (more.1 (All-tail (λ (u : TextUnit). u.width ≤ n) u us h)),
+      λ h. and_from (nat_le u.width n) (narrow n us)
+          (le-leb u.width n (All-head (λ (u : TextUnit). u.width ≤ n) u us h)) (more.1 (All-tail (λ (u : TextUnit). u.width ≤ n) u us h)),
     )
 
-fits_lines-All : (n : ℕ) → 0 < n → (words : Bool) (ls : List (List ℕ)) → (list_all (fits_line n words) ls ≡ true) ↔ All (λ line. All (λ u. u.width ≤ n) (units n words line)) ls
+fits_lines-All : (n : ℕ) → 0 < n → (words : Bool) (ls : List (List ℕ))
+    → (list_all (fits_line n words) ls ≡ true) ↔ All (λ line. All (λ u. u.width ≤ n) (units n words line)) ls
 fits_lines-All n pos words [] = (λ h. All-nil (λ line. All (λ (u : TextUnit). u.width ≤ n) (units n words line)), λ h. refl)
 fits_lines-All n pos words (l ∷ ls) =
     let P : List ℕ → Type 0 = λ line. All (λ (u : TextUnit). u.width ≤ n) (units n words line) in
     let more = fits_lines-All n pos words ls in
     let own = narrow-All n (units n words l) in
     let same = narrow-line n pos words l in (
-      λ h. (let parts = and_parts (fits_line n words l) (list_all (fits_line n words) ls) h in All-cons P l ls (own.0 (same ∙ parts.0)) (more.0 parts.1)),
+      λ h. (let parts = and_parts (fits_line n words l) (list_all (fits_line n words) ls) h in
+          All-cons P l ls (own.0 (same ∙ parts.0)) (more.0 parts.1)),
       λ h. and_from (fits_line n words l) (list_all (fits_line n words) ls) (sym same ∙ own.1 (All-head P l ls h)) (more.1 (All-tail P l ls h)),
     )
 
 -- the test of the code is what it says
-pub fits_lines-iff : (n : ℕ) → 0 < n → (words : Bool) (text : List ℕ) → (list_all (fits_line n words) (lines_of (chars text)) ≡ true) ↔ EachUnitFits n words text
+pub fits_lines-iff : (n : ℕ) → 0 < n → (words : Bool) (text : List ℕ)
+    → (list_all (fits_line n words) (lines_of (chars text)) ≡ true) ↔ EachUnitFits n words text
 fits_lines-iff n pos words text = fits_lines-All n pos words (lines_of (chars text))
 
 -- ---- where no character counts more than n
 
 room-words : (n : ℕ) (ws : List (List ℕ)) → Each (λ c. nat_le (char_count c) n) ws → list_all (fits_word n) ws ≡ true
 room-words n [] h = refl
-room-words n (w ∷ ws) h = and_from (fits_word n w) (list_all (fits_word n) ws) (or_right (nat_le (columns_of w) n) (finds_room n w) h.0) (room-words n ws h.1)
+room-words n (w ∷ ws) h = and_from (fits_word n w) (list_all (fits_word n) ws)
+    (or_right (nat_le (columns_of w) n) (finds_room n w) h.0) (room-words n ws h.1)
 
 room-line : (n : ℕ) (words : Bool) (line : List ℕ) → finds_room n line ≡ true → fits_line n words line ≡ true
 room-line n false line h = h
-room-line n true line h = room-words n (words_of line) (Each-split (λ c. c == 32) (λ c. nat_le (char_count c) n) (λ c. nat_le (char_count c) n) (λ c a b. a) line h)
+room-line n true line h = room-words n (words_of line)
+    (Each-split (λ c. c == 32) (λ c. nat_le (char_count c) n) (λ c. nat_le (char_count c) n) (λ c a b. a) line h)
 
 room-lines : (n : ℕ) (words : Bool) (ls : List (List ℕ)) → Each (λ c. nat_le (char_count c) n) ls → list_all (fits_line n words) ls ≡ true
 room-lines n words [] h = refl
@@ -104,4 +135,5 @@ finds_wide n h (c ∷ cs) = and_from (nat_le (char_count c) n) (finds_room n cs)
 
 pub fits-wide : (n : ℕ) → 3 ≤ n → (words : Bool) (cs : List ℕ) → list_all (fits_line n words) (lines_of cs) ≡ true
 fits-wide n h words cs =
-    room-lines n words (lines_of cs) (Each-split (λ c. c == 10) (λ c. nat_le (char_count c) n) (λ c. nat_le (char_count c) n) (λ c a b. a) cs (finds_wide n h cs))
+    room-lines n words (lines_of cs) (Each-split (λ c. c == 10) (λ c. nat_le (char_count c) n)
+    (λ c. nat_le (char_count c) n) (λ c a b. a) cs (finds_wide n h cs))

@@ -1,5 +1,28 @@
 -- The lines and the columns of joined texts.
-use Rattle.std.proofs.Common.{◌≡◌, ℕ, ◌+◌, ◌<◌, Bool, true, false, cond, ◌==◌, List, [], ◌∷◌, ◌++◌, length, map, max, refl, ap, ◌∙◌, arith, All, sum_by}
+use Rattle.std.proofs.Common.{
+  ◌≡◌,
+  ℕ,
+  ◌+◌,
+  ◌<◌,
+  Bool,
+  true,
+  false,
+  cond,
+  ◌==◌,
+  List,
+  [],
+  ◌∷◌,
+  ◌++◌,
+  length,
+  map,
+  max,
+  refl,
+  ap,
+  ◌∙◌,
+  arith,
+  All,
+  sum_by,
+}
 use Rattle.std.specs.List.{onto_first, join_with_byte}
 use Rattle.std.proofs.lemmas.List.{length-append}
 use Rattle.std.proofs.lemmas.List.Elements.{All-head, All-tail}
@@ -20,7 +43,8 @@ lines_of-feed (c ∷ front) back =
     ap (λ ls. cond (c == 10) ([] ∷ ls) (onto_first c ls)) (lines_of-feed front back)
     ∙ by_test (c == 10)
   where
-    by_test : (b : Bool) → cond b ([] ∷ (lines_of front ++ lines_of back)) (onto_first c (lines_of front ++ lines_of back)) ≡ cond b ([] ∷ lines_of front) (onto_first c (lines_of front)) ++ lines_of back
+    by_test : (b : Bool) → cond b ([] ∷ (lines_of front ++ lines_of back))
+        (onto_first c (lines_of front ++ lines_of back)) ≡ cond b ([] ∷ lines_of front) (onto_first c (lines_of front)) ++ lines_of back
     by_test true = refl
     by_test false = onto_first-append c (lines_of front) (lines_of back) (some_line front)
 
@@ -34,7 +58,8 @@ greatest-append f (l ∷ ls) ms = let e = greatest-append f ls ms in omega arith
 
 -- and the wider one gives the columns
 pub text_columns-feed : (front back : List ℕ) → text_columns (front ++ 10 ∷ back) ≡ max (text_columns front) (text_columns back)
-text_columns-feed front back = ap (λ ls. greatest (map line_columns ls)) (lines_of-feed front back) ∙ greatest-append line_columns (lines_of front) (lines_of back)
+text_columns-feed front back = ap (λ ls. greatest (map line_columns ls)) (lines_of-feed front back) ∙ greatest-append
+    line_columns (lines_of front) (lines_of back)
 
 -- ---- lists of texts
 

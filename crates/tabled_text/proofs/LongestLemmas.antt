@@ -1,5 +1,34 @@
 -- A cut plain line is its longest beginning that finds room.
-use Rattle.std.proofs.Common.{◌++◌, length-append, encode_utf8_all, replicate, append-nil, IsUtf8, ◌≡◌, ℕ, ◌<◌, ◌≤◌, true, List, [], ◌∷◌, length, take, refl, sym, ap, ◌∙◌, subst, arith, All, zero, suc, min, length-take, chars}
+use Rattle.std.proofs.Common.{
+  ◌++◌,
+  length-append,
+  encode_utf8_all,
+  replicate,
+  append-nil,
+  IsUtf8,
+  ◌≡◌,
+  ℕ,
+  ◌<◌,
+  ◌≤◌,
+  true,
+  List,
+  [],
+  ◌∷◌,
+  length,
+  take,
+  refl,
+  sym,
+  ap,
+  ◌∙◌,
+  subst,
+  arith,
+  All,
+  zero,
+  suc,
+  min,
+  length-take,
+  chars,
+}
 use Rattle.std.specs.List.{list_all}
 use Rattle.std.proofs.lemmas.List.{take-take, take-append-le}
 use Rattle.std.proofs.lemmas.List.Elements.{All-head, All-cons, All-nil}
@@ -16,7 +45,8 @@ use Rattle.tabled_text.proofs.PlainLines.{one_line}
 plain-take : (k : ℕ) (cs : List ℕ) → list_all is_plain_character cs ≡ true → list_all is_plain_character (take k cs) ≡ true
 plain-take zero cs h = refl
 plain-take (suc k) [] h = refl
-plain-take (suc k) (c ∷ cs) h = let parts = and_parts (is_plain_character c) (list_all is_plain_character cs) h in and_from (is_plain_character c) (list_all is_plain_character (take k cs)) parts.0 (plain-take k cs parts.1)
+plain-take (suc k) (c ∷ cs) h = let parts = and_parts (is_plain_character c) (list_all is_plain_character cs) h in
+    and_from (is_plain_character c) (list_all is_plain_character (take k cs)) parts.0 (plain-take k cs parts.1)
 
 take-length : (xs : List ℕ) → take (length xs) xs ≡ xs
 take-length [] = refl
@@ -34,11 +64,15 @@ more-take (suc j) (suc k) (c ∷ cs) l r =
 width-count : (cs : List ℕ) → list_all is_plain_character cs ≡ true → columns_of cs ≡ count_of cs
 width-count cs h = columns_of-plain cs h ∙ sym (count_of-plain cs h)
 
-pub longest_fitting : (n : ℕ) (line front rest : List ℕ) → list_all is_plain_character line ≡ true → IsLongestReached n line front rest → IsLongestFitting n line front
+pub longest_fitting : (n : ℕ) (line front rest : List ℕ) → list_all is_plain_character line ≡ true
+    → IsLongestReached n line front rest → IsLongestFitting n line front
 longest_fitting n line front rest plain s =
-    let begins : front ≡ take (length front) line = sym (ap (take (length front)) s.parts ∙ take-append-le (length front) front rest (omega arith) ∙ take-length front) in
-    let plain' : list_all is_plain_character front ≡ true = subst (λ f. list_all is_plain_character f ≡ true) (sym begins) (plain-take (length front) line plain) in
-    let fits : count_of front ≤ n = All-head (λ l. count_of l ≤ n) front [] (subst (All (λ l. count_of l ≤ n)) (one_line front plain') s.reached.fits) in
+    let begins : front ≡ take (length front) line = sym
+    (ap (take (length front)) s.parts ∙ take-append-le (length front) front rest (omega arith) ∙ take-length front) in
+    let plain' : list_all is_plain_character front ≡ true = subst
+    (λ f. list_all is_plain_character f ≡ true) (sym begins) (plain-take (length front) line plain) in
+    let fits : count_of front ≤ n = All-head (λ l. count_of l ≤ n) front []
+    (subst (All (λ l. count_of l ≤ n)) (one_line front plain') s.reached.fits) in
     record {
       beginning = begins;
       fits = let e = width-count front plain' in omega arith;
@@ -47,10 +81,12 @@ longest_fitting n line front rest plain s =
           let e = width-count (take k line) own in
           let len : length (take k line) ≡ min k (length line) = length-take k line in
           s.longest k in_line (record {
-            fits = subst (All (λ l. count_of l ≤ n)) (sym (one_line (take k line) own)) (All-cons (λ l. count_of l ≤ n) (take k line) [] (omega arith) (All-nil (λ l. count_of l ≤ n)));
+            fits = subst (All (λ l. count_of l ≤ n)) (sym (one_line (take k line) own))
+                (All-cons (λ l. count_of l ≤ n) (take k line) [] (omega arith) (All-nil (λ l. count_of l ≤ n)));
             shorter = λ j less.
                 let inner : take j (take k line) ≡ take j line = take-take j k line (omega arith) in
-                let last : last_line (take j (take k line)) ≡ take j line = ap last_line inner ∙ ap last_of (one_line (take j line) (plain-take j line plain)) in
+                let last : last_line (take j (take k line))
+                ≡ take j line = ap last_line inner ∙ ap last_of (one_line (take j line) (plain-take j line plain)) in
                 let m = more-take j k line (omega arith) in_line in
                 subst (λ l. count_of l < n) (sym last) (omega arith);
           });
@@ -71,11 +107,14 @@ no_rest front [] h = refl
 no_rest front (c ∷ rest) h = absurd (omega (arith, length-append front (c ∷ rest)))
 
 -- a plain line that finds room is not cut
-pub cut_kept : (n : ℕ) (line answer : List ℕ) → IsUtf8 line → list_all is_plain_character (chars line) ≡ true → columns_of (chars line) ≤ n → IsCut n line answer → answer ≡ line
+pub cut_kept : (n : ℕ) (line answer : List ℕ) → IsUtf8 line → list_all is_plain_character (chars line) ≡ true
+    → columns_of (chars line) ≤ n → IsCut n line answer → answer ≡ line
 cut_kept n line answer u plain room cut =
     let cs : List ℕ = chars line in
-    let all : length cs ≤ length cut.front = (longest_fitting n cs cut.front cut.rest plain cut.longest).longest (length cs) (omega arith) (subst (λ t. columns_of t ≤ n) (sym (take-length cs)) room) in
+    let all : length cs ≤ length cut.front = (longest_fitting n cs cut.front cut.rest plain cut.longest).longest
+    (length cs) (omega arith) (subst (λ t. columns_of t ≤ n) (sym (take-length cs)) room) in
     let none : cut.rest ≡ [] = no_rest cut.front cut.rest (subst (λ t. length t ≤ length cut.front) cut.longest.parts all) in
     let whole : cut.front ≡ cs = sym (cut.longest.parts ∙ ap (λ r. cut.front ++ r) none ∙ append-nil cut.front) in
-    let same : chars answer ≡ cs = cut.characters ∙ ap (λ r. cut.front ++ replicate (missing_columns n cut.front r) 0xFFFD) none ∙ append-nil cut.front ∙ whole in
+    let same : chars answer ≡ cs = cut.characters ∙ ap
+    (λ r. cut.front ++ replicate (missing_columns n cut.front r) 0xFFFD) none ∙ append-nil cut.front ∙ whole in
     sym (encodes-chars answer cut.utf8) ∙ ap encode_utf8_all same ∙ encodes-chars line u

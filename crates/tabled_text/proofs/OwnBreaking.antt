@@ -1,5 +1,32 @@
 -- Where each unit finds room, a wrapped text is the text of a breaking, and so the old one with line feeds put in.
-use Rattle.std.proofs.Common.{◌≡◌, ℕ, ◌+◌, ◌-◌, ◌<◌, ◌≤◌, Bool, true, false, cond, ◌==◌, nat_le, List, [], ◌∷◌, ◌++◌, refl, sym, ap, ◌∙◌, subst, arith, replicate, map, chars, All}
+use Rattle.std.proofs.Common.{
+  ◌≡◌,
+  ℕ,
+  ◌+◌,
+  ◌-◌,
+  ◌<◌,
+  ◌≤◌,
+  Bool,
+  true,
+  false,
+  cond,
+  ◌==◌,
+  nat_le,
+  List,
+  [],
+  ◌∷◌,
+  ◌++◌,
+  refl,
+  sym,
+  ap,
+  ◌∙◌,
+  subst,
+  arith,
+  replicate,
+  map,
+  chars,
+  All,
+}
 use Rattle.std.specs.Prelude.{MatchBool, ⊤}
 use Rattle.std.specs.List.{flat_map, join_with_byte, AllZip}
 use Rattle.std.proofs.lemmas.List.{append-nil}
@@ -60,7 +87,8 @@ text_of-units n true line = text_of-words n (words_of line) ∙ join_with_byte-s
 pub text_from-narrow : (n used : ℕ) (g : List TextUnit) → Narrow n g → text_from n used g ≡ text_of g
 text_from-narrow n used [] h = refl
 text_from-narrow n used (p ∷ g) h =
-    ap (λ b. cond b p.text (replicate (n - used) 0xFFFD) ++ text_from n (used + p.width) g) (le-leb p.width n h.0) ∙ ap (λ l. p.text ++ l) (text_from-narrow n (used + p.width) g h.1)
+    ap (λ b. cond b p.text (replicate (n - used) 0xFFFD) ++ text_from n (used + p.width) g) (le-leb p.width n h.0) ∙
+    ap (λ l. p.text ++ l) (text_from-narrow n (used + p.width) g h.1)
 
 texts-narrow : (n : ℕ) (groups : List (List TextUnit)) → Narrow n (flat_map (λ g. g) groups) → map (text_from n 0) groups ≡ map text_of groups
 texts-narrow n [] h = refl
@@ -87,18 +115,22 @@ each_line n words (l ∷ ls) (g ∷ gs) f =
     let whole = f.0.grouping.whole in
     (text_of-flat g ∙ ap text_of whole ∙ text_of-units n words l, each_line n words ls gs f.1)
 
-narrow_line : (n : ℕ) (words : Bool) (l : List ℕ) (ls : List (List ℕ)) (groups : List (List TextUnit)) → FitLines n words (l ∷ ls) → IsFullest n (units n words l) groups → Narrow n (flat_map (λ g. g) groups)
+narrow_line : (n : ℕ) (words : Bool) (l : List ℕ) (ls : List (List ℕ)) (groups : List (List TextUnit))
+    → FitLines n words (l ∷ ls) → IsFullest n (units n words l) groups → Narrow n (flat_map (λ g. g) groups)
 narrow_line n words l ls groups h f =
-    subst (Narrow n) (sym f.grouping.whole) (Narrow-from n (units n words l) (All-head (λ line. All (λ (u : TextUnit). u.width ≤ n) (units n words line)) l ls h))
+    subst (Narrow n) (sym f.grouping.whole) (Narrow-from n (units n words l)
+    (All-head (λ line. All (λ (u : TextUnit). u.width ≤ n) (units n words line)) l ls h))
 
-all_lines : (n : ℕ) (words : Bool) → (lines : List (List ℕ)) (broken : List (List (List TextUnit))) → FitLines n words lines → AreFull n words lines broken
+all_lines : (n : ℕ) (words : Bool) → (lines : List (List ℕ)) (broken : List (List (List TextUnit)))
+    → FitLines n words lines → AreFull n words lines broken
     → map (text_of_groups n) broken ≡ map (λ groups. join_with_byte 10 (map text_of groups)) broken
 all_lines n words [] [] e f = refl
 all_lines n words [] (g ∷ gs) e f = absurd f
 all_lines n words (l ∷ ls) [] e f = absurd f
 all_lines n words (l ∷ ls) (g ∷ gs) e f =
     ap (λ t. join_with_byte 10 t ∷ map (text_of_groups n) gs) (texts-narrow n g (narrow_line n words l ls g e f.0))
-    ∙ ap (λ t. join_with_byte 10 (map text_of g) ∷ t) (all_lines n words ls gs (All-tail (λ line. All (λ (u : TextUnit). u.width ≤ n) (units n words line)) l ls e) f.1)
+    ∙ ap (λ t. join_with_byte 10 (map text_of g) ∷ t)
+    (all_lines n words ls gs (All-tail (λ line. All (λ (u : TextUnit). u.width ≤ n) (units n words line)) l ls e) f.1)
 
 -- ---- the fullest breaking is one
 
@@ -119,13 +151,17 @@ groups-fit n (g ∷ k ∷ gs) h f =
     let own = fits-narrow n 0 g (omega arith) parts.0 f.0 in
     All-cons (λ (g : List TextUnit). width_of g ≤ n) g (k ∷ gs) (omega arith) (groups-fit n (k ∷ gs) parts.1 f.2)
 
-are_breakings : (n : ℕ) (words : Bool) (lines : List (List ℕ)) (broken : List (List (List TextUnit))) → FitLines n words lines → AreFull n words lines broken
+are_breakings : (n : ℕ) (words : Bool) (lines : List (List ℕ)) (broken : List (List (List TextUnit)))
+    → FitLines n words lines → AreFull n words lines broken
     → AllZip (λ line groups. IsBreaking n (units n words line) groups) lines broken
 are_breakings n words [] [] e f = tt
 are_breakings n words [] (g ∷ gs) e f = absurd f
 are_breakings n words (l ∷ ls) [] e f = absurd f
 are_breakings n words (l ∷ ls) (g ∷ gs) e f =
-    let own : IsBreaking n (units n words l) g = record { grouping = f.0.grouping; fits = groups-fit n g (narrow_line n words l ls g e f.0) f.0.fullest } in
+    let own : IsBreaking n (units n words l) g = record {
+      grouping = f.0.grouping;
+      fits = groups-fit n g (narrow_line n words l ls g e f.0) f.0.fullest;
+    } in
     (own, are_breakings n words ls gs (All-tail (λ line. All (λ (u : TextUnit). u.width ≤ n) (units n words line)) l ls e) f.1)
 
 full_text : (n : ℕ) (words : Bool) (text answer : List ℕ) → 0 < n → IsWrapped n words text answer → IsFullestText n words (chars text) (chars answer)
@@ -134,7 +170,8 @@ full_text n words text answer pos w =
     subst (λ b. MatchBool b (answer ≡ []) (IsFullestText n words (chars text) (chars answer))) nonzero w.wrapped
 
 -- the wrapped text is the text of a breaking that has the fewest groups
-pub least_breaking : (n : ℕ) (words : Bool) (text answer : List ℕ) → 0 < n → EachUnitFits n words text → IsWrapped n words text answer → IsLeastBreaking n words text answer
+pub least_breaking : (n : ℕ) (words : Bool) (text answer : List ℕ) → 0 < n → EachUnitFits n words text
+    → IsWrapped n words text answer → IsLeastBreaking n words text answer
 least_breaking n words text answer pos fits w =
     let cs = chars text in
     let full = full_text n words text answer pos w in
@@ -146,12 +183,14 @@ least_breaking n words text answer pos fits w =
       least = λ other b. fewest_lines n pos words (lines_of cs) full.broken other full.fullest b.each;
     }
 
-map-joins : (broken : List (List (List TextUnit))) → map (λ groups. join_with_byte 10 (map text_of groups)) broken ≡ map (join_with_byte 10) (map (map text_of) broken)
+map-joins : (broken : List (List (List TextUnit))) → map (λ groups. join_with_byte 10 (map text_of groups)) broken
+    ≡ map (join_with_byte 10) (map (map text_of) broken)
 map-joins [] = refl
 map-joins (g ∷ gs) = ap (λ l. join_with_byte 10 (map text_of g) ∷ l) (map-joins gs)
 
 -- without the line feeds that were put in, the text is the old one
-pub old_text : (n : ℕ) (words : Bool) (text answer : List ℕ) → 0 < n → EachUnitFits n words text → IsWrapped n words text answer → HasOldText text answer
+pub old_text : (n : ℕ) (words : Bool) (text answer : List ℕ) → 0 < n → EachUnitFits n words text
+    → IsWrapped n words text answer → HasOldText text answer
 old_text n words text answer pos fits w =
     let cs = chars text in
     let full = full_text n words text answer pos w in
@@ -176,13 +215,15 @@ Narrow-append n (u ∷ us) vs f g = (f.0, Narrow-append n us vs f.1 g)
 narrow-groups : (n : ℕ) (groups : List (List TextUnit)) → All (λ g. width_of g ≤ n) groups → Narrow n (flat_map (λ g. g) groups)
 narrow-groups n [] h = tt
 narrow-groups n (g ∷ gs) h =
-    Narrow-append n g (flat_map (λ x. x) gs) (unit-le n g (All-head (λ (g : List TextUnit). width_of g ≤ n) g gs h)) (narrow-groups n gs (All-tail (λ (g : List TextUnit). width_of g ≤ n) g gs h))
+    Narrow-append n g (flat_map (λ x. x) gs) (unit-le n g (All-head (λ (g : List TextUnit). width_of g ≤ n) g gs h))
+    (narrow-groups n gs (All-tail (λ (g : List TextUnit). width_of g ≤ n) g gs h))
 
 All-narrow : (n : ℕ) (us : List TextUnit) → Narrow n us → All (λ u. u.width ≤ n) us
 All-narrow n [] h = All-nil (λ (u : TextUnit). u.width ≤ n)
 All-narrow n (u ∷ us) h = All-cons (λ (u : TextUnit). u.width ≤ n) u us h.0 (All-narrow n us h.1)
 
-fit-lines : (n : ℕ) (words : Bool) (lines : List (List ℕ)) (broken : List (List (List TextUnit))) → AllZip (λ line groups. IsBreaking n (units n words line) groups) lines broken → FitLines n words lines
+fit-lines : (n : ℕ) (words : Bool) (lines : List (List ℕ)) (broken : List (List (List TextUnit))) → AllZip
+    (λ line groups. IsBreaking n (units n words line) groups) lines broken → FitLines n words lines
 fit-lines n words [] [] b = All-nil (λ line. All (λ (u : TextUnit). u.width ≤ n) (units n words line))
 fit-lines n words [] (g ∷ gs) b = absurd b
 fit-lines n words (l ∷ ls) [] b = absurd b
@@ -190,11 +231,13 @@ fit-lines n words (l ∷ ls) (g ∷ gs) b =
     All-cons (λ line. All (λ (u : TextUnit). u.width ≤ n) (units n words line)) l ls
     (All-narrow n (units n words l) (subst (Narrow n) b.0.grouping.whole (narrow-groups n g b.0.fits))) (fit-lines n words ls gs b.1)
 
-pub fits-broken : (n : ℕ) (words : Bool) (text : List ℕ) (broken : List (List (List TextUnit))) → IsBroken n words text broken → EachUnitFits n words text
+pub fits-broken : (n : ℕ) (words : Bool) (text : List ℕ) (broken : List (List (List TextUnit)))
+    → IsBroken n words text broken → EachUnitFits n words text
 fits-broken n words text broken b = fit-lines n words (lines_of (chars text)) broken b.each
 
 -- and where each unit finds room, there is one
-pub some_breaking : (n : ℕ) (words : Bool) (text : List ℕ) → 0 < n → EachUnitFits n words text → (broken : List (List (List TextUnit))) × IsBroken n words text broken
+pub some_breaking : (n : ℕ) (words : Bool) (text : List ℕ) → 0 < n → EachUnitFits n words text
+    → (broken : List (List (List TextUnit))) × IsBroken n words text broken
 some_breaking n words text pos fits =
     let lines = lines_of (chars text) in
     let broken : List (List (List TextUnit)) = map (λ line. (written_fullest n (units n words line) pos).groups) lines in

@@ -1,5 +1,34 @@
 -- The listed characters end no special sequence, by the tables of `unicode_width`, so that their columns add up.
-use Rattle.std.proofs.Common.{◌≡◌, ℕ, ◌≤◌, ◌<◌, Bool, true, false, cond, nat_le, ◌&&◌, ◌||◌, nat_lt, List, [], ◌∷◌, Option, None, refl, sym, ap, ◌∙◌, arith, subst, ⊎_elim, lit<, sum_by, max, ◌==◌}
+use Rattle.std.proofs.Common.{
+  ◌≡◌,
+  ℕ,
+  ◌≤◌,
+  ◌<◌,
+  Bool,
+  true,
+  false,
+  cond,
+  nat_le,
+  ◌&&◌,
+  ◌||◌,
+  nat_lt,
+  List,
+  [],
+  ◌∷◌,
+  Option,
+  None,
+  refl,
+  sym,
+  ap,
+  ◌∙◌,
+  arith,
+  subst,
+  ⊎_elim,
+  lit<,
+  sum_by,
+  max,
+  ◌==◌,
+}
 use Rattle.std.specs.List.{list_all}
 use Rattle.std.proofs.lemmas.Bool.{and_parts, or_cases, or_left, or_right, and_from, leb-true, lt-ltb, eqb-true}
 use Rattle.std.proofs.lemmas.Bool.Decides.{nat_tests}
@@ -14,7 +43,18 @@ use Rattle.ucd_props.specs.Binary.{is_regional_indicator}
 use Rattle.ucd_props.specs.Ranges.{regional_indicator_ranges}
 use Rattle.ucd_bidi.specs.JoiningGroup.{joining_group}
 use Rattle.ucd_bidi.specs.JoiningGroupRows.{joining_group_rows}
-use Rattle.unicode_width.specs.Kind.{kind, named_rows, named_kind, unnamed_kind, letter_kind, width_kind, by_width, is_zero_width, is_wide, is_ambiguous}
+use Rattle.unicode_width.specs.Kind.{
+  kind,
+  named_rows,
+  named_kind,
+  unnamed_kind,
+  letter_kind,
+  width_kind,
+  by_width,
+  is_zero_width,
+  is_wide,
+  is_ambiguous,
+}
 use Rattle.unicode_width.specs.Width.{str_width}
 use Rattle.unicode_width.proofs.Rules.{is_simple, is_simple_kind, str_width-simple}
 use Rattle.tabled_text.specs.Plain.{is_listed, has_plain_width, is_plain_character}
@@ -40,7 +80,8 @@ abbrev misses_rows : {V : Type 0} → ℕ → ℕ → List (Row V) → Bool
 misses_rows low high [] = true
 misses_rows low high (r ∷ rs) = (nat_lt high r.0 || nat_lt r.1 low) && misses_rows low high rs
 
-value_in-missed : {V : Type 0} (d : V) (low high : ℕ) (rs : List (Row V)) → misses_rows low high rs ≡ true → (c : ℕ) → low ≤ c → c ≤ high → value_in d rs c ≡ d
+value_in-missed : {V : Type 0} (d : V) (low high : ℕ) (rs : List (Row V)) → misses_rows low high rs ≡ true → (c : ℕ)
+    → low ≤ c → c ≤ high → value_in d rs c ≡ d
 unfolding value_in
 value_in-missed d low high [] h c l u = refl
 value_in-missed d low high (r ∷ rs) h c l u =
@@ -96,7 +137,8 @@ is_simple-high low high m h c e =
     let parts = and_parts (nat_le low c) (nat_le c high) e in
     let l : low ≤ c = leb-true low c parts.0 in
     let k = is_simple_kind-missed low high m c l (leb-true c high parts.1) in
-    or_right (is_in_range 0x20 0x7E c) (nat_lt 0xA0 c && is_simple_kind (kind c)) (and_from (nat_lt 0xA0 c) (is_simple_kind (kind c)) (lt-ltb 0xA0 c (omega arith)) k)
+    or_right (is_in_range 0x20 0x7E c) (nat_lt 0xA0 c && is_simple_kind (kind c))
+    (and_from (nat_lt 0xA0 c) (is_simple_kind (kind c)) (lt-ltb 0xA0 c (omega arith)) k)
 
 pub is_simple-listed : (c : ℕ) → is_listed c ≡ true → is_simple c ≡ true
 is_simple-listed c h =
@@ -105,7 +147,8 @@ is_simple-listed c h =
     (λ h₂. ⊎_elim (is_simple-high 0x410 0x44F missed-cyrillic (lit< tt) c)
     (λ h₃. ⊎_elim (is_simple-high 0x2500 0x257F missed-boxes (lit< tt) c)
     (λ h₄. ⊎_elim (is_simple-high 0x4E00 0x9FFF missed-ideographs (lit< tt) c)
-    (λ a. is_simple-high 0xFFFD 0xFFFD missed-replacement (lit< tt) c (subst (λ x. is_in_range 0xFFFD 0xFFFD x ≡ true) (sym (eqb-true c 0xFFFD a)) refl))
+    (λ a. is_simple-high 0xFFFD 0xFFFD missed-replacement (lit< tt) c
+    (subst (λ x. is_in_range 0xFFFD 0xFFFD x ≡ true) (sym (eqb-true c 0xFFFD a)) refl))
     (or_cases _ _ h₄)) (or_cases _ _ h₃)) (or_cases _ _ h₂)) (or_cases _ _ h₁)) (or_cases _ _ h)
 
 -- that a listed character ends no sequence needs no test

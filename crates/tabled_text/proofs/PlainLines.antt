@@ -1,5 +1,29 @@
 -- Plain lines: what they are made of, and the lines of a plain text.
-use Rattle.std.proofs.Common.{◌≡◌, ℕ, ◌+◌, ◌<◌, true, false, ◌==◌, ◌&&◌, List, [], ◌∷◌, ◌++◌, chars, length, map, encode_utf8, refl, sym, ap, ◌∙◌, subst, arith, All}
+use Rattle.std.proofs.Common.{
+  ◌≡◌,
+  ℕ,
+  ◌+◌,
+  ◌<◌,
+  true,
+  false,
+  ◌==◌,
+  ◌&&◌,
+  List,
+  [],
+  ◌∷◌,
+  ◌++◌,
+  chars,
+  length,
+  map,
+  encode_utf8,
+  refl,
+  sym,
+  ap,
+  ◌∙◌,
+  subst,
+  arith,
+  All,
+}
 use Rattle.std.specs.Char.{IsScalar}
 use Rattle.std.specs.Int.{is_in_range}
 use Rattle.std.specs.List.{list_all, slice_index_or, onto_first}
@@ -33,7 +57,8 @@ plain_column-printable c h =
     let one = printable-column c h in
     record {
       character = and_from (is_listed c) (has_plain_width c && is_simple c) (or_left (is_in_range 0x20 0x7E c) _ h)
-          (and_from (has_plain_width c) (is_simple c) (or_left (char_columns c == 1) (char_columns c == 2) (eq-eqb (char_columns c) 1 one)) (or_left (is_in_range 0x20 0x7E c) _ h));
+          (and_from (has_plain_width c) (is_simple c)
+          (or_left (char_columns c == 1) (char_columns c == 2) (eq-eqb (char_columns c) 1 one)) (or_left (is_in_range 0x20 0x7E c) _ h));
       columns = one;
     }
 
@@ -51,7 +76,8 @@ plain_line-append {front} {back} {m} {n} p q = record {
   utf8 = IsUtf8-append front back p.utf8 q.utf8;
   characters = ap (list_all is_plain_character) (chars-append front back p.utf8) ∙ list_all-append is_plain_character (chars front) (chars back)
       ∙ ap (λ b. b && list_all is_plain_character (chars back)) p.characters ∙ q.characters;
-  columns = ap (str_width false) (chars-append front back p.utf8) ∙ str_width-append_simple false (chars front) (chars back) (is_simple-plain (chars back) q.characters)
+  columns = ap (str_width false) (chars-append front back p.utf8) ∙ str_width-append_simple false (chars front)
+      (chars back) (is_simple-plain (chars back) q.characters)
       ∙ ap (λ k. k + line_columns back) p.columns ∙ ap (λ k. m + k) q.columns;
 }
 
@@ -62,7 +88,8 @@ plain_line-as {line} p e = subst (λ k. IsPlainLine line k) e p
 pub plain_line-one : (c : ℕ) → IsPlainColumn c → IsPlainLine (encode_utf8 c) 1
 plain_line-one c h =
     let scalar_one : scalar c ≡ true = scalar-listed c (and_parts (is_listed c) (has_plain_width c && is_simple c) h.character).0 in
-    let one : chars (encode_utf8 c) ≡ c ∷ [] = ap chars (sym (append-nil (encode_utf8 c))) ∙ chars-encodes (c ∷ []) (ap (λ b. b && true) scalar_one) in
+    let one : chars (encode_utf8 c) ≡ c ∷ [] = ap chars (sym (append-nil (encode_utf8 c))) ∙ chars-encodes (c ∷ [])
+    (ap (λ b. b && true) scalar_one) in
     let all : list_all is_plain_character (c ∷ []) ≡ true = ap (λ b. b && true) h.character in
     record {
       utf8 = IsUtf8-encode c scalar_one;
@@ -85,7 +112,8 @@ pub plain_line-each : (text : List ℕ) → IsPlain text → (k : ℕ) → k < l
     → IsPlainLine (slice_index_or (lines_of text) k []) (line_columns (slice_index_or (lines_of text) k []))
 plain_line-each text h k l =
     let lines = lines_of text in
-    let all = subst (All (λ x. list_all is_plain_character x ≡ true)) (lines_of-chars text h.utf8) (each_in_lines is_plain_character (chars text) h.characters) in
+    let all = subst (All (λ x. list_all is_plain_character x ≡ true)) (lines_of-chars text h.utf8)
+    (each_in_lines is_plain_character (chars text) h.characters) in
     let long : length (map chars lines) ≡ length lines = length-map lines chars in
     let own = all k [] (omega arith) in
     record {

@@ -1,5 +1,40 @@
 -- Plain texts that stay in some columns: what they are, and what is made of them.
-use Rattle.std.proofs.Common.{le-leb, ◌≡◌, ℕ, ◌+◌, ◌<◌, ◌≤◌, Bool, true, cond, ◌==◌, ◌&&◌, nat_le, List, [], ◌∷◌, ◌++◌, chars, length, map, refl, sym, ap, ◌∙◌, subst, arith, All, ⊎_elim, sum_by, append-nil, lit<, encode_utf8_all, replicate, zero, suc}
+use Rattle.std.proofs.Common.{
+  le-leb,
+  ◌≡◌,
+  ℕ,
+  ◌+◌,
+  ◌<◌,
+  ◌≤◌,
+  Bool,
+  true,
+  cond,
+  ◌==◌,
+  ◌&&◌,
+  nat_le,
+  List,
+  [],
+  ◌∷◌,
+  ◌++◌,
+  chars,
+  length,
+  map,
+  refl,
+  sym,
+  ap,
+  ◌∙◌,
+  subst,
+  arith,
+  All,
+  ⊎_elim,
+  sum_by,
+  append-nil,
+  lit<,
+  encode_utf8_all,
+  replicate,
+  zero,
+  suc,
+}
 use Rattle.std.specs.List.{join_with_byte}
 use Rattle.std.specs.Str.{IsUtf8}
 use Rattle.std.proofs.lemmas.Bool.{and_parts, and_from, cases_Bool}
@@ -18,7 +53,16 @@ use Rattle.tabled_text.proofs.CutRoom.{copies, stays-cut, stays-cut_before, stay
 use Rattle.tabled_text.proofs.PlainLines.{scalar-listed}
 use Rattle.tabled_text.proofs.PlainLemmas.{columns_of-plain}
 use Rattle.tabled_text.proofs.WordLemmas.{chars-mark, IsUtf8-mark}
-use Rattle.tabled_text.proofs.WrapRoom.{stays-line, Lines, EachPlain, EachPlain-lines, stays-wrapped, stays-nothing, columns-stays, is_plain_text-stays}
+use Rattle.tabled_text.proofs.WrapRoom.{
+  stays-line,
+  Lines,
+  EachPlain,
+  EachPlain-lines,
+  stays-wrapped,
+  stays-nothing,
+  columns-stays,
+  is_plain_text-stays,
+}
 
 -- ---- what they are
 
@@ -41,7 +85,8 @@ StaysWithin-from {n} {text} p h =
     let lines = Lines-greatest n (lines_of cs) (EachPlain-lines cs p.characters) (subst (λ k. k ≤ n) (text_columns-chars text p.utf8) h) in
     record {
       utf8 = p.utf8;
-      stays = subst (λ t. stays n 0 t ≡ true) (append-nil cs) (stays-text n 0 cs [] lines (stays-nothing n (last_used 0 (lines_of cs)) (last_used-le n 0 (lines_of cs) (lines_some cs) lines)));
+      stays = subst (λ t. stays n 0 t ≡ true) (append-nil cs)
+          (stays-text n 0 cs [] lines (stays-nothing n (last_used 0 (lines_of cs)) (last_used-le n 0 (lines_of cs) (lines_some cs) lines)));
     }
 
 -- ---- what is cut and wrapped
@@ -70,12 +115,15 @@ sum-chars (l ∷ ls) = omega (arith, sum-chars ls, sum_by-cons line_columns l ls
 pub stays-suffix : (w k : ℕ) (suffix : List ℕ) → IsPlain suffix → k + sum_by line_columns (lines_of suffix) ≤ w → stays w k (chars suffix) ≡ true
 stays-suffix w k suffix p h =
     let cs = chars suffix in
-    let e : sum_by line_columns (lines_of suffix) ≡ sum_by columns_of (lines_of cs) = sum-chars (lines_of suffix) ∙ ap (sum_by columns_of) (sym (lines_of-chars suffix p.utf8)) in
+    let e : sum_by line_columns (lines_of suffix) ≡ sum_by columns_of (lines_of cs) = sum-chars (lines_of suffix) ∙ ap
+    (sum_by columns_of) (sym (lines_of-chars suffix p.utf8)) in
     subst (λ t. stays w k t ≡ true) (append-nil cs) (stays-whole w k cs [] p.characters (omega arith) (stays-nothing w))
 
 -- a cut plain text and a suffix for which there is room
-pub StaysWithin-suffix : {n w : ℕ} {text answer suffix : List ℕ} → IsPlain text → IsPlain suffix → n + sum_by line_columns (lines_of suffix) ≤ w → IsCut n text answer → StaysWithin w (answer ++ suffix)
-StaysWithin-suffix {n} {w} {suffix = suffix} p q h c = StaysWithin-cut_before (omega arith) p c q.utf8 (λ k le. stays-suffix w k suffix q (omega arith))
+pub StaysWithin-suffix : {n w : ℕ} {text answer suffix : List ℕ} → IsPlain text → IsPlain suffix
+    → n + sum_by line_columns (lines_of suffix) ≤ w → IsCut n text answer → StaysWithin w (answer ++ suffix)
+StaysWithin-suffix {n} {w} {suffix = suffix} p q h c = StaysWithin-cut_before (omega arith) p c q.utf8
+    (λ k le. stays-suffix w k suffix q (omega arith))
 
 -- ---- joined texts
 
@@ -100,7 +148,8 @@ stays-feed n used (c ∷ front) back f b = ⊎_elim
 pub StaysWithin-feed : {n : ℕ} {front back : List ℕ} → StaysWithin n front → StaysWithin n back → StaysWithin n (front ++ 10 ∷ back)
 StaysWithin-feed {n} {front} {back} f b = record {
   utf8 = IsUtf8-append front (10 ∷ back) f.utf8 (IsUtf8-mark 10 (lit< tt) back b.utf8);
-  stays = subst (λ t. stays n 0 t ≡ true) (sym (chars-append front (10 ∷ back) f.utf8 ∙ ap (λ t. chars front ++ t) (chars-mark 10 (lit< tt) back (IsUtf8-mark 10 (lit< tt) back b.utf8))))
+  stays = subst (λ t. stays n 0 t ≡ true) (sym (chars-append front (10 ∷ back) f.utf8 ∙ ap
+      (λ t. chars front ++ t) (chars-mark 10 (lit< tt) back (IsUtf8-mark 10 (lit< tt) back b.utf8))))
       (stays-feed n 0 (chars front) (chars back) f.stays b.stays);
 }
 

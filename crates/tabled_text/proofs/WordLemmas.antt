@@ -1,11 +1,52 @@
 -- Lines of a text's bytes, as lines of its characters.
-use Rattle.std.proofs.Common.{◌≡◌, ℕ, ◌+◌, ◌<◌, ◌≤◌, Bool, false, eqb, List, [], ◌∷◌, ◌++◌, chars, length, get_or, take, drop, ap, sym, ◌∙◌, refl, subst, Some, arith, zero, suc, lit<}
+use Rattle.std.proofs.Common.{
+  ◌≡◌,
+  ℕ,
+  ◌+◌,
+  ◌<◌,
+  ◌≤◌,
+  Bool,
+  false,
+  eqb,
+  List,
+  [],
+  ◌∷◌,
+  ◌++◌,
+  chars,
+  length,
+  get_or,
+  take,
+  drop,
+  ap,
+  sym,
+  ◌∙◌,
+  refl,
+  subst,
+  Some,
+  arith,
+  zero,
+  suc,
+  lit<,
+}
 use Rattle.std.proofs.lemmas.Bool.{eq-eqb}
 use Rattle.std.specs.Prelude.{encode_utf8_all}
 use Rattle.std.specs.Str.{NonePass, NoCharPasses, IsUtf8}
 use Rattle.std.specs.List.{slice_split, All}
 use Rattle.std.specs.Str.Pattern.{FindsChar}
-use Rattle.std.proofs.lemmas.Str.{chars_past_char, chars-append, chars_from_encodes, encode_ascii, IsUtf8-append, IsUtf8-take, IsUtf8-drop, IsUtf8-from_ascii, len_utf8_ascii, IsCharBoundary-before_ascii, encodes-chars, length-le-encodes}
+use Rattle.std.proofs.lemmas.Str.{
+  chars_past_char,
+  chars-append,
+  chars_from_encodes,
+  encode_ascii,
+  IsUtf8-append,
+  IsUtf8-take,
+  IsUtf8-drop,
+  IsUtf8-from_ascii,
+  len_utf8_ascii,
+  IsCharBoundary-before_ascii,
+  encodes-chars,
+  length-le-encodes,
+}
 use Rattle.std.proofs.lemmas.List.Sums.{count_by-le-length}
 use Rattle.std.specs.Char.{len_utf8}
 use Rattle.std.proofs.lemmas.List.Splits.{slice_split_at, slice_split_none, length-slice_split}
@@ -44,7 +85,8 @@ pub record Found (d : ℕ) (bs xs ys : List ℕ) : Type 0 where
   pub pieces : slice_split (λ c. eqb c d) (chars bs) ≡ chars xs ∷ slice_split (λ c. eqb c d) (chars ys)
 
 -- what `split_once` at an ASCII character says of the pieces
-pub pieces-found : (d : ℕ) → d < 128 → (bs xs ys : List ℕ) → IsUtf8 bs → (i j : ℕ) → FindsChar d bs (Some (i, j)) → xs ≡ take i bs → ys ≡ drop j bs → i ≤ j → length ys + j ≡ length bs → Found d bs xs ys
+pub pieces-found : (d : ℕ) → d < 128 → (bs xs ys : List ℕ) → IsUtf8 bs → (i j : ℕ) → FindsChar d bs (Some (i, j)) → xs
+    ≡ take i bs → ys ≡ drop j bs → i ≤ j → length ys + j ≡ length bs → Found d bs xs ys
 pieces-found d small bs xs ys t i j h e f le len =
     let cut : drop i bs ≡ d ∷ ys = drop_at_char d bs i j h.1 small ∙ ap (λ l. d ∷ l) (sym f) in
     let whole : bs ≡ xs ++ (d ∷ ys) = sym (take-append-drop i bs) ∙ ap (λ l. l ++ drop i bs) (sym e) ∙ ap (λ l. xs ++ l) cut in
@@ -59,7 +101,8 @@ pieces-found d small bs xs ys t i j h e f le len =
       front = u;
       back = v;
       shorter = omega arith;
-      pieces = ap (λ l. slice_split (λ c. eqb c d) (chars l)) whole ∙ ap (slice_split (λ c. eqb c d)) (chars-append xs (d ∷ ys) u) ∙ ap (λ l. slice_split (λ c. eqb c d) (chars xs ++ l)) (chars-mark d small ys w)
+      pieces = ap (λ l. slice_split (λ c. eqb c d) (chars l)) whole ∙ ap (slice_split (λ c. eqb c d))
+          (chars-append xs (d ∷ ys) u) ∙ ap (λ l. slice_split (λ c. eqb c d) (chars xs ++ l)) (chars-mark d small ys w)
           ∙ slice_split_at (λ c. eqb c d) (chars xs) d (chars ys) (All-from_NoCharPasses (λ c. eqb c d) xs u none) (eq-eqb d d refl);
     }
 

@@ -1,5 +1,30 @@
 -- A plain text that finds room is not changed where it is wrapped.
-use Rattle.std.proofs.Common.{◌≡◌, ℕ, ◌+◌, ◌<◌, ◌≤◌, Bool, true, false, cond, ◌==◌, List, [], ◌∷◌, chars, encode_utf8_all, map, refl, sym, ap, ◌∙◌, subst, arith, sum_by, append-nil}
+use Rattle.std.proofs.Common.{
+  ◌≡◌,
+  ℕ,
+  ◌+◌,
+  ◌<◌,
+  ◌≤◌,
+  Bool,
+  true,
+  false,
+  cond,
+  ◌==◌,
+  List,
+  [],
+  ◌∷◌,
+  chars,
+  encode_utf8_all,
+  map,
+  refl,
+  sym,
+  ap,
+  ◌∙◌,
+  subst,
+  arith,
+  sum_by,
+  append-nil,
+}
 use Rattle.std.specs.Prelude.{MatchBool}
 use Rattle.std.specs.List.{list_all, join_with_byte, AllZip}
 use Rattle.std.proofs.lemmas.Bool.{le-leb, ne_eqb}
@@ -31,14 +56,23 @@ width-good (u ∷ us) h =
     omega (arith, h.0.1, width-good us h.1, sum_by-cons (λ (v : TextUnit). v.width) u us, sum_by-append char_columns u.text (text_of us))
 
 -- a line that finds room is one group
-line_kept : (n : ℕ) (words : Bool) (line : List ℕ) → list_all is_plain_character line ≡ true → columns_of line ≤ n → put_all n 0 (units n words line) ≡ line
+line_kept : (n : ℕ) (words : Bool) (line : List ℕ) → list_all is_plain_character line ≡ true → columns_of line ≤ n
+    → put_all n 0 (units n words line) ≡ line
 line_kept n words line plain room =
     let us : List TextUnit = units n words line in
-    let wide : width_of us ≤ n = omega (arith, room, width-good us (EachGood-units n words line plain), ap (sum_by char_columns) (text_of-units n words line), columns_of-plain line plain) in
+    let wide : width_of us ≤ n = omega (
+      arith,
+      room,
+      width-good us (EachGood-units n words line plain),
+      ap
+          (sum_by char_columns) (text_of-units n words line),
+      columns_of-plain line plain,
+    ) in
     ap (put_all n 0) (sym (append-nil us)) ∙ put_all-fits n 0 us [] (fits-sum n 0 us (omega (arith, wide))) ∙ append-nil (text_from n 0 us)
     ∙ text_from-narrow n 0 us (unit-le n us wide) ∙ text_of-units n words line
 
-lines_kept : (n : ℕ) (words : Bool) → 0 < n → (lines : List (List ℕ)) (broken : List (List (List TextUnit))) → EachPlain lines → greatest (map columns_of lines) ≤ n
+lines_kept : (n : ℕ) (words : Bool) → 0 < n → (lines : List (List ℕ)) (broken : List (List (List TextUnit)))
+    → EachPlain lines → greatest (map columns_of lines) ≤ n
     → AllZip (λ line groups. IsFullest n (units n words line) groups) lines broken → map (text_of_groups n) broken ≡ lines
 lines_kept n words pos [] [] p h f = refl
 lines_kept n words pos [] (g ∷ gs) p h f = absurd f
@@ -47,12 +81,15 @@ lines_kept n words pos (l ∷ ls) (g ∷ gs) p h f =
     ap (λ t. t ∷ map (text_of_groups n) gs) (text_is n pos (units n words l) g f.0 ∙ line_kept n words l p.0 (omega arith))
     ∙ ap (λ ts. l ∷ ts) (lines_kept n words pos ls gs p.1 (omega arith) f.1)
 
-pub wrap_kept : (n : ℕ) (words : Bool) (text answer : List ℕ) → 0 < n → IsPlain text → text_columns text ≤ n → IsWrapped n words text answer → answer ≡ text
+pub wrap_kept : (n : ℕ) (words : Bool) (text answer : List ℕ) → 0 < n → IsPlain text → text_columns text ≤ n
+    → IsWrapped n words text answer → answer ≡ text
 wrap_kept n words text answer pos p room w =
     let cs : List ℕ = chars text in
     let nonzero : (n == 0) ≡ false = ne_eqb n 0 (λ z. omega arith) in
-    let full : IsFullestText n words cs (chars answer) = subst (λ b. MatchBool b (answer ≡ []) (IsFullestText n words cs (chars answer))) nonzero w.wrapped in
+    let full : IsFullestText n words cs (chars answer) = subst
+    (λ b. MatchBool b (answer ≡ []) (IsFullestText n words cs (chars answer))) nonzero w.wrapped in
     let wide : greatest (map columns_of (lines_of cs)) ≤ n = subst (λ k. k ≤ n) (text_columns-chars text p.utf8) room in
     let same : chars answer ≡ cs =
-    full.answered ∙ ap (join_with_byte 10) (lines_kept n words pos (lines_of cs) full.broken (EachPlain-lines cs p.characters) wide full.fullest) ∙ join_with_byte-slice_split 10 cs in
+    full.answered ∙ ap (join_with_byte 10) (lines_kept n words pos (lines_of cs) full.broken
+    (EachPlain-lines cs p.characters) wide full.fullest) ∙ join_with_byte-slice_split 10 cs in
     sym (encodes-chars answer w.utf8) ∙ ap encode_utf8_all same ∙ encodes-chars text p.utf8

@@ -1,5 +1,38 @@
 -- Wrapped plain texts stay in their room.
-use Rattle.std.proofs.Common.{◌≡◌, ℕ, ◌+◌, ◌-◌, ◌<◌, ◌≤◌, Bool, true, false, cond, ◌==◌, ◌&&◌, ◌||◌, nat_le, List, [], ◌∷◌, ◌++◌, refl, sym, ap, ◌∙◌, subst, arith, sum_by, replicate, ⊎_elim, map, min, zero, suc, chars}
+use Rattle.std.proofs.Common.{
+  ◌≡◌,
+  ℕ,
+  ◌+◌,
+  ◌-◌,
+  ◌<◌,
+  ◌≤◌,
+  Bool,
+  true,
+  false,
+  cond,
+  ◌==◌,
+  ◌&&◌,
+  ◌||◌,
+  nat_le,
+  List,
+  [],
+  ◌∷◌,
+  ◌++◌,
+  refl,
+  sym,
+  ap,
+  ◌∙◌,
+  subst,
+  arith,
+  sum_by,
+  replicate,
+  ⊎_elim,
+  map,
+  min,
+  zero,
+  suc,
+  chars,
+}
 use Rattle.std.specs.Prelude.{MatchBool, ⊤}
 use Rattle.std.specs.List.{list_all, onto_first, AllZip}
 use Rattle.std.proofs.lemmas.List.{append_assoc, append-nil}
@@ -30,21 +63,25 @@ plain_space = (refl, refl)
 
 pub not_break : (c : ℕ) → is_plain_character c ≡ true → (c == 10) ≡ false
 not_break c h = ⊎_elim
-    (λ y. let z : is_plain_character 10 ≡ true = subst (λ k. is_plain_character k ≡ true) (eqb-true c 10 y) h in absurd (let w : false ≡ true = z in cc))
+    (λ y. let z : is_plain_character 10 ≡ true = subst (λ k. is_plain_character k ≡ true) (eqb-true c 10 y) h in
+    absurd (let w : false ≡ true = z in cc))
     (λ n. n) (cases_Bool (c == 10))
 
 -- ---- what stays in n columns
-stays-char : (n used c : ℕ) (rest : List ℕ) → is_plain_character c ≡ true → stays n (used + char_columns c) rest ≡ true → stays n used (c ∷ rest) ≡ true
+stays-char : (n used c : ℕ) (rest : List ℕ) → is_plain_character c ≡ true → stays n (used + char_columns c) rest
+    ≡ true → stays n used (c ∷ rest) ≡ true
 stays-char n used c rest h s =
     subst (λ b. cond b (nat_le used n && stays n 0 rest) (is_plain_character c && stays n (used + char_columns c) rest) ≡ true) (sym (not_break c h))
     (and_from (is_plain_character c) (stays n (used + char_columns c) rest) h s)
 
-pub stays-line : (n used : ℕ) (xs rest : List ℕ) → list_all is_plain_character xs ≡ true → stays n (used + sum_by char_columns xs) rest ≡ true → stays n used (xs ++ rest) ≡ true
+pub stays-line : (n used : ℕ) (xs rest : List ℕ) → list_all is_plain_character xs ≡ true
+    → stays n (used + sum_by char_columns xs) rest ≡ true → stays n used (xs ++ rest) ≡ true
 stays-line n used [] rest h s = subst (λ k. stays n k rest ≡ true) (let e : used + 0 ≡ used = omega arith in e) s
 stays-line n used (c ∷ xs) rest h s =
     let parts = and_parts (is_plain_character c) (list_all is_plain_character xs) h in
     stays-char n used c (xs ++ rest) parts.0 (stays-line n (used + char_columns c) xs rest parts.1
-    (subst (λ k. stays n k rest ≡ true) (let e : used + sum_by char_columns (c ∷ xs) ≡ used + char_columns c + sum_by char_columns xs = omega (arith, sum_by-cons char_columns c xs) in e) s))
+    (subst (λ k. stays n k rest ≡ true) (let e : used + sum_by char_columns (c ∷ xs)
+    ≡ used + char_columns c + sum_by char_columns xs = omega (arith, sum_by-cons char_columns c xs) in e) s))
 
 pub stays-break : (n used : ℕ) (rest : List ℕ) → used ≤ n → stays n 0 rest ≡ true → stays n used (10 ∷ rest) ≡ true
 stays-break n used rest h s = and_from (nat_le used n) (stays n 0 rest) (le-leb used n h) s
@@ -55,7 +92,8 @@ replacements (suc k) =
     let r = replacements k in
     let p = plain_replacement in (
       and_from (is_plain_character 0xFFFD) (list_all is_plain_character (replicate k 0xFFFD)) p.0 r.0,
-      sum_by-cons char_columns 0xFFFD (replicate k 0xFFFD) ∙ (let a = p.1 in let b = r.1 in let e : char_columns 0xFFFD + sum_by char_columns (replicate k 0xFFFD) ≡ suc k = omega arith in e),
+      sum_by-cons char_columns 0xFFFD (replicate k 0xFFFD) ∙ (let a = p.1 in let b = r.1 in
+          let e : char_columns 0xFFFD + sum_by char_columns (replicate k 0xFFFD) ≡ suc k = omega arith in e),
     )
 
 -- its lines, with what the first one has already
@@ -63,9 +101,15 @@ abbrev pub Lines : ℕ → ℕ → List (List ℕ) → Type 0
 Lines n used [] = ⊤
 Lines n used (l ∷ ls) = (list_all is_plain_character l ≡ true) × (used + sum_by char_columns l ≤ n) × Lines n 0 ls
 
-Lines-onto : (n used c : ℕ) (ls : List (List ℕ)) → is_plain_character c ≡ true → Lines n (used + char_columns c) ls → used + char_columns c ≤ n → Lines n used (onto_first c ls)
+Lines-onto : (n used c : ℕ) (ls : List (List ℕ)) → is_plain_character c ≡ true → Lines n (used + char_columns c) ls
+    → used + char_columns c ≤ n → Lines n used (onto_first c ls)
 Lines-onto n used c [] h l le = (and_from (is_plain_character c) true h refl, omega (arith, sum_by-cons char_columns c []), tt)
-Lines-onto n used c (x ∷ ls) h l le = (and_from (is_plain_character c) (list_all is_plain_character x) h l.0, (let a = l.1 in omega (arith, sum_by-cons char_columns c x)), l.2)
+Lines-onto n used c (x ∷ ls) h l le = (
+  and_from (is_plain_character c) (list_all is_plain_character x) h
+      l.0,
+  (let a = l.1 in omega (arith, sum_by-cons char_columns c x)),
+  l.2,
+)
 
 stays-le : (n used : ℕ) (cs : List ℕ) → stays n used cs ≡ true → used ≤ n
 stays-le n used [] h = leb-true used n h
@@ -85,7 +129,8 @@ Lines-stays n used (c ∷ cs) h = ⊎_elim
     subst (λ b. Lines n used (cond b ([] ∷ lines_of cs) (onto_first c (lines_of cs)))) (sym y) own)
     (λ no. let t = subst (λ b. cond b (nat_le used n && stays n 0 cs) (is_plain_character c && stays n (used + char_columns c) cs) ≡ true) no h in
     let parts = and_parts (is_plain_character c) (stays n (used + char_columns c) cs) t in
-    let own = Lines-onto n used c (lines_of cs) parts.0 (Lines-stays n (used + char_columns c) cs parts.1) (stays-le n (used + char_columns c) cs parts.1) in
+    let own = Lines-onto n used c (lines_of cs) parts.0 (Lines-stays n (used + char_columns c) cs parts.1)
+    (stays-le n (used + char_columns c) cs parts.1) in
     subst (λ b. Lines n used (cond b ([] ∷ lines_of cs) (onto_first c (lines_of cs)))) (sym no) own)
     (cases_Bool (c == 10))
 
@@ -110,7 +155,8 @@ is_plain_text-stays n used (c ∷ cs) h = ⊎_elim
     subst (λ b. ((b || is_plain_character c) && is_plain_text cs) ≡ true) (sym y) (is_plain_text-stays n 0 cs parts.1))
     (λ no. let t = subst (λ b. cond b (nat_le used n && stays n 0 cs) (is_plain_character c && stays n (used + char_columns c) cs) ≡ true) no h in
     let parts = and_parts (is_plain_character c) (stays n (used + char_columns c) cs) t in
-    subst (λ b. ((b || is_plain_character c) && is_plain_text cs) ≡ true) (sym no) (and_from (is_plain_character c) (is_plain_text cs) parts.0 (is_plain_text-stays n (used + char_columns c) cs parts.1)))
+    subst (λ b. ((b || is_plain_character c) && is_plain_text cs) ≡ true) (sym no)
+    (and_from (is_plain_character c) (is_plain_text cs) parts.0 (is_plain_text-stays n (used + char_columns c) cs parts.1)))
     (cases_Bool (c == 10))
 
 -- ---- units that are plain and as wide as they say
@@ -128,12 +174,16 @@ EachGood-append (x ∷ xs) ys f g = (f.0, EachGood-append xs ys f.1 g)
 Good-char : (c : ℕ) → is_plain_character c ≡ true → Good (unit_of_char c)
 Good-char c h =
     let own = and_parts (has_plain_width c) _ (and_parts (is_listed c) _ h).1 in
-    let e : char_count c ≡ char_columns c = char_count-plain (char_columns c) own.0 in
-    (and_from (is_plain_character c) true h refl, e ∙ (let z : char_columns c ≡ sum_by char_columns (c ∷ []) = omega (arith, sum_by-cons char_columns c []) in z))
+    let e : char_count c ≡ char_columns c = char_count-plain (char_columns c) own.0 in (
+      and_from (is_plain_character c) true h refl,
+      e ∙
+          (let z : char_columns c ≡ sum_by char_columns (c ∷ []) = omega (arith, sum_by-cons char_columns c []) in z),
+    )
 
 EachGood-chars : (cs : List ℕ) → list_all is_plain_character cs ≡ true → EachGood (map unit_of_char cs)
 EachGood-chars [] h = tt
-EachGood-chars (c ∷ cs) h = let parts = and_parts (is_plain_character c) (list_all is_plain_character cs) h in (Good-char c parts.0, EachGood-chars cs parts.1)
+EachGood-chars (c ∷ cs) h = let parts = and_parts (is_plain_character c) (list_all is_plain_character cs) h in
+    (Good-char c parts.0, EachGood-chars cs parts.1)
 
 EachGood-cond : (b : Bool) (xs ys : List TextUnit) → EachGood xs → EachGood ys → EachGood (cond b xs ys)
 EachGood-cond true xs ys f g = f
@@ -166,7 +216,8 @@ EachGood-units n false line h = EachGood-chars line h
 EachGood-units n true line h = EachGood-words n (words_of line) (Each-split (λ c. c == 32) is_plain_character is_plain_character (λ c a b. a) line h)
 
 -- ---- a unit that is shown stays in the line
-shown-wide : (n used : ℕ) (p : TextUnit) (rest : List ℕ) → Good p → used + needed n p ≤ n → (stays n (min (used + p.width) n) rest ≡ true) → stays n used (shown n used p ++ rest) ≡ true
+shown-wide : (n used : ℕ) (p : TextUnit) (rest : List ℕ) → Good p → used + needed n p ≤ n
+    → (stays n (min (used + p.width) n) rest ≡ true) → stays n used (shown n used p ++ rest) ≡ true
 shown-wide n used p rest g fits s = ⊎_elim
     (λ y.
     let l : p.width ≤ n = leb-true p.width n y in
@@ -174,7 +225,8 @@ shown-wide n used p rest g fits s = ⊎_elim
     let fit' : used + p.width ≤ n = subst (λ b. used + cond b p.width 1 ≤ n) y fit in
     let w = g.1 in
     subst (λ b. stays n used (cond b p.text (replicate (n - used) 0xFFFD) ++ rest) ≡ true) (sym y)
-    (stays-line n used p.text rest g.0 (subst (λ k. stays n k rest ≡ true) (let e : min (used + p.width) n ≡ used + sum_by char_columns p.text = omega arith in e) s)))
+    (stays-line n used p.text rest g.0 (subst (λ k. stays n k rest ≡ true)
+    (let e : min (used + p.width) n ≡ used + sum_by char_columns p.text = omega arith in e) s)))
     (λ no.
     let l : n < p.width = leb-false p.width n no in
     let fit : used + cond (nat_le p.width n) p.width 1 ≤ n = fits in
@@ -182,7 +234,9 @@ shown-wide n used p rest g fits s = ⊎_elim
     let r = replacements (n - used) in
     let w = r.1 in
     subst (λ b. stays n used (cond b p.text (replicate (n - used) 0xFFFD) ++ rest) ≡ true) (sym no)
-    (stays-line n used (replicate (n - used) 0xFFFD) rest r.0 (subst (λ k. stays n k rest ≡ true) (let e : min (used + p.width) n ≡ used + sum_by char_columns (replicate (n - used) 0xFFFD) = omega arith in e) s)))
+    (stays-line n used (replicate (n - used) 0xFFFD) rest r.0
+    (subst (λ k. stays n k rest ≡ true) (let e : min (used + p.width) n
+    ≡ used + sum_by char_columns (replicate (n - used) 0xFFFD) = omega arith in e) s)))
     (cases_Bool (nat_le p.width n))
 
 needed-fits : (n : ℕ) (p : TextUnit) → 0 < n → 0 + needed n p ≤ n
@@ -192,7 +246,8 @@ needed-some : (n : ℕ) (p : TextUnit) → 0 < n → n < p.width → 0 < needed 
 needed-some n p h l = grind (arith, nat_tests)
 
 -- adding unit to unit, where what follows stays from every column on
-pub stays-put_all : (n used : ℕ) (ps : List TextUnit) (rest : List ℕ) → 0 < n → EachGood ps → ((k : ℕ) → k ≤ n → stays n k rest ≡ true) → stays n (min used n) (put_all n used ps ++ rest) ≡ true
+pub stays-put_all : (n used : ℕ) (ps : List TextUnit) (rest : List ℕ) → 0 < n → EachGood ps
+    → ((k : ℕ) → k ≤ n → stays n k rest ≡ true) → stays n (min used n) (put_all n used ps ++ rest) ≡ true
 stays-put_all n used [] rest pos g h = h (min used n) (omega arith)
 stays-put_all n used (p ∷ ps) rest pos g h =
     let more = stays-put_all n (put_used n used p) ps rest pos g.1 h in
@@ -210,14 +265,16 @@ stays-put_all n used (p ∷ ps) rest pos g h =
     let put = put_text-breaks n used p no in
     subst (λ l. stays n (min used n) (l ++ tail) ≡ true) (sym put.0)
     (stays-break n (min used n) (shown n 0 p ++ tail) (omega arith)
-    (shown-wide n 0 p tail g.0 (needed-fits n p pos) (subst (λ k. stays n (min k n) tail ≡ true) (put.1 ∙ (let e : p.width ≡ 0 + p.width = omega arith in e)) more))))
+    (shown-wide n 0 p tail g.0 (needed-fits n p pos)
+    (subst (λ k. stays n (min k n) tail ≡ true) (put.1 ∙ (let e : p.width ≡ 0 + p.width = omega arith in e)) more))))
     (cases_Bool (nat_le (used + needed n p) n)))
 
 -- ---- all lines
 pub stays-nothing : (n k : ℕ) → k ≤ n → stays n k [] ≡ true
 stays-nothing n k h = le-leb k n h
 
-stays-broken : (n : ℕ) (words : Bool) → 0 < n → (line : List ℕ) (groups : List (List TextUnit)) (rest : List ℕ) → list_all is_plain_character line ≡ true → IsFullest n (units n words line) groups
+stays-broken : (n : ℕ) (words : Bool) → 0 < n → (line : List ℕ) (groups : List (List TextUnit)) (rest : List ℕ)
+    → list_all is_plain_character line ≡ true → IsFullest n (units n words line) groups
     → ((k : ℕ) → k ≤ n → stays n k rest ≡ true) → stays n 0 (text_of_groups n groups ++ rest) ≡ true
 stays-broken n words pos line groups rest plain f h =
     let all = stays-put_all n 0 (units n words line) rest pos (EachGood-units n words line plain) h in
@@ -238,13 +295,16 @@ stays-lines n words pos (l ∷ m ∷ ls) (g ∷ h ∷ gs) p f =
     stays-broken n words pos l g (10 ∷ text_of_lines n (h ∷ gs)) p.0 f.0 (λ k le. stays-break n k (text_of_lines n (h ∷ gs)) le rest)
 
 -- a wrapped plain text stays in n columns, whatever its characters' widths
-pub stays-wrapped : (n : ℕ) (words : Bool) (text answer : List ℕ) → is_plain_text (chars text) ≡ true → IsWrapped n words text answer → stays n 0 (chars answer) ≡ true
+pub stays-wrapped : (n : ℕ) (words : Bool) (text answer : List ℕ) → is_plain_text (chars text) ≡ true
+    → IsWrapped n words text answer → stays n 0 (chars answer) ≡ true
 stays-wrapped n words text answer plain w = ⊎_elim
     (λ y.
     let empty : answer ≡ [] = subst (λ b. MatchBool b (answer ≡ []) (IsFullestText n words (chars text) (chars answer))) y w.wrapped in
     subst (λ t. stays n 0 t ≡ true) (sym (ap chars empty ∙ chars-nil)) (le-leb 0 n (omega arith)))
     (λ no.
-    let full : IsFullestText n words (chars text) (chars answer) = subst (λ b. MatchBool b (answer ≡ []) (IsFullestText n words (chars text) (chars answer))) no w.wrapped in
+    let full : IsFullestText n words (chars text) (chars answer) = subst
+    (λ b. MatchBool b (answer ≡ []) (IsFullestText n words (chars text) (chars answer))) no w.wrapped in
     let pos : 0 < n = grind (arith, nat_tests) in
-    subst (λ t. stays n 0 t ≡ true) (sym full.answered) (stays-lines n words pos (lines_of (chars text)) full.broken (EachPlain-lines (chars text) plain) full.fullest))
+    subst (λ t. stays n 0 t ≡ true) (sym full.answered)
+    (stays-lines n words pos (lines_of (chars text)) full.broken (EachPlain-lines (chars text) plain) full.fullest))
     (cases_Bool (n == 0))

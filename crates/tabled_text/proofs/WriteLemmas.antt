@@ -1,5 +1,35 @@
 -- The bytes that one more unit adds.
-use Rattle.std.proofs.Common.{◌≡◌, ℕ, ◌+◌, ◌-◌, ◌<◌, ◌≤◌, Bool, true, false, cond, List, [], ◌∷◌, ◌++◌, length, refl, sym, ap, ◌∙◌, subst, arith, map, encode_utf8_all, encode_utf8, nat_le, lit<, replicate, ◌==◌, MatchBool}
+use Rattle.std.proofs.Common.{
+  ◌≡◌,
+  ℕ,
+  ◌+◌,
+  ◌-◌,
+  ◌<◌,
+  ◌≤◌,
+  Bool,
+  true,
+  false,
+  cond,
+  List,
+  [],
+  ◌∷◌,
+  ◌++◌,
+  length,
+  refl,
+  sym,
+  ap,
+  ◌∙◌,
+  subst,
+  arith,
+  map,
+  encode_utf8_all,
+  encode_utf8,
+  nat_le,
+  lit<,
+  replicate,
+  ◌==◌,
+  MatchBool,
+}
 use Rattle.std.specs.Str.{IsUtf8, chars}
 use Rattle.std.proofs.lemmas.List.{append_assoc, append-nil, nil_from_length, replicate_more}
 use Rattle.std.proofs.lemmas.Str.{encodes-append, encodes-chars, encode_ascii, chars-nil, chars_from_encodes, IsUtf8-nil}
@@ -25,7 +55,8 @@ put_word_bytes n used width b₀ b₁ b₂ word le u e f =
     let whole : put_text n used (unit_of (chars word) width) ≡ begin_text n used width ++ chars word =
     ap (λ b. begin_text n used (cond b width 1) ++ cond b (chars word) (replicate (n - begin_at n used (cond b width 1)) 0xFFFD)) fits in
     f ∙ ap (λ l. l ++ word) e ∙ append_assoc b₀ (begin_text n used width) word
-    ∙ ap (λ l. b₀ ++ l) (ap (λ l. begin_text n used width ++ l) (sym (encodes-chars word u)) ∙ ap (λ l. l ++ encode_utf8_all (chars word)) (sym (encodes-begin_text (nat_le (used + width) n)))
+    ∙ ap (λ l. b₀ ++ l) (ap (λ l. begin_text n used width ++ l) (sym (encodes-chars word u)) ∙ ap
+    (λ l. l ++ encode_utf8_all (chars word)) (sym (encodes-begin_text (nat_le (used + width) n)))
     ∙ sym (encodes-append (begin_text n used width) (chars word)) ∙ ap encode_utf8_all (sym whole))
 
 -- a unit is written, and others follow
@@ -49,25 +80,30 @@ units_of_word-empty n word b e h =
 
 short : (n : ℕ) (cs : List ℕ) → (cs ≡ [] → ⊥) → columns_of cs ≤ n → units_of_word n cs ≡ unit_of cs (columns_of cs) ∷ []
 short n [] ne le = absurd (ne refl)
-short n (c ∷ cs) ne le = ap (λ b. cond b (unit_of (c ∷ cs) (columns_of (c ∷ cs)) ∷ []) (map unit_of_char (c ∷ cs))) (le-leb (columns_of (c ∷ cs)) n le)
+short n (c ∷ cs) ne le = ap (λ b. cond b (unit_of (c ∷ cs) (columns_of (c ∷ cs)) ∷ []) (map unit_of_char (c ∷ cs)))
+    (le-leb (columns_of (c ∷ cs)) n le)
 
 not_empty : (word : List ℕ) → IsUtf8 word → (length word ≡ 0 → ⊥) → chars word ≡ [] → ⊥
 not_empty word u ne e = ne (ap length (sym (encodes-chars word u) ∙ ap encode_utf8_all e))
 
-pub units_of_word-short : (n : ℕ) (word : List ℕ) (width : ℕ) (b : Bool) → IsUtf8 word → b ≡ (length word == 0) → b ≡ false → width ≡ columns_of (chars word) → width ≤ n → units_of_word n (chars word) ≡ unit_of (chars word) width ∷ []
+pub units_of_word-short : (n : ℕ) (word : List ℕ) (width : ℕ) (b : Bool) → IsUtf8 word → b ≡ (length word == 0) → b
+    ≡ false → width ≡ columns_of (chars word) → width ≤ n → units_of_word n (chars word) ≡ unit_of (chars word) width ∷ []
 units_of_word-short n word width b u e h w le =
-    short n (chars word) (not_empty word u (λ z. eqb-false (length word) 0 (sym e ∙ h) z)) (subst (λ k. k ≤ n) w le) ∙ ap (λ k. unit_of (chars word) k ∷ []) (sym w)
+    short n (chars word) (not_empty word u (λ z. eqb-false (length word) 0 (sym e ∙ h) z)) (subst (λ k. k ≤ n) w le) ∙
+    ap (λ k. unit_of (chars word) k ∷ []) (sym w)
 
 split_cons : (p : ℕ → Bool) (cs : List ℕ) → (x : List ℕ) × (xs : List (List ℕ)) × (slice_split p cs ≡ x ∷ xs)
 split_cons p [] = ([], [], refl)
 split_cons p (c ∷ cs) = by_test (p c) (split_cons p cs)
   where
-    by_test : (b : Bool) → (x : List ℕ) × (xs : List (List ℕ)) × (slice_split p cs ≡ x ∷ xs) → (x : List ℕ) × (xs : List (List ℕ)) × (cond b ([] ∷ slice_split p cs) (onto_first c (slice_split p cs)) ≡ x ∷ xs)
+    by_test : (b : Bool) → (x : List ℕ) × (xs : List (List ℕ)) × (slice_split p cs ≡ x ∷ xs) → (x : List ℕ)
+        × (xs : List (List ℕ)) × (cond b ([] ∷ slice_split p cs) (onto_first c (slice_split p cs)) ≡ x ∷ xs)
     by_test true h = ([], slice_split p cs, refl)
     by_test false h = (c ∷ h.0, h.1, ap (onto_first c) h.2)
 
 -- a word, a space and what follows
-pub units_of_words-more : (n : ℕ) (word cs : List ℕ) → units_of_words n (word ∷ words_of cs) ≡ units_of_word n word ++ space ∷ units_of_words n (words_of cs)
+pub units_of_words-more : (n : ℕ) (word cs : List ℕ) → units_of_words n (word ∷ words_of cs)
+    ≡ units_of_word n word ++ space ∷ units_of_words n (words_of cs)
 units_of_words-more n word cs =
     let h = split_cons (λ c. c == 32) cs in
     subst (λ ws. units_of_words n (word ∷ ws) ≡ units_of_word n word ++ space ∷ units_of_words n ws) (sym h.2) refl
@@ -78,7 +114,8 @@ pub put_on : (n used : ℕ) (xs ys : List TextUnit) (b₀ b₁ out : List ℕ) �
 put_on n used xs ys b₀ b₁ out e h =
     ap (λ l. l ++ encode_utf8_all (put_all n (used_after n used xs) ys)) e
     ∙ append_assoc b₀ (encode_utf8_all (put_all n used xs)) (encode_utf8_all (put_all n (used_after n used xs) ys))
-    ∙ ap (λ l. b₀ ++ l) (sym (encodes-append (put_all n used xs) (put_all n (used_after n used xs) ys)) ∙ ap encode_utf8_all (sym (put_all-append n used xs ys))) ∙ h
+    ∙ ap (λ l. b₀ ++ l) (sym (encodes-append (put_all n used xs) (put_all n (used_after n used xs) ys)) ∙ ap
+    encode_utf8_all (sym (put_all-append n used xs ys))) ∙ h
 
 pub space-is : unit_of (chars (32 ∷ [])) 1 ≡ space
 unfolding chars
@@ -97,25 +134,30 @@ pending_more n words begun line lines b₀ b₁ b₂ out e f h =
     let text = put_all n 0 (units n words line) in
     let rest = pending n words true lines in
     let all : encode_utf8_all (feed ++ (text ++ rest)) ≡ feed ++ (encode_utf8_all text ++ encode_utf8_all rest) =
-    encodes-append feed (text ++ rest) ∙ ap (λ l. l ++ encode_utf8_all (text ++ rest)) (encodes-feed begun) ∙ ap (λ l. feed ++ l) (encodes-append text rest) in
-    ap (λ l. l ++ encode_utf8_all rest) f ∙ append_assoc b₁ (encode_utf8_all text) (encode_utf8_all rest) ∙ ap (λ l. l ++ (encode_utf8_all text ++ encode_utf8_all rest)) e
+    encodes-append feed (text ++ rest) ∙ ap (λ l. l ++ encode_utf8_all (text ++ rest)) (encodes-feed begun) ∙ ap
+    (λ l. feed ++ l) (encodes-append text rest) in
+    ap (λ l. l ++ encode_utf8_all rest) f ∙ append_assoc b₁ (encode_utf8_all text) (encode_utf8_all rest) ∙ ap
+    (λ l. l ++ (encode_utf8_all text ++ encode_utf8_all rest)) e
     ∙ append_assoc b₀ feed (encode_utf8_all text ++ encode_utf8_all rest) ∙ ap (λ l. b₀ ++ l) (sym all) ∙ h
 
 broken : (n : ℕ) → 0 < n → Bool → List (List ℕ) → List (List (List TextUnit))
 broken n pos words lines = map (λ line. (written_fullest n (units n words line) pos).groups) lines
 
-pub AllZip-broken : (n : ℕ) (pos : 0 < n) (words : Bool) (lines : List (List ℕ)) → AllZip (λ line groups. IsFullest n (units n words line) groups) lines (map (λ line. (written_fullest n (units n words line) pos).groups) lines)
+pub AllZip-broken : (n : ℕ) (pos : 0 < n) (words : Bool) (lines : List (List ℕ)) → AllZip
+    (λ line groups. IsFullest n (units n words line) groups) lines (map (λ line. (written_fullest n (units n words line) pos).groups) lines)
 AllZip-broken n pos words [] = tt
 AllZip-broken n pos words (line ∷ lines) = ((written_fullest n (units n words line) pos).fullest, AllZip-broken n pos words lines)
 
-pub text_of_lines-broken : (n : ℕ) (pos : 0 < n) (words : Bool) (lines : List (List ℕ)) → pending n words false lines ≡ text_of_lines n (map (λ line. (written_fullest n (units n words line) pos).groups) lines)
+pub text_of_lines-broken : (n : ℕ) (pos : 0 < n) (words : Bool) (lines : List (List ℕ)) → pending n words false lines
+    ≡ text_of_lines n (map (λ line. (written_fullest n (units n words line) pos).groups) lines)
 text_of_lines-broken n pos words [] = refl
 text_of_lines-broken n pos words (line ∷ []) = append-nil (put_all n 0 (units n words line)) ∙ (written_fullest n (units n words line) pos).text
 text_of_lines-broken n pos words (line ∷ next ∷ lines) =
     ap (λ l. l ++ pending n words true (next ∷ lines)) (written_fullest n (units n words line) pos).text
     ∙ ap (λ l. text_of_groups n (written_fullest n (units n words line) pos).groups ++ (10 ∷ l)) (text_of_lines-broken n pos words (next ∷ lines))
 
-pub IsWrapped-written : (n : ℕ) (words : Bool) (text out : List ℕ) → (n ≡ 0 → ⊥) → IsUtf8 out → out ≡ encode_utf8_all (pending n words false (lines_of (chars text))) → IsWrapped n words text out
+pub IsWrapped-written : (n : ℕ) (words : Bool) (text out : List ℕ) → (n ≡ 0 → ⊥) → IsUtf8 out → out
+    ≡ encode_utf8_all (pending n words false (lines_of (chars text))) → IsWrapped n words text out
 IsWrapped-written n words text out ne u e =
     let pos : 0 < n = omega arith in
     let cs = chars text in
@@ -133,44 +175,57 @@ IsWrapped-none n words text out z e = record {
 }
 
 -- ---- the same as equations of texts, for any sink
-pub encodes-word : (n used width : ℕ) (word : List ℕ) → width ≤ n → IsUtf8 word → begin_text n used width ++ word ≡ encode_utf8_all (put_text n used (unit_of (chars word) width))
+pub encodes-word : (n used width : ℕ) (word : List ℕ) → width ≤ n → IsUtf8 word → begin_text n used width ++ word
+    ≡ encode_utf8_all (put_text n used (unit_of (chars word) width))
 encodes-word n used width word le u = put_word_bytes n used width [] (begin_text n used width) (begin_text n used width ++ word) word le u refl refl
 
-pub encodes-more : (n used : ℕ) (p : TextUnit) (pieces : List TextUnit) → encode_utf8_all (put_text n used p) ++ encode_utf8_all (put_all n (put_used n used p) pieces) ≡ encode_utf8_all (put_all n used (p ∷ pieces))
+pub encodes-more : (n used : ℕ) (p : TextUnit) (pieces : List TextUnit)
+    → encode_utf8_all (put_text n used p) ++ encode_utf8_all (put_all n (put_used n used p) pieces) ≡ encode_utf8_all (put_all n used (p ∷ pieces))
 encodes-more n used p pieces = sym (encodes-append (put_text n used p) (put_all n (put_used n used p) pieces))
 
-pub encodes-on : (n used : ℕ) (xs ys : List TextUnit) → encode_utf8_all (put_all n used xs) ++ encode_utf8_all (put_all n (used_after n used xs) ys) ≡ encode_utf8_all (put_all n used (xs ++ ys))
-encodes-on n used xs ys = sym (encodes-append (put_all n used xs) (put_all n (used_after n used xs) ys)) ∙ ap encode_utf8_all (sym (put_all-append n used xs ys))
+pub encodes-on : (n used : ℕ) (xs ys : List TextUnit)
+    → encode_utf8_all (put_all n used xs) ++ encode_utf8_all (put_all n (used_after n used xs) ys) ≡ encode_utf8_all (put_all n used (xs ++ ys))
+encodes-on n used xs ys = sym (encodes-append (put_all n used xs) (put_all n (used_after n used xs) ys)) ∙ ap
+    encode_utf8_all (sym (put_all-append n used xs ys))
 
 pub encodes-copies : (n c : ℕ) → encode_utf8_all (replicate n c) ++ encode_utf8 c ≡ encode_utf8_all (replicate (n + 1) c)
-encodes-copies n c = ap (λ l. encode_utf8_all (replicate n c) ++ l) (sym (append-nil (encode_utf8 c))) ∙ sym (encodes-append (replicate n c) (c ∷ [])) ∙ ap encode_utf8_all (replicate_more n c)
+encodes-copies n c = ap (λ l. encode_utf8_all (replicate n c) ++ l) (sym (append-nil (encode_utf8 c))) ∙ sym
+    (encodes-append (replicate n c) (c ∷ [])) ∙ ap encode_utf8_all (replicate_more n c)
 
 encodes-begin : (n used k : ℕ) → encode_utf8_all (begin_text n used k) ≡ begin_text n used k
 encodes-begin n used k = encodes-begin_text (nat_le (used + k) n)
 
 put_text-narrow : (n used : ℕ) (p : TextUnit) → p.width ≤ n → put_text n used p ≡ begin_text n used p.width ++ p.text
-put_text-narrow n used p le = ap (λ b. begin_text n used (cond b p.width 1) ++ cond b p.text (replicate (n - begin_at n used (cond b p.width 1)) 0xFFFD)) (le-leb p.width n le)
+put_text-narrow n used p le = ap (λ b. begin_text n used (cond b p.width 1) ++ cond b p.text
+    (replicate (n - begin_at n used (cond b p.width 1)) 0xFFFD)) (le-leb p.width n le)
 
 put_text-wide : (n used : ℕ) (p : TextUnit) → n < p.width → put_text n used p ≡ begin_text n used 1 ++ replicate (n - begin_at n used 1) 0xFFFD
-put_text-wide n used p lt = ap (λ b. begin_text n used (cond b p.width 1) ++ cond b p.text (replicate (n - begin_at n used (cond b p.width 1)) 0xFFFD)) (lt-leb p.width n lt)
+put_text-wide n used p lt = ap (λ b. begin_text n used (cond b p.width 1) ++ cond b p.text
+    (replicate (n - begin_at n used (cond b p.width 1)) 0xFFFD)) (lt-leb p.width n lt)
 
-pub encodes-narrow : (n used c count : ℕ) → count ≡ char_count c → count ≤ n → begin_text n used count ++ encode_utf8 c ≡ encode_utf8_all (put_text n used (unit_of_char c))
+pub encodes-narrow : (n used c count : ℕ) → count ≡ char_count c → count ≤ n
+    → begin_text n used count ++ encode_utf8 c ≡ encode_utf8_all (put_text n used (unit_of_char c))
 encodes-narrow n used c count e le =
     let le' : char_count c ≤ n = subst (λ k. k ≤ n) e le in
     ap (λ k. begin_text n used k ++ encode_utf8 c) e
     ∙ sym (ap encode_utf8_all (put_text-narrow n used (unit_of_char c) le') ∙ encodes-append (begin_text n used (char_count c)) (c ∷ [])
-    ∙ ap (λ l. l ++ encode_utf8_all (c ∷ [])) (encodes-begin n used (char_count c)) ∙ ap (λ l. begin_text n used (char_count c) ++ l) (append-nil (encode_utf8 c)))
+    ∙ ap (λ l. l ++ encode_utf8_all (c ∷ [])) (encodes-begin n used (char_count c)) ∙ ap
+    (λ l. begin_text n used (char_count c) ++ l) (append-nil (encode_utf8 c)))
 
-pub encodes-wide : (n used c count column : ℕ) → count ≡ char_count c → n < count → column ≡ begin_at n used 1 → begin_text n used 1 ++ encode_utf8_all (replicate (n - column) 0xFFFD) ≡ encode_utf8_all (put_text n used (unit_of_char c))
+pub encodes-wide : (n used c count column : ℕ) → count ≡ char_count c → n < count → column ≡ begin_at n used 1
+    → begin_text n used 1 ++ encode_utf8_all (replicate (n - column) 0xFFFD) ≡ encode_utf8_all (put_text n used (unit_of_char c))
 encodes-wide n used c count column e lt at =
     ap (λ k. begin_text n used 1 ++ encode_utf8_all (replicate (n - k) 0xFFFD)) at
-    ∙ sym (ap encode_utf8_all (put_text-wide n used (unit_of_char c) (subst (λ k. n < k) e lt)) ∙ encodes-append (begin_text n used 1) (replicate (n - begin_at n used 1) 0xFFFD)
+    ∙ sym (ap encode_utf8_all (put_text-wide n used (unit_of_char c) (subst (λ k. n < k) e lt)) ∙ encodes-append
+    (begin_text n used 1) (replicate (n - begin_at n used 1) 0xFFFD)
     ∙ ap (λ l. l ++ encode_utf8_all (replicate (n - begin_at n used 1) 0xFFFD)) (encodes-begin n used 1))
 
-pub encodes-pending : (n : ℕ) (words begun : Bool) (line : List ℕ) (lines : List (List ℕ)) → cond begun (10 ∷ []) [] ++ (encode_utf8_all (put_all n 0 (units n words line)) ++ encode_utf8_all (pending n words true lines))
+pub encodes-pending : (n : ℕ) (words begun : Bool) (line : List ℕ) (lines : List (List ℕ))
+    → cond begun (10 ∷ []) [] ++ (encode_utf8_all (put_all n 0 (units n words line)) ++ encode_utf8_all (pending n words true lines))
     ≡ encode_utf8_all (pending n words begun (line ∷ lines))
 encodes-pending n words begun line lines =
     let feed = cond begun (10 ∷ []) [] in
     let text = put_all n 0 (units n words line) in
     let rest = pending n words true lines in
-    sym (encodes-append feed (text ++ rest) ∙ ap (λ l. l ++ encode_utf8_all (text ++ rest)) (encodes-feed begun) ∙ ap (λ l. feed ++ l) (encodes-append text rest))
+    sym (encodes-append feed (text ++ rest) ∙ ap (λ l. l ++ encode_utf8_all (text ++ rest)) (encodes-feed begun) ∙ ap
+    (λ l. feed ++ l) (encodes-append text rest))

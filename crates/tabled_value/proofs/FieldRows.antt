@@ -12,12 +12,14 @@ use Rattle.std.proofs.lemmas.Iterator.{zips}
 use Rattle.std.proofs.lemmas.List.{nil_from_length}
 use Rattle.std.proofs.lemmas.List.Elements.{All-append, All-cons, All-nil}
 use Rattle.tabled_base.specs.Cells.{IsRectangular}
-use Rattle.tabled_base.proofs.Padding.{rectangular-from_length}
+use Rattle.tabled_base.proofs.Lengthening.{rectangular-from_length}
 use Rattle.tabled_value.specs.ValueRows.{FieldsAdded, pairs}
 use Rattle.tabled_value.proofs.Joining.{all_zip-more}
 
 -- the rows of the next value
-pub fields_added : {V : Type 0} (shows : V → List (List ℕ) → Type 0) (names : List (List ℕ)) (values : List V) (old new : List (List (List ℕ))) (value : V) (row : List (List ℕ)) → FieldsAdded shows names values old → shows value row → new ≡ old ++ pairs names row → FieldsAdded shows names (values ++ value ∷ []) new
+pub fields_added : {V : Type 0} (shows : V → List (List ℕ) → Type 0) (names : List (List ℕ)) (values : List V)
+    (old new : List (List (List ℕ))) (value : V) (row : List (List ℕ)) → FieldsAdded shows names values old
+    → shows value row → new ≡ old ++ pairs names row → FieldsAdded shows names (values ++ value ∷ []) new
 fields_added shows names values old new value row h r e = record {
   rows = h.rows ++ row ∷ [];
   each = all_zip-more shows values h.rows value row h.each r;
@@ -35,7 +37,8 @@ two_of_all names [] = All-nil (λ row. length row ≡ 2)
 two_of_all names (row ∷ rows) =
     All-append (λ r. length r ≡ 2) (pairs names row) (flat_map (pairs names) rows) (two_each (zip names row)) (two_of_all names rows)
 
-pub rectangular_fields : {V : Type 0} (shows : V → List (List ℕ) → Type 0) (names : List (List ℕ)) (values : List V) (all : List (List (List ℕ))) → FieldsAdded shows names values all → IsRectangular all
+pub rectangular_fields : {V : Type 0} (shows : V → List (List ℕ) → Type 0) (names : List (List ℕ)) (values : List V)
+    (all : List (List (List ℕ))) → FieldsAdded shows names values all → IsRectangular all
 rectangular_fields shows names values all h =
     subst IsRectangular (sym h.whole) (rectangular-from_length 2 (flat_map (pairs names) h.rows) (two_of_all names h.rows))
 
@@ -49,10 +52,13 @@ no_texts : (names : List (List ℕ)) → pairs names [] ≡ []
 no_texts [] = refl
 no_texts (name ∷ names) = refl
 
-pub no_pair : {A B Z : Type 0} (f : A → List ℕ) (h : B → List ℕ) (s t : Zip (Iter A) (IntoIter B Z)) (r : Option (Bor A × B)) (rows whole : List (List (List ℕ))) → r ≡ None → zips fronts into_iter_steps s r t → (rows ++ left f h s ≡ whole) × (length (into_iter_items (zip_second s)) ≡ into_iter_len (zip_second s)) → rows ≡ whole
+pub no_pair : {A B Z : Type 0} (f : A → List ℕ) (h : B → List ℕ) (s t : Zip (Iter A) (IntoIter B Z))
+    (r : Option (Bor A × B)) (rows whole : List (List (List ℕ))) → r ≡ None → zips fronts into_iter_steps s r t
+    → (rows ++ left f h s ≡ whole) × (length (into_iter_items (zip_second s)) ≡ into_iter_len (zip_second s)) → rows ≡ whole
 no_pair {A} {B} {Z} f h s t r rows whole e steps so_far =
     sym (append-nil rows) ∙ ap (λ u. rows ++ u) (sym (ended (subst (λ o. zips fronts into_iter_steps s o t) e steps))) ∙ so_far.0
   where
     ended : ((u : Iter A) × fronts (zip_first s) None u) ⊎ ((u : IntoIter B Z) × into_iter_steps (zip_second s) None u) → left f h s ≡ []
     ended (inl a) = ap (λ l. pairs (map f l) (map h (into_iter_items (zip_second s)))) (nil_from_length _ a.1.0)
-    ended (inr b) = ap (λ l. pairs (map f (iter_rest (zip_first s))) (map h l)) (nil_from_length _ (so_far.1 ∙ b.1.0)) ∙ no_texts (map f (iter_rest (zip_first s)))
+    ended (inr b) = ap (λ l. pairs (map f (iter_rest (zip_first s))) (map h l)) (nil_from_length _ (so_far.1 ∙ b.1.0))
+        ∙ no_texts (map f (iter_rest (zip_first s)))

@@ -7,14 +7,16 @@ abbrev pub pairs : List (List ℕ) → List (List ℕ) → List (List (List ℕ)
 pairs names texts = map (λ field. field.0 ∷ field.1 ∷ []) (zip names texts)
 
 -- a row a value stands behind others, each of so many fields
-pub record ValuesAdded {V : Type 0} (shows : V → List (List ℕ) → Type 0) (count : ℕ) (values : List V) (before all : List (List (List ℕ))) : Type 0 where
+pub record ValuesAdded {V : Type 0} (shows : V → List (List ℕ) → Type 0) (count : ℕ) (values : List V)
+    (before all : List (List (List ℕ))) : Type 0 where
   pub rows : List (List (List ℕ))
   pub each : AllZip shows values rows
   pub lengths : All (λ row. length row ≡ count) rows
   pub whole : all ≡ before ++ rows
 
 -- there is a row for each field of each value
-pub record FieldsAdded {V : Type 0} (shows : V → List (List ℕ) → Type 0) (names : List (List ℕ)) (values : List V) (all : List (List (List ℕ))) : Type 0 where
+pub record FieldsAdded {V : Type 0} (shows : V → List (List ℕ) → Type 0) (names : List (List ℕ)) (values : List V)
+    (all : List (List (List ℕ))) : Type 0 where
   pub rows : List (List (List ℕ))
   pub each : AllZip shows values rows
   pub whole : all ≡ flat_map (pairs names) rows

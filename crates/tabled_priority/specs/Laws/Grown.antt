@@ -1,5 +1,34 @@
 -- The shapes of grown lists, with one more step in front.
-use Rattle.std.proofs.Common.{◌≡◌, ◌≢◌, ℕ, ◌+◌, ◌<◌, ◌≤◌, Bool, true, false, cond, not, List, [], ◌∷◌, length, sum, max, refl, sym, ap, ◌∙◌, subst, arith, ⊎_elim, suc, length-set, nat_lt, if◌then◌else◌}
+use Rattle.std.proofs.Common.{
+  ◌≡◌,
+  ◌≢◌,
+  ℕ,
+  ◌+◌,
+  ◌<◌,
+  ◌≤◌,
+  Bool,
+  true,
+  false,
+  cond,
+  not,
+  List,
+  [],
+  ◌∷◌,
+  length,
+  sum,
+  max,
+  refl,
+  sym,
+  ap,
+  ◌∙◌,
+  subst,
+  arith,
+  ⊎_elim,
+  suc,
+  length-set,
+  nat_lt,
+  if◌then◌else◌,
+}
 use Rattle.std.proofs.lemmas.List.{get_or-set_same, get_or-set_other}
 use Rattle.std.proofs.lemmas.List.Sums.{sum_by-set, sum_by-cons}
 use Rattle.std.proofs.lemmas.Bool.{cases_lt, cases_eq, cases_Bool, ne_eqb, eq-eqb}
@@ -69,7 +98,8 @@ IsGrownFrom-step xs i by new h t =
         least = λ j. let a = t.kept.least j in let b = le-raised i xs (raised xs i) l j in omega arith;
         zeros = λ j z. t.kept.zeros j (l.there j (λ e. let p : 0 < at xs j = subst (λ k. 0 < at xs k) (sym e) h in omega arith) ∙ z);
       };
-      total = let here = l.here in let a = added-some (raised xs i) by i (omega arith) in let b = added-some xs (by + 1) i h in let c = t.total in let d = l.total in omega arith;
+      total = let here = l.here in let a = added-some (raised xs i) by i (omega arith) in
+          let b = added-some xs (by + 1) i h in let c = t.total in let d = l.total in omega arith;
     }
 
 -- where nothing is added, the list is the old one
@@ -80,12 +110,23 @@ same_grown old by new t z i = ⊎_elim
 
 -- ---- one place takes all
 pub IsGrownAt-nothing : (P : List ℕ → ℕ → Type 0) (xs : List ℕ) → IsGrownAt P xs 0 xs
-IsGrownAt-nothing P xs = record { grows = IsGrownFrom-nothing xs; place = 0; named = λ h. let e = (IsGrownFrom-nothing xs).total in absurd (omega arith); others = λ i _. refl }
+IsGrownAt-nothing P xs = record {
+  grows = IsGrownFrom-nothing xs;
+  place = 0;
+  named = λ h. let e = (IsGrownFrom-nothing xs).total in absurd (omega arith);
+  others = λ i _. refl;
+}
 
 pub IsGrownAt-none : (P : List ℕ → ℕ → Type 0) (xs : List ℕ) (by : ℕ) → ((i : ℕ) → at xs i ≤ 0) → IsGrownAt P xs by xs
-IsGrownAt-none P xs by h = record { grows = IsGrownFrom-none xs by h; place = 0; named = λ p. let e = added-none xs by h in absurd (omega arith); others = λ i _. refl }
+IsGrownAt-none P xs by h = record {
+  grows = IsGrownFrom-none xs by h;
+  place = 0;
+  named = λ p. let e = added-none xs by h in absurd (omega arith);
+  others = λ i _. refl;
+}
 
-IsGrownAt-step : (P : List ℕ → ℕ → Type 0) (xs : List ℕ) (i by : ℕ) (new : List ℕ) → 0 < at xs i → P xs i → ((j : ℕ) → P (raised xs i) j → j ≡ i) → IsGrownAt P (raised xs i) by new → IsGrownAt P xs (by + 1) new
+IsGrownAt-step : (P : List ℕ → ℕ → Type 0) (xs : List ℕ) (i by : ℕ) (new : List ℕ) → 0 < at xs i → P xs i
+    → ((j : ℕ) → P (raised xs i) j → j ≡ i) → IsGrownAt P (raised xs i) by new → IsGrownAt P xs (by + 1) new
 IsGrownAt-step P xs i by new h p one s =
     let l = IsRaised-raised xs i 0 h in
     record {
@@ -108,7 +149,8 @@ IsLeftGrown-step xs i by new g s =
     (λ less. let a = g.first j less in let b : 0 < at (raised xs i) j = q.above in absurd (omega arith))
     (λ ge. let a = q.first i (omega arith) in absurd (omega arith)) (cases_lt j i)) (cases_eq j i)) s
 
-pub IsRightGrown-step : (xs : List ℕ) (i by : ℕ) (new : List ℕ) → IsRightmost xs [] i → IsRightGrown (raised xs i) by new → IsRightGrown xs (by + 1) new
+pub IsRightGrown-step : (xs : List ℕ) (i by : ℕ) (new : List ℕ) → IsRightmost xs [] i
+    → IsRightGrown (raised xs i) by new → IsRightGrown xs (by + 1) new
 IsRightGrown-step xs i by new g s =
     let h : 0 < at xs i = g.above in
     let l = IsRaised-raised xs i 0 h in
@@ -118,17 +160,24 @@ IsRightGrown-step xs i by new g s =
     (λ more. let a = g.last j more in let b : 0 < at (raised xs i) j = q.above in absurd (omega arith))
     (λ le. let a = q.last i (omega arith) in absurd (omega arith)) (cases_lt i j)) (cases_eq j i)) s
 
-pub IsMaxGrown-step : (right : Bool) (xs : List ℕ) (i by : ℕ) (new : List ℕ) → IsGreatest right xs [] i → IsMaxGrown right (raised xs i) by new → IsMaxGrown right xs (by + 1) new
+pub IsMaxGrown-step : (right : Bool) (xs : List ℕ) (i by : ℕ) (new : List ℕ) → IsGreatest right xs [] i
+    → IsMaxGrown right (raised xs i) by new → IsMaxGrown right xs (by + 1) new
 IsMaxGrown-step right xs i by new g s =
     let h : 0 < at xs i = g.above in
     let l = IsRaised-raised xs i 0 h in
     let here = l.here in
     IsGrownAt-step (λ v. IsGreatest right v []) xs i by new h g (λ j q. ⊎_elim
-    (λ e. e) (λ ne. let e = l.there j ne in let b : 0 < at (raised xs i) j = q.above in let a = g.most j (omega arith) in let c = q.most i (omega arith) in absurd (omega arith)) (cases_eq j i)) s
+    (λ e. e) (λ ne. let e = l.there j ne in let b : 0 < at (raised xs i) j = q.above in
+    let a = g.most j (omega arith) in let c = q.most i (omega arith) in absurd (omega arith)) (cases_eq j i)) s
 
 -- ---- Min
 pub IsMinGrown-nothing : (right : Bool) (xs : List ℕ) → IsMinGrown right xs 0 xs
-IsMinGrown-nothing right xs = record { grows = IsGrownFrom-nothing xs; level = 0; place = 0; raised = λ i h. let b = level-le-ceiling (not right) 0 0 i in omega (arith, b.1) }
+IsMinGrown-nothing right xs = record {
+  grows = IsGrownFrom-nothing xs;
+  level = 0;
+  place = 0;
+  raised = λ i h. let b = level-le-ceiling (not right) 0 0 i in omega (arith, b.1);
+}
 
 pub IsMinGrown-none : (right : Bool) (xs : List ℕ) (by : ℕ) → ((i : ℕ) → at xs i ≤ 0) → IsMinGrown right xs by xs
 IsMinGrown-none right xs by h = record { grows = IsGrownFrom-none xs by h; level = 0; place = 0; raised = λ i p. let a = h i in absurd (omega arith) }
@@ -145,17 +194,20 @@ least-side true x y i j h e = grind (arith, nat_tests)
 least-side false x y i j h e = grind (arith, nat_tests)
 
 -- where the floor of i is at most its height, no other nonzero place is raised
-floor-side : (right : Bool) (level p i j : ℕ) → (if right then nat_lt j i else nat_lt i j) ≡ true → ceiling (not right) level p j ≤ ceiling (not right) level p i
+floor-side : (right : Bool) (level p i j : ℕ) → (if right then nat_lt j i else nat_lt i j) ≡ true
+    → ceiling (not right) level p j ≤ ceiling (not right) level p i
 floor-side true level p i j h = grind (arith, nat_tests)
 floor-side false level p i j h = grind (arith, nat_tests)
 
-floor-other : (right : Bool) (level p i j : ℕ) (x height : ℕ) → ceiling (not right) level p i ≤ height → height ≤ x → (height ≡ x → (if right then nat_lt j i else nat_lt i j) ≡ true) → ceiling (not right) level p j ≤ x
+floor-other : (right : Bool) (level p i j : ℕ) (x height : ℕ) → ceiling (not right) level p i ≤ height → height ≤ x
+    → (height ≡ x → (if right then nat_lt j i else nat_lt i j) ≡ true) → ceiling (not right) level p j ≤ x
 floor-other right level p i j x height a b c = ⊎_elim
     (λ e. let s = floor-side right level p i j (c (sym e)) in omega arith)
     (λ ne. let f = level-le-ceiling (not right) level p i in let g = level-le-ceiling (not right) level p j in omega (arith, f.0, f.1, g.0, g.1))
     (cases_eq x height)
 
-pub IsMinGrown-step : (right : Bool) (xs : List ℕ) (i by : ℕ) (new : List ℕ) → IsLeast right xs [] i → IsMinGrown right (raised xs i) by new → IsMinGrown right xs (by + 1) new
+pub IsMinGrown-step : (right : Bool) (xs : List ℕ) (i by : ℕ) (new : List ℕ) → IsLeast right xs [] i
+    → IsMinGrown right (raised xs i) by new → IsMinGrown right xs (by + 1) new
 IsMinGrown-step right xs i by new g s =
     let h : 0 < at xs i = g.above in
     let l = IsRaised-raised xs i 0 h in
@@ -170,7 +222,8 @@ IsMinGrown-step right xs i by new g s =
       grows = t;
       level = s.level;
       place = s.place;
-      raised = λ j pos. ⊎_elim (λ e. subst (λ k. at new k ≡ max (at xs k) (ceiling (not right) s.level s.place k)) (sym e) (omega arith)) (λ ne. other j ne pos) (cases_eq j i);
+      raised = λ j pos. ⊎_elim (λ e. subst (λ k. at new k ≡ max (at xs k) (ceiling (not right) s.level s.place k))
+          (sym e) (omega arith)) (λ ne. other j ne pos) (cases_eq j i);
     })
     (λ low.
     let p = cond right i (i + 1) in
@@ -209,9 +262,17 @@ IsRoundGrown-nothing kept xs = record {
 pub IsRoundGrown-none : (kept : ℕ) (xs : List ℕ) (by : ℕ) → ((i : ℕ) → at xs i ≤ 0) → IsRoundGrown kept xs by xs kept
 IsRoundGrown-none kept xs by h =
     let e = added-none xs by h in
-    record { grows = IsGrownFrom-none xs by h; rounds = 0; last = 0; stays = λ _. refl; moves = λ z. absurd (omega arith); gains = λ i l z. absurd (omega arith) }
+    record {
+      grows = IsGrownFrom-none xs by h;
+      rounds = 0;
+      last = 0;
+      stays = λ _. refl;
+      moves = λ z. absurd (omega arith);
+      gains = λ i l z. absurd (omega arith);
+    }
 
-pub IsRoundGrown-step : (kept : ℕ) (xs : List ℕ) (i by : ℕ) (new : List ℕ) (kept' : ℕ) → IsNext kept xs [] i → IsRoundGrown (place_after (length xs) i) (raised xs i) by new kept' → IsRoundGrown kept xs (by + 1) new kept'
+pub IsRoundGrown-step : (kept : ℕ) (xs : List ℕ) (i by : ℕ) (new : List ℕ) (kept' : ℕ) → IsNext kept xs [] i
+    → IsRoundGrown (place_after (length xs) i) (raised xs i) by new kept' → IsRoundGrown kept xs (by + 1) new kept'
 IsRoundGrown-step kept xs i by new kept' g s =
     let n = length xs in
     let h : 0 < at xs i = g.above in
@@ -235,7 +296,8 @@ IsRoundGrown-step kept xs i by new kept' g s =
     let moved = s.moves some in
     let moves : kept' ≡ place_after n p = moved.1 ∙ ap (λ k. place_after k p) len in
     let gain : (j : ℕ) → j < n → 0 < at (raised xs i) j → at new j ≡ at (raised xs i) j + cond (is_met s₁ p j) (s.rounds + 1) s.rounds =
-    λ j in' pos. subst (λ k. at new j ≡ at (raised xs i) j + cond (is_met k p j) (s.rounds + 1) s.rounds) started (s.gains j (omega arith) some pos) in
+    λ j in' pos. subst (λ k. at new j ≡ at (raised xs i) j + cond (is_met k p j) (s.rounds + 1) s.rounds) started
+    (s.gains j (omega arith) some pos) in
     ⊎_elim
     (λ own. record {
       grows = t;
@@ -246,10 +308,12 @@ IsRoundGrown-step kept xs i by new kept' g s =
       gains = λ j in' _ pos. ⊎_elim
           (λ is. subst (λ k. at new k ≡ at xs k + cond (is_met s₀ i k) (s.rounds + 1 + 1) (s.rounds + 1)) (sym is)
           (subst (λ b. at new i ≡ at xs i + cond b (s.rounds + 1 + 1) (s.rounds + 1)) (sym (met_itself s₀ i))
-          (let a = subst (λ b. at new i ≡ at (raised xs i) i + cond b (s.rounds + 1) s.rounds) (ap (λ k. is_met s₁ k i) own ∙ met_all n i i inside inside) (gain i inside (omega arith)) in omega arith)))
+          (let a = subst (λ b. at new i ≡ at (raised xs i) i + cond b (s.rounds + 1) s.rounds)
+          (ap (λ k. is_met s₁ k i) own ∙ met_all n i i inside inside) (gain i inside (omega arith)) in omega arith)))
           (λ ne. subst (λ b. at new j ≡ at xs j + cond b (s.rounds + 1 + 1) (s.rounds + 1)) (sym (unmet j in' ne pos))
           (let e = l.there j ne in
-          let a = subst (λ b. at new j ≡ at (raised xs i) j + cond b (s.rounds + 1) s.rounds) (ap (λ k. is_met s₁ k j) own ∙ met_all n i j inside in') (gain j in' (omega arith)) in omega arith))
+          let a = subst (λ b. at new j ≡ at (raised xs i) j + cond b (s.rounds + 1) s.rounds)
+          (ap (λ k. is_met s₁ k j) own ∙ met_all n i j inside in') (gain j in' (omega arith)) in omega arith))
           (cases_eq j i);
     })
     (λ other.
@@ -266,7 +330,8 @@ IsRoundGrown-step kept xs i by new kept' g s =
       gains = λ j in' _ pos. ⊎_elim
           (λ is. subst (λ k. at new k ≡ at xs k + cond (is_met s₀ p k) (s.rounds + 1) s.rounds) (sym is)
           (subst (λ b. at new i ≡ at xs i + cond b (s.rounds + 1) s.rounds) (sym (met_first n s₀ i p s₀_in inside p_in p_unmet))
-          (let a = subst (λ b. at new i ≡ at (raised xs i) i + cond b (s.rounds + 1) s.rounds) (unmet_last n i p inside p_in other) (gain i inside (omega arith)) in omega arith)))
+          (let a = subst (λ b. at new i ≡ at (raised xs i) i + cond b (s.rounds + 1) s.rounds)
+          (unmet_last n i p inside p_in other) (gain i inside (omega arith)) in omega arith)))
           (λ ne.
           let e = l.there j ne in
           subst (λ b. at new j ≡ at xs j + cond b (s.rounds + 1) s.rounds) (met_same n s₀ i p j s₀_in inside p_in in' p_unmet (unmet j in' ne pos))

@@ -29,12 +29,14 @@ spare_total-lowered xs mins i h =
     let l = IsLowered-lowered xs i (at mins i) h in
     let here = l.here in
     ap (λ n. sum_below (spare (lowered xs i) mins) n + 1) (length-set xs i (at xs i - 1))
-    ∙ sum_below-less (spare xs mins) (spare (lowered xs i) mins) (length xs) i 1 (in_range xs i (at mins i) h) (omega arith) (λ j ne. ap (λ x. x - at mins j) (l.there j ne))
+    ∙ sum_below-less (spare xs mins) (spare (lowered xs i) mins) (length xs) i 1 (in_range xs i (at mins i) h)
+    (omega arith) (λ j ne. ap (λ x. x - at mins j) (l.there j ne))
 
 -- low stays where one is taken from a place above its minimum
 pub low-lowered : (old mins new : List ℕ) (i : ℕ) → at mins i < at old i → IsLowered i old new → (j : ℕ) → low new mins j ≡ low old mins j
 low-lowered old mins new i h l j = ⊎_elim
-    (λ e. let here : at new j + 1 ≡ at old j = subst (λ k. at new k + 1 ≡ at old k) (sym e) l.here in let above : at mins j < at old j = subst (λ k. at mins k < at old k) (sym e) h in omega arith)
+    (λ e. let here : at new j + 1 ≡ at old j = subst (λ k. at new k + 1 ≡ at old k) (sym e) l.here in
+    let above : at mins j < at old j = subst (λ k. at mins k < at old k) (sym e) h in omega arith)
     (λ ne. ap (λ x. min x (at mins j)) (l.there j ne)) (cases_eq j i)
 
 pub le-lowered : (i : ℕ) (old new : List ℕ) → IsLowered i old new → (j : ℕ) → at new j ≤ at old j
@@ -58,7 +60,8 @@ IsTakenFrom-done xs mins by h = record {
   total = let e = spare_total-none xs mins h in omega arith;
 }
 
-pub IsTakenFrom-step : (xs mins : List ℕ) (i by : ℕ) (new : List ℕ) → at mins i < at xs i → IsTakenFrom (lowered xs i) mins by new → IsTakenFrom xs mins (by + 1) new
+pub IsTakenFrom-step : (xs mins : List ℕ) (i by : ℕ) (new : List ℕ) → at mins i < at xs i
+    → IsTakenFrom (lowered xs i) mins by new → IsTakenFrom xs mins (by + 1) new
 IsTakenFrom-step xs mins i by new h t =
     let l = IsLowered-lowered xs i (at mins i) h in
     record {
@@ -76,6 +79,7 @@ IsPermitted-lowered old mins xs i h p =
     let here = l.here in
     record {
       same_length = length-set xs i (at xs i - 1) ∙ p.same_length;
-      least = λ j. ⊎_elim (λ e. subst (λ k. low old mins k ≤ at (lowered xs i) k) (sym e) (omega arith)) (λ ne. let a = l.there j ne in let b = p.least j in omega arith) (cases_eq j i);
+      least = λ j. ⊎_elim (λ e. subst (λ k. low old mins k ≤ at (lowered xs i) k) (sym e) (omega arith))
+          (λ ne. let a = l.there j ne in let b = p.least j in omega arith) (cases_eq j i);
       most = λ j. let a = le-lowered i xs (lowered xs i) l j in let b = p.most j in omega arith;
     }

@@ -32,7 +32,8 @@ unmet_last n i e h k ne = grind (arith, nat_tests)
 pub met_first : (n s i e : ℕ) → s < n → i < n → e < n → is_met s i e ≡ false → is_met s e i ≡ true
 met_first n s i e a b c h = grind (arith, nat_tests)
 
-pub met_same : (n s i e j : ℕ) → s < n → i < n → e < n → j < n → is_met s i e ≡ false → is_met s i j ≡ false → is_met (place_after n i) e j ≡ is_met s e j
+pub met_same : (n s i e j : ℕ) → s < n → i < n → e < n → j < n → is_met s i e ≡ false → is_met s i j ≡ false
+    → is_met (place_after n i) e j ≡ is_met s e j
 met_same n s i e j a b c d h k = grind (arith, nat_tests)
 
 pub IsRoundShrunk-none : (kept : ℕ) (xs mins : List ℕ) → IsRoundShrunk kept xs mins 0 xs kept
@@ -50,7 +51,15 @@ pub IsRoundShrunk-done : (kept : ℕ) (xs mins : List ℕ) (by : ℕ) → ((i : 
 IsRoundShrunk-done kept xs mins by h =
     let t = IsTakenFrom-done xs mins by h in
     let e = t.total in
-    record { takes = t; rounds = 0; last = 0; stays = λ _. refl; moves = λ z. absurd (omega arith); reached = λ z. absurd (omega arith); losses = λ i l z. absurd (omega arith) }
+    record {
+      takes = t;
+      rounds = 0;
+      last = 0;
+      stays = λ _. refl;
+      moves = λ z. absurd (omega arith);
+      reached = λ z. absurd (omega arith);
+      losses = λ i l z. absurd (omega arith);
+    }
 
 -- where nothing is taken the list may stay
 pub IsRoundShrunk-still : (kept : ℕ) (xs mins : List ℕ) (by : ℕ) → taken xs mins by ≡ 0 → IsRoundShrunk kept xs mins by xs kept
@@ -68,7 +77,8 @@ IsRoundShrunk-still kept xs mins by h = record {
 nothing_lost : (xs mins new : List ℕ) (j k : ℕ) → at new j ≡ at xs j → at xs j ≤ at mins j → at new j + min (spare xs mins j) k ≡ at xs j
 nothing_lost xs mins new j k e h = omega arith
 
-pub IsRoundShrunk-step : (kept : ℕ) (xs mins : List ℕ) (i by : ℕ) (new : List ℕ) (kept' : ℕ) → IsNext kept xs mins i → IsRoundShrunk (place_after (length xs) i) (lowered xs i) mins by new kept' → IsRoundShrunk kept xs mins (by + 1) new kept'
+pub IsRoundShrunk-step : (kept : ℕ) (xs mins : List ℕ) (i by : ℕ) (new : List ℕ) (kept' : ℕ) → IsNext kept xs mins i
+    → IsRoundShrunk (place_after (length xs) i) (lowered xs i) mins by new kept' → IsRoundShrunk kept xs mins (by + 1) new kept'
 IsRoundShrunk-step kept xs mins i by new kept' g s =
     let n = length xs in
     let h = g.above in
@@ -85,13 +95,15 @@ IsRoundShrunk-step kept xs mins i by new kept' g s =
     let least = λ (j : ℕ). t.permitted.least j in
     let most = λ (j : ℕ). t.permitted.most j in
     -- a place that keeps its value and has nothing to lose
-    let idle = λ (j k : ℕ) (none : at xs j ≤ at mins j). nothing_lost xs mins new j k (let a = t.permitted.least j in let b = t.permitted.most j in omega arith) none in
+    let idle = λ (j k : ℕ) (none : at xs j ≤ at mins j). nothing_lost xs mins new j k (let a = t.permitted.least j in
+    let b = t.permitted.most j in omega arith) none in
     ⊎_elim
     (λ some.
     let p = s.last in
     let reached = s.reached some in
     let moves : kept' ≡ place_after n p = s.moves some ∙ ap (λ k. place_after k p) len in
-    let loss = λ (j : ℕ) (in' : j < n). subst (λ k. at new j + min (spare (lowered xs i) mins j) (cond (is_met k p j) (s.rounds + 1) s.rounds) ≡ at (lowered xs i) j) started (s.losses j (omega arith) some) in
+    let loss = λ (j : ℕ) (in' : j < n). subst (λ k. at new j + min (spare (lowered xs i) mins j)
+    (cond (is_met k p j) (s.rounds + 1) s.rounds) ≡ at (lowered xs i) j) started (s.losses j (omega arith) some) in
     ⊎_elim
     -- the last round ends at i: every place is in it, and i begins another
     (λ own.
@@ -105,12 +117,14 @@ IsRoundShrunk-step kept xs mins i by new kept' g s =
       reached = λ _. omega arith;
       losses = λ j in' _. ⊎_elim
           (λ is. subst (λ k. at new k + min (spare xs mins k) (cond (is_met s₀ i k) (s.rounds + 1 + 1) (s.rounds + 1)) ≡ at xs k) (sym is)
-          (subst (λ b. at new i + min (spare xs mins i) (cond b (s.rounds + 1 + 1) (s.rounds + 1)) ≡ at xs i) (sym (met_itself s₀ i)) (let a = t.permitted.least i in omega arith)))
+          (subst (λ b. at new i + min (spare xs mins i) (cond b (s.rounds + 1 + 1) (s.rounds + 1)) ≡ at xs i)
+          (sym (met_itself s₀ i)) (let a = t.permitted.least i in omega arith)))
           (λ ne. ⊎_elim
           (λ met. idle j (cond (is_met s₀ i j) (s.rounds + 1 + 1) (s.rounds + 1)) (g.passed j in' ne met))
           (λ unmet. subst (λ b. at new j + min (spare xs mins j) (cond b (s.rounds + 1 + 1) (s.rounds + 1)) ≡ at xs j) (sym unmet)
           (let e = l.there j ne in
-          let a = subst (λ b. at new j + min (spare (lowered xs i) mins j) (cond b (s.rounds + 1) s.rounds) ≡ at (lowered xs i) j) (ap (λ k. is_met s₁ k j) own ∙ met_all n i j inside in') (loss j in') in omega arith))
+          let a = subst (λ b. at new j + min (spare (lowered xs i) mins j) (cond b (s.rounds + 1) s.rounds)
+          ≡ at (lowered xs i) j) (ap (λ k. is_met s₁ k j) own ∙ met_all n i j inside in') (loss j in') in omega arith))
           (cases_Bool (is_met s₀ i j)))
           (cases_eq j i);
     })
@@ -118,7 +132,8 @@ IsRoundShrunk-step kept xs mins i by new kept' g s =
     let e_p = l.there p other in
     let p_in : p < n = in_range xs p 0 (omega arith) in
     let spare_p : at mins p < at xs p = let a = t.permitted.least p in omega arith in
-    let p_unmet : is_met s₀ i p ≡ false = ⊎_elim (λ met. let z = g.passed p p_in other met in absurd (omega arith)) (λ no. no) (cases_Bool (is_met s₀ i p)) in
+    let p_unmet : is_met s₀ i p ≡ false = ⊎_elim (λ met. let z = g.passed p p_in other met in absurd (omega arith))
+    (λ no. no) (cases_Bool (is_met s₀ i p)) in
     record {
       takes = t;
       rounds = s.rounds;
@@ -128,13 +143,16 @@ IsRoundShrunk-step kept xs mins i by new kept' g s =
       reached = λ _. reached ∙ e_p;
       losses = λ j in' _. ⊎_elim
           (λ is. subst (λ k. at new k + min (spare xs mins k) (cond (is_met s₀ p k) (s.rounds + 1) s.rounds) ≡ at xs k) (sym is)
-          (subst (λ b. at new i + min (spare xs mins i) (cond b (s.rounds + 1) s.rounds) ≡ at xs i) (sym (met_first n s₀ i p s₀_in inside p_in p_unmet))
-          (let a = subst (λ b. at new i + min (spare (lowered xs i) mins i) (cond b (s.rounds + 1) s.rounds) ≡ at (lowered xs i) i) (unmet_last n i p inside p_in other) (loss i inside) in omega arith)))
+          (subst (λ b. at new i + min (spare xs mins i) (cond b (s.rounds + 1) s.rounds) ≡ at xs i)
+          (sym (met_first n s₀ i p s₀_in inside p_in p_unmet))
+          (let a = subst (λ b. at new i + min (spare (lowered xs i) mins i) (cond b (s.rounds + 1) s.rounds)
+          ≡ at (lowered xs i) i) (unmet_last n i p inside p_in other) (loss i inside) in omega arith)))
           (λ ne. ⊎_elim
           (λ met. idle j (cond (is_met s₀ p j) (s.rounds + 1) s.rounds) (g.passed j in' ne met))
           (λ unmet.
           let e = l.there j ne in
-          subst (λ b. at new j + min (spare xs mins j) (cond b (s.rounds + 1) s.rounds) ≡ at xs j) (met_same n s₀ i p j s₀_in inside p_in in' p_unmet unmet)
+          subst (λ b. at new j + min (spare xs mins j) (cond b (s.rounds + 1) s.rounds) ≡ at xs j)
+          (met_same n s₀ i p j s₀_in inside p_in in' p_unmet unmet)
           (let a = loss j in' in ap (λ x. at new j + min (x - at mins j) (cond (is_met s₁ p j) (s.rounds + 1) s.rounds)) (sym e) ∙ a ∙ e))
           (cases_Bool (is_met s₀ i j)))
           (cases_eq j i);
@@ -154,7 +172,8 @@ IsRoundShrunk-step kept xs mins i by new kept' g s =
           (subst (λ b. at new i + min (spare xs mins i) (cond b 1 0) ≡ at xs i) (sym (met_itself s₀ i)) (let a = same i in omega arith)))
           (λ ne. ⊎_elim
           (λ met. idle j (cond (is_met s₀ i j) 1 0) (g.passed j in' ne met))
-          (λ unmet. subst (λ b. at new j + min (spare xs mins j) (cond b 1 0) ≡ at xs j) (sym unmet) (let a = same j in let e = l.there j ne in omega arith))
+          (λ unmet. subst (λ b. at new j + min (spare xs mins j) (cond b 1 0) ≡ at xs j) (sym unmet)
+          (let a = same j in let e = l.there j ne in omega arith))
           (cases_Bool (is_met s₀ i j)))
           (cases_eq j i);
     })

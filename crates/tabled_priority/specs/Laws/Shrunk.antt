@@ -1,5 +1,39 @@
 -- The shapes of shrunk lists, with one more step in front.
-use Rattle.std.proofs.Common.{◌≡◌, ℕ, ◌+◌, ◌-◌, ◌<◌, ◌≤◌, Bool, true, false, cond, List, [], ◌∷◌, length, sum, min, max, refl, sym, ap, ◌∙◌, subst, arith, ⊎_elim, zero, suc, ◌≢◌, nat_lt, nat_le, ◌==◌, ◌||◌, ◌&&◌, if◌then◌else◌}
+use Rattle.std.proofs.Common.{
+  ◌≡◌,
+  ℕ,
+  ◌+◌,
+  ◌-◌,
+  ◌<◌,
+  ◌≤◌,
+  Bool,
+  true,
+  false,
+  cond,
+  List,
+  [],
+  ◌∷◌,
+  length,
+  sum,
+  min,
+  max,
+  refl,
+  sym,
+  ap,
+  ◌∙◌,
+  subst,
+  arith,
+  ⊎_elim,
+  zero,
+  suc,
+  ◌≢◌,
+  nat_lt,
+  nat_le,
+  ◌==◌,
+  ◌||◌,
+  ◌&&◌,
+  if◌then◌else◌,
+}
 use Rattle.std.proofs.lemmas.List.Sums.{get_or-le-sum_by, sum_by-cons}
 use Rattle.std.proofs.lemmas.List.{get_or_past}
 use Rattle.std.proofs.lemmas.Bool.{cases_lt, cases_eq, lt-ltb}
@@ -8,16 +42,29 @@ use Rattle.tabled_priority.specs.Permitted.{at, low, taken, IsTakenFrom}
 use Rattle.tabled_priority.specs.Shrunk.{IsLeftShrunk, IsRightShrunk, ceiling, IsMaxShrunk, comes_before, IsMinShrunk}
 use Rattle.tabled_priority.specs.Peak.{IsLeftmost, IsRightmost, IsGreatest, IsLeast}
 use Rattle.tabled_priority.specs.Permitted.{lowered}
-use Rattle.tabled_priority.specs.Laws.Permitted.{IsLowered-lowered, low-lowered, spare_total-lowered, IsTakenFrom-none, IsTakenFrom-done, IsTakenFrom-step}
+use Rattle.tabled_priority.specs.Laws.Permitted.{
+  IsLowered-lowered,
+  low-lowered,
+  spare_total-lowered,
+  IsTakenFrom-none,
+  IsTakenFrom-done,
+  IsTakenFrom-step,
+}
 
 -- ---- Left
 pub IsLeftShrunk-none : (xs mins : List ℕ) → IsLeftShrunk xs mins 0 xs
 IsLeftShrunk-none xs mins = record { takes = IsTakenFrom-none xs mins; place = 0; before = λ i h. absurd (omega arith); after = λ i h. refl }
 
 pub IsLeftShrunk-done : (xs mins : List ℕ) (by : ℕ) → ((i : ℕ) → at xs i ≤ at mins i) → IsLeftShrunk xs mins by xs
-IsLeftShrunk-done xs mins by h = record { takes = IsTakenFrom-done xs mins by h; place = 0; before = λ i h. absurd (omega arith); after = λ i h. refl }
+IsLeftShrunk-done xs mins by h = record {
+  takes = IsTakenFrom-done xs mins by h;
+  place = 0;
+  before = λ i h. absurd (omega arith);
+  after = λ i h. refl;
+}
 
-pub IsLeftShrunk-step : (xs mins : List ℕ) (i by : ℕ) (new : List ℕ) → IsLeftmost xs mins i → IsLeftShrunk (lowered xs i) mins by new → IsLeftShrunk xs mins (by + 1) new
+pub IsLeftShrunk-step : (xs mins : List ℕ) (i by : ℕ) (new : List ℕ) → IsLeftmost xs mins i
+    → IsLeftShrunk (lowered xs i) mins by new → IsLeftShrunk xs mins (by + 1) new
 IsLeftShrunk-step xs mins i by new g s =
     let h = g.above in
     let first = g.first in
@@ -36,12 +83,23 @@ IsLeftShrunk-step xs mins i by new g s =
 
 -- ---- Right
 pub IsRightShrunk-none : (xs mins : List ℕ) → IsRightShrunk xs mins 0 xs
-IsRightShrunk-none xs mins = record { takes = IsTakenFrom-none xs mins; place = length xs; before = λ i h. refl; after = λ i h. let e = get_or_past xs i 0 (omega arith) in omega arith }
+IsRightShrunk-none xs mins = record {
+  takes = IsTakenFrom-none xs mins;
+  place = length xs;
+  before = λ i h. refl;
+  after = λ i h. let e = get_or_past xs i 0 (omega arith) in omega arith;
+}
 
 pub IsRightShrunk-done : (xs mins : List ℕ) (by : ℕ) → ((i : ℕ) → at xs i ≤ at mins i) → IsRightShrunk xs mins by xs
-IsRightShrunk-done xs mins by h = record { takes = IsTakenFrom-done xs mins by h; place = 0; before = λ i h. absurd (omega arith); after = λ i _. let a = h i in omega arith }
+IsRightShrunk-done xs mins by h = record {
+  takes = IsTakenFrom-done xs mins by h;
+  place = 0;
+  before = λ i h. absurd (omega arith);
+  after = λ i _. let a = h i in omega arith;
+}
 
-pub IsRightShrunk-step : (xs mins : List ℕ) (i by : ℕ) (new : List ℕ) → IsRightmost xs mins i → IsRightShrunk (lowered xs i) mins by new → IsRightShrunk xs mins (by + 1) new
+pub IsRightShrunk-step : (xs mins : List ℕ) (i by : ℕ) (new : List ℕ) → IsRightmost xs mins i
+    → IsRightShrunk (lowered xs i) mins by new → IsRightShrunk xs mins (by + 1) new
 IsRightShrunk-step xs mins i by new g s =
     let h = g.above in
     let last = g.last in
@@ -87,7 +145,8 @@ pub IsTakenFrom-still : (xs mins : List ℕ) (by : ℕ) → taken xs mins by ≡
 IsTakenFrom-still xs mins by h = record { permitted = (IsTakenFrom-none xs mins).permitted; total = omega arith }
 
 pub IsMaxShrunk-still : (right : Bool) (xs mins : List ℕ) (by : ℕ) → taken xs mins by ≡ 0 → IsMaxShrunk right xs mins by xs
-IsMaxShrunk-still right xs mins by h = let s = IsMaxShrunk-none right xs mins in record { takes = IsTakenFrom-still xs mins by h; level = s.level; place = s.place; cut = s.cut }
+IsMaxShrunk-still right xs mins by h = let s = IsMaxShrunk-none right xs mins in
+    record { takes = IsTakenFrom-still xs mins by h; level = s.level; place = s.place; cut = s.cut }
 
 -- the ceilings with one taken from i, at the height of i
 ceiling-here : (right : Bool) (height i j : ℕ) → 0 < height → (ceiling right (height - 1) (cond right i (i + 1)) i + 1 ≡ height)
@@ -102,7 +161,8 @@ ceiling-side true level p i j h = grind (arith, nat_tests)
 ceiling-side false level p i j h = grind (arith, nat_tests)
 
 -- where the ceiling of i is at least its height, no other place above its minimum is cut
-ceiling-other : (right : Bool) (level p i j : ℕ) (x height : ℕ) → height ≤ ceiling right level p i → x ≤ height → (x ≡ height → cond right (nat_le j i) (nat_le i j) ≡ true) → x ≤ ceiling right level p j
+ceiling-other : (right : Bool) (level p i j : ℕ) (x height : ℕ) → height ≤ ceiling right level p i → x ≤ height
+    → (x ≡ height → cond right (nat_le j i) (nat_le i j) ≡ true) → x ≤ ceiling right level p j
 ceiling-other right level p i j x height a b c = ⊎_elim
     (λ e. let s = ceiling-side right level p i j (c e) in omega arith)
     (λ ne. let f = level-le-ceiling right level p i in let g = level-le-ceiling right level p j in omega (arith, f.0, f.1, g.0, g.1))
@@ -112,22 +172,27 @@ ceiling-other right level p i j x height a b c = ⊎_elim
 keeps : (xs mins : List ℕ) (j c : ℕ) → (at mins j < at xs j → at xs j ≤ c) → max (low xs mins j) (min (at xs j) c) ≡ at xs j
 keeps xs mins j c h = ⊎_elim (λ above. let a = h above in omega arith) (λ none. omega arith) (cases_lt (at mins j) (at xs j))
 
-pub IsMaxShrunk-step : (right : Bool) (xs mins : List ℕ) (i by : ℕ) (new : List ℕ) → IsGreatest right xs mins i → IsMaxShrunk right (lowered xs i) mins by new → IsMaxShrunk right xs mins (by + 1) new
+pub IsMaxShrunk-step : (right : Bool) (xs mins : List ℕ) (i by : ℕ) (new : List ℕ) → IsGreatest right xs mins i
+    → IsMaxShrunk right (lowered xs i) mins by new → IsMaxShrunk right xs mins (by + 1) new
 IsMaxShrunk-step right xs mins i by new g s =
     let h = g.above in
     let l = IsLowered-lowered xs i (at mins i) h in
     let lo = low-lowered xs mins (lowered xs i) i h l in
     let t = IsTakenFrom-step xs mins i by new h s.takes in
     let here = l.here in
-    let other = λ (j : ℕ) (ne : j ≢ i). s.cut j ∙ ap (λ k. max k (min (at (lowered xs i) j) (ceiling right s.level s.place j))) (lo j) ∙ ap (λ k. max (low xs mins j) (min k (ceiling right s.level s.place j))) (l.there j ne) in
-    let own : at new i ≡ max (low xs mins i) (min (at (lowered xs i) i) (ceiling right s.level s.place i)) = s.cut i ∙ ap (λ k. max k (min (at (lowered xs i) i) (ceiling right s.level s.place i))) (lo i) in
+    let other = λ (j : ℕ) (ne : j ≢ i). s.cut j ∙ ap
+    (λ k. max k (min (at (lowered xs i) j) (ceiling right s.level s.place j))) (lo j) ∙ ap
+    (λ k. max (low xs mins j) (min k (ceiling right s.level s.place j))) (l.there j ne) in
+    let own : at new i ≡ max (low xs mins i) (min (at (lowered xs i) i) (ceiling right s.level s.place i)) = s.cut i ∙
+    ap (λ k. max k (min (at (lowered xs i) i) (ceiling right s.level s.place i))) (lo i) in
     ⊎_elim
     -- the ceiling cuts i further: it stays
     (λ below. record {
       takes = t;
       level = s.level;
       place = s.place;
-      cut = λ j. ⊎_elim (λ e. subst (λ k. at new k ≡ max (low xs mins k) (min (at xs k) (ceiling right s.level s.place k))) (sym e) (omega arith)) (λ ne. other j ne) (cases_eq j i);
+      cut = λ j. ⊎_elim (λ e. subst (λ k. at new k
+          ≡ max (low xs mins k) (min (at xs k) (ceiling right s.level s.place k))) (sym e) (omega arith)) (λ ne. other j ne) (cases_eq j i);
     })
     -- else only i has lost one
     (λ high.
@@ -142,7 +207,8 @@ IsMaxShrunk-step right xs mins i by new g s =
           ⊎_elim
           (λ e. subst (λ k. at new k ≡ max (low xs mins k) (min (at xs k) (ceiling right (height - 1) p k))) (sym e) (let c = now.0 in omega arith))
           (λ ne.
-          let kept : at new j ≡ at xs j = other j ne ∙ keeps xs mins j (ceiling right s.level s.place j) (λ above. ceiling-other right s.level s.place i j (at xs j) height high (g.most j above) (g.side j above)) in
+          let kept : at new j ≡ at xs j = other j ne ∙ keeps xs mins j (ceiling right s.level s.place j)
+          (λ above. ceiling-other right s.level s.place i j (at xs j) height high (g.most j above) (g.side j above)) in
           kept ∙ sym (keeps xs mins j (ceiling right (height - 1) p j) (λ above. ⊎_elim
           (λ same. let c = now.2 ne (g.side j above same) in omega arith)
           (λ less. let m = g.most j above in let c = now.1 in omega arith) (cases_eq (at xs j) height))))
@@ -155,18 +221,22 @@ le-sum : (xs ys : List ℕ) → length xs ≡ length ys → ((i : ℕ) → at xs
 le-sum [] [] e h = omega arith
 le-sum [] (y ∷ ys) e h = absurd (omega arith)
 le-sum (x ∷ xs) [] e h = absurd (omega arith)
-le-sum (x ∷ xs) (y ∷ ys) e h = let a = h 0 in let r = le-sum xs ys (omega arith) (λ i. h (suc i)) in omega (arith, sum_by-cons (λ (z : ℕ). z) x xs, sum_by-cons (λ (z : ℕ). z) y ys)
+le-sum (x ∷ xs) (y ∷ ys) e h = let a = h 0 in let r = le-sum xs ys (omega arith) (λ i. h (suc i)) in
+    omega (arith, sum_by-cons (λ (z : ℕ). z) x xs, sum_by-cons (λ (z : ℕ). z) y ys)
 
 -- a list that is nowhere above another and below it at a place has a smaller sum
 pub lt-sum : (xs ys : List ℕ) (i : ℕ) → length xs ≡ length ys → ((j : ℕ) → at xs j ≤ at ys j) → at xs i < at ys i → sum xs < sum ys
 lt-sum [] [] i e h l = absurd (omega arith)
 lt-sum [] (y ∷ ys) i e h l = absurd (omega arith)
 lt-sum (x ∷ xs) [] i e h l = absurd (omega arith)
-lt-sum (x ∷ xs) (y ∷ ys) zero e h l = let r = le-sum xs ys (omega arith) (λ i. h (suc i)) in omega (arith, sum_by-cons (λ (z : ℕ). z) x xs, sum_by-cons (λ (z : ℕ). z) y ys)
-lt-sum (x ∷ xs) (y ∷ ys) (suc i) e h l = let a = h 0 in let r = lt-sum xs ys i (omega arith) (λ i. h (suc i)) l in omega (arith, sum_by-cons (λ (z : ℕ). z) x xs, sum_by-cons (λ (z : ℕ). z) y ys)
+lt-sum (x ∷ xs) (y ∷ ys) zero e h l = let r = le-sum xs ys (omega arith) (λ i. h (suc i)) in
+    omega (arith, sum_by-cons (λ (z : ℕ). z) x xs, sum_by-cons (λ (z : ℕ). z) y ys)
+lt-sum (x ∷ xs) (y ∷ ys) (suc i) e h l = let a = h 0 in let r = lt-sum xs ys i (omega arith) (λ i. h (suc i)) l in
+    omega (arith, sum_by-cons (λ (z : ℕ). z) x xs, sum_by-cons (λ (z : ℕ). z) y ys)
 
 -- where nothing is taken, the list is the old one
-pub same_where_none : (old mins : List ℕ) (by : ℕ) (new : List ℕ) → IsTakenFrom old mins by new → taken old mins by ≡ 0 → (i : ℕ) → at new i ≡ at old i
+pub same_where_none : (old mins : List ℕ) (by : ℕ) (new : List ℕ) → IsTakenFrom old mins by new → taken old mins by
+    ≡ 0 → (i : ℕ) → at new i ≡ at old i
 same_where_none old mins by new t z i = ⊎_elim
     (λ less. let s = lt-sum new old i t.permitted.same_length t.permitted.most less in let e = t.total in absurd (omega arith))
     (λ ge. let m = t.permitted.most i in omega arith) (cases_lt (at new i) (at old i))
@@ -193,12 +263,25 @@ before-irrefl : (right : Bool) (x i : ℕ) → before right x x i i ≡ true →
 before-irrefl right x i h = before-asym right x x i i h h
 
 pub IsMinShrunk-none : (right : Bool) (xs mins : List ℕ) → IsMinShrunk right xs mins 0 xs
-IsMinShrunk-none right xs mins = record { takes = IsTakenFrom-none xs mins; place = 0; above = λ h. absurd (omega arith); before = λ i h. absurd (omega arith); after = λ i h. absurd (omega arith) }
+IsMinShrunk-none right xs mins = record {
+  takes = IsTakenFrom-none xs mins;
+  place = 0;
+  above = λ h. absurd (omega arith);
+  before = λ i h. absurd (omega arith);
+  after = λ i h. absurd (omega arith);
+}
 
 pub IsMinShrunk-done : (right : Bool) (xs mins : List ℕ) (by : ℕ) → ((i : ℕ) → at xs i ≤ at mins i) → IsMinShrunk right xs mins by xs
-IsMinShrunk-done right xs mins by h = record { takes = IsTakenFrom-done xs mins by h; place = 0; above = λ z. let e = (IsTakenFrom-done xs mins by h).total in absurd (omega arith); before = λ i z a. let b = h i in absurd (omega arith); after = λ i z a. let b = h i in absurd (omega arith) }
+IsMinShrunk-done right xs mins by h = record {
+  takes = IsTakenFrom-done xs mins by h;
+  place = 0;
+  above = λ z. let e = (IsTakenFrom-done xs mins by h).total in absurd (omega arith);
+  before = λ i z a. let b = h i in absurd (omega arith);
+  after = λ i z a. let b = h i in absurd (omega arith);
+}
 
-pub IsMinShrunk-step : (right : Bool) (xs mins : List ℕ) (i by : ℕ) (new : List ℕ) → IsLeast right xs mins i → IsMinShrunk right (lowered xs i) mins by new → IsMinShrunk right xs mins (by + 1) new
+pub IsMinShrunk-step : (right : Bool) (xs mins : List ℕ) (i by : ℕ) (new : List ℕ) → IsLeast right xs mins i
+    → IsMinShrunk right (lowered xs i) mins by new → IsMinShrunk right xs mins (by + 1) new
 IsMinShrunk-step right xs mins i by new g s =
     let h = g.above in
     let l = IsLowered-lowered xs i (at mins i) h in
@@ -209,7 +292,8 @@ IsMinShrunk-step right xs mins i by new g s =
     let none_before = λ (j : ℕ) (above : at mins j < at xs j) (b : comes_before right xs j i ≡ true). ⊎_elim
     (λ e. before-irrefl right (at xs i) i (subst (λ k. before right (at xs k) (at xs i) k i ≡ true) e b))
     (λ ne. before-asym right (at xs j) (at xs i) j i b (g.first j ne above)) (cases_eq j i) in
-    let not_itself = λ (j : ℕ) (b : comes_before right xs i j ≡ true) (e : j ≡ i). before-irrefl right (at xs i) i (subst (λ k. before right (at xs i) (at xs k) i k ≡ true) e b) in
+    let not_itself = λ (j : ℕ) (b : comes_before right xs i j ≡ true) (e : j ≡ i). before-irrefl right (at xs i) i
+    (subst (λ k. before right (at xs i) (at xs k) i k ≡ true) e b) in
     ⊎_elim
     (λ some. ⊎_elim
     -- the place of the rest is i itself
@@ -222,7 +306,8 @@ IsMinShrunk-step right xs mins i by new g s =
           let ne = not_itself j b in
           let e = l.there j ne in
           let le = before-le right (at xs i) (at xs j) i j b in
-          s.after j some (omega arith) (subst (λ k. comes_before right (lowered xs i) k j ≡ true) (sym own) (before-lt right (at (lowered xs i) i) (at (lowered xs i) j) i j (omega arith))) ∙ e;
+          s.after j some (omega arith) (subst (λ k. comes_before right (lowered xs i) k j ≡ true) (sym own)
+          (before-lt right (at (lowered xs i) i) (at (lowered xs i) j) i j (omega arith))) ∙ e;
     })
     (λ other.
     let p = s.place in
@@ -240,12 +325,16 @@ IsMinShrunk-step right xs mins i by new g s =
           (λ more. s.before i some more (before-lt right (at (lowered xs i) i) (at (lowered xs i) p) i p (omega arith)) ∙ lo i)
           (λ no. let least = t.permitted.least i in let most = s.takes.permitted.most i in omega arith)
           (cases_lt (at mins i) (at (lowered xs i) i))))
-          (λ ne. let e = l.there j ne in s.before j some (omega arith) (subst (λ x. before right x (at (lowered xs i) p) j p ≡ true) (sym e) (subst (λ y. before right (at xs j) y j p ≡ true) (sym e_p) b)) ∙ lo j)
+          (λ ne. let e = l.there j ne in s.before j some (omega arith)
+          (subst (λ x. before right x (at (lowered xs i) p) j p ≡ true) (sym e)
+          (subst (λ y. before right (at xs j) y j p ≡ true) (sym e_p) b)) ∙ lo j)
           (cases_eq j i);
       after = λ j _ above b.
-          let ne = λ (is : j ≡ i). before-asym right (at xs p) (at xs i) p i (subst (λ k. before right (at xs p) (at xs k) p k ≡ true) is b) i_first in
+          let ne = λ (is : j ≡ i). before-asym right (at xs p) (at xs i) p i
+          (subst (λ k. before right (at xs p) (at xs k) p k ≡ true) is b) i_first in
           let e = l.there j ne in
-          s.after j some (omega arith) (subst (λ x. before right x (at (lowered xs i) j) p j ≡ true) (sym e_p) (subst (λ y. before right (at xs p) y p j ≡ true) (sym e) b)) ∙ e;
+          s.after j some (omega arith) (subst (λ x. before right x (at (lowered xs i) j) p j ≡ true) (sym e_p)
+          (subst (λ y. before right (at xs p) y p j ≡ true) (sym e) b)) ∙ e;
     })
     (cases_eq s.place i))
     -- nothing more is taken

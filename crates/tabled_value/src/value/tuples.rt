@@ -133,7 +133,8 @@ impl<A: Tabled, B: Tabled, C: Tabled, D: Tabled, E: Tabled, F: Tabled> Tabled
     for (A, B, C, D, E, F) {
     ghost LENGTH = { min (A.LENGTH + B.LENGTH + C.LENGTH + D.LENGTH + E.LENGTH + F.LENGTH) (2 ^ 64 - 1) };
 
-    ghost shows = { λ t row. Joined (A.shows t.0) (Joined (B.shows t.1) (Joined (C.shows t.2) (Joined (D.shows t.3) (Joined (E.shows t.4) (F.shows t.5))))) row };
+    ghost shows = { λ t row. Joined (A.shows t.0) (Joined (B.shows t.1)
+        (Joined (C.shows t.2) (Joined (D.shows t.3) (Joined (E.shows t.4) (F.shows t.5))))) row };
 
     ghost names = { A.names ++ (B.names ++ (C.names ++ (D.names ++ (E.names ++ F.names)))) };
 

@@ -8,6 +8,8 @@ pub returns : goal.returns
 returns g c =
     let a = g.S.Blocked.block c.args.sink in
     let b = g.S.Blocked.block c.put_output-result.new.sink.sink in
-    let P : List ℕ → Type 0 = λ u. Puts (sent_since g.B.Start.name g.B.Start.held a).bytes c.put_output-result.result (sent_since g.B.Start.name g.B.Start.held b).bytes (output_text u) in
-    let all = left g.B.Start.name g.B.Start.held a b c.put_output-result.result _ c.requires.name c.requires.held (subst P c.as_str.ensures.value c.put_output-result.ensures) in
+    let P : List ℕ → Type 0 = λ u. Puts (sent_since g.B.Start.name g.B.Start.held a).bytes c.put_output-result.result
+    (sent_since g.B.Start.name g.B.Start.held b).bytes (output_text u) in
+    let all = left g.B.Start.name g.B.Start.held a b c.put_output-result.result _ c.requires.name c.requires.held
+    (subst P c.as_str.ensures.value c.put_output-result.ensures) in
     record { put = all.put; advanced = left_advances a b c.put_output-result.result _ all }

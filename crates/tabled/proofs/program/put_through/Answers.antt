@@ -18,13 +18,15 @@ returns g c =
     (elim c.match-result.branch [
       | in-Ok w ↦
           let put = subst (λ r. Puts (block_sent a).bytes r (block_sent b).bytes text) w.in-Ok.is c.put_blocked-result.ensures.put in
-          let written : Writes (block_sent b) c.match-result.result (block_sent d) [] = rw w.result-is (rw w.sink-is w.finish-result.ensures.written) in
+          let written : Writes (block_sent b) c.match-result.result (block_sent d) [] = rw w.result-is
+          (rw w.sink-is w.finish-result.ensures.written) in
           let advanced : Advances b d = rw w.sink-is w.finish-result.ensures.advanced in
           let emptied : OnOk c.match-result.result (d.waiting ≡ []) = rw w.result-is (rw w.sink-is w.finish-result.ensures.emptied) in
           ended_put a b d _ c.match-result.result text none put c.put_blocked-result.ensures.advanced written advanced emptied
           (λ n. let m = n ∙ c.new-sink.ensures.same_reference in ap g.O.Write.contents (search rules))
       | in-Err w ↦
-          let put : Puts (block_sent a).bytes c.put_blocked-result.result.0 (block_sent d).bytes text = rw w.sink-is c.put_blocked-result.ensures.put in
+          let put : Puts (block_sent a).bytes c.put_blocked-result.result.0 (block_sent d).bytes text = rw w.sink-is
+          c.put_blocked-result.ensures.put in
           let advanced : IfSome a.contents (λ _. Advances a d) = rw w.sink-is c.put_blocked-result.ensures.advanced in
           puts_err _ _ c.match-result.result _ text w.result-is
           (ended_begun a d _ c.put_blocked-result.result.0 text none put advanced

@@ -6,6 +6,7 @@ use Rattle.tabled_priority.proofs.min.least.Given as goal
 
 abbrev pub invariant-loop-place : goal.invariant-loop-place
 invariant-loop-place l = record {
-  best : MatchOption l.best (NoneAboveBelow l.values l.mins l.place) (λ b. IsLeastBelow l.right l.values l.mins l.place b × (l.fewest ≡ at l.values b));
+  best : MatchOption l.best (NoneAboveBelow l.values l.mins l.place)
+      (λ b. IsLeastBelow l.right l.values l.mins l.place b × (l.fewest ≡ at l.values b));
   steps : l.steps.count ≡ counted l.fn.steps.count l.place;
 }

@@ -1,13 +1,17 @@
 use Rattle.std.proofs.Common.{ℕ, ◌+◌, ◌*◌, ◌<◌, ◌≤◌, length}
-use Rattle.tabled_priority.specs.Filling.{filled, first_level, last_level}
+use Rattle.tabled_priority.specs.Schedule.{total_amount, first_level, last_level}
 use Rattle.tabled_priority.specs.Visits.{counted}
 use Rattle.tabled_priority.proofs.reach.find_base.Given as goal
 
 abbrev pub invariant-loop-place : goal.invariant-loop-place
 invariant-loop-place l = record {
-  below : filled (first_level l.kind l.values l.mins) (last_level l.kind l.values l.mins) (length l.values) l.base < l.wanted;
-  starts : (i : ℕ) → i < l.place → l.base < first_level l.kind l.values l.mins i → l.wanted ≤ filled (first_level l.kind l.values l.mins) (last_level l.kind l.values l.mins) (length l.values) (first_level l.kind l.values l.mins i);
-  ends : (i : ℕ) → i < l.place → l.base < last_level l.kind l.values l.mins i → l.wanted ≤ filled (first_level l.kind l.values l.mins) (last_level l.kind l.values l.mins) (length l.values) (last_level l.kind l.values l.mins i);
+  below : total_amount (first_level l.kind l.values l.mins) (last_level l.kind l.values l.mins) (length l.values) l.base < l.wanted;
+  starts : (i : ℕ) → i < l.place → l.base < first_level l.kind l.values l.mins i
+      → l.wanted ≤ total_amount (first_level l.kind l.values l.mins) (last_level l.kind l.values l.mins) (length l.values)
+      (first_level l.kind l.values l.mins i);
+  ends : (i : ℕ) → i < l.place → l.base < last_level l.kind l.values l.mins i
+      → l.wanted ≤ total_amount (first_level l.kind l.values l.mins) (last_level l.kind l.values l.mins) (length l.values)
+      (last_level l.kind l.values l.mins i);
   fewest : l.fn.steps.count ≤ l.steps.count;
   most : l.steps.count ≤ counted l.fn.steps.count (l.place * (2 * length l.values + 1));
 }

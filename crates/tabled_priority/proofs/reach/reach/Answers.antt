@@ -1,15 +1,15 @@
 use Rattle.std.proofs.Common.{◌≡◌, ◌+◌, ◌-◌, ◌*◌, ◌/◌, ◌%◌, ◌<◌, ◌≤◌, ℕ, List, length, arith, subst, sym}
 use Rattle.std.proofs.Math.Nat.{mul_comm}
-use Rattle.tabled_priority.specs.declared.filling.Filling.{Filling}
-use Rattle.tabled_priority.specs.declared.filling.Filling.TheVariants.{Depths, Rounds, Heights, Gains}
+use Rattle.tabled_priority.specs.declared.schedule.Schedule.{Schedule}
+use Rattle.tabled_priority.specs.declared.schedule.Schedule.TheVariants.{Depths, Rounds, Heights, Gains}
 use Rattle.tabled_priority.specs.Permitted.{at}
-use Rattle.tabled_priority.specs.Filling.{filled, first_level, last_level, open_count, IsBase, IsReached}
+use Rattle.tabled_priority.specs.Schedule.{total_amount, first_level, last_level, open_count, IsBase, IsReached}
 use Rattle.tabled_priority.proofs.Ramps.{reached, open_some, open_below}
 use Rattle.tabled_priority.proofs.reach.reach.Goals as goal
 
 -- the levels that fit, and what is left
 parted : (from to : ℕ → ℕ) (n wanted base count missing : ℕ) → IsBase from to n wanted base → count ≡ open_count from to n base → 0 < count
-    → missing ≡ wanted - filled from to n base
+    → missing ≡ wanted - total_amount from to n base
     → IsReached from to n wanted (base + (missing - 1) / count) (missing - (missing - 1) / count * count)
 parted from to n wanted base count missing b o some m =
     let q = (missing - 1) / count in
@@ -19,10 +19,11 @@ parted from to n wanted base count missing b o some m =
     let c : q * count ≡ count * q = mul_comm q count in
     let s : (q + 1) * count ≡ q * count + count = omega arith in
     subst (λ k. IsReached from to n wanted (base + q) (k - q * count)) (sym m)
-    (subst (λ k. IsReached from to n wanted (base + q) (wanted - filled from to n base - q * k)) (sym o)
-    (reached from to n wanted base q b (subst (λ k. filled from to n base + q * k < wanted) o (omega arith)) (subst (λ k. wanted ≤ filled from to n base + (q + 1) * k) o (omega arith))))
+    (subst (λ k. IsReached from to n wanted (base + q) (wanted - total_amount from to n base - q * k)) (sym o)
+    (reached from to n wanted base q b (subst (λ k. total_amount from to n base + q * k < wanted) o (omega arith))
+    (subst (λ k. wanted ≤ total_amount from to n base + (q + 1) * k) o (omega arith))))
 
-ends : (kind : Filling) (values mins : List ℕ) (i : ℕ) → at values i ≤ 18446744073709551615 → last_level kind values mins i ≤ 18446744073709551615
+ends : (kind : Schedule) (values mins : List ℕ) (i : ℕ) → at values i ≤ 18446744073709551615 → last_level kind values mins i ≤ 18446744073709551615
 ends Depths values mins i h = omega arith
 ends Rounds values mins i h = omega arith
 ends Heights values mins i h = grind arith
@@ -30,7 +31,9 @@ ends Gains values mins i h = grind arith
 
 pub nonzero_div-levels : goal.nonzero_div-levels
 nonzero_div-levels c =
-    let o = open_some (first_level c.args.kind c.args.values.now c.args.mins.now) (last_level c.args.kind c.args.values.now c.args.mins.now) (length c.args.values.now) c.args.wanted c.find_base-base.result 18446744073709551615 c.find_base-base.ensures.base c.requires.enough in
+    let o = open_some (first_level c.args.kind c.args.values.now c.args.mins.now)
+    (last_level c.args.kind c.args.values.now c.args.mins.now) (length c.args.values.now) c.args.wanted
+    c.find_base-base.result 18446744073709551615 c.find_base-base.ensures.base c.requires.enough in
     omega arith
 
 pub returns-clause-reached : goal.returns-clause-reached
@@ -41,7 +44,8 @@ returns-clause-reached c =
     let b = c.find_base-base.ensures.base in
     let below = b.below in
     let o = open_some from to n c.args.wanted c.find_base-base.result 18446744073709551615 b c.requires.enough in
-    parted from to n c.args.wanted c.find_base-base.result c.count_open-open.result (c.args.wanted - c.filled.result) b c.count_open-open.ensures.count (omega arith) (omega arith)
+    parted from to n c.args.wanted c.find_base-base.result c.count_open-open.result (c.args.wanted - c.total_amount.result)
+    b c.count_open-open.ensures.count (omega arith) (omega arith)
 
 pub returns-clause-below : goal.returns-clause-below
 returns-clause-below c =
@@ -51,10 +55,11 @@ returns-clause-below c =
     let b = c.find_base-base.ensures.base in
     let below = b.below in
     let o = open_some from to n c.args.wanted c.find_base-base.result 18446744073709551615 b c.requires.enough in
-    let r = parted from to n c.args.wanted c.find_base-base.result c.count_open-open.result (c.args.wanted - c.filled.result) b c.count_open-open.ensures.count (omega arith) (omega arith) in
+    let r = parted from to n c.args.wanted c.find_base-base.result c.count_open-open.result
+    (c.args.wanted - c.total_amount.result) b c.count_open-open.ensures.count (omega arith) (omega arith) in
     let some = r.some in
     let enough = r.enough in
-    open_below from to n (c.find_base-base.result + (c.args.wanted - c.filled.result - 1) / c.count_open-open.result) 18446744073709551615
+    open_below from to n (c.find_base-base.result + (c.args.wanted - c.total_amount.result - 1) / c.count_open-open.result) 18446744073709551615
     (λ i _. ends c.args.kind c.args.values.now c.args.mins.now i (let f = c.type_inv.values i in omega (arith, f))) (omega arith)
 
 pub overflow_add-result : goal.overflow_add-result

@@ -1,5 +1,5 @@
 use Rattle.std.proofs.Common.{◌≡◌, ◌<◌}
-use Rattle.tabled_priority.specs.Filling.{open_count, first_level, last_level}
+use Rattle.tabled_priority.specs.Schedule.{open_count, first_level, last_level}
 use Rattle.tabled_priority.specs.Visits.{counted}
 use Rattle.tabled_priority.proofs.span.nth_open.Given as goal
 

@@ -1,7 +1,7 @@
 use Rattle.std.proofs.Common.{◌<◌, ◌≤◌, arith, length, inl, inr}
 use Rattle.tabled_priority.specs.Sums.{one_if}
 use Rattle.tabled_priority.specs.Laws.Sums.{sum_below-prefix}
-use Rattle.tabled_priority.specs.Filling.{first_level, last_level, is_open}
+use Rattle.tabled_priority.specs.Schedule.{first_level, last_level, is_open}
 use Rattle.tabled_priority.proofs.Spans.{span_round}
 use Rattle.tabled_priority.proofs.span.round_span.Goals as goal
 use Rattle.tabled_priority.proofs.span.round_span.Goals.{then-kept-values, else-kept-values, then-reached-ahead, else-reached-ahead}
@@ -27,7 +27,8 @@ returns-clause-span c =
     let p = sum_below-prefix (λ i. one_if (is_open from to level i)) c.if-kept-values.first n (omega arith) in
     let a = c.count_open-before.ensures.count in
     let b = c.count_open-open.ensures.count in
-    span_round from to n level c.args.reached.rest c.if-kept-values.first c.nth_open.result c.if-reached-ahead.nth within inside c.nth_open.ensures.opened c.nth_open.ensures.nth
+    span_round from to n level c.args.reached.rest c.if-kept-values.first c.nth_open.result c.if-reached-ahead.nth
+    within inside c.nth_open.ensures.opened c.nth_open.ensures.nth
     c.requires.some c.requires.enough p
     (elim c.if-reached-ahead.branch [
       | then-reached-ahead w ↦ inl (omega arith, omega arith)

@@ -2,7 +2,7 @@ use Rattle.std.proofs.Common.{◌≡◌, ◌+◌, ◌-◌, ◌<◌, length, slic
 use Rattle.std.proofs.lemmas.Bool.{cases_eq}
 use Rattle.std.proofs.lemmas.List.{get_or-set_same, get_or-set_other}
 use Rattle.tabled_priority.specs.Permitted.{at}
-use Rattle.tabled_priority.specs.Filling.{first_level, last_level, share}
+use Rattle.tabled_priority.specs.Schedule.{first_level, last_level, share}
 use Rattle.tabled_priority.proofs.Shares.{share-at}
 use Rattle.tabled_priority.proofs.spread.lower.Goals as goal
 
@@ -15,7 +15,8 @@ loop-place-preserved c =
     let y = c.visit_ramp-ramp.result.value - c.amount-share.result in
     let inside : p < length xs = omega arith in
     let own = c.loop-place.invariant.rest p (omega arith) in
-    let e = share-at c.args.kind xs old mins p c.visit_ramp-ramp.result.from c.visit_ramp-ramp.result.to c.args.level c.level_at.result c.args.span.first c.args.span.last c.amount-share.result
+    let e = share-at c.args.kind xs old mins p c.visit_ramp-ramp.result.from c.visit_ramp-ramp.result.to c.args.level
+    c.level_at.result c.args.span.first c.args.span.last c.amount-share.result
     own c.visit_ramp-ramp.ensures.from c.visit_ramp-ramp.ensures.to c.level_at.ensures c.amount-share.ensures in
     let fits = c.requires.fits p in
     let value = c.visit_ramp-ramp.ensures.value in
@@ -23,7 +24,8 @@ loop-place-preserved c =
     record {
       same_length = length-set xs p y ∙ c.loop-place.invariant.same_length;
       done = λ i lt. ⊎_elim
-          (λ q. subst (λ k. at (slice_set xs p y) k + share (first_level c.args.kind old mins) (last_level c.args.kind old mins) c.args.level c.args.span.first c.args.span.last k ≡ at old k) (sym q) (omega arith))
+          (λ q. subst (λ k. at (slice_set xs p y) k + share (first_level c.args.kind old mins)
+          (last_level c.args.kind old mins) c.args.level c.args.span.first c.args.span.last k ≡ at old k) (sym q) (omega arith))
           (λ ne. let there = get_or-set_other xs p i y 0 ne in let d = c.loop-place.invariant.done i (omega arith) in omega arith)
           (cases_eq i p);
       rest = λ i le. get_or-set_other xs p i y 0 (λ q. omega arith) ∙ c.loop-place.invariant.rest i (omega arith);

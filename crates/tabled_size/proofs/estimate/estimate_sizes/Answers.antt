@@ -24,7 +24,8 @@ rows-preserved g c =
       widths =
           written_back _ _ _ (omega (arith, c.raise_widths.auto.widths, c.deref_mut.ensures.len))
           ∙ c.in_ok-raise_widths.ensures.ok
-          ∙ greatest_each (λ r k. needed_width cells c.args.config.now r k) c.deref_mut.result.now c.rows.row (columns cells) (c.deref_mut.ensures.value ∙ c.rows.invariant.widths);
+          ∙ greatest_each (λ r k. needed_width cells c.args.config.now r k) c.deref_mut.result.now c.rows.row
+          (columns cells) (c.deref_mut.ensures.value ∙ c.rows.invariant.widths);
       heights =
           c.in_ok-push.ensures.items ∙ ap (λ xs. xs ++ c.in-Some.height ∷ []) c.rows.invariant.heights
           ∙ ap (λ h. map f (range_with_len 0 c.rows.row) ++ h ∷ []) c.in-Some.ensures
@@ -36,7 +37,8 @@ unfolding estimated_widths column_width
 returns-clause-widths g c =
     let cells = g.R.ExactRecords.cells c.args.records.now in
     let e : c.rows.row ≡ length cells = omega (arith, c.count_rows-row-end.ensures) in
-    c.rows.invariant.widths ∙ ap (λ n. map (λ k. greatest_below (λ r. needed_width cells c.args.config.now r k) n) (range_with_len 0 (columns cells))) e
+    c.rows.invariant.widths ∙ ap (λ n. map (λ k. greatest_below (λ r. needed_width cells c.args.config.now r k) n)
+    (range_with_len 0 (columns cells))) e
 
 pub returns-clause-heights : goal.returns-clause-heights
 unfolding estimated_heights

@@ -16,7 +16,8 @@ rows-preserved g c =
     let cells = g.R.ExactRecords.cells c.args.records.now in
     written_back _ _ _ (omega (arith, c.raise_widths.auto.widths, c.deref_mut.ensures.len))
     ∙ c.in_ok-raise_widths.ensures.ok
-    ∙ greatest_each (λ r k. needed_width cells c.args.config.now r k) c.deref_mut.result.now c.rows.row (columns cells) (c.deref_mut.ensures.value ∙ c.rows.invariant)
+    ∙ greatest_each (λ r k. needed_width cells c.args.config.now r k) c.deref_mut.result.now c.rows.row
+    (columns cells) (c.deref_mut.ensures.value ∙ c.rows.invariant)
 
 pub returns-clause-ok : goal.returns-clause-ok
 unfolding estimated_widths column_width

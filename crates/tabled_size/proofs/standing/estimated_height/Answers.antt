@@ -12,5 +12,7 @@ pub returns : goal.returns
 returns g c =
     let cells = g.R.ExactRecords.cells c.args.records.now in
     height_moved c.args.config.now _ (length cells) _ _ _ c.count_rows.ensures
-    (reached_estimates (heights_of c.set_heights.new.self) (estimated_heights cells c.args.config.now) (length cells) c.count_rows.result (c.set_heights.ensures.heights ∙ ap Some c.in_ok-heights.ensures.ok) (heights_length cells c.args.config.now) c.count_rows.ensures)
+    (reached_estimates (heights_of c.set_heights.new.self) (estimated_heights cells c.args.config.now) (length cells)
+    c.count_rows.result (c.set_heights.ensures.heights ∙ ap Some c.in_ok-heights.ensures.ok)
+    (heights_length cells c.args.config.now) c.count_rows.ensures)
     c.reached_height.ensures.answers

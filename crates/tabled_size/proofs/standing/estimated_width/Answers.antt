@@ -13,5 +13,7 @@ pub returns : goal.returns
 returns g c =
     let cells = g.R.ExactRecords.cells c.args.records.now in
     width_moved c.args.config.now _ (columns cells) _ _ _ c.count_columns.ensures.columns
-    (reached_estimates (widths_of c.set_widths.new.self) (estimated_widths cells c.args.config.now) (columns cells) c.count_columns.result (c.set_widths.ensures.widths ∙ ap Some c.in_ok-widths.ensures.ok) (widths_length cells c.args.config.now) c.count_columns.ensures.columns)
+    (reached_estimates (widths_of c.set_widths.new.self) (estimated_widths cells c.args.config.now) (columns cells)
+    c.count_columns.result (c.set_widths.ensures.widths ∙ ap Some c.in_ok-widths.ensures.ok)
+    (widths_length cells c.args.config.now) c.count_columns.ensures.columns)
     c.reached_width.ensures.answers

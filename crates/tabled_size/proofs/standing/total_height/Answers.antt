@@ -10,7 +10,8 @@ returns-in-Some-clause-filled g c =
     let cells = g.R.ExactRecords.cells c.args.records.now in
     let stored = sym c.get_heights.ensures ∙ ap (option_map (λ s. s.now)) c.in-Some.is in
     λ h. height_moved c.args.config.now _ (length cells) _ _ _ c.count_rows.ensures
-    (reached_stands (heights_of c.args.stored.now) c.in-Some.field-0.now (estimated_heights cells c.args.config.now) (length cells) c.count_rows.result stored c.count_rows.ensures)
+    (reached_stands (heights_of c.args.stored.now) c.in-Some.field-0.now (estimated_heights cells c.args.config.now)
+    (length cells) c.count_rows.result stored c.count_rows.ensures)
     c.reached_height.ensures.answers
 
 pub returns-in-None-clause-filled : goal.returns-in-None-clause-filled

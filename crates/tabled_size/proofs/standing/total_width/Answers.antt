@@ -11,7 +11,8 @@ returns-in-Some-clause-filled g c =
     let cells = g.R.ExactRecords.cells c.args.records.now in
     let stored = sym c.get_widths.ensures ∙ ap (option_map (λ s. s.now)) c.in-Some.is in
     λ h. width_moved c.args.config.now _ (columns cells) _ _ _ c.count_columns.ensures.columns
-    (reached_stands (widths_of c.args.stored.now) c.in-Some.field-0.now (estimated_widths cells c.args.config.now) (columns cells) c.count_columns.result stored c.count_columns.ensures.columns)
+    (reached_stands (widths_of c.args.stored.now) c.in-Some.field-0.now (estimated_widths cells c.args.config.now)
+    (columns cells) c.count_columns.result stored c.count_columns.ensures.columns)
     c.reached_width.ensures.answers
 
 pub returns-in-None-clause-filled : goal.returns-in-None-clause-filled

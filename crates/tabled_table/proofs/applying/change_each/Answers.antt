@@ -7,7 +7,9 @@ use Rattle.tabled_table.specs.Applied.{Cells, ChangesEach}
 use Rattle.tabled_table.proofs.applying.change_each.Goals as goal
 
 -- one entity more
-each_more : (changes : Cells → ColoredConfig → Entity → Cells → ColoredConfig → Type 0) (es : List Entity) (e : Entity) (a : Cells) (b : ColoredConfig) (c : Cells) (d : ColoredConfig) (m : Cells) (n : ColoredConfig) → ChangesEach changes es a b c d → changes c d e m n → ChangesEach changes (es ++ e ∷ []) a b m n
+each_more : (changes : Cells → ColoredConfig → Entity → Cells → ColoredConfig → Type 0) (es : List Entity)
+    (e : Entity) (a : Cells) (b : ColoredConfig) (c : Cells) (d : ColoredConfig) (m : Cells) (n : ColoredConfig)
+    → ChangesEach changes es a b c d → changes c d e m n → ChangesEach changes (es ++ e ∷ []) a b m n
 each_more changes [] e a b c d m n h k =
     (m, n, subst (λ x. changes x b e m n) h.0 (subst (λ y. changes c y e m n) h.1 k), (refl, refl))
 each_more changes (x ∷ es) e a b c d m n h k = (h.0, h.1, h.2, each_more changes es e h.0 h.1 c d m n h.3 k)

@@ -9,4 +9,5 @@ pub returns-clause-cut : goal.returns-clause-cut
 returns-clause-cut c =
     let parts = c.part-parts.result in
     IfOk-weaker c.fill.result (λ answer. cow_str_bytes answer ≡ parts.front.now ++ encode_utf8_all (replicate parts.missing 0xFFFD))
-    (λ answer. IsCut c.args.n c.args.text.now (cow_str_bytes answer)) (λ answer e. IsCut-filled c.part-parts.ensures.front c.part-parts.ensures.parted e) c.fill.ensures.text
+    (λ answer. IsCut c.args.n c.args.text.now (cow_str_bytes answer))
+    (λ answer e. IsCut-filled c.part-parts.ensures.front c.part-parts.ensures.parted e) c.fill.ensures.text

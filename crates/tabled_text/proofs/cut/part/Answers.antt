@@ -2,7 +2,19 @@ use Rattle.std.proofs.Common.{◌+◌, ◌≤◌, ◌<◌, arith, chars, sym, �
 use Rattle.std.proofs.lemmas.Str.{IsUtf8-past_char}
 use Rattle.tabled_text.specs.Measure.{char_count}
 use Rattle.tabled_text.specs.Cut.{IsParted}
-use Rattle.tabled_text.proofs.CutLemmas.{Walked, Walked-start, Walked-le, Walked-feed, Walked-push, IsParted-wide, IsParted-full, IsParted-end, front_taken, rest_taken, front_boundary}
+use Rattle.tabled_text.proofs.CutLemmas.{
+  Walked,
+  Walked-start,
+  Walked-le,
+  Walked-feed,
+  Walked-push,
+  IsParted-wide,
+  IsParted-full,
+  IsParted-end,
+  front_taken,
+  rest_taken,
+  front_boundary,
+}
 use Rattle.tabled_text.proofs.cut.part.Goals as goal
 use Rattle.tabled_text.proofs.cut.part.Goals.{in-Some+then-columns-n, in_default}
 
@@ -27,14 +39,18 @@ returns-then-count-n-clause-parted c =
     let e = c.in-Some.ensures in
     let v = c.char_count-count.ensures.value in
     let wide : c.args.n < c.loop-c.columns + char_count c.in-Some.c = let l = Walked-le w in omega arith in
-    IsParted-wide c.in-Some.after.now c.in-Some.c c.split_at.result.0.now e.2 c.if-c-eq10.false wide c.if-columns-n.false w (c.split_at.ensures.front ∙ front_taken w)
+    IsParted-wide c.in-Some.after.now c.in-Some.c c.split_at.result.0.now e.2 c.if-c-eq10.false wide
+    c.if-columns-n.false w (c.split_at.ensures.front ∙ front_taken w)
 
 pub loop-c-preserved-then-c-eq10 : goal.loop-c-preserved-then-c-eq10
 loop-c-preserved-then-c-eq10 c =
     let w = c.loop-c.invariant.0 in
     let u = c.loop-c.invariant.1 in
-    let e = c.in-Some.ensures in
-    (Walked-feed c.in-Some.after.now c.in-Some.c w u e.0 e.2 c.if-columns-n.false c.if-c-eq10.true, IsUtf8-past_char c.loop-c.rest.now c.in-Some.after.now c.in-Some.c u e.0)
+    let e = c.in-Some.ensures in (
+      Walked-feed c.in-Some.after.now c.in-Some.c w u e.0 e.2 c.if-columns-n.false c.if-c-eq10.true,
+      IsUtf8-past_char
+          c.loop-c.rest.now c.in-Some.after.now c.in-Some.c u e.0,
+    )
 
 pub loop-c-preserved : goal.loop-c-preserved
 loop-c-preserved c =
@@ -43,7 +59,8 @@ loop-c-preserved c =
     let e = c.in-Some.ensures in
     let v = c.char_count-count.ensures.value in
     let room : c.loop-c.columns + char_count c.in-Some.c ≤ c.args.n = let l = Walked-le w in omega arith in (
-      subst (λ k. Walked c.args.n c.args.text.now c.in-Some.after.now (c.loop-c.columns + k)) (sym v) (Walked-push c.in-Some.after.now c.in-Some.c w u e.0 e.2 c.if-columns-n.false c.if-c-eq10.false room),
+      subst (λ k. Walked c.args.n c.args.text.now c.in-Some.after.now (c.loop-c.columns + k)) (sym v)
+          (Walked-push c.in-Some.after.now c.in-Some.c w u e.0 e.2 c.if-columns-n.false c.if-c-eq10.false room),
       IsUtf8-past_char c.loop-c.rest.now c.in-Some.after.now c.in-Some.c u e.0,
     )
 

@@ -7,6 +7,8 @@ pub loop-i-preserved : goal.loop-i-preserved
 loop-i-preserved c =
     let copies = replicate c.loop-i._i c.args.c in
     let more : encode_utf8_all (replicate (c.loop-i._i + 1) c.args.c) ≡ encode_utf8_all copies ++ encode_utf8 c.args.c =
-    ap encode_utf8_all (sym (replicate_more c.loop-i._i c.args.c)) ∙ encodes-append copies (c.args.c ∷ []) ∙ ap (λ l. encode_utf8_all copies ++ l) (append-nil (encode_utf8 c.args.c)) in
+    ap encode_utf8_all (sym (replicate_more c.loop-i._i c.args.c)) ∙ encodes-append copies (c.args.c ∷ []) ∙ ap
+    (λ l. encode_utf8_all copies ++ l) (append-nil (encode_utf8 c.args.c)) in
     c.in_ok-push.ensures.bytes ∙ ap (λ l. l ++ encode_utf8 c.args.c) c.loop-i.invariant
-    ∙ append_assoc (string_bytes c.args.text.now) (encode_utf8_all copies) (encode_utf8 c.args.c) ∙ ap (λ l. string_bytes c.args.text.now ++ l) (sym more)
+    ∙ append_assoc (string_bytes c.args.text.now) (encode_utf8_all copies) (encode_utf8 c.args.c) ∙ ap
+    (λ l. string_bytes c.args.text.now ++ l) (sym more)

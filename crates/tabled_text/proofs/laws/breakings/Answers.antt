@@ -3,4 +3,9 @@ use Rattle.tabled_text.proofs.OwnBreaking.{text_of-units, fits-broken, some_brea
 use Rattle.tabled_text.proofs.laws.breakings.Goals as goal
 
 pub returns : goal.returns
-returns g = record { units = text_of-units; permitted = fits-broken; exists = some_breaking; room = λ n words text pos h. fits-room n pos words text h }
+returns g = record {
+  units = text_of-units;
+  permitted = fits-broken;
+  exists = some_breaking;
+  room = λ n words text pos h. fits-room n pos words text h;
+}

@@ -17,7 +17,8 @@ lines-init c =
 pub lines-preserved : goal.lines-preserved
 lines-preserved c =
     let short = subst (All (λ line. length line ≤ length c.args.text.now)) c.in-Some.ensures.steps c.lines.invariant.short in
-    let first : length c.in-Some.line.now ≤ length c.args.text.now = All-head (λ line. length line ≤ length c.args.text.now) c.in-Some.line.now (lines_left c.next.new.self) short in
+    let first : length c.in-Some.line.now ≤ length c.args.text.now = All-head
+    (λ line. length line ≤ length c.args.text.now) c.in-Some.line.now (lines_left c.next.new.self) short in
     record {
       value = search rules;
       bound = omega arith;

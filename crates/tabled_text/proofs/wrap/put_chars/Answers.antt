@@ -17,7 +17,8 @@ loop-c-preserved g c =
       ap (λ k. used_after n k rest) at ∙ sym (ap (used_after n column) whole) ∙ c.loop-c.invariant.0,
       (λ t h. c.loop-c.invariant.1 t
           (subst (λ x. g.S.Sink.adds c.loop-c.out x t) (encodes-more n column first rest ∙ ap (λ l. encode_utf8_all (put_all n column l)) (sym whole))
-          (g.met.S.Sink.adds_more c.loop-c.out c.put_char.new.out t (encode_utf8_all (put_text n column first)) (encode_utf8_all (put_all n (put_used n column first) rest)) c.in_ok-column.ensures.text
+          (g.met.S.Sink.adds_more c.loop-c.out c.put_char.new.out t (encode_utf8_all (put_text n column first))
+          (encode_utf8_all (put_all n (put_used n column first) rest)) c.in_ok-column.ensures.text
           (subst (λ k. g.S.Sink.adds c.put_char.new.out (encode_utf8_all (put_all n k rest)) t) at h)))),
       IsUtf8-past_char c.loop-c.rest.now c.in-Some.after.now c.in-Some.c c.loop-c.invariant.2 e.0,
     )

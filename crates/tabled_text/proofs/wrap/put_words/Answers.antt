@@ -15,16 +15,22 @@ words-preserved g c =
     let column = c.words.column in
     let after = used_after n column xs in
     let whole : units_of_words n (words_of (chars c.words.rest.now)) ≡ xs ++ space ∷ ys =
-    ap (units_of_words n) (c.split_word.ensures.words ∙ ap (λ o. chars word ∷ words_in o) c.in-Some.is) ∙ units_of_words-more n (chars word) (chars next) in
+    ap (units_of_words n) (c.split_word.ensures.words ∙ ap (λ o. chars word ∷ words_in o) c.in-Some.is) ∙
+    units_of_words-more n (chars word) (chars next) in
     let at : c.in_ok-column-in-Some.column ≡ put_used n after space =
-    c.in_ok-column-in-Some.ensures.used ∙ ap (λ k. put_used n k (unit_of (chars (32 ∷ [])) 1)) c.in_ok-column.ensures.used ∙ ap (put_used n after) space-is in
+    c.in_ok-column-in-Some.ensures.used ∙ ap (λ k. put_used n k (unit_of (chars (32 ∷ [])) 1))
+    c.in_ok-column.ensures.used ∙ ap (put_used n after) space-is in
     let text = subst (λ p. g.S.Sink.adds c.put_unit.new.out (encode_utf8_all (put_text n after p)) c.put_word.new.out) space-is
-    (subst (λ k. g.S.Sink.adds c.put_unit.new.out (encode_utf8_all (put_text n k (unit_of (chars (32 ∷ [])) 1))) c.put_word.new.out) c.in_ok-column.ensures.used c.in_ok-column-in-Some.ensures.text) in (
+    (subst (λ k. g.S.Sink.adds c.put_unit.new.out (encode_utf8_all (put_text n k (unit_of (chars (32 ∷ [])) 1)))
+    c.put_word.new.out) c.in_ok-column.ensures.used c.in_ok-column-in-Some.ensures.text) in (
       (λ t h. c.words.invariant.0 t
-          (subst (λ x. g.S.Sink.adds c.words.out x t) (encodes-on n column xs (space ∷ ys) ∙ ap (λ l. encode_utf8_all (put_all n column l)) (sym whole))
-          (g.met.S.Sink.adds_more c.words.out c.put_unit.new.out t (encode_utf8_all (put_all n column xs)) (encode_utf8_all (put_all n after (space ∷ ys))) c.in_ok-column.ensures.text
+          (subst (λ x. g.S.Sink.adds c.words.out x t)
+          (encodes-on n column xs (space ∷ ys) ∙ ap (λ l. encode_utf8_all (put_all n column l)) (sym whole))
+          (g.met.S.Sink.adds_more c.words.out c.put_unit.new.out t (encode_utf8_all (put_all n column xs))
+          (encode_utf8_all (put_all n after (space ∷ ys))) c.in_ok-column.ensures.text
           (subst (λ x. g.S.Sink.adds c.put_unit.new.out x t) (encodes-more n after space ys)
-          (g.met.S.Sink.adds_more c.put_unit.new.out c.put_word.new.out t (encode_utf8_all (put_text n after space)) (encode_utf8_all (put_all n (put_used n after space) ys)) text
+          (g.met.S.Sink.adds_more c.put_unit.new.out c.put_word.new.out t (encode_utf8_all (put_text n after space))
+          (encode_utf8_all (put_all n (put_used n after space) ys)) text
           (subst (λ k. g.S.Sink.adds c.put_word.new.out (encode_utf8_all (put_all n k ys)) t) at h)))))),
       (subst (λ o. IfSome o (λ x. IsUtf8 x.now × (length x.now < length c.words.rest.now))) c.in-Some.is c.split_word.ensures.after).0,
     )

@@ -9,12 +9,15 @@ use Rattle.tabled_text.proofs.WriteLemmas.{IsWrapped-written, IsWrapped-none}
 use Rattle.tabled_text.proofs.wrap.wrap_text.Goals as goal
 
 pub returns-then-n-eq0-clause-wrapped : goal.returns-then-n-eq0-clause-wrapped
-returns-then-n-eq0-clause-wrapped c = IsWrapped-none c.args.n c.args.words c.args.text.now (string_bytes c.new-out.result) c.if-n-eq0.true c.new-out.ensures.bytes
+returns-then-n-eq0-clause-wrapped c = IsWrapped-none c.args.n c.args.words c.args.text.now
+    (string_bytes c.new-out.result) c.if-n-eq0.true c.new-out.ensures.bytes
 
 written : (c : goal.In_ok-put_lines) → IsWrapped c.args.n c.args.words c.args.text.now (string_bytes c.put_lines.new.out)
 written c =
-    IsWrapped-written c.args.n c.args.words c.args.text.now (string_bytes c.put_lines.new.out) c.if-n-eq0.false (IsUtf8-string_bytes c.put_lines.new.out)
-    (c.in_ok-put_lines.ensures ∙ ap (λ l. l ++ encode_utf8_all (pending c.args.n c.args.words false (lines_of (chars c.args.text.now)))) c.new-out.ensures.bytes)
+    IsWrapped-written c.args.n c.args.words c.args.text.now (string_bytes c.put_lines.new.out) c.if-n-eq0.false
+    (IsUtf8-string_bytes c.put_lines.new.out)
+    (c.in_ok-put_lines.ensures ∙ ap (λ l. l ++ encode_utf8_all
+    (pending c.args.n c.args.words false (lines_of (chars c.args.text.now)))) c.new-out.ensures.bytes)
 
 pub returns-clause-wrapped : goal.returns-clause-wrapped
 returns-clause-wrapped c = written c

@@ -9,7 +9,8 @@ pieces-init g c = record { took = took-none _ _; advanced = advances_none _ }
 
 pub returns-in_err-make_room : goal.returns-in_err-make_room
 returns-in_err-make_room g c = record {
-  written = stopped _ _ c.pieces.rest.now c.pieces.invariant.took.sends c.in_err-make_room.ensures.written c.from_residual.ensures.1 (sym c.pieces.invariant.took.whole);
+  written = stopped _ _ c.pieces.rest.now c.pieces.invariant.took.sends c.in_err-make_room.ensures.written
+      c.from_residual.ensures.1 (sym c.pieces.invariant.took.whole);
   advanced = advances_then _ _ _ c.pieces.invariant.advanced c.in_err-make_room.ensures.advanced;
 }
 

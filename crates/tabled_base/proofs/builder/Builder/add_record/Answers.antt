@@ -1,4 +1,4 @@
-use Rattle.tabled_base.proofs.Padding.{rectangular-after}
+use Rattle.tabled_base.proofs.Lengthening.{rectangular-after}
 use Rattle.tabled_base.proofs.builder.Builder.add_record.Goals as goal
 
 pub invariant_of-self : goal.invariant_of-self

@@ -12,9 +12,11 @@ add_record-requires g c =
     let it = c.into_iter-row-iterator in
     let xs = c.loop-row.yielded in
     let x = c.in-Some.row in
-    let more = Yields-more g.I.IterRows.IntoIter.Iterator.next_gives it.result xs c.loop-row.row-iterator x c.next.new.self c.loop-row.yielded_by c.in-Some.ensures.steps in
+    let more = Yields-more g.I.IterRows.IntoIter.Iterator.next_gives it.result xs c.loop-row.row-iterator x
+    c.next.new.self c.loop-row.yielded_by c.in-Some.ensures.steps in
     let ends = c.iter_rows-row-items.ensures.ends c.requires in
-    (All-pop (IsFiniteIterable columns.into_iter_gives cells.can_next cells.remaining) (xs ++ x ∷ []) xs (Some x) refl (ends.each it.result it.ensures.into_iter_gives (xs ++ x ∷ []) c.next.new.self more)).1
+    (All-pop (IsFiniteIterable columns.into_iter_gives cells.can_next cells.remaining) (xs ++ x ∷ []) xs (Some x) refl
+    (ends.each it.result it.ensures.into_iter_gives (xs ++ x ∷ []) c.next.new.self more)).1
 
 pub loop-row-preserved : goal.loop-row-preserved
 loop-row-preserved g c =

@@ -2,4 +2,5 @@ use Rattle.tabled_base.proofs.Collecting.{Collected}
 use Rattle.tabled_base.proofs.builder.Builder.from_iter.Given as goal
 
 abbrev pub invariant-loop-row : goal.invariant-loop-row
-invariant-loop-row g l = Collected g.I.IterColumns.IntoIterator.into_iter_gives g.I.IterColumns.IntoIter.Iterator.next_gives g.I.Cell.CellText.text l.yielded l.builder
+invariant-loop-row g l = Collected g.I.IterColumns.IntoIterator.into_iter_gives
+    g.I.IterColumns.IntoIter.Iterator.next_gives g.I.Cell.CellText.text l.yielded l.builder

@@ -6,7 +6,8 @@ use Rattle.tabled_base.proofs.RowLemmas.{column_inside, row_inside}
 use Rattle.tabled_base.proofs.vec_records.VecRecordsTextStringRecordsMut.set.Goals as goal
 
 pub index_mut-requires : goal.index_mut-requires
-index_mut-requires c = column_inside (λ t. t) c.self.inside.rows.items c.args.self.now _ _ c.index_mut-row.result.now c.self.view_is c.self.invariant c.requires c.index_mut-row.ensures.value
+index_mut-requires c = column_inside (λ t. t) c.self.inside.rows.items c.args.self.now _ _ c.index_mut-row.result.now
+    c.self.view_is c.self.invariant c.requires c.index_mut-row.ensures.value
 
 pub invariant_of-self : goal.invariant_of-self
 invariant_of-self c =

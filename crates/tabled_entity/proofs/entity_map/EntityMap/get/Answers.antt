@@ -28,10 +28,12 @@ returns-in-Some g c =
 
 pub returns-in-None : goal.returns-in-None
 returns-in-None g c =
-    said_at-found c.self.inside.whole c.self.inside.places (reverse c.self.inside.changes.items) c.args.row c.args.column None c.self.invariant c.in-None.ensures
+    said_at-found c.self.inside.whole c.self.inside.places (reverse c.self.inside.changes.items) c.args.row
+    c.args.column None c.self.invariant c.in-None.ensures
     ∙ ap (λ v. setting_at v c.args.row c.args.column) c.self.view_is
 
 pub returns-then-is_empty : goal.returns-then-is_empty
 returns-then-is_empty g c =
-    nothing_set c.self.inside.whole c.self.inside.changes.items c.args.row c.args.column (grind (arith, c.if-is_empty.true, c.is_empty.ensures, c.self.inside.changes.ok.0))
+    nothing_set c.self.inside.whole c.self.inside.changes.items c.args.row c.args.column
+    (grind (arith, c.if-is_empty.true, c.is_empty.ensures, c.self.inside.changes.ok.0))
     ∙ ap (λ v. setting_at v c.args.row c.args.column) c.self.view_is

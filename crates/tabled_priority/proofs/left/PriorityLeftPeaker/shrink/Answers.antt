@@ -28,7 +28,8 @@ loop-place-preserved c =
     let list : less xs i d ≡ _ = ap (λ v. slice_set xs i (v - d)) (sym value) in
     record {
       underway = subst (λ ys. Underway (λ values left new. IsLeftShrunk values mins left new) c.args.values.now mins c.args.by ys (left - d)) list
-          (Underway-take (λ values left new. IsLeftShrunk values mins left new) c.args.values.now mins c.args.by xs left i d c.loop-place.invariant.underway inside fits (omega arith)
+          (Underway-take (λ values left new. IsLeftShrunk values mins left new) c.args.values.now mins c.args.by xs
+          left i d c.loop-place.invariant.underway inside fits (omega arith)
           (λ new pos r. left_at_once mins i d xs (left - d) new (record { above = omega arith; first = first (omega arith) }) fits r));
       passed = λ some j lt. subst (λ ys. at ys j ≤ at mins j) list (⊎_elim
           (λ e. subst (λ k. at (less xs i d) k ≤ at mins k) (sym e) (omega arith))
@@ -53,7 +54,8 @@ returns-clause-shrinks c =
 pub returns-clause-visits : goal.returns-clause-visits
 returns-clause-visits c =
     let len = c.loop-place.invariant.underway.permitted.same_length in
-    IsBounded-whole c.args.values.now c.loop-place.values c.args.steps.now.count c.loop-place.steps.count c.loop-place.place (omega arith) c.loop-place.invariant.steps (omega arith)
+    IsBounded-whole c.args.values.now c.loop-place.values c.args.steps.now.count c.loop-place.steps.count
+    c.loop-place.place (omega arith) c.loop-place.invariant.steps (omega arith)
 
 pub returns-clause-between : goal.returns-clause-between
 returns-clause-between c = let s = returns-clause-shrinks c in left_between c.args.values.now c.args.mins.now c.args.by c.loop-place.values s.0

@@ -1,8 +1,8 @@
 use Rattle.std.proofs.Common.{[], length, arith, refl, sym, subst, ◌∙◌}
-use Rattle.tabled_priority.specs.declared.filling.Filling.TheVariants.{Heights}
+use Rattle.tabled_priority.specs.declared.schedule.Schedule.TheVariants.{Heights}
 use Rattle.tabled_priority.specs.Permitted.{at}
 use Rattle.tabled_priority.specs.Laws.Shrunk.{at-le-sum}
-use Rattle.tabled_priority.specs.Filling.{first_level, last_level, IsReached}
+use Rattle.tabled_priority.specs.Schedule.{first_level, last_level, IsReached}
 use Rattle.tabled_priority.proofs.Gains.{wanted_added, grown_by_shares, min_still, min_grown, heights_gain, zero_end}
 use Rattle.tabled_priority.proofs.Optimal.{HasGreatestLeast-from_min}
 use Rattle.tabled_priority.proofs.Visiting.{IsBounded-whole, IsBounded-passes}
@@ -11,13 +11,15 @@ use Rattle.tabled_priority.proofs.min.PriorityMinPeaker.grow.Goals as goal
 pub returns-then-wanted-eq0-clause-grows : goal.returns-then-wanted-eq0-clause-grows
 returns-then-wanted-eq0-clause-grows c =
     let old = c.args.values.now in
-    let w = wanted_added (first_level Heights old []) (last_level Heights old []) old c.args.by c.filled.result c.min-wanted.result (omega arith)
-    (λ i pos. heights_gain (at old i) c.args.by pos (let s = at-le-sum old i in omega arith)) (λ i z. zero_end (at old i) z) c.filled.ensures.total c.min-wanted.ensures in
+    let w = wanted_added (first_level Heights old []) (last_level Heights old []) old c.args.by c.total_amount.result c.min-wanted.result (omega arith)
+    (λ i pos. heights_gain (at old i) c.args.by pos (let s = at-le-sum old i in omega arith))
+    (λ i z. zero_end (at old i) z) c.total_amount.ensures.total c.min-wanted.ensures in
     (min_still c.args.self.now.right old c.args.by (sym w ∙ c.if-wanted-eq0.true), refl)
 
 pub returns-then-wanted-eq0-clause-visits : goal.returns-then-wanted-eq0-clause-visits
 returns-then-wanted-eq0-clause-visits c =
-    IsBounded-whole c.args.values.now c.args.values.now c.args.steps.now.count c.filled.new.steps.count (length c.args.values.now) (omega arith) c.filled.ensures.steps (omega arith)
+    IsBounded-whole c.args.values.now c.args.values.now c.args.steps.now.count c.total_amount.new.steps.count
+    (length c.args.values.now) (omega arith) c.total_amount.ensures.steps (omega arith)
 
 pub returns-then-wanted-eq0-clause-least : goal.returns-then-wanted-eq0-clause-least
 returns-then-wanted-eq0-clause-least c =
@@ -31,8 +33,9 @@ returns-clause-grows c =
     let to = last_level Heights old [] in
     let reached = c.reach-reached.result in
     let span = c.side_span-span.result in
-    let w = wanted_added from to old c.args.by c.filled.result c.min-wanted.result (omega arith)
-    (λ i pos. heights_gain (at old i) c.args.by pos (let s = at-le-sum old i in omega arith)) (λ i z. zero_end (at old i) z) c.filled.ensures.total c.min-wanted.ensures in
+    let w = wanted_added from to old c.args.by c.total_amount.result c.min-wanted.result (omega arith)
+    (λ i pos. heights_gain (at old i) c.args.by pos (let s = at-le-sum old i in omega arith))
+    (λ i z. zero_end (at old i) z) c.total_amount.ensures.total c.min-wanted.ensures in
     let g = grown_by_shares from to old c.args.by c.raise.new.values reached.level reached.rest span.first span.last
     (subst (λ k. IsReached from to (length old) k reached.level reached.rest) w c.reach-reached.ensures.reached) c.side_span-span.ensures.span
     (λ i z. zero_end (at old i) z) c.raise.ensures.same_length c.raise.ensures.each in (
@@ -45,8 +48,9 @@ pub returns-clause-total : goal.returns-clause-total
 returns-clause-total c =
     let s = returns-clause-grows c in
     let old = c.args.values.now in
-    let w = wanted_added (first_level Heights old []) (last_level Heights old []) old c.args.by c.filled.result c.min-wanted.result (omega arith)
-    (λ i pos. heights_gain (at old i) c.args.by pos (let s = at-le-sum old i in omega arith)) (λ i z. zero_end (at old i) z) c.filled.ensures.total c.min-wanted.ensures in
+    let w = wanted_added (first_level Heights old []) (last_level Heights old []) old c.args.by c.total_amount.result c.min-wanted.result (omega arith)
+    (λ i pos. heights_gain (at old i) c.args.by pos (let s = at-le-sum old i in omega arith))
+    (λ i z. zero_end (at old i) z) c.total_amount.ensures.total c.min-wanted.ensures in
     let t = s.0.grows.total in
     omega arith
 
@@ -57,7 +61,8 @@ returns-clause-visits c =
     let d = c.side_span-span.ensures.fewest in
     let e = c.side_span-span.ensures.most in
     let f = c.raise.ensures.steps in
-    IsBounded-passes c.args.values.now c.raise.new.values c.args.steps.now.count c.filled.new.steps.count c.raise.new.steps.count c.filled.ensures.steps (omega arith) (omega arith)
+    IsBounded-passes c.args.values.now c.raise.new.values c.args.steps.now.count c.total_amount.new.steps.count
+    c.raise.new.steps.count c.total_amount.ensures.steps (omega arith) (omega arith)
 
 pub returns-clause-least : goal.returns-clause-least
 returns-clause-least c =

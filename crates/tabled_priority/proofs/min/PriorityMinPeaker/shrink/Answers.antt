@@ -13,11 +13,16 @@ use Rattle.tabled_priority.proofs.Underway.{Underway, Underway-start, Underway-t
 use Rattle.tabled_priority.proofs.Between.{min_between}
 use Rattle.tabled_priority.proofs.Visiting.{IsBounded-turns}
 use Rattle.tabled_priority.proofs.min.PriorityMinPeaker.shrink.Goals as goal
-use Rattle.tabled_priority.proofs.min.PriorityMinPeaker.shrink.Goals.{else-loop-turn-test, then-loop-turn-test+then-left-eq0, then-loop-turn-test+else-left-eq0+in_default}
+use Rattle.tabled_priority.proofs.min.PriorityMinPeaker.shrink.Goals.{
+  else-loop-turn-test,
+  then-loop-turn-test+then-left-eq0,
+  then-loop-turn-test+else-left-eq0+in_default,
+}
 
 pub loop-turn-init : goal.loop-turn-init
 loop-turn-init c = record {
-  underway = Underway-start (λ values left new. IsMinShrunk c.args.self.now.right values c.args.mins.now left new) c.args.values.now c.args.mins.now c.args.by;
+  underway = Underway-start (λ values left new. IsMinShrunk c.args.self.now.right values c.args.mins.now left new)
+      c.args.values.now c.args.mins.now c.args.by;
   fewer = λ _. let a = spare_places-le c.args.values.now c.args.mins.now in omega arith;
   unchanged = λ _. refl;
   steps = omega arith;
@@ -44,8 +49,10 @@ loop-turn-preserved c =
     let len = u.permitted.same_length in
     let p = suc-mul c.loop-turn._turn (length c.args.values.now + 1) in
     record {
-      underway = subst (λ ys. Underway (λ values left new. IsMinShrunk right values mins left new) c.args.values.now mins c.args.by ys (left - d)) list
-          (Underway-take (λ values left new. IsMinShrunk right values mins left new) c.args.values.now mins c.args.by xs left i d u inside fits (omega arith)
+      underway = subst (λ ys. Underway (λ values left new. IsMinShrunk right values mins left new) c.args.values.now
+          mins c.args.by ys (left - d)) list
+          (Underway-take (λ values left new. IsMinShrunk right values mins left new) c.args.values.now mins c.args.by
+          xs left i d u inside fits (omega arith)
           (λ new pos r. min_at_once right mins i d xs (left - d) new named fits r));
       fewer = λ some. subst (λ ys. spare_places ys mins + (c.loop-turn._turn + 1) ≤ length ys) list
           (let a = spare_places-less xs mins i d inside above (omega arith) in
@@ -86,10 +93,15 @@ returns-clause-visits c =
     let before = c.args.steps.now.count in
     let s = inv.steps in
     elim c.loop-turn-test.branch [
-      | else-loop-turn-test w ↦ IsBounded-turns old xs before c.loop-turn-test.steps.count turn 0 (omega arith) (omega arith) inv.unchanged (let e = ap (λ (k : Steps). k.count) w.steps-is in omega arith)
-      | then-loop-turn-test+then-left-eq0 w ↦ IsBounded-turns old xs before c.loop-turn-test.steps.count turn 0 (let l = w.loop-turn-test.true in omega arith) (omega arith) inv.unchanged (let e = ap (λ (k : Steps). k.count) w.steps-is in omega arith)
-      | then-loop-turn-test+else-left-eq0+in_default w ↦ IsBounded-turns old xs before c.loop-turn-test.steps.count turn (length old) (let l = w.loop-turn-test.true in omega arith) (omega arith) inv.unchanged (let e = ap (λ (k : Steps). k.count) w.steps-is in let f = w.least.ensures.steps in omega arith)
+      | else-loop-turn-test w ↦ IsBounded-turns old xs before c.loop-turn-test.steps.count turn 0 (omega arith)
+          (omega arith) inv.unchanged (let e = ap (λ (k : Steps). k.count) w.steps-is in omega arith)
+      | then-loop-turn-test+then-left-eq0 w ↦ IsBounded-turns old xs before c.loop-turn-test.steps.count turn 0
+          (let l = w.loop-turn-test.true in omega arith) (omega arith) inv.unchanged (let e = ap (λ (k : Steps). k.count) w.steps-is in omega arith)
+      | then-loop-turn-test+else-left-eq0+in_default w ↦ IsBounded-turns old xs before c.loop-turn-test.steps.count
+          turn (length old) (let l = w.loop-turn-test.true in
+          omega arith) (omega arith) inv.unchanged (let e = ap (λ (k : Steps). k.count) w.steps-is in let f = w.least.ensures.steps in omega arith)
     ]
 
 pub returns-clause-between : goal.returns-clause-between
-returns-clause-between c = let s = returns-clause-shrinks c in min_between c.args.self.now.right c.args.values.now c.args.mins.now c.args.by c.loop-turn.values s.0
+returns-clause-between c = let s = returns-clause-shrinks c in
+    min_between c.args.self.now.right c.args.values.now c.args.mins.now c.args.by c.loop-turn.values s.0

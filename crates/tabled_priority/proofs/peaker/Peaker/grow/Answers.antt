@@ -12,7 +12,9 @@ loop-added-preserved g c =
     let above : IsAbove v [] p = c.in-Some.ensures.place in
     let l = IsRaised-raised v p 0 above.1 in
     record {
-      onward = λ w u h. c.loop-added.invariant.onward w u (subst (λ (n : ℕ). g.Self.Peaker.grows c.loop-added.self v n w u) (omega arith) (g.met.Self.Peaker.growing_goes_on _ _ u v w (c.args.by - (c.loop-added.added + 1)) p above c.in-Some.ensures.peaks h));
+      onward = λ w u h. c.loop-added.invariant.onward w u
+          (subst (λ (n : ℕ). g.Self.Peaker.grows c.loop-added.self v n w u) (omega arith)
+          (g.met.Self.Peaker.growing_goes_on _ _ u v w (c.args.by - (c.loop-added.added + 1)) p above c.in-Some.ensures.peaks h));
       kept = IsNoneSmaller-raised c.args.values.now v p above.1 c.loop-added.invariant.kept;
       total = let s = l.total in omega (arith, c.loop-added.invariant.total);
       visits = let less = changed-le c.args.values.now (raised v p) in omega arith;

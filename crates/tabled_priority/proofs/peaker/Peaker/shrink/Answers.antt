@@ -11,7 +11,10 @@ loop-taken-preserved g c =
     let p = c.in-Some.place in
     let above = c.in-Some.ensures.place in
     record {
-      onward = λ w u h. c.loop-taken.invariant.onward w u (subst (λ (n : ℕ). g.Self.Peaker.shrinks c.loop-taken.self v c.args.mins.now n w u) (omega arith) (g.met.Self.Peaker.goes_on _ _ u v c.args.mins.now w (c.args.by - (c.loop-taken.taken + 1)) p (search rules) above c.in-Some.ensures.peaks h));
+      onward = λ w u h. c.loop-taken.invariant.onward w u
+          (subst (λ (n : ℕ). g.Self.Peaker.shrinks c.loop-taken.self v c.args.mins.now n w u) (omega arith)
+          (g.met.Self.Peaker.goes_on _ _ u v c.args.mins.now w (c.args.by - (c.loop-taken.taken + 1)) p (search rules)
+          above c.in-Some.ensures.peaks h));
       permitted = IsPermitted-lowered c.args.values.now c.args.mins.now v p above.1 c.loop-taken.invariant.permitted;
       total = omega (arith, sum-lowered v p (at c.args.mins.now p) above.1, c.loop-taken.invariant.total);
       visits = let less = changed-le c.args.values.now (lowered v p) in omega arith;

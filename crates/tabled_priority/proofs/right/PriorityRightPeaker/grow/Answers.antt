@@ -17,4 +17,5 @@ pub returns-clause-visits : goal.returns-clause-visits
 returns-clause-visits c =
     let xs = c.args.values.now in
     let a = c.in-Some.ensures.fewest in
-    rw c.add_to.ensures.values (IsBounded-one xs c.in-Some.place (at xs c.in-Some.place + c.args.by) c.args.steps.now.count c.rightmost.new.steps.count c.add_to.new.steps.count (omega arith) c.in-Some.ensures.most c.add_to.ensures.steps)
+    rw c.add_to.ensures.values (IsBounded-one xs c.in-Some.place (at xs c.in-Some.place + c.args.by)
+    c.args.steps.now.count c.rightmost.new.steps.count c.add_to.new.steps.count (omega arith) c.in-Some.ensures.most c.add_to.ensures.steps)

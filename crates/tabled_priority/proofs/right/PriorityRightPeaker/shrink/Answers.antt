@@ -31,8 +31,10 @@ loop-place-preserved c =
     record {
       within = let e = length-set xs i (c.visit-column.result.value - d) in omega arith;
       underway = subst (λ ys. Underway (λ values left new. IsRightShrunk values mins left new) c.args.values.now mins c.args.by ys (left - d)) list
-          (Underway-take (λ values left new. IsRightShrunk values mins left new) c.args.values.now mins c.args.by xs left i d c.loop-place.invariant.underway inside fits (omega arith)
-          (λ new pos r. right_at_once mins i d xs (left - d) new (record { above = omega arith; last = λ j lt. first (omega arith) j (omega arith) }) fits r));
+          (Underway-take (λ values left new. IsRightShrunk values mins left new) c.args.values.now mins c.args.by xs
+          left i d c.loop-place.invariant.underway inside fits (omega arith)
+          (λ new pos r. right_at_once mins i d xs (left - d) new
+          (record { above = omega arith; last = λ j lt. first (omega arith) j (omega arith) }) fits r));
       passed = λ some j lt. subst (λ ys. at ys j ≤ at mins j) list (⊎_elim
           (λ e. subst (λ k. at (less xs i d) k ≤ at mins k) (sym e) (omega arith))
           (λ ne. let e = at-less_other xs i d j ne in let f = first (omega arith) j (omega arith) in omega arith) (cases_eq j i));
@@ -56,7 +58,8 @@ returns-clause-shrinks c =
 pub returns-clause-visits : goal.returns-clause-visits
 returns-clause-visits c =
     let len = c.loop-place.invariant.underway.permitted.same_length in
-    IsBounded-whole c.args.values.now c.loop-place.values c.args.steps.now.count c.loop-place.steps.count (length c.args.values.now) (omega arith) (let s = c.loop-place.invariant.steps in omega arith) (omega arith)
+    IsBounded-whole c.args.values.now c.loop-place.values c.args.steps.now.count c.loop-place.steps.count
+    (length c.args.values.now) (omega arith) (let s = c.loop-place.invariant.steps in omega arith) (omega arith)
 
 pub returns-clause-between : goal.returns-clause-between
 returns-clause-between c = let s = returns-clause-shrinks c in right_between c.args.values.now c.args.mins.now c.args.by c.loop-place.values s.0

@@ -15,7 +15,36 @@ use contract.BorrowLft.{◌⊑◌}
 use contract.Monad.{fact, fact_i}
 use contract.Running.{tables}
 use types.Logic.{Logic}
-use types.Kit.{‵, raw, prop, ◌⊛◌, some, later, at_ret, ◌$◌, ◌∵◌, !, qed, done, move, keep, use0, use1, use2, use3, split, join, fsplit, fsplit3, fjoin, pick, await, rewrite, regoal, suffices}
+use types.Kit.{
+  ‵,
+  raw,
+  prop,
+  ◌⊛◌,
+  some,
+  later,
+  at_ret,
+  ◌$◌,
+  ◌∵◌,
+  !,
+  qed,
+  done,
+  move,
+  keep,
+  use0,
+  use1,
+  use2,
+  use3,
+  split,
+  join,
+  fsplit,
+  fsplit3,
+  fjoin,
+  pick,
+  await,
+  rewrite,
+  regoal,
+  suffices,
+}
 use types.Run.{enter, of_opd, lit, addr, stop, fld, no_more, and_then, first, switches, exec, returns}
 use types.Part.{agg, whole}
 use types.Match.{live, vrt, in_variant}
@@ -80,7 +109,10 @@ modify_spec 𝓤 𝓛 𝓜 𝓡 wired A O L₀ L₁ g₁ d₁ g₂ d₂ d₃ d�
     let gE = g.ended A O g₁ d₁ g₂ d₂ d₃ d₄ in
     let ts : Args = given_args A O d₁ d₂ d₃ d₄ in
     let fn : Fn = inst_fn ts code.function in
-    let stays : Stays En.signature.params En.kept = (stay_dropped (mut_ref_to (0 ∷ []) tt (plain (λ _. R))) no, (stay_dropped (plain (λ _. param 0 A)) no, (stay_dropped (plain (λ _. param 1 O)) no, tt))) in
+    let stays : Stays En.signature.params En.kept = (
+      stay_dropped (mut_ref_to (0 ∷ []) tt (plain (λ _. R))) no,
+      (stay_dropped (plain (λ _. param 0 A)) no, (stay_dropped (plain (λ _. param 1 O)) no, tt)),
+    ) in
     let W = walk_of 𝓛 En stays c in let 𝓣 = tables 𝓤 𝓛.H 𝓜 𝓡 𝓡.env in
     proved_at 𝓛 En stays c 𝓜 𝓡 (
       Goes-spent_ref 𝓛 3 (0 ∷ []) tt (plain (λ _. R)),
@@ -91,7 +123,8 @@ modify_spec 𝓤 𝓛 𝓜 𝓡 wired A O L₀ L₁ g₁ d₁ g₂ d₂ d₃ d�
     )
     (f.Key.name ts) fn (code.unfolded 𝓤 𝓛.H 𝓜 𝓡 wired (A, (O, tt)) d₁ d₂ d₃ d₄) (λ y are.
     let κs = y.0.0 in let qs = y.0.1 in let a = y.0.3 in let vss = y.0.4 in
-    let κ = κs.0 in let q = qs.0 in let r = a.0 in let x = a.1.0 in let u = a.1.1.0 in let b = r.ref_ptr.0 in let o = r.ref_ptr.1 in let vs = mut_vals r in
+    let κ = κs.0 in let q = qs.0 in let r = a.0 in let x = a.1.0 in let u = a.1.1.0 in let b = r.ref_ptr.0 in
+    let o = r.ref_ptr.1 in let vs = mut_vals r in
     let Post : Val → SProp 𝓤 = W.post y in
     let Ref = λ (κ' : List ℕ) (s : MutBor R.Denot). (MutRef (named 0) κ' R).own_val s vs in
     let one = single vss.1.0 (L₀.single x vss.1.0 are.1.0) in let v : Val = one.0 in
@@ -124,7 +157,8 @@ modify_spec 𝓤 𝓛 𝓜 𝓡 wired A O L₀ L₁ g₁ d₁ g₂ d₂ d₃ d�
     let Applied = λ (n : R.Denot). IsModified (g₂.changes u) parts (g₂.hint u) r.now n in
     let Left = λ (e : TableError) (n : R.Denot). IsModifyingRefused (g₂.changes u) (g₂.refuses u) (g₂.passes u) parts e r.now n in
     let Known = λ (e : TableError). ((n : R.Denot) × Left e n) in
-    calls_at ! (framed 𝓤 𝓛.H 𝓜 𝓣) G (met 𝓤 𝓛 𝓜 𝓡 (code.calls-tabled_table::table::Table::apply_own 𝓡.env wired) A O L₀ L₁ g₁ d₁ g₂ d₂ d₃ d₄ m₁ m₂ m₃ m₄) z
+    calls_at ! (framed 𝓤 𝓛.H 𝓜 𝓣) G (met 𝓤 𝓛 𝓜 𝓡 (code.calls-tabled_table::table::Table::apply_own 𝓡.env wired) A O L₀
+    L₁ g₁ d₁ g₂ d₂ d₃ d₄ m₁ m₂ m₃ m₄) z
     (and_then ! (get ! refl) (and_then ! (get ! refl) (and_then ! (get ! refl) (no_more !)))) (λ w.
     use1 𝓛 (later (some (λ (t : Done). ((‵ (flft (α ∷ []) full_share) ⊛ others) ⊛ ‵ ((result.the_row unit TE).own_val t (w ∷ []))) ⊛
     some (λ (ws : R.Denot × (Unit {0} × (Unit {0} × Unit {0}))). ‵ (lasts gE z.0.0 z.0.3 ws) ⊛ (raw (fact 𝓤 (OnOk t (Applied ws.0))) ⊛
@@ -168,7 +202,8 @@ modify_spec 𝓤 𝓛 𝓜 𝓡 wired A O L₀ L₁ g₁ d₁ g₂ d₂ d₃ d�
     first ! $ switches ! (get_tag ! (vrt ! refl (fld ! refl (stop !))) (whole !)) (
       (λ k. absurd (apart (sym k))),
       (
-        (λ k. sets ! (of_opd ! (get_in ! (vrt ! refl (fld ! refl (stop !))) (in_variant ! 1 0 refl refl (whole !)))) refl (fits_cause 𝓛 A O d₁ d₂ d₃ d₄ l e h) $
+        (λ k. sets ! (of_opd ! (get_in ! (vrt ! refl (fld ! refl (stop !))) (in_variant ! 1 0 refl refl (whole !))))
+            refl (fits_cause 𝓛 A O d₁ d₂ d₃ d₄ l e h) $
             sets_last ! (agg ! (and_then ! (lit ! tt) (and_then ! (get ! refl) (no_more !)))) refl (fits_result 𝓛 A O d₁ d₂ d₃ d₄ l e h) $
             exec ! 𝓣.C 𝓣.Λ (env fn.locals l) (after 5 fn.body) (at_ret _ Post) $
             sets ! (of_opd ! (get ! refl)) refl (fits_result 𝓛 A O d₁ d₂ d₃ d₄ l e h) $

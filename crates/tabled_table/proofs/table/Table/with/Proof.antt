@@ -15,7 +15,36 @@ use contract.BorrowLft.{◌⊑◌}
 use contract.Monad.{fact, fact_i}
 use contract.Running.{tables}
 use types.Logic.{Logic}
-use types.Kit.{‵, raw, prop, ◌⊛◌, some, later, at_ret, ◌$◌, ◌∵◌, !, qed, done, move, keep, use0, use1, use2, use3, split, join, fsplit, fsplit3, fjoin, pick, await, rewrite, regoal, suffices}
+use types.Kit.{
+  ‵,
+  raw,
+  prop,
+  ◌⊛◌,
+  some,
+  later,
+  at_ret,
+  ◌$◌,
+  ◌∵◌,
+  !,
+  qed,
+  done,
+  move,
+  keep,
+  use0,
+  use1,
+  use2,
+  use3,
+  split,
+  join,
+  fsplit,
+  fsplit3,
+  fjoin,
+  pick,
+  await,
+  rewrite,
+  regoal,
+  suffices,
+}
 use types.Run.{enter, of_opd, lit, addr, stop, fld, no_more, and_then, first, switches, exec, returns}
 use types.Part.{agg, whole}
 use types.Match.{live, vrt, in_variant}
@@ -78,7 +107,8 @@ with_spec 𝓤 𝓛 𝓜 𝓡 wired O L₀ g₁ d₁ m₁ =
     let gE = g.ended O g₁ d₁ in
     let ts : Args = given_args O d₁ in
     let fn : Fn = inst_fn ts code.function in
-    let stays : Stays En.signature.params En.kept = (stay_dropped (mut_ref_to (0 ∷ []) tt (plain (λ _. R))) no, (stay_dropped (plain (λ _. param 0 O)) no, tt)) in
+    let stays : Stays En.signature.params En.kept =
+    (stay_dropped (mut_ref_to (0 ∷ []) tt (plain (λ _. R))) no, (stay_dropped (plain (λ _. param 0 O)) no, tt)) in
     let W = walk_of 𝓛 En stays c in let 𝓣 = tables 𝓤 𝓛.H 𝓜 𝓡 𝓡.env in
     proved_at 𝓛 En stays c 𝓜 𝓡 (Goes-spent_ref 𝓛 2 (0 ∷ []) tt (plain (λ _. R)), (Goes-dropped 𝓛 2 (plain (λ _. param 0 O)) no (λ κs x w. refl), tt))
     (f.Key.name ts) fn (code.unfolded 𝓤 𝓛.H 𝓜 𝓡 wired (O, tt) d₁) (λ y are.
@@ -118,9 +148,11 @@ with_spec 𝓤 𝓛 𝓜 𝓡 wired O L₀ g₁ d₁ m₁ =
     (and_then ! (get ! refl) (and_then ! (get ! refl) (no_more !))) (λ w.
     use1 𝓛 (later (some (λ (t : Done). ((‵ (flft (α ∷ []) full_share) ⊛ others) ⊛ ‵ ((result.the_row unit TE).own_val t (w ∷ []))) ⊛
     some (λ (ws : R.Denot × (Unit {0} × Unit {0})). ‵ (lasts gE z.0.0 z.0.3 ws) ⊛ (raw (fact 𝓤 (OnOk t (Applied ws.0))) ⊛
-    raw (fact 𝓤 (OnOk t (Promised ws.0))) ⊛ raw (fact 𝓤 (IfErr t (λ e. Left e ws.0))) ⊛ raw (fact 𝓤 (IfErr t IsCause)) ⊛ raw (fact 𝓤 (IfErr t Passes))))))) (id⊢ 𝓤 _) $
+    raw (fact 𝓤 (OnOk t (Promised ws.0))) ⊛ raw (fact 𝓤 (IfErr t (λ e. Left e ws.0))) ⊛ raw (fact 𝓤 (IfErr t IsCause))
+    ⊛ raw (fact 𝓤 (IfErr t Passes))))))) (id⊢ 𝓤 _) $
     await ! tt $ pick ! (λ t. split ! $ split ! $ split ! $ move ! (3 ∷ []) $ pick ! (λ ws. split ! $ move ! (1 ∷ []) $
-    split ! $ heard ! _ (λ applied. split ! $ heard ! _ (λ promised. split ! $ heard ! _ (λ left. split ! $ heard ! _ (λ only'. heard ! _ (λ passes. fsplit ! $ fsplit ! $
+    split ! $ heard ! _ (λ applied. split ! $ heard ! _
+    (λ promised. split ! $ heard ! _ (λ left. split ! $ heard ! _ (λ only'. heard ! _ (λ passes. fsplit ! $ fsplit ! $
     -- [the loan's last value; its borrow; nothing; the token of α; the other tokens; the result; what the lender keeps]
     move ! (3 ∷ []) $ lft_end ! tt $ move ! (0 ∷ 6 ∷ 1 ∷ []) $ use3 𝓛 (later (‵ (Ref κ (record r { now = ws.0 })) ⊛ ‵ (flft κ q)))
     (comes_back 𝓛 R (named 0) κ (α ∷ []) q r.ghost_name b o δ r.now ws.0) $ await ! tt $ split ! $
@@ -144,7 +176,8 @@ with_spec 𝓤 𝓛 𝓜 𝓡 wired O L₀ g₁ d₁ m₁ =
           use0 𝓛 (‵ (Rests 𝓛 R TableError r P (Ok self'))) (rests_at_ok 𝓛 R TableError r P self' refl) $ move ! (1 ∷ 0 ∷ []) $
           nothing ! $ nothing ! $ fjoin ! $ nothing ! $ fjoin ! $ join ! $ move ! (2 ∷ 3 ∷ []) $ join ! $ join ! $
           use0 𝓛 (raw (fact 𝓤 ⊤)) (fact_i 𝓤 ⊤ (emp 𝓤) tt) $ use0 𝓛 (raw (fact 𝓤 ⊤)) (fact_i 𝓤 ⊤ (emp 𝓤) tt) $ join ! $
-          use0 𝓛 (raw (fact 𝓤 (Promised ws.0))) (fact_i 𝓤 (Promised ws.0) (emp 𝓤) (subst (λ (s : Done). OnOk s (Promised ws.0)) p promised)) $ join ! $
+          use0 𝓛 (raw (fact 𝓤 (Promised ws.0))) (fact_i 𝓤 (Promised ws.0) (emp 𝓤)
+          (subst (λ (s : Done). OnOk s (Promised ws.0)) p promised)) $ join ! $
           use0 𝓛 (raw (fact 𝓤 (Applied ws.0))) (fact_i 𝓤 (Applied ws.0) (emp 𝓤) (subst (λ (s : Done). OnOk s (Applied ws.0)) p applied)) $ join ! $
           use0 𝓛 (raw (fact 𝓤 (r.ghost_name ≡ r.ghost_name))) (fact_i 𝓤 (r.ghost_name ≡ r.ghost_name) (emp 𝓤) refl) $ join ! $
           move ! (1 ∷ 2 ∷ 0 ∷ []) $ done !),
@@ -163,7 +196,8 @@ with_spec 𝓤 𝓛 𝓜 𝓡 wired O L₀ g₁ d₁ m₁ =
             exec ! 𝓣.C 𝓣.Λ (env fn.locals l) (after 4 fn.body) (at_ret _ Post) $
             sets ! (of_opd ! (get ! refl)) refl (fits_result 𝓛 O d₁ l e h) $
             returns ! (look_at ! 0 refl) $ free_all ! refl $ fsplit3 ! $ keep ! (1 ∷ 3 ∷ 6 ∷ []) $
-            use1 𝓛 (‵ (Rests 𝓛 R TableError r P failed)) (rests_at_err 𝓛 R TableError r P e ws.0 (subst (λ (s : Done). IfErr s (λ e'. Left e' ws.0)) p left)) $
+            use1 𝓛 (‵ (Rests 𝓛 R TableError r P failed))
+            (rests_at_err 𝓛 R TableError r P e ws.0 (subst (λ (s : Done). IfErr s (λ e'. Left e' ws.0)) p left)) $
             use0 𝓛 (‵ (TE.own_val e (cause e h ∷ []))) (cause_made 𝓛 e h) $
             use1 𝓛 (‵ ((result.the_row Own TE).own_val failed (refused e h ∷ []))) (err_of 𝓛 Own TE e (cause e h)) $
             suffices ! _ (ends_at 𝓛 En stays c y (refused e h) failed (tt, (tt, tt)) (tt, (tt, tt))) $

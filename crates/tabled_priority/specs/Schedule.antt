@@ -1,21 +1,21 @@
 -- How sizes change as a level rises. Each column takes nothing up to a level of its own, then one a
 -- level, up to another level of its own, and then no more.
 use Rattle.std.specs.Prelude.{◌≡◌, ℕ, ◌+◌, ◌-◌, ◌<◌, ◌≤◌, Bool, List, min, nat_lt, nat_le, if◌then◌else◌, ◌&&◌, ◌==◌}
-use Rattle.tabled_priority.specs.declared.filling.Filling.{Filling}
-use Rattle.tabled_priority.specs.declared.filling.Filling.TheVariants.{Depths, Rounds, Heights, Gains}
+use Rattle.tabled_priority.specs.declared.schedule.Schedule.{Schedule}
+use Rattle.tabled_priority.specs.declared.schedule.Schedule.TheVariants.{Depths, Rounds, Heights, Gains}
 use Rattle.tabled_priority.specs.Permitted.{at}
 use Rattle.tabled_priority.specs.Shrunk.{is_met}
 use Rattle.tabled_priority.specs.Sums.{sum_below, one_if}
 
 -- the level from which a column takes
-abbrev pub first_level : Filling → List ℕ → List ℕ → ℕ → ℕ
+abbrev pub first_level : Schedule → List ℕ → List ℕ → ℕ → ℕ
 first_level Depths values mins i = 18446744073709551615 - at values i
 first_level Rounds values mins i = 0
 first_level Heights values mins i = at values i
 first_level Gains values mins i = 0
 
 -- the level up to which a column takes
-abbrev pub last_level : Filling → List ℕ → List ℕ → ℕ → ℕ
+abbrev pub last_level : Schedule → List ℕ → List ℕ → ℕ → ℕ
 last_level Depths values mins i = 18446744073709551615 - at mins i
 last_level Rounds values mins i = at values i - at mins i
 last_level Heights values mins i = if at values i == 0 then 0 else 18446744073709551615
@@ -26,8 +26,8 @@ abbrev pub amount : (ℕ → ℕ) → (ℕ → ℕ) → ℕ → ℕ → ℕ
 amount from to level i = min level (to i) - from i
 
 -- what the first n columns take up to a level
-abbrev pub filled : (ℕ → ℕ) → (ℕ → ℕ) → ℕ → ℕ → ℕ
-filled from to n level = sum_below (amount from to level) n
+abbrev pub total_amount : (ℕ → ℕ) → (ℕ → ℕ) → ℕ → ℕ → ℕ
+total_amount from to n level = sum_below (amount from to level) n
 
 -- a column that takes one more at this level
 abbrev pub is_open : (ℕ → ℕ) → (ℕ → ℕ) → ℕ → ℕ → Bool
@@ -38,13 +38,13 @@ open_count from to n level = sum_below (λ i. one_if (is_open from to level i)) 
 
 -- a level that takes less than is wanted, as each greater level at which a column starts or ends doesn't
 pub record IsBase (from to : ℕ → ℕ) (n wanted level : ℕ) : Type 0 where
-  pub below : filled from to n level < wanted
-  pub starts : (i : ℕ) → i < n → level < from i → wanted ≤ filled from to n (from i)
-  pub ends : (i : ℕ) → i < n → level < to i → wanted ≤ filled from to n (to i)
+  pub below : total_amount from to n level < wanted
+  pub starts : (i : ℕ) → i < n → level < from i → wanted ≤ total_amount from to n (from i)
+  pub ends : (i : ℕ) → i < n → level < to i → wanted ≤ total_amount from to n (to i)
 
 -- the highest level that takes less than is wanted; the rest is at most one for each open column
 pub record IsReached (from to : ℕ → ℕ) (n wanted level rest : ℕ) : Type 0 where
-  pub total : filled from to n level + rest ≡ wanted
+  pub total : total_amount from to n level + rest ≡ wanted
   pub some : 0 < rest
   pub enough : rest ≤ open_count from to n level
 

@@ -1,11 +1,11 @@
 use Rattle.std.proofs.Common.{◌≡◌, ◌≤◌, max, length}
 use Rattle.std.specs.Vec.{vec_capacity}
-use Rattle.tabled_base.specs.Cells.{padded}
-use Rattle.tabled_base.proofs.builder.pad_row.Given as goal
+use Rattle.tabled_base.specs.Cells.{lengthened}
+use Rattle.tabled_base.proofs.builder.lengthen_row.Given as goal
 
 abbrev pub invariant-loop-column : goal.invariant-loop-column
 invariant-loop-column l = record {
-  items : l.row.items ≡ padded l._column l.fn.row.items;
+  items : l.row.items ≡ lengthened l._column l.fn.row.items;
   reached : l._column ≤ max l.columns (length l.fn.row.items);
   capacity : vec_capacity l.row ≡ vec_capacity l.fn.row;
 }

@@ -1,7 +1,7 @@
 use Rattle.std.proofs.Common.{◌≡◌, ◌≤◌}
-use Rattle.tabled_priority.specs.Filling.{open_count, first_level, last_level}
+use Rattle.tabled_priority.specs.Schedule.{open_count, first_level, last_level}
 use Rattle.tabled_priority.specs.Visits.{counted}
-use Rattle.tabled_priority.proofs.filling.count_open.Given as goal
+use Rattle.tabled_priority.proofs.schedule.count_open.Given as goal
 
 abbrev pub invariant-loop-place : goal.invariant-loop-place
 invariant-loop-place l = record {

@@ -1,7 +1,7 @@
 //! How sizes change as a level rises.
 ghost use Rattle.std.specs.Prelude.{◌≡◌, ℕ, ◌+◌, ◌-◌, ◌*◌, ◌<◌, ◌≤◌, nat_le, nat_lt, ◌&&◌, length, min};
 ghost use Rattle.tabled_priority.specs.Permitted.{at};
-ghost use Rattle.tabled_priority.specs.Filling.{amount, filled, first_level, last_level, open_count, IsBase, IsReached};
+ghost use Rattle.tabled_priority.specs.Schedule.{amount, total_amount, first_level, last_level, open_count, IsBase, IsReached};
 ghost use Rattle.tabled_priority.specs.Visits.{counted};
 
 use crate::column::{Column, visit};
@@ -9,7 +9,7 @@ use crate::steps::Steps;
 
 /// What a level is. Up to a level each column takes so much of what is to be taken or added.
 #[derive(Clone, Copy)]
-pub(crate) enum Filling {
+pub(crate) enum Schedule {
     /// A ceiling that comes down from the greatest `usize`, by so much. A column gives what is above
     /// it, as far as its minimum.
     Depths,
@@ -47,7 +47,7 @@ impl Ramp {
 
 /// Reads a column, and says from and up to which level it takes.
 pub(crate) fn visit_ramp(
-    kind: Filling,
+    kind: Schedule,
     mins: &[usize],
     values: &[usize],
     place: usize,
@@ -63,25 +63,25 @@ pub(crate) fn visit_ramp(
     let value = column.value;
     let nonzero_end = if value == 0 { 0 } else { usize::MAX };
     let (from, to) = match kind {
-        Filling::Depths => (usize::MAX - value, usize::MAX - column.least),
-        Filling::Rounds => (0, column.spare()),
-        Filling::Heights => (value, nonzero_end),
-        Filling::Gains => (0, nonzero_end),
+        Schedule::Depths => (usize::MAX - value, usize::MAX - column.least),
+        Schedule::Rounds => (0, column.spare()),
+        Schedule::Heights => (value, nonzero_end),
+        Schedule::Gains => (0, nonzero_end),
     };
     Ramp { value, from, to }
 }
 
 /// What all columns take up to a level, or the greatest `usize` if that is less.
 #[tactic(auto, using(crate::proofs::Sums::sum_step))]
-pub(crate) fn filled(
-    kind: Filling,
+pub(crate) fn total_amount(
+    kind: Schedule,
     mins: &[usize],
     values: &[usize],
     level: usize,
     steps: &mut Steps,
 ) -> usize
     ensures total { result ≡ min
-        (filled (first_level kind values.now mins.now) (last_level kind values.now mins.now) (length values.now) level)
+        (total_amount (first_level kind values.now mins.now) (last_level kind values.now mins.now) (length values.now) level)
         18446744073709551615 }
     ensures values_fit { (i : ℕ) → at values.now i ≤ 18446744073709551615 }
     ensures mins_fit { (i : ℕ) → at mins.now i ≤ 18446744073709551615 }
@@ -98,7 +98,7 @@ pub(crate) fn filled(
 /// How many of the columns before a place take one more at a level.
 #[tactic(auto, using(crate::proofs::Sums::sum_step))]
 pub(crate) fn count_open(
-    kind: Filling,
+    kind: Schedule,
     mins: &[usize],
     values: &[usize],
     end: usize,

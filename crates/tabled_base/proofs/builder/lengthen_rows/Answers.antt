@@ -3,10 +3,10 @@ use Rattle.std.specs.Vec.{vec_capacity}
 use Rattle.std.proofs.Math.ListN.{set}
 use Rattle.std.proofs.lemmas.List.{length-map}
 use Rattle.std.proofs.lemmas.List.Elements.{All-set}
-use Rattle.tabled_base.specs.Cells.{padded, texts_of}
-use Rattle.tabled_base.proofs.Padding.{mapped, mapped-more, mapped-all}
-use Rattle.tabled_base.proofs.RowLemmas.{texts_padded}
-use Rattle.tabled_base.proofs.builder.pad_rows.Goals as goal
+use Rattle.tabled_base.specs.Cells.{lengthened, texts_of}
+use Rattle.tabled_base.proofs.Lengthening.{mapped, mapped-more, mapped-all}
+use Rattle.tabled_base.proofs.RowLemmas.{texts_lengthened}
+use Rattle.tabled_base.proofs.builder.lengthen_rows.Goals as goal
 
 pub loop-row-preserved : goal.loop-row-preserved
 loop-row-preserved c =
@@ -17,11 +17,11 @@ loop-row-preserved c =
     let room : n ≤ vec_capacity c.row-item.result = rw (c.row-item.is) (c.loop-row.invariant.roomy i c.row-item.result (omega arith)) in
     record {
       texts =
-          texts_padded n c.loop-row.rows i c.pad_row.new.row c.row-item.result (omega arith) c.pad_row.ensures.items
-          ∙ ap (λ l. set l i (padded n (slice_index_or l i []))) c.loop-row.invariant.texts
-          ∙ mapped-more (padded n) i old [] inside;
+          texts_lengthened n c.loop-row.rows i c.lengthen_row.new.row c.row-item.result (omega arith) c.lengthen_row.ensures.items
+          ∙ ap (λ l. set l i (lengthened n (slice_index_or l i []))) c.loop-row.invariant.texts
+          ∙ mapped-more (lengthened n) i old [] inside;
       roomy =
-          All-set (λ row. n ≤ vec_capacity row) c.loop-row.rows i c.pad_row.new.row (omega (arith, room))
+          All-set (λ row. n ≤ vec_capacity row) c.loop-row.rows i c.lengthen_row.new.row (omega (arith, room))
           c.loop-row.invariant.roomy;
     }
 
@@ -29,4 +29,4 @@ pub returns : goal.returns
 returns c =
     let old = texts_of (λ t. t) c.args.rows.now in
     let all : c.loop-row.row-index ≡ length old = rw length-map (omega arith) in
-    c.loop-row.invariant.texts ∙ ap (λ k. mapped (padded c.args.columns) k old) all ∙ mapped-all (padded c.args.columns) old
+    c.loop-row.invariant.texts ∙ ap (λ k. mapped (lengthened c.args.columns) k old) all ∙ mapped-all (lengthened c.args.columns) old

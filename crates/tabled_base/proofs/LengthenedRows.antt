@@ -1,0 +1,78 @@
+-- Rows that are lengthened to the longest of them.
+use Rattle.std.proofs.Common.{
+  ◌≡◌,
+  ℕ,
+  ◌+◌,
+  ◌-◌,
+  ◌≤◌,
+  List,
+  [],
+  ◌∷◌,
+  ◌++◌,
+  length,
+  map,
+  max,
+  get_or,
+  replicate,
+  refl,
+  sym,
+  ap,
+  ◌∙◌,
+  arith,
+  append_assoc,
+  All,
+}
+use Rattle.std.proofs.lemmas.List.{replicate-append-replicate, map-append}
+use Rattle.std.proofs.lemmas.List.Elements.{All-head, All-tail, All-cons, All-map, All-nil}
+use Rattle.tabled_base.specs.Cells.{IsRectangular, columns, longest, lengthened, lengthened_rows, with_record}
+use Rattle.tabled_base.proofs.Lengthening.{length-lengthened, rectangular-from_length}
+
+-- no row is longer than the longest
+within_longest : (rows : List (List (List ℕ))) → All (λ row. length row ≤ longest rows) rows
+within_longest [] = All-nil (λ row. length row ≤ 0)
+within_longest (row ∷ rows) =
+    All-cons (λ r. length r ≤ longest (row ∷ rows)) row rows (omega arith)
+    (λ k d h. let own = within_longest rows k d h in omega arith)
+
+-- a further row may be the longest
+longest-more : (rows : List (List (List ℕ))) (row : List (List ℕ)) → longest (rows ++ row ∷ []) ≡ max (longest rows) (length row)
+longest-more [] row = omega arith
+longest-more (first ∷ rows) row = omega (arith, longest-more rows row)
+
+pub lengthened_rows-rectangular : (rows : List (List (List ℕ))) → IsRectangular (lengthened_rows rows)
+lengthened_rows-rectangular rows =
+    let n = longest rows in
+    rectangular-from_length n (lengthened_rows rows)
+    (All-map (λ r. length r ≡ n) (lengthened n) rows
+    (λ k d h. let own = within_longest rows k d h in omega (arith, length-lengthened n (get_or rows k d))))
+
+columns-lengthened : (rows : List (List (List ℕ))) → columns (lengthened_rows rows) ≡ longest rows
+columns-lengthened [] = refl
+columns-lengthened (row ∷ rows) =
+    let own = All-head (λ r. length r ≤ longest (row ∷ rows)) row rows (within_longest (row ∷ rows)) in
+    omega (arith, length-lengthened (longest (row ∷ rows)) row)
+
+-- lengthened to fewer columns first
+lengthened-twice : (m n : ℕ) (row : List (List ℕ)) → length row ≤ n → n ≤ m → lengthened m (lengthened n row) ≡ lengthened m row
+lengthened-twice m n row h k =
+    let rest : n - length row + (m - length (lengthened n row)) ≡ m - length row = omega (arith, length-lengthened n row) in
+    append_assoc row (replicate (n - length row) []) (replicate (m - length (lengthened n row)) [])
+    ∙ ap (λ l. row ++ l) (replicate-append-replicate (n - length row) (m - length (lengthened n row)) [] ∙ ap (λ i. replicate i []) rest)
+
+lengthened-all-twice : (m n : ℕ) (rows : List (List (List ℕ))) → All (λ row. length row ≤ n) rows → n ≤ m
+    → map (lengthened m) (map (lengthened n) rows) ≡ map (lengthened m) rows
+lengthened-all-twice m n [] h k = refl
+lengthened-all-twice m n (row ∷ rows) h k =
+    ap (λ r. r ∷ map (lengthened m) (map (lengthened n) rows)) (lengthened-twice m n row (All-head (λ r. length r ≤ n) row rows h) k)
+    ∙ ap (λ rs. lengthened m row ∷ rs) (lengthened-all-twice m n rows (All-tail (λ r. length r ≤ n) row rows h) k)
+
+-- rows that are added one by one are lengthened as if they came at once
+pub lengthened_rows-more : (rows : List (List (List ℕ))) (row : List (List ℕ)) → with_record (lengthened_rows rows) row ≡ lengthened_rows (rows ++ row ∷ [])
+lengthened_rows-more rows row =
+    let n = longest rows in
+    let m = max n (length row) in
+    ap (λ k. map (lengthened (max k (length row))) (lengthened_rows rows ++ row ∷ [])) (columns-lengthened rows)
+    ∙ map-append (lengthened m) (lengthened_rows rows) (row ∷ [])
+    ∙ ap (λ l. l ++ lengthened m row ∷ []) (lengthened-all-twice m n rows (within_longest rows) (omega arith))
+    ∙ sym (map-append (lengthened m) rows (row ∷ []))
+    ∙ ap (λ k. map (lengthened k) (rows ++ row ∷ [])) (sym (longest-more rows row))

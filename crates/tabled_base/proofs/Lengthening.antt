@@ -1,0 +1,127 @@
+-- Lengthened rows.
+use Rattle.std.proofs.Common.{
+  ◌≡◌,
+  ℕ,
+  zero,
+  suc,
+  ◌+◌,
+  ◌-◌,
+  ◌<◌,
+  ◌≤◌,
+  List,
+  [],
+  ◌∷◌,
+  ◌++◌,
+  length,
+  map,
+  max,
+  get_or,
+  replicate,
+  refl,
+  sym,
+  ap,
+  subst,
+  ◌∙◌,
+  arith,
+  All,
+  append-nil,
+  append_assoc,
+  length-append,
+  Result,
+  Ok,
+  Err,
+  OnOk,
+  OnErr,
+}
+use Rattle.std.proofs.Math.ListN.{set}
+use Rattle.std.proofs.lemmas.List.{length-replicate, replicate-append-replicate, map-append}
+use Rattle.std.proofs.lemmas.List.Elements.{All-head, All-tail, All-cons, All-nil, All-append, All-map}
+use Rattle.tabled_base.specs.Cells.{columns, IsRectangular, lengthened, with_record}
+
+pub length-lengthened : (n : ℕ) (row : List (List ℕ)) → length (lengthened n row) ≡ max n (length row)
+length-lengthened n row = omega (arith, length-append row (replicate (n - length row) []), length-replicate {A = List ℕ} (n - length row) [])
+
+-- a row that is long enough stays
+pub lengthened-long : (n : ℕ) (row : List (List ℕ)) → n ≤ length row → lengthened n row ≡ row
+lengthened-long n row h =
+    let none : n - length row ≡ 0 = omega arith in
+    ap (λ k. row ++ replicate k []) none ∙ append-nil row
+
+-- lengthened to fewer columns first
+pub lengthened-more : (row : List (List ℕ)) (n : ℕ) → length row ≤ n → lengthened n row ++ [] ∷ [] ≡ lengthened (n + 1) row
+lengthened-more row n h =
+    let more : n - length row + 1 ≡ n + 1 - length row = omega arith in
+    append_assoc row (replicate (n - length row) []) ([] ∷ [])
+    ∙ ap (λ l. row ++ l) (replicate-append-replicate (n - length row) 1 [] ∙ ap (λ k. replicate k []) more)
+
+-- columns that want as many cells
+pub lengthened-same : (row : List (List ℕ)) (m n : ℕ) → m - length row ≡ n - length row → lengthened m row ≡ lengthened n row
+lengthened-same row m n e = ap (λ k. row ++ replicate k []) e
+
+-- rows of one length are rectangular
+pub rectangular-from_length : (n : ℕ) (cells : List (List (List ℕ))) → All (λ row. length row ≡ n) cells → IsRectangular cells
+rectangular-from_length n [] h = All-nil (λ row. length row ≡ 0)
+rectangular-from_length n (row ∷ rows) h = λ k d l. h k d l ∙ sym (All-head (λ r. length r ≡ n) row rows h)
+
+pub with_record-rectangular : (cells : List (List (List ℕ))) (row : List (List ℕ)) → IsRectangular cells → IsRectangular (with_record cells row)
+with_record-rectangular cells row q =
+    let n = max (columns cells) (length row) in
+    rectangular-from_length n (with_record cells row)
+    (All-map (λ r. length r ≡ n) (lengthened n) (cells ++ row ∷ [])
+    (All-append (λ r. length (lengthened n r) ≡ n) cells (row ∷ [])
+    (λ k d l. let own = q k d l in omega (arith, length-lengthened n (get_or cells k d)))
+    (All-cons (λ r. length (lengthened n r) ≡ n) row [] (omega (arith, length-lengthened n row)) (All-nil (λ r. length (lengthened n r) ≡ n)))))
+
+-- rows that are long enough stay
+lengthened-all : (n : ℕ) (cells : List (List (List ℕ))) → All (λ row. n ≤ length row) cells → map (lengthened n) cells ≡ cells
+lengthened-all n [] h = refl
+lengthened-all n (row ∷ rows) h =
+    ap (λ r. r ∷ map (lengthened n) rows) (lengthened-long n row (All-head (λ r. n ≤ length r) row rows h))
+    ∙ ap (λ rs. row ∷ rs) (lengthened-all n rows (All-tail (λ r. n ≤ length r) row rows h))
+
+-- a longer row comes
+pub with_record-longer : (cells : List (List (List ℕ))) (row : List (List ℕ)) → columns cells < length row
+    → map (lengthened (length row)) cells ++ row ∷ [] ≡ with_record cells row
+with_record-longer cells row h =
+    let most : length row ≡ max (columns cells) (length row) = omega arith in
+    ap (λ r. map (lengthened (length row)) cells ++ r ∷ []) (sym (lengthened-long (length row) row (omega arith)))
+    ∙ sym (map-append (lengthened (length row)) cells (row ∷ []))
+    ∙ ap (λ n. map (lengthened n) (cells ++ row ∷ [])) most
+
+-- a row comes that is no longer than the others
+pub with_record-shorter : (cells : List (List (List ℕ))) (row : List (List ℕ)) → IsRectangular cells
+    → length row ≤ columns cells → cells ++ lengthened (columns cells) row ∷ [] ≡ with_record cells row
+with_record-shorter cells row q h =
+    let n = columns cells in
+    let most : n ≡ max n (length row) = omega arith in
+    ap (λ cs. cs ++ lengthened n row ∷ []) (sym (lengthened-all n cells (λ k d l. let own = q k d l in omega arith)))
+    ∙ sym (map-append (lengthened n) cells (row ∷ []))
+    ∙ ap (λ m. map (lengthened m) (cells ++ row ∷ [])) most
+
+-- f of the items up to i, and the items from there on
+abbrev pub mapped : {X : Type 0} → (X → X) → ℕ → List X → List X
+mapped f zero xs = xs
+mapped f (suc i) [] = []
+mapped f (suc i) (x ∷ xs) = f x ∷ mapped f i xs
+
+mapped-suc : {X : Type 0} (f : X → X) (i : ℕ) (xs : List X) (d : X) → i < length xs
+    → set (mapped f i xs) i (f (get_or (mapped f i xs) i d)) ≡ mapped f (suc i) xs
+mapped-suc f i [] d h = absurd (omega arith)
+mapped-suc f zero (x ∷ xs) d h = refl
+mapped-suc f (suc i) (x ∷ xs) d h = ap (λ l. f x ∷ l) (mapped-suc f i xs d (omega arith))
+
+pub mapped-more : {X : Type 0} (f : X → X) (i : ℕ) (xs : List X) (d : X) → i < length xs
+    → set (mapped f i xs) i (f (get_or (mapped f i xs) i d)) ≡ mapped f (i + 1) xs
+mapped-more f i xs d h =
+    let next : suc i ≡ i + 1 = omega arith in
+    mapped-suc f i xs d h ∙ ap (λ k. mapped f k xs) next
+
+pub mapped-all : {X : Type 0} (f : X → X) (xs : List X) → mapped f (length xs) xs ≡ map f xs
+mapped-all f [] = refl
+mapped-all f (x ∷ xs) = ap (λ l. f x ∷ l) (mapped-all f xs)
+
+-- so they are after a row was added or refused
+pub rectangular-after : {T E : Type 0} (r : Result T E) (old new : List (List (List ℕ))) (row : List (List ℕ))
+    → IsRectangular old → OnOk r (new ≡ with_record old row) → OnErr r (new ≡ old) → IsRectangular new
+rectangular-after (Ok x) old new row q ok err = subst IsRectangular (sym ok) (with_record-rectangular old row q)
+rectangular-after (Err e) old new row q ok err = subst IsRectangular (sym err) q
