@@ -35,6 +35,7 @@ use Rattle.std.proofs.Common.{
 use Rattle.std.proofs.lemmas.Bool.Decides.{nat_tests}
 use Rattle.std.proofs.lemmas.Bool.{cases_lt, ne_eqb}
 use Rattle.std.proofs.lemmas.List.{get_or_past}
+use Rattle.tabled_priority.specs.Numbers.{greatest_usize}
 use Rattle.tabled_priority.specs.declared.schedule.Schedule.TheVariants.{Heights, Gains}
 use Rattle.tabled_priority.specs.Permitted.{at}
 use Rattle.tabled_priority.specs.Laws.Permitted.{in_range}
@@ -47,9 +48,6 @@ use Rattle.tabled_priority.specs.Laws.Grown.{added-some, added-none, IsMinGrown-
 use Rattle.tabled_priority.specs.Schedule.{amount, total_amount, first_level, last_level, is_open, share, IsReached, IsSpan}
 use Rattle.tabled_priority.proofs.Shares.{shares}
 
-abbrev pub top : ℕ
-top = 18446744073709551615
-
 some_term : (f : ℕ → ℕ) (n : ℕ) → 0 < sum_below f n → (i : ℕ) × (i < n) × (0 < f i)
 some_term f zero h = absurd (omega arith)
 some_term f (suc n) h = ⊎_elim
@@ -58,20 +56,20 @@ some_term f (suc n) h = ⊎_elim
     (cases_lt 0 (f n))
 
 -- what is wanted, of what columns can gain up to the greatest level
-pub wanted_added : (from to : ℕ → ℕ) (old : List ℕ) (by most wanted : ℕ) → by ≤ top
-    → ((i : ℕ) → 0 < at old i → by ≤ min top (to i) - from i) → ((i : ℕ) → at old i ≡ 0 → to i ≡ 0)
-    → most ≡ min (total_amount from to (length old) top) top → wanted ≡ min by most → wanted ≡ added old by
+pub wanted_added : (from to : ℕ → ℕ) (old : List ℕ) (by most wanted : ℕ) → by ≤ greatest_usize
+    → ((i : ℕ) → 0 < at old i → by ≤ min greatest_usize (to i) - from i) → ((i : ℕ) → at old i ≡ 0 → to i ≡ 0)
+    → most ≡ min (total_amount from to (length old) greatest_usize) greatest_usize → wanted ≡ min by most → wanted ≡ added old by
 wanted_added from to old by most wanted b gain none m w = ⊎_elim
     (λ (some : 0 < sum old).
     let s = sum-below old in
     let i = some_term (at old) (length old) (omega arith) in
     let g = gain i.0 i.2 in
-    let t = sum_below-term (amount from to top) (length old) i.0 i.1 in
+    let t = sum_below-term (amount from to greatest_usize) (length old) i.0 i.1 in
     let a = added-some old by i.0 i.2 in
     omega arith)
     (λ (zero : sum old ≤ 0).
     let z = λ (i : ℕ). at-le-sum old i in
-    let f = sum_below-zero (amount from to top) (length old) (λ i _. let e = none i (let q = at-le-sum old i in omega arith) in omega arith) in
+    let f = sum_below-zero (amount from to greatest_usize) (length old) (λ i _. let e = none i (let q = at-le-sum old i in omega arith) in omega arith) in
     let a = added-none old by (λ i. let q = at-le-sum old i in omega arith) in
     omega arith)
     (cases_lt 0 (sum old))
@@ -126,10 +124,10 @@ round_still kept old by z = record {
 }
 
 -- ---- the least first
-raised_here : (v y new : ℕ) → 0 < v → y ≤ top → new ≡ v + (min y (if v == 0 then 0 else top) - v) → new ≡ max v y
+raised_here : (v y new : ℕ) → 0 < v → y ≤ greatest_usize → new ≡ v + (min y (if v == 0 then 0 else greatest_usize) - v) → new ≡ max v y
 raised_here v y new pos b e =
-    let t : (if v == 0 then 0 else top) ≡ top = ap (λ k. cond k 0 top) (ne_eqb v 0 (λ z. omega arith)) in
-    let f : new ≡ v + (min y top - v) = e ∙ ap (λ k. v + (min y k - v)) t in
+    let t : (if v == 0 then 0 else greatest_usize) ≡ greatest_usize = ap (λ k. cond k 0 greatest_usize) (ne_eqb v 0 (λ z. omega arith)) in
+    let f : new ≡ v + (min y greatest_usize - v) = e ∙ ap (λ k. v + (min y k - v)) t in
     omega arith
 
 floor_right : (level first last n i : ℕ) → last + 1 ≡ n → first ≤ last → i < n → level + one_if (is_met first last i) ≡ ceiling false level first i
@@ -142,7 +140,7 @@ one_if-le : (b : Bool) → one_if b ≤ 1
 one_if-le true = omega arith
 one_if-le false = omega arith
 
-pub min_grown : (right : Bool) (old : List ℕ) (by : ℕ) (new : List ℕ) (level first last : ℕ) → level < top
+pub min_grown : (right : Bool) (old : List ℕ) (by : ℕ) (new : List ℕ) (level first last : ℕ) → level < greatest_usize
     → IsGrownFrom old by new → first ≤ last → (right ≡ true → last + 1 ≡ length old) → (right ≡ false → first ≡ 0)
     → ((i : ℕ) → i < length old → at new i ≡ at old i + share (first_level Heights old []) (last_level Heights old []) level first last i)
     → IsMinGrown right old by new
@@ -170,21 +168,21 @@ min_grown false old by new level first last l g order right left each =
     }
 
 -- ---- in turn
-round_gain : (v level new : ℕ) (b : Bool) → 0 < v → level < top → new
-    ≡ v + (min (level + one_if b) (if v == 0 then 0 else top) - 0) → new ≡ v + (if b then level + 1 else level)
+round_gain : (v level new : ℕ) (b : Bool) → 0 < v → level < greatest_usize → new
+    ≡ v + (min (level + one_if b) (if v == 0 then 0 else greatest_usize) - 0) → new ≡ v + (if b then level + 1 else level)
 round_gain v level new b pos l e =
-    let t : (if v == 0 then 0 else top) ≡ top = ap (λ k. cond k 0 top) (ne_eqb v 0 (λ z. omega arith)) in
-    let f : new ≡ v + (min (level + one_if b) top - 0) = e ∙ ap (λ k. v + (min (level + one_if b) k - 0)) t in
+    let t : (if v == 0 then 0 else greatest_usize) ≡ greatest_usize = ap (λ k. cond k 0 greatest_usize) (ne_eqb v 0 (λ z. omega arith)) in
+    let f : new ≡ v + (min (level + one_if b) greatest_usize - 0) = e ∙ ap (λ k. v + (min (level + one_if b) k - 0)) t in
     split b f
   where
-    split : (b : Bool) → new ≡ v + (min (level + one_if b) top - 0) → new ≡ v + (if b then level + 1 else level)
+    split : (b : Bool) → new ≡ v + (min (level + one_if b) greatest_usize - 0) → new ≡ v + (if b then level + 1 else level)
     split true f = omega arith
     split false f = omega arith
 
-open_nonzero : (v level : ℕ) → (nat_le 0 level && nat_lt level (if v == 0 then 0 else top)) ≡ true → 0 < v
+open_nonzero : (v level : ℕ) → (nat_le 0 level && nat_lt level (if v == 0 then 0 else greatest_usize)) ≡ true → 0 < v
 open_nonzero v level o = grind (arith, nat_tests)
 
-pub round_grown : (kept : ℕ) (old : List ℕ) (by : ℕ) (new : List ℕ) (level first last : ℕ) → level < top
+pub round_grown : (kept : ℕ) (old : List ℕ) (by : ℕ) (new : List ℕ) (level first last : ℕ) → level < greatest_usize
     → 0 < added old by → IsGrownFrom old by new → first ≡ start kept (length old)
     → is_open (first_level Gains old []) (last_level Gains old []) level last ≡ true
     → ((i : ℕ) → i < length old → at new i ≡ at old i + share (first_level Gains old []) (last_level Gains old []) level first last i)
@@ -199,15 +197,15 @@ round_grown kept old by new level first last l some g e o each = record {
       (round_gain (at old i) level (at new i) (is_met first last i) pos l (each i inside));
 }
 
-pub zero_end : (v : ℕ) → v ≡ 0 → (if v == 0 then 0 else top) ≡ 0
-zero_end v z = ap (λ k. cond (k == 0) 0 top) z
+pub zero_end : (v : ℕ) → v ≡ 0 → (if v == 0 then 0 else greatest_usize) ≡ 0
+zero_end v z = ap (λ k. cond (k == 0) 0 greatest_usize) z
 
-pub heights_gain : (v by : ℕ) → 0 < v → v + by ≤ top → by ≤ min top (if v == 0 then 0 else top) - v
+pub heights_gain : (v by : ℕ) → 0 < v → v + by ≤ greatest_usize → by ≤ min greatest_usize (if v == 0 then 0 else greatest_usize) - v
 heights_gain v by pos h =
-    let t : (if v == 0 then 0 else top) ≡ top = ap (λ k. cond k 0 top) (ne_eqb v 0 (λ z. omega arith)) in
-    subst (λ k. by ≤ min top k - v) (sym t) (omega arith)
+    let t : (if v == 0 then 0 else greatest_usize) ≡ greatest_usize = ap (λ k. cond k 0 greatest_usize) (ne_eqb v 0 (λ z. omega arith)) in
+    subst (λ k. by ≤ min greatest_usize k - v) (sym t) (omega arith)
 
-pub gains_gain : (v by : ℕ) → 0 < v → by ≤ top → by ≤ min top (if v == 0 then 0 else top) - 0
+pub gains_gain : (v by : ℕ) → 0 < v → by ≤ greatest_usize → by ≤ min greatest_usize (if v == 0 then 0 else greatest_usize) - 0
 gains_gain v by pos h =
-    let t : (if v == 0 then 0 else top) ≡ top = ap (λ k. cond k 0 top) (ne_eqb v 0 (λ z. omega arith)) in
-    subst (λ k. by ≤ min top k - 0) (sym t) (omega arith)
+    let t : (if v == 0 then 0 else greatest_usize) ≡ greatest_usize = ap (λ k. cond k 0 greatest_usize) (ne_eqb v 0 (λ z. omega arith)) in
+    subst (λ k. by ≤ min greatest_usize k - 0) (sym t) (omega arith)

@@ -28,25 +28,23 @@ use Rattle.std.proofs.Common.{
 use Rattle.std.proofs.lemmas.Bool.Decides.{nat_tests}
 use Rattle.std.proofs.lemmas.Bool.{cases_lt}
 use Rattle.std.proofs.lemmas.List.{get_or_past}
+use Rattle.tabled_priority.specs.Numbers.{greatest_usize}
 use Rattle.tabled_priority.specs.declared.schedule.Schedule.TheVariants.{Depths, Rounds}
 use Rattle.tabled_priority.specs.Permitted.{at, low, spare, taken, IsTakenFrom}
 use Rattle.tabled_priority.specs.Shrunk.{ceiling, is_met, start, place_after, IsMaxShrunk, IsRoundShrunk}
 use Rattle.tabled_priority.specs.Sums.{one_if}
 use Rattle.tabled_priority.specs.Schedule.{first_level, last_level, is_open, share}
 
-abbrev top : ℕ
-top = 18446744073709551615
-
 -- ---- the greatest first
 -- a column with a share of depths stands at the ceiling, or at its limits
-cut_here : (m v y new : ℕ) → v ≤ top → m ≤ top → y ≤ top → new + (min y (top - m) - (top - v)) ≡ v → new ≡ max (min v m) (min v (top - y))
+cut_here : (m v y new : ℕ) → v ≤ greatest_usize → m ≤ greatest_usize → y ≤ greatest_usize → new + (min y (greatest_usize - m) - (greatest_usize - v)) ≡ v → new ≡ max (min v m) (min v (greatest_usize - y))
 cut_here m v y new a b c e = omega arith
 
-ceiling_right : (level first last n i : ℕ) → level < top → last + 1 ≡ n → first ≤ last → i < n
-    → top - (level + one_if (is_met first last i)) ≡ ceiling true (top - level - 1) first i
+ceiling_right : (level first last n i : ℕ) → level < greatest_usize → last + 1 ≡ n → first ≤ last → i < n
+    → greatest_usize - (level + one_if (is_met first last i)) ≡ ceiling true (greatest_usize - level - 1) first i
 ceiling_right level first last n i a b c d = grind (arith, nat_tests)
 
-ceiling_left : (level last i : ℕ) → level < top → top - (level + one_if (is_met 0 last i)) ≡ ceiling false (top - level - 1) (last + 1) i
+ceiling_left : (level last i : ℕ) → level < greatest_usize → greatest_usize - (level + one_if (is_met 0 last i)) ≡ ceiling false (greatest_usize - level - 1) (last + 1) i
 ceiling_left level last i a = grind (arith, nat_tests)
 
 one_if-le : (b : Bool) → one_if b ≤ 1
@@ -57,13 +55,13 @@ past_cut : (m c new : ℕ) → new ≡ 0 → new ≡ max (min 0 m) (min 0 c)
 past_cut m c new e = omega arith
 
 pub max_shrunk : (right : Bool) (old mins : List ℕ) (by : ℕ) (new : List ℕ) (level first last : ℕ)
-    → ((i : ℕ) → at old i ≤ 18446744073709551615) → ((i : ℕ) → at mins i ≤ 18446744073709551615) → level < 18446744073709551615
+    → ((i : ℕ) → at old i ≤ greatest_usize) → ((i : ℕ) → at mins i ≤ greatest_usize) → level < greatest_usize
     → IsTakenFrom old mins by new → first ≤ last → (right ≡ true → last + 1 ≡ length old) → (right ≡ false → first ≡ 0)
     → ((i : ℕ) → at new i + share (first_level Depths old mins) (last_level Depths old mins) level first last i ≡ at old i)
     → IsMaxShrunk right old mins by new
 max_shrunk true old mins by new level first last v m l t order right left each = record {
   takes = t;
-  level = top - level - 1;
+  level = greatest_usize - level - 1;
   place = first;
   cut = λ i. ⊎_elim
       (λ (inside : i < length old).
@@ -73,20 +71,20 @@ max_shrunk true old mins by new level first last v m l t order right left each =
       (λ (past : length old ≤ i).
       let e = get_or_past old i 0 past in
       let f = each i in
-      subst (λ x. at new i ≡ max (min x (at mins i)) (min x (ceiling true (top - level - 1) first i))) (sym e)
-      (past_cut (at mins i) (ceiling true (top - level - 1) first i) (at new i) (omega arith)))
+      subst (λ x. at new i ≡ max (min x (at mins i)) (min x (ceiling true (greatest_usize - level - 1) first i))) (sym e)
+      (past_cut (at mins i) (ceiling true (greatest_usize - level - 1) first i) (at new i) (omega arith)))
       (cases_lt i (length old));
 }
 max_shrunk false old mins by new level first last v m l t order right left each =
     let e : first ≡ 0 = left refl in
     record {
       takes = t;
-      level = top - level - 1;
+      level = greatest_usize - level - 1;
       place = last + 1;
       cut = λ i.
           cut_here (at mins i) (at old i) (level + one_if (is_met first last i)) (at new i) (v i) (m i)
           (let o = one_if-le (is_met first last i) in omega arith) (each i)
-          ∙ ap (λ k. max (low old mins i) (min (at old i) (top - (level + one_if (is_met k last i))))) e
+          ∙ ap (λ k. max (low old mins i) (min (at old i) (greatest_usize - (level + one_if (is_met k last i))))) e
           ∙ ap (λ k. max (low old mins i) (min (at old i) k)) (ceiling_left level last i l);
     }
 

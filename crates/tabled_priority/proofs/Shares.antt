@@ -1,5 +1,6 @@
 -- What columns take or gain by their shares.
 use Rattle.std.proofs.Common.{◌≡◌, ℕ, ◌+◌, ◌-◌, ◌≤◌, Bool, true, false, cond, ◌&&◌, ◌==◌, List, length, min, refl, ap, ◌∙◌, arith}
+use Rattle.tabled_priority.specs.Numbers.{greatest_usize}
 use Rattle.tabled_priority.specs.declared.schedule.Schedule.{Schedule}
 use Rattle.tabled_priority.specs.declared.schedule.Schedule.TheVariants.{Depths, Rounds, Heights, Gains}
 use Rattle.tabled_priority.specs.Permitted.{at, spare, spare_total, taken, IsTakenFrom}
@@ -11,7 +12,7 @@ use Rattle.tabled_priority.proofs.Ramps.{amount-more}
 
 -- the levels of a column depend on its value alone
 pub first_level-at : (kind : Schedule) (xs ys mins : List ℕ) (i : ℕ) → at xs i ≡ at ys i → first_level kind xs mins i ≡ first_level kind ys mins i
-first_level-at Depths xs ys mins i e = ap (λ x. 18446744073709551615 - x) e
+first_level-at Depths xs ys mins i e = ap (λ x. greatest_usize - x) e
 first_level-at Rounds xs ys mins i e = refl
 first_level-at Heights xs ys mins i e = e
 first_level-at Gains xs ys mins i e = refl
@@ -19,8 +20,8 @@ first_level-at Gains xs ys mins i e = refl
 pub last_level-at : (kind : Schedule) (xs ys mins : List ℕ) (i : ℕ) → at xs i ≡ at ys i → last_level kind xs mins i ≡ last_level kind ys mins i
 last_level-at Depths xs ys mins i e = refl
 last_level-at Rounds xs ys mins i e = ap (λ x. x - at mins i) e
-last_level-at Heights xs ys mins i e = ap (λ x. cond (x == 0) 0 18446744073709551615) e
-last_level-at Gains xs ys mins i e = ap (λ x. cond (x == 0) 0 18446744073709551615) e
+last_level-at Heights xs ys mins i e = ap (λ x. cond (x == 0) 0 greatest_usize) e
+last_level-at Gains xs ys mins i e = ap (λ x. cond (x == 0) 0 greatest_usize) e
 
 -- what a column was found to take is its share
 pub share-at : (kind : Schedule) (xs ys mins : List ℕ) (i from to level height first last took : ℕ) → at xs i ≡ at ys i
@@ -90,17 +91,17 @@ pub spare_total-total_amount : (from to : ℕ → ℕ) (old mins : List ℕ) (to
 spare_total-total_amount from to old mins top h = sum_below-same (amount from to top) (spare old mins) (length old) (λ i _. h i)
 
 -- what is wanted, of what columns can give up to the greatest level
-pub wanted_taken : (from to : ℕ → ℕ) (old mins : List ℕ) (by most wanted : ℕ) → by ≤ 18446744073709551615
-    → ((i : ℕ) → min 18446744073709551615 (to i) - from i ≡ spare old mins i)
-    → most ≡ min (total_amount from to (length old) 18446744073709551615) 18446744073709551615 → wanted ≡ min by most → wanted ≡ taken old mins by
-wanted_taken from to old mins by most wanted b h m w = let e = spare_total-total_amount from to old mins 18446744073709551615 h in omega arith
+pub wanted_taken : (from to : ℕ → ℕ) (old mins : List ℕ) (by most wanted : ℕ) → by ≤ greatest_usize
+    → ((i : ℕ) → min greatest_usize (to i) - from i ≡ spare old mins i)
+    → most ≡ min (total_amount from to (length old) greatest_usize) greatest_usize → wanted ≡ min by most → wanted ≡ taken old mins by
+wanted_taken from to old mins by most wanted b h m w = let e = spare_total-total_amount from to old mins greatest_usize h in omega arith
 
-pub depths_spare : (v m : ℕ) → v ≤ 18446744073709551615 → m ≤ 18446744073709551615
-    → min 18446744073709551615 (18446744073709551615 - m) - (18446744073709551615 - v) ≡ v - m
+pub depths_spare : (v m : ℕ) → v ≤ greatest_usize → m ≤ greatest_usize
+    → min greatest_usize (greatest_usize - m) - (greatest_usize - v) ≡ v - m
 depths_spare v m a b = omega arith
 
-pub depths_within : (v m : ℕ) → v ≤ 18446744073709551615 → m ≤ 18446744073709551615 → 18446744073709551615 - m - (18446744073709551615 - v) ≤ v - m
+pub depths_within : (v m : ℕ) → v ≤ greatest_usize → m ≤ greatest_usize → greatest_usize - m - (greatest_usize - v) ≤ v - m
 depths_within v m a b = omega arith
 
-pub rounds_spare : (v m : ℕ) → v ≤ 18446744073709551615 → min 18446744073709551615 (v - m) - 0 ≡ v - m
+pub rounds_spare : (v m : ℕ) → v ≤ greatest_usize → min greatest_usize (v - m) - 0 ≡ v - m
 rounds_spare v m a = omega arith

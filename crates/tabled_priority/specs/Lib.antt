@@ -1,6 +1,7 @@
 pub mod Grown
 pub mod Laws
 pub mod Least
+pub mod Numbers
 pub mod Peak
 pub mod Permitted
 pub mod Schedule

@@ -1,6 +1,7 @@
 -- How sizes change as a level rises. Each column takes nothing up to a level of its own, then one a
 -- level, up to another level of its own, and then no more.
 use Rattle.std.specs.Prelude.{◌≡◌, ℕ, ◌+◌, ◌-◌, ◌<◌, ◌≤◌, Bool, List, min, nat_lt, nat_le, if◌then◌else◌, ◌&&◌, ◌==◌}
+use Rattle.tabled_priority.specs.Numbers.{greatest_usize}
 use Rattle.tabled_priority.specs.declared.schedule.Schedule.{Schedule}
 use Rattle.tabled_priority.specs.declared.schedule.Schedule.TheVariants.{Depths, Rounds, Heights, Gains}
 use Rattle.tabled_priority.specs.Permitted.{at}
@@ -9,17 +10,17 @@ use Rattle.tabled_priority.specs.Sums.{sum_below, one_if}
 
 -- the level from which a column takes
 abbrev pub first_level : Schedule → List ℕ → List ℕ → ℕ → ℕ
-first_level Depths values mins i = 18446744073709551615 - at values i
+first_level Depths values mins i = greatest_usize - at values i
 first_level Rounds values mins i = 0
 first_level Heights values mins i = at values i
 first_level Gains values mins i = 0
 
 -- the level up to which a column takes
 abbrev pub last_level : Schedule → List ℕ → List ℕ → ℕ → ℕ
-last_level Depths values mins i = 18446744073709551615 - at mins i
+last_level Depths values mins i = greatest_usize - at mins i
 last_level Rounds values mins i = at values i - at mins i
-last_level Heights values mins i = if at values i == 0 then 0 else 18446744073709551615
-last_level Gains values mins i = if at values i == 0 then 0 else 18446744073709551615
+last_level Heights values mins i = if at values i == 0 then 0 else greatest_usize
+last_level Gains values mins i = if at values i == 0 then 0 else greatest_usize
 
 -- what a column takes up to a level
 abbrev pub amount : (ℕ → ℕ) → (ℕ → ℕ) → ℕ → ℕ → ℕ

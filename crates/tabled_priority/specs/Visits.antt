@@ -1,5 +1,6 @@
 -- How many columns were visited.
 use Rattle.std.specs.Prelude.{ℕ, ◌+◌, ◌-◌, ◌*◌, ◌≤◌, List, [], ◌∷◌, length, min, cond, ◌==◌}
+use Rattle.tabled_priority.specs.Numbers.{greatest_usize}
 
 -- how many entries differ
 abbrev pub changed : List ℕ → List ℕ → ℕ
@@ -9,7 +10,7 @@ changed (x ∷ xs) (y ∷ ys) = cond (x == y) 0 1 + changed xs ys
 
 -- the count after so many visits more, as far as there is room below the greatest usize: there it stays
 abbrev pub counted : ℕ → ℕ → ℕ
-counted before visits = before + min visits (18446744073709551615 - before)
+counted before visits = before + min visits (greatest_usize - before)
 
 -- a change of a list is counted: each changed column was visited, and whatever the amount, there were
 -- at most 8 (c + 1) (c + 1) visits of c columns

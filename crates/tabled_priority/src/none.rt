@@ -36,7 +36,7 @@ impl PriorityNone {
 
 /// The place after this one, 0 after the last.
 fn place_after(count: usize, place: usize) -> usize
-    requires { place < 18446744073709551615 }
+    requires { place < usize.MAX }
     ensures { result ≡ place_after count place }
 {
     if place + 1 < count { place + 1 } else { 0 }

@@ -70,10 +70,10 @@ pub(crate) fn reach(
 ) -> Reached
     requires some { 0 < wanted }
     requires enough { wanted ≤ total_amount (first_level kind values.now mins.now) (last_level kind values.now mins.now)
-        (length values.now) 18446744073709551615 }
+        (length values.now) usize.MAX }
     ensures reached { IsReached (first_level kind values.now mins.now) (last_level kind values.now mins.now)
         (length values.now) wanted result.level result.rest }
-    ensures below { result.level < 18446744073709551615 }
+    ensures below { result.level < usize.MAX }
     ensures fewest { steps.old.count ≤ steps.new.count }
     ensures most { steps.new.count ≤ counted steps.old.count (length values.now * (2 * length values.now + 1) + 2 * length values.now) }
 {

@@ -82,9 +82,9 @@ pub(crate) fn total_amount(
 ) -> usize
     ensures total { result ≡ min
         (total_amount (first_level kind values.now mins.now) (last_level kind values.now mins.now) (length values.now) level)
-        18446744073709551615 }
-    ensures values_fit { (i : ℕ) → at values.now i ≤ 18446744073709551615 }
-    ensures mins_fit { (i : ℕ) → at mins.now i ≤ 18446744073709551615 }
+        usize.MAX }
+    ensures values_fit { (i : ℕ) → at values.now i ≤ usize.MAX }
+    ensures mins_fit { (i : ℕ) → at mins.now i ≤ usize.MAX }
     ensures steps { steps.new.count ≡ counted steps.old.count (length values.now) }
 {
     let mut total: usize = 0;

@@ -19,7 +19,7 @@ pub(crate) struct Span {
 impl Span {
     /// The level at a place: one higher where the place is met on the way from the first to the last.
     pub(crate) fn level_at(&self, level: usize, place: usize) -> usize
-        requires { level < 18446744073709551615 }
+        requires { level < usize.MAX }
         ensures { result ≡ level + one_if (is_met self.now.first self.now.last place) }
     {
         let is_met = if self.first <= self.last {

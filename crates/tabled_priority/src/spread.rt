@@ -17,7 +17,7 @@ pub(crate) fn lower(
     span: Span,
     steps: &mut Steps,
 )
-    requires room { level < 18446744073709551615 }
+    requires room { level < usize.MAX }
     requires fits { (i : ℕ) → share (first_level kind values.old mins.now) (last_level kind values.old mins.now) level
         span.first span.last i ≤ at values.old i }
     ensures same_length { length values.new ≡ length values.old }
@@ -40,7 +40,7 @@ pub(crate) fn raise(
     span: Span,
     steps: &mut Steps,
 )
-    requires room { level < 18446744073709551615 }
+    requires room { level < usize.MAX }
     requires fits { (i : ℕ) → i < length values.old
         → at values.old i + share (first_level kind values.old []) (last_level kind values.old []) level span.first span.last i < 2 ^ 64 }
     ensures same_length { length values.new ≡ length values.old }

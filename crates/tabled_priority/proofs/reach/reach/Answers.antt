@@ -1,5 +1,6 @@
 use Rattle.std.proofs.Common.{◌≡◌, ◌+◌, ◌-◌, ◌*◌, ◌/◌, ◌%◌, ◌<◌, ◌≤◌, ℕ, List, length, arith, subst, sym}
 use Rattle.std.proofs.Math.Nat.{mul_comm}
+use Rattle.tabled_priority.specs.Numbers.{greatest_usize}
 use Rattle.tabled_priority.specs.declared.schedule.Schedule.{Schedule}
 use Rattle.tabled_priority.specs.declared.schedule.Schedule.TheVariants.{Depths, Rounds, Heights, Gains}
 use Rattle.tabled_priority.specs.Permitted.{at}
@@ -23,7 +24,7 @@ parted from to n wanted base count missing b o some m =
     (reached from to n wanted base q b (subst (λ k. total_amount from to n base + q * k < wanted) o (omega arith))
     (subst (λ k. wanted ≤ total_amount from to n base + (q + 1) * k) o (omega arith))))
 
-ends : (kind : Schedule) (values mins : List ℕ) (i : ℕ) → at values i ≤ 18446744073709551615 → last_level kind values mins i ≤ 18446744073709551615
+ends : (kind : Schedule) (values mins : List ℕ) (i : ℕ) → at values i ≤ greatest_usize → last_level kind values mins i ≤ greatest_usize
 ends Depths values mins i h = omega arith
 ends Rounds values mins i h = omega arith
 ends Heights values mins i h = grind arith
@@ -33,7 +34,7 @@ pub nonzero_div-levels : goal.nonzero_div-levels
 nonzero_div-levels c =
     let o = open_some (first_level c.args.kind c.args.values.now c.args.mins.now)
     (last_level c.args.kind c.args.values.now c.args.mins.now) (length c.args.values.now) c.args.wanted
-    c.find_base-base.result 18446744073709551615 c.find_base-base.ensures.base c.requires.enough in
+    c.find_base-base.result greatest_usize c.find_base-base.ensures.base c.requires.enough in
     omega arith
 
 pub returns-clause-reached : goal.returns-clause-reached
@@ -43,7 +44,7 @@ returns-clause-reached c =
     let n = length c.args.values.now in
     let b = c.find_base-base.ensures.base in
     let below = b.below in
-    let o = open_some from to n c.args.wanted c.find_base-base.result 18446744073709551615 b c.requires.enough in
+    let o = open_some from to n c.args.wanted c.find_base-base.result greatest_usize b c.requires.enough in
     parted from to n c.args.wanted c.find_base-base.result c.count_open-open.result (c.args.wanted - c.total_amount.result)
     b c.count_open-open.ensures.count (omega arith) (omega arith)
 
@@ -54,12 +55,12 @@ returns-clause-below c =
     let n = length c.args.values.now in
     let b = c.find_base-base.ensures.base in
     let below = b.below in
-    let o = open_some from to n c.args.wanted c.find_base-base.result 18446744073709551615 b c.requires.enough in
+    let o = open_some from to n c.args.wanted c.find_base-base.result greatest_usize b c.requires.enough in
     let r = parted from to n c.args.wanted c.find_base-base.result c.count_open-open.result
     (c.args.wanted - c.total_amount.result) b c.count_open-open.ensures.count (omega arith) (omega arith) in
     let some = r.some in
     let enough = r.enough in
-    open_below from to n (c.find_base-base.result + (c.args.wanted - c.total_amount.result - 1) / c.count_open-open.result) 18446744073709551615
+    open_below from to n (c.find_base-base.result + (c.args.wanted - c.total_amount.result - 1) / c.count_open-open.result) greatest_usize
     (λ i _. ends c.args.kind c.args.values.now c.args.mins.now i (let f = c.type_inv.values i in omega (arith, f))) (omega arith)
 
 pub overflow_add-result : goal.overflow_add-result
