@@ -1,6 +1,6 @@
 -- What a call answers that is refused for memory or with `Range`, as the machine holds it.
 use Rattle.std.proofs.Common.{◌≡◌, ◌⊎◌, inl, inr, ℕ, List, [], ◌∷◌, ◌++◌, refl, sym, ap, subst, ◌∙◌}
-use Rattle.std.specs.Prelude.{Result, Ok, Err, OnOk, OnErr, IfErr}
+use Rattle.std.specs.Prelude.{Result, Ok, Err}
 use seplogic.Ra.Ura.{Ura}
 use base.Logic.{ent, emp}
 use contract.Monad.{fact, fact_i}

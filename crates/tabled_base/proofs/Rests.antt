@@ -3,8 +3,7 @@
 --     rests_at_err      at `Err`, the lender is given up, and what its name says last is what P holds of
 use Rattle.std.proofs.Common.{◌≡◌, List, [], ◌∷◌, refl, sym, MutBor}
 use seplogic.Ra.Ura.{Ura}
-use base.Logic.{SProp, ent, sep, emp, via, comm∗, mono_l, mono_r, emp∗}
-use contract.Monad.{fact, fact_i}
+use base.Logic.{ent, emp}
 use mir.Val.{Val, of_list}
 use types.Match.{live}
 use denote.Steps.{nothing}
@@ -14,7 +13,7 @@ use denote.Enum.Declared.{shape}
 use Rattle.std.specs.contracts.result.Result as result
 use base.Fml.{GName, Fml, fobs, fres}
 use types.Logic.{Logic, sem}
-use types.Kit.{‵, ◌$◌, ◌∵◌, !, qed, use0, use1, move, rewrite, fjoin, fpack, feq_i, Item, Step, step, prop, done}
+use types.Kit.{‵, ◌$◌, ◌∵◌, !, qed, use0, use1, move, rewrite, fjoin, fpack, feq_i, done}
 use denote.RattleType.{RattleType, Valss, owns}
 use denote.Follow.{follows, follows_by, such_by}
 use borrow.Follows.Kept.{follows_itself}

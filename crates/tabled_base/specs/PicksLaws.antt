@@ -1,40 +1,13 @@
 -- No part that a selection names lies outside of the records.
-use Rattle.std.proofs.Common.{
-  ◌≡◌,
-  ℕ,
-  ◌+◌,
-  ◌-◌,
-  ◌<◌,
-  ◌≤◌,
-  ◌&&◌,
-  Bool,
-  true,
-  false,
-  nat_lt,
-  List,
-  [],
-  ◌∷◌,
-  map,
-  min,
-  zero,
-  suc,
-  Option,
-  Some,
-  None,
-  sym,
-  subst,
-  arith,
-  ⊎_elim,
-}
+use Rattle.std.proofs.Common.{◌≡◌, ℕ, ◌+◌, ◌-◌, ◌<◌, ◌≤◌, ◌&&◌, nat_lt, List, [], ◌∷◌, map, min, zero, suc, Option, Some, None, sym, subst, arith, ⊎_elim}
 use Rattle.std.specs.Prelude.{if◌then◌else◌}
-use Rattle.std.specs.List.{All, flat_map, range_with_len}
+use Rattle.std.specs.List.{All, range_with_len}
 use Rattle.std.specs.Option.{unwrap_or}
 use Rattle.std.proofs.lemmas.Bool.{and_parts, cases_Bool, cases_lt, ltb-true}
 use Rattle.std.proofs.lemmas.List.Elements.{All-append, All-cons, All-head, All-map, All-nil, All-tail, All-weaker}
-use Rattle.tabled_base.specs.Picks.{IsPart, between, block, picked, picked_cell, segment, stretch}
+use Rattle.tabled_base.specs.Picks.{IsPart, block, picked, picked_cell, segment, stretch}
 use Rattle.tabled_base.specs.declared.objects.Place.{Place}
 use Rattle.tabled_base.specs.declared.objects.Place.TheVariants.{At, Last}
-use Rattle.tabled_base.specs.declared.position.Entity.{Entity}
 use Rattle.tabled_base.specs.declared.position.Entity.TheVariants.{Cell, Column, Global, Row}
 use Rattle.tabled_base.specs.declared.segment.Block.{Block}
 use Rattle.tabled_base.specs.declared.segment.Stretch.{Stretch}

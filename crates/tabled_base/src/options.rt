@@ -13,11 +13,11 @@ pub trait TableOption<R, C, D> {
     // Holds of the option, the three parts before a change, and what the change may leave of them.
     ghost changes: { Self → R → C → D → R → C → D → Type 0 };
 
-    // The same for a refusal.
-    ghost refuses: { Self → TableError → R → C → D → R → C → D → Type 0 };
+    // The same for a refusal: there is none where nothing else is said.
+    ghost refuses: { Self → TableError → R → C → D → R → C → D → Type 0 } = { λ _ _ _ _ _ _ _ _. ⊥ };
 
-    // Holds where a sum or product of the change passes the greatest `usize`.
-    ghost passes: { Self → R → C → D → Type 0 };
+    // Holds where a sum or product of the change passes the greatest `usize`: none does where nothing else is said.
+    ghost passes: { Self → R → C → D → Type 0 } = { λ _ _ _ _. ⊥ };
 
     // What a caller may rely on after a change, of the same parts: nothing where nothing else is said.
     ghost promises: { Self → R → C → D → R → C → D → Type 0 } = { λ _ _ _ _ _ _ _. Unit {0} };
@@ -49,11 +49,11 @@ pub trait CellOption<R, C> {
     // it may leave of both.
     ghost changes: { Self → R → C → Entity → R → C → Type 0 };
 
-    // The same for a refusal.
-    ghost refuses: { Self → TableError → R → C → Entity → R → C → Type 0 };
+    // The same for a refusal: there is none where nothing else is said.
+    ghost refuses: { Self → TableError → R → C → Entity → R → C → Type 0 } = { λ _ _ _ _ _ _ _. ⊥ };
 
-    // Holds where a sum or product of the change passes the greatest `usize`.
-    ghost passes: { Self → R → C → Entity → Type 0 };
+    // Holds where a sum or product of the change passes the greatest `usize`: none does where nothing else is said.
+    ghost passes: { Self → R → C → Entity → Type 0 } = { λ _ _ _ _. ⊥ };
 
     // What the change leaves to be measured anew: the whole table where nothing else is said.
     ghost hint: { Self → Option Entity } = { λ _. Some Global };

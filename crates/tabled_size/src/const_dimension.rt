@@ -113,8 +113,6 @@ impl<R, C, const COLUMNS: usize, const ROWS: usize> Estimate<R, C>
     for ConstDimension<COLUMNS, ROWS> {
     ghost estimates = { λ s records config t. t ≡ s };
 
-    ghost passes = { λ s records config. ⊥ };
-
     fn estimate(&mut self, _records: &R, _config: &C) -> Result<(), TableError>
         ensures ok { OnOk result (self.new ≡ self.old) }
         ensures err { OnErr result (self.new ≡ self.old) }

@@ -37,8 +37,8 @@ pub trait Estimate<R, C> {
     // What measuring may leave: the old sizes, the records, the configuration, the new sizes.
     ghost estimates: { Self → R → C → Self → Type 0 };
 
-    // A measure passes the greatest `usize`.
-    ghost passes: { Self → R → C → Type 0 };
+    // A measure passes the greatest `usize`: none does where nothing else is said.
+    ghost passes: { Self → R → C → Type 0 } = { λ _ _ _. ⊥ };
 
     /// Stores estimated sizes where none are stored. Refused for memory, or with `Range` where a
     /// measure passes the greatest `usize`; the sizes then stay as they were.

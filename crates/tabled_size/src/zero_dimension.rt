@@ -41,8 +41,6 @@ impl Dimension for ZeroDimension {
 impl<R, C> Estimate<R, C> for ZeroDimension {
     ghost estimates = { λ s records config t. t ≡ s };
 
-    ghost passes = { λ s records config. ⊥ };
-
     fn estimate(&mut self, _records: &R, _config: &C) -> Result<(), TableError>
         ensures ok { OnOk result (self.new ≡ self.old) }
         ensures err { OnErr result (self.new ≡ self.old) }

@@ -9,10 +9,6 @@ use tabled_base::{Entity, TableError, TableOption};
 impl<R, D> TableOption<R, ColoredConfig, D> for ColoredConfig {
     ghost changes = { λ option r c d. Becomes option r d };
 
-    ghost refuses = { λ option e r c d r' c' d'. ⊥ };
-
-    ghost passes = { λ option r c d. ⊥ };
-
     fn change(
         self,
         _records: &mut R,
@@ -30,10 +26,6 @@ impl<R, D> TableOption<R, ColoredConfig, D> for ColoredConfig {
 
 impl<R, D> TableOption<R, ColoredConfig, D> for SpannedConfig {
     ghost changes = { λ option r c d. Becomes (colored option) r d };
-
-    ghost refuses = { λ option e r c d r' c' d'. ⊥ };
-
-    ghost passes = { λ option r c d. ⊥ };
 
     fn change(
         self,
@@ -54,8 +46,6 @@ impl<R, D> TableOption<R, ColoredConfig, D> for &SpannedConfig {
     ghost changes = { λ option r c d. Becomes (colored option.now) r d };
 
     ghost refuses = { λ option e. Stays e };
-
-    ghost passes = { λ option r c d. ⊥ };
 
     fn change(
         self,

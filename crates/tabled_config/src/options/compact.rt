@@ -11,10 +11,6 @@ use tabled_base::{Entity, TableError, TableOption};
 impl<R, D> TableOption<R, CompactConfig, D> for CompactConfig {
     ghost changes = { λ option r c d. Becomes option r d };
 
-    ghost refuses = { λ option e r c d r' c' d'. ⊥ };
-
-    ghost passes = { λ option r c d. ⊥ };
-
     fn change(
         self,
         _records: &mut R,
@@ -32,10 +28,6 @@ impl<R, D> TableOption<R, CompactConfig, D> for CompactConfig {
 
 impl<R, D> TableOption<R, ColoredConfig, D> for CompactConfig {
     ghost changes = { λ option r c d. Becomes (colored (spanned_of_compact option)) r d };
-
-    ghost refuses = { λ option e r c d r' c' d'. ⊥ };
-
-    ghost passes = { λ option r c d. ⊥ };
 
     fn change(
         self,

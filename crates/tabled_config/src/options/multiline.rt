@@ -8,10 +8,6 @@ use tabled_base::{Entity, TableError, TableOption};
 impl<R, D> TableOption<R, CompactMultilineConfig, D> for CompactMultilineConfig {
     ghost changes = { λ option r c d. Becomes option r d };
 
-    ghost refuses = { λ option e r c d r' c' d'. ⊥ };
-
-    ghost passes = { λ option r c d. ⊥ };
-
     fn change(
         self,
         _records: &mut R,

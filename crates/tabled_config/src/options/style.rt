@@ -11,10 +11,6 @@ use tabled_base::{Entity, TableError, TableOption};
 impl<R, D> TableOption<R, CompactConfig, D> for Style {
     ghost changes = { λ option r c d. Becomes (record c { borders = option.borders }) r d };
 
-    ghost refuses = { λ option e r c d r' c' d'. ⊥ };
-
-    ghost passes = { λ option r c d. ⊥ };
-
     fn change(
         self,
         _records: &mut R,
@@ -32,10 +28,6 @@ impl<R, D> TableOption<R, CompactConfig, D> for Style {
 
 impl<R, D> TableOption<R, CompactMultilineConfig, D> for Style {
     ghost changes = { λ option r c d. Becomes (record c { config = record c.config { borders = option.borders } }) r d };
-
-    ghost refuses = { λ option e r c d r' c' d'. ⊥ };
-
-    ghost passes = { λ option r c d. ⊥ };
 
     fn change(
         self,
@@ -56,8 +48,6 @@ impl<R, D> TableOption<R, ColoredConfig, D> for Style {
     ghost changes = { λ option r c d. Becomes (colored (with_style c.config option)) r d };
 
     ghost refuses = { λ option e. Stays e };
-
-    ghost passes = { λ option r c d. ⊥ };
 
     fn change(
         self,
