@@ -4,6 +4,7 @@ ghost use Rattle.std.specs.Cow.{cow_str_bytes, IsOwnedStr};
 ghost use Rattle.tabled_text.specs.Cut.{IsCut, IsSplit, IsParted, NeedsFill};
 
 use crate::character::{char_count, split_first};
+use crate::sink::put_copies;
 use std::alloc::{AllocError, Global};
 use std::borrow::CowStr;
 
@@ -51,16 +52,6 @@ fn part(text: &str, n: usize) -> Parts<'_>
     }
 }
 
-/// Appends n copies of a character.
-fn push_copies(text: &mut String, c: char, n: usize) -> Result<(), AllocError>
-    ensures { OnOk result (string_bytes text.new ≡ string_bytes text.old ++ encode_utf8_all (replicate n c)) }
-{
-    for _i in 0..n {
-        text.push(c)?;
-    }
-    Ok(())
-}
-
 /// The beginning of a text, with U+FFFD in the columns that are missing.
 fn fill(alloc: Global, front: &str, missing: usize) -> Result<CowStr<'_, Global>, AllocError>
     ensures text { IfOk result (λ answer.
@@ -72,7 +63,7 @@ fn fill(alloc: Global, front: &str, missing: usize) -> Result<CowStr<'_, Global>
         return Ok(CowStr::Borrowed(front));
     }
     let mut answer = String::from_str(alloc, front)?;
-    push_copies(&mut answer, '\u{FFFD}', missing)?;
+    put_copies(&mut answer, '\u{FFFD}', missing)?;
     Ok(CowStr::Owned(answer))
 }
 

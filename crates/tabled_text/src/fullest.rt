@@ -13,7 +13,8 @@ ghost use Rattle.tabled_text.specs.Wrapping.{IsRoomyWrapping};
 use crate::character::char_count;
 use crate::line::lines;
 use crate::measure::line_width;
-use crate::wrap::{Sink, put_lines, split_word};
+use crate::sink::Sink;
+use crate::wrap::{put_lines, split_word};
 use std::convert::Infallible;
 
 /// The text without a beginning, if it begins so.

@@ -13,6 +13,7 @@ pub mod laws;
 mod line;
 mod measure;
 mod plain;
+mod sink;
 #[cfg(test)]
 mod tests;
 mod wrap;
@@ -22,4 +23,5 @@ pub use fullest::is_fullest;
 pub use line::{TextLines, lines, split_line};
 pub use measure::{count_lines, line_width, text_measures, text_width};
 pub use plain::{is_plain, is_plain_column};
+pub use sink::copies;
 pub use wrap::wrap_text;

@@ -10,53 +10,8 @@ ghost use Rattle.tabled_text.specs.Walk.{words_in, begin_at, begin_text, put_tex
 use crate::character::{char_count, split_first};
 use crate::line::lines;
 use crate::measure::line_width;
+use crate::sink::{Sink, put_copies};
 use std::alloc::{AllocError, Global};
-
-/// What takes a text piece by piece.
-pub(crate) trait Sink {
-    type Error;
-
-    // The sink, what it is given, and the sink afterwards.
-    ghost adds: { Self → List ℕ → Self → Type 0 };
-
-    fn put_str(&mut self, text: &str) -> Result<(), Self::Error>
-        ensures { OnOk result (adds self.old text.now self.new) };
-
-    fn put_char(&mut self, c: char) -> Result<(), Self::Error>
-        ensures { OnOk result (adds self.old (encode_utf8 c) self.new) };
-
-    ghost adds_nothing: { (s : Self) → adds s [] s };
-
-    ghost adds_more: { (s t u : Self) (x y : List ℕ) → adds s x t → adds t y u → adds s (x ++ y) u };
-}
-
-impl Sink for String {
-    type Error = AllocError;
-
-    ghost adds = { λ s x t. string_bytes t ≡ string_bytes s ++ x };
-
-    fn put_str(&mut self, text: &str) -> Result<(), AllocError> {
-        self.push_str(text)
-    }
-
-    fn put_char(&mut self, c: char) -> Result<(), AllocError> {
-        self.push(c)
-    }
-
-    ghost adds_nothing = { λ s. sym (append-nil (string_bytes s)) };
-
-    ghost adds_more = { λ s t u x y h k. k ∙ ap (λ l. l ++ y) h ∙ append_assoc (string_bytes s) x y };
-}
-
-/// Gives n copies of a character.
-fn put_copies<S: Sink>(out: &mut S, c: char, n: usize) -> Result<(), S::Error>
-    ensures { OnOk result (S.adds out.old (encode_utf8_all (replicate n c)) out.new) }
-{
-    for _i in 0..n {
-        out.put_char(c)?;
-    }
-    Ok(())
-}
 
 /// The column at which a unit begins that needs some columns: on a new line if they are not left.
 fn begin<S: Sink>(out: &mut S, used: usize, n: usize, needed: usize) -> Result<usize, S::Error>
