@@ -1,6 +1,6 @@
 //! Options on the cells of an entity.
 
-use crate::shown::{Rows, records_of, shown};
+use crate::shown::{Rows, assert_text, records_of, shown};
 use std::alloc::Global;
 use std::test::Fail;
 use tabled_base::{CellOption, Entity, TableError, Text, VecRecords};
@@ -31,10 +31,11 @@ fn the_cells_of_an_entity_are_wrapped(rt: HostRuntime) -> Result<(), Fail> {
         (Entity::Column(1), "2x2 [abc][de] [fgh][ij\nk]"),
         (Entity::Cell(1, 0), "2x2 [abc][de] [fg\nh][ijk]"),
     ] {
-        assert_eq!(rt;
-            changed(rt.alloc(), ROWS, &Width::wrap(2), entity)?.as_str(),
-            want
-        );
+        assert_text(
+            &rt,
+            changed(rt.alloc(), ROWS, &Width::wrap(2), entity),
+            want,
+        )?;
     }
     Ok(())
 }
@@ -48,7 +49,7 @@ fn the_cells_of_an_entity_are_truncated(rt: HostRuntime) -> Result<(), Fail> {
         (Entity::Cell(0, 0), "2x2 [a.][de] [fgh][ijk]"),
     ] {
         let option = Width::truncate(2).suffix(".");
-        assert_eq!(rt; changed(rt.alloc(), ROWS, &option, entity)?.as_str(), want);
+        assert_text(&rt, changed(rt.alloc(), ROWS, &option, entity), want)?;
     }
     Ok(())
 }
@@ -63,8 +64,11 @@ fn what_lies_outside_is_passed_over(rt: HostRuntime) -> Result<(), Fail> {
         Entity::Cell(0, 2),
         Entity::Cell(2, 0),
     ] {
-        let got = changed(rt.alloc(), ROWS, &Width::wrap(1), entity)?;
-        assert_eq!(rt; got.as_str(), "2x2 [abc][de] [fgh][ijk]");
+        assert_text(
+            &rt,
+            changed(rt.alloc(), ROWS, &Width::wrap(1), entity),
+            "2x2 [abc][de] [fgh][ijk]",
+        )?;
     }
     Ok(())
 }
@@ -87,8 +91,7 @@ fn a_cell_takes_its_suffix(rt: HostRuntime) -> Result<(), Fail> {
         (4, SuffixLimit::Cut, "1x1 [H...]"),
     ] {
         let option = Width::truncate(width).suffix("...").suffix_limit(limit);
-        let got = changed_one(rt.alloc(), &[&["Hello"]], &option)?;
-        assert_eq!(rt; got.as_str(), want);
+        assert_text(&rt, changed_one(rt.alloc(), &[&["Hello"]], &option), want)?;
     }
     Ok(())
 }
@@ -97,8 +100,11 @@ fn a_cell_takes_its_suffix(rt: HostRuntime) -> Result<(), Fail> {
 fn the_lines_of_a_cell_take_their_suffix(rt: HostRuntime) -> Result<(), Fail> {
     for (multiline, want) in [(false, "1x1 [ab\ncde..]"), (true, "1x1 [ab..\ncde..]")] {
         let option = Width::truncate(5).suffix("..").multiline(multiline);
-        let got = changed_one(rt.alloc(), &[&["ab\ncdefgh"]], &option)?;
-        assert_eq!(rt; got.as_str(), want);
+        assert_text(
+            &rt,
+            changed_one(rt.alloc(), &[&["ab\ncdefgh"]], &option),
+            want,
+        )?;
     }
     Ok(())
 }
@@ -107,18 +113,25 @@ fn the_lines_of_a_cell_take_their_suffix(rt: HostRuntime) -> Result<(), Fail> {
 #[test]
 fn a_cell_that_is_no_wider_stays(rt: HostRuntime) -> Result<(), Fail> {
     let option = Width::truncate(2).suffix("..");
-    assert_eq!(rt; option.shorten(rt.alloc(), "ab\nc", 2)?.as_str(), "..");
-    let got = changed_one(rt.alloc(), &[&["ab\nc"]], &option)?;
-    assert_eq!(rt; got.as_str(), "1x1 [ab\nc]");
-    let got = changed_one(rt.alloc(), &[&["abcd"]], &Width::wrap(4))?;
-    assert_eq!(rt; got.as_str(), "1x1 [abcd]");
-    Ok(())
+    assert_text(&rt, option.shorten(rt.alloc(), "ab\nc", 2), "..")?;
+    assert_text(
+        &rt,
+        changed_one(rt.alloc(), &[&["ab\nc"]], &option),
+        "1x1 [ab\nc]",
+    )?;
+    assert_text(
+        &rt,
+        changed_one(rt.alloc(), &[&["abcd"]], &Width::wrap(4)),
+        "1x1 [abcd]",
+    )
 }
 
 #[test]
 fn words_of_a_cell_are_kept(rt: HostRuntime) -> Result<(), Fail> {
     let option = Width::wrap(4).keep_words(true);
-    let got = changed_one(rt.alloc(), &[&["111 234 1"]], &option)?;
-    assert_eq!(rt; got.as_str(), "1x1 [111 \n234 \n1]");
-    Ok(())
+    assert_text(
+        &rt,
+        changed_one(rt.alloc(), &[&["111 234 1"]], &option),
+        "1x1 [111 \n234 \n1]",
+    )
 }

@@ -1,6 +1,6 @@
 //! Copies, changes, and what is equal.
 
-use crate::shown::{records_of, shown};
+use crate::shown::{assert_text, records_of, shown};
 use std::test::Fail;
 use tabled_base::{CellText, ExactRecords, PeekableRecords, Position, RecordsMut, Text};
 
@@ -21,7 +21,7 @@ fn copied_records_are_equal(rt: HostRuntime) -> Result<(), Fail> {
     let alloc = rt.alloc();
     let records = records_of(alloc, &[&["a", "bb"], &["ccc", ""]])?;
     let copy = records.clone()?;
-    assert_eq!(rt; shown(alloc, &copy)?.as_str(), "2x2 [a][bb] [ccc][]");
+    assert_text(&rt, shown(alloc, &copy), "2x2 [a][bb] [ccc][]")?;
     assert!(rt; copy == records);
     let other = records_of(alloc, &[&["a", "bb"], &["ccc", "d"]])?;
     assert!(rt; other != records);
@@ -36,6 +36,5 @@ fn one_cell_is_set(rt: HostRuntime) -> Result<(), Fail> {
     let mut records = records_of(alloc, &[&["a", "bb"], &["ccc", ""]])?;
     assert_eq!(rt; (records.count_rows(), records.count_columns()), (2, 2));
     records.set(Position::new(1, 0), String::from_str(alloc, "new")?)?;
-    assert_eq!(rt; shown(alloc, &records)?.as_str(), "2x2 [a][bb] [new][]");
-    Ok(())
+    assert_text(&rt, shown(alloc, &records), "2x2 [a][bb] [new][]")
 }

@@ -1,5 +1,6 @@
 //! What the dimensions answer.
 
+use std::alloc::Global;
 use std::process::Abort;
 use std::test::Fail;
 use tabled_base::{Entity, TableError, text_rows};
@@ -69,17 +70,37 @@ fn a_hint_clears_what_it_touches(rt: HostRuntime) -> Result<(), Fail> {
     Ok(())
 }
 
-#[test]
-fn copies_are_equal(rt: HostRuntime) -> Result<(), Fail> {
-    let sizes = complete(&rt)?;
+// Whether a copy is equal, and whether it is less once its heights are gone.
+fn compared(sizes: &CompleteDimension) -> Result<(bool, bool), TableError> {
     let mut copy = sizes.clone()?;
-    assert!(rt; copy == sizes);
+    let same = copy == *sizes;
     copy.clear_height();
-    assert!(rt; copy != sizes && copy < sizes);
-    let list = DimensionValue::List(vec![in rt.alloc(); 7, 8]?);
-    let partial = DimensionValue::Partial(vec![in rt.alloc(); 2]?, 3);
-    let copy = StaticDimension::new(list, partial).clone()?;
-    assert_eq!(rt; shown(&copy), ([7, 8, 99, 99], [2, 3, 3, 3]));
+    Ok((same, copy != *sizes && copy < *sizes))
+}
+
+#[test]
+fn a_copy_of_stored_sizes_is_equal(rt: HostRuntime) -> Result<(), Fail> {
+    let sizes = complete(&rt)?;
+    assert_eq!(rt; compared(&sizes)?, (true, true));
+    Ok(())
+}
+
+// A copy of given sizes, with one size for all places past a list.
+fn copied(alloc: Global) -> Result<StaticDimension, TableError> {
+    let list = DimensionValue::List(Vec::from_slice(alloc, &[7, 8])?);
+    let partial = DimensionValue::Partial(Vec::from_slice(alloc, &[2])?, 3);
+    Ok(StaticDimension::new(list, partial).clone()?)
+}
+
+#[test]
+fn a_copy_of_given_sizes_has_them(rt: HostRuntime) -> Result<(), Fail> {
+    let sizes = copied(rt.alloc())?;
+    assert_eq!(rt; shown(&sizes), ([7, 8, 99, 99], [2, 3, 3, 3]));
+    Ok(())
+}
+
+#[test]
+fn a_copy_of_one_size_has_it(rt: HostRuntime) -> Result<(), Fail> {
     let exact = DimensionValue::Exact(6).clone()?;
     assert_eq!(rt; exact.get(9), 6);
     Ok(())

@@ -2,7 +2,7 @@
 ghost use Rattle.std.specs.Prelude.{length};
 
 use crate::cells::ROWS;
-use crate::shown::{records_of, shown};
+use crate::shown::{assert_text, records_of, shown};
 use std::test::Fail;
 use tabled_base::{CellOption, Entity, ExactRecords, PeekableRecords, TableError};
 use tabled_config::{ColoredConfig, SpannedConfig};
@@ -61,11 +61,11 @@ fn a_measure_reads_the_records(rt: HostRuntime) -> Result<(), Fail> {
     let mut records = records_of(rt.alloc(), ROWS)?;
     let mut config = ColoredConfig::new(SpannedConfig::new(rt.alloc()));
     Wrap::new(AsRows).change(&mut records, &mut config, Entity::Row(1))?;
-    assert_eq!(rt;
-        shown(rt.alloc(), &records)?.as_str(),
-        "2x2 [abc][de] [fg\nh][ij\nk]"
-    );
-    Ok(())
+    assert_text(
+        &rt,
+        shown(rt.alloc(), &records),
+        "2x2 [abc][de] [fg\nh][ij\nk]",
+    )
 }
 
 #[test]
@@ -76,11 +76,7 @@ fn a_refused_measure_leaves_the_cells(rt: HostRuntime) -> Result<(), Fail> {
     assert_eq!(rt; wrapped, Err(TableError::Range));
     let cut = Width::truncate(Endless).change(&mut records, &mut config, Entity::Global);
     assert_eq!(rt; cut, Err(TableError::Range));
-    assert_eq!(rt;
-        shown(rt.alloc(), &records)?.as_str(),
-        "2x2 [abc][de] [fgh][ijk]"
-    );
-    Ok(())
+    assert_text(&rt, shown(rt.alloc(), &records), "2x2 [abc][de] [fgh][ijk]")
 }
 
 // Under `--fail-alloc` each growth is refused in turn.

@@ -1,6 +1,6 @@
 //! Refusals, rows of a text, builders, places.
 
-use crate::shown::shown;
+use crate::shown::{assert_text, shown};
 use std::test::Fail;
 use tabled_base::{
     Builder, Entity, ExactRecords, PeekableRecords, Position, TableError, Text, text_rows,
@@ -32,7 +32,7 @@ fn a_text_is_split_at_feeds_and_tabs(rt: HostRuntime) -> Result<(), Fail> {
         ("\n\na\tb\t\n", "3x3 [][][] [][][] [a][b][]"),
     ] {
         let rows = text_rows(rt.alloc(), text)?;
-        assert_eq!(rt; shown(rt.alloc(), &rows)?.as_str(), want);
+        assert_text(&rt, shown(rt.alloc(), &rows), want)?;
     }
     Ok(())
 }
@@ -46,15 +46,13 @@ fn a_builder_pads_short_rows(rt: HostRuntime) -> Result<(), Fail> {
     builder.add_record("d e f".split(' '))?;
     let records = builder.build();
     let want = "4x3 [a][][] [b][c][] [][][] [d][e][f]";
-    assert_eq!(rt; shown(rt.alloc(), &records)?.as_str(), want);
-    Ok(())
+    assert_text(&rt, shown(rt.alloc(), &records), want)
 }
 
 #[test]
 fn a_builder_without_rows_has_no_columns(rt: HostRuntime) -> Result<(), Fail> {
     let records = Builder::new(rt.alloc()).build();
-    assert_eq!(rt; shown(rt.alloc(), &records)?.as_str(), "0x0");
-    Ok(())
+    assert_text(&rt, shown(rt.alloc(), &records), "0x0")
 }
 
 #[test]
@@ -64,7 +62,7 @@ fn a_builder_with_room_has_no_row(rt: HostRuntime) -> Result<(), Fail> {
         .push_record(["a", "b", "c", "d"])?
         .push_record(["e"])?;
     let want = "2x4 [a][b][c][d] [e][][][]";
-    assert_eq!(rt; shown(rt.alloc(), &builder.build())?.as_str(), want);
+    assert_text(&rt, shown(rt.alloc(), &builder.build()), want)?;
     let records = Builder::with_capacity(rt.alloc(), 2, 3)?.build();
     assert_eq!(rt; records.count_rows(), 0);
     Ok(())
@@ -81,8 +79,7 @@ fn a_builder_takes_rows_at_once(rt: HostRuntime) -> Result<(), Fail> {
     }
     rows.push(row)?;
     let records = Builder::from_vec(rows)?.build();
-    assert_eq!(rt; shown(alloc, &records)?.as_str(), "2x2 [][] [a][bb]");
-    Ok(())
+    assert_text(&rt, shown(alloc, &records), "2x2 [][] [a][bb]")
 }
 
 #[test]

@@ -2,6 +2,8 @@
 ghost use Rattle.std.specs.Prelude.{◌<◌, length};
 
 use std::alloc::Global;
+use std::process::Abort;
+use std::test::Fail;
 use tabled_base::{Builder, PeekableRecords, Position, TableError, Text, VecRecords};
 
 /// Rows of texts.
@@ -34,5 +36,15 @@ fn show_row<R: PeekableRecords>(all: &mut String, records: &R, row: usize) -> Re
         all.push_str(records.get_text(Position { row, column }))?;
         all.push_str("]")?;
     }
+    Ok(())
+}
+
+/// Stops a test where a text isn't the wanted one; one that is refused ends it.
+pub fn assert_text(
+    rt: &impl Abort,
+    text: Result<String, TableError>,
+    wanted: &str,
+) -> Result<(), Fail> {
+    assert_eq!(rt; text?.as_str(), wanted);
     Ok(())
 }

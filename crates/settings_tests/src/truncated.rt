@@ -1,5 +1,6 @@
 //! Texts that are cut, and what stands at their end.
 
+use crate::shown::assert_text;
 use std::test::Fail;
 use tabled_set::{SuffixLimit, Truncate};
 use tabled_size::PriorityMax;
@@ -38,11 +39,7 @@ fn a_suffix_stands_at_the_end(rt: HostRuntime) -> Result<(), Fail> {
         ("Hello", 0, SuffixLimit::Replace('#'), ""),
     ] {
         let option = Truncate::new(room).suffix("...").suffix_limit(limit);
-        assert_eq!(rt;
-            option.shorten(rt.alloc(), text, room)?.as_str(),
-            want,
-            "{text} at {room}"
-        );
+        assert_text(&rt, option.shorten(rt.alloc(), text, room), want)?;
     }
     Ok(())
 }
@@ -56,8 +53,7 @@ fn lines_end_by_themselves(rt: HostRuntime) -> Result<(), Fail> {
         (0, true, "\n"),
     ] {
         let option = Truncate::new(room).suffix("..").multiline(multiline);
-        let got = option.shorten(rt.alloc(), "ab\ncdefgh", room)?;
-        assert_eq!(rt; got.as_str(), want, "at {room}, {multiline}");
+        assert_text(&rt, option.shorten(rt.alloc(), "ab\ncdefgh", room), want)?;
     }
     Ok(())
 }
@@ -65,17 +61,15 @@ fn lines_end_by_themselves(rt: HostRuntime) -> Result<(), Fail> {
 #[test]
 fn a_suffix_of_lines_counts_its_line_feeds(rt: HostRuntime) -> Result<(), Fail> {
     let option = Truncate::new(4).suffix("-\n-");
-    assert_eq!(rt; option.shorten(rt.alloc(), "abcdef", 4)?.as_str(), "a-\n-");
-    assert_eq!(rt; option.shorten(rt.alloc(), "abcdef", 3)?.as_str(), "-\n-");
-    Ok(())
+    assert_text(&rt, option.shorten(rt.alloc(), "abcdef", 4), "a-\n-")?;
+    assert_text(&rt, option.shorten(rt.alloc(), "abcdef", 3), "-\n-")
 }
 
 #[test]
 fn a_suffix_is_lent(rt: HostRuntime) -> Result<(), Fail> {
     let suffix = String::from_str(rt.alloc(), "..")?;
     let option = Truncate::new(4).suffix(suffix.as_str());
-    assert_eq!(rt; option.shorten(rt.alloc(), "abcdef", 4)?.as_str(), "ab..");
-    Ok(())
+    assert_text(&rt, option.shorten(rt.alloc(), "abcdef", 4), "ab..")
 }
 
 #[test]

@@ -1,6 +1,6 @@
 //! Each kind of rows, walked.
 
-use crate::shown::{records_of, shown};
+use crate::shown::{assert_text, records_of, shown};
 use std::alloc::Global;
 use std::test::Fail;
 use tabled_base::{Builder, CellText, IntoRecords, Records, TableError};
@@ -23,19 +23,17 @@ fn vectors_of_rows_are_walked(rt: HostRuntime) -> Result<(), Fail> {
     let mut rows = Vec::new(alloc);
     rows.push(vec![in alloc; "a", "bb"]?)?;
     rows.push(vec![in alloc; "ccc"]?)?;
-    assert_eq!(rt; walked(alloc, &rows)?.as_str(), WANT);
-    assert_eq!(rt; walked(alloc, rows.as_slice())?.as_str(), WANT);
-    assert_eq!(rt; walked(alloc, rows)?.as_str(), WANT);
-    Ok(())
+    assert_text(&rt, walked(alloc, &rows), WANT)?;
+    assert_text(&rt, walked(alloc, rows.as_slice()), WANT)?;
+    assert_text(&rt, walked(alloc, rows), WANT)
 }
 
 #[test]
 fn arrays_of_rows_are_walked(rt: HostRuntime) -> Result<(), Fail> {
     let rows = [["a", "bb"], ["ccc", ""]];
-    assert_eq!(rt; walked(rt.alloc(), &rows)?.as_str(), WANT);
-    assert_eq!(rt; walked(rt.alloc(), &rows[..])?.as_str(), WANT);
-    assert_eq!(rt; walked(rt.alloc(), rows)?.as_str(), WANT);
-    Ok(())
+    assert_text(&rt, walked(rt.alloc(), &rows), WANT)?;
+    assert_text(&rt, walked(rt.alloc(), &rows[..]), WANT)?;
+    assert_text(&rt, walked(rt.alloc(), rows), WANT)
 }
 
 #[test]
@@ -46,22 +44,19 @@ fn slices_of_owned_texts_are_walked(rt: HostRuntime) -> Result<(), Fail> {
         String::from_str(alloc, "bb")?,
     ];
     let second = [String::from_str(alloc, "ccc")?];
-    assert_eq!(rt; walked(alloc, [&first[..], &second[..]])?.as_str(), WANT);
-    assert_eq!(rt; walked(alloc, [first])?.as_str(), "1x2 [a][bb]");
-    Ok(())
+    assert_text(&rt, walked(alloc, [&first[..], &second[..]]), WANT)?;
+    assert_text(&rt, walked(alloc, [first]), "1x2 [a][bb]")
 }
 
 #[test]
 fn iterators_of_rows_are_walked(rt: HostRuntime) -> Result<(), Fail> {
     let rows = "a,bb;ccc".split(';').map(|row: &str| row.split(','));
-    assert_eq!(rt; walked(rt.alloc(), rows)?.as_str(), WANT);
-    Ok(())
+    assert_text(&rt, walked(rt.alloc(), rows), WANT)
 }
 
 #[test]
 fn lent_records_give_their_rows(rt: HostRuntime) -> Result<(), Fail> {
     let records = records_of(rt.alloc(), &[&["a", "bb"], &["ccc", ""]])?;
     let rows = Records::iter_rows(&records);
-    assert_eq!(rt; walked(rt.alloc(), rows)?.as_str(), WANT);
-    Ok(())
+    assert_text(&rt, walked(rt.alloc(), rows), WANT)
 }

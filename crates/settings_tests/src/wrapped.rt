@@ -1,5 +1,6 @@
 //! Texts that are wrapped.
 
+use crate::shown::assert_text;
 use std::test::Fail;
 use tabled_set::Wrap;
 use tabled_size::PriorityMax;
@@ -14,11 +15,7 @@ fn characters_find_room(rt: HostRuntime) -> Result<(), Fail> {
         ("😳😳😳😳😳", 3, "😳\n😳\n😳\n😳\n😳"),
         ("😳😳😳😳😳", 6, "😳😳😳\n😳😳"),
     ] {
-        assert_eq!(rt;
-            Wrap::wrap(rt.alloc(), text, n, false)?.as_str(),
-            want,
-            "{text} at {n}"
-        );
+        assert_text(&rt, Wrap::wrap(rt.alloc(), text, n, false), want)?;
     }
     Ok(())
 }
@@ -35,11 +32,7 @@ fn words_find_room(rt: HostRuntime) -> Result<(), Fail> {
             "修复 zlib 软件包中 CMake 配置不一致的问题，\n该问题先前导致部分软件无法正常构建",
         ),
     ] {
-        assert_eq!(rt;
-            Wrap::wrap(rt.alloc(), text, n, true)?.as_str(),
-            want,
-            "{text} at {n}"
-        );
+        assert_text(&rt, Wrap::wrap(rt.alloc(), text, n, true), want)?;
     }
     Ok(())
 }

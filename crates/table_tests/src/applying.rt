@@ -2,7 +2,7 @@
 ghost use Rattle.std.specs.Prelude.{None, ⊤};
 
 use crate::made::{PAIRS, Sheet, table_of};
-use crate::showing::{assert_picture, picture};
+use crate::showing::{assert_text, picture};
 use std::alloc::Global;
 use std::test::Fail;
 use tabled_base::{
@@ -62,14 +62,17 @@ const CLEARED: [(Option<Entity>, (bool, bool)); 5] = [
     (Some(Entity::Cell(0, 0)), (false, false)),
 ];
 
+fn hint(table: &mut Table, entity: Option<Entity>) -> Result<(bool, bool), TableError> {
+    table.apply(Hints { entity })?;
+    Ok(stored(table))
+}
+
 fn hinted(
     alloc: Global,
     sheet: &Sheet<'_>,
     entity: Option<Entity>,
 ) -> Result<(bool, bool), TableError> {
-    let mut table = table_of(alloc, sheet)?;
-    table.apply(Hints { entity })?;
-    Ok(stored(&table))
+    hint(&mut table_of(alloc, sheet)?, entity)
 }
 
 #[test]
@@ -81,14 +84,21 @@ fn a_hint_clears_the_sizes_of_tables_with_cells_and_without(rt: HostRuntime) -> 
     Ok(())
 }
 
+// The picture of a table once an option was applied.
+fn apply<O: TableOption<VecRecords<Text<String>>, ColoredConfig, CompleteDimension> + Drop>(
+    table: &mut Table,
+    option: O,
+) -> Result<String, TableError> {
+    table.with(option)?.to_string()
+}
+
 /// The picture of a sheet to which an option was applied.
 pub fn applied<O: TableOption<VecRecords<Text<String>>, ColoredConfig, CompleteDimension> + Drop>(
     alloc: Global,
     sheet: &Sheet<'_>,
     option: O,
 ) -> Result<String, TableError> {
-    let mut table = table_of(alloc, sheet)?;
-    table.with(option)?.to_string()
+    apply(&mut table_of(alloc, sheet)?, option)
 }
 
 const MODERN: &str = picture! {
@@ -101,9 +111,7 @@ const MODERN: &str = picture! {
 
 #[test]
 fn a_style_is_set_and_the_sizes_are_forgotten(rt: HostRuntime) -> Result<(), Fail> {
-    let text = applied(rt.alloc(), &CELLS, Style::modern())?;
-    assert_picture(&rt, text.as_str(), MODERN);
-    Ok(())
+    assert_text(&rt, applied(rt.alloc(), &CELLS, Style::modern()), MODERN)
 }
 
 const BARE: &str = picture! {
@@ -114,9 +122,7 @@ const BARE: &str = picture! {
 #[test]
 fn a_configuration_replaces_that_of_a_table(rt: HostRuntime) -> Result<(), Fail> {
     let option = ColoredConfig::new(SpannedConfig::new(rt.alloc()));
-    let text = applied(rt.alloc(), &CELLS, option)?;
-    assert_picture(&rt, text.as_str(), BARE);
-    Ok(())
+    assert_text(&rt, applied(rt.alloc(), &CELLS, option), BARE)
 }
 
 // Sets modern borders, empties the second cell, and answers that there was no memory. It hints nothing.
@@ -170,6 +176,5 @@ fn a_refused_option_leaves_its_changes_and_no_sizes(rt: HostRuntime) -> Result<(
     let mut table = table_of(rt.alloc(), &CELLS)?;
     let refused = (Err(TableError::Memory), (false, false));
     assert_eq!(rt; break_off(&mut table), refused);
-    assert_picture(&rt, table.to_string()?.as_str(), EMPTIED);
-    Ok(())
+    assert_text(&rt, table.to_string(), EMPTIED)
 }

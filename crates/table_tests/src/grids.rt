@@ -1,13 +1,11 @@
 //! Grids with given sizes and with estimated ones, and refusals before the first byte.
 
-use crate::made::{PAIRS, PICTURE, Setting, Sheet, Sizes, table_of};
+use crate::made::{PAIRS, PICTURE, Setting, Sheet, Sizes, assert_drawn, table_of};
 use crate::showing::assert_picture;
 use std::alloc::Global;
 use std::test::Fail;
-use tabled_base::{Builder, TableError, Text, VecRecords};
-use tabled_grid::{TextSink, print_estimated, print_grid};
-use tabled_size::{ConstDimension, ConstSize};
-use tabled_table::new_config;
+use tabled_base::TableError;
+use tabled_grid::{TextSink, print_grid};
 
 // Prints a sheet with the sizes that it stores.
 fn put_sheet<S: TextSink>(
@@ -93,27 +91,16 @@ fn an_empty_grid_is_never_refused(rt: HostRuntime) {
 // More cells of several lines than have a mark of their own in a row.
 const COLUMNS: usize = 70;
 
-fn crowded(alloc: Global) -> Result<VecRecords<Text<String>>, TableError> {
-    let mut builder = Builder::new(alloc);
-    builder.add_record(["a\nbc\nd"; COLUMNS])?;
-    Ok(builder.build())
-}
+const CROWD: Sheet<'static> = Sheet {
+    rows: &[&["a\nbc\nd"; COLUMNS]],
+    ..PAIRS
+};
 
-fn crowd_estimated(alloc: Global) -> Result<String, TableError> {
-    let mut text = String::new(alloc);
-    print_estimated(alloc, &crowded(alloc)?, &new_config(alloc), &mut text)?;
-    Ok(text)
-}
-
-fn crowd_given(alloc: Global) -> Result<String, TableError> {
-    let mut text = String::new(alloc);
-    let sizes: ConstDimension<1, 1> = ConstDimension::new(
-        ConstSize::Value(4),
-        ConstSize::List([3]),
-    );
-    print_grid(&mut text, &crowded(alloc)?, &new_config(alloc), &sizes)?;
-    Ok(text)
-}
+const SIZED_CROWD: Sheet<'static> = Sheet {
+    widths: Some(&[4; COLUMNS]),
+    heights: Some(&[3]),
+    ..CROWD
+};
 
 // The lines of the crowded row, each by its pieces.
 const PIECES: [(&str, &str); 5] = [
@@ -144,7 +131,9 @@ fn crowd(alloc: Global) -> Result<String, TableError> {
 #[test]
 fn many_cells_of_several_lines_stand_side_by_side(rt: HostRuntime) -> Result<(), Fail> {
     let want = crowd(rt.alloc())?;
-    assert_picture(&rt, crowd_estimated(rt.alloc())?.as_str(), want.as_str());
-    assert_picture(&rt, crowd_given(rt.alloc())?.as_str(), want.as_str());
+    assert_drawn(&rt, rt.alloc(), &CROWD, want.as_str())?;
+    let mut text = String::new(rt.alloc());
+    put_sheet(rt.alloc(), &SIZED_CROWD, &mut text)?;
+    assert_picture(&rt, text.as_str(), want.as_str());
     Ok(())
 }

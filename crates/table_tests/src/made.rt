@@ -1,6 +1,6 @@
 //! The tables of the tests, as data, and how they are drawn.
 
-use crate::showing::{assert_picture, picture};
+use crate::showing::{assert_text, picture};
 use std::alloc::Global;
 use std::process::Abort;
 use std::test::Fail;
@@ -9,6 +9,7 @@ use tabled_config::{
     AlignmentHorizontal, AlignmentVertical, Borders, HorizontalLine, Indent, Sides, SpannedConfig,
     Style,
 };
+use tabled_size::CompleteDimension;
 use tabled_table::Table;
 
 /// Rows of texts.
@@ -88,20 +89,21 @@ fn set(config: &mut SpannedConfig, setting: &Setting) -> Result<(), TableError> 
     Ok(())
 }
 
-fn set_all(config: &mut SpannedConfig, settings: &[Setting]) -> Result<(), TableError> {
+/// Sets all of that in order.
+pub fn set_all(config: &mut SpannedConfig, settings: &[Setting]) -> Result<(), TableError> {
     for setting in settings {
         set(config, setting)?;
     }
     Ok(())
 }
 
-fn store(
+/// Stores sizes.
+pub fn store(
     alloc: Global,
-    table: &mut Table,
+    dimension: &mut CompleteDimension,
     widths: Sizes,
     heights: Sizes,
 ) -> Result<(), TableError> {
-    let dimension = table.get_dimension_mut();
     if let Some(list) = widths {
         dimension.set_widths(Vec::from_slice(alloc, list)?);
     }
@@ -113,7 +115,12 @@ fn store(
 
 fn prepare(alloc: Global, table: &mut Table, sheet: &Sheet<'_>) -> Result<(), TableError> {
     set_all(table.get_config_mut().as_mut(), sheet.settings)?;
-    store(alloc, table, sheet.widths, sheet.heights)
+    store(
+        alloc,
+        table.get_dimension_mut(),
+        sheet.widths,
+        sheet.heights,
+    )
 }
 
 /// A builder of rows.
@@ -144,8 +151,7 @@ pub fn assert_drawn(
     sheet: &Sheet<'_>,
     wanted: &str,
 ) -> Result<(), Fail> {
-    assert_picture(rt, drawn(alloc, sheet)?.as_str(), wanted);
-    Ok(())
+    assert_text(rt, drawn(alloc, sheet), wanted)
 }
 
 /// What the total width and the total height of a sheet answer.

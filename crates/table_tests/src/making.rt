@@ -1,7 +1,7 @@
 //! Tables made of values, of rows and of nothing.
 
 use crate::made::{PAIRS, PICTURE, Sheet, assert_drawn, table_of, totals};
-use crate::showing::{assert_picture, picture};
+use crate::showing::{assert_text, picture};
 use std::alloc::Global;
 use std::test::Fail;
 use tabled_base::{Builder, TableError};
@@ -25,8 +25,7 @@ fn of_values(alloc: Global) -> Result<String, TableError> {
 
 #[test]
 fn a_table_of_values_has_a_header(rt: HostRuntime) -> Result<(), Fail> {
-    assert_picture(&rt, of_values(rt.alloc())?.as_str(), GREETINGS);
-    Ok(())
+    assert_text(&rt, of_values(rt.alloc()), GREETINGS)
 }
 
 fn of_values_with_room(alloc: Global) -> Result<String, TableError> {
@@ -35,8 +34,7 @@ fn of_values_with_room(alloc: Global) -> Result<String, TableError> {
 
 #[test]
 fn room_changes_no_table(rt: HostRuntime) -> Result<(), Fail> {
-    assert_picture(&rt, of_values_with_room(rt.alloc())?.as_str(), GREETINGS);
-    Ok(())
+    assert_text(&rt, of_values_with_room(rt.alloc()), GREETINGS)
 }
 
 fn there_and_back(alloc: Global) -> Result<String, TableError> {
@@ -47,8 +45,7 @@ fn there_and_back(alloc: Global) -> Result<String, TableError> {
 
 #[test]
 fn a_table_gives_its_rows_back(rt: HostRuntime) -> Result<(), Fail> {
-    assert_picture(&rt, there_and_back(rt.alloc())?.as_str(), GREETINGS);
-    Ok(())
+    assert_text(&rt, there_and_back(rt.alloc()), GREETINGS)
 }
 
 const FIELDS: &str = picture! {
@@ -65,8 +62,7 @@ fn of_fields(alloc: Global) -> Result<String, TableError> {
 
 #[test]
 fn a_table_of_fields_has_names_and_texts(rt: HostRuntime) -> Result<(), Fail> {
-    assert_picture(&rt, of_fields(rt.alloc())?.as_str(), FIELDS);
-    Ok(())
+    assert_text(&rt, of_fields(rt.alloc()), FIELDS)
 }
 
 const GREETING: &str = picture! {
@@ -83,8 +79,7 @@ fn of_one_text(alloc: Global) -> Result<String, TableError> {
 
 #[test]
 fn one_text_stands_below_its_type(rt: HostRuntime) -> Result<(), Fail> {
-    assert_picture(&rt, of_one_text(rt.alloc())?.as_str(), GREETING);
-    Ok(())
+    assert_text(&rt, of_one_text(rt.alloc()), GREETING)
 }
 
 const HEADER: &str = picture! {
@@ -100,8 +95,7 @@ fn of_no_values(alloc: Global) -> Result<String, TableError> {
 
 #[test]
 fn without_values_the_header_stands_alone(rt: HostRuntime) -> Result<(), Fail> {
-    assert_picture(&rt, of_no_values(rt.alloc())?.as_str(), HEADER);
-    Ok(())
+    assert_text(&rt, of_no_values(rt.alloc()), HEADER)
 }
 
 fn of_rows(alloc: Global) -> Result<String, TableError> {
@@ -110,8 +104,7 @@ fn of_rows(alloc: Global) -> Result<String, TableError> {
 
 #[test]
 fn a_table_of_rows_has_no_header(rt: HostRuntime) -> Result<(), Fail> {
-    assert_picture(&rt, of_rows(rt.alloc())?.as_str(), PICTURE);
-    Ok(())
+    assert_text(&rt, of_rows(rt.alloc()), PICTURE)
 }
 
 fn of_pairs(alloc: Global) -> Result<String, TableError> {
@@ -120,8 +113,7 @@ fn of_pairs(alloc: Global) -> Result<String, TableError> {
 
 #[test]
 fn a_table_of_pairs_prints_its_rows(rt: HostRuntime) -> Result<(), Fail> {
-    assert_picture(&rt, of_pairs(rt.alloc())?.as_str(), PICTURE);
-    Ok(())
+    assert_text(&rt, of_pairs(rt.alloc()), PICTURE)
 }
 
 fn of_no_pairs(alloc: Global) -> Result<String, TableError> {
@@ -131,8 +123,7 @@ fn of_no_pairs(alloc: Global) -> Result<String, TableError> {
 
 #[test]
 fn a_table_without_rows_prints_nothing(rt: HostRuntime) -> Result<(), Fail> {
-    assert_picture(&rt, of_no_pairs(rt.alloc())?.as_str(), "");
-    Ok(())
+    assert_text(&rt, of_no_pairs(rt.alloc()), "")
 }
 
 fn of_a_builder(alloc: Global) -> Result<String, TableError> {
@@ -143,8 +134,7 @@ fn of_a_builder(alloc: Global) -> Result<String, TableError> {
 
 #[test]
 fn a_builder_becomes_a_table(rt: HostRuntime) -> Result<(), Fail> {
-    assert_picture(&rt, of_a_builder(rt.alloc())?.as_str(), PICTURE);
-    Ok(())
+    assert_text(&rt, of_a_builder(rt.alloc()), PICTURE)
 }
 
 const CITIES: &str = picture! {

@@ -4,7 +4,7 @@ ghost use Rattle.tabled_base.specs.declared.error.TableError.TheVariants.{Memory
 
 use crate::applying::{CELLS, stored};
 use crate::made::{PAIRS, Sheet, table_of};
-use crate::showing::{assert_picture, picture};
+use crate::showing::{assert_text, picture};
 use std::alloc::Global;
 use std::test::Fail;
 use tabled_base::{
@@ -66,13 +66,20 @@ fn join(records: &mut VecRecords<Text<String>>, row: usize, column: usize) -> Re
     records.set(at, text)
 }
 
+// The picture of a table once a part of it was modified.
+fn modify<
+    T: Object<VecRecords<Text<String>>> + Drop,
+    O: CellOption<VecRecords<Text<String>>, ColoredConfig> + Drop,
+>(table: &mut Table, target: T, option: O) -> Result<String, TableError> {
+    table.modify(target, option)?.to_string()
+}
+
 // The picture of a sheet of which a part was modified.
 fn modified<
     T: Object<VecRecords<Text<String>>> + Drop,
     O: CellOption<VecRecords<Text<String>>, ColoredConfig> + Drop,
 >(alloc: Global, sheet: &Sheet<'_>, target: T, option: O) -> Result<String, TableError> {
-    let mut table = table_of(alloc, sheet)?;
-    table.modify(target, option)?.to_string()
+    modify(&mut table_of(alloc, sheet)?, target, option)
 }
 
 const FIRST_ROW: &str = picture! {
@@ -85,9 +92,11 @@ const FIRST_ROW: &str = picture! {
 
 #[test]
 fn a_row_is_modified(rt: HostRuntime) -> Result<(), Fail> {
-    let text = modified(rt.alloc(), &CELLS, Rows::first(), Joins)?;
-    assert_picture(&rt, text.as_str(), FIRST_ROW);
-    Ok(())
+    assert_text(
+        &rt,
+        modified(rt.alloc(), &CELLS, Rows::first(), Joins),
+        FIRST_ROW,
+    )
 }
 
 const WHOLE_TABLE: &str = picture! {
@@ -100,9 +109,11 @@ const WHOLE_TABLE: &str = picture! {
 
 #[test]
 fn the_whole_table_is_modified(rt: HostRuntime) -> Result<(), Fail> {
-    let text = modified(rt.alloc(), &CELLS, Segment::all(), Joins)?;
-    assert_picture(&rt, text.as_str(), WHOLE_TABLE);
-    Ok(())
+    assert_text(
+        &rt,
+        modified(rt.alloc(), &CELLS, Segment::all(), Joins),
+        WHOLE_TABLE,
+    )
 }
 
 const LETTERS: Sheet<'static> = Sheet {
@@ -118,9 +129,11 @@ const IN_ORDER: &str = picture! {
 
 #[test]
 fn cells_are_modified_in_order(rt: HostRuntime) -> Result<(), Fail> {
-    let text = modified(rt.alloc(), &LETTERS, Segment::new(.., ..), Joins)?;
-    assert_picture(&rt, text.as_str(), IN_ORDER);
-    Ok(())
+    assert_text(
+        &rt,
+        modified(rt.alloc(), &LETTERS, Segment::new(.., ..), Joins),
+        IN_ORDER,
+    )
 }
 
 const NO_CELL: &str = picture! {
@@ -133,9 +146,7 @@ const NO_CELL: &str = picture! {
 
 #[test]
 fn a_target_outside_of_the_table_changes_no_cell(rt: HostRuntime) -> Result<(), Fail> {
-    let text = modified(rt.alloc(), &CELLS, (2, 0), Joins)?;
-    assert_picture(&rt, text.as_str(), NO_CELL);
-    Ok(())
+    assert_text(&rt, modified(rt.alloc(), &CELLS, (2, 0), Joins), NO_CELL)
 }
 
 // What a modification of all cells answers, and what is stored then.
@@ -162,8 +173,7 @@ fn a_refused_modification_puts_the_settings_back(rt: HostRuntime) -> Result<(), 
     let mut table = table_of(rt.alloc(), &REFUSING)?;
     let refused = (Err(TableError::Range), (false, false));
     assert_eq!(rt; join_all(&mut table), refused);
-    assert_picture(&rt, table.to_string()?.as_str(), REFUSED);
-    Ok(())
+    assert_text(&rt, table.to_string(), REFUSED)
 }
 
 // Whether the text of the first cell stands at the right.
@@ -193,7 +203,9 @@ const FIRST_COLUMN: &str = picture! {
 
 #[test]
 fn one_column_is_wrapped(rt: HostRuntime) -> Result<(), Fail> {
-    let text = modified(rt.alloc(), &PAIRS, Columns::first(), Width::wrap(2))?;
-    assert_picture(&rt, text.as_str(), FIRST_COLUMN);
-    Ok(())
+    assert_text(
+        &rt,
+        modified(rt.alloc(), &PAIRS, Columns::first(), Width::wrap(2)),
+        FIRST_COLUMN,
+    )
 }

@@ -1,13 +1,13 @@
 //! What wrapping and truncating leave of a table's cells and of its stored sizes.
 ghost use Rattle.std.specs.Prelude.{◌<◌, length, ⊤};
 
-use crate::made::{PAIRS, Rows, Sizes, built};
+use crate::made::{PAIRS, Setting, Sheet, Sizes, built, set_all, store};
 use std::alloc::Global;
 use std::test::Fail;
 use tabled_base::{
     Entity, ExactRecords, PeekableRecords, Position, TableError, TableOption, Text, VecRecords,
 };
-use tabled_config::{ColoredConfig, Indent, Sides};
+use tabled_config::ColoredConfig;
 use tabled_set::{Truncate, Width, Wrap};
 use tabled_size::{CompleteDimension, Peaker};
 use tabled_table::new_config;
@@ -64,25 +64,17 @@ fn show_cells(all: &mut String, records: &VecRecords<Text<String>>) -> Result<()
     Ok(())
 }
 
-// Sizes of which the widths, or the heights, may be stored.
-fn stored(alloc: Global, widths: Sizes, heights: Sizes) -> Result<CompleteDimension, TableError> {
+// The sizes that a sheet stores.
+fn sizes_of(alloc: Global, sheet: &Sheet<'_>) -> Result<CompleteDimension, TableError> {
     let mut sizes = CompleteDimension::new(alloc);
-    if let Some(list) = widths {
-        sizes.set_widths(Vec::from_slice(alloc, list)?);
-    }
-    if let Some(list) = heights {
-        sizes.set_heights(Vec::from_slice(alloc, list)?);
-    }
+    store(alloc, &mut sizes, sheet.widths, sheet.heights)?;
     Ok(sizes)
 }
 
-// The settings of a new table, with some columns of padding on the left.
-fn padded(alloc: Global, left: usize) -> Result<ColoredConfig, TableError> {
+// The settings of a sheet.
+fn config_of(alloc: Global, sheet: &Sheet<'_>) -> Result<ColoredConfig, TableError> {
     let mut config = new_config(alloc);
-    let one = Indent::spaced(1);
-    let none = Indent::zero();
-    let padding = Sides::new(Indent::spaced(left), one, none, none);
-    config.set_padding(Entity::Global, padding)?;
+    set_all(&mut config, sheet.settings)?;
     Ok(ColoredConfig::new(config))
 }
 
@@ -93,16 +85,15 @@ fn show_sizes(alloc: Global, sizes: &CompleteDimension) -> Result<String, TableE
     Ok(format!(in alloc; " {widths:?} {heights:?}")?)
 }
 
-// What an option answers, and what it leaves of the cells and of stored sizes.
+// What an option answers on the parts of a sheet, and what it leaves of the cells and of stored sizes.
 fn changed<O: TableOption<VecRecords<Text<String>>, ColoredConfig, CompleteDimension> + Drop>(
     alloc: Global,
-    rows: Rows,
+    sheet: &Sheet<'_>,
     option: O,
-    left: usize,
-    mut sizes: CompleteDimension,
 ) -> Result<(Result<(), TableError>, String), TableError> {
-    let mut records = built(alloc, rows)?.build();
-    let mut config = padded(alloc, left)?;
+    let mut records = built(alloc, sheet.rows)?.build();
+    let mut config = config_of(alloc, sheet)?;
+    let mut sizes = sizes_of(alloc, sheet)?;
     let answer = option.change(&mut records, &mut config, &mut sizes);
     let mut all = String::new(alloc);
     show_cells(&mut all, &records)?;
@@ -130,8 +121,8 @@ const WRAPPED: [Case; 7] = [
 #[test]
 fn tables_are_wrapped(rt: HostRuntime) -> Result<(), Fail> {
     for (n, widths, want) in WRAPPED {
-        let sizes = stored(rt.alloc(), widths, None)?;
-        let (answer, left) = changed(rt.alloc(), PAIRS.rows, Width::wrap(n), 1, sizes)?;
+        let sheet = Sheet { widths, ..PAIRS };
+        let (answer, left) = changed(rt.alloc(), &sheet, Width::wrap(n))?;
         assert_eq!(rt; (answer, left.as_str()), (Ok(()), want));
     }
     Ok(())
@@ -147,8 +138,8 @@ const TRUNCATED: [Case; 4] = [
 #[test]
 fn tables_are_truncated(rt: HostRuntime) -> Result<(), Fail> {
     for (n, widths, want) in TRUNCATED {
-        let sizes = stored(rt.alloc(), widths, None)?;
-        let (answer, left) = changed(rt.alloc(), PAIRS.rows, Width::truncate(n), 1, sizes)?;
+        let sheet = Sheet { widths, ..PAIRS };
+        let (answer, left) = changed(rt.alloc(), &sheet, Width::truncate(n))?;
         assert_eq!(rt; (answer, left.as_str()), (Ok(()), want));
     }
     Ok(())
@@ -158,41 +149,43 @@ fn tables_are_truncated(rt: HostRuntime) -> Result<(), Fail> {
 fn a_priority_may_leave_the_widths(rt: HostRuntime) -> Result<(), Fail> {
     let same = "a|bb/ccc|/ Some([5, 4]) None";
     let wrap = Width::wrap(0).priority(Never);
-    let sizes = CompleteDimension::new(rt.alloc());
-    assert_eq!(rt;
-        changed(rt.alloc(), PAIRS.rows, wrap, 1, sizes)?.1.as_str(),
-        same
-    );
+    assert_eq!(rt; changed(rt.alloc(), &PAIRS, wrap)?.1.as_str(), same);
     let truncate = Width::truncate(0).priority(Never);
-    let sizes = CompleteDimension::new(rt.alloc());
-    assert_eq!(rt;
-        changed(rt.alloc(), PAIRS.rows, truncate, 1, sizes)?
-            .1
-            .as_str(),
-        same
-    );
+    assert_eq!(rt; changed(rt.alloc(), &PAIRS, truncate)?.1.as_str(), same);
     Ok(())
 }
+
+const EMPTY: Sheet<'static> = Sheet {
+    rows: &[],
+    heights: Some(&[3]),
+    ..PAIRS
+};
 
 #[test]
 fn an_empty_table_keeps_its_heights(rt: HostRuntime) -> Result<(), Fail> {
-    let sizes = stored(rt.alloc(), None, Some(&[3]))?;
-    let (answer, left) = changed(rt.alloc(), &[], Width::wrap(1), 1, sizes)?;
-    assert_eq!(rt; (answer, left.as_str()), (Ok(()), " None Some([3])"));
-    let sizes = stored(rt.alloc(), None, Some(&[3]))?;
-    let (answer, left) = changed(rt.alloc(), &[], Width::truncate(1), 1, sizes)?;
-    assert_eq!(rt; (answer, left.as_str()), (Ok(()), " None Some([3])"));
+    let (_, left) = changed(rt.alloc(), &EMPTY, Width::wrap(1))?;
+    assert_eq!(rt; left.as_str(), " None Some([3])");
+    let (_, left) = changed(rt.alloc(), &EMPTY, Width::truncate(1))?;
+    assert_eq!(rt; left.as_str(), " None Some([3])");
     Ok(())
 }
 
-// What an option answers where the widths are stored and a padding takes the greatest number, and whether
-// the cells are as they were.
+// A padding on the left of the greatest number of columns.
+const OVERFLOWING: Sheet<'static> = Sheet {
+    settings: &[Setting::Padding(
+        Entity::Global,
+        [(usize::MAX, ' '), (1, ' '), (0, ' '), (0, ' ')],
+    )],
+    widths: Some(&[9, 9]),
+    ..PAIRS
+};
+
+// What an option answers there, and whether the cells are as they were.
 fn overflowing<O: TableOption<VecRecords<Text<String>>, ColoredConfig, CompleteDimension> + Drop>(
     alloc: Global,
     option: O,
 ) -> Result<(Result<(), TableError>, bool), TableError> {
-    let sizes = stored(alloc, Some(&[9, 9]), None)?;
-    let (answer, left) = changed(alloc, PAIRS.rows, option, usize::MAX, sizes)?;
+    let (answer, left) = changed(alloc, &OVERFLOWING, option)?;
     Ok((answer, left.starts_with("a|bb/ccc|/ ")))
 }
 

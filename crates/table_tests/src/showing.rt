@@ -2,6 +2,8 @@
 
 use std::fmt;
 use std::process::Abort;
+use std::test::Fail;
+use tabled_base::TableError;
 
 /// The text of a picture that is written a line a source line.
 macro_rules! picture {
@@ -30,4 +32,14 @@ pub fn assert_picture(rt: &impl Abort, drawn: &str, wanted: &str) {
         Barred(drawn),
         Barred(wanted)
     );
+}
+
+/// The same of a picture that may be refused, which ends the test.
+pub fn assert_text(
+    rt: &impl Abort,
+    drawn: Result<String, TableError>,
+    wanted: &str,
+) -> Result<(), Fail> {
+    assert_picture(rt, drawn?.as_str(), wanted);
+    Ok(())
 }

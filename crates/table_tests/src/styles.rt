@@ -2,7 +2,7 @@
 
 use crate::applying::applied;
 use crate::made::{PAIRS, PICTURE};
-use crate::showing::{assert_picture, picture};
+use crate::showing::{assert_text, picture};
 use std::test::Fail;
 use tabled_config::Style;
 
@@ -50,7 +50,7 @@ fn tables_stand_in_each_style(rt: HostRuntime) -> Result<(), Fail> {
         (Style::empty(), EMPTY),
     ];
     for (style, want) in styles {
-        assert_picture(&rt, applied(rt.alloc(), &PAIRS, style)?.as_str(), want);
+        assert_text(&rt, applied(rt.alloc(), &PAIRS, style), want)?;
     }
     Ok(())
 }

@@ -11,7 +11,7 @@ ghost use Rattle.tabled_text.specs.Plain.{IsPlain};
 use crate::applying::applied;
 use crate::made::{PAIRS, Setting, Sheet, table_of};
 use crate::narrowing::Never;
-use crate::showing::{assert_picture, picture};
+use crate::showing::{assert_text, picture};
 use std::alloc::Global;
 use std::test::Fail;
 use tabled_base::TableError;
@@ -178,9 +178,7 @@ const NARROWEST: &str = picture! {
 
 #[test]
 fn no_table_is_narrower_than_its_padding(rt: HostRuntime) -> Result<(), Fail> {
-    let text = applied(rt.alloc(), &PAIRS, Width::wrap(0))?;
-    assert_picture(&rt, text.as_str(), NARROWEST);
-    Ok(())
+    assert_text(&rt, applied(rt.alloc(), &PAIRS, Width::wrap(0)), NARROWEST)
 }
 
 const GREETING: Sheet<'static> = Sheet {
@@ -202,9 +200,7 @@ const HELLO: &str = picture! {
 
 #[test]
 fn a_header_is_wrapped_too(rt: HostRuntime) -> Result<(), Fail> {
-    let text = applied(rt.alloc(), &GREETING, Width::wrap(7))?;
-    assert_picture(&rt, text.as_str(), HELLO);
-    Ok(())
+    assert_text(&rt, applied(rt.alloc(), &GREETING, Width::wrap(7)), HELLO)
 }
 
 const CHINESE: Sheet<'static> = Sheet {
@@ -220,9 +216,11 @@ const REPLACED: &str = picture! {
 
 #[test]
 fn half_a_wide_character_is_replaced(rt: HostRuntime) -> Result<(), Fail> {
-    let text = applied(rt.alloc(), &CHINESE, Width::truncate(9))?;
-    assert_picture(&rt, text.as_str(), REPLACED);
-    Ok(())
+    assert_text(
+        &rt,
+        applied(rt.alloc(), &CHINESE, Width::truncate(9)),
+        REPLACED,
+    )
 }
 
 #[test]
