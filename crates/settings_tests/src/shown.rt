@@ -1,0 +1,50 @@
+//! Records of the tests, and how their cells are shown.
+ghost use Rattle.std.specs.Prelude.{◌<◌, length};
+
+use std::alloc::Global;
+use std::process::Abort;
+use std::test::Fail;
+use tabled_base::{Builder, PeekableRecords, Position, TableError, Text, VecRecords};
+
+/// Rows of texts.
+pub type Rows = &'static [&'static [&'static str]];
+
+/// Records of rows.
+pub fn records_of(alloc: Global, rows: Rows) -> Result<VecRecords<Text<String>>, TableError> {
+    let mut builder = Builder::new(alloc);
+    for row in rows {
+        builder.add_record(row.iter().copied())?;
+    }
+    Ok(builder.build())
+}
+
+/// The shape, and the cells row by row, each in brackets.
+pub fn shown<R: PeekableRecords>(alloc: Global, records: &R) -> Result<String, TableError> {
+    let mut all = format!(in alloc; "{}x{}", records.count_rows(), records.count_columns())?;
+    for row in 0..records.count_rows() {
+        show_row(&mut all, records, row)?;
+    }
+    Ok(all)
+}
+
+fn show_row<R: PeekableRecords>(all: &mut String, records: &R, row: usize) -> Result<(), TableError>
+    requires { row < length (R.cells records.now) }
+{
+    all.push_str(" ")?;
+    for column in 0..records.count_columns() {
+        all.push_str("[")?;
+        all.push_str(records.get_text(Position { row, column }))?;
+        all.push_str("]")?;
+    }
+    Ok(())
+}
+
+/// Stops a test where a text isn't the wanted one; one that is refused ends it.
+pub fn assert_text(
+    rt: &impl Abort,
+    text: Result<String, TableError>,
+    wanted: &str,
+) -> Result<(), Fail> {
+    assert_eq!(rt; text?.as_str(), wanted);
+    Ok(())
+}

@@ -1,0 +1,139 @@
+//! Grids with given sizes and with estimated ones, and refusals before the first byte.
+
+use crate::made::{PAIRS, PICTURE, Setting, Sheet, Sizes, assert_drawn, table_of};
+use crate::showing::assert_picture;
+use std::alloc::Global;
+use std::test::Fail;
+use tabled_base::TableError;
+use tabled_grid::{TextSink, print_grid};
+
+// Prints a sheet with the sizes that it stores.
+fn put_sheet<S: TextSink>(
+    alloc: Global,
+    sheet: &Sheet<'_>,
+    sink: &mut S,
+) -> Result<(), TableError> {
+    let table = table_of(alloc, sheet)?;
+    print_grid(
+        sink,
+        table.get_records(),
+        table.get_config().as_ref(),
+        table.get_dimension(),
+    )
+}
+
+const SIZED: Sheet<'static> = Sheet {
+    widths: Some(&[5, 4]),
+    heights: Some(&[1, 1]),
+    ..PAIRS
+};
+
+#[test]
+fn bytes_are_those_of_the_text(rt: HostRuntime) -> Result<(), Fail> {
+    let mut bytes: Vec<u8> = Vec::new(rt.alloc());
+    put_sheet(rt.alloc(), &SIZED, &mut bytes)?;
+    assert_picture(&rt, str::from_utf8(bytes.as_slice())?, PICTURE);
+    Ok(())
+}
+
+#[test]
+fn a_lent_sink_is_a_sink(rt: HostRuntime) -> Result<(), Fail> {
+    let mut text = String::new(rt.alloc());
+    let mut sink = &mut text;
+    put_sheet(rt.alloc(), &SIZED, &mut sink)?;
+    assert_picture(&rt, text.as_str(), PICTURE);
+    Ok(())
+}
+
+// What a sheet answers, and how many bytes of it went out.
+fn answered(alloc: Global, sheet: &Sheet<'_>) -> (Result<(), TableError>, usize) {
+    let mut sink = String::new(alloc);
+    let answer = put_sheet(alloc, sheet, &mut sink);
+    (answer, sink.len())
+}
+
+const ENDLESS: &[Setting] = &[Setting::Margin([(usize::MAX, ' '), (0, ' '), (0, ' '), (0, ' ')])];
+
+const NARROW: TableError = TableError::Narrow { row: 0, column: 0 };
+
+// Widths and heights, and why the pairs in an endless margin are refused.
+const REFUSED: [(Sizes, Sizes, TableError); 4] = [
+    (Some(&[5]), Some(&[1]), TableError::ShortWidths),
+    (Some(&[2, 2]), Some(&[1]), TableError::ShortHeights),
+    (Some(&[2, 2]), Some(&[1, 1]), NARROW),
+    (Some(&[5, 4]), Some(&[1, 1]), TableError::Range),
+];
+
+#[test]
+fn a_grid_is_refused_before_the_first_byte(rt: HostRuntime) {
+    for (widths, heights, refusal) in REFUSED {
+        let sheet = Sheet {
+            rows: PAIRS.rows,
+            settings: ENDLESS,
+            widths,
+            heights,
+        };
+        assert_eq!(rt; answered(rt.alloc(), &sheet), (Err(refusal), 0));
+    }
+}
+
+const EMPTY: Sheet<'static> = Sheet {
+    rows: &[],
+    settings: ENDLESS,
+    ..SIZED
+};
+
+#[test]
+fn an_empty_grid_is_never_refused(rt: HostRuntime) {
+    assert_eq!(rt; answered(rt.alloc(), &EMPTY), (Ok(()), 0));
+}
+
+// More cells of several lines than have a mark of their own in a row.
+const COLUMNS: usize = 70;
+
+const CROWD: Sheet<'static> = Sheet {
+    rows: &[&["a\nbc\nd"; COLUMNS]],
+    ..PAIRS
+};
+
+const SIZED_CROWD: Sheet<'static> = Sheet {
+    widths: Some(&[4; COLUMNS]),
+    heights: Some(&[3]),
+    ..CROWD
+};
+
+// The lines of the crowded row, each by its pieces.
+const PIECES: [(&str, &str); 5] = [
+    ("+----", "+\n"),
+    ("| a  ", "|\n"),
+    ("| bc ", "|\n"),
+    ("| d  ", "|\n"),
+    ("+----", "+"),
+];
+
+// A line of so many pieces and an end.
+fn push_line(text: &mut String, piece: &str, end: &str) -> Result<(), TableError> {
+    for _column in 0..COLUMNS {
+        text.push_str(piece)?;
+    }
+    text.push_str(end)?;
+    Ok(())
+}
+
+fn crowd(alloc: Global) -> Result<String, TableError> {
+    let mut text = String::new(alloc);
+    for (piece, end) in PIECES {
+        push_line(&mut text, piece, end)?;
+    }
+    Ok(text)
+}
+
+#[test]
+fn many_cells_of_several_lines_stand_side_by_side(rt: HostRuntime) -> Result<(), Fail> {
+    let want = crowd(rt.alloc())?;
+    assert_drawn(&rt, rt.alloc(), &CROWD, want.as_str())?;
+    let mut text = String::new(rt.alloc());
+    put_sheet(rt.alloc(), &SIZED_CROWD, &mut text)?;
+    assert_picture(&rt, text.as_str(), want.as_str());
+    Ok(())
+}

@@ -1,0 +1,230 @@
+//! Tables that are wrapped or truncated to a total.
+ghost use Rattle.std.specs.Prelude.{◌≡◌, OnOk, [], false, max, true, ⊤};
+ghost use Rattle.tabled_set.specs.BestNarrowing.{HasLeastWidth, IsBestCut, IsBestWrapped};
+ghost use Rattle.tabled_set.specs.ExactTotal.{empty_width};
+ghost use Rattle.tabled_set.specs.Promised.{IsWiderThan};
+ghost use Rattle.tabled_size.specs.PlainCells.{ArePlain};
+ghost use Rattle.tabled_size.specs.Totals.{total_width};
+ghost use Rattle.tabled_table.specs.TableSheet.{cells_of, sheet};
+ghost use Rattle.tabled_text.specs.Plain.{IsPlain};
+
+use crate::applying::applied;
+use crate::made::{PAIRS, Setting, Sheet, table_of};
+use crate::narrowing::Never;
+use crate::showing::{assert_text, picture};
+use std::alloc::Global;
+use std::test::Fail;
+use tabled_base::TableError;
+use tabled_set::Width;
+use tabled_size::{Peaker, Priority};
+use tabled_table::Table;
+use tabled_text::{line_width, lines};
+
+// Columns of 6, 7 and 6.
+const GREETINGS: Sheet<'static> = Sheet {
+    rows: &[
+        &["&str", "&str", "i32"],
+        &["1", "Hello", "100"],
+        &["2", "World", "1000"],
+    ],
+    settings: &[Setting::Modern],
+    ..PAIRS
+};
+
+// Whether the greetings, wrapped to 15 columns, begin with a line.
+fn begins<P: Peaker + Drop>(alloc: Global, priority: P, line: &str) -> Result<bool, TableError> {
+    let text = applied(alloc, &GREETINGS, Width::wrap(15).priority(priority))?;
+    Ok(text.starts_with(line))
+}
+
+// Wraps by the greatest widths: what is told here follows from `with` alone.
+fn wrap_level(table: &mut Table, n: usize) -> Result<(), TableError>
+    ensures total { OnOk result (IsWiderThan n (sheet table.old) → ArePlain (cells_of table.old)
+        → total_width (sheet table.new) ≡ max n (empty_width (sheet table.old))) }
+    ensures best { OnOk result (IsWiderThan n (sheet table.old)
+        → IsBestWrapped false (sheet table.old) (sheet table.new)) }
+    ensures least { OnOk result (IsWiderThan n (sheet table.old)
+        → HasLeastWidth (sheet table.old) (sheet table.new)) }
+{
+    table.with(Width::wrap(n).priority(Priority::max(true)))?;
+    Ok(())
+}
+
+// Truncates each line by the greatest widths, with a suffix.
+fn truncate_level(table: &mut Table, n: usize, suffix: &str) -> Result<(), TableError>
+    ensures total { OnOk result (IsPlain suffix.now → IsWiderThan n (sheet table.old)
+        → ArePlain (cells_of table.old) → total_width (sheet table.new) ≡ max n (empty_width (sheet table.old))) }
+    ensures best { OnOk result (suffix.now ≡ [] → IsWiderThan n (sheet table.old)
+        → IsBestCut true (sheet table.old) (sheet table.new)) }
+    ensures least { OnOk result (IsWiderThan n (sheet table.old)
+        → HasLeastWidth (sheet table.old) (sheet table.new)) }
+{
+    let truncate = Width::truncate(n).suffix(suffix).multiline(true);
+    table.with(truncate.priority(Priority::max(true)))?;
+    Ok(())
+}
+
+// The totals of the pairs once wrapped to 9 columns, and then truncated to 8.
+fn leveled(alloc: Global) -> Result<(usize, usize), TableError> {
+    let mut table = table_of(alloc, &PAIRS)?;
+    wrap_level(&mut table, 9)?;
+    let wrapped = table.total_width()?;
+    truncate_level(&mut table, 8, "")?;
+    Ok((wrapped, table.total_width()?))
+}
+
+// Wraps or truncates a table to some columns.
+fn narrow<P: Peaker + Drop>(
+    table: &mut Table,
+    wraps: bool,
+    width: usize,
+    priority: P,
+) -> Result<(), TableError> {
+    if wraps {
+        table.apply(Width::wrap(width).priority(priority))
+    } else {
+        table.apply(Width::truncate(width).priority(priority))
+    }
+}
+
+// The pairs that are narrowed, and what is said of the total height.
+fn narrowed<P: Peaker + Drop>(
+    alloc: Global,
+    wraps: bool,
+    width: usize,
+    priority: P,
+) -> Result<(String, usize), TableError> {
+    let mut table = table_of(alloc, &PAIRS)?;
+    narrow(&mut table, wraps, width, priority)?;
+    Ok((table.to_string()?, table.total_height()?))
+}
+
+// Whether a text has so many lines, each of so many columns.
+fn measures(text: &str, width: usize, height: usize) -> bool {
+    let mut count: usize = 0;
+    let mut even = true;
+    for line in lines(text) {
+        count = count.saturating_add(1);
+        even = even && line_width(line) == width;
+    }
+    even && count == height
+}
+
+// Whether the pairs, which take 12 columns and 7 with empty cells, have each total that they can have.
+fn narrows_to_each<P: Peaker + Copy + Drop>(
+    alloc: Global,
+    priority: P,
+) -> Result<bool, TableError> {
+    let mut exact = true;
+    for width in 0..14 {
+        for wraps in [true, false] {
+            let (text, height) = narrowed(alloc, wraps, width, priority)?;
+            exact = exact && measures(&text, width.clamp(7, 12), height);
+        }
+    }
+    Ok(exact)
+}
+
+#[test]
+fn columns_shrink_by_each_priority(rt: HostRuntime) -> Result<(), Fail> {
+    let alloc = rt.alloc();
+    assert!(rt; begins(alloc, Priority::left(), "┌──┬───┬──────┐\n")?);
+    assert!(rt; begins(alloc, Priority::right(), "┌──────┬───┬──┐\n")?);
+    assert!(rt; begins(alloc, Priority::min(true), "┌──┬───────┬──┐\n")?);
+    Ok(())
+}
+
+#[test]
+fn the_greatest_columns_shrink_alike(rt: HostRuntime) -> Result<(), Fail> {
+    let alloc = rt.alloc();
+    assert!(rt; begins(alloc, Priority::max(true), "┌────┬────┬───┐\n")?);
+    assert!(rt; begins(alloc, Priority::max(false), "┌───┬────┬────┐\n")?);
+    assert!(rt; begins(alloc, Priority::none(), "┌───┬────┬────┐\n")?);
+    Ok(())
+}
+
+#[test]
+fn each_total_is_exact(rt: HostRuntime) -> Result<(), Fail> {
+    let alloc = rt.alloc();
+    assert!(rt; narrows_to_each(alloc, Priority::none())?);
+    assert!(rt; narrows_to_each(alloc, Priority::left())?);
+    assert!(rt; narrows_to_each(alloc, Priority::right())?);
+    Ok(())
+}
+
+#[test]
+fn each_total_is_exact_by_the_sizes(rt: HostRuntime) -> Result<(), Fail> {
+    let alloc = rt.alloc();
+    assert!(rt; narrows_to_each(alloc, Priority::min(true))?);
+    assert!(rt; narrows_to_each(alloc, Priority::min(false))?);
+    assert!(rt; narrows_to_each(alloc, Priority::max(true))?);
+    assert!(rt; narrows_to_each(alloc, Priority::max(false))?);
+    Ok(())
+}
+
+#[test]
+fn a_leveled_table_has_its_total(rt: HostRuntime) -> Result<(), Fail> {
+    assert_eq!(rt; leveled(rt.alloc())?, (9, 8));
+    Ok(())
+}
+
+const NARROWEST: &str = picture! {
+    "+--+--+"
+    "|  |  |"
+    "+--+--+"
+    "|  |  |"
+    "+--+--+"
+};
+
+#[test]
+fn no_table_is_narrower_than_its_padding(rt: HostRuntime) -> Result<(), Fail> {
+    assert_text(&rt, applied(rt.alloc(), &PAIRS, Width::wrap(0)), NARROWEST)
+}
+
+const GREETING: Sheet<'static> = Sheet {
+    rows: &[&["&str"], &["Hello World!"]],
+    ..PAIRS
+};
+
+const HELLO: &str = picture! {
+    "+-----+"
+    "| &st |"
+    "| r   |"
+    "+-----+"
+    "| Hel |"
+    "| lo  |"
+    "| Wor |"
+    "| ld! |"
+    "+-----+"
+};
+
+#[test]
+fn a_header_is_wrapped_too(rt: HostRuntime) -> Result<(), Fail> {
+    assert_text(&rt, applied(rt.alloc(), &GREETING, Width::wrap(7)), HELLO)
+}
+
+const CHINESE: Sheet<'static> = Sheet {
+    rows: &[&["中文字"]],
+    ..PAIRS
+};
+
+const REPLACED: &str = picture! {
+    "+-------+"
+    "| 中文\u{FFFD} |"
+    "+-------+"
+};
+
+#[test]
+fn half_a_wide_character_is_replaced(rt: HostRuntime) -> Result<(), Fail> {
+    assert_text(
+        &rt,
+        applied(rt.alloc(), &CHINESE, Width::truncate(9)),
+        REPLACED,
+    )
+}
+
+#[test]
+fn a_priority_may_leave_the_columns(rt: HostRuntime) -> Result<(), Fail> {
+    assert!(rt; begins(rt.alloc(), Never, "┌──────┬───────┬──────┐\n")?);
+    Ok(())
+}

@@ -1,7 +1,0 @@
-//! What no clause says: that calls succeed with ample memory, and what texts become.
-
-mod cells;
-mod measures;
-mod tables;
-mod truncated;
-mod wrapped;
