@@ -1,15 +1,20 @@
 //! A table with the dimension that answers its sizes.
 ghost use Rattle.std.specs.Prelude.{◌≡◌, ◌<◌, length};
 ghost use Rattle.std.specs.List.{slice_index};
-ghost use Rattle.tabled_base.specs.Cells.{columns};
+ghost use Rattle.tabled_base.specs.Cells.{IsInside, cell_at, columns};
+ghost use Rattle.tabled_config.specs.Settings.{rule_at, style_at};
+ghost use Rattle.tabled_grid.specs.Grid.{sheet_by};
+ghost use Rattle.tabled_size.specs.Sheet.{Sheet};
 
-use tabled_base::PeekableRecords;
-use tabled_config::SpannedConfig;
+use crate::content::Content;
+use std::marker::Model;
+use tabled_base::{PeekableRecords, Position};
+use tabled_config::{CellStyle, HorizontalLine, SpannedConfig};
 use tabled_size::Dimension;
 
-/// Records, how they are set, and their sizes.
+/// Records, how they are set, and their sizes. Contracts see the sheet that they make.
 #[derive(Drop)]
-pub(crate) struct Grid<'a, R, D> {
+pub(crate) struct Grid<'a, R: PeekableRecords, D: Dimension> {
     /// The cells.
     pub records: &'a R,
     /// The borders, margins and styles.
@@ -18,21 +23,72 @@ pub(crate) struct Grid<'a, R, D> {
     pub dimension: &'a D,
 }
 
+impl<'a, R: PeekableRecords, D: Dimension> Model for Grid<'a, R, D> {
+    ghost Value = { Sheet };
+
+    ghost view = { λ g. sheet_by (R.cells g.records.now) g.config.now (D.width_at g.dimension.now) (D.height_at g.dimension.now) };
+}
+
 impl<'a, R: PeekableRecords, D: Dimension> Grid<'a, R, D> {
-    ghost use Rattle.tabled_grid.specs.Grid.{sheet_of};
+    /// How it is set.
+    pub fn config(&self) -> &'a SpannedConfig
+        ensures { result.now ≡ self.now.config }
+    {
+        self.config
+    }
+
+    /// How many rows there are.
+    pub fn count_rows(&self) -> usize
+        ensures { result ≡ length self.now.cells }
+    {
+        self.records.count_rows()
+    }
+
+    /// How many cells each row has.
+    pub fn count_columns(&self) -> usize
+        ensures { result ≡ columns self.now.cells }
+    {
+        self.records.count_columns()
+    }
+
+    /// The text of a cell, with its measures.
+    pub fn content(&self, at: Position) -> Content<'a>
+        requires { IsInside self.now.cells at.row at.column }
+        ensures { result.text.now ≡ cell_at self.now.cells at.row at.column }
+    {
+        Content {
+            text: self.records.get_text(at),
+            columns: self.records.get_width(at),
+            lines: self.records.count_lines(at),
+        }
+    }
+
+    /// How the text of a cell stands.
+    pub fn style_at(&self, at: Position) -> CellStyle
+        ensures { result ≡ style_at self.now.config at.row at.column }
+    {
+        self.config.style_at(at.row, at.column)
+    }
+
+    /// The horizontal line above a row, or below the last one, if it is there.
+    pub fn rule_at(&self, index: usize) -> Option<HorizontalLine>
+        ensures { result ≡ rule_at self.now.config (length self.now.cells) index }
+    {
+        self.config.rule_at(self.records.count_rows(), index)
+    }
 
     /// The width of a column, which has to be there.
     pub fn width(&self, column: usize) -> usize
-        requires { column < length (sheet_of R.cells D.width_at D.height_at self.now).widths }
-        ensures { result ≡ slice_index (sheet_of R.cells D.width_at D.height_at self.now).widths column }
+        requires { column < length self.now.widths }
+        ensures { result ≡ slice_index self.now.widths column }
     {
         self.dimension.get_width(column)
     }
 
     /// The height of a row, which has to be there.
     pub fn height(&self, row: usize) -> usize
-        requires { row < length (sheet_of R.cells D.width_at D.height_at self.now).heights }
-        ensures { result ≡ slice_index (sheet_of R.cells D.width_at D.height_at self.now).heights row }
+        requires { row < length self.now.heights }
+        ensures { result ≡ slice_index self.now.heights row }
     {
         self.dimension.get_height(row)
     }

@@ -1,7 +1,6 @@
 //! All lines of a table, one after another.
 ghost use Rattle.std.specs.Prelude.{◌≡◌, ◌<◌, ◌≤◌, length, [], ◌∷◌};
 ghost use Rattle.std.specs.List.{flat_map, join_with_byte, range_with_len, slice_index};
-ghost use Rattle.tabled_grid.specs.Grid.{sheet_of};
 ghost use Rattle.tabled_size.specs.Holds.{IsSized};
 ghost use Rattle.tabled_grid.specs.Kept.{Keeps};
 ghost use Rattle.tabled_grid.specs.Leading.{WritesLines};
@@ -26,13 +25,13 @@ fn put_inner_line<'a, R: PeekableRecords, D: Dimension, S: TextSink>(
     row: usize,
     index: usize,
 ) -> Result<(), TableError>
-    requires sized { IsSized (sheet_of R.cells D.width_at D.height_at grid.now) }
-    requires row_in { row < length (R.cells grid.now.records.now) }
-    requires index_in { index < slice_index (sheet_of R.cells D.width_at D.height_at grid.now).heights row }
-    requires marked { AreKept (R.cells grid.now.records.now) marks.old }
+    requires sized { IsSized grid.now }
+    requires row_in { row < length grid.now.cells }
+    requires index_in { index < slice_index grid.now.heights row }
+    requires marked { AreKept grid.now.cells marks.old }
     ensures printed { WritesLines (S.sent sink.old) begun.old result (S.sent sink.new) begun.new
-        (row_line (sheet_of R.cells D.width_at D.height_at grid.now) row index ∷ []) }
-    ensures marked { AreKept (R.cells grid.now.records.now) marks.new }
+        (row_line grid.now row index ∷ []) }
+    ensures marked { AreKept grid.now.cells marks.new }
 {
     put_break(sink, begun)?;
     put_row_line(sink, grid, marks, row, index)
@@ -47,12 +46,12 @@ fn put_row<'a, R: PeekableRecords, D: Dimension, S: TextSink>(
     marks: &mut Marks<'a>,
     row: usize,
 ) -> Result<(), TableError>
-    requires sized { IsSized (sheet_of R.cells D.width_at D.height_at grid.now) }
-    requires row_in { row < length (R.cells grid.now.records.now) }
-    requires marked { AreKept (R.cells grid.now.records.now) marks.old }
+    requires sized { IsSized grid.now }
+    requires row_in { row < length grid.now.cells }
+    requires marked { AreKept grid.now.cells marks.old }
     ensures printed { WritesLines (S.sent sink.old) begun.old result (S.sent sink.new) begun.new
-        (row_lines (sheet_of R.cells D.width_at D.height_at grid.now) row) }
-    ensures marked { AreKept (R.cells grid.now.records.now) marks.new }
+        (row_lines grid.now row) }
+    ensures marked { AreKept grid.now.cells marks.new }
 {
     'lines: for index in 0..grid.height(row) {
         put_inner_line(sink, begun, grid, marks, row, index)?;
@@ -68,13 +67,13 @@ fn put_rule<R: PeekableRecords, D: Dimension, S: TextSink>(
     kept: &mut KeptLine,
     index: usize,
 ) -> Result<(), TableError>
-    requires sized { IsSized (sheet_of R.cells D.width_at D.height_at grid.now) }
-    requires known { Keeps (sheet_of R.cells D.width_at D.height_at grid.now) kept.old }
+    requires sized { IsSized grid.now }
+    requires known { Keeps grid.now kept.old }
     ensures printed { WritesLines (S.sent sink.old) begun.old result (S.sent sink.new) begun.new
-        (rule (sheet_of R.cells D.width_at D.height_at grid.now) index) }
-    ensures known { Keeps (sheet_of R.cells D.width_at D.height_at grid.now) kept.new }
+        (rule grid.now index) }
+    ensures known { Keeps grid.now kept.new }
 {
-    match grid.config.rule_at(grid.records.count_rows(), index) {
+    match grid.rule_at(index) {
         Some(line) => {
             put_break(sink, begun)?;
             put_kept_line(sink, grid, &line, kept)
@@ -92,14 +91,14 @@ fn put_row_part<'a, R: PeekableRecords, D: Dimension, S: TextSink>(
     marks: &mut Marks<'a>,
     row: usize,
 ) -> Result<(), TableError>
-    requires sized { IsSized (sheet_of R.cells D.width_at D.height_at grid.now) }
-    requires known { Keeps (sheet_of R.cells D.width_at D.height_at grid.now) kept.old }
-    requires row_in { row < length (R.cells grid.now.records.now) }
-    requires marked { AreKept (R.cells grid.now.records.now) marks.old }
+    requires sized { IsSized grid.now }
+    requires known { Keeps grid.now kept.old }
+    requires row_in { row < length grid.now.cells }
+    requires marked { AreKept grid.now.cells marks.old }
     ensures printed { WritesLines (S.sent sink.old) begun.old result (S.sent sink.new) begun.new
-        (row_part (sheet_of R.cells D.width_at D.height_at grid.now) row) }
-    ensures known { Keeps (sheet_of R.cells D.width_at D.height_at grid.now) kept.new }
-    ensures marked { AreKept (R.cells grid.now.records.now) marks.new }
+        (row_part grid.now row) }
+    ensures known { Keeps grid.now kept.new }
+    ensures marked { AreKept grid.now.cells marks.new }
 {
     put_rule(sink, begun, grid, kept, row)?;
     put_row(sink, begun, grid, marks, row)
@@ -112,16 +111,16 @@ fn put_rows<'a, R: PeekableRecords, D: Dimension, S: TextSink>(
     kept: &mut KeptLine,
     marks: &mut Marks<'a>,
 ) -> Result<(), TableError>
-    requires sized { IsSized (sheet_of R.cells D.width_at D.height_at grid.now) }
-    requires known { Keeps (sheet_of R.cells D.width_at D.height_at grid.now) kept.old }
-    requires marked { AreKept (R.cells grid.now.records.now) marks.old }
+    requires sized { IsSized grid.now }
+    requires known { Keeps grid.now kept.old }
+    requires marked { AreKept grid.now.cells marks.old }
     ensures printed { WritesLines (S.sent sink.old) begun.old result (S.sent sink.new) begun.new
-        (flat_map (row_part (sheet_of R.cells D.width_at D.height_at grid.now))
-        (range_with_len 0 (length (R.cells grid.now.records.now)))) }
-    ensures known { Keeps (sheet_of R.cells D.width_at D.height_at grid.now) kept.new }
-    ensures marked { AreKept (R.cells grid.now.records.now) marks.new }
+        (flat_map (row_part grid.now)
+        (range_with_len 0 (length grid.now.cells))) }
+    ensures known { Keeps grid.now kept.new }
+    ensures marked { AreKept grid.now.cells marks.new }
 {
-    'rows: for row in 0..grid.records.count_rows() {
+    'rows: for row in 0..grid.count_rows() {
         put_row_part(sink, begun, grid, kept, marks, row)?;
     }
     Ok(())
@@ -135,18 +134,19 @@ fn put_lines<'a, R: PeekableRecords, D: Dimension, S: TextSink>(
     marks: &mut Marks<'a>,
     whole: usize,
 ) -> Result<(), TableError>
-    requires sized { IsSized (sheet_of R.cells D.width_at D.height_at grid.now) }
-    requires known { Keeps (sheet_of R.cells D.width_at D.height_at grid.now) kept.old }
-    requires marked { AreKept (R.cells grid.now.records.now) marks.old }
+    requires sized { IsSized grid.now }
+    requires known { Keeps grid.now kept.old }
+    requires marked { AreKept grid.now.cells marks.old }
     ensures printed { WritesLines (S.sent sink.old) begun.old result (S.sent sink.new) begun.new
-        (filled_picture (sheet_of R.cells D.width_at D.height_at grid.now) whole) }
-    ensures known { Keeps (sheet_of R.cells D.width_at D.height_at grid.now) kept.new }
-    ensures marked { AreKept (R.cells grid.now.records.now) marks.new }
+        (filled_picture grid.now whole) }
+    ensures known { Keeps grid.now kept.new }
+    ensures marked { AreKept grid.now.cells marks.new }
 {
-    put_margin(sink, begun, grid.config.margin.top, whole)?;
+    let margin = grid.config().margin;
+    put_margin(sink, begun, margin.top, whole)?;
     put_rows(sink, begun, grid, kept, marks)?;
-    put_rule(sink, begun, grid, kept, grid.records.count_rows())?;
-    put_margin(sink, begun, grid.config.margin.bottom, whole)
+    put_rule(sink, begun, grid, kept, grid.count_rows())?;
+    put_margin(sink, begun, margin.bottom, whole)
 }
 
 /// The lines of a table that takes so many columns, joined by line feeds.
@@ -156,10 +156,10 @@ pub(crate) fn put_picture<'a, R: PeekableRecords, D: Dimension, S: TextSink>(
     marks: &mut Marks<'a>,
     whole: usize,
 ) -> Result<(), TableError>
-    requires sized { IsSized (sheet_of R.cells D.width_at D.height_at grid.now) }
-    requires marked { AreKept (R.cells grid.now.records.now) marks.old }
+    requires sized { IsSized grid.now }
+    requires marked { AreKept grid.now.cells marks.old }
     ensures { Writes (S.sent sink.old) result (S.sent sink.new)
-        (join_with_byte 10 (filled_picture (sheet_of R.cells D.width_at D.height_at grid.now) whole)) }
+        (join_with_byte 10 (filled_picture grid.now whole)) }
 {
     let mut begun = false;
     let mut kept = KeptLine::new();

@@ -4,7 +4,6 @@ ghost use Rattle.std.specs.List.{flat_map, range_with_len, slice_index, slice_in
 ghost use Rattle.tabled_base.specs.Cells.{IsInside, cell_at, columns};
 ghost use Rattle.tabled_config.specs.Settings.{style_at};
 ghost use Rattle.tabled_grid.specs.Block.{block};
-ghost use Rattle.tabled_grid.specs.Grid.{sheet_of};
 ghost use Rattle.tabled_size.specs.Holds.{IsSized};
 ghost use Rattle.tabled_grid.specs.Marks.{AreKept};
 ghost use Rattle.tabled_grid.specs.Picture.{cell_piece, row_line, rule_line, rule_piece};
@@ -29,24 +28,17 @@ fn put_cell<'a, R: PeekableRecords, D: Dimension, S: TextSink>(
     at: Position,
     index: usize,
 ) -> Result<(), TableError>
-    requires sized { IsSized (sheet_of R.cells D.width_at D.height_at grid.now) }
-    requires inside { IsInside (R.cells grid.now.records.now) at.row at.column }
-    requires index_in { index < slice_index (sheet_of R.cells D.width_at D.height_at grid.now).heights at.row }
-    requires marked { AreKept (R.cells grid.now.records.now) marks.old }
+    requires sized { IsSized grid.now }
+    requires inside { IsInside grid.now.cells at.row at.column }
+    requires index_in { index < slice_index grid.now.heights at.row }
+    requires marked { AreKept grid.now.cells marks.old }
     ensures printed { Writes (S.sent sink.old) result (S.sent sink.new)
-        (cell_piece (sheet_of R.cells D.width_at D.height_at grid.now) at.row index at.column) }
-    ensures marked { AreKept (R.cells grid.now.records.now) marks.new }
+        (cell_piece grid.now at.row index at.column) }
+    ensures marked { AreKept grid.now.cells marks.new }
 {
-    put_piece(
-        sink,
-        grid.config.has_bar(at.column),
-        grid.config.borders.vertical,
-    )?;
-    let content = Content {
-        text: grid.records.get_text(at),
-        columns: grid.records.get_width(at),
-        lines: grid.records.count_lines(at),
-    };
+    let config = grid.config();
+    put_piece(sink, config.has_bar(at.column), config.borders.vertical)?;
+    let content = grid.content(at);
     put_content_line(sink, grid, marks, &content, at, index)
 }
 
@@ -59,18 +51,18 @@ fn put_content_line<'a, R: PeekableRecords, D: Dimension, S: TextSink>(
     at: Position,
     index: usize,
 ) -> Result<(), TableError>
-    requires sized { IsSized (sheet_of R.cells D.width_at D.height_at grid.now) }
-    requires inside { IsInside (R.cells grid.now.records.now) at.row at.column }
-    requires index_in { index < slice_index (sheet_of R.cells D.width_at D.height_at grid.now).heights at.row }
-    requires text { content.now.text.now ≡ cell_at (R.cells grid.now.records.now) at.row at.column }
-    requires marked { AreKept (R.cells grid.now.records.now) marks.old }
+    requires sized { IsSized grid.now }
+    requires inside { IsInside grid.now.cells at.row at.column }
+    requires index_in { index < slice_index grid.now.heights at.row }
+    requires text { content.now.text.now ≡ cell_at grid.now.cells at.row at.column }
+    requires marked { AreKept grid.now.cells marks.old }
     ensures printed { Writes (S.sent sink.old) result (S.sent sink.new)
-        (slice_index_or (block (style_at grid.now.config.now at.row at.column)
-        (slice_index (sheet_of R.cells D.width_at D.height_at grid.now).widths at.column) (slice_index (sheet_of R.cells D.width_at D.height_at grid.now).heights at.row)
+        (slice_index_or (block (style_at grid.now.config at.row at.column)
+        (slice_index grid.now.widths at.column) (slice_index grid.now.heights at.row)
         content.now.text.now) index []) }
-    ensures marked { AreKept (R.cells grid.now.records.now) marks.new }
+    ensures marked { AreKept grid.now.cells marks.new }
 {
-    let style = grid.config.style_at(at.row, at.column);
+    let style = grid.style_at(at);
     let (width, height) = (grid.width(at.column), grid.height(at.row));
     let has_some = content.lines > 1;
     let mut mark = if has_some {
@@ -92,16 +84,16 @@ fn put_cells<'a, R: PeekableRecords, D: Dimension, S: TextSink>(
     row: usize,
     index: usize,
 ) -> Result<(), TableError>
-    requires sized { IsSized (sheet_of R.cells D.width_at D.height_at grid.now) }
-    requires row_in { row < length (R.cells grid.now.records.now) }
-    requires index_in { index < slice_index (sheet_of R.cells D.width_at D.height_at grid.now).heights row }
-    requires marked { AreKept (R.cells grid.now.records.now) marks.old }
+    requires sized { IsSized grid.now }
+    requires row_in { row < length grid.now.cells }
+    requires index_in { index < slice_index grid.now.heights row }
+    requires marked { AreKept grid.now.cells marks.old }
     ensures printed { Writes (S.sent sink.old) result (S.sent sink.new)
-        (flat_map (cell_piece (sheet_of R.cells D.width_at D.height_at grid.now) row index)
-        (range_with_len 0 (columns (R.cells grid.now.records.now)))) }
-    ensures marked { AreKept (R.cells grid.now.records.now) marks.new }
+        (flat_map (cell_piece grid.now row index)
+        (range_with_len 0 (columns grid.now.cells))) }
+    ensures marked { AreKept grid.now.cells marks.new }
 {
-    'cells: for column in 0..grid.records.count_columns() {
+    'cells: for column in 0..grid.count_columns() {
         put_cell(sink, grid, marks, Position { row, column }, index)?;
     }
     Ok(())
@@ -115,17 +107,18 @@ pub(crate) fn put_row_line<'a, R: PeekableRecords, D: Dimension, S: TextSink>(
     row: usize,
     index: usize,
 ) -> Result<(), TableError>
-    requires sized { IsSized (sheet_of R.cells D.width_at D.height_at grid.now) }
-    requires row_in { row < length (R.cells grid.now.records.now) }
-    requires index_in { index < slice_index (sheet_of R.cells D.width_at D.height_at grid.now).heights row }
-    requires marked { AreKept (R.cells grid.now.records.now) marks.old }
+    requires sized { IsSized grid.now }
+    requires row_in { row < length grid.now.cells }
+    requires index_in { index < slice_index grid.now.heights row }
+    requires marked { AreKept grid.now.cells marks.old }
     ensures printed { Writes (S.sent sink.old) result (S.sent sink.new)
-        (row_line (sheet_of R.cells D.width_at D.height_at grid.now) row index) }
-    ensures marked { AreKept (R.cells grid.now.records.now) marks.new }
+        (row_line grid.now row index) }
+    ensures marked { AreKept grid.now.cells marks.new }
 {
-    put_left(sink, grid.config, grid.config.borders.left)?;
+    let config = grid.config();
+    put_left(sink, config, config.borders.left)?;
     put_cells(sink, grid, marks, row, index)?;
-    put_right(sink, grid.config, grid.config.borders.right)
+    put_right(sink, config, config.borders.right)
 }
 
 fn put_rule_piece<R: PeekableRecords, D: Dimension, S: TextSink>(
@@ -134,12 +127,12 @@ fn put_rule_piece<R: PeekableRecords, D: Dimension, S: TextSink>(
     line: &HorizontalLine,
     column: usize,
 ) -> Result<(), TableError>
-    requires sized { IsSized (sheet_of R.cells D.width_at D.height_at grid.now) }
-    requires column_in { column < columns (R.cells grid.now.records.now) }
+    requires sized { IsSized grid.now }
+    requires column_in { column < columns grid.now.cells }
     ensures { Writes (S.sent sink.old) result (S.sent sink.new)
-        (rule_piece (sheet_of R.cells D.width_at D.height_at grid.now) line.now column) }
+        (rule_piece grid.now line.now column) }
 {
-    put_piece(sink, grid.config.has_bar(column), line.intersection)?;
+    put_piece(sink, grid.config().has_bar(column), line.intersection)?;
     put_fill(sink, line.main.unwrap_or(' '), grid.width(column))
 }
 
@@ -148,12 +141,12 @@ fn put_rule_pieces<R: PeekableRecords, D: Dimension, S: TextSink>(
     grid: &Grid<'_, R, D>,
     line: &HorizontalLine,
 ) -> Result<(), TableError>
-    requires sized { IsSized (sheet_of R.cells D.width_at D.height_at grid.now) }
+    requires sized { IsSized grid.now }
     ensures { Writes (S.sent sink.old) result (S.sent sink.new)
-        (flat_map (rule_piece (sheet_of R.cells D.width_at D.height_at grid.now) line.now)
-        (range_with_len 0 (columns (R.cells grid.now.records.now)))) }
+        (flat_map (rule_piece grid.now line.now)
+        (range_with_len 0 (columns grid.now.cells))) }
 {
-    'pieces: for column in 0..grid.records.count_columns() {
+    'pieces: for column in 0..grid.count_columns() {
         put_rule_piece(sink, grid, line, column)?;
     }
     Ok(())
@@ -165,11 +158,11 @@ pub(crate) fn put_rule_line<R: PeekableRecords, D: Dimension, S: TextSink>(
     grid: &Grid<'_, R, D>,
     line: &HorizontalLine,
 ) -> Result<(), TableError>
-    requires sized { IsSized (sheet_of R.cells D.width_at D.height_at grid.now) }
+    requires sized { IsSized grid.now }
     ensures { Writes (S.sent sink.old) result (S.sent sink.new)
-        (rule_line (sheet_of R.cells D.width_at D.height_at grid.now) line.now) }
+        (rule_line grid.now line.now) }
 {
-    put_left(sink, grid.config, line.left)?;
+    put_left(sink, grid.config(), line.left)?;
     put_rule_pieces(sink, grid, line)?;
-    put_right(sink, grid.config, line.right)
+    put_right(sink, grid.config(), line.right)
 }

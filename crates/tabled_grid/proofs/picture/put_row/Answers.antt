@@ -1,6 +1,5 @@
 use Rattle.std.proofs.Common.{map, subst}
 use Rattle.std.specs.List.{range_with_len}
-use Rattle.tabled_grid.specs.Grid.{sheet_of}
 use Rattle.tabled_grid.specs.Leading.{WritesLines}
 use Rattle.tabled_grid.specs.Picture.{row_line, row_lines}
 use Rattle.tabled_grid.proofs.Each.{map-more, map-rest}
@@ -10,7 +9,7 @@ use Rattle.tabled_grid.proofs.picture.put_row.Goals as goal
 pub returns-in_err-put_inner_line-clause-printed : goal.returns-in_err-put_inner_line-clause-printed
 unfolding row_lines
 returns-in_err-put_inner_line-clause-printed g c =
-    let f = row_line (sheet_of g.R.ExactRecords.cells g.D.Dimension.width_at g.D.Dimension.height_at c.args.grid.now) c.args.row in
+    let f = row_line c.args.grid.now c.args.row in
     subst (λ n. WritesLines (g.S.TextSink.sent c.args.sink.now) c.args.begun.now c.from_residual.result (g.S.TextSink.sent c.put_inner_line.new.sink) c.put_inner_line.new.begun (map f (range_with_len 0 n)))
     c.height-index-end.ensures
     (lines-stopped _ _ _ _ _ c.lines.invariant.printed c.in_err-put_inner_line.ensures.printed c.from_residual.ensures.1 (map-rest f _ _ c.lines-test.true))
@@ -19,6 +18,6 @@ pub lines-preserved : goal.lines-preserved
 lines-preserved g c =
     record {
       printed = lines-further c.lines.invariant.printed c.in_ok-put_inner_line.ensures.printed
-          (map-more (row_line (sheet_of g.R.ExactRecords.cells g.D.Dimension.width_at g.D.Dimension.height_at c.args.grid.now) c.args.row) _);
+          (map-more (row_line c.args.grid.now c.args.row) _);
       marked = c.in_ok-put_inner_line.ensures.marked;
     }

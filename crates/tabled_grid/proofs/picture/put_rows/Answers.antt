@@ -1,4 +1,3 @@
-use Rattle.tabled_grid.specs.Grid.{sheet_of}
 use Rattle.tabled_grid.specs.Picture.{row_part}
 use Rattle.tabled_grid.proofs.Each.{each-more, each-rest}
 use Rattle.tabled_grid.proofs.Leading.{lines-further, lines-stopped}
@@ -8,13 +7,13 @@ pub returns-in_err-put_row_part-clause-printed : goal.returns-in_err-put_row_par
 returns-in_err-put_row_part-clause-printed g c =
     let within = rw c.count_rows-row-end.ensures at c.rows-test.true in
     lines-stopped _ _ _ _ _ c.rows.invariant.printed c.in_err-put_row_part.ensures.printed c.from_residual.ensures.1
-    (each-rest (row_part (sheet_of g.R.ExactRecords.cells g.D.Dimension.width_at g.D.Dimension.height_at c.args.grid.now)) _ _ within)
+    (each-rest (row_part c.args.grid.now) _ _ within)
 
 pub rows-preserved : goal.rows-preserved
 rows-preserved g c =
     record {
       printed = lines-further c.rows.invariant.printed c.in_ok-put_row_part.ensures.printed
-          (each-more (row_part (sheet_of g.R.ExactRecords.cells g.D.Dimension.width_at g.D.Dimension.height_at c.args.grid.now)) _);
+          (each-more (row_part c.args.grid.now) _);
       known = c.in_ok-put_row_part.ensures.known;
       marked = c.in_ok-put_row_part.ensures.marked;
     }

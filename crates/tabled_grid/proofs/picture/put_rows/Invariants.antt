@@ -1,5 +1,4 @@
 use Rattle.std.specs.List.{flat_map, range_with_len}
-use Rattle.tabled_grid.specs.Grid.{sheet_of}
 use Rattle.tabled_grid.specs.Kept.{Keeps}
 use Rattle.tabled_grid.specs.Leading.{LineSends}
 use Rattle.tabled_grid.specs.Marks.{AreKept}
@@ -10,7 +9,7 @@ abbrev pub invariant-rows : goal.invariant-rows
 invariant-rows g l =
     record {
       printed : LineSends (g.S.TextSink.sent l.initial.sink) l.initial.begun (g.S.TextSink.sent l.sink) l.begun
-          (flat_map (row_part (sheet_of g.R.ExactRecords.cells g.D.Dimension.width_at g.D.Dimension.height_at l.grid)) (range_with_len 0 l.row));
-      known : Keeps (sheet_of g.R.ExactRecords.cells g.D.Dimension.width_at g.D.Dimension.height_at l.grid) l.kept;
-      marked : AreKept (g.R.ExactRecords.cells l.grid.records.now) l.marks;
+          (flat_map (row_part l.grid) (range_with_len 0 l.row));
+      known : Keeps l.grid l.kept;
+      marked : AreKept l.grid.cells l.marks;
     }

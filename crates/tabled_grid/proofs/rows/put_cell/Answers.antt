@@ -4,7 +4,6 @@ use Rattle.tabled_grid.proofs.Sending.{finished, stopped-first}
 use Rattle.tabled_base.specs.Cells.{cell_at}
 use Rattle.tabled_grid.specs.Block.{block}
 use Rattle.tabled_config.specs.Settings.{style_at}
-use Rattle.tabled_grid.specs.Grid.{sheet_of}
 use Rattle.tabled_grid.specs.Picture.{cell_piece}
 use Rattle.tabled_grid.proofs.rows.put_cell.Goals as goal
 
@@ -13,12 +12,12 @@ unfolding cell_piece
 returns-in_err-put_piece-clause-printed g c =
     stopped-first _ _
     (let grid = c.args.grid.now in
-    let t = sheet_of g.R.ExactRecords.cells g.D.Dimension.width_at g.D.Dimension.height_at grid in
-    slice_index_or (block (style_at grid.config.now c.args.at.row c.args.at.column) (slice_index t.widths c.args.at.column) (slice_index t.heights c.args.at.row) (cell_at (g.R.ExactRecords.cells grid.records.now) c.args.at.row c.args.at.column)) c.args.index [])
-    c.in_err-put_piece.ensures c.from_residual.ensures.1 (rw c.has_bar.ensures refl)
+    let t = grid in
+    slice_index_or (block (style_at grid.config c.args.at.row c.args.at.column) (slice_index t.widths c.args.at.column) (slice_index t.heights c.args.at.row) (cell_at grid.cells c.args.at.row c.args.at.column)) c.args.index [])
+    c.in_err-put_piece.ensures c.from_residual.ensures.1 (rw (c.has_bar.ensures, c.config-config.ensures) refl)
 
 pub returns-clause-printed : goal.returns-clause-printed
 unfolding cell_piece
 returns-clause-printed g c =
     finished _ _ _ _ c.in_ok-put_piece.ensures c.put_content_line.ensures.printed
-    (rw (c.has_bar.ensures, c.get_text.ensures) refl)
+    (rw (c.has_bar.ensures, c.config-config.ensures, c.content-content.ensures) refl)

@@ -1,19 +1,18 @@
 use Rattle.tabled_grid.proofs.Sending.{stopped, further}
-use Rattle.tabled_grid.specs.Grid.{sheet_of}
 use Rattle.tabled_grid.specs.Picture.{cell_piece}
 use Rattle.tabled_grid.proofs.Each.{each-more, each-rest}
 use Rattle.tabled_grid.proofs.rows.put_cells.Goals as goal
 
 pub returns-in_err-put_cell-clause-printed : goal.returns-in_err-put_cell-clause-printed
 returns-in_err-put_cell-clause-printed g c =
-    let within = rw c.count_columns-column-end.ensures.columns at c.cells-test.true in
+    let within = rw c.count_columns-column-end.ensures at c.cells-test.true in
     stopped _ _ _ c.cells.invariant.printed c.in_err-put_cell.ensures.printed c.from_residual.ensures.1
-    (each-rest (cell_piece (sheet_of g.R.ExactRecords.cells g.D.Dimension.width_at g.D.Dimension.height_at c.args.grid.now) c.args.row c.args.index) _ _ within)
+    (each-rest (cell_piece c.args.grid.now c.args.row c.args.index) _ _ within)
 
 pub cells-preserved : goal.cells-preserved
 cells-preserved g c =
     record {
       printed = further c.cells.invariant.printed c.in_ok-put_cell.ensures.printed
-          (each-more (cell_piece (sheet_of g.R.ExactRecords.cells g.D.Dimension.width_at g.D.Dimension.height_at c.args.grid.now) c.args.row c.args.index) _);
+          (each-more (cell_piece c.args.grid.now c.args.row c.args.index) _);
       marked = c.in_ok-put_cell.ensures.marked;
     }
