@@ -2,14 +2,14 @@
 ghost use Rattle.std.specs.Prelude.{◌≡◌, ◌<◌, length};
 ghost use Rattle.std.specs.List.{slice_index};
 ghost use Rattle.tabled_base.specs.Cells.{IsInside, cell_at, columns};
-ghost use Rattle.tabled_config.specs.Settings.{rule_at, style_at};
+ghost use Rattle.tabled_config.specs.Settings.{frame, rule_at, style_at};
 ghost use Rattle.tabled_grid.specs.Grid.{sheet_by};
 ghost use Rattle.tabled_size.specs.Sheet.{Sheet};
 
 use crate::content::Content;
 use std::marker::Model;
 use tabled_base::{PeekableRecords, Position};
-use tabled_config::{CellStyle, HorizontalLine, SpannedConfig};
+use tabled_config::{CellStyle, Frame, HorizontalLine, SpannedConfig};
 use tabled_size::Dimension;
 
 /// Records, how they are set, and their sizes. Contracts see the sheet that they make.
@@ -21,20 +21,35 @@ pub(crate) struct Grid<'a, R: PeekableRecords, D: Dimension> {
     pub config: &'a SpannedConfig,
     /// The columns that each column takes and the lines that each row takes, padding included.
     pub dimension: &'a D,
+    around: Frame,
 }
 
 impl<'a, R: PeekableRecords, D: Dimension> Model for Grid<'a, R, D> {
     ghost Value = { Sheet };
 
     ghost view = { λ g. sheet_by (R.cells g.records.now) g.config.now (D.width_at g.dimension.now) (D.height_at g.dimension.now) };
+
+    ghost invariant = { λ g. g.around ≡ frame g.config.now };
 }
 
 impl<'a, R: PeekableRecords, D: Dimension> Grid<'a, R, D> {
-    /// How it is set.
-    pub fn config(&self) -> &'a SpannedConfig
-        ensures { result.now ≡ self.now.config }
+    /// Records under settings, with the sizes that a dimension answers. Their frame is taken once.
+    pub fn new(records: &'a R, config: &'a SpannedConfig, dimension: &'a D) -> Grid<'a, R, D>
+        ensures { result ≡ sheet_by (R.cells records.now) config.now (D.width_at dimension.now) (D.height_at dimension.now) }
     {
-        self.config
+        Grid {
+            records,
+            config,
+            dimension,
+            around: config.frame(),
+        }
+    }
+
+    /// What stands around and between the cells of any line.
+    pub fn frame(&self) -> &Frame
+        ensures { result.now ≡ frame self.now.config }
+    {
+        &self.around
     }
 
     /// How many rows there are.

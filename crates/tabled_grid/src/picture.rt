@@ -142,7 +142,7 @@ fn put_lines<'a, R: PeekableRecords, D: Dimension, S: TextSink>(
     ensures known { Keeps grid.now kept.new }
     ensures marked { AreKept grid.now.cells marks.new }
 {
-    let margin = grid.config().margin;
+    let margin = grid.frame().margin;
     put_margin(sink, begun, margin.top, whole)?;
     put_rows(sink, begun, grid, kept, marks)?;
     put_rule(sink, begun, grid, kept, grid.count_rows())?;

@@ -133,11 +133,7 @@ pub fn print_grid<R: PeekableRecords, D: Dimension, S: TextSink>(
     if is_empty(records) {
         return Ok(());
     }
-    let grid = Grid {
-        records,
-        config,
-        dimension,
-    };
+    let grid = Grid::new(records, config, dimension);
     check_sizes(&grid)?;
     check_narrow(&grid)?;
     let mut marks = Marks::new();

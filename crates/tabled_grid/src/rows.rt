@@ -36,8 +36,8 @@ fn put_cell<'a, R: PeekableRecords, D: Dimension, S: TextSink>(
         (cell_piece grid.now at.row index at.column) }
     ensures marked { AreKept grid.now.cells marks.new }
 {
-    let config = grid.config();
-    put_piece(sink, config.has_bar(at.column), config.borders.vertical)?;
+    let frame = grid.frame();
+    put_piece(sink, frame.has_bar(at.column), frame.inner.main)?;
     let content = grid.content(at);
     put_content_line(sink, grid, marks, &content, at, index)
 }
@@ -115,10 +115,10 @@ pub(crate) fn put_row_line<'a, R: PeekableRecords, D: Dimension, S: TextSink>(
         (row_line grid.now row index) }
     ensures marked { AreKept grid.now.cells marks.new }
 {
-    let config = grid.config();
-    put_left(sink, config, config.borders.left)?;
+    let frame = grid.frame();
+    put_left(sink, frame, frame.left.main)?;
     put_cells(sink, grid, marks, row, index)?;
-    put_right(sink, config, config.borders.right)
+    put_right(sink, frame, frame.right.main)
 }
 
 fn put_rule_piece<R: PeekableRecords, D: Dimension, S: TextSink>(
@@ -132,7 +132,8 @@ fn put_rule_piece<R: PeekableRecords, D: Dimension, S: TextSink>(
     ensures { Writes (S.sent sink.old) result (S.sent sink.new)
         (rule_piece grid.now line.now column) }
 {
-    put_piece(sink, grid.config().has_bar(column), line.intersection)?;
+    let there = grid.frame().has_bar(column);
+    put_piece(sink, there, line.intersection.unwrap_or(' '))?;
     put_fill(sink, line.main.unwrap_or(' '), grid.width(column))
 }
 
@@ -162,7 +163,8 @@ pub(crate) fn put_rule_line<R: PeekableRecords, D: Dimension, S: TextSink>(
     ensures { Writes (S.sent sink.old) result (S.sent sink.new)
         (rule_line grid.now line.now) }
 {
-    put_left(sink, grid.config(), line.left)?;
+    let frame = grid.frame();
+    put_left(sink, frame, line.left.unwrap_or(' '))?;
     put_rule_pieces(sink, grid, line)?;
-    put_right(sink, grid.config(), line.right)
+    put_right(sink, frame, line.right.unwrap_or(' '))
 }

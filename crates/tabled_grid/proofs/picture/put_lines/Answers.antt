@@ -1,4 +1,5 @@
 use Rattle.std.proofs.Common.{refl, append_assoc, replicate}
+use Rattle.tabled_config.specs.Settings.{frame}
 use Rattle.tabled_grid.specs.Fill.{fill}
 use Rattle.tabled_grid.specs.Picture.{filled_picture}
 use Rattle.tabled_grid.proofs.Leading.{lines-further, lines-finished, lines-stopped, lines-stopped-first}
@@ -6,24 +7,24 @@ use Rattle.tabled_grid.proofs.picture.put_lines.Goals as goal
 
 pub returns-in_err-put_margin-clause-printed : goal.returns-in_err-put_margin-clause-printed
 unfolding filled_picture
-returns-in_err-put_margin-clause-printed g c = lines-stopped-first _ _ _ _ _ (rw c.config.ensures at c.in_err-put_margin.ensures) c.from_residual.ensures.1 refl
+returns-in_err-put_margin-clause-printed g c = lines-stopped-first _ _ _ _ _ (rw c.frame.ensures at c.in_err-put_margin.ensures) c.from_residual.ensures.1 refl
 
 pub returns-in_err-put_rows-clause-printed : goal.returns-in_err-put_rows-clause-printed
 unfolding filled_picture
 returns-in_err-put_rows-clause-printed g c =
-    lines-stopped _ _ _ _ _ (rw c.config.ensures at c.in_ok-put_margin.ensures) c.in_err-put_rows.ensures.printed c.from_residual-in_err-put_rows.ensures.1 refl
+    lines-stopped _ _ _ _ _ (rw c.frame.ensures at c.in_ok-put_margin.ensures) c.in_err-put_rows.ensures.printed c.from_residual-in_err-put_rows.ensures.1 refl
 
 pub returns-in_err-put_rule-clause-printed : goal.returns-in_err-put_rule-clause-printed
 unfolding filled_picture
 returns-in_err-put_rule-clause-printed g c =
     lines-stopped _
-    (let margin = c.args.grid.now.config.margin.bottom in replicate margin.size (fill margin.fill c.args.whole))
+    (let margin = (frame c.args.grid.now.config).margin.bottom in replicate margin.size (fill margin.fill c.args.whole))
     _ _ _ (lines-further c.in_ok-put_margin.ensures c.in_ok-put_rows.ensures.printed refl) c.in_err-put_rule.ensures.printed c.from_residual-in_err-put_rule.ensures.1
-    (rw (c.config.ensures, c.count_rows.ensures, append_assoc) refl)
+    (rw (c.frame.ensures, c.count_rows.ensures, append_assoc) refl)
 
 pub returns-clause-printed : goal.returns-clause-printed
 unfolding filled_picture
 returns-clause-printed g c =
     lines-finished _ _ _ _ _
     (lines-further (lines-further c.in_ok-put_margin.ensures c.in_ok-put_rows.ensures.printed refl) c.in_ok-put_rule.ensures.printed refl) c.put_margin-2.ensures
-    (rw (c.config.ensures, c.count_rows.ensures, append_assoc, append_assoc) refl)
+    (rw (c.frame.ensures, c.count_rows.ensures, append_assoc, append_assoc) refl)

@@ -14,10 +14,10 @@ returns-in_err-put_piece-clause-printed g c =
     (let grid = c.args.grid.now in
     let t = grid in
     slice_index_or (block (style_at grid.config c.args.at.row c.args.at.column) (slice_index t.widths c.args.at.column) (slice_index t.heights c.args.at.row) (cell_at grid.cells c.args.at.row c.args.at.column)) c.args.index [])
-    c.in_err-put_piece.ensures c.from_residual.ensures.1 (rw (c.has_bar.ensures, c.config-config.ensures) refl)
+    c.in_err-put_piece.ensures c.from_residual.ensures.1 (rw (c.has_bar.ensures, c.frame-frame.ensures) refl)
 
 pub returns-clause-printed : goal.returns-clause-printed
 unfolding cell_piece
 returns-clause-printed g c =
     finished _ _ _ _ c.in_ok-put_piece.ensures c.put_content_line.ensures.printed
-    (rw (c.has_bar.ensures, c.config-config.ensures, c.content-content.ensures) refl)
+    (rw (c.has_bar.ensures, c.frame-frame.ensures, c.content-content.ensures) refl)
