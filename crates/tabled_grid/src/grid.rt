@@ -4,12 +4,14 @@ ghost use Rattle.std.specs.List.{slice_index};
 ghost use Rattle.tabled_base.specs.Cells.{IsInside, cell_at, columns};
 ghost use Rattle.tabled_config.specs.Settings.{frame, rule_at, style_at};
 ghost use Rattle.tabled_grid.specs.Grid.{sheet_by};
+ghost use Rattle.tabled_size.specs.Holds.{IsSized};
 ghost use Rattle.tabled_size.specs.Sheet.{Sheet};
 
+use crate::block::CellBlock;
 use crate::content::Content;
 use std::marker::Model;
 use tabled_base::{PeekableRecords, Position};
-use tabled_config::{CellStyle, Frame, HorizontalLine, SpannedConfig};
+use tabled_config::{Frame, HorizontalLine, SpannedConfig};
 use tabled_size::Dimension;
 
 /// Records, how they are set, and their sizes. Contracts see the sheet that they make.
@@ -67,7 +69,7 @@ impl<'a, R: PeekableRecords, D: Dimension> Grid<'a, R, D> {
     }
 
     /// The text of a cell, with its measures.
-    pub fn content(&self, at: Position) -> Content<'a>
+    fn content(&self, at: Position) -> Content<'a>
         requires { IsInside self.now.cells at.row at.column }
         ensures { result.text.now ≡ cell_at self.now.cells at.row at.column }
     {
@@ -78,11 +80,21 @@ impl<'a, R: PeekableRecords, D: Dimension> Grid<'a, R, D> {
         }
     }
 
-    /// How the text of a cell stands.
-    pub fn style_at(&self, at: Position) -> CellStyle
-        ensures { result ≡ style_at self.now.config at.row at.column }
+    /// A cell as it is laid out. Its width and its height have to be there.
+    pub fn block(&self, at: Position) -> CellBlock<'a>
+        requires sized { IsSized self.now }
+        requires inside { IsInside self.now.cells at.row at.column }
+        ensures style { result.style ≡ style_at self.now.config at.row at.column }
+        ensures width { result.width ≡ slice_index self.now.widths at.column }
+        ensures height { result.height ≡ slice_index self.now.heights at.row }
+        ensures text { result.content.text.now ≡ cell_at self.now.cells at.row at.column }
     {
-        self.config.style_at(at.row, at.column)
+        CellBlock {
+            style: self.config.style_at(at.row, at.column),
+            width: self.width(at.column),
+            height: self.height(at.row),
+            content: self.content(at),
+        }
     }
 
     /// The horizontal line above a row, or below the last one, if it is there.

@@ -103,13 +103,13 @@ fn check_totals<R: PeekableRecords, D: Dimension>(
 #[tactic(auto, unfolding(crate::specs::Picture::picture))]
 pub(crate) fn print_held<'a, R: PeekableRecords, D: Dimension, S: TextSink>(
     sink: &mut S,
-    grid: &Grid<'a, R, D>,
-    marks: &mut Marks<'a>,
+    grid: &'a Grid<'a, R, D>,
+    marks: Marks<'a>,
 ) -> Result<(), TableError>
     requires filled { is_empty grid.now.cells ≡ false }
     requires sized { IsSized grid.now }
     requires holds { Holds grid.now }
-    requires marked { AreKept grid.now.cells marks.old }
+    requires marked { AreKept grid.now.cells marks }
     ensures { Prints false grid.now (S.sent sink.old) result (S.sent sink.new) }
 {
     let whole = check_totals(grid)?;
@@ -136,6 +136,5 @@ pub fn print_grid<R: PeekableRecords, D: Dimension, S: TextSink>(
     let grid = Grid::new(records, config, dimension);
     check_sizes(&grid)?;
     check_narrow(&grid)?;
-    let mut marks = Marks::new();
-    print_held(sink, &grid, &mut marks)
+    print_held(sink, &grid, Marks::new())
 }

@@ -110,8 +110,7 @@ pub fn print_standing<R: PeekableRecords, S: TextSink>(
     check_stored(records, config, stored)?;
     if stored.is_complete() {
         let grid = Grid::new(records, config, stored);
-        let mut marks = Marks::new();
-        return print_held(sink, &grid, &mut marks);
+        return print_held(sink, &grid, Marks::new());
     }
     print_filled_in(records, config, stored, sink)
 }
@@ -131,9 +130,9 @@ fn print_filled_in<R: PeekableRecords, S: TextSink>(
 {
     let mut sizes = stored.clone()?;
     sizes.estimate(records, config)?;
-    let mut marks = Marks::for_columns(sizes.allocator(), records.count_columns())?;
+    let marks = Marks::for_columns(sizes.allocator(), records.count_columns())?;
     let grid = Grid::new(records, config, &sizes);
-    print_held(sink, &grid, &mut marks)
+    print_held(sink, &grid, marks)
 }
 
 /// Prints records under a configuration, with the sizes that their texts ask for. Refused for memory and

@@ -39,4 +39,4 @@ returns g c =
     subst Q (ap not (sym (sym c.is_complete.ensures ∙ c.if-is_complete.false))) c.print_filled_in.ensures
 
 pub print_held-requires-clause-marked : goal.print_held-requires-clause-marked
-print_held-requires-clause-marked g c = c.new-marks.ensures c.new-grid.result.cells
+print_held-requires-clause-marked g c = c.new.ensures c.new-grid.result.cells

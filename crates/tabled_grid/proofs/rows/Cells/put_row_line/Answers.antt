@@ -1,7 +1,7 @@
 use Rattle.std.proofs.Common.{refl, append_assoc}
 use Rattle.tabled_grid.proofs.Sending.{further, finished, stopped, stopped-first}
 use Rattle.tabled_grid.specs.Picture.{row_line}
-use Rattle.tabled_grid.proofs.rows.put_row_line.Goals as goal
+use Rattle.tabled_grid.proofs.rows.Cells.put_row_line.Goals as goal
 
 pub returns-in_err-put_left-clause-printed : goal.returns-in_err-put_left-clause-printed
 unfolding row_line
