@@ -1,7 +1,11 @@
 -- Which lines of a frame are there, and their characters.
-use Rattle.std.specs.Prelude.{ℕ, ◌==◌, if◌then◌else◌, Bool, ◌||◌, Option, Some, None, is_some}
+use Rattle.std.specs.Prelude.{ℕ, ◌==◌, if◌then◌else◌, Bool, false, ◌||◌, Option, Some, None, is_some, unwrap_or}
 use Rattle.tabled_config.specs.declared.borders.Borders.{Borders}
 use Rattle.tabled_config.specs.declared.borders.HorizontalLine.{HorizontalLine}
+use Rattle.tabled_config.specs.declared.frame.Frame.{Frame}
+use Rattle.tabled_config.specs.declared.frame.VerticalLine.{VerticalLine}
+use Rattle.tabled_config.specs.declared.sides.Indent.{Indent}
+use Rattle.tabled_config.specs.declared.sides.Sides.{Sides}
 
 -- no line at all
 abbrev pub no_borders : {T : Type 0} → Borders T
@@ -33,6 +37,23 @@ has_right b = is_some b.right || (is_some b.top_right || (is_some b.bottom_right
 
 abbrev pub has_inner : Borders ℕ → Bool
 has_inner b = is_some b.vertical || (is_some b.intersection || (is_some b.top_intersection || is_some b.bottom_intersection))
+
+-- a vertical line, if it stands, with its character on the lines of rows; a missing one is a space
+abbrev pub vertical_line : Bool → Option ℕ → VerticalLine
+vertical_line there c = record { there = there; main = unwrap_or c 32 }
+
+-- what stands around and between the cells of any line
+abbrev pub frame_of : Borders ℕ → Sides Indent → Frame
+frame_of b margin = record {
+  margin = margin;
+  left = vertical_line (has_left b) b.left;
+  inner = vertical_line (has_inner b) b.vertical;
+  right = vertical_line (has_right b) b.right;
+}
+
+-- whether a vertical line stands before a column, and behind another one
+abbrev pub has_bar : Frame → ℕ → Bool
+has_bar frame column = if column == 0 then false else frame.inner.there
 
 -- the characters of the three horizontal lines
 abbrev pub top_line : Borders ℕ → HorizontalLine

@@ -1,10 +1,11 @@
 -- What a configuration says of each place. The layers above read it by these words alone.
-use Rattle.std.specs.Prelude.{ℕ, ◌==◌, if◌then◌else◌, Bool, false, Option, Some, None}
+use Rattle.std.specs.Prelude.{ℕ, Option, Some, None}
 use Rattle.tabled_config.specs.declared.borders.HorizontalLine.{HorizontalLine}
+use Rattle.tabled_config.specs.declared.frame.Frame.{Frame}
 use Rattle.tabled_config.specs.declared.spanned.CellStyle.{CellStyle}
 use Rattle.tabled_config.specs.declared.spanned.SpannedConfig.{SpannedConfig}
 use Rattle.tabled_entity.specs.Changes.{setting_at}
-use Rattle.tabled_config.specs.Frame.{border_at, has_inner}
+use Rattle.tabled_config.specs.Frame.{border_at, frame_of}
 use Rattle.tabled_config.specs.Lines.{line_set}
 
 -- how the text of a cell stands in its place
@@ -26,6 +27,6 @@ in_place_of None border = border
 unfoldable pub rule_at : SpannedConfig → ℕ → ℕ → Option HorizontalLine
 rule_at config rows i = in_place_of (line_set config.lines i) (border_at config.borders rows i)
 
--- whether a vertical line stands before a column; lines set by their index make none stand
-abbrev pub has_bar : SpannedConfig → ℕ → Bool
-has_bar config column = if column == 0 then false else has_inner config.borders
+-- what stands around and between the cells of any line; lines set by their index make no vertical line stand
+abbrev pub frame : SpannedConfig → Frame
+frame config = frame_of config.borders config.margin

@@ -1,10 +1,12 @@
 //! The settings of a compact table: one for all cells.
 ghost use Rattle.std.specs.Prelude.{◌≡◌};
 ghost use Rattle.tabled_config.specs.Compact.{IsColorless, IsPlainCompact};
+ghost use Rattle.tabled_config.specs.Frame.{frame_of};
 
 use crate::alignment::AlignmentHorizontal;
 use crate::ansi::ANSIStr;
 use crate::borders::Borders;
+use crate::frame::Frame;
 use crate::sides::{Indent, Sides};
 
 /// The settings of a table whose cells all have the same: it takes no memory.
@@ -77,6 +79,13 @@ impl CompactConfig {
         ensures { result.now ≡ self.now.borders }
     {
         &self.borders
+    }
+
+    /// What stands around and between the cells of any line.
+    pub fn frame(&self) -> Frame
+        ensures { result ≡ frame_of self.now.borders self.now.margin }
+    {
+        Frame::new(&self.borders, self.margin)
     }
 
     /// Sets the colours of the borders.

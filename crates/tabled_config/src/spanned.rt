@@ -9,6 +9,7 @@ use crate::alignment::{AlignmentHorizontal, AlignmentVertical};
 use crate::borders::{Borders, HorizontalLine};
 use crate::compact::CompactConfig;
 use crate::compact_multiline::CompactMultilineConfig;
+use crate::frame::Frame;
 use crate::lines::Lines;
 use crate::sides::{Indent, Sides};
 use crate::style::Style;
@@ -49,7 +50,7 @@ pub struct SpannedConfig {
 
 impl SpannedConfig {
     ghost use Rattle.tabled_config.specs.Options.{with_style};
-    ghost use Rattle.tabled_config.specs.Settings.{has_bar, rule_at, style_at};
+    ghost use Rattle.tabled_config.specs.Settings.{frame, rule_at, style_at};
     ghost use Rattle.tabled_config.specs.Spanned.{
       new_spanned,
       spanned_of_compact,
@@ -362,10 +363,10 @@ impl SpannedConfig {
         }
     }
 
-    /// Whether a vertical line stands before a column.
-    pub fn has_bar(&self, column: usize) -> bool
-        ensures { result ≡ has_bar self.now column }
+    /// What stands around and between the cells of any line.
+    pub fn frame(&self) -> Frame
+        ensures { result ≡ frame self.now }
     {
-        column != 0 && self.borders.has_inner()
+        Frame::new(&self.borders, self.margin)
     }
 }

@@ -1,5 +1,5 @@
 -- The columns of what is made of plain pieces.
-use Rattle.std.proofs.Common.{◌≡◌, ℕ, zero, suc, ◌+◌, ◌-◌, ◌*◌, ◌<◌, ◌≤◌, ◌==◌, Bool, true, false, cond, List, [], Option, unwrap_or, length, get_or, sym, ◌∙◌, ap, subst, arith, ⊎_elim}
+use Rattle.std.proofs.Common.{◌≡◌, ℕ, zero, suc, ◌+◌, ◌-◌, ◌*◌, ◌<◌, ◌≤◌, ◌==◌, Bool, true, false, cond, List, [], unwrap_or, length, get_or, sym, ◌∙◌, ap, subst, arith, ⊎_elim}
 use Rattle.std.specs.List.{flat_map, range_with_len, slice_index}
 use Rattle.std.proofs.lemmas.Bool.{cases_lt}
 use Rattle.std.proofs.lemmas.Bool.Decides.{nat_tests}
@@ -12,10 +12,10 @@ use Rattle.tabled_base.specs.Cells.{IsRectangular, cell_at, columns}
 use Rattle.tabled_config.specs.declared.alignment.AlignmentHorizontal.{AlignmentHorizontal}
 use Rattle.tabled_config.specs.declared.alignment.AlignmentHorizontal.TheVariants as horizontal
 use Rattle.tabled_config.specs.declared.spanned.CellStyle.{CellStyle}
-use Rattle.tabled_config.specs.declared.spanned.SpannedConfig.{SpannedConfig}
+use Rattle.tabled_config.specs.declared.frame.Frame.{Frame}
 use Rattle.tabled_config.specs.declared.borders.HorizontalLine.{HorizontalLine}
-use Rattle.tabled_config.specs.Frame.{has_left, has_right, has_inner}
-use Rattle.tabled_config.specs.Settings.{has_bar, style_at}
+use Rattle.tabled_config.specs.Frame.{has_bar}
+use Rattle.tabled_config.specs.Settings.{frame, style_at}
 use Rattle.tabled_size.specs.Sheet.{Sheet}
 use Rattle.tabled_priority.specs.Sums.{one_if, sum_below}
 use Rattle.tabled_size.specs.Totals.{filled_width}
@@ -24,7 +24,7 @@ use Rattle.tabled_grid.specs.Fill.{fill}
 use Rattle.tabled_size.specs.Holds.{Holds}
 use Rattle.tabled_grid.specs.Picture.{piece, cell_piece, rule_piece, left_edge, right_edge, row_line, rule_line}
 use Rattle.tabled_size.specs.PlainCells.{ArePlain}
-use Rattle.tabled_grid.specs.PlainSheet.{IsPlainPiece, IsPlainRule, IsPlainStyle, IsPlainConfig}
+use Rattle.tabled_grid.specs.PlainSheet.{IsPlainRule, IsPlainStyle, IsPlainConfig}
 use Rattle.tabled_grid.proofs.Blocks.{block-above, block-text, block-below}
 use Rattle.tabled_grid.proofs.Each.{each-more}
 
@@ -46,8 +46,8 @@ pub plain-fill : (c n : ℕ) → IsPlainColumn c → IsPlainLine (fill c n) n
 plain-fill c zero h = plain_line-nil
 plain-fill c (suc n) h = plain_line-as (plain_line-append (plain_line-one c h) (plain-fill c n h)) (omega arith)
 
-plain-piece : (there : Bool) (c : Option ℕ) → IsPlainPiece c → IsPlainLine (piece there c) (one_if there)
-plain-piece true c h = plain_line-one (unwrap_or c 32) h
+plain-piece : (there : Bool) (c : ℕ) → IsPlainColumn c → IsPlainLine (piece there c) (one_if there)
+plain-piece true c h = plain_line-one c h
 plain-piece false c h = plain_line-nil
 
 plain-each : (f : ℕ → List ℕ) (w : ℕ → ℕ) (n : ℕ) → ((i : ℕ) → i < n → IsPlainLine (f i) (w i)) → IsPlainLine (flat_map f (range_with_len 0 n)) (sum_below w n)
@@ -125,52 +125,55 @@ later-bar n b = grind (arith, nat_tests)
 bar-step : (s u a b n x : ℕ) → s ≡ u + n * x → a ≡ x → s + (a + b) ≡ u + b + (n + 1) * x
 bar-step s u a b n x h e = omega arith
 
-bar-sum : (config : SpannedConfig) (w : ℕ → ℕ) (n : ℕ) → sum_below (λ i. one_if (has_bar config i) + w i) n ≡ sum_below w n + (n - 1) * one_if (has_inner config.borders)
-bar-sum config w zero = omega arith
-bar-sum config w (suc zero) = omega arith
-bar-sum config w (suc (suc n)) =
-    let x = one_if (has_inner config.borders) in
+bar-sum : (r : Frame) (w : ℕ → ℕ) (n : ℕ) → sum_below (λ i. one_if (has_bar r i) + w i) n ≡ sum_below w n + (n - 1) * one_if r.inner.there
+bar-sum r w zero = omega arith
+bar-sum r w (suc zero) = omega arith
+bar-sum r w (suc (suc n)) =
+    let x = one_if r.inner.there in
     let e : suc (suc n) - 1 ≡ n + 1 = omega arith in
     let f : suc n - 1 ≡ n = omega arith in
     rw e
-    (bar-step _ _ (one_if (has_bar config (suc n))) (w (suc n)) n x
-    (rw f at (bar-sum config w (suc n)))
-    (ap one_if (later-bar n (has_inner config.borders))))
+    (bar-step _ _ (one_if (has_bar r (suc n))) (w (suc n)) n x
+    (rw f at (bar-sum r w (suc n)))
+    (ap one_if (later-bar n r.inner.there)))
 
-plain-cells : (t : Sheet) (row index : ℕ) → IsPlainSheet t → row < length t.cells → index < slice_index t.heights row → IsPlainLine (flat_map (cell_piece t row index) (range_with_len 0 (columns t.cells))) (sum_below (slice_index t.widths) (columns t.cells) + (columns t.cells - 1) * one_if (has_inner t.config.borders))
+plain-cells : (t : Sheet) (row index : ℕ) → IsPlainSheet t → row < length t.cells → index < slice_index t.heights row → IsPlainLine (flat_map (cell_piece t row index) (range_with_len 0 (columns t.cells))) (sum_below (slice_index t.widths) (columns t.cells) + (columns t.cells - 1) * one_if (frame t.config).inner.there)
 unfolding cell_piece
 plain-cells t row index p l m =
     plain_line-as
-    (plain-each (cell_piece t row index) (λ i. one_if (has_bar t.config i) + slice_index t.widths i) (columns t.cells)
-    (λ i k. plain_line-append (plain-piece (has_bar t.config i) t.config.borders.vertical p.config.vertical)
+    (plain-each (cell_piece t row index) (λ i. one_if (has_bar (frame t.config) i) + slice_index t.widths i) (columns t.cells)
+    (λ i k. plain_line-append (plain-piece (has_bar (frame t.config) i) (frame t.config).inner.main p.config.frame.vertical)
     (plain-block (style_at t.config row i) (slice_index t.widths i) (slice_index t.heights row) index (cell_at t.cells row i)
     (record { style = p.config.styles row i l k; plain = plain-cell t row i p l k; fits = p.holds row i l k }) m)))
-    (bar-sum t.config (slice_index t.widths) (columns t.cells))
+    (bar-sum (frame t.config) (slice_index t.widths) (columns t.cells))
 
-plain-rules : (t : Sheet) (line : HorizontalLine) → IsPlainRule line → IsPlainLine (flat_map (rule_piece t line) (range_with_len 0 (columns t.cells))) (sum_below (slice_index t.widths) (columns t.cells) + (columns t.cells - 1) * one_if (has_inner t.config.borders))
+plain-rules : (t : Sheet) (line : HorizontalLine) → IsPlainRule line → IsPlainLine (flat_map (rule_piece t line) (range_with_len 0 (columns t.cells))) (sum_below (slice_index t.widths) (columns t.cells) + (columns t.cells - 1) * one_if (frame t.config).inner.there)
 unfolding rule_piece
 plain-rules t line q =
     plain_line-as
-    (plain-each (rule_piece t line) (λ i. one_if (has_bar t.config i) + slice_index t.widths i) (columns t.cells)
-    (λ i k. plain_line-append (plain-piece (has_bar t.config i) line.intersection q.intersection) (plain-fill (unwrap_or line.main 32) (slice_index t.widths i) q.main)))
-    (bar-sum t.config (slice_index t.widths) (columns t.cells))
+    (plain-each (rule_piece t line) (λ i. one_if (has_bar (frame t.config) i) + slice_index t.widths i) (columns t.cells)
+    (λ i k. plain_line-append (plain-piece (has_bar (frame t.config) i) (unwrap_or line.intersection 32) q.intersection) (plain-fill (unwrap_or line.main 32) (slice_index t.widths i) q.main)))
+    (bar-sum (frame t.config) (slice_index t.widths) (columns t.cells))
 
-plain-left : (config : SpannedConfig) (c : Option ℕ) → IsPlainColumn config.margin.left.fill → IsPlainPiece c → IsPlainLine (left_edge config c) (config.margin.left.size + one_if (has_left config.borders))
+plain-left : (f : Frame) (c : ℕ) → IsPlainColumn f.margin.left.fill → IsPlainColumn c → IsPlainLine (left_edge f c) (f.margin.left.size + one_if f.left.there)
 unfolding left_edge
-plain-left config c p q = plain_line-append (plain-fill config.margin.left.fill config.margin.left.size p) (plain-piece (has_left config.borders) c q)
+plain-left f c p q = plain_line-append (plain-fill f.margin.left.fill f.margin.left.size p) (plain-piece f.left.there c q)
 
-plain-right : (config : SpannedConfig) (c : Option ℕ) → IsPlainColumn config.margin.right.fill → IsPlainPiece c → IsPlainLine (right_edge config c) (one_if (has_right config.borders) + config.margin.right.size)
+plain-right : (f : Frame) (c : ℕ) → IsPlainColumn f.margin.right.fill → IsPlainColumn c → IsPlainLine (right_edge f c) (one_if f.right.there + f.margin.right.size)
 unfolding right_edge
-plain-right config c p q = plain_line-append (plain-piece (has_right config.borders) c q) (plain-fill config.margin.right.fill config.margin.right.size p)
+plain-right f c p q = plain_line-append (plain-piece f.right.there c q) (plain-fill f.margin.right.fill f.margin.right.size p)
 
 pub plain-row_line : (t : Sheet) (row index : ℕ) → IsPlainSheet t → row < length t.cells → index < slice_index t.heights row → IsPlainLine (row_line t row index) (filled_width t.config (columns t.cells) t.widths)
 unfolding row_line filled_width
 plain-row_line t row index p l m =
-    plain_line-append (plain-left t.config t.config.borders.left p.config.margin_left p.config.left)
-    (plain_line-append (plain-cells t row index p l m) (plain-right t.config t.config.borders.right p.config.margin_right p.config.right))
+    let f = frame t.config in
+    let q = p.config.frame in
+    plain_line-append (plain-left f f.left.main q.margin_left q.left)
+    (plain_line-append (plain-cells t row index p l m) (plain-right f f.right.main q.margin_right q.right))
 
 pub plain-rule_line : (t : Sheet) (line : HorizontalLine) → IsPlainSheet t → IsPlainRule line → IsPlainLine (rule_line t line) (filled_width t.config (columns t.cells) t.widths)
 unfolding rule_line filled_width
 plain-rule_line t line p q =
-    plain_line-append (plain-left t.config line.left p.config.margin_left q.left)
-    (plain_line-append (plain-rules t line q) (plain-right t.config line.right p.config.margin_right q.right))
+    let f = frame t.config in
+    plain_line-append (plain-left f (unwrap_or line.left 32) p.config.frame.margin_left q.left)
+    (plain_line-append (plain-rules t line q) (plain-right f (unwrap_or line.right 32) p.config.frame.margin_right q.right))

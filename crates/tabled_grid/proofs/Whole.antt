@@ -74,9 +74,9 @@ each-filled t p =
     let top = t.config.margin.top in
     let bottom = t.config.margin.bottom in
     let rows = length t.cells in
-    each-append n (replicate top.size (fill top.fill n)) _ (each-copies n top.size (fill top.fill n) (plain-fill top.fill n p.config.margin_top))
+    each-append n (replicate top.size (fill top.fill n)) _ (each-copies n top.size (fill top.fill n) (plain-fill top.fill n p.config.frame.margin_top))
     (each-append n (flat_map (row_part t) (range_with_len 0 rows)) _ (each-flat n (row_part t) rows (λ i l. each-row t i p l))
-    (each-append n (rule t rows) _ (each-rule t rows p (omega arith)) (each-copies n bottom.size (fill bottom.fill n) (plain-fill bottom.fill n p.config.margin_bottom))))
+    (each-append n (rule t rows) _ (each-rule t rows p (omega arith)) (each-copies n bottom.size (fill bottom.fill n) (plain-fill bottom.fill n p.config.frame.margin_bottom))))
 
 either-takes : (b : Bool) (n : ℕ) (ls : List (List ℕ)) → EachLineTakes n ls → EachLineTakes (cond b 0 n) (cond b [] ls)
 either-takes true n ls h k d l = absurd (omega arith)

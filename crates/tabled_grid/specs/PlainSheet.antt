@@ -4,9 +4,10 @@ use Rattle.std.specs.List.{All}
 use Rattle.tabled_text.specs.Measure.{line_columns}
 use Rattle.tabled_text.specs.Plain.{IsPlainColumn}
 use Rattle.tabled_config.specs.declared.borders.HorizontalLine.{HorizontalLine}
+use Rattle.tabled_config.specs.declared.frame.Frame.{Frame}
 use Rattle.tabled_config.specs.declared.spanned.CellStyle.{CellStyle}
 use Rattle.tabled_config.specs.declared.spanned.SpannedConfig.{SpannedConfig}
-use Rattle.tabled_config.specs.Settings.{rule_at, style_at}
+use Rattle.tabled_config.specs.Settings.{frame, rule_at, style_at}
 
 -- a character that is missing is a space
 abbrev pub IsPlainPiece : Option ℕ → Type 0
@@ -24,16 +25,20 @@ pub record IsPlainStyle (style : CellStyle) : Type 0 where
   pub top : IsPlainColumn style.padding.top.fill
   pub bottom : IsPlainColumn style.padding.bottom.fill
 
+-- of a frame the characters of its vertical lines on the lines of rows, and the fills of its margin
+pub record IsPlainFrame (frame : Frame) : Type 0 where
+  pub vertical : IsPlainColumn frame.inner.main
+  pub left : IsPlainColumn frame.left.main
+  pub right : IsPlainColumn frame.right.main
+  pub margin_left : IsPlainColumn frame.margin.left.fill
+  pub margin_right : IsPlainColumn frame.margin.right.fill
+  pub margin_top : IsPlainColumn frame.margin.top.fill
+  pub margin_bottom : IsPlainColumn frame.margin.bottom.fill
+
 -- the borders, fills and margins of a table with so many rows and columns are plain characters of one
 -- column
 pub record IsPlainConfig (config : SpannedConfig) (rows count : ℕ) : Type 0 where
-  pub vertical : IsPlainPiece config.borders.vertical
-  pub left : IsPlainPiece config.borders.left
-  pub right : IsPlainPiece config.borders.right
-  pub margin_left : IsPlainColumn config.margin.left.fill
-  pub margin_right : IsPlainColumn config.margin.right.fill
-  pub margin_top : IsPlainColumn config.margin.top.fill
-  pub margin_bottom : IsPlainColumn config.margin.bottom.fill
+  pub frame : IsPlainFrame (frame config)
   pub rules : (i : ℕ) → i ≤ rows → (line : HorizontalLine) → rule_at config rows i ≡ Some line → IsPlainRule line
   pub styles : (row column : ℕ) → row < rows → column < count → IsPlainStyle (style_at config row column)
 

@@ -1,38 +1,121 @@
 //! A table with the dimension that answers its sizes.
 ghost use Rattle.std.specs.Prelude.{◌≡◌, ◌<◌, length};
 ghost use Rattle.std.specs.List.{slice_index};
-ghost use Rattle.tabled_base.specs.Cells.{columns};
+ghost use Rattle.tabled_base.specs.Cells.{IsInside, cell_at, columns};
+ghost use Rattle.tabled_config.specs.Settings.{frame, rule_at, style_at};
+ghost use Rattle.tabled_grid.specs.Grid.{sheet_by};
+ghost use Rattle.tabled_size.specs.Holds.{IsSized};
+ghost use Rattle.tabled_size.specs.Sheet.{Sheet};
 
-use tabled_base::PeekableRecords;
-use tabled_config::SpannedConfig;
+use crate::block::CellBlock;
+use crate::content::Content;
+use std::marker::Model;
+use tabled_base::{PeekableRecords, Position};
+use tabled_config::{Frame, HorizontalLine, SpannedConfig};
 use tabled_size::Dimension;
 
-/// Records, how they are set, and their sizes.
+/// Records, how they are set, and their sizes. Contracts see the sheet that they make.
 #[derive(Drop)]
-pub(crate) struct Grid<'a, R, D> {
+pub(crate) struct Grid<'a, R: PeekableRecords, D: Dimension> {
     /// The cells.
     pub records: &'a R,
     /// The borders, margins and styles.
     pub config: &'a SpannedConfig,
     /// The columns that each column takes and the lines that each row takes, padding included.
     pub dimension: &'a D,
+    around: Frame,
+}
+
+impl<'a, R: PeekableRecords, D: Dimension> Model for Grid<'a, R, D> {
+    ghost Value = { Sheet };
+
+    ghost view = { λ g. sheet_by (R.cells g.records.now) g.config.now (D.width_at g.dimension.now) (D.height_at g.dimension.now) };
+
+    ghost invariant = { λ g. g.around ≡ frame g.config.now };
 }
 
 impl<'a, R: PeekableRecords, D: Dimension> Grid<'a, R, D> {
-    ghost use Rattle.tabled_grid.specs.Grid.{sheet_of};
+    /// Records under settings, with the sizes that a dimension answers. Their frame is taken once.
+    pub fn new(records: &'a R, config: &'a SpannedConfig, dimension: &'a D) -> Grid<'a, R, D>
+        ensures { result ≡ sheet_by (R.cells records.now) config.now (D.width_at dimension.now) (D.height_at dimension.now) }
+    {
+        Grid {
+            records,
+            config,
+            dimension,
+            around: config.frame(),
+        }
+    }
+
+    /// What stands around and between the cells of any line.
+    pub fn frame(&self) -> &Frame
+        ensures { result.now ≡ frame self.now.config }
+    {
+        &self.around
+    }
+
+    /// How many rows there are.
+    pub fn count_rows(&self) -> usize
+        ensures { result ≡ length self.now.cells }
+    {
+        self.records.count_rows()
+    }
+
+    /// How many cells each row has.
+    pub fn count_columns(&self) -> usize
+        ensures { result ≡ columns self.now.cells }
+    {
+        self.records.count_columns()
+    }
+
+    /// The text of a cell, with its measures.
+    fn content(&self, at: Position) -> Content<'a>
+        requires { IsInside self.now.cells at.row at.column }
+        ensures { result.text.now ≡ cell_at self.now.cells at.row at.column }
+    {
+        Content {
+            text: self.records.get_text(at),
+            columns: self.records.get_width(at),
+            lines: self.records.count_lines(at),
+        }
+    }
+
+    /// A cell as it is laid out. Its width and its height have to be there.
+    pub fn block(&self, at: Position) -> CellBlock<'a>
+        requires sized { IsSized self.now }
+        requires inside { IsInside self.now.cells at.row at.column }
+        ensures style { result.style ≡ style_at self.now.config at.row at.column }
+        ensures width { result.width ≡ slice_index self.now.widths at.column }
+        ensures height { result.height ≡ slice_index self.now.heights at.row }
+        ensures text { result.content.text.now ≡ cell_at self.now.cells at.row at.column }
+    {
+        CellBlock {
+            style: self.config.style_at(at.row, at.column),
+            width: self.width(at.column),
+            height: self.height(at.row),
+            content: self.content(at),
+        }
+    }
+
+    /// The horizontal line above a row, or below the last one, if it is there.
+    pub fn rule_at(&self, index: usize) -> Option<HorizontalLine>
+        ensures { result ≡ rule_at self.now.config (length self.now.cells) index }
+    {
+        self.config.rule_at(self.records.count_rows(), index)
+    }
 
     /// The width of a column, which has to be there.
     pub fn width(&self, column: usize) -> usize
-        requires { column < length (sheet_of R.cells D.width_at D.height_at self.now).widths }
-        ensures { result ≡ slice_index (sheet_of R.cells D.width_at D.height_at self.now).widths column }
+        requires { column < length self.now.widths }
+        ensures { result ≡ slice_index self.now.widths column }
     {
         self.dimension.get_width(column)
     }
 
     /// The height of a row, which has to be there.
     pub fn height(&self, row: usize) -> usize
-        requires { row < length (sheet_of R.cells D.width_at D.height_at self.now).heights }
-        ensures { result ≡ slice_index (sheet_of R.cells D.width_at D.height_at self.now).heights row }
+        requires { row < length self.now.heights }
+        ensures { result ≡ slice_index self.now.heights row }
     {
         self.dimension.get_height(row)
     }

@@ -1,7 +1,6 @@
 //! A horizontal line that is kept as it was laid out. The lines between rows are mostly alike, and one
 //! that is known goes out in one piece.
 ghost use Rattle.std.specs.Prelude.{◌≡◌, Some, None, IfSome, take, true};
-ghost use Rattle.tabled_grid.specs.Grid.{sheet_of};
 ghost use Rattle.tabled_size.specs.Holds.{IsSized};
 ghost use Rattle.tabled_grid.specs.Kept.{Keeps};
 ghost use Rattle.tabled_grid.specs.Picture.{rule_line};
@@ -59,9 +58,9 @@ impl KeptLine {
         grid: &Grid<'_, R, D>,
         line: &HorizontalLine,
     )
-        requires sized { IsSized (sheet_of R.cells D.width_at D.height_at grid.now) }
+        requires sized { IsSized grid.now }
         ensures line { self.new.line ≡ Some line.now }
-        ensures kept { Keeps (sheet_of R.cells D.width_at D.height_at grid.now) self.new }
+        ensures kept { Keeps grid.now self.new }
     {
         self.room.clear();
         self.whole = put_rule_line(&mut self.room, grid, line).is_ok();
@@ -76,11 +75,11 @@ pub(crate) fn put_kept_line<R: PeekableRecords, D: Dimension, S: TextSink>(
     line: &HorizontalLine,
     kept: &mut KeptLine,
 ) -> Result<(), TableError>
-    requires sized { IsSized (sheet_of R.cells D.width_at D.height_at grid.now) }
-    requires known { Keeps (sheet_of R.cells D.width_at D.height_at grid.now) kept.old }
+    requires sized { IsSized grid.now }
+    requires known { Keeps grid.now kept.old }
     ensures printed { Writes (S.sent sink.old) result (S.sent sink.new)
-        (rule_line (sheet_of R.cells D.width_at D.height_at grid.now) line.now) }
-    ensures known { Keeps (sheet_of R.cells D.width_at D.height_at grid.now) kept.new }
+        (rule_line grid.now line.now) }
+    ensures known { Keeps grid.now kept.new }
 {
     if !kept.is(line) {
         kept.lay_out(grid, line);

@@ -1,7 +1,6 @@
 //! All lines of a table, one after another.
 ghost use Rattle.std.specs.Prelude.{◌≡◌, ◌<◌, ◌≤◌, length, [], ◌∷◌};
 ghost use Rattle.std.specs.List.{flat_map, join_with_byte, range_with_len, slice_index};
-ghost use Rattle.tabled_grid.specs.Grid.{sheet_of};
 ghost use Rattle.tabled_size.specs.Holds.{IsSized};
 ghost use Rattle.tabled_grid.specs.Kept.{Keeps};
 ghost use Rattle.tabled_grid.specs.Leading.{WritesLines};
@@ -13,155 +12,122 @@ use crate::grid::Grid;
 use crate::kept::{KeptLine, put_kept_line};
 use crate::lines::{put_break, put_margin};
 use crate::marks::Marks;
-use crate::rows::put_row_line;
+use crate::rows::Cells;
 use crate::text_sink::TextSink;
 use tabled_base::{PeekableRecords, TableError};
 use tabled_size::Dimension;
 
-fn put_inner_line<'a, R: PeekableRecords, D: Dimension, S: TextSink>(
-    sink: &mut S,
-    begun: &mut bool,
-    grid: &Grid<'a, R, D>,
-    marks: &mut Marks<'a>,
-    row: usize,
-    index: usize,
-) -> Result<(), TableError>
-    requires sized { IsSized (sheet_of R.cells D.width_at D.height_at grid.now) }
-    requires row_in { row < length (R.cells grid.now.records.now) }
-    requires index_in { index < slice_index (sheet_of R.cells D.width_at D.height_at grid.now).heights row }
-    requires marked { AreKept (R.cells grid.now.records.now) marks.old }
-    ensures printed { WritesLines (S.sent sink.old) begun.old result (S.sent sink.new) begun.new
-        (row_line (sheet_of R.cells D.width_at D.height_at grid.now) row index ∷ []) }
-    ensures marked { AreKept (R.cells grid.now.records.now) marks.new }
-{
-    put_break(sink, begun)?;
-    put_row_line(sink, grid, marks, row, index)
+/// The lines of a table while they are printed: what was begun and kept so far.
+#[derive(Drop)]
+struct Lines<'a, R: PeekableRecords, D: Dimension> {
+    cells: Cells<'a, R, D>,
+    /// The horizontal line that was laid out last.
+    kept: KeptLine,
+    /// Whether a line went before.
+    begun: bool,
+    ghost known: { Keeps cells.grid.now kept },
 }
 
-/// The lines of a row.
-#[tactic(auto, unfolding(crate::specs::Picture::row_lines))]
-fn put_row<'a, R: PeekableRecords, D: Dimension, S: TextSink>(
-    sink: &mut S,
-    begun: &mut bool,
-    grid: &Grid<'a, R, D>,
-    marks: &mut Marks<'a>,
-    row: usize,
-) -> Result<(), TableError>
-    requires sized { IsSized (sheet_of R.cells D.width_at D.height_at grid.now) }
-    requires row_in { row < length (R.cells grid.now.records.now) }
-    requires marked { AreKept (R.cells grid.now.records.now) marks.old }
-    ensures printed { WritesLines (S.sent sink.old) begun.old result (S.sent sink.new) begun.new
-        (row_lines (sheet_of R.cells D.width_at D.height_at grid.now) row) }
-    ensures marked { AreKept (R.cells grid.now.records.now) marks.new }
-{
-    'lines: for index in 0..grid.height(row) {
-        put_inner_line(sink, begun, grid, marks, row, index)?;
+impl<'a, R: PeekableRecords, D: Dimension> Lines<'a, R, D> {
+    fn put_inner_line<S: TextSink>(
+        &mut self,
+        sink: &mut S,
+        row: usize,
+        index: usize,
+    ) -> Result<(), TableError>
+        requires row_in { row < length self.old.cells.grid.now.cells }
+        requires index_in { index < slice_index self.old.cells.grid.now.heights row }
+        ensures printed { WritesLines (S.sent sink.old) self.old.begun result (S.sent sink.new) self.new.begun
+            (row_line self.old.cells.grid.now row index ∷ []) }
+        ensures same { self.new.cells.grid ≡ self.old.cells.grid }
+    {
+        put_break(sink, &mut self.begun)?;
+        self.cells.put_row_line(sink, row, index)
     }
-    Ok(())
-}
 
-/// The horizontal line at an index, if it is there.
-fn put_rule<R: PeekableRecords, D: Dimension, S: TextSink>(
-    sink: &mut S,
-    begun: &mut bool,
-    grid: &Grid<'_, R, D>,
-    kept: &mut KeptLine,
-    index: usize,
-) -> Result<(), TableError>
-    requires sized { IsSized (sheet_of R.cells D.width_at D.height_at grid.now) }
-    requires known { Keeps (sheet_of R.cells D.width_at D.height_at grid.now) kept.old }
-    ensures printed { WritesLines (S.sent sink.old) begun.old result (S.sent sink.new) begun.new
-        (rule (sheet_of R.cells D.width_at D.height_at grid.now) index) }
-    ensures known { Keeps (sheet_of R.cells D.width_at D.height_at grid.now) kept.new }
-{
-    match grid.config.rule_at(grid.records.count_rows(), index) {
-        Some(line) => {
-            put_break(sink, begun)?;
-            put_kept_line(sink, grid, &line, kept)
+    /// The lines of a row.
+    #[tactic(auto, unfolding(crate::specs::Picture::row_lines))]
+    fn put_row<S: TextSink>(&mut self, sink: &mut S, row: usize) -> Result<(), TableError>
+        requires row_in { row < length self.old.cells.grid.now.cells }
+        ensures printed { WritesLines (S.sent sink.old) self.old.begun result (S.sent sink.new) self.new.begun
+            (row_lines self.old.cells.grid.now row) }
+        ensures same { self.new.cells.grid ≡ self.old.cells.grid }
+    {
+        let grid = self.cells.grid;
+        'lines: for index in 0..grid.height(row) {
+            self.put_inner_line(sink, row, index)?;
         }
-        None => Ok(()),
+        Ok(())
     }
-}
 
-/// A row, with the horizontal line above it.
-fn put_row_part<'a, R: PeekableRecords, D: Dimension, S: TextSink>(
-    sink: &mut S,
-    begun: &mut bool,
-    grid: &Grid<'a, R, D>,
-    kept: &mut KeptLine,
-    marks: &mut Marks<'a>,
-    row: usize,
-) -> Result<(), TableError>
-    requires sized { IsSized (sheet_of R.cells D.width_at D.height_at grid.now) }
-    requires known { Keeps (sheet_of R.cells D.width_at D.height_at grid.now) kept.old }
-    requires row_in { row < length (R.cells grid.now.records.now) }
-    requires marked { AreKept (R.cells grid.now.records.now) marks.old }
-    ensures printed { WritesLines (S.sent sink.old) begun.old result (S.sent sink.new) begun.new
-        (row_part (sheet_of R.cells D.width_at D.height_at grid.now) row) }
-    ensures known { Keeps (sheet_of R.cells D.width_at D.height_at grid.now) kept.new }
-    ensures marked { AreKept (R.cells grid.now.records.now) marks.new }
-{
-    put_rule(sink, begun, grid, kept, row)?;
-    put_row(sink, begun, grid, marks, row)
-}
-
-fn put_rows<'a, R: PeekableRecords, D: Dimension, S: TextSink>(
-    sink: &mut S,
-    begun: &mut bool,
-    grid: &Grid<'a, R, D>,
-    kept: &mut KeptLine,
-    marks: &mut Marks<'a>,
-) -> Result<(), TableError>
-    requires sized { IsSized (sheet_of R.cells D.width_at D.height_at grid.now) }
-    requires known { Keeps (sheet_of R.cells D.width_at D.height_at grid.now) kept.old }
-    requires marked { AreKept (R.cells grid.now.records.now) marks.old }
-    ensures printed { WritesLines (S.sent sink.old) begun.old result (S.sent sink.new) begun.new
-        (flat_map (row_part (sheet_of R.cells D.width_at D.height_at grid.now))
-        (range_with_len 0 (length (R.cells grid.now.records.now)))) }
-    ensures known { Keeps (sheet_of R.cells D.width_at D.height_at grid.now) kept.new }
-    ensures marked { AreKept (R.cells grid.now.records.now) marks.new }
-{
-    'rows: for row in 0..grid.records.count_rows() {
-        put_row_part(sink, begun, grid, kept, marks, row)?;
+    /// The horizontal line at an index, if it is there.
+    fn put_rule<S: TextSink>(&mut self, sink: &mut S, index: usize) -> Result<(), TableError>
+        ensures printed { WritesLines (S.sent sink.old) self.old.begun result (S.sent sink.new) self.new.begun
+            (rule self.old.cells.grid.now index) }
+        ensures same { self.new.cells.grid ≡ self.old.cells.grid }
+    {
+        let grid = self.cells.grid;
+        match grid.rule_at(index) {
+            Some(line) => {
+                put_break(sink, &mut self.begun)?;
+                put_kept_line(sink, grid, &line, &mut self.kept)
+            }
+            None => Ok(()),
+        }
     }
-    Ok(())
-}
 
-fn put_lines<'a, R: PeekableRecords, D: Dimension, S: TextSink>(
-    sink: &mut S,
-    begun: &mut bool,
-    grid: &Grid<'a, R, D>,
-    kept: &mut KeptLine,
-    marks: &mut Marks<'a>,
-    whole: usize,
-) -> Result<(), TableError>
-    requires sized { IsSized (sheet_of R.cells D.width_at D.height_at grid.now) }
-    requires known { Keeps (sheet_of R.cells D.width_at D.height_at grid.now) kept.old }
-    requires marked { AreKept (R.cells grid.now.records.now) marks.old }
-    ensures printed { WritesLines (S.sent sink.old) begun.old result (S.sent sink.new) begun.new
-        (filled_picture (sheet_of R.cells D.width_at D.height_at grid.now) whole) }
-    ensures known { Keeps (sheet_of R.cells D.width_at D.height_at grid.now) kept.new }
-    ensures marked { AreKept (R.cells grid.now.records.now) marks.new }
-{
-    put_margin(sink, begun, grid.config.margin.top, whole)?;
-    put_rows(sink, begun, grid, kept, marks)?;
-    put_rule(sink, begun, grid, kept, grid.records.count_rows())?;
-    put_margin(sink, begun, grid.config.margin.bottom, whole)
+    /// A row, with the horizontal line above it.
+    fn put_row_part<S: TextSink>(&mut self, sink: &mut S, row: usize) -> Result<(), TableError>
+        requires row_in { row < length self.old.cells.grid.now.cells }
+        ensures printed { WritesLines (S.sent sink.old) self.old.begun result (S.sent sink.new) self.new.begun
+            (row_part self.old.cells.grid.now row) }
+        ensures same { self.new.cells.grid ≡ self.old.cells.grid }
+    {
+        self.put_rule(sink, row)?;
+        self.put_row(sink, row)
+    }
+
+    fn put_rows<S: TextSink>(&mut self, sink: &mut S) -> Result<(), TableError>
+        ensures printed { WritesLines (S.sent sink.old) self.old.begun result (S.sent sink.new) self.new.begun
+            (flat_map (row_part self.old.cells.grid.now) (range_with_len 0 (length self.old.cells.grid.now.cells))) }
+        ensures same { self.new.cells.grid ≡ self.old.cells.grid }
+    {
+        let grid = self.cells.grid;
+        'rows: for row in 0..grid.count_rows() {
+            self.put_row_part(sink, row)?;
+        }
+        Ok(())
+    }
+
+    fn put_lines<S: TextSink>(&mut self, sink: &mut S, whole: usize) -> Result<(), TableError>
+        ensures { WritesLines (S.sent sink.old) self.old.begun result (S.sent sink.new) self.new.begun
+            (filled_picture self.old.cells.grid.now whole) }
+    {
+        let grid = self.cells.grid;
+        let margin = grid.frame().margin;
+        put_margin(sink, &mut self.begun, margin.top, whole)?;
+        self.put_rows(sink)?;
+        self.put_rule(sink, grid.count_rows())?;
+        put_margin(sink, &mut self.begun, margin.bottom, whole)
+    }
 }
 
 /// The lines of a table that takes so many columns, joined by line feeds.
 pub(crate) fn put_picture<'a, R: PeekableRecords, D: Dimension, S: TextSink>(
     sink: &mut S,
-    grid: &Grid<'a, R, D>,
-    marks: &mut Marks<'a>,
+    grid: &'a Grid<'a, R, D>,
+    marks: Marks<'a>,
     whole: usize,
 ) -> Result<(), TableError>
-    requires sized { IsSized (sheet_of R.cells D.width_at D.height_at grid.now) }
-    requires marked { AreKept (R.cells grid.now.records.now) marks.old }
+    requires sized { IsSized grid.now }
+    requires marked { AreKept grid.now.cells marks }
     ensures { Writes (S.sent sink.old) result (S.sent sink.new)
-        (join_with_byte 10 (filled_picture (sheet_of R.cells D.width_at D.height_at grid.now) whole)) }
+        (join_with_byte 10 (filled_picture grid.now whole)) }
 {
-    let mut begun = false;
-    let mut kept = KeptLine::new();
-    put_lines(sink, &mut begun, grid, &mut kept, marks, whole)
+    let mut lines = Lines {
+        cells: Cells::new(grid, marks),
+        kept: KeptLine::new(),
+        begun: false,
+    };
+    lines.put_lines(sink, whole)
 }

@@ -5,10 +5,10 @@ ghost use Rattle.tabled_text.specs.Plain.{IsPlain, IsPlainColumn};
 ghost use Rattle.tabled_config.specs.Settings.{rule_at, style_at};
 ghost use Rattle.tabled_config.specs.declared.borders.HorizontalLine.{HorizontalLine};
 ghost use Rattle.tabled_size.specs.PlainCells.{ArePlain};
-ghost use Rattle.tabled_grid.specs.PlainSheet.{IsPlainConfig, IsPlainPiece, IsPlainRule, IsPlainStyle};
+ghost use Rattle.tabled_grid.specs.PlainSheet.{IsPlainConfig, IsPlainFrame, IsPlainPiece, IsPlainRule, IsPlainStyle};
 
 use tabled_base::{PeekableRecords, Position};
-use tabled_config::{CellStyle, HorizontalLine, SpannedConfig};
+use tabled_config::{CellStyle, Frame, HorizontalLine, Indent, Sides, SpannedConfig};
 use tabled_text::{is_plain, is_plain_column};
 
 fn is_plain_piece(piece: Option<char>) -> bool
@@ -84,38 +84,24 @@ fn are_plain_styles(config: &SpannedConfig, rows: usize, columns: usize) -> bool
     true
 }
 
-/// Whether the vertical lines are plain.
-fn are_plain_verticals(config: &SpannedConfig) -> bool
-    ensures { IsTrue result ↔ (IsPlainPiece config.now.borders.vertical
-        × IsPlainPiece config.now.borders.left × IsPlainPiece config.now.borders.right) }
+fn is_plain_margin(margin: Sides<Indent>) -> bool
+    ensures { IsTrue result ↔ (IsPlainColumn margin.left.fill × IsPlainColumn margin.right.fill
+        × IsPlainColumn margin.top.fill × IsPlainColumn margin.bottom.fill) }
 {
-    is_plain_piece(config.borders.vertical)
-        && is_plain_piece(config.borders.left)
-        && is_plain_piece(config.borders.right)
+    is_plain_column(margin.left.fill)
+        && is_plain_column(margin.right.fill)
+        && is_plain_column(margin.top.fill)
+        && is_plain_column(margin.bottom.fill)
 }
 
-fn is_plain_margin(config: &SpannedConfig) -> bool
-    ensures { IsTrue result ↔ (IsPlainColumn config.now.margin.left.fill
-        × IsPlainColumn config.now.margin.right.fill
-        × IsPlainColumn config.now.margin.top.fill
-        × IsPlainColumn config.now.margin.bottom.fill) }
+/// Whether what stands around and between the cells is plain.
+fn is_plain_frame(frame: Frame) -> bool
+    ensures { IsTrue result ↔ IsPlainFrame frame }
 {
-    is_plain_column(config.margin.left.fill)
-        && is_plain_column(config.margin.right.fill)
-        && is_plain_column(config.margin.top.fill)
-        && is_plain_column(config.margin.bottom.fill)
-}
-
-/// Whether what stands around the cells is plain, but for the horizontal lines.
-fn is_plain_frame(config: &SpannedConfig) -> bool
-    ensures { IsTrue result ↔ ((IsPlainPiece config.now.borders.vertical
-        × IsPlainPiece config.now.borders.left × IsPlainPiece config.now.borders.right)
-        × (IsPlainColumn config.now.margin.left.fill
-        × IsPlainColumn config.now.margin.right.fill
-        × IsPlainColumn config.now.margin.top.fill
-        × IsPlainColumn config.now.margin.bottom.fill)) }
-{
-    are_plain_verticals(config) && is_plain_margin(config)
+    is_plain_column(frame.inner.main)
+        && is_plain_column(frame.left.main)
+        && is_plain_column(frame.right.main)
+        && is_plain_margin(frame.margin)
 }
 
 /// Whether the horizontal lines and the paddings are plain, as far as the table goes.
@@ -134,7 +120,7 @@ fn are_plain_places(config: &SpannedConfig, rows: usize, columns: usize) -> bool
 pub fn is_plain_config(config: &SpannedConfig, rows: usize, columns: usize) -> bool
     ensures { IsTrue result ↔ IsPlainConfig config.now rows columns }
 {
-    is_plain_frame(config) && are_plain_places(config, rows, columns)
+    is_plain_frame(config.frame()) && are_plain_places(config, rows, columns)
 }
 
 /// Whether the cells of a row are plain texts.

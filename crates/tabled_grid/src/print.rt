@@ -4,7 +4,7 @@ ghost use Rattle.tabled_base.specs.Cells.{columns};
 ghost use Rattle.tabled_size.specs.Reached.{reached};
 ghost use Rattle.tabled_size.specs.Sheet.{is_empty};
 ghost use Rattle.tabled_size.specs.Totals.{filled_width};
-ghost use Rattle.tabled_grid.specs.Grid.{sheet_by, sheet_of};
+ghost use Rattle.tabled_grid.specs.Grid.{sheet_by};
 ghost use Rattle.tabled_size.specs.Holds.{Holds, IsHeld, IsSized};
 ghost use Rattle.tabled_grid.specs.Narrow.{IsNarrow, IsNarrowIn};
 ghost use Rattle.tabled_grid.specs.Marks.{AreKept};
@@ -24,10 +24,10 @@ fn is_held<R: PeekableRecords, D: Dimension>(
     row: usize,
     column: usize,
 ) -> bool
-    requires sized { columns (R.cells grid.now.records.now) ≤ length (sheet_of R.cells D.width_at D.height_at grid.now).widths }
-    requires row_in { row < length (R.cells grid.now.records.now) }
-    requires column_in { column < columns (R.cells grid.now.records.now) }
-    ensures { IsTrue result ↔ IsHeld (sheet_of R.cells D.width_at D.height_at grid.now) row column }
+    requires sized { columns grid.now.cells ≤ length grid.now.widths }
+    requires row_in { row < length grid.now.cells }
+    requires column_in { column < columns grid.now.cells }
+    ensures { IsTrue result ↔ IsHeld grid.now row column }
 {
     let padding = grid.config.get_padding(Position { row, column });
     let width = grid.width(column);
@@ -38,13 +38,13 @@ fn is_held<R: PeekableRecords, D: Dimension>(
 }
 
 fn narrow_in<R: PeekableRecords, D: Dimension>(grid: &Grid<'_, R, D>, row: usize) -> Option<usize>
-    requires sized { columns (R.cells grid.now.records.now) ≤ length (sheet_of R.cells D.width_at D.height_at grid.now).widths }
-    requires row_in { row < length (R.cells grid.now.records.now) }
-    ensures none { IfNone result ((c : ℕ) → c < columns (R.cells grid.now.records.now)
-        → IsHeld (sheet_of R.cells D.width_at D.height_at grid.now) row c) }
-    ensures some { IfSome result (IsNarrowIn (sheet_of R.cells D.width_at D.height_at grid.now) row) }
+    requires sized { columns grid.now.cells ≤ length grid.now.widths }
+    requires row_in { row < length grid.now.cells }
+    ensures none { IfNone result ((c : ℕ) → c < columns grid.now.cells
+        → IsHeld grid.now row c) }
+    ensures some { IfSome result (IsNarrowIn grid.now row) }
 {
-    'columns: for column in 0..grid.records.count_columns() {
+    'columns: for column in 0..grid.count_columns() {
         if !is_held(grid, row, column) {
             return Some(column);
         }
@@ -57,11 +57,11 @@ fn narrow_in<R: PeekableRecords, D: Dimension>(grid: &Grid<'_, R, D>, row: usize
 pub(crate) fn check_narrow<R: PeekableRecords, D: Dimension>(
     grid: &Grid<'_, R, D>,
 ) -> Result<(), TableError>
-    requires sized { columns (R.cells grid.now.records.now) ≤ length (sheet_of R.cells D.width_at D.height_at grid.now).widths }
-    ensures ok { OnOk result (Holds (sheet_of R.cells D.width_at D.height_at grid.now)) }
-    ensures err { IfErr result (IsNarrow (sheet_of R.cells D.width_at D.height_at grid.now)) }
+    requires sized { columns grid.now.cells ≤ length grid.now.widths }
+    ensures ok { OnOk result (Holds grid.now) }
+    ensures err { IfErr result (IsNarrow grid.now) }
 {
-    'rows: for row in 0..grid.records.count_rows() {
+    'rows: for row in 0..grid.count_rows() {
         if let Some(column) = narrow_in(grid, row) {
             return Err(TableError::Narrow { row, column });
         }
@@ -71,8 +71,8 @@ pub(crate) fn check_narrow<R: PeekableRecords, D: Dimension>(
 
 /// Whether widths and heights are there.
 fn check_sizes<R: PeekableRecords, D: Dimension>(grid: &Grid<'_, R, D>) -> Result<(), TableError>
-    ensures ok { OnOk result (IsSized (sheet_of R.cells D.width_at D.height_at grid.now)) }
-    ensures err { IfErr result (IsRefused (sheet_of R.cells D.width_at D.height_at grid.now)) }
+    ensures ok { OnOk result (IsSized grid.now) }
+    ensures err { IfErr result (IsRefused grid.now) }
 {
     check_widths(grid.dimension, grid.records.count_columns())?;
     check_heights(grid.dimension, grid.records.count_rows())
@@ -82,12 +82,12 @@ fn check_sizes<R: PeekableRecords, D: Dimension>(grid: &Grid<'_, R, D>) -> Resul
 fn check_totals<R: PeekableRecords, D: Dimension>(
     grid: &Grid<'_, R, D>,
 ) -> Result<usize, TableError>
-    requires sized { IsSized (sheet_of R.cells D.width_at D.height_at grid.now) }
-    requires holds { Holds (sheet_of R.cells D.width_at D.height_at grid.now) }
-    ensures width { IfOk result (λ n. n ≡ filled_width grid.now.config.now
-        (columns (R.cells grid.now.records.now)) (sheet_of R.cells D.width_at D.height_at grid.now).widths) }
-    ensures in_range { OnOk result (IsInRange (sheet_of R.cells D.width_at D.height_at grid.now)) }
-    ensures err { IfErr result (IsRefused (sheet_of R.cells D.width_at D.height_at grid.now)) }
+    requires sized { IsSized grid.now }
+    requires holds { Holds grid.now }
+    ensures width { IfOk result (λ n. n ≡ filled_width grid.now.config
+        (columns grid.now.cells) grid.now.widths) }
+    ensures in_range { OnOk result (IsInRange grid.now) }
+    ensures err { IfErr result (IsRefused grid.now) }
 {
     let Some(width) = filled_width(grid.config, grid.records.count_columns(), grid.dimension) else {
         return Err(TableError::Range);
@@ -103,14 +103,14 @@ fn check_totals<R: PeekableRecords, D: Dimension>(
 #[tactic(auto, unfolding(crate::specs::Picture::picture))]
 pub(crate) fn print_held<'a, R: PeekableRecords, D: Dimension, S: TextSink>(
     sink: &mut S,
-    grid: &Grid<'a, R, D>,
-    marks: &mut Marks<'a>,
+    grid: &'a Grid<'a, R, D>,
+    marks: Marks<'a>,
 ) -> Result<(), TableError>
-    requires filled { is_empty (R.cells grid.now.records.now) ≡ false }
-    requires sized { IsSized (sheet_of R.cells D.width_at D.height_at grid.now) }
-    requires holds { Holds (sheet_of R.cells D.width_at D.height_at grid.now) }
-    requires marked { AreKept (R.cells grid.now.records.now) marks.old }
-    ensures { Prints false (sheet_of R.cells D.width_at D.height_at grid.now) (S.sent sink.old) result (S.sent sink.new) }
+    requires filled { is_empty grid.now.cells ≡ false }
+    requires sized { IsSized grid.now }
+    requires holds { Holds grid.now }
+    requires marked { AreKept grid.now.cells marks }
+    ensures { Prints false grid.now (S.sent sink.old) result (S.sent sink.new) }
 {
     let whole = check_totals(grid)?;
     put_picture(sink, grid, marks, whole)
@@ -133,13 +133,8 @@ pub fn print_grid<R: PeekableRecords, D: Dimension, S: TextSink>(
     if is_empty(records) {
         return Ok(());
     }
-    let grid = Grid {
-        records,
-        config,
-        dimension,
-    };
+    let grid = Grid::new(records, config, dimension);
     check_sizes(&grid)?;
     check_narrow(&grid)?;
-    let mut marks = Marks::new();
-    print_held(sink, &grid, &mut marks)
+    print_held(sink, &grid, Marks::new())
 }

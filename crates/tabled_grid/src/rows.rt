@@ -3,15 +3,13 @@ ghost use Rattle.std.specs.Prelude.{◌≡◌, ◌<◌, ◌≤◌, length, []};
 ghost use Rattle.std.specs.List.{flat_map, range_with_len, slice_index, slice_index_or};
 ghost use Rattle.tabled_base.specs.Cells.{IsInside, cell_at, columns};
 ghost use Rattle.tabled_config.specs.Settings.{style_at};
+ghost use Rattle.std.proofs.Props.{props};
 ghost use Rattle.tabled_grid.specs.Block.{block};
-ghost use Rattle.tabled_grid.specs.Grid.{sheet_of};
 ghost use Rattle.tabled_size.specs.Holds.{IsSized};
 ghost use Rattle.tabled_grid.specs.Marks.{AreKept};
 ghost use Rattle.tabled_grid.specs.Picture.{cell_piece, row_line, rule_line, rule_piece};
 ghost use Rattle.tabled_grid.specs.Sent.{Sent, Writes};
 
-use crate::block::put_block_line;
-use crate::content::Content;
 use crate::edges::{put_left, put_piece, put_right};
 use crate::grid::Grid;
 use crate::marks::{Mark, Marks};
@@ -21,111 +19,108 @@ use tabled_base::{PeekableRecords, Position, TableError};
 use tabled_config::HorizontalLine;
 use tabled_size::Dimension;
 
-/// A line of the block of a cell, with the vertical line before it.
-fn put_cell<'a, R: PeekableRecords, D: Dimension, S: TextSink>(
-    sink: &mut S,
-    grid: &Grid<'a, R, D>,
-    marks: &mut Marks<'a>,
-    at: Position,
-    index: usize,
-) -> Result<(), TableError>
-    requires sized { IsSized (sheet_of R.cells D.width_at D.height_at grid.now) }
-    requires inside { IsInside (R.cells grid.now.records.now) at.row at.column }
-    requires index_in { index < slice_index (sheet_of R.cells D.width_at D.height_at grid.now).heights at.row }
-    requires marked { AreKept (R.cells grid.now.records.now) marks.old }
-    ensures printed { Writes (S.sent sink.old) result (S.sent sink.new)
-        (cell_piece (sheet_of R.cells D.width_at D.height_at grid.now) at.row index at.column) }
-    ensures marked { AreKept (R.cells grid.now.records.now) marks.new }
-{
-    put_piece(
-        sink,
-        grid.config.has_bar(at.column),
-        grid.config.borders.vertical,
-    )?;
-    let content = Content {
-        text: grid.records.get_text(at),
-        columns: grid.records.get_width(at),
-        lines: grid.records.count_lines(at),
-    };
-    put_content_line(sink, grid, marks, &content, at, index)
+/// The cells of a table while their lines are printed, and the marks in their texts.
+#[derive(Drop)]
+pub(crate) struct Cells<'a, R: PeekableRecords, D: Dimension> {
+    /// The table.
+    pub grid: &'a Grid<'a, R, D>,
+    marks: Marks<'a>,
+    ghost sized: { IsSized grid.now },
+    ghost marked: { AreKept grid.now.cells marks } by { Prim.hlevel props },
 }
 
-/// A line of the block of a cell whose text is at hand. Where it has some lines, the next one is marked.
-fn put_content_line<'a, R: PeekableRecords, D: Dimension, S: TextSink>(
-    sink: &mut S,
-    grid: &Grid<'a, R, D>,
-    marks: &mut Marks<'a>,
-    content: &Content<'a>,
-    at: Position,
-    index: usize,
-) -> Result<(), TableError>
-    requires sized { IsSized (sheet_of R.cells D.width_at D.height_at grid.now) }
-    requires inside { IsInside (R.cells grid.now.records.now) at.row at.column }
-    requires index_in { index < slice_index (sheet_of R.cells D.width_at D.height_at grid.now).heights at.row }
-    requires text { content.now.text.now ≡ cell_at (R.cells grid.now.records.now) at.row at.column }
-    requires marked { AreKept (R.cells grid.now.records.now) marks.old }
-    ensures printed { Writes (S.sent sink.old) result (S.sent sink.new)
-        (slice_index_or (block (style_at grid.now.config.now at.row at.column)
-        (slice_index (sheet_of R.cells D.width_at D.height_at grid.now).widths at.column) (slice_index (sheet_of R.cells D.width_at D.height_at grid.now).heights at.row)
-        content.now.text.now) index []) }
-    ensures marked { AreKept (R.cells grid.now.records.now) marks.new }
-{
-    let style = grid.config.style_at(at.row, at.column);
-    let (width, height) = (grid.width(at.column), grid.height(at.row));
-    let has_some = content.lines > 1;
-    let mut mark = if has_some {
-        marks.at(at, content.text)
-    } else {
-        Mark::start(content.text)
-    };
-    put_block_line(sink, &style, width, height, content, &mut mark, index)?;
-    if has_some {
-        marks.keep(at, mark);
+impl<'a, R: PeekableRecords, D: Dimension> Cells<'a, R, D> {
+    /// The cells of a table whose sizes are there.
+    pub fn new(grid: &'a Grid<'a, R, D>, marks: Marks<'a>) -> Cells<'a, R, D>
+        requires sized { IsSized grid.now }
+        requires marked { AreKept grid.now.cells marks }
+        ensures { result.grid.now ≡ grid.now }
+    {
+        Cells { grid, marks }
     }
-    Ok(())
-}
 
-fn put_cells<'a, R: PeekableRecords, D: Dimension, S: TextSink>(
-    sink: &mut S,
-    grid: &Grid<'a, R, D>,
-    marks: &mut Marks<'a>,
-    row: usize,
-    index: usize,
-) -> Result<(), TableError>
-    requires sized { IsSized (sheet_of R.cells D.width_at D.height_at grid.now) }
-    requires row_in { row < length (R.cells grid.now.records.now) }
-    requires index_in { index < slice_index (sheet_of R.cells D.width_at D.height_at grid.now).heights row }
-    requires marked { AreKept (R.cells grid.now.records.now) marks.old }
-    ensures printed { Writes (S.sent sink.old) result (S.sent sink.new)
-        (flat_map (cell_piece (sheet_of R.cells D.width_at D.height_at grid.now) row index)
-        (range_with_len 0 (columns (R.cells grid.now.records.now)))) }
-    ensures marked { AreKept (R.cells grid.now.records.now) marks.new }
-{
-    'cells: for column in 0..grid.records.count_columns() {
-        put_cell(sink, grid, marks, Position { row, column }, index)?;
+    /// A line of the block of a cell, with the vertical line before it.
+    fn put_cell<S: TextSink>(
+        &mut self,
+        sink: &mut S,
+        at: Position,
+        index: usize,
+    ) -> Result<(), TableError>
+        requires inside { IsInside self.old.grid.now.cells at.row at.column }
+        requires index_in { index < slice_index self.old.grid.now.heights at.row }
+        ensures printed { Writes (S.sent sink.old) result (S.sent sink.new)
+            (cell_piece self.old.grid.now at.row index at.column) }
+        ensures same { self.new.grid ≡ self.old.grid }
+    {
+        let grid = self.grid;
+        let frame = grid.frame();
+        put_piece(sink, frame.has_bar(at.column), frame.inner.main)?;
+        self.put_block_line(sink, at, index)
     }
-    Ok(())
-}
 
-/// A line of a row.
-pub(crate) fn put_row_line<'a, R: PeekableRecords, D: Dimension, S: TextSink>(
-    sink: &mut S,
-    grid: &Grid<'a, R, D>,
-    marks: &mut Marks<'a>,
-    row: usize,
-    index: usize,
-) -> Result<(), TableError>
-    requires sized { IsSized (sheet_of R.cells D.width_at D.height_at grid.now) }
-    requires row_in { row < length (R.cells grid.now.records.now) }
-    requires index_in { index < slice_index (sheet_of R.cells D.width_at D.height_at grid.now).heights row }
-    requires marked { AreKept (R.cells grid.now.records.now) marks.old }
-    ensures printed { Writes (S.sent sink.old) result (S.sent sink.new)
-        (row_line (sheet_of R.cells D.width_at D.height_at grid.now) row index) }
-    ensures marked { AreKept (R.cells grid.now.records.now) marks.new }
-{
-    put_left(sink, grid.config, grid.config.borders.left)?;
-    put_cells(sink, grid, marks, row, index)?;
-    put_right(sink, grid.config, grid.config.borders.right)
+    /// A line of the block of a cell. Where its text has some lines, the next one is marked.
+    fn put_block_line<S: TextSink>(
+        &mut self,
+        sink: &mut S,
+        at: Position,
+        index: usize,
+    ) -> Result<(), TableError>
+        requires inside { IsInside self.old.grid.now.cells at.row at.column }
+        requires index_in { index < slice_index self.old.grid.now.heights at.row }
+        ensures printed { let t = self.old.grid.now in Writes (S.sent sink.old) result (S.sent sink.new)
+            (slice_index_or (block (style_at t.config at.row at.column) (slice_index t.widths at.column)
+            (slice_index t.heights at.row) (cell_at t.cells at.row at.column)) index []) }
+        ensures same { self.new.grid ≡ self.old.grid }
+    {
+        let block = self.grid.block(at);
+        let content = block.content;
+        if content.lines <= 1 {
+            return block.put_line(sink, &mut Mark::start(content.text), index);
+        }
+        let mut mark = self.marks.at(at, content.text);
+        block.put_line(sink, &mut mark, index)?;
+        self.marks.keep(at, mark);
+        Ok(())
+    }
+
+    fn put_cells<S: TextSink>(
+        &mut self,
+        sink: &mut S,
+        row: usize,
+        index: usize,
+    ) -> Result<(), TableError>
+        requires row_in { row < length self.old.grid.now.cells }
+        requires index_in { index < slice_index self.old.grid.now.heights row }
+        ensures printed { Writes (S.sent sink.old) result (S.sent sink.new)
+            (flat_map (cell_piece self.old.grid.now row index)
+            (range_with_len 0 (columns self.old.grid.now.cells))) }
+        ensures same { self.new.grid ≡ self.old.grid }
+    {
+        'cells: for column in 0..self.grid.count_columns() {
+            self.put_cell(sink, Position { row, column }, index)?;
+        }
+        Ok(())
+    }
+
+    /// A line of a row.
+    pub fn put_row_line<S: TextSink>(
+        &mut self,
+        sink: &mut S,
+        row: usize,
+        index: usize,
+    ) -> Result<(), TableError>
+        requires row_in { row < length self.old.grid.now.cells }
+        requires index_in { index < slice_index self.old.grid.now.heights row }
+        ensures printed { Writes (S.sent sink.old) result (S.sent sink.new)
+            (row_line self.old.grid.now row index) }
+        ensures same { self.new.grid ≡ self.old.grid }
+    {
+        let grid = self.grid;
+        let frame = grid.frame();
+        put_left(sink, frame, frame.left.main)?;
+        self.put_cells(sink, row, index)?;
+        put_right(sink, frame, frame.right.main)
+    }
 }
 
 fn put_rule_piece<R: PeekableRecords, D: Dimension, S: TextSink>(
@@ -134,12 +129,13 @@ fn put_rule_piece<R: PeekableRecords, D: Dimension, S: TextSink>(
     line: &HorizontalLine,
     column: usize,
 ) -> Result<(), TableError>
-    requires sized { IsSized (sheet_of R.cells D.width_at D.height_at grid.now) }
-    requires column_in { column < columns (R.cells grid.now.records.now) }
+    requires sized { IsSized grid.now }
+    requires column_in { column < columns grid.now.cells }
     ensures { Writes (S.sent sink.old) result (S.sent sink.new)
-        (rule_piece (sheet_of R.cells D.width_at D.height_at grid.now) line.now column) }
+        (rule_piece grid.now line.now column) }
 {
-    put_piece(sink, grid.config.has_bar(column), line.intersection)?;
+    let there = grid.frame().has_bar(column);
+    put_piece(sink, there, line.intersection.unwrap_or(' '))?;
     put_fill(sink, line.main.unwrap_or(' '), grid.width(column))
 }
 
@@ -148,12 +144,12 @@ fn put_rule_pieces<R: PeekableRecords, D: Dimension, S: TextSink>(
     grid: &Grid<'_, R, D>,
     line: &HorizontalLine,
 ) -> Result<(), TableError>
-    requires sized { IsSized (sheet_of R.cells D.width_at D.height_at grid.now) }
+    requires sized { IsSized grid.now }
     ensures { Writes (S.sent sink.old) result (S.sent sink.new)
-        (flat_map (rule_piece (sheet_of R.cells D.width_at D.height_at grid.now) line.now)
-        (range_with_len 0 (columns (R.cells grid.now.records.now)))) }
+        (flat_map (rule_piece grid.now line.now)
+        (range_with_len 0 (columns grid.now.cells))) }
 {
-    'pieces: for column in 0..grid.records.count_columns() {
+    'pieces: for column in 0..grid.count_columns() {
         put_rule_piece(sink, grid, line, column)?;
     }
     Ok(())
@@ -165,11 +161,12 @@ pub(crate) fn put_rule_line<R: PeekableRecords, D: Dimension, S: TextSink>(
     grid: &Grid<'_, R, D>,
     line: &HorizontalLine,
 ) -> Result<(), TableError>
-    requires sized { IsSized (sheet_of R.cells D.width_at D.height_at grid.now) }
+    requires sized { IsSized grid.now }
     ensures { Writes (S.sent sink.old) result (S.sent sink.new)
-        (rule_line (sheet_of R.cells D.width_at D.height_at grid.now) line.now) }
+        (rule_line grid.now line.now) }
 {
-    put_left(sink, grid.config, line.left)?;
+    let frame = grid.frame();
+    put_left(sink, frame, line.left.unwrap_or(' '))?;
     put_rule_pieces(sink, grid, line)?;
-    put_right(sink, grid.config, line.right)
+    put_right(sink, frame, line.right.unwrap_or(' '))
 }

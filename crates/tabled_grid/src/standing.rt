@@ -69,11 +69,7 @@ fn check_stored_cells<R: PeekableRecords>(
     ensures err { IfErr result (IsNarrow (standing (R.cells records.now) config.now stored.now)) }
 {
     match stored.get_widths() {
-        Some(_) => check_narrow(&Grid {
-            records,
-            config,
-            dimension: stored,
-        }),
+        Some(_) => check_narrow(&Grid::new(records, config, stored)),
         None => Ok(()),
     }
 }
@@ -113,13 +109,8 @@ pub fn print_standing<R: PeekableRecords, S: TextSink>(
     }
     check_stored(records, config, stored)?;
     if stored.is_complete() {
-        let grid = Grid {
-            records,
-            config,
-            dimension: stored,
-        };
-        let mut marks = Marks::new();
-        return print_held(sink, &grid, &mut marks);
+        let grid = Grid::new(records, config, stored);
+        return print_held(sink, &grid, Marks::new());
     }
     print_filled_in(records, config, stored, sink)
 }
@@ -139,13 +130,9 @@ fn print_filled_in<R: PeekableRecords, S: TextSink>(
 {
     let mut sizes = stored.clone()?;
     sizes.estimate(records, config)?;
-    let mut marks = Marks::for_columns(sizes.allocator(), records.count_columns())?;
-    let grid = Grid {
-        records,
-        config,
-        dimension: &sizes,
-    };
-    print_held(sink, &grid, &mut marks)
+    let marks = Marks::for_columns(sizes.allocator(), records.count_columns())?;
+    let grid = Grid::new(records, config, &sizes);
+    print_held(sink, &grid, marks)
 }
 
 /// Prints records under a configuration, with the sizes that their texts ask for. Refused for memory and

@@ -3,8 +3,7 @@ use Rattle.std.specs.Prelude.{ℕ, ◌+◌, ◌-◌, ◌*◌, if◌then◌else�
 use Rattle.std.specs.List.{slice_index}
 use Rattle.tabled_base.specs.Cells.{columns}
 use Rattle.tabled_config.specs.declared.spanned.SpannedConfig.{SpannedConfig}
-use Rattle.tabled_config.specs.Frame.{has_left, has_right, has_inner}
-use Rattle.tabled_config.specs.Settings.{rule_at}
+use Rattle.tabled_config.specs.Settings.{frame, rule_at}
 use Rattle.tabled_priority.specs.Sums.{one_if, sum_below}
 use Rattle.tabled_size.specs.Sheet.{Sheet, is_empty}
 
@@ -12,9 +11,10 @@ use Rattle.tabled_size.specs.Sheet.{Sheet, is_empty}
 -- the left and right
 unfoldable pub filled_width : SpannedConfig → ℕ → List ℕ → ℕ
 filled_width config count widths =
-    (config.margin.left.size + one_if (has_left config.borders))
-    + ((sum_below (slice_index widths) count + (count - 1) * one_if (has_inner config.borders))
-    + (one_if (has_right config.borders) + config.margin.right.size))
+    let f = frame config in
+    (f.margin.left.size + one_if f.left.there)
+    + ((sum_below (slice_index widths) count + (count - 1) * one_if f.inner.there)
+    + (one_if f.right.there + f.margin.right.size))
 
 -- how many horizontal lines, none or one, stand above the row i or below the last row
 abbrev pub rules_at : SpannedConfig → ℕ → ℕ → ℕ
@@ -28,8 +28,8 @@ part_height config rows heights row = rules_at config rows row + slice_index hei
 -- the top and bottom
 unfoldable pub filled_height : SpannedConfig → ℕ → List ℕ → ℕ
 filled_height config rows heights =
-    config.margin.top.size
-    + (sum_below (part_height config rows heights) rows + (rules_at config rows rows + config.margin.bottom.size))
+    (frame config).margin.top.size
+    + (sum_below (part_height config rows heights) rows + (rules_at config rows rows + (frame config).margin.bottom.size))
 
 -- the columns of the whole, none for a table with no row or no column
 abbrev pub total_width : Sheet → ℕ

@@ -58,11 +58,11 @@ pub fn filled_width<D: Dimension>(
     ensures { let whole = filled_width config.now columns (reached (D.width_at sizes.now) columns) in
         MatchOption result (2 ^ 64 ≤ whole) (λ n. n ≡ whole) }
 {
-    let borders = &config.borders;
-    let margin = &config.margin;
-    let left = margin.left.size.checked_add(one_if(borders.has_left()))?;
-    let right = one_if(borders.has_right()).checked_add(margin.right.size)?;
-    let bars = columns.saturating_sub(1) * one_if(borders.has_inner());
+    let frame = config.frame();
+    let margin = frame.margin;
+    let left = margin.left.size.checked_add(one_if(frame.left.there))?;
+    let right = one_if(frame.right.there).checked_add(margin.right.size)?;
+    let bars = columns.saturating_sub(1) * one_if(frame.inner.there);
     let inside = sum_widths(sizes, columns)?.checked_add(bars)?;
     left.checked_add(inside.checked_add(right)?)
 }

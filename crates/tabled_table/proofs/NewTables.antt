@@ -85,13 +85,15 @@ style_plain row column = record { left = plain_column-space; right = plain_colum
 pub new_plain : (rows count : ℕ) → IsPlainConfig new_config rows count
 unfolding new_config
 new_plain rows count = record {
-  vertical = bar;
-  left = bar;
-  right = bar;
-  margin_left = plain_column-space;
-  margin_right = plain_column-space;
-  margin_top = plain_column-space;
-  margin_bottom = plain_column-space;
+  frame = record {
+    vertical = bar;
+    left = bar;
+    right = bar;
+    margin_left = plain_column-space;
+    margin_right = plain_column-space;
+    margin_top = plain_column-space;
+    margin_bottom = plain_column-space;
+  };
   rules = λ i b. rule_plain rows i;
   styles = λ row column h k. style_plain row column;
 }

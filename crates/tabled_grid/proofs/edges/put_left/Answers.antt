@@ -9,4 +9,4 @@ returns-in_err-put_indent g c = stopped-first _ _ _ c.in_err-put_indent.ensures 
 
 pub returns : goal.returns
 unfolding left_edge
-returns g c = finished _ _ _ _ c.in_ok-put_indent.ensures c.put_piece.ensures (rw c.has_left.ensures refl)
+returns g c = finished _ _ _ _ c.in_ok-put_indent.ensures c.put_piece.ensures refl

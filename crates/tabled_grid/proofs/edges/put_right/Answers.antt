@@ -6,8 +6,8 @@ use Rattle.tabled_grid.proofs.edges.put_right.Goals as goal
 
 pub returns-in_err-put_piece : goal.returns-in_err-put_piece
 unfolding right_edge
-returns-in_err-put_piece g c = stopped-first _ _ (indent c.args.config.now.margin.right) c.in_err-put_piece.ensures c.from_residual.ensures.1 (rw c.has_right.ensures refl)
+returns-in_err-put_piece g c = stopped-first _ _ (indent c.args.frame.now.margin.right) c.in_err-put_piece.ensures c.from_residual.ensures.1 refl
 
 pub returns : goal.returns
 unfolding right_edge
-returns g c = finished _ _ _ _ c.in_ok-put_piece.ensures c.put_indent.ensures (rw c.has_right.ensures refl)
+returns g c = finished _ _ _ _ c.in_ok-put_piece.ensures c.put_indent.ensures refl

@@ -1,16 +1,15 @@
 use Rattle.tabled_grid.proofs.Sending.{stopped, further}
-use Rattle.tabled_grid.specs.Grid.{sheet_of}
 use Rattle.tabled_grid.specs.Picture.{rule_piece}
 use Rattle.tabled_grid.proofs.Each.{each-more, each-rest}
 use Rattle.tabled_grid.proofs.rows.put_rule_pieces.Goals as goal
 
 pub returns-in_err-put_rule_piece : goal.returns-in_err-put_rule_piece
 returns-in_err-put_rule_piece g c =
-    let within = rw c.count_columns-column-end.ensures.columns at c.pieces-test.true in
+    let within = rw c.count_columns-column-end.ensures at c.pieces-test.true in
     stopped _ _ _ c.pieces.invariant c.in_err-put_rule_piece.ensures c.from_residual.ensures.1
-    (each-rest (rule_piece (sheet_of g.R.ExactRecords.cells g.D.Dimension.width_at g.D.Dimension.height_at c.args.grid.now) c.args.line.now) _ _ within)
+    (each-rest (rule_piece c.args.grid.now c.args.line.now) _ _ within)
 
 pub pieces-preserved : goal.pieces-preserved
 pieces-preserved g c =
     further c.pieces.invariant c.in_ok-put_rule_piece.ensures
-    (each-more (rule_piece (sheet_of g.R.ExactRecords.cells g.D.Dimension.width_at g.D.Dimension.height_at c.args.grid.now) c.args.line.now) _)
+    (each-more (rule_piece c.args.grid.now c.args.line.now) _)

@@ -1,10 +1,9 @@
 use Rattle.std.specs.List.{flat_map, range_with_len}
 use Rattle.tabled_grid.specs.Sent.{Sends}
-use Rattle.tabled_grid.specs.Grid.{sheet_of}
 use Rattle.tabled_grid.specs.Picture.{rule_piece}
 use Rattle.tabled_grid.proofs.rows.put_rule_pieces.Given as goal
 
 abbrev pub invariant-pieces : goal.invariant-pieces
 invariant-pieces g l =
     Sends (g.S.TextSink.sent l.initial.sink) (g.S.TextSink.sent l.sink)
-    (flat_map (rule_piece (sheet_of g.R.ExactRecords.cells g.D.Dimension.width_at g.D.Dimension.height_at l.grid) l.line) (range_with_len 0 l.column))
+    (flat_map (rule_piece l.grid l.line) (range_with_len 0 l.column))

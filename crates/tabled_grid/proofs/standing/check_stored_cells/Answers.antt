@@ -1,5 +1,6 @@
 use Rattle.std.proofs.Common.{◌∙◌, ◌≤◌, ap, length, option_map, subst, sym}
 use Rattle.tabled_base.specs.Cells.{columns}
+use Rattle.tabled_size.specs.Sheet.{Sheet}
 use Rattle.tabled_grid.proofs.StandingSizes.{held_estimated, held_stored, narrow_stored, stored_stands}
 use Rattle.tabled_grid.proofs.standing.check_stored_cells.Goals as goal
 
@@ -7,17 +8,18 @@ pub check_narrow-requires : goal.check_narrow-requires
 check_narrow-requires g c =
     let cells = g.R.ExactRecords.cells c.args.records.now in
     let stands = stored_stands cells c.args.config.now c.args.stored.now c.in-Some.field-0.now (sym c.get_widths.ensures ∙ ap (option_map (λ s. s.now)) c.in-Some.is) in
-    record { sized = subst (λ xs. columns cells ≤ length xs) (sym stands) c.requires }
+    let P : Sheet → Type 0 = λ t. columns t.cells ≤ length t.widths in
+    record { sized = subst P (sym c.new.ensures) (subst (λ xs. columns cells ≤ length xs) (sym stands) c.requires) }
 
 pub returns-in-Some-clause-ok : goal.returns-in-Some-clause-ok
 returns-in-Some-clause-ok g c =
     held_stored (g.R.ExactRecords.cells c.args.records.now) c.args.config.now _ c.args.stored.now c.in-Some.field-0.now
-    (sym c.get_widths.ensures ∙ ap (option_map (λ s. s.now)) c.in-Some.is) c.check_narrow.ensures.ok
+    (sym c.get_widths.ensures ∙ ap (option_map (λ s. s.now)) c.in-Some.is) (rw c.new.ensures at c.check_narrow.ensures.ok)
 
 pub returns-in-Some-clause-err : goal.returns-in-Some-clause-err
 returns-in-Some-clause-err g c =
     narrow_stored (g.R.ExactRecords.cells c.args.records.now) c.args.config.now _ c.args.stored.now c.in-Some.field-0.now
-    (sym c.get_widths.ensures ∙ ap (option_map (λ s. s.now)) c.in-Some.is) c.check_narrow.ensures.err
+    (sym c.get_widths.ensures ∙ ap (option_map (λ s. s.now)) c.in-Some.is) (rw c.new.ensures at c.check_narrow.ensures.err)
 
 pub returns-in-None-clause-ok : goal.returns-in-None-clause-ok
 returns-in-None-clause-ok g c =

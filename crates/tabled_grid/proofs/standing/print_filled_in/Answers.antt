@@ -1,4 +1,4 @@
-use Rattle.std.proofs.Common.{false, subst, sym}
+use Rattle.std.proofs.Common.{◌∙◌, false, subst, sym}
 use Rattle.tabled_size.specs.Sheet.{Sheet}
 use Rattle.tabled_size.specs.StandingSheet.{standing}
 use Rattle.tabled_size.specs.Holds.{Holds, IsSized}
@@ -16,14 +16,14 @@ returns-in_err-estimate g c =
 pub print_held-requires-clause-sized : goal.print_held-requires-clause-sized
 print_held-requires-clause-sized g c =
     subst IsSized
-    (sym (answered_filled (g.R.ExactRecords.cells c.args.records.now) c.args.config.now c.args.stored.now c.in_ok-sizes.sizes c.estimate.new.self
+    (sym (c.new-grid.ensures ∙ answered_filled (g.R.ExactRecords.cells c.args.records.now) c.args.config.now c.args.stored.now c.in_ok-sizes.sizes c.estimate.new.self
     c.in_ok-sizes.ensures.widths c.in_ok-sizes.ensures.heights c.in_ok-estimate.ensures.ok))
     c.requires.sized
 
 pub print_held-requires-clause-holds : goal.print_held-requires-clause-holds
 print_held-requires-clause-holds g c =
     subst Holds
-    (sym (answered_filled (g.R.ExactRecords.cells c.args.records.now) c.args.config.now c.args.stored.now c.in_ok-sizes.sizes c.estimate.new.self
+    (sym (c.new-grid.ensures ∙ answered_filled (g.R.ExactRecords.cells c.args.records.now) c.args.config.now c.args.stored.now c.in_ok-sizes.sizes c.estimate.new.self
     c.in_ok-sizes.ensures.widths c.in_ok-sizes.ensures.heights c.in_ok-estimate.ensures.ok))
     c.requires.holds
 
@@ -32,9 +32,9 @@ returns g c =
     let P : Sheet → Type 0 = λ t. Prints false t (g.S.TextSink.sent c.args.sink.now) c.print_held.result (g.S.TextSink.sent c.print_held.new.sink) in
     estimating (standing (g.R.ExactRecords.cells c.args.records.now) c.args.config.now c.args.stored.now)
     (g.S.TextSink.sent c.args.sink.now) (g.S.TextSink.sent c.print_held.new.sink) c.print_held.result (subst P
-    (answered_filled (g.R.ExactRecords.cells c.args.records.now) c.args.config.now c.args.stored.now c.in_ok-sizes.sizes c.estimate.new.self
+    (c.new-grid.ensures ∙ answered_filled (g.R.ExactRecords.cells c.args.records.now) c.args.config.now c.args.stored.now c.in_ok-sizes.sizes c.estimate.new.self
     c.in_ok-sizes.ensures.widths c.in_ok-sizes.ensures.heights c.in_ok-estimate.ensures.ok)
     c.print_held.ensures)
 
 pub print_held-requires-clause-marked : goal.print_held-requires-clause-marked
-print_held-requires-clause-marked g c = c.in_ok-marks.ensures.ok (g.R.ExactRecords.cells c.args.records.now)
+print_held-requires-clause-marked g c = c.in_ok-marks.ensures.ok c.new-grid.result.cells

@@ -1,7 +1,6 @@
 use Rattle.std.proofs.Common.{◌∙◌, Bool, ap, false, not, subst, sym}
 use Rattle.tabled_size.specs.Sheet.{Sheet}
 use Rattle.tabled_size.specs.StandingSheet.{standing}
-use Rattle.tabled_size.specs.Stored.{is_stored}
 use Rattle.tabled_size.specs.Holds.{Holds, IsSized}
 use Rattle.tabled_grid.specs.Printed.{Prints}
 use Rattle.tabled_grid.proofs.Printing.{prints_nothing}
@@ -15,13 +14,13 @@ returns-then-is_empty g c =
 pub print_held-requires-clause-sized : goal.print_held-requires-clause-sized
 print_held-requires-clause-sized g c =
     subst IsSized
-    (sym (answered_complete (g.R.ExactRecords.cells c.args.records.now) c.args.config.now c.args.stored.now (sym c.is_complete.ensures ∙ c.if-is_complete.true)))
+    (sym (c.new-grid.ensures ∙ answered_complete (g.R.ExactRecords.cells c.args.records.now) c.args.config.now c.args.stored.now (sym c.is_complete.ensures ∙ c.if-is_complete.true)))
     c.in_ok-check_stored.ensures.sized
 
 pub print_held-requires-clause-holds : goal.print_held-requires-clause-holds
 print_held-requires-clause-holds g c =
     subst Holds
-    (sym (answered_complete (g.R.ExactRecords.cells c.args.records.now) c.args.config.now c.args.stored.now (sym c.is_complete.ensures ∙ c.if-is_complete.true)))
+    (sym (c.new-grid.ensures ∙ answered_complete (g.R.ExactRecords.cells c.args.records.now) c.args.config.now c.args.stored.now (sym c.is_complete.ensures ∙ c.if-is_complete.true)))
     c.in_ok-check_stored.ensures.holds
 
 pub returns-then-is_complete : goal.returns-then-is_complete
@@ -31,7 +30,7 @@ returns-then-is_complete g c =
     let Q : Bool → Type 0 = λ estimates. Prints estimates (standing (g.R.ExactRecords.cells c.args.records.now) c.args.config.now c.args.stored.now)
     (g.S.TextSink.sent c.args.sink.now) c.print_held.result (g.S.TextSink.sent c.print_held.new.sink) in
     subst Q (ap not (sym stored))
-    (subst P (answered_complete (g.R.ExactRecords.cells c.args.records.now) c.args.config.now c.args.stored.now stored) c.print_held.ensures)
+    (subst P (c.new-grid.ensures ∙ answered_complete (g.R.ExactRecords.cells c.args.records.now) c.args.config.now c.args.stored.now stored) c.print_held.ensures)
 
 pub returns : goal.returns
 returns g c =
@@ -40,4 +39,4 @@ returns g c =
     subst Q (ap not (sym (sym c.is_complete.ensures ∙ c.if-is_complete.false))) c.print_filled_in.ensures
 
 pub print_held-requires-clause-marked : goal.print_held-requires-clause-marked
-print_held-requires-clause-marked g c = c.new-marks.ensures (g.R.ExactRecords.cells c.args.records.now)
+print_held-requires-clause-marked g c = c.new.ensures c.new-grid.result.cells

@@ -1,19 +1,18 @@
-use Rattle.tabled_grid.specs.Grid.{sheet_of}
 use Rattle.tabled_grid.proofs.Leading.{one-line, one-line-stopped, lines-none}
 use Rattle.tabled_grid.proofs.Rules.{rule-some, rule-none}
-use Rattle.tabled_grid.proofs.picture.put_rule.Goals as goal
+use Rattle.tabled_grid.proofs.picture.Lines.put_rule.Goals as goal
 
 pub returns-in_err-put_break-in-Some-clause-printed : goal.returns-in_err-put_break-in-Some-clause-printed
 returns-in_err-put_break-in-Some-clause-printed g c =
-    rw (rule-some (sheet_of g.R.ExactRecords.cells g.D.Dimension.width_at g.D.Dimension.height_at c.args.grid.now) c.args.index c.count_rows.result c.in-Some.line c.count_rows.ensures c.in-Some.ensures)
+    rw (rule-some c.args.self.now.cells.grid.now c.args.index c.in-Some.line c.in-Some.ensures)
     (one-line-stopped _ _ _ _ _ c.in_err-put_break-in-Some.ensures.printed c.from_residual.ensures.1)
 
 pub returns-in_ok-put_break-in-Some-clause-printed : goal.returns-in_ok-put_break-in-Some-clause-printed
 returns-in_ok-put_break-in-Some-clause-printed g c =
-    rw (rule-some (sheet_of g.R.ExactRecords.cells g.D.Dimension.width_at g.D.Dimension.height_at c.args.grid.now) c.args.index c.count_rows.result c.in-Some.line c.count_rows.ensures c.in-Some.ensures)
+    rw (rule-some c.args.self.now.cells.grid.now c.args.index c.in-Some.line c.in-Some.ensures)
     (one-line _ _ _ _ _ c.in_ok-put_break-in-Some.ensures.printed c.put_kept_line.ensures.printed c.put_break.ensures.after)
 
 pub returns-in-None-clause-printed : goal.returns-in-None-clause-printed
 returns-in-None-clause-printed g c =
-    rw (rule-none (sheet_of g.R.ExactRecords.cells g.D.Dimension.width_at g.D.Dimension.height_at c.args.grid.now) c.args.index c.count_rows.result c.count_rows.ensures c.in-None.ensures)
+    rw (rule-none c.args.self.now.cells.grid.now c.args.index c.in-None.ensures)
     (lines-none _ _)

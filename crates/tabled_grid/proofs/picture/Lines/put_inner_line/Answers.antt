@@ -1,5 +1,5 @@
 use Rattle.tabled_grid.proofs.Leading.{one-line, one-line-stopped}
-use Rattle.tabled_grid.proofs.picture.put_inner_line.Goals as goal
+use Rattle.tabled_grid.proofs.picture.Lines.put_inner_line.Goals as goal
 
 pub returns-in_err-put_break-clause-printed : goal.returns-in_err-put_break-clause-printed
 returns-in_err-put_break-clause-printed g c = one-line-stopped _ _ _ _ _ c.in_err-put_break.ensures.printed c.from_residual.ensures.1

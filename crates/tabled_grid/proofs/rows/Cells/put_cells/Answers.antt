@@ -1,0 +1,19 @@
+use Rattle.std.proofs.Common.{◌∙◌}
+use Rattle.tabled_grid.proofs.Sending.{stopped, further}
+use Rattle.tabled_grid.specs.Picture.{cell_piece}
+use Rattle.tabled_grid.proofs.Each.{each-more, each-rest}
+use Rattle.tabled_grid.proofs.rows.Cells.put_cells.Goals as goal
+
+pub returns-in_err-put_cell-clause-printed : goal.returns-in_err-put_cell-clause-printed
+returns-in_err-put_cell-clause-printed g c =
+    let within = rw c.count_columns-column-end.ensures at c.cells-test.true in
+    stopped _ _ _ c.cells.invariant.printed (rw c.cells.invariant.same at c.in_err-put_cell.ensures.printed) c.from_residual.ensures.1
+    (each-rest (cell_piece c.args.self.now.grid.now c.args.row c.args.index) _ _ within)
+
+pub cells-preserved : goal.cells-preserved
+cells-preserved g c =
+    record {
+      printed = further c.cells.invariant.printed (rw c.cells.invariant.same at c.in_ok-put_cell.ensures.printed)
+          (each-more (cell_piece c.args.self.now.grid.now c.args.row c.args.index) _);
+      same = c.in_ok-put_cell.ensures.same ∙ c.cells.invariant.same;
+    }
