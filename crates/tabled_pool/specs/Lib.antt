@@ -2,7 +2,9 @@ pub mod Block
 pub mod Drawable
 pub mod Drawn
 pub mod Frames
+pub mod Margins
 pub mod Owner
 pub mod PlainTree
 pub mod Plans
+pub mod Pool
 pub mod Tiled

@@ -52,8 +52,9 @@ fn put_place<S: TextSink>(
     }
 }
 
+/// A line of a drawing, place by place.
 #[tactic(auto, unfolding(crate::specs::Drawn::drawn_line))]
-fn put_line<S: TextSink>(
+pub(crate) fn put_line<S: TextSink>(
     sink: &mut S,
     drawing: &Drawing<'_, '_>,
     y: usize,
@@ -65,48 +66,4 @@ fn put_line<S: TextSink>(
         put_place(sink, drawing, y, x)?;
     }
     Ok(())
-}
-
-fn put_led_line<S: TextSink>(
-    sink: &mut S,
-    begun: &mut bool,
-    drawing: &Drawing<'_, '_>,
-    y: usize,
-) -> Result<(), TableError>
-    requires down { y < 2 ^ 64 - 1 }
-    ensures { WritesLines (S.sent sink.old) begun.old result (S.sent sink.new) begun.new (drawn_line (plan_of drawing.now) y ∷ []) }
-{
-    put_break(sink, begun)?;
-    put_line(sink, drawing, y)
-}
-
-#[tactic(auto, unfolding(crate::specs::Drawn::drawn))]
-fn put_lines<S: TextSink>(
-    sink: &mut S,
-    begun: &mut bool,
-    drawing: &Drawing<'_, '_>,
-) -> Result<(), TableError>
-    ensures { WritesLines (S.sent sink.old) begun.old result (S.sent sink.new) begun.new (drawn (plan_of drawing.now)) }
-{
-    'lines: for y in 0..drawing.height {
-        put_led_line(sink, begun, drawing, y)?;
-    }
-    Ok(())
-}
-
-/// Draws the pieces.
-#[tactic(auto, using(crate::proofs::Columns::drawn_takes, crate::proofs::Tiles::drawn_tiles))]
-pub(crate) fn draw<S: TextSink>(sink: &mut S, drawing: &Drawing<'_, '_>) -> Result<(), TableError>
-    ensures printed { Writes (S.sent sink.old) result (S.sent sink.new) (join_with_byte 10 (drawn (plan_of drawing.now))) }
-    ensures tiled { IsDrawable (plan_of drawing.now) → Tiled (plan_of drawing.now) }
-    ensures columns { IsDrawable (plan_of drawing.now) → EachLineTakes drawing.now.width (drawn (plan_of drawing.now)) }
-{
-    put_all(sink, drawing)
-}
-
-fn put_all<S: TextSink>(sink: &mut S, drawing: &Drawing<'_, '_>) -> Result<(), TableError>
-    ensures { Writes (S.sent sink.old) result (S.sent sink.new) (join_with_byte 10 (drawn (plan_of drawing.now))) }
-{
-    let mut begun = false;
-    put_lines(sink, &mut begun, drawing)
 }

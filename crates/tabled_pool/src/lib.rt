@@ -4,5 +4,10 @@
 mod block;
 mod draw;
 mod find;
+mod margins;
 mod pieces;
 mod plan;
+mod pool_table;
+
+pub use pool_table::PoolTable;
+pub use tabled_boxes::TableValue;
