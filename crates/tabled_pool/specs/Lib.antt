@@ -1,8 +1,10 @@
+pub mod Applied
 pub mod Block
 pub mod Drawable
 pub mod Drawn
 pub mod Frames
 pub mod Margins
+pub mod NewPool
 pub mod Owner
 pub mod PlainTree
 pub mod Plans

@@ -1,6 +1,7 @@
 //! Tables whose boxes stand in one another.
 #![tactic(auto)]
 
+mod applying;
 mod block;
 mod draw;
 mod find;
@@ -9,5 +10,6 @@ mod pieces;
 mod plan;
 mod pool_table;
 
+pub use applying::NoRecords;
 pub use pool_table::PoolTable;
 pub use tabled_boxes::TableValue;

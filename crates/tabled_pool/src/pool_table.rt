@@ -25,6 +25,7 @@ ghost use Rattle.tabled_pool.specs.Pool.{
   style_of,
   total_width,
 };
+ghost use Rattle.tabled_pool.specs.NewPool.{IsNewConfig, IsNewPool};
 ghost use Rattle.tabled_pool.specs.Tiled.{Tiled};
 
 use crate::margins::put_framed;
@@ -32,9 +33,9 @@ use crate::plan::{Drawing, has_bottom, has_top};
 use std::alloc::Global;
 use tabled_base::TableError;
 use tabled_boxes::{Gaps, Piece, Rectangle, Size, TableValue, own_size, place_tree};
-use tabled_config::{Borders, CellStyle, CompactMultilineConfig, Indent, Sides};
+use tabled_config::{Borders, CellStyle, CompactMultilineConfig, Indent, Sides, Style};
 use tabled_grid::TextSink;
-use tabled_size::PoolTableDimension;
+use tabled_size::{DimensionPriority, PoolTableDimension};
 
 fn one_if(there: bool) -> usize
     ensures { result ≡ one_if there }
@@ -71,15 +72,50 @@ fn style_of(config: &CompactMultilineConfig) -> CellStyle
     }
 }
 
+/// Ascii borders, one column of padding on the left and right, no margin, texts at the left and the top.
+fn new_config() -> CompactMultilineConfig
+    ensures { IsNewConfig result }
+{
+    let one = Indent::spaced(1);
+    let none = Indent::zero();
+    let mut config = CompactMultilineConfig::new();
+    config.set_borders(Style::ascii().get_borders());
+    config.set_padding(Sides::new(one, one, none, none));
+    config
+}
+
 /// A table whose rows needn't have as many cells as one another, and whose boxes hold texts, rows or columns.
 #[derive(Debug, Drop, PartialEq, Eq, PartialOrd, Ord)]
 pub struct PoolTable {
-    value: TableValue,
-    config: CompactMultilineConfig,
-    dimension: PoolTableDimension,
+    pub(crate) value: TableValue,
+    pub(crate) config: CompactMultilineConfig,
+    pub(crate) dimension: PoolTableDimension,
 }
 
 impl PoolTable {
+    /// A table of a value: ascii borders, one column of padding on the left and right, no margin, texts at the left
+    /// and the top, and what is left over given to all boxes. It takes no memory.
+    pub fn from_value(value: TableValue) -> PoolTable
+        ensures { IsNewPool value result }
+    {
+        PoolTable {
+            value,
+            config: new_config(),
+            dimension: PoolTableDimension::new(DimensionPriority::List, DimensionPriority::List),
+        }
+    }
+
+    /// The text that `write_to` writes. Refused for memory, and with `Range` where the columns or the lines of the
+    /// whole pass the greatest `usize`.
+    pub fn to_string(&self) -> Result<String, TableError>
+        ensures ok { IfOk result (λ text. string_bytes text ≡ pool_text self.now) }
+        ensures err { IfErr result (λ e. (e ≡ Memory) ⊎ ((e ≡ Range) × PassesRange self.now)) }
+    {
+        let mut text = String::new(self.value.allocator());
+        self.write_to(&mut text)?;
+        Ok(text)
+    }
+
     fn gaps(&self) -> Gaps
         ensures { result ≡ gaps_of self.now }
     {
