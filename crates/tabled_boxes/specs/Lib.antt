@@ -1,0 +1,4 @@
+pub mod Boxes
+pub mod Tiling
+pub mod Shown
+pub mod Left

@@ -1,0 +1,9 @@
+pub mod Columns
+pub mod Contains
+pub mod MarginLemmas
+pub mod Owners
+pub mod PlainBlocks
+pub mod Plains
+pub mod PoolBlocks
+pub mod PoolLemmas
+pub mod Tiles

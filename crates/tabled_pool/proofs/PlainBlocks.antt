@@ -1,0 +1,83 @@
+-- The columns of the lines of a block.
+use Rattle.std.proofs.Common.{◌≡◌, ℕ, ◌+◌, ◌-◌, ◌<◌, ◌≤◌, ltb, if◌then◌else◌, Bool, true, false, cond, List, [], length, get_or, sym, subst, arith, ⊎_elim}
+use Rattle.std.proofs.lemmas.Bool.{cases_lt}
+use Rattle.std.proofs.lemmas.Option.{slice_get_cases, slice_get-get_or}
+use Rattle.tabled_text.specs.Measure.{lines_of, text_columns, line_columns}
+use Rattle.tabled_text.specs.Plain.{IsPlain, IsPlainLine}
+use Rattle.tabled_text.proofs.Bridge.{line_columns-le}
+use Rattle.tabled_text.proofs.PlainLines.{plain_line-append, plain_line-as, plain_line-each, plain_column-space}
+use Rattle.tabled_config.specs.declared.alignment.AlignmentHorizontal.{AlignmentHorizontal}
+use Rattle.tabled_config.specs.declared.alignment.AlignmentHorizontal.TheVariants as horizontal
+use Rattle.tabled_config.specs.declared.spanned.CellStyle.{CellStyle}
+use Rattle.tabled_grid.specs.Block.{before_text, text_room, columns_before, cell_line}
+use Rattle.tabled_grid.specs.PlainSheet.{IsPlainStyle}
+use Rattle.tabled_grid.specs.Fill.{fill}
+use Rattle.tabled_grid.proofs.Measuring.{plain-fill}
+use Rattle.tabled_pool.specs.Block.{lines_above, line_below, pool_block}
+use Rattle.tabled_pool.proofs.PoolBlocks.{block-above, block-top, block-text, block-past, block-below}
+
+before-le : (a : AlignmentHorizontal) (n : ℕ) → before_text a n ≤ n
+before-le horizontal.Left n = omega arith
+before-le horizontal.Center n = omega arith
+before-le horizontal.Right n = omega arith
+
+columns_before-fits : (s : CellStyle) (room : ℕ) (text line : List ℕ) → line_columns line ≤ text_columns text → text_columns text ≤ room → columns_before s room text line + line_columns line ≤ room
+columns_before-fits s room text line l m =
+    elim s.line_alignment as (λ b. before_text s.horizontal (room - (cond b (line_columns line) (text_columns text))) + line_columns line ≤ room) [
+      | true ↦ let h = before-le s.horizontal (room - line_columns line) in omega arith
+      | false ↦ let h = before-le s.horizontal (room - text_columns text) in omega arith
+    ]
+
+-- a box holds a plain text and its padding
+pub record IsPlainBox (s : CellStyle) (w : ℕ) (text : List ℕ) : Type 0 where
+  pub style : IsPlainStyle s
+  pub plain : IsPlain text
+  pub fits : text_columns text + (s.padding.left.size + s.padding.right.size) ≤ w
+
+plain-cell_line : (s : CellStyle) (w : ℕ) (text : List ℕ) (j : ℕ) → IsPlainBox s w text → j < length (lines_of text) → IsPlainLine (cell_line s w text (get_or (lines_of text) j [])) w
+unfolding cell_line
+plain-cell_line s w text j p l =
+    let line = get_or (lines_of text) j [] in
+    let le = line_columns-le text j l in
+    let fits = p.fits in
+    let before = columns_before-fits s (text_room s w) text line le (omega arith) in
+    let room = text_room s w in
+    let indented = columns_before s room text line in
+    plain_line-as
+    (plain_line-append (plain-fill s.padding.left.fill s.padding.left.size p.style.left)
+    (plain_line-append (plain-fill 32 indented plain_column-space)
+    (plain_line-append (plain_line-each text p.plain j l)
+    (plain_line-append (plain-fill 32 (room - indented - line_columns line) plain_column-space)
+    (plain-fill s.padding.right.fill s.padding.right.size p.style.right)))))
+    (omega arith)
+
+plain-below : (s : CellStyle) (w k : ℕ) → IsPlainStyle s → IsPlainLine (line_below s w k) w
+plain-below s w k p =
+    elim (ltb k s.padding.bottom.size) as (λ b. IsPlainLine (cond b (fill s.padding.bottom.fill w) (fill 32 w)) w) [
+      | true ↦ plain-fill s.padding.bottom.fill w p.bottom
+      | false ↦ plain-fill 32 w plain_column-space
+    ]
+
+plain-padded : (s : CellStyle) (w h k : ℕ) (text : List ℕ) → IsPlainBox s w text → k < h → lines_above s h text ≤ k → s.padding.top.size ≤ k - lines_above s h text → IsPlainLine (get_or (pool_block s w h text) k []) w
+plain-padded s w h k text p n l m =
+    let P : List ℕ → Type 0 = λ bs. IsPlainLine bs w in
+    let j = k - lines_above s h text - s.padding.top.size in
+    ⊎_elim
+    (λ x. subst P
+    (sym (block-text s w h text k (get_or (lines_of text) j []) l m (sym (slice_get-get_or (lines_of text) j [] x.1))))
+    (plain-cell_line s w text j p x.1))
+    (λ x. subst P
+    (sym (block-below s w h text k n l m (block-past s w h text k l m (sym x.1))))
+    (plain-below s w (j - length (lines_of text)) p.style))
+    (slice_get_cases (lines_of text) j).1
+
+pub plain-pool_block : (s : CellStyle) (w h k : ℕ) (text : List ℕ) → IsPlainBox s w text → k < h → IsPlainLine (get_or (pool_block s w h text) k []) w
+plain-pool_block s w h k text p n =
+    let P : List ℕ → Type 0 = λ bs. IsPlainLine bs w in
+    ⊎_elim
+    (λ l. subst P (sym (block-above s w h text k l)) (plain-fill 32 w plain_column-space))
+    (λ l. ⊎_elim
+    (λ m. subst P (sym (block-top s w h text k l m)) (plain-fill s.padding.top.fill w p.style.top))
+    (λ m. plain-padded s w h k text p n l m)
+    (cases_lt (k - lines_above s h text) s.padding.top.size))
+    (cases_lt k (lines_above s h text))

@@ -1,0 +1,8 @@
+use Rattle.tabled_pool.proofs.PoolLemmas.{pool_tiles, pool_columns}
+use Rattle.tabled_pool.proofs.pool_table.PoolTable.write_to.Goals as goal
+
+pub returns-clause-tiled : goal.returns-clause-tiled
+returns-clause-tiled g c = λ h. pool_tiles _ h
+
+pub returns-clause-columns : goal.returns-clause-columns
+returns-clause-columns g c = λ h. pool_columns _ h

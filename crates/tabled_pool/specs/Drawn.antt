@@ -1,0 +1,71 @@
+-- The lines of a drawing: at each place the line of a leaf that begins there, or one border character.
+use Rattle.std.specs.Prelude.{◌≡◌, ℕ, zero, suc, ◌+◌, ◌-◌, ◌<◌, ◌≤◌, ◌==◌, ltb, if◌then◌else◌, Bool, true, false, ◌&&◌, ◌||◌, List, [], ◌∷◌, ◌++◌, map, Option, Some, None, unwrap_or, encode_utf8}
+use Rattle.std.specs.List.{range_with_len, flat_map, slice_index_or}
+use Rattle.tabled_config.specs.declared.borders.Borders.{Borders}
+use Rattle.tabled_config.specs.declared.spanned.CellStyle.{CellStyle}
+use Rattle.tabled_pool.specs.Block.{pool_block}
+use Rattle.tabled_boxes.specs.declared.pieces.Rectangle.{Rectangle}
+use Rattle.tabled_boxes.specs.declared.pieces.Kind.{Kind}
+use Rattle.tabled_boxes.specs.declared.pieces.Kind.TheVariants.{Leaf, Bar, Rule}
+use Rattle.tabled_boxes.specs.Boxes.{Part}
+use Rattle.tabled_config.specs.Frame.{has_right}
+use Rattle.tabled_pool.specs.Frames.{has_bottom}
+use Rattle.tabled_pool.specs.Owner.{owner, is_border, is_border_before, is_border_above}
+
+-- parts in a whole of so many columns and lines, and how they look
+pub record Plan : Type 0 where
+  pub parts : List Part
+  pub width : ℕ
+  pub height : ℕ
+  pub borders : Borders ℕ
+  pub style : CellStyle
+
+-- the character where lines meet: arms to the left, right, up, down
+abbrev pub junction : Borders ℕ → Bool → Bool → Bool → Bool → Option ℕ
+junction b false true false true = b.top_left
+junction b true false false true = b.top_right
+junction b false true true false = b.bottom_left
+junction b true false true false = b.bottom_right
+junction b true true false true = b.top_intersection
+junction b true true true false = b.bottom_intersection
+junction b false true true true = b.left_intersection
+junction b true false true true = b.right_intersection
+junction b true true true true = b.intersection
+junction b _ _ _ _ = None
+
+-- the character of a line where no line meets it: the right line and the bottom line have their own
+abbrev pub main_of : Plan → Kind → Rectangle → Option ℕ
+main_of t Leaf r = None
+main_of t Bar r = if has_right t.borders && (r.x + r.width == t.width) then t.borders.right else t.borders.left
+main_of t Rule r = if has_bottom t.borders && (r.y + r.height == t.height) then t.borders.bottom else t.borders.top
+
+-- a place with a place of a line beside it and one above or below it is a junction, with an arm to each such side
+unfoldable pub border_char : Plan → Kind → Rectangle → ℕ → ℕ → ℕ
+border_char t k r x y =
+    let left = is_border_before t.parts x y in
+    let right = is_border t.parts (x + 1) y in
+    let up = is_border_above t.parts x y in
+    let down = is_border t.parts x (y + 1) in
+    unwrap_or (if (left || right) && (up || down) then junction t.borders left right up down else main_of t k r) 32
+
+unfoldable pub leaf_line : Plan → Part → ℕ → List ℕ
+leaf_line t p k = slice_index_or (pool_block t.style p.place.width p.place.height p.text) k []
+
+abbrev pub part_text : Plan → Kind → Part → ℕ → ℕ → List ℕ
+part_text t Leaf p x y = if p.place.x == x then leaf_line t p (y - p.place.y) else []
+part_text t Bar p x y = encode_utf8 (border_char t Bar p.place x y)
+part_text t Rule p x y = encode_utf8 (border_char t Rule p.place x y)
+
+abbrev pub owned_text : Plan → Option Part → ℕ → ℕ → List ℕ
+owned_text t None x y = []
+owned_text t (Some p) x y = part_text t p.kind p x y
+
+-- what is written at a place
+unfoldable pub place_text : Plan → ℕ → ℕ → List ℕ
+place_text t y x = owned_text t (owner t.parts x y) x y
+
+unfoldable pub drawn_line : Plan → ℕ → List ℕ
+drawn_line t y = flat_map (place_text t y) (range_with_len 0 t.width)
+
+unfoldable pub drawn : Plan → List (List ℕ)
+drawn t = map (drawn_line t) (range_with_len 0 t.height)

@@ -1,0 +1,12 @@
+pub mod Applied
+pub mod Block
+pub mod Drawable
+pub mod Drawn
+pub mod Frames
+pub mod Margins
+pub mod NewPool
+pub mod Owner
+pub mod PlainTree
+pub mod Plans
+pub mod Pool
+pub mod Tiled

@@ -1,0 +1,29 @@
+-- New pool tables.
+use Rattle.std.specs.Prelude.{◌≡◌, ℕ}
+use Rattle.tabled_config.specs.declared.compact_multiline.CompactMultilineConfig.{CompactMultilineConfig}
+use Rattle.tabled_config.specs.declared.sides.Indent.{Indent}
+use Rattle.tabled_config.specs.Compact.{IsPlainMultiline, no_indent}
+use Rattle.tabled_config.specs.Styles.{ascii}
+use Rattle.tabled_size.specs.declared.pool_table_dimension.DimensionPriority.TheVariants.{List as Each}
+use Rattle.tabled_boxes.specs.declared.tree.TableValue.{TableValue}
+use Rattle.tabled_pool.specs.declared.pool_table.PoolTable.{PoolTable}
+
+abbrev pub one_column : Indent
+one_column = record { size = 1; fill = 32 }
+
+-- ascii borders, one column of padding on the left and right, no margin, texts at the left and the top
+pub record IsNewConfig (config : CompactMultilineConfig) : Type 0 where
+  pub plain : CompactMultilineConfig
+  pub is_plain : IsPlainMultiline plain
+  pub set : config ≡ record plain {
+    config = record plain.config {
+      borders = ascii.borders;
+      padding = record { left = one_column; right = one_column; top = no_indent; bottom = no_indent };
+    };
+  }
+
+-- a value with the settings of a new table: what is left over goes to all boxes
+pub record IsNewPool (value : TableValue) (table : PoolTable) : Type 0 where
+  pub holds : table.value ≡ value
+  pub config : IsNewConfig table.config
+  pub dimension : table.dimension ≡ record { width = Each; height = Each }

@@ -1,0 +1,36 @@
+-- Whose a place is.
+use Rattle.std.specs.Prelude.{◌≡◌, ℕ, zero, suc, ◌+◌, ◌<◌, ◌≤◌, ◌==◌, if◌then◌else◌, Bool, true, false, List, [], ◌∷◌, Option, Some, None}
+use Rattle.tabled_boxes.specs.declared.pieces.Rectangle.{Rectangle}
+use Rattle.tabled_boxes.specs.declared.pieces.Kind.{Kind}
+use Rattle.tabled_boxes.specs.declared.pieces.Kind.TheVariants.{Leaf, Bar, Rule}
+use Rattle.tabled_boxes.specs.Boxes.{Part}
+use Rattle.tabled_boxes.specs.Tiling.{within, covering}
+
+abbrev pub contains : Rectangle → ℕ → ℕ → Bool
+contains r x y = within r x y == 1
+
+-- the part that holds a place
+abbrev pub owner : List Part → ℕ → ℕ → Option Part
+owner [] x y = None
+owner (p ∷ ps) x y = if contains p.place x y then Some p else owner ps x y
+
+abbrev pub is_line_kind : Kind → Bool
+is_line_kind Leaf = false
+is_line_kind Bar = true
+is_line_kind Rule = true
+
+abbrev pub is_line : Option Part → Bool
+is_line None = false
+is_line (Some p) = is_line_kind p.kind
+
+-- a place of a line between or around the leaves
+abbrev pub is_border : List Part → ℕ → ℕ → Bool
+is_border ps x y = is_line (owner ps x y)
+
+abbrev pub is_border_before : List Part → ℕ → ℕ → Bool
+is_border_before ps zero y = false
+is_border_before ps (suc x) y = is_border ps x y
+
+abbrev pub is_border_above : List Part → ℕ → ℕ → Bool
+is_border_above ps x zero = false
+is_border_above ps x (suc y) = is_border ps x y

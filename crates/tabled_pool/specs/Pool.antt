@@ -1,0 +1,122 @@
+-- The text of a pool table, and what a call that prints it leaves.
+use Rattle.std.specs.Prelude.{◌≡◌, ℕ, ◌+◌, ◌^◌, ◌<◌, ◌≤◌, ◌⊎◌, ◌==◌, if◌then◌else◌, List, ◌++◌, map, replicate, Option, Some, Result, Ok, Err}
+use Rattle.std.specs.List.{join_with_byte}
+use Rattle.tabled_base.specs.declared.error.TableError.{TableError}
+use Rattle.tabled_base.specs.declared.error.TableError.TheVariants.{Memory, Range}
+use Rattle.tabled_text.specs.Plain.{IsPlain, IsPlainColumn}
+use Rattle.tabled_priority.specs.Sums.{one_if}
+use Rattle.tabled_config.specs.declared.borders.Borders.{Borders}
+use Rattle.tabled_config.specs.declared.compact_multiline.CompactMultilineConfig.{CompactMultilineConfig}
+use Rattle.tabled_config.specs.declared.sides.Indent.{Indent}
+use Rattle.tabled_config.specs.declared.sides.Sides.{Sides}
+use Rattle.tabled_config.specs.declared.spanned.CellStyle.{CellStyle}
+use Rattle.tabled_config.specs.Compact.{each_side, no_indent}
+use Rattle.tabled_config.specs.Frame.{has_left, has_right}
+use Rattle.tabled_grid.specs.PlainSheet.{IsPlainStyle}
+use Rattle.tabled_grid.specs.Sent.{Sent, Sends, Stops}
+use Rattle.tabled_boxes.specs.declared.gaps.Gaps.{Gaps}
+use Rattle.tabled_boxes.specs.declared.pieces.Kind.TheVariants.{Leaf}
+use Rattle.tabled_boxes.specs.declared.pieces.Rectangle.{Rectangle}
+use Rattle.tabled_boxes.specs.Boxes.{Box, Part, box_of}
+use Rattle.tabled_boxes.specs.Tiling.{framed}
+use Rattle.tabled_pool.specs.declared.pool_table.PoolTable.{PoolTable}
+use Rattle.tabled_pool.specs.Drawn.{Plan, drawn}
+use Rattle.tabled_pool.specs.Frames.{has_bottom, has_top}
+use Rattle.tabled_pool.specs.Margins.{with_margin}
+use Rattle.tabled_pool.specs.Owner.{owner}
+use Rattle.tabled_pool.specs.PlainTree.{PlainBorders}
+
+abbrev pub borders_of : PoolTable → Borders ℕ
+borders_of t = t.config.config.borders
+
+-- the columns and lines that each outer line takes
+abbrev pub frame_of : Borders ℕ → Sides ℕ
+frame_of b =
+    record { left = one_if (has_left b); right = one_if (has_right b); top = one_if (has_top b); bottom = one_if (has_bottom b) }
+
+-- a line stands between boxes side by side if the left one is there, between boxes below each other if the top one is
+abbrev pub gaps_of : PoolTable → Gaps
+gaps_of t =
+    let padding = t.config.config.padding in
+    record {
+      padding = record { left = padding.left.size; right = padding.right.size; top = padding.top.size; bottom = padding.bottom.size };
+      bar = one_if (has_left (borders_of t));
+      rule = one_if (has_top (borders_of t));
+      across = t.dimension.width;
+      down = t.dimension.height;
+    }
+
+abbrev pub style_of : CompactMultilineConfig → CellStyle
+style_of c =
+    record {
+      padding = c.config.padding;
+      horizontal = c.config.alignment_horizontal;
+      vertical = c.alignment_vertical;
+      line_alignment = c.formatting.allow_lines_alignment;
+    }
+
+-- the columns and lines within the margin: those of the boxes and of the outer lines
+abbrev pub framed_width : PoolTable → ℕ
+framed_width t =
+    (frame_of (borders_of t)).left + (box_of (gaps_of t) t.value).width + (frame_of (borders_of t)).right
+
+abbrev pub framed_height : PoolTable → ℕ
+framed_height t =
+    (frame_of (borders_of t)).top + (box_of (gaps_of t) t.value).height + (frame_of (borders_of t)).bottom
+
+abbrev pub frame_place : PoolTable → Rectangle
+frame_place t = record { x = 0; y = 0; width = framed_width t; height = framed_height t }
+
+-- the boxes in their frame
+unfoldable pub plan : PoolTable → Plan
+plan t =
+    record {
+      parts = framed (frame_of (borders_of t)) (box_of (gaps_of t) t.value) (frame_place t);
+      width = framed_width t;
+      height = framed_height t;
+      borders = borders_of t;
+      style = style_of t.config;
+    }
+
+-- the margin; a table of no column has none
+abbrev pub margin_of : PoolTable → Sides Indent
+margin_of t = if framed_width t == 0 then each_side no_indent else t.config.config.margin
+
+abbrev pub total_width : PoolTable → ℕ
+total_width t = (margin_of t).left.size + framed_width t + (margin_of t).right.size
+
+abbrev pub total_height : PoolTable → ℕ
+total_height t = (margin_of t).top.size + framed_height t + (margin_of t).bottom.size
+
+unfoldable pub pool_lines : PoolTable → List (List ℕ)
+pool_lines t = with_margin (margin_of t) (framed_width t) (drawn (plan t))
+
+unfoldable pub pool_text : PoolTable → List ℕ
+pool_text t = join_with_byte 10 (pool_lines t)
+
+-- the totals are numbers that a `usize` can say
+pub record IsInRange (t : PoolTable) : Type 0 where
+  pub width : total_width t < 2 ^ 64
+  pub height : total_height t < 2 ^ 64
+
+-- a total passes the greatest `usize`
+abbrev pub PassesRange : PoolTable → Type 0
+PassesRange t = (2 ^ 64 ≤ total_width t) ⊎ (2 ^ 64 ≤ total_height t)
+
+-- what a call that prints a pool table leaves: on Ok its text was added; it is refused before the first byte where a total
+-- passes the range, or for want of memory; else the sink refused, with a beginning of the text added
+abbrev pub WritesPool : {T : Type 0} → PoolTable → Sent → Result T TableError → Sent → Type 0
+WritesPool t old (Ok _) new = IsInRange t × Sends old new (pool_text t)
+WritesPool t old (Err e) new =
+    ((e ≡ Memory) × (new ≡ old))
+    ⊎ (((e ≡ Range) × PassesRange t × (new ≡ old)) ⊎ (IsInRange t × Stops old e new (pool_text t)))
+
+-- the texts are plain, and lines, fills and margins are plain characters of one column
+pub record IsPlainPool (t : PoolTable) : Type 0 where
+  pub texts : (x y : ℕ) (p : Part) → owner (plan t).parts x y ≡ Some p → p.kind ≡ Leaf → IsPlain p.text
+  pub borders : PlainBorders (borders_of t)
+  pub style : IsPlainStyle (style_of t.config)
+  pub margin_left : IsPlainColumn t.config.config.margin.left.fill
+  pub margin_right : IsPlainColumn t.config.config.margin.right.fill
+  pub margin_top : IsPlainColumn t.config.config.margin.top.fill
+  pub margin_bottom : IsPlainColumn t.config.config.margin.bottom.fill

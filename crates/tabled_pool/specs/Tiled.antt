@@ -1,0 +1,23 @@
+-- A text of lines that tiles its parts.
+use Rattle.std.specs.Prelude.{◌≡◌, ℕ, ◌+◌, ◌-◌, ◌<◌, ◌≤◌, true, List, ◌++◌, Option, Some, encode_utf8}
+use Rattle.std.specs.List.{slice_index_or}
+use Rattle.tabled_text.specs.Measure.{line_columns}
+use Rattle.tabled_boxes.specs.declared.pieces.Kind.TheVariants.{Leaf}
+use Rattle.tabled_boxes.specs.Boxes.{Part}
+use Rattle.tabled_boxes.specs.Tiling.{covering}
+use Rattle.tabled_pool.specs.Owner.{owner, is_line_kind}
+use Rattle.tabled_pool.specs.Drawn.{Plan, border_char, leaf_line, drawn_line}
+
+-- a piece stands in a line behind x columns
+pub record StandsAt (line : List ℕ) (x : ℕ) (piece : List ℕ) : Type 0 where
+  pub front : List ℕ
+  pub rest : List ℕ
+  pub whole : line ≡ front ++ (piece ++ rest)
+  pub columns : line_columns front ≡ x
+
+-- each place of the whole belongs to one part; the lines of a leaf's block stand in its rectangle,
+-- and at each other place one character, which the lines that meet there give
+pub record Tiled (t : Plan) : Type 0 where
+  pub once : (x y : ℕ) → x < t.width → y < t.height → covering t.parts x y ≡ 1
+  pub leaf : (u v y : ℕ) (p : Part) → owner t.parts u v ≡ Some p → p.kind ≡ Leaf → p.place.y ≤ y → y < p.place.y + p.place.height → StandsAt (drawn_line t y) p.place.x (leaf_line t p (y - p.place.y))
+  pub border : (x y : ℕ) (p : Part) → x < t.width → y < t.height → owner t.parts x y ≡ Some p → is_line_kind p.kind ≡ true → StandsAt (drawn_line t y) x (encode_utf8 (border_char t p.kind p.place x y))

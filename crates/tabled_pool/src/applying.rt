@@ -1,0 +1,73 @@
+//! Options of pool tables.
+ghost use Rattle.std.specs.Prelude.{◌≡◌, ◌⊎◌, IfErr, IfOk, OnOk};
+ghost use Rattle.tabled_base.specs.declared.error.TableError.TheVariants.{Memory, Range};
+ghost use Rattle.tabled_pool.specs.Applied.{IsApplied, IsPassed};
+
+use crate::pool_table::PoolTable;
+use tabled_base::{Entity, TableError, TableOption};
+use tabled_config::CompactMultilineConfig;
+use tabled_size::PoolTableDimension;
+
+/// What stands for the records of a pool table: its options change settings alone.
+#[derive(Clone, Copy, Debug, PartialEq, Eq)]
+pub struct NoRecords {}
+
+impl TableOption<NoRecords, CompactMultilineConfig, PoolTableDimension> for PoolTableDimension {
+    ghost changes = { λ option r c d r' c' d'. (c' ≡ c) × (d' ≡ option) };
+
+    ghost refuses = { λ option e r c d r' c' d'. ⊥ };
+
+    ghost passes = { λ option r c d. ⊥ };
+
+    fn change(
+        self,
+        _records: &mut NoRecords,
+        _cfg: &mut CompactMultilineConfig,
+        dims: &mut PoolTableDimension,
+    ) -> Result<(), TableError> {
+        *dims = self;
+        Ok(())
+    }
+
+    fn hint_change(&self) -> Option<Entity> {
+        Some(Entity::Global)
+    }
+}
+
+impl PoolTable {
+    /// Applies an option to the settings. This is `with` for callers that need the table after a refusal: then its
+    /// settings are as the option left them, and its texts as they were. Refused for memory, and with `Range` where
+    /// a sum or product of the option passes the greatest `usize`.
+    pub fn apply<O: TableOption<NoRecords, CompactMultilineConfig, PoolTableDimension>>(
+        &mut self,
+        option: O,
+    ) -> Result<(), TableError>
+        ensures ok { OnOk result (IsApplied (O.changes option) self.old self.new) }
+        ensures err { IfErr result (λ e. IsApplied (O.refuses option e) self.old self.new) }
+        ensures only { IfErr result (λ e. (e ≡ Memory) ⊎ (e ≡ Range)) }
+        ensures range { IfErr result (λ e. e ≡ Range → IsPassed (O.passes option) self.old) }
+    {
+        let mut records = NoRecords {};
+        match option.change(&mut records, &mut self.config, &mut self.dimension) {
+            Ok(()) => Ok(()),
+            Err(error) => Err(error),
+        }
+    }
+
+    /// Applies an option to the settings, and gives the table back. Refused for memory, and with `Range` where a
+    /// sum or product of the option passes the greatest `usize`. `apply` tells what a refusal leaves.
+    pub fn with<O: TableOption<NoRecords, CompactMultilineConfig, PoolTableDimension>>(
+        &mut self,
+        option: O,
+    ) -> Result<&mut Self, TableError>
+        ensures same_reference { IfOk result (λ table. table.ghost_name ≡ self.entry.ghost_name) }
+        ensures ok { IfOk result (λ table. IsApplied (O.changes option) self.old table.now) }
+        ensures only { IfErr result (λ e. (e ≡ Memory) ⊎ (e ≡ Range)) }
+        ensures range { IfErr result (λ e. e ≡ Range → IsPassed (O.passes option) self.old) }
+    {
+        match self.apply(option) {
+            Ok(()) => Ok(self),
+            Err(error) => Err(error),
+        }
+    }
+}

@@ -1,0 +1,69 @@
+//! The lines of a drawing, place by place.
+ghost use Rattle.std.specs.Prelude.{◌≡◌, ◌^◌, ◌<◌, ◌+◌, ◌-◌, map, [], ◌∷◌};
+ghost use Rattle.std.specs.List.{flat_map, range_with_len, join_with_byte};
+ghost use Rattle.tabled_grid.specs.Sent.{Sent, Writes};
+ghost use Rattle.tabled_grid.specs.Leading.{WritesLines};
+ghost use Rattle.tabled_grid.specs.PlainSheet.{EachLineTakes};
+ghost use Rattle.tabled_pool.specs.Drawn.{border_char, leaf_line, place_text, drawn_line, drawn};
+ghost use Rattle.tabled_pool.specs.Drawable.{IsDrawable};
+ghost use Rattle.tabled_pool.specs.Tiled.{Tiled};
+ghost use Rattle.tabled_pool.specs.Plans.{plan_of};
+
+use crate::block::put_block_line;
+use crate::find::find;
+use crate::pieces::{put_break, put_char};
+use crate::plan::{Drawing, border_char};
+use tabled_base::TableError;
+use tabled_boxes::Kind;
+use tabled_grid::TextSink;
+
+/// What stands at a place: a leaf's line where it begins, one character of a line.
+#[tactic(auto, unfolding(crate::specs::Drawn::place_text, crate::specs::Drawn::leaf_line))]
+fn put_place<S: TextSink>(
+    sink: &mut S,
+    drawing: &Drawing<'_, '_>,
+    y: usize,
+    x: usize,
+) -> Result<(), TableError>
+    requires across { x < 2 ^ 64 - 1 }
+    requires down { y < 2 ^ 64 - 1 }
+    ensures { Writes (S.sent sink.old) result (S.sent sink.new) (place_text (plan_of drawing.now) y x) }
+{
+    let Some(piece) = find(drawing.pieces, x, y) else {
+        return Ok(());
+    };
+    let place = piece.place;
+    match piece.kind {
+        Kind::Leaf => {
+            if place.x != x {
+                return Ok(());
+            }
+            put_block_line(
+                sink,
+                &drawing.style,
+                place.width,
+                place.height,
+                piece.text,
+                y - place.y,
+            )
+        }
+        Kind::Bar => put_char(sink, border_char(drawing, Kind::Bar, place, x, y)),
+        Kind::Rule => put_char(sink, border_char(drawing, Kind::Rule, place, x, y)),
+    }
+}
+
+/// A line of a drawing, place by place.
+#[tactic(auto, unfolding(crate::specs::Drawn::drawn_line))]
+pub(crate) fn put_line<S: TextSink>(
+    sink: &mut S,
+    drawing: &Drawing<'_, '_>,
+    y: usize,
+) -> Result<(), TableError>
+    requires down { y < 2 ^ 64 - 1 }
+    ensures { Writes (S.sent sink.old) result (S.sent sink.new) (drawn_line (plan_of drawing.now) y) }
+{
+    'places: for x in 0..drawing.width {
+        put_place(sink, drawing, y, x)?;
+    }
+    Ok(())
+}

@@ -1,0 +1,39 @@
+//! The piece that holds a place.
+ghost use Rattle.std.specs.Prelude.{◌≡◌, ◌==◌, ◌^◌, ◌<◌, ◌+◌, map, true, ◌≤◌, IfSome};
+ghost use Rattle.std.specs.Option.{option_map};
+ghost use Rattle.tabled_boxes.specs.Shown.{shown};
+ghost use Rattle.tabled_boxes.specs.Tiling.{within};
+ghost use Rattle.tabled_pool.specs.Owner.{contains, owner, is_line};
+
+use tabled_boxes::{Piece, Rectangle};
+
+/// Whether a place lies in a rectangle.
+#[tactic(auto, using(crate::proofs::Contains::contains_left, crate::proofs::Contains::contains_right, crate::proofs::Contains::contains_above, crate::proofs::Contains::contains_last))]
+fn contains(place: Rectangle, x: usize, y: usize) -> bool
+    ensures value { result ≡ contains place x y }
+    ensures lines { result ≡ true → (place.y ≤ y) × (y < place.y + place.height) }
+{
+    if x < place.x {
+        return false;
+    }
+    if y < place.y {
+        return false;
+    }
+    if x - place.x >= place.width {
+        return false;
+    }
+    y - place.y < place.height
+}
+
+/// The piece that holds a place.
+pub(crate) fn find<'a, 'p>(pieces: &'p [Piece<'a>], x: usize, y: usize) -> Option<&'p Piece<'a>>
+    ensures value { option_map (λ p. shown p.now) result ≡ owner (map shown pieces.now) x y }
+    ensures found { IfSome result (λ p. (p.now.place.y ≤ y) × (y < p.now.place.y + p.now.place.height)) }
+{
+    for piece in pieces {
+        if contains(piece.place, x, y) {
+            return Some(piece);
+        }
+    }
+    None
+}

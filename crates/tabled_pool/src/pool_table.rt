@@ -1,0 +1,239 @@
+//! Tables of boxes.
+ghost use Rattle.std.specs.Prelude.{◌≡◌, ◌⊎◌, ◌≤◌, IfErr, IfOk, MatchOption, map, [], ◌++◌, ◌<◌, ◌^◌, ◌+◌, string_bytes};
+ghost use Rattle.tabled_base.specs.declared.error.TableError.TheVariants.{Memory, Range};
+ghost use Rattle.tabled_config.specs.Styles.{ascii};
+ghost use Rattle.tabled_grid.specs.PlainSheet.{EachLineTakes};
+ghost use Rattle.tabled_grid.specs.Sent.{Sent, Writes};
+ghost use Rattle.tabled_boxes.specs.Shown.{shown};
+ghost use Rattle.tabled_priority.specs.Sums.{one_if};
+ghost use Rattle.tabled_pool.specs.Drawn.{drawn};
+ghost use Rattle.tabled_pool.specs.Pool.{
+  IsInRange,
+  IsPlainPool,
+  PassesRange,
+  WritesPool,
+  borders_of,
+  frame_of,
+  frame_place,
+  framed_height,
+  framed_width,
+  gaps_of,
+  margin_of,
+  plan,
+  pool_lines,
+  pool_text,
+  style_of,
+  total_width,
+};
+ghost use Rattle.tabled_pool.specs.NewPool.{IsNewConfig, IsNewPool};
+ghost use Rattle.tabled_pool.specs.Tiled.{Tiled};
+
+use crate::margins::put_framed;
+use crate::plan::{Drawing, has_bottom, has_top};
+use std::alloc::Global;
+use tabled_base::TableError;
+use tabled_boxes::{Gaps, Piece, Rectangle, Size, TableValue, own_size, place_tree};
+use tabled_config::{Borders, CellStyle, CompactMultilineConfig, Indent, Sides, Style};
+use tabled_grid::TextSink;
+use tabled_size::{DimensionPriority, PoolTableDimension};
+
+fn one_if(there: bool) -> usize
+    ensures { result ≡ one_if there }
+{
+    if there { 1 } else { 0 }
+}
+
+fn sum(first: usize, second: usize, third: usize) -> Option<usize>
+    ensures { MatchOption result (2 ^ 64 ≤ first + second + third) (λ all. all ≡ first + second + third) }
+{
+    first.checked_add(second)?.checked_add(third)
+}
+
+/// The columns and lines that each outer line takes.
+fn frame_of(borders: &Borders<char>) -> Sides<usize>
+    ensures { result ≡ frame_of borders.now }
+{
+    Sides {
+        left: one_if(borders.has_left()),
+        right: one_if(borders.has_right()),
+        top: one_if(has_top(borders)),
+        bottom: one_if(has_bottom(borders)),
+    }
+}
+
+fn style_of(config: &CompactMultilineConfig) -> CellStyle
+    ensures { result ≡ style_of config.now }
+{
+    CellStyle {
+        padding: *config.get_padding(),
+        horizontal: config.get_alignment_horizontal(),
+        vertical: config.get_alignment_vertical(),
+        line_alignment: config.get_formatting().allow_lines_alignment,
+    }
+}
+
+/// Ascii borders, one column of padding on the left and right, no margin, texts at the left and the top.
+fn new_config() -> CompactMultilineConfig
+    ensures { IsNewConfig result }
+{
+    let one = Indent::spaced(1);
+    let none = Indent::zero();
+    let mut config = CompactMultilineConfig::new();
+    config.set_borders(Style::ascii().get_borders());
+    config.set_padding(Sides::new(one, one, none, none));
+    config
+}
+
+/// A table whose rows needn't have as many cells as one another, and whose boxes hold texts, rows or columns.
+#[derive(Debug, Drop, PartialEq, Eq, PartialOrd, Ord)]
+pub struct PoolTable {
+    pub(crate) value: TableValue,
+    pub(crate) config: CompactMultilineConfig,
+    pub(crate) dimension: PoolTableDimension,
+}
+
+impl PoolTable {
+    /// A table of a value: ascii borders, one column of padding on the left and right, no margin, texts at the left
+    /// and the top, and what is left over given to all boxes. It takes no memory.
+    pub fn from_value(value: TableValue) -> PoolTable
+        ensures { IsNewPool value result }
+    {
+        PoolTable {
+            value,
+            config: new_config(),
+            dimension: PoolTableDimension::new(DimensionPriority::List, DimensionPriority::List),
+        }
+    }
+
+    /// The text that `write_to` writes. Refused for memory, and with `Range` where the columns or the lines of the
+    /// whole pass the greatest `usize`.
+    pub fn to_string(&self) -> Result<String, TableError>
+        ensures ok { IfOk result (λ text. string_bytes text ≡ pool_text self.now) }
+        ensures err { IfErr result (λ e. (e ≡ Memory) ⊎ ((e ≡ Range) × PassesRange self.now)) }
+    {
+        let mut text = String::new(self.value.allocator());
+        self.write_to(&mut text)?;
+        Ok(text)
+    }
+
+    fn gaps(&self) -> Gaps
+        ensures { result ≡ gaps_of self.now }
+    {
+        let padding = self.config.get_padding();
+        let borders = self.config.get_borders();
+        Gaps {
+            padding: Sides {
+                left: padding.left.size,
+                right: padding.right.size,
+                top: padding.top.size,
+                bottom: padding.bottom.size,
+            },
+            bar: one_if(borders.has_left()),
+            rule: one_if(has_top(borders)),
+            across: self.dimension.width(),
+            down: self.dimension.height(),
+        }
+    }
+
+    /// The columns and lines within the margin, if they are in range.
+    fn framed_size(&self) -> Option<Size>
+        ensures { MatchOption result ((2 ^ 64 ≤ framed_width self.now) ⊎ (2 ^ 64 ≤ framed_height self.now))
+            (λ size. (size.width ≡ framed_width self.now) × (size.height ≡ framed_height self.now)) }
+    {
+        let frame = frame_of(self.config.get_borders());
+        let Some(own) = own_size(&self.value, &self.gaps()) else {
+            return None;
+        };
+        let width = sum(frame.left, own.width, frame.right)?;
+        let height = sum(frame.top, own.height, frame.bottom)?;
+        Some(Size { width, height })
+    }
+
+    /// The margin of a table of so many columns; one of no column has none.
+    fn margin(&self, width: usize) -> Sides<Indent>
+        requires { width ≡ framed_width self.now }
+        ensures { result ≡ margin_of self.now }
+    {
+        if width == 0 {
+            Sides::filled(Indent::zero())
+        } else {
+            *self.config.get_margin()
+        }
+    }
+
+    /// The columns and lines within the margin, if the totals are in range.
+    fn checked_size(&self) -> Option<Size>
+        ensures { MatchOption result (PassesRange self.now) (λ size. (size.width ≡ framed_width self.now)
+            × (size.height ≡ framed_height self.now) × IsInRange self.now) }
+    {
+        let size = self.framed_size()?;
+        let margin = self.margin(size.width);
+        sum(margin.left.size, size.width, margin.right.size)?;
+        sum(margin.top.size, size.height, margin.bottom.size)?;
+        Some(size)
+    }
+
+    /// The places of the texts and lines.
+    fn pieces(&self, size: Size) -> Result<Vec<Piece<'_>>, TableError>
+        requires width { size.width ≡ framed_width self.now }
+        requires height { size.height ≡ framed_height self.now }
+        ensures places { IfOk result (λ pieces. map shown pieces.items ≡ (plan self.now).parts) }
+        ensures only { IfErr result (λ e. e ≡ Memory) }
+    {
+        let mut pieces = Vec::new(self.value.allocator());
+        let frame = frame_of(self.config.get_borders());
+        let whole = Rectangle {
+            x: 0,
+            y: 0,
+            width: size.width,
+            height: size.height,
+        };
+        place_tree(&self.value, &self.gaps(), &frame, whole, &mut pieces)?;
+        Ok(pieces)
+    }
+
+    /// Prints the drawing of the pieces.
+    fn put_pieces<S: TextSink>(
+        &self,
+        sink: &mut S,
+        pieces: &[Piece<'_>],
+        size: Size,
+    ) -> Result<(), TableError>
+        requires width { size.width ≡ framed_width self.now }
+        requires height { size.height ≡ framed_height self.now }
+        requires places { map shown pieces.now ≡ (plan self.now).parts }
+        ensures { Writes (S.sent sink.old) result (S.sent sink.new) (pool_text self.now) }
+    {
+        let drawing = Drawing {
+            pieces,
+            width: size.width,
+            height: size.height,
+            borders: *self.config.get_borders(),
+            style: style_of(&self.config),
+        };
+        put_framed(sink, &drawing, &self.margin(size.width))
+    }
+
+    /// Prints the table, if its totals are in range.
+    fn write_checked<S: TextSink>(&self, sink: &mut S) -> Result<(), TableError>
+        ensures { WritesPool self.now (S.sent sink.old) result (S.sent sink.new) }
+    {
+        let Some(size) = self.checked_size() else {
+            return Err(TableError::Range);
+        };
+        let pieces = self.pieces(size)?;
+        self.put_pieces(sink, pieces.as_slice(), size)
+    }
+
+    /// Prints the boxes in their frame and margin, line by line. Two lines stand in a place where they meet, and
+    /// its character is that of the borders for the lines that go out from it. Refused with `Range` where the
+    /// columns or the lines of the whole pass the greatest `usize`, for memory, and for what the sink refuses; then
+    /// a beginning went out. Colours that are set aren't written.
+    pub fn write_to<S: TextSink>(&self, sink: &mut S) -> Result<(), TableError>
+        ensures printed { WritesPool self.now (S.sent sink.old) result (S.sent sink.new) }
+        ensures tiled { IsPlainPool self.now → Tiled (plan self.now) }
+        ensures columns { IsPlainPool self.now → EachLineTakes (framed_width self.now) (drawn (plan self.now)) }
+    {
+        self.write_checked(sink)
+    }
+}
