@@ -1,25 +1,20 @@
 -- A narrowed table has its total and holds its cells.
-use Rattle.std.proofs.Common.{◌≡◌, ℕ, ◌+◌, ◌-◌, ◌<◌, ◌≤◌, ◌==◌, ◌||◌, Bool, true, false, cond, List, [], ◌∷◌, length, sum, max, take, nat_le, nat_lt, Option, Some, None, refl, sym, ap, ◌∙◌, subst, arith, ⊎_elim}
+use Rattle.std.proofs.Common.{◌≡◌, ℕ, ◌+◌, ◌-◌, ◌<◌, ◌≤◌, ◌==◌, ◌||◌, Bool, true, false, cond, List, [], ◌∷◌, length, sum, max, take, nat_le, nat_lt, None, refl, sym, ap, ◌∙◌, subst, arith, ⊎_elim}
 use Rattle.std.specs.Prelude.{MatchBool}
 use Rattle.std.specs.List.{slice_index_or}
 use Rattle.std.proofs.Math.Seq.{take-length}
-use Rattle.std.proofs.lemmas.Bool.{MatchBool-at_true, MatchBool-at_false, and_from, cases_Bool, ltb-false, le-leb, lt-leb, lt-ltb}
+use Rattle.std.proofs.lemmas.Bool.{MatchBool-at_true, MatchBool-at_false, and_from, cases_Bool, le-leb, lt-leb, lt-ltb}
 use Rattle.std.proofs.lemmas.List.{get_or_default}
-use Rattle.tabled_text.specs.Measure.{text_columns}
 use Rattle.tabled_text.specs.Plain.{IsPlain}
 use Rattle.tabled_text.specs.Room.{StaysWithin}
-use Rattle.tabled_text.proofs.StayLemmas.{IsPlain-stays, StaysWithin-from, StaysWithin-wrapped, text_columns-stays}
+use Rattle.tabled_text.proofs.StayLemmas.{IsPlain-stays, text_columns-stays}
 use Rattle.tabled_base.specs.Cells.{IsRectangular, cell_at, columns}
-use Rattle.tabled_base.specs.declared.position.Entity.{Entity}
-use Rattle.tabled_base.specs.declared.position.Entity.TheVariants.{Row}
 use Rattle.tabled_config.specs.declared.spanned.SpannedConfig.{SpannedConfig}
 use Rattle.tabled_size.specs.Estimates.{estimated_heights, estimated_widths, needed_width}
 use Rattle.tabled_size.specs.FilledIn.{IsFilledIn}
 use Rattle.tabled_priority.specs.Least.{HasLeastGreatest}
 use Rattle.tabled_priority.specs.Permitted.{at, IsTakenFrom}
 use Rattle.tabled_size.specs.Sheet.{Sheet, estimated, is_empty}
-use Rattle.tabled_priority.specs.Shrunk.{IsMaxShrunk}
-use Rattle.tabled_size.specs.Standing.{clears_heights, clears_widths, unless_cleared}
 use Rattle.tabled_size.specs.StandingSheet.{standing, standing_sizes}
 use Rattle.tabled_size.specs.Stored.{heights_of, widths_of}
 use Rattle.tabled_size.specs.Totals.{filled_width, total_width}
@@ -27,17 +22,13 @@ use Rattle.tabled_size.specs.declared.complete_dimension.CompleteDimension.{Comp
 use Rattle.tabled_priority.proofs.Optimal.{HasLeastGreatest-from_level, IsLevel-from_max}
 use Rattle.tabled_size.proofs.ShrunkTotals.{above_minimum, filled_width-frame, frame_width, narrowed_total}
 use Rattle.tabled_size.proofs.Totalling.{heights_length, widths_length}
-use Rattle.tabled_set.specs.CellChanges.{AreChanged, if_wider, truncating, wrapping}
+use Rattle.tabled_change.specs.CellChanges.{AreChanged}
 use Rattle.tabled_set.specs.Minimums.{emptied, minimums, side_padding}
 use Rattle.tabled_set.specs.Narrowed.{IsNarrowed, Narrows, for_room}
 use Rattle.tabled_set.specs.BestNarrowing.{text_room}
 use Rattle.tabled_set.specs.ExactTotal.{HasExactTotal, empty_width}
 use Rattle.tabled_set.specs.Promised.{TakesFrom, TakesGreatest}
-use Rattle.tabled_set.specs.PlainEnding.{IsPlainLimit}
-use Rattle.tabled_set.specs.Truncated.{IsTruncated}
-use Rattle.tabled_set.specs.declared.suffix.SuffixLimit.{SuffixLimit}
 use Rattle.tabled_set.proofs.Emptied.{emptied-columns, emptied-empty, minimums-le, minimums-length, side_padding-le}
-use Rattle.tabled_set.proofs.Staying.{StaysWithin-truncated}
 use Rattle.tabled_size.specs.Holds.{Holds, IsSized}
 use Rattle.tabled_size.specs.PlainCells.{ArePlain}
 

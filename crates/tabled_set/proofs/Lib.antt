@@ -1,14 +1,7 @@
-pub mod Bare
-pub mod Promises
-pub mod ChangingCells
 pub mod ChangingColumns
 pub mod Emptied
-pub mod Endings
 pub mod ExactTotals
-pub mod InOrder
-pub mod InSpans
-pub mod JoinedLines
 pub mod NarrowingTables
 pub mod PaddedTotals
-pub mod Staying
-pub mod SuffixLemmas
+pub mod Promises
+pub mod Stopping

@@ -17,13 +17,14 @@ use Rattle.tabled_size.specs.Stored.{heights_of, widths_of}
 use Rattle.tabled_size.specs.Totals.{filled_width, total_width}
 use Rattle.tabled_size.specs.declared.complete_dimension.CompleteDimension.{CompleteDimension}
 use Rattle.tabled_size.proofs.Totalling.{heights_length, widths_length}
-use Rattle.tabled_set.specs.CellChanges.{AreChanged}
-use Rattle.tabled_set.specs.ColumnChanges.{ChangesColumnsBefore, for_width}
+use Rattle.tabled_change.specs.CellChanges.{AreChanged, AreChangedBefore}
+use Rattle.tabled_change.specs.declared.order.Order.TheVariants.{ByColumn}
+use Rattle.tabled_set.specs.ColumnChanges.{for_width}
 use Rattle.tabled_set.specs.Minimums.{emptied, minimums}
 use Rattle.tabled_set.specs.Narrowed.{IsNarrowed, Narrows, StopsNarrowing, WiderPasses}
 use Rattle.tabled_set.specs.Shrinking.{IsFound, IsShrunkBy}
-use Rattle.tabled_set.proofs.ChangingCells.{match-false, match-true}
-use Rattle.tabled_set.proofs.ChangingColumns.{rooms-made}
+use Rattle.tabled_change.proofs.ChangingCells.{match-false, match-true}
+use Rattle.tabled_set.proofs.ChangingColumns.{rooms-before, rooms-made}
 use Rattle.tabled_set.proofs.Emptied.{minimums-length}
 
 -- ---- sizes that are filled in
@@ -101,11 +102,11 @@ module _ {P : Type 0} (shrinks : P → List ℕ → List ℕ → ℕ → List �
         (match-false ((cells' ≡ cells) × IsFilledIn old cells config new) (IsNarrowed shrinks priority change n t cells' new) above
         (record { widths = widths; shrunk = is.shrunk; changed = rooms-made change t widths mins is.fits changed; stored = stored; cleared = cleared }))
 
-    pub stops-some : (cells' : List (List (List ℕ))) (error : TableError) (widths mins : List ℕ) → error ≡ Memory → IsFound shrinks priority n (standing cells config mid) widths mins → ChangesColumnsBefore (for_width change config widths mins) cells cells' → StopsNarrowing shrinks priority change n error cells config old cells'
+    pub stops-some : (cells' : List (List (List ℕ))) (error : TableError) (widths mins : List ℕ) → error ≡ Memory → IsFound shrinks priority n (standing cells config mid) widths mins → AreChangedBefore ByColumn (λ r c. true) (for_width change config widths mins) cells cells' → StopsNarrowing shrinks priority change n error cells config old cells'
     stops-some cells' error widths mins e found changed =
         let t = standing cells config old in
         let is = found-old widths mins found in
-        inr (e, record { wider = is.wider; widths = widths; shrunk = is.shrunk; row = changed.row; column = changed.column; changed = rooms-made change t widths mins is.fits changed.changed })
+        inr (e, record { wider = is.wider; widths = widths; shrunk = is.shrunk; changed = rooms-before change t widths mins is.fits changed })
 
 -- ---- what is refused
 

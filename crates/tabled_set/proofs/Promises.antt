@@ -1,6 +1,5 @@
 -- What wrapped and truncated tables keep of what is promised.
 use Rattle.std.proofs.Common.{◌≡◌, ℕ, ◌<◌, Bool, true, false, List, [], Option, Some, None, nat_lt, refl, sym, ap, ◌∙◌, subst, ⊎_elim}
-use Rattle.std.specs.Prelude.{MatchBool}
 use Rattle.std.proofs.lemmas.Bool.{MatchBool-at_true, MatchBool-at_false, cases_Bool, lt-ltb, ltb-false}
 use Rattle.tabled_text.specs.Measure.{text_columns}
 use Rattle.tabled_text.specs.Plain.{IsPlain}
@@ -18,17 +17,17 @@ use Rattle.tabled_size.specs.Standing.{clears_heights, clears_widths, unless_cle
 use Rattle.tabled_size.specs.StandingSheet.{standing}
 use Rattle.tabled_size.specs.Stored.{heights_of, widths_of}
 use Rattle.tabled_size.specs.declared.complete_dimension.CompleteDimension.{CompleteDimension}
-use Rattle.tabled_set.specs.BestNarrowing.{HasLeastWidth, IsBestCut, IsBestWrapped, text_room}
-use Rattle.tabled_set.specs.CellChanges.{if_wider, truncating, wrapping}
+use Rattle.tabled_set.specs.BestNarrowing.{HasLeastWidth, IsBestCut, text_room}
+use Rattle.tabled_change.specs.CellChanges.{if_wider, truncating, wrapping}
 use Rattle.tabled_set.specs.ExactTotal.{HasExactTotal}
 use Rattle.tabled_set.specs.Narrowed.{IsNarrowed, Narrows}
-use Rattle.tabled_set.specs.PlainEnding.{IsPlainLimit}
+use Rattle.tabled_change.specs.PlainEnding.{IsPlainLimit}
 use Rattle.tabled_set.specs.Promised.{IsWiderThan, TakesFrom, TakesGreatest, TruncatesAsPromised, WrapsAsPromised}
-use Rattle.tabled_set.specs.Truncated.{IsTruncated}
-use Rattle.tabled_set.specs.declared.suffix.SuffixLimit.{SuffixLimit}
-use Rattle.tabled_set.proofs.Bare.{longest_lines, longest_truncated}
+use Rattle.tabled_change.specs.Truncated.{IsTruncated}
+use Rattle.tabled_change.specs.declared.suffix.SuffixLimit.{SuffixLimit}
+use Rattle.tabled_change.proofs.Bare.{longest_lines, longest_truncated}
 use Rattle.tabled_set.proofs.ExactTotals.{FindsRoom, IsNarrowed-wider, changed_for_room, exact_total, leveled}
-use Rattle.tabled_set.proofs.Staying.{StaysWithin-truncated}
+use Rattle.tabled_change.proofs.Staying.{StaysWithin-truncated}
 
 -- ---- changed texts stay in their rooms
 FindsRoom-wrapping : (words : Bool) → FindsRoom (wrapping words)

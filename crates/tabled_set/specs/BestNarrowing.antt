@@ -1,14 +1,15 @@
 -- Tables that were narrowed as well as they can be.
-use Rattle.std.specs.Prelude.{◌≡◌, ◌<◌, ◌-◌, ℕ, Bool, true, false, List, chars}
-use Rattle.std.specs.List.{AllZip, join_with_byte, list_all}
+use Rattle.std.specs.Prelude.{◌≡◌, ◌<◌, ◌-◌, ℕ, Bool, true, false, chars}
+use Rattle.std.specs.List.{list_all}
 use Rattle.tabled_base.specs.Cells.{IsInside, cell_at}
+use Rattle.tabled_change.specs.LongestLines.{HasLongestLines}
 use Rattle.tabled_set.specs.Minimums.{minimums, side_padding}
 use Rattle.tabled_priority.specs.Least.{HasLeastGreatest}
 use Rattle.tabled_priority.specs.Permitted.{at}
 use Rattle.tabled_size.specs.Sheet.{Sheet}
 use Rattle.tabled_text.specs.Breaking.{EachUnitFits, HasFewestLines}
 use Rattle.tabled_text.specs.Longest.{IsLongestCut}
-use Rattle.tabled_text.specs.Measure.{lines_of, text_columns}
+use Rattle.tabled_text.specs.Measure.{text_columns}
 use Rattle.tabled_text.specs.OldText.{HasOldText}
 use Rattle.tabled_text.specs.Plain.{is_plain_character}
 
@@ -28,12 +29,6 @@ pub record IsBestWrapped (words : Bool) (old new : Sheet) : Type 0 where
   pub whole : (row column : ℕ) → IsInside old.cells row column → 0 < text_room new row column
       → EachUnitFits (text_room new row column) words (cell_at old.cells row column)
       → HasOldText (cell_at old.cells row column) (cell_at new.cells row column)
-
--- each line of a text became a line of its own, of plain ones the longest beginning that fits
-pub record HasLongestLines (room : ℕ) (text answer : List ℕ) : Type 0 where
-  pub lines : List (List ℕ)
-  pub each : AllZip (λ line cut. list_all is_plain_character (chars line) ≡ true → IsLongestCut room line cut) (lines_of text) lines
-  pub joined : answer ≡ join_with_byte 10 lines
 
 -- a truncated table, no suffix put behind the texts: of a cell that was wider than its room a plain line is the longest
 -- beginning that fits, and where lines are truncated by themselves, each of them is

@@ -1,12 +1,7 @@
 pub mod BestNarrowing
-pub mod CellChanges
 pub mod ColumnChanges
-pub mod EntityChanges
 pub mod ExactTotal
 pub mod Minimums
 pub mod Narrowed
-pub mod PlainEnding
 pub mod Promised
 pub mod Shrinking
-pub mod SpanChanges
-pub mod Truncated

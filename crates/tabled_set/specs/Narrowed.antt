@@ -10,7 +10,8 @@ use Rattle.tabled_size.specs.StandingSheet.{standing}
 use Rattle.tabled_size.specs.Stored.{heights_of, widths_of}
 use Rattle.tabled_size.specs.Totals.{total_width}
 use Rattle.tabled_size.specs.declared.complete_dimension.CompleteDimension.{CompleteDimension}
-use Rattle.tabled_set.specs.CellChanges.{AreChanged, precedes_by_column}
+use Rattle.tabled_change.specs.CellChanges.{AreChanged, AreChangedBefore}
+use Rattle.tabled_change.specs.declared.order.Order.TheVariants.{ByColumn}
 use Rattle.tabled_set.specs.ColumnChanges.{for_width}
 use Rattle.tabled_set.specs.Minimums.{emptied, minimums}
 
@@ -47,9 +48,7 @@ pub record IsNarrowedBefore {P : Type 0} (shrinks : P → List ℕ → List ℕ 
   pub wider : n < total_width t
   pub widths : List ℕ
   pub shrunk : IsShrunkTo shrinks priority n t widths
-  pub row : ℕ
-  pub column : ℕ
-  pub changed : AreChanged (precedes_by_column row column) (for_room change t widths) t.cells cells
+  pub changed : AreChangedBefore ByColumn (λ row column. true) (for_room change t widths) t.cells cells
 
 -- what a refusal leaves: all cells as they were, or for want of memory some first ones changed
 abbrev pub StopsNarrowing : {P : Type 0} → (P → List ℕ → List ℕ → ℕ → List ℕ → P → Type 0) → P → (ℕ → List ℕ → List ℕ → Type 0) → ℕ → TableError → List (List (List ℕ)) → SpannedConfig → CompleteDimension → List (List (List ℕ)) → Type 0

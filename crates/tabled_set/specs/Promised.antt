@@ -2,8 +2,8 @@
 use Rattle.std.specs.Prelude.{◌≡◌, ◌<◌, ℕ, Bool, List, []}
 use Rattle.tabled_set.specs.BestNarrowing.{HasLeastWidth, IsBestCut, IsBestWrapped}
 use Rattle.tabled_set.specs.ExactTotal.{HasEstimatedWidths, HasExactTotal}
-use Rattle.tabled_set.specs.PlainEnding.{IsPlainLimit}
-use Rattle.tabled_set.specs.declared.suffix.SuffixLimit.{SuffixLimit}
+use Rattle.tabled_change.specs.PlainEnding.{IsPlainLimit}
+use Rattle.tabled_change.specs.declared.suffix.SuffixLimit.{SuffixLimit}
 use Rattle.tabled_priority.specs.Permitted.{IsTakenFrom}
 use Rattle.tabled_size.specs.PlainCells.{ArePlain}
 use Rattle.tabled_size.specs.Sheet.{Sheet}

@@ -1,14 +1,14 @@
 //! Columns whose cells are changed for the rooms that their widths leave.
-ghost use Rattle.std.specs.Prelude.{◌≡◌, None, Some, if◌then◌else◌, ◌<◌, ◌-◌, ◌==◌, ℕ, IfErr, MatchOption, OnErr, OnOk, false, length, take, true};
-ghost use Rattle.tabled_base.specs.Cells.{columns};
+ghost use Rattle.std.specs.Prelude.{◌≡◌, None, Some, if◌then◌else◌, ◌-◌, IfErr, OnErr, OnOk, true};
 ghost use Rattle.tabled_base.specs.declared.error.TableError.TheVariants.{Memory};
-ghost use Rattle.tabled_set.specs.CellChanges.{AreChanged};
-ghost use Rattle.tabled_set.specs.ColumnChanges.{ChangesColumnBefore, ChangesColumnsBefore, for_width, is_permitted};
-ghost use Rattle.tabled_set.specs.Minimums.{side_padding};
+ghost use Rattle.tabled_change.specs.CellChanges.{AreChanged, AreChangedBefore, if_taken};
+ghost use Rattle.tabled_change.specs.declared.order.Order.TheVariants.{ByColumn};
 ghost use Rattle.tabled_priority.specs.Permitted.{at};
+ghost use Rattle.tabled_set.specs.ColumnChanges.{for_width, is_permitted};
+ghost use Rattle.tabled_set.specs.Minimums.{side_padding};
 
-use crate::changing::ChangesCell;
-use tabled_base::{Position, RecordsMut, TableError};
+use tabled_base::{Entity, Position, RecordsMut, TableError};
+use tabled_change::{Change, Order, Rooms, TextRule, Which, change_cells};
 use tabled_config::SpannedConfig;
 
 /// The columns that a width leaves beside the side padding of a cell, 0 where it leaves none.
@@ -40,71 +40,48 @@ impl ColumnWidths {
     }
 }
 
-/// Changes the cells of a column of some width, from the top, each for the room beside its own padding.
-fn change_column<T: ChangesCell, R: RecordsMut>(
-    by: &T,
-    records: &mut R,
-    config: &SpannedConfig,
-    column: usize,
-    width: usize,
-) -> Result<(), TableError>
-    requires { column < columns (R.cells records.old) }
-    ensures ok { OnOk result (AreChanged (λ r c. c == column)
-        (λ r c. T.leaves by.now (width - side_padding config.now r c))
-        (R.cells records.old) (R.cells records.new)) }
-    ensures err { OnErr result (ChangesColumnBefore
-        (λ r c. T.leaves by.now (width - side_padding config.now r c)) column
-        (R.cells records.old) (R.cells records.new)) }
-    ensures only { IfErr result (λ e. e ≡ Memory) }
-{
-    'rows: for row in 0..records.count_rows() {
-        let at = Position { row, column };
-        by.change_cell(records, at, room_beside(config, at, width))?;
-    }
-    Ok(())
+/// The room that a column leaves each of its cells beside the cell's own padding. The cells of a column below its
+/// minimum have none.
+#[derive(Drop)]
+struct ColumnRooms<'a> {
+    config: &'a SpannedConfig,
+    sizes: &'a ColumnWidths,
 }
 
-/// Changes the cells of a column that has one of the widths, not below its minimum, from the top.
-fn change_permitted<T: ChangesCell, R: RecordsMut>(
-    by: &T,
-    records: &mut R,
-    config: &SpannedConfig,
-    sizes: &ColumnWidths,
-    column: usize,
-) -> Result<(), TableError>
-    requires { column < columns (R.cells records.old) }
-    ensures ok { OnOk result (AreChanged (λ r c. c == column)
-        (for_width (T.leaves by.now) config.now sizes.now.widths.items sizes.now.mins.items)
-        (R.cells records.old) (R.cells records.new)) }
-    ensures err { OnErr result (ChangesColumnBefore
-        (for_width (T.leaves by.now) config.now sizes.now.widths.items sizes.now.mins.items) column
-        (R.cells records.old) (R.cells records.new)) }
-    ensures only { IfErr result (λ e. e ≡ Memory) }
-{
-    match sizes.permitted_width(column) {
-        None => Ok(()),
-        Some(width) => change_column(by, records, config, column, width),
+impl<'a> Rooms for ColumnRooms<'a> {
+    ghost room_at = { λ s row column. if is_permitted s.sizes.now.widths.items s.sizes.now.mins.items column
+        then Some (at s.sizes.now.widths.items column - side_padding s.config.now row column) else None };
+
+    fn room(&self, at: Position) -> Option<usize> {
+        match self.sizes.permitted_width(at.column) {
+            None => None,
+            Some(width) => Some(room_beside(self.config, at, width)),
+        }
     }
 }
 
 /// Changes the cells of each column that has one of the widths, not below its minimum, column by column
 /// from the top.
-pub(crate) fn change_columns<T: ChangesCell, R: RecordsMut>(
-    by: &T,
+pub(crate) fn change_columns<T: TextRule, R: RecordsMut>(
+    rule: &T,
+    which: Which,
     records: &mut R,
     config: &SpannedConfig,
     sizes: &ColumnWidths,
 ) -> Result<(), TableError>
     ensures ok { OnOk result (AreChanged (λ r c. true)
-        (for_width (T.leaves by.now) config.now sizes.now.widths.items sizes.now.mins.items)
+        (for_width (if_taken which (T.makes rule.now)) config.now sizes.now.widths.items sizes.now.mins.items)
         (R.cells records.old) (R.cells records.new)) }
-    ensures err { OnErr result (ChangesColumnsBefore
-        (for_width (T.leaves by.now) config.now sizes.now.widths.items sizes.now.mins.items)
+    ensures err { OnErr result (AreChangedBefore ByColumn (λ r c. true)
+        (for_width (if_taken which (T.makes rule.now)) config.now sizes.now.widths.items sizes.now.mins.items)
         (R.cells records.old) (R.cells records.new)) }
     ensures only { IfErr result (λ e. e ≡ Memory) }
 {
-    'columns: for column in 0..records.count_columns() {
-        change_permitted(by, records, config, sizes, column)?;
-    }
-    Ok(())
+    let rooms = &ColumnRooms { config, sizes };
+    change_cells(
+        &Change { rule, which, rooms },
+        records,
+        Order::ByColumn,
+        Entity::Global,
+    )
 }

@@ -2,7 +2,7 @@
 ghost use Rattle.std.specs.Prelude.{◌≡◌, ℕ, IfErr, IfOk, List, OnOk, [], false};
 ghost use Rattle.tabled_base.specs.declared.error.TableError.TheVariants.{Range};
 ghost use Rattle.tabled_config.specs.declared.spanned.SpannedConfig.{SpannedConfig};
-ghost use Rattle.tabled_set.specs.declared.suffix.SuffixLimit.TheVariants.{Cut};
+ghost use Rattle.tabled_change.specs.declared.suffix.SuffixLimit.TheVariants.{Cut};
 
 use crate::truncate::Truncate;
 use crate::wrap::Wrap;
@@ -59,7 +59,7 @@ impl Width {
     /// Wraps to a measure, as `Wrap::new` does.
     pub fn wrap<W: Measurement<Width>>(width: W) -> Wrap<W>
         ensures width { result.width ≡ width }
-        ensures keep_words { result.keep_words ≡ false }
+        ensures keep_words { result.rule.keep_words ≡ false }
         ensures priority { result.priority.kept ≡ 0 }
     {
         Wrap::new(width)
@@ -68,9 +68,9 @@ impl Width {
     /// Truncates to a measure, as `Truncate::new` does.
     pub fn truncate<W: Measurement<Width>>(width: W) -> Truncate<'static, W>
         ensures width { result.width ≡ width }
-        ensures suffix { result.suffix.now ≡ [] }
-        ensures limit { result.limit ≡ Cut }
-        ensures multiline { result.multiline ≡ false }
+        ensures suffix { result.rule.suffix.now ≡ [] }
+        ensures limit { result.rule.limit ≡ Cut }
+        ensures multiline { result.rule.multiline ≡ false }
         ensures priority { result.priority.kept ≡ 0 }
     {
         Truncate::new(width)

@@ -1,22 +1,24 @@
 //! Tables that are narrowed to a total.
 ghost use Rattle.std.specs.Prelude.{◌≡◌, ◌⊎◌, IfErr, OnOk, false};
 ghost use Rattle.tabled_base.specs.declared.error.TableError.TheVariants.{Memory, Range};
+ghost use Rattle.tabled_change.specs.CellChanges.{if_taken};
 ghost use Rattle.tabled_set.specs.Narrowed.{Narrows, StopsNarrowing, WiderPasses};
 ghost use Rattle.tabled_size.specs.FilledIn.{HasNoEstimate};
 ghost use Rattle.tabled_size.specs.Sheet.{is_empty};
 
-use crate::changing::ChangesCell;
 use crate::columns::change_columns;
 use crate::narrowing::narrowed_widths;
 use tabled_base::{RecordsMut, TableError};
+use tabled_change::{TextRule, Which};
 use tabled_config::SpannedConfig;
 use tabled_size::{CompleteDimension, Estimate, Peaker};
 
 /// Narrows a table that has a row and a column to a total of n columns. Sizes that aren't stored are
 /// estimated first. Refused for memory, or with `Range` where an estimate, the total or, in a table that is
 /// wider, the side padding of a cell passes the greatest `usize`.
-pub(crate) fn narrow_table<T: ChangesCell, P: Peaker + Drop, R: RecordsMut>(
-    by: &T,
+pub(crate) fn narrow_table<T: TextRule, P: Peaker + Drop, R: RecordsMut>(
+    rule: &T,
+    which: Which,
     priority: P,
     records: &mut R,
     config: &SpannedConfig,
@@ -24,9 +26,9 @@ pub(crate) fn narrow_table<T: ChangesCell, P: Peaker + Drop, R: RecordsMut>(
     n: usize,
 ) -> Result<(), TableError>
     requires { is_empty (R.cells records.old) ≡ false }
-    ensures ok { OnOk result (Narrows P.shrinks priority (T.leaves by.now) n
+    ensures ok { OnOk result (Narrows P.shrinks priority (if_taken which (T.makes rule.now)) n
         (R.cells records.old) config.now sizes.old (R.cells records.new) sizes.new) }
-    ensures err { IfErr result (λ e. StopsNarrowing P.shrinks priority (T.leaves by.now) n e
+    ensures err { IfErr result (λ e. StopsNarrowing P.shrinks priority (if_taken which (T.makes rule.now)) n e
         (R.cells records.old) config.now sizes.old (R.cells records.new)) }
     ensures only { IfErr result (λ e. (e ≡ Memory) ⊎ ((e ≡ Range)
         × (HasNoEstimate sizes.old (R.cells records.old) config.now
@@ -37,7 +39,7 @@ pub(crate) fn narrow_table<T: ChangesCell, P: Peaker + Drop, R: RecordsMut>(
     let Some(found) = narrowed_widths(alloc, priority, records, config, sizes, n)? else {
         return Ok(());
     };
-    change_columns(by, records, config, &found)?;
+    change_columns(rule, which, records, config, &found)?;
     sizes.set_widths(found.widths);
     sizes.clear_height();
     Ok(())

@@ -1,17 +1,16 @@
 //! Wrapping to some columns.
 ghost use Rattle.std.specs.Prelude.{◌≡◌, ◌<◌, IfErr, IfOk, OnErr, false, string_bytes};
 ghost use Rattle.tabled_base.specs.declared.error.TableError.TheVariants.{Memory};
-ghost use Rattle.tabled_set.specs.CellChanges.{wrapping};
 ghost use Rattle.tabled_text.specs.Breaking.{EachUnitFits, HasFewestLines, IsLeastBreaking};
 ghost use Rattle.tabled_text.specs.Wrapping.{IsWrapped};
 
 mod cells;
 mod table;
 
-use crate::changing::ChangesText;
 use crate::measurement::{Measurement, Width};
 use std::alloc::Global;
 use tabled_base::TableError;
+use tabled_change::Wrapping;
 use tabled_size::{Peaker, PriorityNone};
 use tabled_text::wrap_text;
 
@@ -19,7 +18,7 @@ use tabled_text::wrap_text;
 #[derive(Clone, Debug, Drop)]
 pub struct Wrap<W = usize, P = PriorityNone> {
     width: W,
-    keep_words: bool,
+    rule: Wrapping,
     priority: P,
 }
 
@@ -29,12 +28,12 @@ impl<W> Wrap<W> {
     where
         W: Measurement<Width>,
         ensures width { result.width ≡ width }
-        ensures keep_words { result.keep_words ≡ false }
+        ensures keep_words { result.rule.keep_words ≡ false }
         ensures priority { result.priority.kept ≡ 0 }
     {
         Wrap {
             width,
-            keep_words: false,
+            rule: Wrapping { keep_words: false },
             priority: PriorityNone::new(),
         }
     }
@@ -43,10 +42,10 @@ impl<W> Wrap<W> {
 impl<W, P> Wrap<W, P> {
     /// Whether a word that finds room on a line of its own is kept whole.
     pub fn keep_words(self, on: bool) -> Wrap<W, P>
-        ensures { result ≡ record self { keep_words = on } }
+        ensures { result ≡ record self { rule = record { keep_words = on } } }
     {
         Wrap {
-            keep_words: on,
+            rule: Wrapping { keep_words: on },
             ..self
         }
     }
@@ -55,11 +54,11 @@ impl<W, P> Wrap<W, P> {
 impl<W, P: Drop> Wrap<W, P> {
     /// The order in which the columns of a table shrink.
     pub fn priority<Q: Peaker>(self, priority: Q) -> Wrap<W, Q>
-        ensures { result ≡ record { width = self.width; keep_words = self.keep_words; priority = priority } }
+        ensures { result ≡ record { width = self.width; rule = self.rule; priority = priority } }
     {
         Wrap {
             width: self.width,
-            keep_words: self.keep_words,
+            rule: self.rule,
             priority,
         }
     }
@@ -82,13 +81,5 @@ impl Wrap<(), ()> {
         ensures only { IfErr result (λ e. e ≡ Memory) }
     {
         Ok(wrap_text(alloc, text, width, keep_words)?)
-    }
-}
-
-impl<W, P> ChangesText for Wrap<W, P> {
-    ghost makes = { λ s. wrapping s.keep_words };
-
-    fn changed_text(&self, alloc: Global, text: &str, room: usize) -> Result<String, TableError> {
-        Ok(wrap_text(alloc, text, room, self.keep_words)?)
     }
 }

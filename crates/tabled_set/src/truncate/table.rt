@@ -1,17 +1,17 @@
 //! Truncating the cells of whole tables.
 ghost use Rattle.std.specs.Prelude.{◌≡◌, None};
-ghost use Rattle.tabled_set.specs.CellChanges.{if_wider, truncating};
+ghost use Rattle.tabled_change.specs.CellChanges.{if_wider, truncating};
 ghost use Rattle.tabled_set.specs.Narrowed.{Narrows, NarrowingPasses, StopsNarrowing};
 ghost use Rattle.tabled_set.specs.Promised.{TruncatesAsPromised};
 ghost use Rattle.tabled_size.specs.Cleared.{AreCleared};
 ghost use Rattle.tabled_size.specs.StandingSheet.{standing};
 ghost use Rattle.tabled_size.specs.declared.complete_dimension.CompleteDimension.{CompleteDimension};
 
-use crate::changing::Wider;
 use crate::measurement::{Measurement, Width};
 use crate::narrow_table::narrow_table;
 use crate::truncate::Truncate;
 use tabled_base::{Entity, RecordsMut, TableError, TableOption};
+use tabled_change::Which;
 use tabled_config::ColoredConfig;
 use tabled_size::{CompleteDimension, Peaker, is_empty};
 
@@ -25,11 +25,11 @@ impl<'a, W: Measurement<Width> + Drop, P: Peaker + Drop, R: RecordsMut> TableOpt
     CompleteDimension,
 > for Truncate<'a, W, P> {
     ghost changes = { λ s r c d r' c' d'.
-        Narrows P.shrinks s.priority (if_wider (truncating s.suffix.now s.limit s.multiline))
+        Narrows P.shrinks s.priority (if_wider (truncating s.rule.suffix.now s.rule.limit s.rule.multiline))
         (W.measures s.width (R.cells r) c.config) (R.cells r) c.config d (R.cells r') d' × (c' ≡ c) };
 
     ghost refuses = { λ s e r c d r' c' d'.
-        StopsNarrowing P.shrinks s.priority (if_wider (truncating s.suffix.now s.limit s.multiline))
+        StopsNarrowing P.shrinks s.priority (if_wider (truncating s.rule.suffix.now s.rule.limit s.rule.multiline))
         (W.measures s.width (R.cells r) c.config) e (R.cells r) c.config d (R.cells r') × (c' ≡ c) };
 
     ghost passes = { λ s r c d. NarrowingPasses (W.passes s.width (R.cells r) c.config)
@@ -37,7 +37,7 @@ impl<'a, W: Measurement<Width> + Drop, P: Peaker + Drop, R: RecordsMut> TableOpt
 
     // Of the sizes that are left once what is hinted was forgotten.
     ghost promises = { λ s r c d r' c' d'. (left : CompleteDimension) → AreCleared None d' left
-        → TruncatesAsPromised P.shrinks s.priority s.suffix.now s.limit s.multiline
+        → TruncatesAsPromised P.shrinks s.priority s.rule.suffix.now s.rule.limit s.rule.multiline
         (W.measures s.width (R.cells r) c.config)
         (standing (R.cells r) c.config d) (standing (R.cells r') c'.config left) };
 
@@ -52,23 +52,10 @@ impl<'a, W: Measurement<Width> + Drop, P: Peaker + Drop, R: RecordsMut> TableOpt
         if is_empty(records) {
             return Ok(());
         }
+        let rule = self.rule;
         let config = cfg.as_ref();
         let n = self.width.measure(records, config)?;
-        let texts = Truncate {
-            width: (),
-            suffix: self.suffix,
-            limit: self.limit,
-            multiline: self.multiline,
-            priority: (),
-        };
-        narrow_table(
-            &Wider { by: &texts },
-            self.priority,
-            records,
-            config,
-            dims,
-            n,
-        )
+        narrow_table(&rule, Which::Wider, self.priority, records, config, dims, n)
     }
 
     fn hint_change(&self) -> Option<Entity> {

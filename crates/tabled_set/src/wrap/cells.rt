@@ -1,20 +1,20 @@
 //! Wrapping the cells of an entity.
 ghost use Rattle.std.specs.Prelude.{◌≡◌};
-ghost use Rattle.tabled_set.specs.CellChanges.{wrapping};
-ghost use Rattle.tabled_set.specs.EntityChanges.{ChangesWider, StopsWider};
+ghost use Rattle.tabled_change.specs.CellChanges.{ChangesEntity, StopsEntity, if_wider, wrapping};
 
-use crate::covering::change_wider;
+use crate::measured::change_measured;
 use crate::measurement::{Measurement, Width};
 use crate::wrap::Wrap;
 use tabled_base::{CellOption, Entity, RecordsMut, TableError};
+use tabled_change::Which;
 use tabled_config::ColoredConfig;
 
 /// The entity's cells that are wider than the measure are wrapped to it, and no other cell changes. Where the
 /// measure is refused, with `Range`, no cell has changed; where memory is, those before some cell have, row by row.
 impl<W: Measurement<Width>, P, R: RecordsMut> CellOption<R, ColoredConfig> for Wrap<W, P> {
-    ghost changes = { λ s r c e r' c'. ChangesWider (wrapping s.keep_words) (W.measures s.width (R.cells r) c.config) e (R.cells r) (R.cells r') × (c' ≡ c) };
+    ghost changes = { λ s r c e r' c'. ChangesEntity (if_wider (wrapping s.rule.keep_words)) (W.measures s.width (R.cells r) c.config) e (R.cells r) (R.cells r') × (c' ≡ c) };
 
-    ghost refuses = { λ s f r c e r' c'. StopsWider (wrapping s.keep_words) (W.measures s.width (R.cells r) c.config) e f (R.cells r) (R.cells r') × (c' ≡ c) };
+    ghost refuses = { λ s f r c e r' c'. StopsEntity (if_wider (wrapping s.rule.keep_words)) (W.measures s.width (R.cells r) c.config) e f (R.cells r) (R.cells r') × (c' ≡ c) };
 
     ghost passes = { λ s r c e. W.passes s.width (R.cells r) c.config };
 
@@ -24,8 +24,14 @@ impl<W: Measurement<Width>, P, R: RecordsMut> CellOption<R, ColoredConfig> for W
         cfg: &mut ColoredConfig,
         entity: Entity,
     ) -> Result<(), TableError> {
-        let room = self.width.measure(records, cfg.as_ref())?;
-        change_wider(self, records, entity, room)
+        change_measured::<Width, _, _, _>(
+            &self.width,
+            &self.rule,
+            Which::Wider,
+            records,
+            cfg,
+            entity,
+        )
     }
 
     fn hint_change(&self) -> Option<Entity> {

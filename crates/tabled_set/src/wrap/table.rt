@@ -1,18 +1,18 @@
 //! Wrapping the cells of whole tables.
 ghost use Rattle.std.specs.Prelude.{◌≡◌, Some};
 ghost use Rattle.tabled_base.specs.declared.position.Entity.TheVariants.{Row};
-ghost use Rattle.tabled_set.specs.CellChanges.{wrapping};
+ghost use Rattle.tabled_change.specs.CellChanges.{wrapping};
 ghost use Rattle.tabled_set.specs.Narrowed.{Narrows, NarrowingPasses, StopsNarrowing};
 ghost use Rattle.tabled_set.specs.Promised.{WrapsAsPromised};
 ghost use Rattle.tabled_size.specs.Cleared.{AreCleared};
 ghost use Rattle.tabled_size.specs.StandingSheet.{standing};
 ghost use Rattle.tabled_size.specs.declared.complete_dimension.CompleteDimension.{CompleteDimension};
 
-use crate::changing::Every;
 use crate::measurement::{Measurement, Width};
 use crate::narrow_table::narrow_table;
 use crate::wrap::Wrap;
 use tabled_base::{Entity, RecordsMut, TableError, TableOption};
+use tabled_change::Which;
 use tabled_config::ColoredConfig;
 use tabled_size::{CompleteDimension, Peaker, is_empty};
 
@@ -24,10 +24,10 @@ impl<W: Measurement<Width> + Drop, P: Peaker + Drop, R: RecordsMut> TableOption<
     ColoredConfig,
     CompleteDimension,
 > for Wrap<W, P> {
-    ghost changes = { λ s r c d r' c' d'. Narrows P.shrinks s.priority (wrapping s.keep_words)
+    ghost changes = { λ s r c d r' c' d'. Narrows P.shrinks s.priority (wrapping s.rule.keep_words)
         (W.measures s.width (R.cells r) c.config) (R.cells r) c.config d (R.cells r') d' × (c' ≡ c) };
 
-    ghost refuses = { λ s e r c d r' c' d'. StopsNarrowing P.shrinks s.priority (wrapping s.keep_words)
+    ghost refuses = { λ s e r c d r' c' d'. StopsNarrowing P.shrinks s.priority (wrapping s.rule.keep_words)
         (W.measures s.width (R.cells r) c.config) e (R.cells r) c.config d (R.cells r') × (c' ≡ c) };
 
     ghost passes = { λ s r c d. NarrowingPasses (W.passes s.width (R.cells r) c.config)
@@ -35,7 +35,7 @@ impl<W: Measurement<Width> + Drop, P: Peaker + Drop, R: RecordsMut> TableOption<
 
     // Of the sizes that are left once what is hinted was forgotten.
     ghost promises = { λ s r c d r' c' d'. (left : CompleteDimension) → AreCleared (Some (Row 0)) d' left
-        → WrapsAsPromised P.shrinks s.priority s.keep_words (W.measures s.width (R.cells r) c.config)
+        → WrapsAsPromised P.shrinks s.priority s.rule.keep_words (W.measures s.width (R.cells r) c.config)
         (standing (R.cells r) c.config d) (standing (R.cells r') c'.config left) };
 
     ghost hint = { λ s. Some (Row 0) };
@@ -49,21 +49,10 @@ impl<W: Measurement<Width> + Drop, P: Peaker + Drop, R: RecordsMut> TableOption<
         if is_empty(records) {
             return Ok(());
         }
+        let rule = self.rule;
         let config = cfg.as_ref();
         let n = self.width.measure(records, config)?;
-        let texts = Wrap {
-            width: (),
-            keep_words: self.keep_words,
-            priority: (),
-        };
-        narrow_table(
-            &Every { by: &texts },
-            self.priority,
-            records,
-            config,
-            dims,
-            n,
-        )
+        narrow_table(&rule, Which::Every, self.priority, records, config, dims, n)
     }
 
     fn hint_change(&self) -> Option<Entity> {

@@ -1,8 +1,9 @@
-use Rattle.std.proofs.Common.{◌≡◌, ◌≤◌, ◌^◌, ◌⊎◌, ◌∙◌, MatchOption, None, Option, subst}
+use Rattle.std.proofs.Common.{◌≡◌, ◌≤◌, ◌⊎◌, ◌∙◌, MatchOption, None, Option, subst}
 use Rattle.tabled_base.specs.declared.error.TableError.TheVariants.{Memory, Range}
 use Rattle.tabled_size.specs.FilledIn.{HasNoEstimate}
 use Rattle.tabled_size.specs.StandingSheet.{standing}
 use Rattle.tabled_size.specs.Totals.{total_width}
+use Rattle.tabled_change.specs.CellChanges.{if_taken}
 use Rattle.tabled_set.specs.Narrowed.{StopsNarrowing, WiderPasses}
 use Rattle.tabled_set.specs.Shrinking.{IsFound}
 use Rattle.tabled_set.specs.declared.columns.ColumnWidths.{ColumnWidths}
@@ -24,7 +25,7 @@ returns-in_default-clause-ok g c =
     let cells = g.R.ExactRecords.cells c.args.records.now in
     let t = standing cells c.args.config.now c.estimate.new.self in
     let none : c.in_ok-found.field-0 ≡ None = c.in_default.is in
-    narrows-none g.P.Peaker.shrinks c.args.priority c.args.n (g.T.ChangesCell.leaves c.args.by.now) cells c.args.config.now
+    narrows-none g.P.Peaker.shrinks c.args.priority c.args.n (if_taken c.args.which (g.T.TextRule.makes c.args.rule.now)) cells c.args.config.now
     c.args.sizes.now c.estimate.new.self c.requires c.in_ok-estimate.ensures.ok
     (subst (λ (o : Option ColumnWidths). MatchOption o (total_width t ≤ c.args.n) (λ found. IsFound g.P.Peaker.shrinks c.args.priority c.args.n t found.widths.items found.mins.items)) none c.in_ok-found.ensures.ok)
 
@@ -32,7 +33,7 @@ pub returns-in_err-change_columns-clause-err : goal.returns-in_err-change_column
 returns-in_err-change_columns-clause-err g c =
     let cells = g.R.ExactRecords.cells c.args.records.now in
     let t = standing cells c.args.config.now c.estimate.new.self in
-    let leaves = g.T.ChangesCell.leaves c.args.by.now in
+    let leaves = if_taken c.args.which (g.T.TextRule.makes c.args.rule.now) in
     if-err
     (λ e. StopsNarrowing g.P.Peaker.shrinks c.args.priority leaves c.args.n e cells c.args.config.now c.args.sizes.now (g.R.ExactRecords.cells c.change_columns.new.records))
     c.from_residual-in_err-change_columns.result _ c.from_residual-in_err-change_columns.ensures.1
@@ -47,7 +48,7 @@ pub returns-clause-ok : goal.returns-clause-ok
 returns-clause-ok g c =
     let cells = g.R.ExactRecords.cells c.args.records.now in
     let t = standing cells c.args.config.now c.estimate.new.self in
-    narrows-some g.P.Peaker.shrinks c.args.priority c.args.n (g.T.ChangesCell.leaves c.args.by.now) cells c.args.config.now
+    narrows-some g.P.Peaker.shrinks c.args.priority c.args.n (if_taken c.args.which (g.T.TextRule.makes c.args.rule.now)) cells c.args.config.now
     c.args.sizes.now c.estimate.new.self c.requires c.in_ok-estimate.ensures.ok
     (g.R.ExactRecords.cells c.change_columns.new.records) c.clear_height.new.self
     c.in-Some.found.widths.items c.in-Some.found.mins.items

@@ -1,19 +1,34 @@
-use Rattle.std.proofs.Common.{rules}
+use Rattle.std.proofs.Common.{◌≡◌, ℕ, IfErr, refl, rules, subst}
 use Rattle.std.proofs.lemmas.Result.{on_ok_weaker}
-use Rattle.tabled_set.specs.CellChanges.{if_wider, truncating}
-use Rattle.tabled_set.specs.Narrowed.{Narrows}
+use Rattle.tabled_config.specs.declared.spanned.SpannedConfig.{SpannedConfig}
+use Rattle.tabled_change.specs.CellChanges.{if_wider, truncating}
+use Rattle.tabled_set.specs.Narrowed.{Narrows, StopsNarrowing}
 use Rattle.tabled_set.proofs.Promises.{truncates}
+use Rattle.tabled_set.proofs.Stopping.{stops-with}
 use Rattle.tabled_set.proofs.truncate.table.TruncateTableOptionColoredConfigCompleteDimension.change.Goals as goal
 
 pub returns-clause-promised : goal.returns-clause-promised
 returns-clause-promised g c =
     let s = c.args.self in
-    let suffix = s.suffix.now in
+    let suffix = s.rule.suffix.now in
     let cells = g.R.ExactRecords.cells c.args.records.now in
     let config = c.args.cfg.now.config in
     let n = g.W.Measurement.measures s.width cells config in
     let new = g.R.ExactRecords.cells c.narrow_table.new.records in
     let stored = c.narrow_table.new.sizes in
-    on_ok_weaker {P = Narrows g.P.Peaker.shrinks s.priority (if_wider (truncating suffix s.limit s.multiline)) n cells config c.args.dims.now new stored} c.narrow_table.result
-    (λ h left. truncates g.P.Peaker.shrinks s.priority n cells config c.args.dims.now new stored left c.is_empty.ensures.rectangular suffix s.limit s.multiline h)
+    on_ok_weaker {P = Narrows g.P.Peaker.shrinks s.priority (if_wider (truncating suffix s.rule.limit s.rule.multiline)) n cells config c.args.dims.now new stored} c.narrow_table.result
+    (λ h left. truncates g.P.Peaker.shrinks s.priority n cells config c.args.dims.now new stored left c.is_empty.ensures.rectangular suffix s.rule.limit s.rule.multiline h)
     (search rules)
+
+pub returns-clause-err : goal.returns-clause-err
+returns-clause-err g c =
+    let s = c.args.self in
+    let change = if_wider (truncating s.rule.suffix.now s.rule.limit s.rule.multiline) in
+    let cells = g.R.ExactRecords.cells c.args.records.now in
+    let sizes = c.args.dims.now in
+    let new = g.R.ExactRecords.cells c.narrow_table.new.records in
+    let error = c.narrow_table.result in
+    let same = c.args.cfg.now ≡ c.args.cfg.now in
+    subst (λ (config : SpannedConfig). IfErr error (λ e. StopsNarrowing g.P.Peaker.shrinks s.priority change (g.W.Measurement.measures s.width cells config) e cells config sizes new × same)) c.as_ref-config.ensures
+    (subst (λ (k : ℕ). IfErr error (λ e. StopsNarrowing g.P.Peaker.shrinks s.priority change k e cells c.as_ref-config.result.now sizes new × same)) c.in_ok-n.ensures.ok
+    (stops-with (λ e. StopsNarrowing g.P.Peaker.shrinks s.priority change c.in_ok-n.n e cells c.as_ref-config.result.now sizes new) same error c.narrow_table.ensures.err refl))

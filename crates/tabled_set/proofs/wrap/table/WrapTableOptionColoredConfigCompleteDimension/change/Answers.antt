@@ -1,8 +1,10 @@
-use Rattle.std.proofs.Common.{rules}
+use Rattle.std.proofs.Common.{◌≡◌, ℕ, IfErr, refl, rules, subst}
 use Rattle.std.proofs.lemmas.Result.{on_ok_weaker}
-use Rattle.tabled_set.specs.CellChanges.{wrapping}
-use Rattle.tabled_set.specs.Narrowed.{Narrows}
+use Rattle.tabled_config.specs.declared.spanned.SpannedConfig.{SpannedConfig}
+use Rattle.tabled_change.specs.CellChanges.{wrapping}
+use Rattle.tabled_set.specs.Narrowed.{Narrows, StopsNarrowing}
 use Rattle.tabled_set.proofs.Promises.{wraps}
+use Rattle.tabled_set.proofs.Stopping.{stops-with}
 use Rattle.tabled_set.proofs.wrap.table.WrapTableOptionColoredConfigCompleteDimension.change.Goals as goal
 
 pub returns-clause-promised : goal.returns-clause-promised
@@ -13,6 +15,19 @@ returns-clause-promised g c =
     let n = g.W.Measurement.measures s.width cells config in
     let new = g.R.ExactRecords.cells c.narrow_table.new.records in
     let stored = c.narrow_table.new.sizes in
-    on_ok_weaker {P = Narrows g.P.Peaker.shrinks s.priority (wrapping s.keep_words) n cells config c.args.dims.now new stored} c.narrow_table.result
-    (λ h left. wraps g.P.Peaker.shrinks s.priority n cells config c.args.dims.now new stored left c.is_empty.ensures.rectangular s.keep_words h)
+    on_ok_weaker {P = Narrows g.P.Peaker.shrinks s.priority (wrapping s.rule.keep_words) n cells config c.args.dims.now new stored} c.narrow_table.result
+    (λ h left. wraps g.P.Peaker.shrinks s.priority n cells config c.args.dims.now new stored left c.is_empty.ensures.rectangular s.rule.keep_words h)
     (search rules)
+
+pub returns-clause-err : goal.returns-clause-err
+returns-clause-err g c =
+    let s = c.args.self in
+    let change = wrapping s.rule.keep_words in
+    let cells = g.R.ExactRecords.cells c.args.records.now in
+    let sizes = c.args.dims.now in
+    let new = g.R.ExactRecords.cells c.narrow_table.new.records in
+    let error = c.narrow_table.result in
+    let same = c.args.cfg.now ≡ c.args.cfg.now in
+    subst (λ (config : SpannedConfig). IfErr error (λ e. StopsNarrowing g.P.Peaker.shrinks s.priority change (g.W.Measurement.measures s.width cells config) e cells config sizes new × same)) c.as_ref-config.ensures
+    (subst (λ (k : ℕ). IfErr error (λ e. StopsNarrowing g.P.Peaker.shrinks s.priority change k e cells c.as_ref-config.result.now sizes new × same)) c.in_ok-n.ensures.ok
+    (stops-with (λ e. StopsNarrowing g.P.Peaker.shrinks s.priority change c.in_ok-n.n e cells c.as_ref-config.result.now sizes new) same error c.narrow_table.ensures.err refl))

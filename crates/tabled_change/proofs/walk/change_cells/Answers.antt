@@ -1,0 +1,28 @@
+use Rattle.std.proofs.Common.{arith}
+use Rattle.std.proofs.lemmas.Result.{err_from_is_err_and}
+use Rattle.tabled_entity.specs.Changes.{covers}
+use Rattle.tabled_change.proofs.ChangingCells.{AreChanged-both}
+use Rattle.tabled_change.proofs.WalkLemmas.{lines-more, lines-some}
+use Rattle.tabled_change.proofs.walk.change_cells.Goals as goal
+
+pub returns-in_err-change_line-clause-err : goal.returns-in_err-change_line-clause-err
+returns-in_err-change_line-clause-err g c =
+    let line = c.lines.line in
+    let bands = c.lines_of_entity.result in
+    let begun = c.in_err-change_line.ensures.err in
+    let p = err_from_is_err_and c.from_residual.result c.from_residual.ensures.1 in
+    rw p.1
+    (record {
+      line = line;
+      place = begun.0;
+      changed =
+          AreChanged-both c.lines.invariant begun.1
+          (λ r k inside. lines-some c.args.order (covers c.args.entity r k) bands.0 bands.1 line begun.0 r k (c.lines_of_entity.ensures.cells r k inside) (omega arith) (omega arith));
+    })
+
+pub lines-preserved : goal.lines-preserved
+lines-preserved g c =
+    let line = c.lines.line in
+    let bands = c.lines_of_entity.result in
+    AreChanged-both c.lines.invariant c.in_ok-change_line.ensures.ok
+    (λ r k inside. lines-more c.args.order (covers c.args.entity r k) bands.0 bands.1 line r k (c.lines_of_entity.ensures.cells r k inside) (omega arith) (omega arith))

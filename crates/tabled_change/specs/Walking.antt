@@ -1,0 +1,29 @@
+-- Cells that are visited line by line: rows or columns, in a band of them.
+use Rattle.std.specs.Prelude.{ℕ, ◌==◌, ◌&&◌, Bool, List, Option, length, nat_le, nat_lt}
+use Rattle.tabled_base.specs.Cells.{columns}
+use Rattle.tabled_change.specs.CellChanges.{if_taken, in_room, line_of, place_of}
+use Rattle.tabled_change.specs.declared.order.Order.{Order}
+use Rattle.tabled_change.specs.declared.order.Order.TheVariants.{ByColumn, ByRow}
+use Rattle.tabled_change.specs.declared.walk.Band.{Band}
+use Rattle.tabled_change.specs.declared.which.Which.{Which}
+
+-- a row or column stands in a band
+abbrev pub is_within : Band → ℕ → Bool
+is_within band place = nat_le band.first place && nat_lt place band.end
+
+-- how many lines there are, and places on each
+abbrev pub lines_in : Order → List (List (List ℕ)) → ℕ
+lines_in ByRow cells = length cells
+lines_in ByColumn cells = columns cells
+
+abbrev pub places_in : Order → List (List (List ℕ)) → ℕ
+places_in ByRow cells = columns cells
+places_in ByColumn cells = length cells
+
+-- a cell stands on a line, at a place in a band
+abbrev pub on_line : Order → ℕ → Band → ℕ → ℕ → Bool
+on_line order line places row column = line_of order row column == line && is_within places (place_of order row column)
+
+-- what a walk leaves of each cell: one that has a room is changed for it, if its text is one of those that are
+abbrev pub leaves : Which → (ℕ → List ℕ → List ℕ → Type 0) → (ℕ → ℕ → Option ℕ) → ℕ → ℕ → List ℕ → List ℕ → Type 0
+leaves which change rooms row column before after = in_room (if_taken which change) (rooms row column) before after

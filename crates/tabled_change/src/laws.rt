@@ -1,0 +1,27 @@
+//! Laws of truncated texts, each the contract of a function.
+ghost use Rattle.std.specs.Prelude.{◌≡◌, ℕ, Bool, true, false, List, [], chars};
+ghost use Rattle.std.specs.List.{list_all};
+ghost use Rattle.tabled_change.specs.LongestLines.{HasLongestLines};
+ghost use Rattle.tabled_change.specs.PlainEnding.{IsPlainLimit};
+ghost use Rattle.tabled_change.specs.Truncated.{IsTruncated};
+ghost use Rattle.tabled_change.specs.declared.suffix.SuffixLimit.{SuffixLimit};
+ghost use Rattle.tabled_text.specs.Cut.{IsCut};
+ghost use Rattle.tabled_text.specs.Longest.{IsLongestCut};
+ghost use Rattle.tabled_text.specs.Plain.{is_plain_character, IsPlain};
+ghost use Rattle.tabled_text.specs.Room.{StaysWithin};
+
+/// A truncated plain text is plain and stays in its room, if the suffix and the character in its place are plain
+/// too. Without a suffix it is the cut text, and of a plain line the longest beginning that finds room, as each line
+/// is where lines are truncated by themselves.
+pub fn truncated_texts()
+    ensures room { (room : ℕ) (suffix : List ℕ) (limit : SuffixLimit) (multiline : Bool) (text answer : List ℕ)
+        → IsPlain suffix → IsPlainLimit limit → IsPlain text
+        → IsTruncated room suffix limit multiline text answer → StaysWithin room answer }
+    ensures cut { (room : ℕ) (limit : SuffixLimit) (text answer : List ℕ)
+        → IsTruncated room [] limit false text answer → IsCut room text answer }
+    ensures longest { (room : ℕ) (limit : SuffixLimit) (line answer : List ℕ)
+        → list_all is_plain_character (chars line) ≡ true
+        → IsTruncated room [] limit false line answer → IsLongestCut room line answer }
+    ensures lines { (room : ℕ) (limit : SuffixLimit) (text answer : List ℕ)
+        → IsTruncated room [] limit true text answer → HasLongestLines room text answer }
+{}

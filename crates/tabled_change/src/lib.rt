@@ -1,0 +1,21 @@
+//! Texts of cells that are changed: rules for one text, and the walk that applies a rule to the cells of a table.
+#![tactic(auto)]
+
+mod changing;
+pub mod laws;
+mod order;
+mod rooms;
+mod suffix;
+mod truncating;
+mod walk;
+mod which;
+mod wrapping;
+
+pub use changing::{Change, TextRule};
+pub use order::Order;
+pub use rooms::Rooms;
+pub use suffix::SuffixLimit;
+pub use truncating::Truncating;
+pub use walk::change_cells;
+pub use which::Which;
+pub use wrapping::Wrapping;

@@ -1,0 +1,37 @@
+//! Cells of an entity that are changed for a measure of their table.
+ghost use Rattle.std.specs.Prelude.{◌≡◌, ◌⊎◌, IfErr, OnOk};
+ghost use Rattle.tabled_base.specs.declared.error.TableError.TheVariants.{Memory, Range};
+ghost use Rattle.tabled_change.specs.CellChanges.{ChangesEntity, StopsEntity, if_taken};
+
+use crate::measurement::Measurement;
+use tabled_base::{Entity, RecordsMut, TableError};
+use tabled_change::{Change, Order, TextRule, Which, change_cells};
+use tabled_config::ColoredConfig;
+
+/// Changes the cells of an entity by a rule, each for the room that is measured once. Refused with `Range` where the
+/// measure is, before a cell has changed, and with `Memory`, where those before some cell have, row by row.
+pub(crate) fn change_measured<A, W: Measurement<A>, T: TextRule, R: RecordsMut>(
+    measure: &W,
+    rule: &T,
+    which: Which,
+    records: &mut R,
+    cfg: &ColoredConfig,
+    entity: Entity,
+) -> Result<(), TableError>
+    ensures ok { OnOk result (ChangesEntity (if_taken which (T.makes rule.now))
+        (W.measures measure.now (R.cells records.old) cfg.now.config) entity
+        (R.cells records.old) (R.cells records.new)) }
+    ensures err { IfErr result (λ e. StopsEntity (if_taken which (T.makes rule.now))
+        (W.measures measure.now (R.cells records.old) cfg.now.config) entity e
+        (R.cells records.old) (R.cells records.new)) }
+    ensures only { IfErr result (λ e. (e ≡ Memory)
+        ⊎ ((e ≡ Range) × W.passes measure.now (R.cells records.old) cfg.now.config)) }
+{
+    let rooms = &measure.measure(records, cfg.as_ref())?;
+    change_cells(
+        &Change { rule, which, rooms },
+        records,
+        Order::ByRow,
+        entity,
+    )
+}
