@@ -1,11 +1,11 @@
 //! What stands for a suffix where a text is truncated.
-ghost use Rattle.std.specs.Prelude.{◌≡◌, ◌-◌, IfOk, None, Some, encode_utf8_all, if◌then◌else◌, nat_lt, replicate, string_bytes};
+ghost use Rattle.std.specs.Prelude.{◌≡◌, ◌-◌, IfOk, None, Some, if◌then◌else◌, nat_lt};
 ghost use Rattle.std.specs.Cow.{cow_str_bytes};
 ghost use Rattle.tabled_change.specs.Truncated.{IsLimited, IsUsed, suffix_columns};
 
 use std::alloc::{AllocError, Global};
 use std::borrow::CowStr;
-use tabled_text::{cut_str, line_width, lines};
+use tabled_text::{copies, cut_str, line_width, lines};
 
 /// What is done with a suffix that takes its whole room, or more.
 #[derive(Clone, Copy, Debug, PartialEq, Eq, PartialOrd, Ord)]
@@ -36,17 +36,6 @@ fn columns_beside(suffix: &str, room: usize) -> Option<usize>
         left = left.checked_sub(line_width(line))?.checked_sub(1)?;
     }
     Some(left + 1)
-}
-
-/// So many copies of a character.
-fn copies(alloc: Global, c: char, count: usize) -> Result<String, AllocError>
-    ensures { IfOk result (λ text. string_bytes text ≡ encode_utf8_all (replicate count c)) }
-{
-    let mut text = String::new(alloc);
-    for _i in 0..count {
-        text.push(c)?;
-    }
-    Ok(text)
 }
 
 /// What stands for a suffix that takes its whole room, or more.
