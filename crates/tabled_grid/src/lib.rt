@@ -5,6 +5,7 @@
 #![tactic(auto)]
 
 mod block;
+mod checks;
 mod content;
 mod edges;
 mod grid;

@@ -1,94 +1,22 @@
 //! Records with the sizes that stand: those that are stored, and else those that the texts ask for.
-ghost use Rattle.std.specs.Prelude.{◌≡◌, ◌⊎◌, ◌<◌, ◌≤◌, IfErr, OnOk, false, length, not, true};
-ghost use Rattle.tabled_base.specs.Cells.{columns};
-ghost use Rattle.tabled_base.specs.declared.error.TableError.TheVariants.{Memory, Range, ShortHeights, ShortWidths, Writer};
+ghost use Rattle.std.specs.Prelude.{◌≡◌, ◌⊎◌, IfErr, false, not, true};
+ghost use Rattle.tabled_base.specs.declared.error.TableError.TheVariants.{Memory, Range, Writer};
 ghost use Rattle.tabled_size.specs.Sheet.{estimated, is_empty};
 ghost use Rattle.tabled_size.specs.StandingSheet.{standing};
 ghost use Rattle.tabled_size.specs.Stored.{is_stored};
 ghost use Rattle.tabled_size.specs.Holds.{Holds, IsSized};
-ghost use Rattle.tabled_grid.specs.Narrow.{IsNarrow};
-ghost use Rattle.tabled_grid.specs.Printed.{IsRefused, Prints};
+ghost use Rattle.tabled_grid.specs.Printed.{Prints};
 ghost use Rattle.tabled_grid.specs.Sent.{Sent};
 
+use crate::checks::check_stored;
 use crate::grid::Grid;
 use crate::marks::Marks;
-use crate::print::{check_narrow, print_held};
+use crate::print::print_held;
 use crate::text_sink::TextSink;
 use std::alloc::Global;
 use tabled_base::{PeekableRecords, TableError};
 use tabled_config::SpannedConfig;
-use tabled_size::{CompleteDimension, Estimate, check_heights, check_widths, is_empty};
-
-/// Whether the widths go as far as the table, where they are stored.
-fn check_stored_widths<R: PeekableRecords>(
-    records: &R,
-    config: &SpannedConfig,
-    stored: &CompleteDimension,
-) -> Result<(), TableError>
-    ensures ok { OnOk result (columns (R.cells records.now)
-        ≤ length (standing (R.cells records.now) config.now stored.now).widths) }
-    ensures err { IfErr result (λ e. (e ≡ ShortWidths)
-        × (length (standing (R.cells records.now) config.now stored.now).widths
-        < columns (R.cells records.now))) }
-{
-    let _config = config;
-    match stored.get_widths() {
-        Some(_) => check_widths(stored, records.count_columns()),
-        None => Ok(()),
-    }
-}
-
-/// Whether the heights go as far as the table, where they are stored.
-fn check_stored_heights<R: PeekableRecords>(
-    records: &R,
-    config: &SpannedConfig,
-    stored: &CompleteDimension,
-) -> Result<(), TableError>
-    ensures ok { OnOk result (length (R.cells records.now)
-        ≤ length (standing (R.cells records.now) config.now stored.now).heights) }
-    ensures err { IfErr result (λ e. (e ≡ ShortHeights)
-        × (length (standing (R.cells records.now) config.now stored.now).heights
-        < length (R.cells records.now))) }
-{
-    let _config = config;
-    match stored.get_heights() {
-        Some(_) => check_heights(stored, records.count_rows()),
-        None => Ok(()),
-    }
-}
-
-/// Whether the widths hold all cells, where they are stored. Estimated ones do.
-fn check_stored_cells<R: PeekableRecords>(
-    records: &R,
-    config: &SpannedConfig,
-    stored: &CompleteDimension,
-) -> Result<(), TableError>
-    requires { columns (R.cells records.now)
-        ≤ length (standing (R.cells records.now) config.now stored.now).widths }
-    ensures ok { OnOk result (Holds (standing (R.cells records.now) config.now stored.now)) }
-    ensures err { IfErr result (IsNarrow (standing (R.cells records.now) config.now stored.now)) }
-{
-    match stored.get_widths() {
-        Some(_) => check_narrow(&Grid::new(records, config, stored)),
-        None => Ok(()),
-    }
-}
-
-/// Whether the sizes that stand hold the table, which has a row and a column. The stored ones are tested
-/// before others are estimated.
-fn check_stored<R: PeekableRecords>(
-    records: &R,
-    config: &SpannedConfig,
-    stored: &CompleteDimension,
-) -> Result<(), TableError>
-    ensures sized { OnOk result (IsSized (standing (R.cells records.now) config.now stored.now)) }
-    ensures holds { OnOk result (Holds (standing (R.cells records.now) config.now stored.now)) }
-    ensures err { IfErr result (IsRefused (standing (R.cells records.now) config.now stored.now)) }
-{
-    check_stored_widths(records, config, stored)?;
-    check_stored_heights(records, config, stored)?;
-    check_stored_cells(records, config, stored)
-}
+use tabled_size::{CompleteDimension, Estimate, is_empty};
 
 /// Prints records under a configuration, with the sizes that are stored, and with those that the texts
 /// ask for where none are stored. Refused, before the first byte and in this order: `ShortWidths` and

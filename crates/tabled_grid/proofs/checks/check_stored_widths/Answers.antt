@@ -1,6 +1,6 @@
 use Rattle.std.proofs.Common.{◌∙◌, ap, option_map, sym}
 use Rattle.tabled_grid.proofs.StandingSizes.{widths_checked, widths_estimated, widths_short}
-use Rattle.tabled_grid.proofs.standing.check_stored_widths.Goals as goal
+use Rattle.tabled_grid.proofs.checks.check_stored_widths.Goals as goal
 
 pub returns-in-Some-clause-ok : goal.returns-in-Some-clause-ok
 returns-in-Some-clause-ok g c =

@@ -1,0 +1,169 @@
+//! Whether the sizes of a table are there and hold its cells, in the order of the refusals.
+ghost use Rattle.std.specs.Prelude.{◌≡◌, ◌↔◌, ℕ, ◌<◌, ◌≤◌, ◌^◌, IsTrue, length, IfNone, IfOk, IfErr, IfSome, OnOk};
+ghost use Rattle.tabled_base.specs.Cells.{columns};
+ghost use Rattle.tabled_base.specs.declared.error.TableError.TheVariants.{ShortHeights, ShortWidths};
+ghost use Rattle.tabled_size.specs.Reached.{reached};
+ghost use Rattle.tabled_size.specs.StandingSheet.{standing};
+ghost use Rattle.tabled_size.specs.Totals.{filled_width};
+ghost use Rattle.tabled_size.specs.Holds.{Holds, IsHeld, IsSized};
+ghost use Rattle.tabled_grid.specs.Narrow.{IsNarrow, IsNarrowIn};
+ghost use Rattle.tabled_grid.specs.Printed.{IsInRange, IsRefused};
+
+use crate::grid::Grid;
+use tabled_base::{PeekableRecords, Position, TableError};
+use tabled_config::SpannedConfig;
+use tabled_size::{
+    CompleteDimension, Dimension, check_heights, check_widths, filled_height, filled_width,
+};
+
+fn is_held<R: PeekableRecords, D: Dimension>(
+    grid: &Grid<'_, R, D>,
+    row: usize,
+    column: usize,
+) -> bool
+    requires sized { columns grid.now.cells ≤ length grid.now.widths }
+    requires row_in { row < length grid.now.cells }
+    requires column_in { column < columns grid.now.cells }
+    ensures { IsTrue result ↔ IsHeld grid.now row column }
+{
+    let padding = grid.config.get_padding(Position { row, column });
+    let width = grid.width(column);
+    let used = grid.records.get_width(Position { row, column });
+    padding.left.size <= width
+        && padding.right.size <= width - padding.left.size
+        && used <= width - padding.left.size - padding.right.size
+}
+
+fn narrow_in<R: PeekableRecords, D: Dimension>(grid: &Grid<'_, R, D>, row: usize) -> Option<usize>
+    requires sized { columns grid.now.cells ≤ length grid.now.widths }
+    requires row_in { row < length grid.now.cells }
+    ensures none { IfNone result ((c : ℕ) → c < columns grid.now.cells
+        → IsHeld grid.now row c) }
+    ensures some { IfSome result (IsNarrowIn grid.now row) }
+{
+    'columns: for column in 0..grid.count_columns() {
+        if !is_held(grid, row, column) {
+            return Some(column);
+        }
+    }
+    None
+}
+
+/// Whether the widths, which have to be there, hold all cells. Refused with `Narrow` at the first one
+/// that they don't hold.
+pub(crate) fn check_narrow<R: PeekableRecords, D: Dimension>(
+    grid: &Grid<'_, R, D>,
+) -> Result<(), TableError>
+    requires sized { columns grid.now.cells ≤ length grid.now.widths }
+    ensures ok { OnOk result (Holds grid.now) }
+    ensures err { IfErr result (IsNarrow grid.now) }
+{
+    'rows: for row in 0..grid.count_rows() {
+        if let Some(column) = narrow_in(grid, row) {
+            return Err(TableError::Narrow { row, column });
+        }
+    }
+    Ok(())
+}
+
+/// Whether widths and heights are there.
+pub(crate) fn check_sizes<R: PeekableRecords, D: Dimension>(
+    grid: &Grid<'_, R, D>,
+) -> Result<(), TableError>
+    ensures ok { OnOk result (IsSized grid.now) }
+    ensures err { IfErr result (IsRefused grid.now) }
+{
+    check_widths(grid.dimension, grid.records.count_columns())?;
+    check_heights(grid.dimension, grid.records.count_rows())
+}
+
+/// The total width, if both totals are in range.
+pub(crate) fn check_totals<R: PeekableRecords, D: Dimension>(
+    grid: &Grid<'_, R, D>,
+) -> Result<usize, TableError>
+    requires sized { IsSized grid.now }
+    requires holds { Holds grid.now }
+    ensures width { IfOk result (λ n. n ≡ filled_width grid.now.config
+        (columns grid.now.cells) grid.now.widths) }
+    ensures in_range { OnOk result (IsInRange grid.now) }
+    ensures err { IfErr result (IsRefused grid.now) }
+{
+    let Some(width) = filled_width(grid.config, grid.records.count_columns(), grid.dimension) else {
+        return Err(TableError::Range);
+    };
+    if filled_height(grid.config, grid.records.count_rows(), grid.dimension).is_none() {
+        return Err(TableError::Range);
+    }
+    Ok(width)
+}
+
+/// Whether the widths go as far as the table, where they are stored.
+fn check_stored_widths<R: PeekableRecords>(
+    records: &R,
+    config: &SpannedConfig,
+    stored: &CompleteDimension,
+) -> Result<(), TableError>
+    ensures ok { OnOk result (columns (R.cells records.now)
+        ≤ length (standing (R.cells records.now) config.now stored.now).widths) }
+    ensures err { IfErr result (λ e. (e ≡ ShortWidths)
+        × (length (standing (R.cells records.now) config.now stored.now).widths
+        < columns (R.cells records.now))) }
+{
+    let _config = config;
+    match stored.get_widths() {
+        Some(_) => check_widths(stored, records.count_columns()),
+        None => Ok(()),
+    }
+}
+
+/// Whether the heights go as far as the table, where they are stored.
+fn check_stored_heights<R: PeekableRecords>(
+    records: &R,
+    config: &SpannedConfig,
+    stored: &CompleteDimension,
+) -> Result<(), TableError>
+    ensures ok { OnOk result (length (R.cells records.now)
+        ≤ length (standing (R.cells records.now) config.now stored.now).heights) }
+    ensures err { IfErr result (λ e. (e ≡ ShortHeights)
+        × (length (standing (R.cells records.now) config.now stored.now).heights
+        < length (R.cells records.now))) }
+{
+    let _config = config;
+    match stored.get_heights() {
+        Some(_) => check_heights(stored, records.count_rows()),
+        None => Ok(()),
+    }
+}
+
+/// Whether the widths hold all cells, where they are stored. Estimated ones do.
+fn check_stored_cells<R: PeekableRecords>(
+    records: &R,
+    config: &SpannedConfig,
+    stored: &CompleteDimension,
+) -> Result<(), TableError>
+    requires { columns (R.cells records.now)
+        ≤ length (standing (R.cells records.now) config.now stored.now).widths }
+    ensures ok { OnOk result (Holds (standing (R.cells records.now) config.now stored.now)) }
+    ensures err { IfErr result (IsNarrow (standing (R.cells records.now) config.now stored.now)) }
+{
+    match stored.get_widths() {
+        Some(_) => check_narrow(&Grid::new(records, config, stored)),
+        None => Ok(()),
+    }
+}
+
+/// Whether the sizes that stand hold the table, which has a row and a column. The stored ones are tested
+/// before others are estimated.
+pub(crate) fn check_stored<R: PeekableRecords>(
+    records: &R,
+    config: &SpannedConfig,
+    stored: &CompleteDimension,
+) -> Result<(), TableError>
+    ensures sized { OnOk result (IsSized (standing (R.cells records.now) config.now stored.now)) }
+    ensures holds { OnOk result (Holds (standing (R.cells records.now) config.now stored.now)) }
+    ensures err { IfErr result (IsRefused (standing (R.cells records.now) config.now stored.now)) }
+{
+    check_stored_widths(records, config, stored)?;
+    check_stored_heights(records, config, stored)?;
+    check_stored_cells(records, config, stored)
+}
