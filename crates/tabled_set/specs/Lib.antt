@@ -1,7 +1,10 @@
 pub mod BestNarrowing
 pub mod ColumnChanges
 pub mod ExactTotal
+pub mod Extremes
+pub mod Lists
 pub mod Minimums
 pub mod Narrowed
 pub mod Promised
 pub mod Shrinking
+pub mod Sides
