@@ -7,4 +7,3 @@ pub mod Minimums
 pub mod Narrowed
 pub mod Promised
 pub mod Shrinking
-pub mod Sides

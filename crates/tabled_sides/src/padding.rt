@@ -3,8 +3,8 @@ ghost use Rattle.std.specs.Prelude.{◌≡◌, if◌then◌else◌};
 ghost use Rattle.tabled_config.specs.Options.{Becomes, Stays, colored};
 ghost use Rattle.tabled_entity.specs.Changes.{for_all, with_change};
 ghost use Rattle.tabled_base.specs.declared.error.TableError.TheVariants.{Memory};
-ghost use Rattle.tabled_set.specs.Sides.{filled, spaced};
-ghost use Rattle.tabled_set.specs.declared.padding.PaddingExpand.TheVariants.{Horizontal, Vertical};
+ghost use Rattle.tabled_sides.specs.Sides.{filled, spaced};
+ghost use Rattle.tabled_sides.specs.declared.padding.PaddingExpand.TheVariants.{Horizontal, Vertical};
 
 use crate::sides::{filled, spaced};
 use tabled_base::{CellOption, Entity, TableError, TableOption};

@@ -1,6 +1,6 @@
 //! Indents on four sides.
 ghost use Rattle.std.specs.Prelude.{◌≡◌};
-ghost use Rattle.tabled_set.specs.Sides.{filled, spaced};
+ghost use Rattle.tabled_sides.specs.Sides.{filled, spaced};
 
 use tabled_config::{Indent, Sides};
 

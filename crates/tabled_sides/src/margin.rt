@@ -1,7 +1,7 @@
 //! The margin around a table.
 ghost use Rattle.std.specs.Prelude.{◌≡◌};
 ghost use Rattle.tabled_config.specs.Options.{Becomes, colored};
-ghost use Rattle.tabled_set.specs.Sides.{filled, spaced};
+ghost use Rattle.tabled_sides.specs.Sides.{filled, spaced};
 
 use crate::sides::{filled, spaced};
 use tabled_base::{Entity, TableError, TableOption};
