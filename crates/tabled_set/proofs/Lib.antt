@@ -3,5 +3,6 @@ pub mod Emptied
 pub mod ExactTotals
 pub mod NarrowingTables
 pub mod PaddedTotals
+pub mod Picking
 pub mod Promises
 pub mod Stopping

@@ -1,6 +1,8 @@
 pub mod BestNarrowing
 pub mod ColumnChanges
 pub mod ExactTotal
+pub mod Extremes
+pub mod Lists
 pub mod Minimums
 pub mod Narrowed
 pub mod Promised

@@ -1,11 +1,16 @@
 //! Numbers that are read from a table.
 ghost use Rattle.std.specs.Prelude.{◌≡◌, ℕ, IfErr, IfOk, List, OnOk, [], false};
-ghost use Rattle.tabled_base.specs.declared.error.TableError.TheVariants.{Range};
+ghost use Rattle.std.specs.Iterator.{IsFiniteIterable};
+ghost use Rattle.tabled_base.specs.Given.{Given};
+ghost use Rattle.tabled_base.specs.declared.error.TableError.TheVariants.{Memory, Range};
 ghost use Rattle.tabled_config.specs.declared.spanned.SpannedConfig.{SpannedConfig};
 ghost use Rattle.tabled_change.specs.declared.suffix.SuffixLimit.TheVariants.{Cut};
 
+use crate::height_list::HeightList;
 use crate::truncate::Truncate;
+use crate::width_list::WidthList;
 use crate::wrap::Wrap;
+use std::alloc::Global;
 use tabled_base::{PeekableRecords, TableError};
 use tabled_config::SpannedConfig;
 
@@ -74,5 +79,33 @@ impl Width {
         ensures priority { result.priority.kept ≡ 0 }
     {
         Truncate::new(width)
+    }
+
+    /// Stores the widths that an iterator gives, as `WidthList::from_iter` does. Refused with `Memory` alone.
+    pub fn list<I: IntoIterator<Item = usize>>(
+        alloc: Global,
+        widths: I,
+    ) -> Result<WidthList, TableError>
+    where
+        requires { IsFiniteIterable I.into_iter_gives I.IntoIter.can_next I.IntoIter.remaining widths }
+        ensures ok { IfOk result (λ answer. Given I.into_iter_gives I.IntoIter.next_gives widths answer.list.items) }
+        ensures only { IfErr result (λ e. e ≡ Memory) }
+    {
+        WidthList::from_iter(alloc, widths)
+    }
+}
+
+impl Height {
+    /// Stores the heights that an iterator gives, as `HeightList::from_iter` does. Refused with `Memory` alone.
+    pub fn list<I: IntoIterator<Item = usize>>(
+        alloc: Global,
+        heights: I,
+    ) -> Result<HeightList, TableError>
+    where
+        requires { IsFiniteIterable I.into_iter_gives I.IntoIter.can_next I.IntoIter.remaining heights }
+        ensures ok { IfOk result (λ answer. Given I.into_iter_gives I.IntoIter.next_gives heights answer.list.items) }
+        ensures only { IfErr result (λ e. e ≡ Memory) }
+    {
+        HeightList::from_iter(alloc, heights)
     }
 }

@@ -1,0 +1,79 @@
+//! The greatest and the least of what the texts of a table measure.
+ghost use Rattle.std.specs.Prelude.{◌≡◌, ◌+◌, ◌<◌, ℕ, length, map};
+ghost use Rattle.std.specs.List.{range_with_len};
+ghost use Rattle.tabled_base.specs.Cells.{IsInside, cell_at};
+ghost use Rattle.tabled_set.specs.Extremes.{extent_of, picked, picked_in_row, picked_of_rows};
+
+use tabled_base::{PeekableRecords, Position};
+
+/// What a text takes: columns, or lines.
+#[derive(Clone, Copy)]
+pub(crate) enum Extent {
+    Columns,
+    Lines,
+}
+
+impl Extent {
+    /// What a cell takes.
+    fn of_cell<R: PeekableRecords>(self, records: &R, at: Position) -> usize
+        requires { IsInside (R.cells records.now) at.row at.column }
+        ensures { result ≡ extent_of self (cell_at (R.cells records.now) at.row at.column) }
+    {
+        match self {
+            Extent::Columns => records.get_width(at),
+            Extent::Lines => records.count_lines(at),
+        }
+    }
+}
+
+/// Which of some numbers is picked.
+#[derive(Clone, Copy)]
+pub(crate) enum Pick {
+    Greatest,
+    Least,
+}
+
+impl Pick {
+    /// The pick of the first n numbers of a sequence and the next one, by that of the first n.
+    fn with(self, n: usize, best: usize, next: usize) -> usize
+        ensures { (f : ℕ → ℕ) → best ≡ picked self (map f (range_with_len 0 n)) → next ≡ f n
+            → result ≡ picked self (map f (range_with_len 0 (n + 1))) }
+    {
+        match self {
+            Pick::Greatest => best.max(next),
+            Pick::Least => { if n == 0 { next } else { best.min(next) } }
+        }
+    }
+}
+
+/// The greatest or the least that the cells of a row take, 0 where it has none.
+fn picked_in_row<R: PeekableRecords>(within: Pick, extent: Extent, records: &R, row: usize) -> usize
+    requires { row < length (R.cells records.now) }
+    ensures { result ≡ picked_in_row within extent (R.cells records.now) row }
+{
+    let mut best: usize = 0;
+    'columns: for column in 0..records.count_columns() {
+        best = within.with(
+            column,
+            best,
+            extent.of_cell(records, Position { row, column }),
+        );
+    }
+    best
+}
+
+/// The greatest or the least over the rows, of each row's greatest or least cell; 0 where there is no row.
+pub(crate) fn picked_of_rows<R: PeekableRecords>(
+    across: Pick,
+    within: Pick,
+    extent: Extent,
+    records: &R,
+) -> usize
+    ensures { result ≡ picked_of_rows across within extent (R.cells records.now) }
+{
+    let mut best: usize = 0;
+    'rows: for row in 0..records.count_rows() {
+        best = across.with(row, best, picked_in_row(within, extent, records, row));
+    }
+    best
+}
