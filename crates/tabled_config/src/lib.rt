@@ -25,6 +25,3 @@ pub use formatting::Formatting;
 pub use sides::{Indent, Sides};
 pub use spanned::{CellStyle, SpannedConfig};
 pub use style::Style;
-
-#[cfg(test)]
-mod tests;

@@ -17,6 +17,3 @@ pub use measurement::{Height, Measurement, Width};
 pub use suffix::SuffixLimit;
 pub use truncate::Truncate;
 pub use wrap::Wrap;
-
-#[cfg(test)]
-mod tests;
