@@ -10,17 +10,29 @@ use tabled_set::{SuffixLimit, Width};
 /// Four cells.
 pub const ROWS: Rows = &[&["abc", "de"], &["fgh", "ijk"]];
 
-// What an option makes of cells.
-fn changed<O: CellOption<VecRecords<Text<String>>, ColoredConfig>>(
+/// What an option answers on cells, and what it leaves of them.
+pub fn tried<O: CellOption<VecRecords<Text<String>>, ColoredConfig>>(
+    alloc: Global,
+    rows: Rows,
+    option: &O,
+    entity: Entity,
+) -> Result<(Result<(), TableError>, String), TableError> {
+    let mut records = records_of(alloc, rows)?;
+    let mut config = ColoredConfig::new(SpannedConfig::new(alloc));
+    let answer = option.change(&mut records, &mut config, entity);
+    Ok((answer, shown(alloc, &records)?))
+}
+
+/// What an option makes of cells.
+pub fn changed<O: CellOption<VecRecords<Text<String>>, ColoredConfig>>(
     alloc: Global,
     rows: Rows,
     option: &O,
     entity: Entity,
 ) -> Result<String, TableError> {
-    let mut records = records_of(alloc, rows)?;
-    let mut config = ColoredConfig::new(SpannedConfig::new(alloc));
-    option.change(&mut records, &mut config, entity)?;
-    shown(alloc, &records)
+    let (answer, text) = tried(alloc, rows, option, entity)?;
+    answer?;
+    Ok(text)
 }
 
 #[test]

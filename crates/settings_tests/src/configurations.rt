@@ -124,10 +124,15 @@ fn a_clone_is_equal(rt: HostRuntime) -> Result<(), Fail> {
     Ok(())
 }
 
+// Whether a coloured configuration equals its copy.
+fn is_its_copy(colored: &ColoredConfig) -> Result<bool, TableError> {
+    Ok(colored.clone()? == *colored)
+}
+
 #[test]
 fn a_colored_clone_is_equal(rt: HostRuntime) -> Result<(), Fail> {
     let colored = ColoredConfig::new(configured(rt.alloc())?);
-    assert!(rt; colored.clone()? == colored);
+    assert!(rt; is_its_copy(&colored)?);
     Ok(())
 }
 

@@ -1,7 +1,6 @@
 //! What the dimensions answer.
 
 use std::alloc::Global;
-use std::process::Abort;
 use std::test::Fail;
 use tabled_base::{Entity, TableError, text_rows};
 use tabled_config::{Indent, Sides, SpannedConfig};
@@ -25,10 +24,10 @@ fn shown<D: Dimension>(sizes: &D) -> ([usize; 4], [usize; 4]) {
     (widths, heights)
 }
 
-fn complete(rt: &HostRuntime) -> Result<CompleteDimension, Fail> {
-    let mut sizes = CompleteDimension::new(rt.alloc());
-    sizes.set_widths(vec![in rt.alloc(); 5, 4, 3]?);
-    sizes.set_heights(vec![in rt.alloc(); 1, 2]?);
+fn complete(alloc: Global) -> Result<CompleteDimension, Fail> {
+    let mut sizes = CompleteDimension::new(alloc);
+    sizes.set_widths(vec![in alloc; 5, 4, 3]?);
+    sizes.set_heights(vec![in alloc; 1, 2]?);
     Ok(sizes)
 }
 
@@ -60,7 +59,7 @@ fn a_hint_clears_what_it_touches(rt: HostRuntime) -> Result<(), Fail> {
         (Some(Entity::Column(1)), false, true),
         (Some(Entity::Cell(1, 1)), false, false),
     ] {
-        let mut sizes = complete(&rt)?;
+        let mut sizes = complete(rt.alloc())?;
         sizes.reastimate(hint);
         assert_eq!(rt;
             (sizes.has_width(0), sizes.has_height(0)),
@@ -80,7 +79,7 @@ fn compared(sizes: &CompleteDimension) -> Result<(bool, bool), TableError> {
 
 #[test]
 fn a_copy_of_stored_sizes_is_equal(rt: HostRuntime) -> Result<(), Fail> {
-    let sizes = complete(&rt)?;
+    let sizes = complete(rt.alloc())?;
     assert_eq!(rt; compared(&sizes)?, (true, true));
     Ok(())
 }

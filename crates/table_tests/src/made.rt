@@ -89,16 +89,14 @@ fn set(config: &mut SpannedConfig, setting: &Setting) -> Result<(), TableError> 
     Ok(())
 }
 
-/// Sets all of that in order.
-pub fn set_all(config: &mut SpannedConfig, settings: &[Setting]) -> Result<(), TableError> {
+fn set_all(config: &mut SpannedConfig, settings: &[Setting]) -> Result<(), TableError> {
     for setting in settings {
         set(config, setting)?;
     }
     Ok(())
 }
 
-/// Stores sizes.
-pub fn store(
+fn store(
     alloc: Global,
     dimension: &mut CompleteDimension,
     widths: Sizes,
@@ -123,8 +121,7 @@ fn prepare(alloc: Global, table: &mut Table, sheet: &Sheet<'_>) -> Result<(), Ta
     )
 }
 
-/// A builder of rows.
-pub fn built(alloc: Global, rows: Rows) -> Result<Builder, TableError> {
+fn built(alloc: Global, rows: Rows) -> Result<Builder, TableError> {
     let mut builder = Builder::new(alloc);
     for row in rows {
         builder.add_record(row.iter().copied())?;

@@ -1,7 +1,7 @@
 //! What wrapping and truncating leave of a table's cells and of its stored sizes.
 ghost use Rattle.std.specs.Prelude.{◌<◌, length, ⊤};
 
-use crate::made::{PAIRS, Setting, Sheet, Sizes, built, set_all, store};
+use crate::made::{PAIRS, Setting, Sheet, Sizes, table_of};
 use std::alloc::Global;
 use std::test::Fail;
 use tabled_base::{
@@ -10,7 +10,7 @@ use tabled_base::{
 use tabled_config::ColoredConfig;
 use tabled_set::{Truncate, Width, Wrap};
 use tabled_size::{CompleteDimension, Peaker};
-use tabled_table::new_config;
+use tabled_table::Table;
 
 /// A priority that names no column.
 #[derive(Clone, Copy)]
@@ -64,20 +64,6 @@ fn show_cells(all: &mut String, records: &VecRecords<Text<String>>) -> Result<()
     Ok(())
 }
 
-// The sizes that a sheet stores.
-fn sizes_of(alloc: Global, sheet: &Sheet<'_>) -> Result<CompleteDimension, TableError> {
-    let mut sizes = CompleteDimension::new(alloc);
-    store(alloc, &mut sizes, sheet.widths, sheet.heights)?;
-    Ok(sizes)
-}
-
-// The settings of a sheet.
-fn config_of(alloc: Global, sheet: &Sheet<'_>) -> Result<ColoredConfig, TableError> {
-    let mut config = new_config(alloc);
-    set_all(&mut config, sheet.settings)?;
-    Ok(ColoredConfig::new(config))
-}
-
 // What the sizes that are stored are.
 fn show_sizes(alloc: Global, sizes: &CompleteDimension) -> Result<String, TableError> {
     let widths = sizes.get_widths();
@@ -85,37 +71,45 @@ fn show_sizes(alloc: Global, sizes: &CompleteDimension) -> Result<String, TableE
     Ok(format!(in alloc; " {widths:?} {heights:?}")?)
 }
 
-// What an option answers on the parts of a sheet, and what it leaves of the cells and of stored sizes.
+// The cells of a table, and the sizes that it stores.
+fn parts(alloc: Global, table: &Table) -> Result<String, TableError> {
+    let mut all = String::new(alloc);
+    show_cells(&mut all, table.get_records())?;
+    all.push_str(show_sizes(alloc, table.get_dimension())?.as_str())?;
+    Ok(all)
+}
+
+// What an option answers on a table, and what it leaves of the cells and of stored sizes.
+fn narrow<O: TableOption<VecRecords<Text<String>>, ColoredConfig, CompleteDimension> + Drop>(
+    alloc: Global,
+    table: &mut Table,
+    option: O,
+) -> Result<(Result<(), TableError>, String), TableError> {
+    let answer = table.apply(option);
+    Ok((answer, parts(alloc, table)?))
+}
+
+// The same on the table of a sheet.
 fn changed<O: TableOption<VecRecords<Text<String>>, ColoredConfig, CompleteDimension> + Drop>(
     alloc: Global,
     sheet: &Sheet<'_>,
     option: O,
 ) -> Result<(Result<(), TableError>, String), TableError> {
-    let mut records = built(alloc, sheet.rows)?.build();
-    let mut config = config_of(alloc, sheet)?;
-    let mut sizes = sizes_of(alloc, sheet)?;
-    let answer = option.change(&mut records, &mut config, &mut sizes);
-    let mut all = String::new(alloc);
-    show_cells(&mut all, &records)?;
-    all.push_str(show_sizes(alloc, &sizes)?.as_str())?;
-    Ok((answer, all))
+    narrow(alloc, &mut table_of(alloc, sheet)?, option)
 }
 
 // A measure, stored widths, and what is left.
 type Case = (usize, Sizes, &'static str);
 
+// A wrapped table is to be measured anew in its heights.
 const WRAPPED: [Case; 7] = [
     (0, None, "|/|/ Some([2, 2]) None"),
     (11, None, "a|bb/cc\nc|/ Some([4, 4]) None"),
-    (12, None, "a|bb/ccc|/ Some([5, 4]) Some([1, 1])"),
-    (usize::MAX, None, "a|bb/ccc|/ Some([5, 4]) Some([1, 1])"),
+    (12, None, "a|bb/ccc|/ Some([5, 4]) None"),
+    (usize::MAX, None, "a|bb/ccc|/ Some([5, 4]) None"),
     (0, Some(&[9]), "|bb/|/ Some([2]) None"),
     (6, Some(&[1, 9]), "a|/ccc|/ Some([1, 2]) None"),
-    (
-        20,
-        Some(&[6, 4, 3]),
-        "a|bb/ccc|/ Some([6, 4, 3]) Some([1, 1])",
-    ),
+    (20, Some(&[6, 4, 3]), "a|bb/ccc|/ Some([6, 4, 3]) None"),
 ];
 
 #[test]
@@ -162,9 +156,9 @@ const EMPTY: Sheet<'static> = Sheet {
 };
 
 #[test]
-fn an_empty_table_keeps_its_heights(rt: HostRuntime) -> Result<(), Fail> {
+fn an_empty_table_gets_no_widths(rt: HostRuntime) -> Result<(), Fail> {
     let (_, left) = changed(rt.alloc(), &EMPTY, Width::wrap(1))?;
-    assert_eq!(rt; left.as_str(), " None Some([3])");
+    assert_eq!(rt; left.as_str(), " None None");
     let (_, left) = changed(rt.alloc(), &EMPTY, Width::truncate(1))?;
     assert_eq!(rt; left.as_str(), " None Some([3])");
     Ok(())

@@ -1,5 +1,3 @@
-//! What no clause says: the bytes of whole runs, statuses and words, and failures in mid-stream.
+//! What no clause says, and no run can show: the words of faults that no input causes.
 
-mod failures;
 mod faults;
-mod runs;

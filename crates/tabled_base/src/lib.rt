@@ -27,6 +27,3 @@ pub use segment::Segment;
 pub use split::text_rows;
 pub use text::Text;
 pub use vec_records::VecRecords;
-
-#[cfg(test)]
-mod tests;

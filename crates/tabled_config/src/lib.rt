@@ -27,6 +27,3 @@ pub use frame::{Frame, VerticalLine};
 pub use sides::{Indent, Sides};
 pub use spanned::{CellStyle, SpannedConfig};
 pub use style::Style;
-
-#[cfg(test)]
-mod tests;

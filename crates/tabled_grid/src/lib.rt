@@ -29,6 +29,3 @@ pub use plain::{is_plain_config, is_plain_records};
 pub use print::print_grid;
 pub use standing::{print_estimated, print_standing};
 pub use text_sink::TextSink;
-
-#[cfg(test)]
-mod tests;

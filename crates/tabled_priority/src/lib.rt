@@ -27,6 +27,3 @@ pub use peaker::{Peaker, TakesAll};
 pub use priority::Priority;
 pub use right::PriorityRight;
 pub use steps::Steps;
-
-#[cfg(test)]
-mod tests;

@@ -23,6 +23,3 @@ pub use tabled_sides::{Margin, Padding, PaddingExpand};
 pub use truncate::Truncate;
 pub use width_list::WidthList;
 pub use wrap::Wrap;
-
-#[cfg(test)]
-mod tests;

@@ -25,6 +25,3 @@ pub use tabled_priority::{
 };
 pub use total::{filled_height, filled_width};
 pub use zero_dimension::ZeroDimension;
-
-#[cfg(test)]
-mod tests;

@@ -6,8 +6,6 @@ mod config;
 pub mod laws;
 mod making;
 mod table;
-#[cfg(test)]
-mod tests;
 
 pub use config::new_config;
 pub use table::Table;

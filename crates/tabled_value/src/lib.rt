@@ -2,8 +2,6 @@
 #![tactic(auto)]
 
 mod rows;
-#[cfg(test)]
-mod tests;
 mod value;
 
 pub use rows::{field_records, named_records, value_records};
