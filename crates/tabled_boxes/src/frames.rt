@@ -27,7 +27,8 @@ pub fn place_tree<'a>(
     requires low { whole.y + whole.height < 2 ^ 64 }
     ensures tiles { AreTiles (framed frame.now (box_of gaps.now value.now) whole) whole }
     ensures fits { EachFits gaps.now (framed frame.now (box_of gaps.now value.now) whole) }
-    ensures places { IfOk result (λ _. map shown pieces.new.items ≡ map shown pieces.old.items ++ framed (frame.now) (box_of gaps.now value.now) whole) }
+    ensures places { IfOk result (λ _. map shown pieces.new.items ≡ map shown pieces.old.items
+        ++ framed (frame.now) (box_of gaps.now value.now) whole) }
 {
     place_framed(value, gaps, frame, whole, pieces)
 }
@@ -44,7 +45,8 @@ fn place_framed<'a>(
     requires tall { frame.now.top + (box_of gaps.now value.now).height + frame.now.bottom ≤ whole.height }
     requires right { whole.x + whole.width < 2 ^ 64 }
     requires low { whole.y + whole.height < 2 ^ 64 }
-    ensures { IfOk result (λ _. map shown pieces.new.items ≡ map shown pieces.old.items ++ framed (frame.now) (box_of gaps.now value.now) whole) }
+    ensures { IfOk result (λ _. map shown pieces.new.items ≡ map shown pieces.old.items
+        ++ framed (frame.now) (box_of gaps.now value.now) whole) }
 {
     let left = Rectangle {
         x: whole.x,

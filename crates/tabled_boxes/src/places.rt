@@ -33,7 +33,8 @@ fn place_leaf<'a>(
     place: Rectangle,
     pieces: &mut Vec<Piece<'a>>,
 ) -> Result<(), AllocError>
-    ensures { IfOk result (λ _. map shown pieces.new.items ≡ map shown pieces.old.items ++ (part_of Leaf place text.now ∷ [])) }
+    ensures { IfOk result (λ _. map shown pieces.new.items ≡ map shown pieces.old.items
+        ++ (part_of Leaf place text.now ∷ [])) }
 {
     pieces.push(Piece {
         kind: Kind::Leaf,
@@ -48,7 +49,8 @@ pub fn place_bar<'a>(
     place: Rectangle,
     pieces: &mut Vec<Piece<'a>>,
 ) -> Result<(), AllocError>
-    ensures { IfOk result (λ _. map shown pieces.new.items ≡ map shown pieces.old.items ++ (part_of kind place [] ∷ [])) }
+    ensures { IfOk result (λ _. map shown pieces.new.items ≡ map shown pieces.old.items
+        ++ (part_of kind place [] ∷ [])) }
 {
     pieces.push(Piece {
         kind,
@@ -75,9 +77,12 @@ fn cut_row(child: &TableValue, gaps: &Gaps, left: usize, count: usize, place: Re
     requires right { place.x + place.width < 2 ^ 64 }
     requires low { place.y + place.height < 2 ^ 64 }
     ensures own { result.own ≡ (box_of gaps.now child.now).width }
-    ensures given { result.given ≡ left_part ((box_of gaps.now child.now).width + share gaps.now.across (place.width - left) count) place }
-    ensures line { result.line ≡ left_part gaps.now.bar (right_part ((box_of gaps.now child.now).width + share gaps.now.across (place.width - left) count) place) }
-    ensures rest { result.rest ≡ right_part gaps.now.bar (right_part ((box_of gaps.now child.now).width + share gaps.now.across (place.width - left) count) place) }
+    ensures given { result.given
+        ≡ left_part ((box_of gaps.now child.now).width + share gaps.now.across (place.width - left) count) place }
+    ensures line { result.line
+        ≡ left_part gaps.now.bar (right_part ((box_of gaps.now child.now).width + share gaps.now.across (place.width - left) count) place) }
+    ensures rest { result.rest
+        ≡ right_part gaps.now.bar (right_part ((box_of gaps.now child.now).width + share gaps.now.across (place.width - left) count) place) }
     ensures fits { Fits (box_of gaps.now child.now) result.given }
 {
     let Some(size) = own_size(child, gaps) else {
@@ -122,9 +127,12 @@ fn cut_column(child: &TableValue, gaps: &Gaps, left: usize, count: usize, place:
     requires right { place.x + place.width < 2 ^ 64 }
     requires low { place.y + place.height < 2 ^ 64 }
     ensures own { result.own ≡ (box_of gaps.now child.now).height }
-    ensures given { result.given ≡ top_part ((box_of gaps.now child.now).height + share gaps.now.down (place.height - left) count) place }
-    ensures line { result.line ≡ top_part gaps.now.rule (bottom_part ((box_of gaps.now child.now).height + share gaps.now.down (place.height - left) count) place) }
-    ensures rest { result.rest ≡ bottom_part gaps.now.rule (bottom_part ((box_of gaps.now child.now).height + share gaps.now.down (place.height - left) count) place) }
+    ensures given { result.given
+        ≡ top_part ((box_of gaps.now child.now).height + share gaps.now.down (place.height - left) count) place }
+    ensures line { result.line
+        ≡ top_part gaps.now.rule (bottom_part ((box_of gaps.now child.now).height + share gaps.now.down (place.height - left) count) place) }
+    ensures rest { result.rest
+        ≡ bottom_part gaps.now.rule (bottom_part ((box_of gaps.now child.now).height + share gaps.now.down (place.height - left) count) place) }
     ensures fits { Fits (box_of gaps.now child.now) result.given }
 {
     let Some(size) = own_size(child, gaps) else {
@@ -162,7 +170,7 @@ fn cut_column(child: &TableValue, gaps: &Gaps, left: usize, count: usize, place:
 }
 
 #[cycle(places)]
-#[tactic(auto, using(crate::proofs::Steps::row_step_width, crate::proofs::Steps::row_step_height, crate::proofs::Steps::column_step_width, crate::proofs::Steps::column_step_height, crate::proofs::Steps::left_first, crate::proofs::Steps::left_all, crate::proofs::Steps::left_count))]
+#[tactic(auto, using(crate::proofs::Steps::row_step_width, crate::proofs::Steps::row_step_height, crate::proofs::Steps::column_step_width, crate::proofs::Steps::column_step_height, crate::proofs::Steps::left_first, crate::proofs::Steps::left_all, crate::proofs::Steps::left_count,))]
 fn place_row<'a>(
     children: &'a [TableValue],
     gaps: &Gaps,
@@ -170,7 +178,8 @@ fn place_row<'a>(
     pieces: &mut Vec<Piece<'a>>,
 ) -> Result<(), AllocError>
     requires { Fits (row_box gaps.now (map (box_of gaps.now) children.now)) whole }
-    ensures { IfOk result (λ _. map shown pieces.new.items ≡ map shown pieces.old.items ++ (row_box gaps.now (map (box_of gaps.now) children.now)).parts whole) }
+    ensures { IfOk result (λ _. map shown pieces.new.items ≡ map shown pieces.old.items
+        ++ (row_box gaps.now (map (box_of gaps.now) children.now)).parts whole) }
 {
     let Some((last, front)) = children.split_last() else {
         return place_leaf("", whole, pieces);
@@ -193,7 +202,7 @@ fn place_row<'a>(
 }
 
 #[cycle(places)]
-#[tactic(auto, using(crate::proofs::Steps::row_step_width, crate::proofs::Steps::row_step_height, crate::proofs::Steps::column_step_width, crate::proofs::Steps::column_step_height, crate::proofs::Steps::left_first, crate::proofs::Steps::left_all, crate::proofs::Steps::left_count))]
+#[tactic(auto, using(crate::proofs::Steps::row_step_width, crate::proofs::Steps::row_step_height, crate::proofs::Steps::column_step_width, crate::proofs::Steps::column_step_height, crate::proofs::Steps::left_first, crate::proofs::Steps::left_all, crate::proofs::Steps::left_count,))]
 fn place_column<'a>(
     children: &'a [TableValue],
     gaps: &Gaps,
@@ -201,7 +210,8 @@ fn place_column<'a>(
     pieces: &mut Vec<Piece<'a>>,
 ) -> Result<(), AllocError>
     requires { Fits (column_box gaps.now (map (box_of gaps.now) children.now)) whole }
-    ensures { IfOk result (λ _. map shown pieces.new.items ≡ map shown pieces.old.items ++ (column_box gaps.now (map (box_of gaps.now) children.now)).parts whole) }
+    ensures { IfOk result (λ _. map shown pieces.new.items ≡ map shown pieces.old.items
+        ++ (column_box gaps.now (map (box_of gaps.now) children.now)).parts whole) }
 {
     let Some((last, front)) = children.split_last() else {
         return place_leaf("", whole, pieces);
@@ -225,7 +235,7 @@ fn place_column<'a>(
 
 /// The places of the leaves of a tree and of the lines between its boxes.
 #[cycle(places)]
-#[tactic(auto, using(crate::proofs::Steps::row_step_width, crate::proofs::Steps::row_step_height, crate::proofs::Steps::column_step_width, crate::proofs::Steps::column_step_height, crate::proofs::Steps::left_first, crate::proofs::Steps::left_all, crate::proofs::Steps::left_count))]
+#[tactic(auto, using(crate::proofs::Steps::row_step_width, crate::proofs::Steps::row_step_height, crate::proofs::Steps::column_step_width, crate::proofs::Steps::column_step_height, crate::proofs::Steps::left_first, crate::proofs::Steps::left_all, crate::proofs::Steps::left_count,))]
 pub fn place_value<'a>(
     value: &'a TableValue,
     gaps: &Gaps,
@@ -233,7 +243,8 @@ pub fn place_value<'a>(
     pieces: &mut Vec<Piece<'a>>,
 ) -> Result<(), AllocError>
     requires { Fits (box_of gaps.now value.now) whole }
-    ensures { IfOk result (λ _. map shown pieces.new.items ≡ map shown pieces.old.items ++ (box_of gaps.now value.now).parts whole) }
+    ensures { IfOk result (λ _. map shown pieces.new.items ≡ map shown pieces.old.items
+        ++ (box_of gaps.now value.now).parts whole) }
 {
     match value {
         TableValue::Cell(text) => place_leaf(text.as_str(), whole, pieces),

@@ -19,7 +19,7 @@ fn leaf_size(text: &str, gaps: &Gaps) -> Option<Size>
 }
 
 #[cycle(sizes)]
-#[tactic(auto, using(crate::proofs::Sums::row_width_more, crate::proofs::Sums::row_height_most, crate::proofs::Sums::column_width_most, crate::proofs::Sums::column_height_more))]
+#[tactic(auto, using(crate::proofs::Sums::row_width_more, crate::proofs::Sums::row_height_most, crate::proofs::Sums::column_width_most, crate::proofs::Sums::column_height_more,))]
 pub fn row_size(children: &[TableValue], gaps: &Gaps) -> Option<Size>
     ensures { IsSize result (row_box gaps.now (map (box_of gaps.now) children.now)) }
 {
@@ -39,7 +39,7 @@ pub fn row_size(children: &[TableValue], gaps: &Gaps) -> Option<Size>
 }
 
 #[cycle(sizes)]
-#[tactic(auto, using(crate::proofs::Sums::row_width_more, crate::proofs::Sums::row_height_most, crate::proofs::Sums::column_width_most, crate::proofs::Sums::column_height_more))]
+#[tactic(auto, using(crate::proofs::Sums::row_width_more, crate::proofs::Sums::row_height_most, crate::proofs::Sums::column_width_most, crate::proofs::Sums::column_height_more,))]
 pub fn column_size(children: &[TableValue], gaps: &Gaps) -> Option<Size>
     ensures { IsSize result (column_box gaps.now (map (box_of gaps.now) children.now)) }
 {
@@ -60,7 +60,7 @@ pub fn column_size(children: &[TableValue], gaps: &Gaps) -> Option<Size>
 
 /// The own size of a tree, if it is in range.
 #[cycle(sizes)]
-#[tactic(auto, using(crate::proofs::Sums::row_width_more, crate::proofs::Sums::row_height_most, crate::proofs::Sums::column_width_most, crate::proofs::Sums::column_height_more))]
+#[tactic(auto, using(crate::proofs::Sums::row_width_more, crate::proofs::Sums::row_height_most, crate::proofs::Sums::column_width_most, crate::proofs::Sums::column_height_more,))]
 pub fn own_size(value: &TableValue, gaps: &Gaps) -> Option<Size>
     ensures { IsSize result (box_of gaps.now value.now) }
 {

@@ -8,7 +8,7 @@ ghost use Rattle.tabled_pool.specs.Owner.{contains, owner, is_line};
 use tabled_boxes::{Piece, Rectangle};
 
 /// Whether a place lies in a rectangle.
-#[tactic(auto, using(crate::proofs::Contains::contains_left, crate::proofs::Contains::contains_right, crate::proofs::Contains::contains_above, crate::proofs::Contains::contains_last))]
+#[tactic(auto, using(crate::proofs::Contains::contains_left, crate::proofs::Contains::contains_right, crate::proofs::Contains::contains_above, crate::proofs::Contains::contains_last,))]
 fn contains(place: Rectangle, x: usize, y: usize) -> bool
     ensures value { result ≡ contains place x y }
     ensures lines { result ≡ true → (place.y ≤ y) × (y < place.y + place.height) }

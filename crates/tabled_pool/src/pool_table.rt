@@ -225,10 +225,11 @@ impl PoolTable {
         self.put_pieces(sink, pieces.as_slice(), size)
     }
 
-    /// Prints the boxes in their frame and margin, line by line. Two lines stand in a place where they meet, and
-    /// its character is that of the borders for the lines that go out from it. Refused with `Range` where the
-    /// columns or the lines of the whole pass the greatest `usize`, for memory, and for what the sink refuses; then
-    /// a beginning went out. Colours that are set aren't written.
+    /// Prints the boxes in their frame and margin, line by line. Where lines meet, the character is that of the
+    /// borders for the sides on which they go on. A text that is given no column isn't seen, and a table of no column
+    /// has no margin. Colours that are set aren't written. The walk recurses as deep as the value goes. Refused with
+    /// `Range` where the columns or the lines of the whole pass the greatest `usize`, and for memory, both before the
+    /// first byte; else for what the sink refuses, and then a beginning went out.
     pub fn write_to<S: TextSink>(&self, sink: &mut S) -> Result<(), TableError>
         ensures printed { WritesPool self.now (S.sent sink.old) result (S.sent sink.new) }
         ensures tiled { IsPlainPool self.now → Tiled (plan self.now) }
