@@ -7,7 +7,29 @@ use Rattle.tabled_boxes.specs.declared.tree.TableValue.{TableValue}
 use Rattle.tabled_boxes.specs.declared.tree.TableValue.TheOpen.{Row, Column, Cell}
 use Rattle.tabled_boxes.specs.declared.tree.TableValue.TheFolds.{fold-roll-TableValue, ind-TableValue, map-TableValue}
 use Rattle.tabled_boxes.specs.declared.tree.TableValue.TheViews.{roll-TableValue}
-use Rattle.tabled_boxes.specs.Boxes.{Part, Box, part_of, share, left_part, right_part, top_part, bottom_part, row_width, row_height, first_width, row_parts, column_width, column_height, first_height, column_parts, leaf_box, row_box, column_box, box_step, box_of}
+use Rattle.tabled_boxes.specs.Boxes.{
+  Part,
+  Box,
+  part_of,
+  share,
+  left_part,
+  right_part,
+  top_part,
+  bottom_part,
+  row_width,
+  row_height,
+  first_width,
+  row_parts,
+  column_width,
+  column_height,
+  first_height,
+  column_parts,
+  leaf_box,
+  row_box,
+  column_box,
+  box_step,
+  box_of,
+}
 use Rattle.tabled_boxes.specs.Tiling.{FitsLeaf, EachFits, LeavesFit}
 use Rattle.tabled_boxes.proofs.Tiling.{share_within}
 
@@ -25,21 +47,25 @@ abbrev pub AllFit : Gaps → List Box → Type 0
 AllFit g [] = Unit {0}
 AllFit g (b ∷ bs) = LeavesFit g b × AllFit g bs
 
-row-fits : (g : Gaps) (b : Box) (bs : List Box) → LeavesFit g b → AllFit g bs → (r : Rectangle) → row_width g b bs ≤ r.width → row_height b bs ≤ r.height → EachFits g (row_parts g b bs r)
+row-fits : (g : Gaps) (b : Box) (bs : List Box) → LeavesFit g b → AllFit g bs → (r : Rectangle)
+    → row_width g b bs ≤ r.width → row_height b bs ≤ r.height → EachFits g (row_parts g b bs r)
 row-fits g b [] t ts r w h = t.fit r w h
 row-fits g b (c ∷ bs) t (u, ts) r w h =
     let n = first_width g b (c ∷ bs) r.width in
     let rest = right_part n r in
-    let share_fits : share g.across (r.width - row_width g b (c ∷ bs)) (length (c ∷ bs) + 1) ≤ r.width - row_width g b (c ∷ bs) = share_within g.across _ _ (omega arith) in
+    let share_fits : share g.across (r.width - row_width g b (c ∷ bs)) (length (c ∷ bs) + 1) ≤ r.width - row_width g b
+    (c ∷ bs) = share_within g.across _ _ (omega arith) in
     fits-append g (b.parts (left_part n r)) _ (t.fit (left_part n r) (omega arith) (omega arith))
     (bar-fits g (left_part g.bar rest), row-fits g c bs u ts (right_part g.bar rest) (omega arith) (omega arith))
 
-column-fits : (g : Gaps) (b : Box) (bs : List Box) → LeavesFit g b → AllFit g bs → (r : Rectangle) → column_width b bs ≤ r.width → column_height g b bs ≤ r.height → EachFits g (column_parts g b bs r)
+column-fits : (g : Gaps) (b : Box) (bs : List Box) → LeavesFit g b → AllFit g bs → (r : Rectangle)
+    → column_width b bs ≤ r.width → column_height g b bs ≤ r.height → EachFits g (column_parts g b bs r)
 column-fits g b [] t ts r w h = t.fit r w h
 column-fits g b (c ∷ bs) t (u, ts) r w h =
     let n = first_height g b (c ∷ bs) r.height in
     let rest = bottom_part n r in
-    let share_fits : share g.down (r.height - column_height g b (c ∷ bs)) (length (c ∷ bs) + 1) ≤ r.height - column_height g b (c ∷ bs) = share_within g.down _ _ (omega arith) in
+    let share_fits : share g.down (r.height - column_height g b (c ∷ bs)) (length (c ∷ bs) + 1) ≤ r.height -
+    column_height g b (c ∷ bs) = share_within g.down _ _ (omega arith) in
     fits-append g (b.parts (top_part n r)) _ (t.fit (top_part n r) (omega arith) (omega arith))
     (rule-fits g (top_part g.rule rest), column-fits g c bs u ts (bottom_part g.rule rest) (omega arith) (omega arith))
 

@@ -11,7 +11,29 @@ use Rattle.tabled_boxes.specs.declared.tree.TableValue.{TableValue}
 use Rattle.tabled_boxes.specs.declared.tree.TableValue.TheOpen.{Row, Column, Cell}
 use Rattle.tabled_boxes.specs.declared.tree.TableValue.TheFolds.{fold-roll-TableValue, ind-TableValue, map-TableValue}
 use Rattle.tabled_boxes.specs.declared.tree.TableValue.TheViews.{roll-TableValue}
-use Rattle.tabled_boxes.specs.Boxes.{Part, Box, part_of, share, left_part, right_part, top_part, bottom_part, row_width, row_height, first_width, row_parts, column_width, column_height, first_height, column_parts, leaf_box, row_box, column_box, box_step, box_of}
+use Rattle.tabled_boxes.specs.Boxes.{
+  Part,
+  Box,
+  part_of,
+  share,
+  left_part,
+  right_part,
+  top_part,
+  bottom_part,
+  row_width,
+  row_height,
+  first_width,
+  row_parts,
+  column_width,
+  column_height,
+  first_height,
+  column_parts,
+  leaf_box,
+  row_box,
+  column_box,
+  box_step,
+  box_of,
+}
 use Rattle.tabled_boxes.specs.Tiling.{spans, within, covering, Tiles}
 
 pub spans-split : (a m n k p : ℕ) → m ≤ n → k ≡ a + m → spans a n p ≡ spans a m p + spans k (n - m) p
@@ -29,21 +51,25 @@ share_within Each surplus k h = grind (arith, nat_tests, le-mul_of_pos_right {m 
 
 -- a rectangle is its left part and its right part
 pub within-across : (n : ℕ) (r : Rectangle) (px py : ℕ) → n ≤ r.width → within r px py ≡ within (left_part n r) px py + within (right_part n r) px py
-within-across n r px py h = rw (spans-split r.x n r.width (r.x + n) px h refl) (add-mul (spans r.x n px) (spans (r.x + n) (r.width - n) px) (spans r.y r.height py))
+within-across n r px py h = rw (spans-split r.x n r.width (r.x + n) px h refl)
+    (add-mul (spans r.x n px) (spans (r.x + n) (r.width - n) px) (spans r.y r.height py))
 
 pub within-down : (n : ℕ) (r : Rectangle) (px py : ℕ) → n ≤ r.height → within r px py ≡ within (top_part n r) px py + within (bottom_part n r) px py
-within-down n r px py h = rw (spans-split r.y n r.height (r.y + n) py h refl) (mul-add (spans r.x r.width px) (spans r.y n py) (spans (r.y + n) (r.height - n) py))
+within-down n r px py h = rw (spans-split r.y n r.height (r.y + n) py h refl)
+    (mul-add (spans r.x r.width px) (spans r.y n py) (spans (r.y + n) (r.height - n) py))
 
 abbrev pub AllTile : List Box → Type 0
 AllTile [] = Unit {0}
 AllTile (b ∷ bs) = Tiles b × AllTile bs
 
-row-tiles : (g : Gaps) (b : Box) (bs : List Box) → Tiles b → AllTile bs → (r : Rectangle) (px py : ℕ) → row_width g b bs ≤ r.width → row_height b bs ≤ r.height → covering (row_parts g b bs r) px py ≡ within r px py
+row-tiles : (g : Gaps) (b : Box) (bs : List Box) → Tiles b → AllTile bs → (r : Rectangle) (px py : ℕ)
+    → row_width g b bs ≤ r.width → row_height b bs ≤ r.height → covering (row_parts g b bs r) px py ≡ within r px py
 row-tiles g b [] t ts r px py w h = t.once r px py w h
 row-tiles g b (c ∷ bs) t (u, ts) r px py w h =
     let n = first_width g b (c ∷ bs) r.width in
     let rest = right_part n r in
-    let share_fits : share g.across (r.width - row_width g b (c ∷ bs)) (length (c ∷ bs) + 1) ≤ r.width - row_width g b (c ∷ bs) = share_within g.across _ _ (omega arith) in
+    let share_fits : share g.across (r.width - row_width g b (c ∷ bs)) (length (c ∷ bs) + 1) ≤ r.width - row_width g b
+    (c ∷ bs) = share_within g.across _ _ (omega arith) in
     omega (
       arith,
       covering-append (b.parts (left_part n r)) (part_of Bar (left_part g.bar rest) [] ∷ row_parts g c bs (right_part g.bar rest)) px py,
@@ -53,12 +79,14 @@ row-tiles g b (c ∷ bs) t (u, ts) r px py w h =
       within-across g.bar rest px py (omega arith),
     )
 
-column-tiles : (g : Gaps) (b : Box) (bs : List Box) → Tiles b → AllTile bs → (r : Rectangle) (px py : ℕ) → column_width b bs ≤ r.width → column_height g b bs ≤ r.height → covering (column_parts g b bs r) px py ≡ within r px py
+column-tiles : (g : Gaps) (b : Box) (bs : List Box) → Tiles b → AllTile bs → (r : Rectangle) (px py : ℕ)
+    → column_width b bs ≤ r.width → column_height g b bs ≤ r.height → covering (column_parts g b bs r) px py ≡ within r px py
 column-tiles g b [] t ts r px py w h = t.once r px py w h
 column-tiles g b (c ∷ bs) t (u, ts) r px py w h =
     let n = first_height g b (c ∷ bs) r.height in
     let rest = bottom_part n r in
-    let share_fits : share g.down (r.height - column_height g b (c ∷ bs)) (length (c ∷ bs) + 1) ≤ r.height - column_height g b (c ∷ bs) = share_within g.down _ _ (omega arith) in
+    let share_fits : share g.down (r.height - column_height g b (c ∷ bs)) (length (c ∷ bs) + 1) ≤ r.height -
+    column_height g b (c ∷ bs) = share_within g.down _ _ (omega arith) in
     omega (
       arith,
       covering-append (b.parts (top_part n r)) (part_of Rule (top_part g.rule rest) [] ∷ column_parts g c bs (bottom_part g.rule rest)) px py,

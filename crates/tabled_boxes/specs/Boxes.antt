@@ -1,5 +1,27 @@
 -- Boxes: a size of their own, and the pieces that fill a place.
-use Rattle.std.specs.Prelude.{◌≡◌, ℕ, ◌+◌, ◌-◌, ◌/◌, ◌^◌, ◌≤◌, ◌⊎◌, if◌then◌else◌, max, List, [], ◌∷◌, ◌++◌, length, Option, Some, None, string_bytes, ◌%◌, ◌==◌}
+use Rattle.std.specs.Prelude.{
+  ◌≡◌,
+  ℕ,
+  ◌+◌,
+  ◌-◌,
+  ◌/◌,
+  ◌^◌,
+  ◌≤◌,
+  ◌⊎◌,
+  if◌then◌else◌,
+  max,
+  List,
+  [],
+  ◌∷◌,
+  ◌++◌,
+  length,
+  Option,
+  Some,
+  None,
+  string_bytes,
+  ◌%◌,
+  ◌==◌,
+}
 use Rattle.tabled_text.specs.Measure.{lines_of, text_columns}
 use Rattle.tabled_size.specs.declared.pool_table_dimension.DimensionPriority.{DimensionPriority}
 use Rattle.tabled_size.specs.declared.pool_table_dimension.DimensionPriority.TheVariants.{First, Last, List as Each}

@@ -1,5 +1,37 @@
 -- Each drawn line takes the columns of the whole.
-use Rattle.std.proofs.Common.{◌≡◌, ℕ, zero, suc, ◌+◌, ◌-◌, ◌*◌, ◌<◌, ◌≤◌, ◌==◌, Bool, true, false, List, [], ◌∷◌, ◌++◌, Option, Some, None, refl, sym, ◌∙◌, ap, subst, arith, encode_utf8, ⊎_elim, ◌⊎◌, inl, inr}
+use Rattle.std.proofs.Common.{
+  ◌≡◌,
+  ℕ,
+  zero,
+  suc,
+  ◌+◌,
+  ◌-◌,
+  ◌*◌,
+  ◌<◌,
+  ◌≤◌,
+  ◌==◌,
+  Bool,
+  true,
+  false,
+  List,
+  [],
+  ◌∷◌,
+  ◌++◌,
+  Option,
+  Some,
+  None,
+  refl,
+  sym,
+  ◌∙◌,
+  ap,
+  subst,
+  arith,
+  encode_utf8,
+  ⊎_elim,
+  ◌⊎◌,
+  inl,
+  inr,
+}
 use Rattle.std.specs.List.{flat_map, range_with_len}
 use Rattle.std.proofs.lemmas.Bool.Decides.{nat_tests}
 use Rattle.tabled_text.specs.Measure.{line_columns}
@@ -71,7 +103,8 @@ leaf-goes : (t : Plan) (p : Part) (n y : ℕ) → p.place.x < n → part_text t 
 leaf-goes t p n y e = grind (arith, nat_tests)
 
 -- the columns out behind the place m, where what stands there doesn't go on
-stops-kind : (t : Plan) (d : IsDrawable t) (y m : ℕ) (q : Part) (k : Kind) → q.kind ≡ k → owner t.parts m y ≡ Some q → (within q.place (suc m) y ≡ 1 → ⊥) → ahead_kind k q.place m ≡ suc m
+stops-kind : (t : Plan) (d : IsDrawable t) (y m : ℕ) (q : Part) (k : Kind) → q.kind ≡ k → owner t.parts m y ≡ Some q
+    → (within q.place (suc m) y ≡ 1 → ⊥) → ahead_kind k q.place m ≡ suc m
 stops-kind t d y m q Bar e h out = refl
 stops-kind t d y m q Rule e h out = refl
 stops-kind t d y m q Leaf e h out =
@@ -79,7 +112,8 @@ stops-kind t d y m q Leaf e h out =
     let low : m + 1 ≤ q.place.x + q.place.width = omega (arith, i.right) in
     let high = not-beyond q m y i out in omega arith
 
-pub before : (t : Plan) (d : IsDrawable t) (y n : ℕ) (p : Part) → n < t.width → y < t.height → owner t.parts n y ≡ Some p → Begins t y n p ⊎ Goes t y n p
+pub before : (t : Plan) (d : IsDrawable t) (y n : ℕ) (p : Part) → n < t.width → y < t.height → owner t.parts n y
+    ≡ Some p → Begins t y n p ⊎ Goes t y n p
 before t d y zero p h v o =
     let i = within-inside p.place zero y (owner-inside t.parts zero y p o) in
     inl (record { start = omega (arith, i.left); out = refl })
@@ -103,22 +137,50 @@ before t d y (suc m) p h v o =
     (is-1 (within p.place m y))
 
 -- what is written at a place, and the columns that are out behind it
-placed-kind : (t : Plan) (d : IsDrawable t) (y n : ℕ) (p : Part) (k : Kind) → p.kind ≡ k → owner t.parts n y ≡ Some p → Begins t y n p ⊎ Goes t y n p → (c : ℕ) × (IsPlainLine (part_text t k p n y) c × (ahead t y n + c ≡ ahead_kind k p.place n))
+placed-kind : (t : Plan) (d : IsDrawable t) (y n : ℕ) (p : Part) (k : Kind) → p.kind ≡ k → owner t.parts n y ≡ Some p
+    → Begins t y n p ⊎ Goes t y n p → (c : ℕ) × (IsPlainLine (part_text t k p n y) c × (ahead t y n + c ≡ ahead_kind k p.place n))
 placed-kind t d y n p Bar e o (inl b) = (1, (plain_line-one _ (d.chars Bar p.place n y), omega (arith, b.out)))
 placed-kind t d y n p Rule e o (inl b) = (1, (plain_line-one _ (d.chars Rule p.place n y), omega (arith, b.out)))
-placed-kind t d y n p Bar e o (inr g) = (1, (plain_line-one _ (d.chars Bar p.place n y), let f : ahead t y n ≡ suc (n - 1) = g.out ∙ ap (λ k. ahead_kind k p.place (n - 1)) e in omega (arith, f, g.started)))
-placed-kind t d y n p Rule e o (inr g) = (1, (plain_line-one _ (d.chars Rule p.place n y), let f : ahead t y n ≡ suc (n - 1) = g.out ∙ ap (λ k. ahead_kind k p.place (n - 1)) e in omega (arith, f, g.started)))
-placed-kind t d y n p Leaf e o (inl b) = (p.place.width, (subst (λ bs. IsPlainLine bs p.place.width) (sym (leaf-begins t p n y b.start)) (d.leaves n y p o e), omega (arith, b.out, b.start)))
-placed-kind t d y n p Leaf e o (inr g) = (0, (subst (λ bs. IsPlainLine bs 0) (sym (leaf-goes t p n y g.started)) plain_line-nil, let f : ahead t y n ≡ p.place.x + p.place.width = g.out ∙ ap (λ k. ahead_kind k p.place (n - 1)) e in omega (arith, f)))
+placed-kind t d y n p Bar e o (inr g) = (
+  1,
+  (
+    plain_line-one _ (d.chars Bar p.place n y),
+    let f : ahead t y n
+        ≡ suc (n - 1) = g.out ∙ ap (λ k. ahead_kind k p.place (n - 1)) e in omega (arith, f, g.started),
+  ),
+)
+placed-kind t d y n p Rule e o (inr g) = (
+  1,
+  (
+    plain_line-one _ (d.chars Rule p.place n y),
+    let f : ahead t y n
+        ≡ suc (n - 1) = g.out ∙ ap (λ k. ahead_kind k p.place (n - 1)) e in omega (arith, f, g.started),
+  ),
+)
+placed-kind t d y n p Leaf e o (inl b) = (
+  p.place.width,
+  (subst (λ bs. IsPlainLine bs p.place.width) (sym (leaf-begins t p n y b.start)) (d.leaves n y p o e), omega (arith, b.out, b.start)),
+)
+placed-kind t d y n p Leaf e o (inr g) = (
+  0,
+  (
+    subst
+        (λ bs. IsPlainLine bs 0) (sym (leaf-goes t p n y g.started)) plain_line-nil,
+    let f : ahead t y n
+        ≡ p.place.x + p.place.width = g.out ∙ ap (λ k. ahead_kind k p.place (n - 1)) e in omega (arith, f),
+  ),
+)
 
-placed : (t : Plan) (d : IsDrawable t) (y n : ℕ) → n < t.width → y < t.height → (c : ℕ) × (IsPlainLine (place_text t y n) c × (ahead t y n + c ≡ ahead t y (suc n)))
+placed : (t : Plan) (d : IsDrawable t) (y n : ℕ) → n < t.width → y < t.height → (c : ℕ)
+    × (IsPlainLine (place_text t y n) c × (ahead t y n + c ≡ ahead t y (suc n)))
 unfolding place_text
 placed t d y n h v =
     let q = owned t d n y h v in
     let r = placed-kind t d y n q.0 q.0.kind refl q.1 (before t d y n q.0 h v q.1) in
     (r.0, (subst (λ z. IsPlainLine (owned_text t z n y) r.0) (sym q.1) r.1.0, r.1.1 ∙ ap (λ z. ahead_of z n) (sym q.1)))
 
-pub prefix : (t : Plan) (d : IsDrawable t) (y n : ℕ) → n ≤ t.width → y < t.height → IsPlainLine (flat_map (place_text t y) (range_with_len 0 n)) (ahead t y n)
+pub prefix : (t : Plan) (d : IsDrawable t) (y n : ℕ) → n ≤ t.width → y < t.height
+    → IsPlainLine (flat_map (place_text t y) (range_with_len 0 n)) (ahead t y n)
 prefix t d y zero h v = plain_line-nil
 prefix t d y (suc n) h v =
     let c = placed t d y n (omega arith) v in

@@ -1,5 +1,34 @@
 -- A place that is covered once has one owner.
-use Rattle.std.proofs.Common.{◌≡◌, ℕ, zero, suc, ◌+◌, ◌*◌, ◌<◌, ◌≤◌, ◌==◌, if◌then◌else◌, Bool, true, false, List, [], ◌∷◌, Option, Some, None, refl, sym, ◌∙◌, ap, subst, arith, cond, ⊎_elim, ◌⊎◌}
+use Rattle.std.proofs.Common.{
+  ◌≡◌,
+  ℕ,
+  zero,
+  suc,
+  ◌+◌,
+  ◌*◌,
+  ◌<◌,
+  ◌≤◌,
+  ◌==◌,
+  if◌then◌else◌,
+  Bool,
+  true,
+  false,
+  List,
+  [],
+  ◌∷◌,
+  Option,
+  Some,
+  None,
+  refl,
+  sym,
+  ◌∙◌,
+  ap,
+  subst,
+  arith,
+  cond,
+  ⊎_elim,
+  ◌⊎◌,
+}
 use Rattle.std.proofs.Math.Nat.{mul-zero, zero-mul}
 use Rattle.std.proofs.lemmas.Nat.{mul-le}
 use Rattle.std.proofs.lemmas.Bool.Decides.{nat_tests}
@@ -77,10 +106,12 @@ counted (q ∷ ps) x y u v p h i = ⊎_elim
     (is-1 (within q.place x y))
 
 -- a part that owns some place owns each place that it covers
-pub owner-unique : (ps : List Part) (x y u v : ℕ) (p : Part) → owner ps x y ≡ Some p → within p.place u v ≡ 1 → covering ps u v ≤ 1 → owner ps u v ≡ Some p
+pub owner-unique : (ps : List Part) (x y u v : ℕ) (p : Part) → owner ps x y ≡ Some p → within p.place u v ≡ 1
+    → covering ps u v ≤ 1 → owner ps u v ≡ Some p
 owner-unique [] x y u v p h i c = cc
 owner-unique (q ∷ ps) x y u v p h i c = ⊎_elim
-    (λ w. let e : q ≡ p = cc (owner-here q ps x y w) in subst (λ z. owner (q ∷ ps) u v ≡ Some z) e (owner-here q ps u v (subst (λ z. within z.place u v ≡ 1) (sym e) i)))
+    (λ w. let e : q ≡ p = cc (owner-here q ps x y w) in
+    subst (λ z. owner (q ∷ ps) u v ≡ Some z) e (owner-here q ps u v (subst (λ z. within z.place u v ≡ 1) (sym e) i)))
     (λ w.
     let behind = sym (owner-behind q ps x y w) ∙ h in
     let one = counted ps x y u v p behind i in

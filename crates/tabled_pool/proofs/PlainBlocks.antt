@@ -1,5 +1,26 @@
 -- The columns of the lines of a block.
-use Rattle.std.proofs.Common.{◌≡◌, ℕ, ◌+◌, ◌-◌, ◌<◌, ◌≤◌, ltb, if◌then◌else◌, Bool, true, false, cond, List, [], length, get_or, sym, subst, arith, ⊎_elim}
+use Rattle.std.proofs.Common.{
+  ◌≡◌,
+  ℕ,
+  ◌+◌,
+  ◌-◌,
+  ◌<◌,
+  ◌≤◌,
+  ltb,
+  if◌then◌else◌,
+  Bool,
+  true,
+  false,
+  cond,
+  List,
+  [],
+  length,
+  get_or,
+  sym,
+  subst,
+  arith,
+  ⊎_elim,
+}
 use Rattle.std.proofs.lemmas.Bool.{cases_lt}
 use Rattle.std.proofs.lemmas.Option.{slice_get_cases, slice_get-get_or}
 use Rattle.tabled_text.specs.Measure.{lines_of, text_columns, line_columns}
@@ -21,7 +42,8 @@ before-le horizontal.Left n = omega arith
 before-le horizontal.Center n = omega arith
 before-le horizontal.Right n = omega arith
 
-columns_before-fits : (s : CellStyle) (room : ℕ) (text line : List ℕ) → line_columns line ≤ text_columns text → text_columns text ≤ room → columns_before s room text line + line_columns line ≤ room
+columns_before-fits : (s : CellStyle) (room : ℕ) (text line : List ℕ) → line_columns line ≤ text_columns text
+    → text_columns text ≤ room → columns_before s room text line + line_columns line ≤ room
 columns_before-fits s room text line l m =
     elim s.line_alignment as (λ b. before_text s.horizontal (room - (cond b (line_columns line) (text_columns text))) + line_columns line ≤ room) [
       | true ↦ let h = before-le s.horizontal (room - line_columns line) in omega arith
@@ -34,7 +56,8 @@ pub record IsPlainBox (s : CellStyle) (w : ℕ) (text : List ℕ) : Type 0 where
   pub plain : IsPlain text
   pub fits : text_columns text + (s.padding.left.size + s.padding.right.size) ≤ w
 
-plain-cell_line : (s : CellStyle) (w : ℕ) (text : List ℕ) (j : ℕ) → IsPlainBox s w text → j < length (lines_of text) → IsPlainLine (cell_line s w text (get_or (lines_of text) j [])) w
+plain-cell_line : (s : CellStyle) (w : ℕ) (text : List ℕ) (j : ℕ) → IsPlainBox s w text → j < length (lines_of text)
+    → IsPlainLine (cell_line s w text (get_or (lines_of text) j [])) w
 unfolding cell_line
 plain-cell_line s w text j p l =
     let line = get_or (lines_of text) j [] in
@@ -58,7 +81,8 @@ plain-below s w k p =
       | false ↦ plain-fill 32 w plain_column-space
     ]
 
-plain-padded : (s : CellStyle) (w h k : ℕ) (text : List ℕ) → IsPlainBox s w text → k < h → lines_above s h text ≤ k → s.padding.top.size ≤ k - lines_above s h text → IsPlainLine (get_or (pool_block s w h text) k []) w
+plain-padded : (s : CellStyle) (w h k : ℕ) (text : List ℕ) → IsPlainBox s w text → k < h → lines_above s h text ≤ k
+    → s.padding.top.size ≤ k - lines_above s h text → IsPlainLine (get_or (pool_block s w h text) k []) w
 plain-padded s w h k text p n l m =
     let P : List ℕ → Type 0 = λ bs. IsPlainLine bs w in
     let j = k - lines_above s h text - s.padding.top.size in

@@ -1,5 +1,36 @@
 -- A tree of plain texts is drawable.
-use Rattle.std.proofs.Common.{◌≡◌, ℕ, ◌+◌, ◌-◌, ◌<◌, ◌≤◌, ◌==◌, ltb, cond, if◌then◌else◌, Bool, true, false, ◌&&◌, ◌||◌, List, [], ◌∷◌, Option, Some, None, unwrap_or, refl, sym, ◌∙◌, ap, subst, arith, ⊎_elim, ◌⊎◌}
+use Rattle.std.proofs.Common.{
+  ◌≡◌,
+  ℕ,
+  ◌+◌,
+  ◌-◌,
+  ◌<◌,
+  ◌≤◌,
+  ◌==◌,
+  ltb,
+  cond,
+  if◌then◌else◌,
+  Bool,
+  true,
+  false,
+  ◌&&◌,
+  ◌||◌,
+  List,
+  [],
+  ◌∷◌,
+  Option,
+  Some,
+  None,
+  unwrap_or,
+  refl,
+  sym,
+  ◌∙◌,
+  ap,
+  subst,
+  arith,
+  ⊎_elim,
+  ◌⊎◌,
+}
 use Rattle.tabled_config.specs.declared.borders.Borders.{Borders}
 use Rattle.tabled_text.specs.Plain.{IsPlain, IsPlainLine, IsPlainColumn}
 use Rattle.tabled_grid.specs.PlainSheet.{IsPlainPiece, IsPlainStyle}
@@ -53,7 +84,8 @@ char-one t h k r x y =
     let right = is_border t.parts (x + 1) y in
     let up = is_border_above t.parts x y in
     let down = is_border t.parts x (y + 1) in
-    if-one ((left || right) && (up || down)) (junction t.borders left right up down) (main_of t k r) (junction-one t.borders h left right up down) (main-one t h k r)
+    if-one ((left || right) && (up || down)) (junction t.borders left right up down) (main_of t k r)
+    (junction-one t.borders h left right up down) (main-one t h k r)
 
 owner-fits : (g : Gaps) (ps : List Part) (x y : ℕ) (p : Part) → EachFits g ps → owner ps x y ≡ Some p → FitsLeaf g p
 owner-fits g [] x y p f h = cc
@@ -62,7 +94,8 @@ owner-fits g (q ∷ ps) x y p f h = ⊎_elim
     (λ w. owner-fits g ps x y p f.1 (sym (owner-behind q ps x y w) ∙ h))
     (is-1 (within q.place x y))
 
-leaf-measured : (g : Gaps) (t : Plan) → PlainTree g t → (x y : ℕ) (p : Part) → owner t.parts x y ≡ Some p → p.kind ≡ Leaf → IsPlainLine (leaf_line t p (y - p.place.y)) p.place.width
+leaf-measured : (g : Gaps) (t : Plan) → PlainTree g t → (x y : ℕ) (p : Part) → owner t.parts x y ≡ Some p → p.kind
+    ≡ Leaf → IsPlainLine (leaf_line t p (y - p.place.y)) p.place.width
 unfolding leaf_line
 leaf-measured g t h x y p o e =
     let i = within-inside p.place x y (owner-inside t.parts x y p o) in

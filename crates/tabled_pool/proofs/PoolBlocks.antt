@@ -1,5 +1,33 @@
 -- The lines of a block, by their index.
-use Rattle.std.proofs.Common.{◌≡◌, ℕ, ◌+◌, ◌-◌, ◌<◌, ◌≤◌, ltb, if◌then◌else◌, Bool, true, false, List, [], ◌++◌, Some, None, length, map, replicate, get_or, slice_get, refl, sym, ◌∙◌, ap, arith, ⊎_elim}
+use Rattle.std.proofs.Common.{
+  ◌≡◌,
+  ℕ,
+  ◌+◌,
+  ◌-◌,
+  ◌<◌,
+  ◌≤◌,
+  ltb,
+  if◌then◌else◌,
+  Bool,
+  true,
+  false,
+  List,
+  [],
+  ◌++◌,
+  Some,
+  None,
+  length,
+  map,
+  replicate,
+  get_or,
+  slice_get,
+  refl,
+  sym,
+  ◌∙◌,
+  ap,
+  arith,
+  ⊎_elim,
+}
 use Rattle.std.proofs.lemmas.List.{get_or-append_right, get_or_append_left, get_or-map, get_or-replicate, length-map, length-replicate}
 use Rattle.std.proofs.lemmas.Option.{get_or_from_slice_get, slice_get_within, slice_get_cases}
 use Rattle.std.proofs.lemmas.Bool.{cases_lt}
@@ -20,13 +48,15 @@ front x d p k rest l = get_or_append_left (replicate p x) _ d k (omega (arith, l
 behind : {X : Type 0} (x d : X) (p k : ℕ) (rest : List X) → p ≤ k → get_or (replicate p x ++ rest) k d ≡ get_or rest (k - p) d
 behind x d p k rest l = get_or-append_right (replicate p x) _ p k d (length-replicate p x) l
 
-within_text : {L X : Type 0} (f : L → X) (ls : List L) (d : X) (k : ℕ) (rest : List X) (line : L) → Some line ≡ slice_get ls k → get_or (map f ls ++ rest) k d ≡ f line
+within_text : {L X : Type 0} (f : L → X) (ls : List L) (d : X) (k : ℕ) (rest : List X) (line : L) → Some line
+    ≡ slice_get ls k → get_or (map f ls ++ rest) k d ≡ f line
 within_text f ls d k rest line e =
     let within = slice_get_within ls k line (sym e) in
     get_or_append_left (map f ls) _ d k (omega (arith, length-map ls f))
     ∙ get_or-map f ls k line d within ∙ ap f (get_or_from_slice_get ls k line line (sym e))
 
-below_text : {L X : Type 0} (f : L → X) (ls : List L) (d : X) (k : ℕ) (rest : List X) → length ls ≤ k → get_or (map f ls ++ rest) k d ≡ get_or rest (k - length ls) d
+below_text : {L X : Type 0} (f : L → X) (ls : List L) (d : X) (k : ℕ) (rest : List X) → length ls ≤ k
+    → get_or (map f ls ++ rest) k d ≡ get_or rest (k - length ls) d
 below_text f ls d k rest l = get_or-append_right (map f ls) _ (length ls) k d (length-map ls f) l
 
 last_lines : {X : Type 0} (x y d : X) (p q k : ℕ) → k < p + q → get_or (replicate p x ++ replicate q y) k d ≡ (if ltb k p then x else y)
@@ -40,12 +70,15 @@ pub block-above : (s : CellStyle) (w h : ℕ) (t : List ℕ) (k : ℕ) → k < l
 unfolding pool_block
 block-above s w h t k l = front _ [] _ k _ l
 
-pub block-top : (s : CellStyle) (w h : ℕ) (t : List ℕ) (k : ℕ) → lines_above s h t ≤ k → k - lines_above s h t < s.padding.top.size → get_or (pool_block s w h t) k [] ≡ fill s.padding.top.fill w
+pub block-top : (s : CellStyle) (w h : ℕ) (t : List ℕ) (k : ℕ) → lines_above s h t ≤ k
+    → k - lines_above s h t < s.padding.top.size → get_or (pool_block s w h t) k [] ≡ fill s.padding.top.fill w
 unfolding pool_block
 block-top s w h t k l m = behind _ [] _ k _ l ∙ front _ [] _ _ _ m
 
 padded : (s : CellStyle) (w h : ℕ) (t : List ℕ) (k : ℕ) → lines_above s h t ≤ k → s.padding.top.size ≤ k - lines_above s h t
-    → get_or (pool_block s w h t) k [] ≡ get_or (map (cell_line s w t) (lines_of t) ++ (replicate s.padding.bottom.size (fill s.padding.bottom.fill w) ++ replicate (free_lines s h t - lines_above s h t) (fill 32 w))) (k - lines_above s h t - s.padding.top.size) []
+    → get_or (pool_block s w h t) k [] ≡ get_or (map (cell_line s w t) (lines_of t) ++
+    (replicate s.padding.bottom.size (fill s.padding.bottom.fill w) ++ replicate
+    (free_lines s h t - lines_above s h t) (fill 32 w))) (k - lines_above s h t - s.padding.top.size) []
 unfolding pool_block
 padded s w h t k l m = behind _ [] _ k _ l ∙ behind _ [] _ _ _ m
 

@@ -12,7 +12,20 @@ use Rattle.tabled_pool.specs.declared.pool_table.PoolTable.{PoolTable}
 use Rattle.tabled_pool.specs.Drawn.{drawn}
 use Rattle.tabled_pool.specs.Margins.{with_margin}
 use Rattle.tabled_pool.specs.PlainTree.{PlainTree}
-use Rattle.tabled_pool.specs.Pool.{borders_of, frame_of, frame_place, framed_height, framed_width, gaps_of, margin_of, plan, pool_lines, pool_text, style_of, IsPlainPool}
+use Rattle.tabled_pool.specs.Pool.{
+  borders_of,
+  frame_of,
+  frame_place,
+  framed_height,
+  framed_width,
+  gaps_of,
+  margin_of,
+  plan,
+  pool_lines,
+  pool_text,
+  style_of,
+  IsPlainPool,
+}
 use Rattle.tabled_pool.specs.Tiled.{Tiled}
 use Rattle.tabled_pool.proofs.Columns.{drawn_takes}
 use Rattle.tabled_pool.proofs.Plains.{plain_drawable}

@@ -1,5 +1,35 @@
 -- What is drawn tiles its parts.
-use Rattle.std.proofs.Common.{◌≡◌, ℕ, zero, suc, ◌+◌, ◌-◌, ◌<◌, ◌≤◌, Bool, true, false, List, [], ◌∷◌, ◌++◌, Option, Some, None, refl, sym, ◌∙◌, ap, subst, arith, encode_utf8, ⊎_elim, ◌⊎◌, inl, inr}
+use Rattle.std.proofs.Common.{
+  ◌≡◌,
+  ℕ,
+  zero,
+  suc,
+  ◌+◌,
+  ◌-◌,
+  ◌<◌,
+  ◌≤◌,
+  Bool,
+  true,
+  false,
+  List,
+  [],
+  ◌∷◌,
+  ◌++◌,
+  Option,
+  Some,
+  None,
+  refl,
+  sym,
+  ◌∙◌,
+  ap,
+  subst,
+  arith,
+  encode_utf8,
+  ⊎_elim,
+  ◌⊎◌,
+  inl,
+  inr,
+}
 use Rattle.std.specs.List.{flat_map, range_with_len}
 use Rattle.tabled_text.specs.Plain.{IsPlainLine}
 use Rattle.tabled_grid.proofs.Each.{each-rest}
@@ -14,12 +44,14 @@ use Rattle.tabled_pool.specs.Tiled.{StandsAt, Tiled}
 use Rattle.tabled_pool.proofs.Owners.{Inside, inside-within, within-inside, within-le, owner-inside, counted}
 use Rattle.tabled_pool.proofs.Columns.{ahead, ahead_kind, whole-inside, unique, Begins, Goes, before, prefix, leaf-begins}
 
-stands : (t : Plan) (d : IsDrawable t) (x y : ℕ) (piece : List ℕ) → x < t.width → y < t.height → ahead t y x ≡ x → place_text t y x ≡ piece → StandsAt (drawn_line t y) x piece
+stands : (t : Plan) (d : IsDrawable t) (x y : ℕ) (piece : List ℕ) → x < t.width → y < t.height → ahead t y x ≡ x
+    → place_text t y x ≡ piece → StandsAt (drawn_line t y) x piece
 unfolding drawn_line
 stands t d x y piece h v out e = record {
   front = flat_map (place_text t y) (range_with_len 0 x);
   rest = flat_map (place_text t y) (range_with_len (x + 1) (t.width - x - 1));
-  whole = each-rest (place_text t y) x t.width h ∙ ap (λ u. flat_map (place_text t y) (range_with_len 0 x) ++ (u ++ flat_map (place_text t y) (range_with_len (x + 1) (t.width - x - 1)))) e;
+  whole = each-rest (place_text t y) x t.width h ∙ ap
+      (λ u. flat_map (place_text t y) (range_with_len 0 x) ++ (u ++ flat_map (place_text t y) (range_with_len (x + 1) (t.width - x - 1)))) e;
   columns = (prefix t d y x (omega arith) v).columns ∙ out;
 }
 
@@ -31,8 +63,10 @@ out-border : (t : Plan) (y x : ℕ) (p : Part) (k : Kind) → p.kind ≡ k → i
 out-border t y x p Leaf e l b = cc
 out-border t y x p Bar e l (inl b) = b.out
 out-border t y x p Rule e l (inl b) = b.out
-out-border t y x p Bar e l (inr g) = let f : ahead t y x ≡ suc (x - 1) = g.out ∙ ap (λ k. ahead_kind k p.place (x - 1)) e in omega (arith, f, g.started)
-out-border t y x p Rule e l (inr g) = let f : ahead t y x ≡ suc (x - 1) = g.out ∙ ap (λ k. ahead_kind k p.place (x - 1)) e in omega (arith, f, g.started)
+out-border t y x p Bar e l (inr g) = let f : ahead t y x ≡ suc (x - 1) = g.out ∙ ap
+    (λ k. ahead_kind k p.place (x - 1)) e in omega (arith, f, g.started)
+out-border t y x p Rule e l (inr g) = let f : ahead t y x ≡ suc (x - 1) = g.out ∙ ap
+    (λ k. ahead_kind k p.place (x - 1)) e in omega (arith, f, g.started)
 
 char-of : (t : Plan) (x y : ℕ) (p : Part) (k : Kind) → is_line_kind k ≡ true → part_text t k p x y ≡ encode_utf8 (border_char t k p.place x y)
 char-of t x y p Leaf l = cc
@@ -43,10 +77,12 @@ begins-leaf : (t : Plan) (y : ℕ) (p : Part) → Begins t y p.place.x p ⊎ Goe
 begins-leaf t y p (inl b) = b.out
 begins-leaf t y p (inr g) = absurd (omega (arith, g.started))
 
-leaf-stands : (t : Plan) (d : IsDrawable t) (u v y : ℕ) (p : Part) → owner t.parts u v ≡ Some p → p.kind ≡ Leaf → p.place.y ≤ y → y < p.place.y + p.place.height → StandsAt (drawn_line t y) p.place.x (leaf_line t p (y - p.place.y))
+leaf-stands : (t : Plan) (d : IsDrawable t) (u v y : ℕ) (p : Part) → owner t.parts u v ≡ Some p → p.kind ≡ Leaf
+    → p.place.y ≤ y → y < p.place.y + p.place.height → StandsAt (drawn_line t y) p.place.x (leaf_line t p (y - p.place.y))
 leaf-stands t d u v y p o e a b =
     let i = within-inside p.place u v (owner-inside t.parts u v p o) in
-    let w : within p.place p.place.x y ≡ 1 = inside-within p.place p.place.x y (record { left = omega arith; right = omega (arith, i.left, i.right); top = a; bottom = b }) in
+    let w : within p.place p.place.x y ≡ 1 = inside-within p.place p.place.x y
+    (record { left = omega arith; right = omega (arith, i.left, i.right); top = a; bottom = b }) in
     let here = unique t d u v p.place.x y p o w in
     let c = counted t.parts u v p.place.x y p o w in
     let inner = within-inside (whole t) p.place.x y (omega (arith, c, d.once p.place.x y, within-le (whole t) p.place.x y)) in
@@ -60,5 +96,6 @@ pub drawn_tiles : (t : Plan) → IsDrawable t → Tiled t
 drawn_tiles t d = record {
   once = λ x y h v. d.once x y ∙ whole-inside t x y h v;
   leaf = λ u v y p o e a b. leaf-stands t d u v y p o e a b;
-  border = λ x y p h v o l. stands t d x y _ h v (out-border t y x p p.kind refl l (before t d y x p h v o)) (text-of t x y p o ∙ char-of t x y p p.kind l);
+  border = λ x y p h v o l. stands t d x y _ h v (out-border t y x p p.kind refl l (before t d y x p h v o))
+      (text-of t x y p o ∙ char-of t x y p p.kind l);
 }

@@ -6,7 +6,8 @@ use Rattle.tabled_pool.specs.declared.applying.NoRecords.{NoRecords}
 use Rattle.tabled_pool.specs.declared.pool_table.PoolTable.{PoolTable}
 
 -- an option's change, or its refusal
-pub record IsApplied (changes : NoRecords → CompactMultilineConfig → PoolTableDimension → NoRecords → CompactMultilineConfig → PoolTableDimension → Type 0) (old new : PoolTable) : Type 0 where
+pub record IsApplied (changes : NoRecords → CompactMultilineConfig → PoolTableDimension → NoRecords
+    → CompactMultilineConfig → PoolTableDimension → Type 0) (old new : PoolTable) : Type 0 where
   pub before : NoRecords
   pub after : NoRecords
   pub changed : changes before old.config old.dimension after new.config new.dimension

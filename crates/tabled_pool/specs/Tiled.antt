@@ -19,5 +19,7 @@ pub record StandsAt (line : List ℕ) (x : ℕ) (piece : List ℕ) : Type 0 wher
 -- and at each other place one character, which the lines that meet there give
 pub record Tiled (t : Plan) : Type 0 where
   pub once : (x y : ℕ) → x < t.width → y < t.height → covering t.parts x y ≡ 1
-  pub leaf : (u v y : ℕ) (p : Part) → owner t.parts u v ≡ Some p → p.kind ≡ Leaf → p.place.y ≤ y → y < p.place.y + p.place.height → StandsAt (drawn_line t y) p.place.x (leaf_line t p (y - p.place.y))
-  pub border : (x y : ℕ) (p : Part) → x < t.width → y < t.height → owner t.parts x y ≡ Some p → is_line_kind p.kind ≡ true → StandsAt (drawn_line t y) x (encode_utf8 (border_char t p.kind p.place x y))
+  pub leaf : (u v y : ℕ) (p : Part) → owner t.parts u v ≡ Some p → p.kind ≡ Leaf → p.place.y ≤ y
+      → y < p.place.y + p.place.height → StandsAt (drawn_line t y) p.place.x (leaf_line t p (y - p.place.y))
+  pub border : (x y : ℕ) (p : Part) → x < t.width → y < t.height → owner t.parts x y ≡ Some p → is_line_kind p.kind
+      ≡ true → StandsAt (drawn_line t y) x (encode_utf8 (border_char t p.kind p.place x y))

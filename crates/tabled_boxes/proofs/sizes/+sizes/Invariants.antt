@@ -6,7 +6,8 @@ use Rattle.tabled_boxes.proofs.sizes.+sizes.Given as goal
 abbrev pub invariant-column_size-loop-child : goal.invariant-column_size-loop-child
 invariant-column_size-loop-child l = record {
   wide : max l.width (most_width (map (box_of l.gaps) (drop l.child-index l.rest))) ≡ (column_box l.gaps (map (box_of l.gaps) l.children)).width;
-  tall : l.height + more_height l.gaps (map (box_of l.gaps) (drop l.child-index l.rest)) ≡ (column_box l.gaps (map (box_of l.gaps) l.children)).height;
+  tall : l.height + more_height l.gaps (map (box_of l.gaps) (drop l.child-index l.rest))
+      ≡ (column_box l.gaps (map (box_of l.gaps) l.children)).height;
 }
 
 abbrev pub invariant-row_size-loop-child : goal.invariant-row_size-loop-child

@@ -11,7 +11,8 @@ returns-in_err-put_fill g c = stopped-first _ _ _ c.in_err-put_fill.ensures c.fr
 pub returns-in_err-put_aligned : goal.returns-in_err-put_aligned
 unfolding cell_line
 returns-in_err-put_aligned g c =
-    stopped _ _ (indent c.args.style.now.padding.right) c.in_ok-put_fill.ensures c.in_err-put_aligned.ensures c.from_residual-in_err-put_aligned.ensures.1
+    stopped _ _ (indent c.args.style.now.padding.right) c.in_ok-put_fill.ensures c.in_err-put_aligned.ensures
+    c.from_residual-in_err-put_aligned.ensures.1
     (simp (append_assoc, c.columns_before-before.ensures, c.text_room-room.ensures))
 
 pub returns : goal.returns
