@@ -45,11 +45,11 @@ pub mod builder {
 pub mod settings {
     pub use tabled_base::{CellOption, TableOption};
     pub use tabled_config::Style;
-    pub use tabled_set::{Height, Width};
+    pub use tabled_set::{Height, Margin, Padding, Width};
 
     /// Numbers that are read from a table.
     pub mod measurement {
-        pub use tabled_set::Measurement;
+        pub use tabled_set::{Max, Measurement, Min};
     }
 
     /// Parts of a table that are chosen.
@@ -72,12 +72,22 @@ pub mod settings {
 
     /// How texts are made to fit some columns.
     pub mod width {
-        pub use tabled_set::{SuffixLimit, Truncate, Width, Wrap};
+        pub use tabled_set::{SuffixLimit, Truncate, Width, WidthList, Wrap};
     }
 
     /// How texts are made to fit some lines.
     pub mod height {
-        pub use tabled_set::Height;
+        pub use tabled_set::{Height, HeightList};
+    }
+
+    /// Columns and lines kept free around a table.
+    pub mod margin {
+        pub use tabled_set::Margin;
+    }
+
+    /// Columns and lines kept free around the texts of cells.
+    pub mod padding {
+        pub use tabled_set::{Padding, PaddingExpand};
     }
 }
 
