@@ -185,7 +185,7 @@ const FILLS: Sheet<'static> = Sheet {
     rows: &[&["a"]],
     settings: &[
         Setting::Vertical(Entity::Global, Vertical::Center),
-        Setting::Padding(Entity::Cell(0, 0), [(1, '<'), (2, '>'), (1, '^'), (0, 'v')]),
+        Setting::Padding(Entity::Cell(0, 0), ((1, '<'), (2, '>'), (1, '^'), (0, 'v'))),
     ],
     widths: None,
     heights: Some(&[5]),

@@ -52,7 +52,7 @@ fn answered(alloc: Global, sheet: &Sheet<'_>) -> (Result<(), TableError>, usize)
     (answer, sink.len())
 }
 
-const ENDLESS: &[Setting] = &[Setting::Margin([(usize::MAX, ' '), (0, ' '), (0, ' '), (0, ' ')])];
+const ENDLESS: &[Setting] = &[Setting::Margin(((usize::MAX, ' '), (0, ' '), (0, ' '), (0, ' ')))];
 
 const NARROW: TableError = TableError::Narrow { row: 0, column: 0 };
 

@@ -19,7 +19,7 @@ pub type Rows = &'static [&'static [&'static str]];
 pub type Sizes = Option<&'static [usize]>;
 
 /// Sizes and fills on the left, on the right, at the top and at the bottom.
-pub type Fills = [(usize, char); 4];
+pub type Fills = ((usize, char), (usize, char), (usize, char), (usize, char));
 
 /// What is set of a table.
 #[derive(Clone, Copy)]
@@ -62,9 +62,13 @@ pub const PICTURE: &str = picture! {
     "+-----+----+"
 };
 
+fn indent(side: (usize, char)) -> Indent {
+    Indent::new(side.0, side.1)
+}
+
 fn sides(fills: &Fills) -> Sides<Indent> {
-    let [left, right, top, bottom] = fills.map(|(size, fill)| Indent::new(size, fill));
-    Sides::new(left, right, top, bottom)
+    let (left, right, top, bottom) = *fills;
+    Sides::new(indent(left), indent(right), indent(top), indent(bottom))
 }
 
 fn set_bare(config: &mut SpannedConfig) -> Result<(), TableError> {

@@ -11,7 +11,7 @@ const FRAME: Sheet<'static> = Sheet {
     settings: &[
         Setting::Modern,
         Setting::Horizontal(Entity::Global, AlignmentHorizontal::Right),
-        Setting::Margin([(1, '<'), (1, '>'), (1, '^'), (0, ' ')]),
+        Setting::Margin(((1, '<'), (1, '>'), (1, '^'), (0, ' '))),
     ],
     ..PAIRS
 };
@@ -34,7 +34,7 @@ fn margins_stand_around_modern_borders(rt: HostRuntime) -> Result<(), Fail> {
 
 const WIDE: Sheet<'static> = Sheet {
     rows: &[&["x"]],
-    settings: &[Setting::Margin([(2, '<'), (3, '>'), (1, '^'), (2, 'v')])],
+    settings: &[Setting::Margin(((2, '<'), (3, '>'), (1, '^'), (2, 'v')))],
     ..PAIRS
 };
 
@@ -53,7 +53,7 @@ fn margins_of_several_columns_fill_the_whole_width(rt: HostRuntime) -> Result<()
 }
 
 const ENDLESS: Sheet<'static> = Sheet {
-    settings: &[Setting::Margin([(usize::MAX, ' '), (0, ' '), (0, ' '), (0, ' ')])],
+    settings: &[Setting::Margin(((usize::MAX, ' '), (0, ' '), (0, ' '), (0, ' ')))],
     ..PAIRS
 };
 

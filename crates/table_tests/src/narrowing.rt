@@ -168,7 +168,7 @@ fn an_empty_table_gets_no_widths(rt: HostRuntime) -> Result<(), Fail> {
 const OVERFLOWING: Sheet<'static> = Sheet {
     settings: &[Setting::Padding(
         Entity::Global,
-        [(usize::MAX, ' '), (1, ' '), (0, ' '), (0, ' ')],
+        ((usize::MAX, ' '), (1, ' '), (0, ' '), (0, ' ')),
     )],
     widths: Some(&[9, 9]),
     ..PAIRS

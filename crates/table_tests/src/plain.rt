@@ -45,7 +45,7 @@ const WIDE_BORDERS: Borders<char> = Borders {
 // A fill of two columns above the cell at the place (1, 1).
 const WIDE_FILL: Setting = Setting::Padding(
     Entity::Cell(1, 1),
-    [(1, ' '), (1, ' '), (0, '中'), (1, ' ')],
+    ((1, ' '), (1, ' '), (0, '中'), (1, ' ')),
 );
 
 // A line of two columns a character above the row 2.
