@@ -11,7 +11,7 @@ use tabled_set::{SuffixLimit, Width};
 pub const ROWS: Rows = &[&["abc", "de"], &["fgh", "ijk"]];
 
 /// What an option answers on cells, and what it leaves of them.
-pub fn tried<O: CellOption<VecRecords<Text<String>>, ColoredConfig>>(
+pub(crate) fn tried<O: CellOption<VecRecords<Text<String>>, ColoredConfig>>(
     alloc: Global,
     rows: Rows,
     option: &O,
@@ -24,7 +24,7 @@ pub fn tried<O: CellOption<VecRecords<Text<String>>, ColoredConfig>>(
 }
 
 /// What an option makes of cells.
-pub fn changed<O: CellOption<VecRecords<Text<String>>, ColoredConfig>>(
+pub(crate) fn changed<O: CellOption<VecRecords<Text<String>>, ColoredConfig>>(
     alloc: Global,
     rows: Rows,
     option: &O,

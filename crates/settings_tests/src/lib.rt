@@ -11,6 +11,8 @@ mod copies;
 #[cfg(test)]
 mod dimensions;
 #[cfg(test)]
+mod extremes;
+#[cfg(test)]
 mod measures;
 #[cfg(test)]
 mod parts;
@@ -22,6 +24,8 @@ mod replacing;
 mod rows;
 #[cfg(test)]
 mod shown;
+#[cfg(test)]
+mod sides;
 #[cfg(test)]
 mod stepwise;
 #[cfg(test)]

@@ -15,8 +15,6 @@ struct AsRows;
 impl Measurement<Width> for AsRows {
     ghost measures = { λ s cells config. length cells };
 
-    ghost passes = { λ s cells config. ⊥ };
-
     fn measure<R: PeekableRecords>(
         &self,
         records: &R,

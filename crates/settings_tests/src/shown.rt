@@ -10,7 +10,10 @@ use tabled_base::{Builder, PeekableRecords, Position, TableError, Text, VecRecor
 pub type Rows = &'static [&'static [&'static str]];
 
 /// Records of rows.
-pub fn records_of(alloc: Global, rows: Rows) -> Result<VecRecords<Text<String>>, TableError> {
+pub(crate) fn records_of(
+    alloc: Global,
+    rows: Rows,
+) -> Result<VecRecords<Text<String>>, TableError> {
     let mut builder = Builder::new(alloc);
     for row in rows {
         builder.add_record(row.iter().copied())?;
@@ -19,7 +22,7 @@ pub fn records_of(alloc: Global, rows: Rows) -> Result<VecRecords<Text<String>>,
 }
 
 /// The shape, and the cells row by row, each in brackets.
-pub fn shown<R: PeekableRecords>(alloc: Global, records: &R) -> Result<String, TableError> {
+pub(crate) fn shown<R: PeekableRecords>(alloc: Global, records: &R) -> Result<String, TableError> {
     let mut all = format!(in alloc; "{}x{}", records.count_rows(), records.count_columns())?;
     for row in 0..records.count_rows() {
         show_row(&mut all, records, row)?;
@@ -40,7 +43,7 @@ fn show_row<R: PeekableRecords>(all: &mut String, records: &R, row: usize) -> Re
 }
 
 /// Stops a test where a text isn't the wanted one; one that is refused ends it.
-pub fn assert_text(
+pub(crate) fn assert_text(
     rt: &impl Abort,
     text: Result<String, TableError>,
     wanted: &str,

@@ -24,7 +24,7 @@ pub const CELLS: Sheet<'static> = Sheet {
 const NO_CELLS: Sheet<'static> = Sheet { rows: &[], ..CELLS };
 
 /// Whether widths and heights are stored.
-pub fn stored(table: &Table) -> (bool, bool) {
+pub(crate) fn stored(table: &Table) -> (bool, bool) {
     let sizes = table.get_dimension();
     (sizes.get_widths().is_some(), sizes.get_heights().is_some())
 }
@@ -93,11 +93,9 @@ fn apply<O: TableOption<VecRecords<Text<String>>, ColoredConfig, CompleteDimensi
 }
 
 /// The picture of a sheet to which an option was applied.
-pub fn applied<O: TableOption<VecRecords<Text<String>>, ColoredConfig, CompleteDimension> + Drop>(
-    alloc: Global,
-    sheet: &Sheet<'_>,
-    option: O,
-) -> Result<String, TableError> {
+pub(crate) fn applied<
+    O: TableOption<VecRecords<Text<String>>, ColoredConfig, CompleteDimension> + Drop,
+>(alloc: Global, sheet: &Sheet<'_>, option: O) -> Result<String, TableError> {
     apply(&mut table_of(alloc, sheet)?, option)
 }
 

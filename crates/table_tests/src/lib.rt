@@ -25,6 +25,8 @@ mod plain;
 #[cfg(test)]
 mod runs;
 #[cfg(test)]
+mod settings;
+#[cfg(test)]
 mod showing;
 #[cfg(test)]
 mod sizes;

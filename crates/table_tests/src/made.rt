@@ -38,7 +38,7 @@ pub enum Setting {
 
 /// A new table of rows, with some settings and stored sizes.
 #[derive(Clone, Copy)]
-pub struct Sheet<'a> {
+pub(crate) struct Sheet<'a> {
     pub rows: Rows,
     pub settings: &'a [Setting],
     pub widths: Sizes,
@@ -134,19 +134,19 @@ fn built(alloc: Global, rows: Rows) -> Result<Builder, TableError> {
 }
 
 /// The table of a sheet.
-pub fn table_of(alloc: Global, sheet: &Sheet<'_>) -> Result<Table, TableError> {
+pub(crate) fn table_of(alloc: Global, sheet: &Sheet<'_>) -> Result<Table, TableError> {
     let mut table = Table::from(built(alloc, sheet.rows)?);
     prepare(alloc, &mut table, sheet)?;
     Ok(table)
 }
 
 /// The picture of a sheet.
-pub fn drawn(alloc: Global, sheet: &Sheet<'_>) -> Result<String, TableError> {
+pub(crate) fn drawn(alloc: Global, sheet: &Sheet<'_>) -> Result<String, TableError> {
     table_of(alloc, sheet)?.to_string()
 }
 
 /// Stops a test where a sheet isn't drawn as it should be.
-pub fn assert_drawn(
+pub(crate) fn assert_drawn(
     rt: &impl Abort,
     alloc: Global,
     sheet: &Sheet<'_>,
@@ -156,7 +156,7 @@ pub fn assert_drawn(
 }
 
 /// What the total width and the total height of a sheet answer.
-pub fn totals(
+pub(crate) fn totals(
     alloc: Global,
     sheet: &Sheet<'_>,
 ) -> Result<(Result<usize, TableError>, Result<usize, TableError>), TableError> {
@@ -165,7 +165,7 @@ pub fn totals(
 }
 
 /// What a sheet answers to a sink, and how many bytes of it went out.
-pub fn sent(
+pub(crate) fn sent(
     alloc: Global,
     sheet: &Sheet<'_>,
 ) -> Result<(Result<(), TableError>, usize), TableError> {

@@ -14,7 +14,7 @@ use tabled_table::Table;
 
 /// A priority that names no column.
 #[derive(Clone, Copy)]
-pub struct Never;
+pub(crate) struct Never;
 
 impl Peaker for Never {
     ghost peaks = { λ s values mins answer t. ⊤ };

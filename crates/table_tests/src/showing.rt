@@ -25,7 +25,7 @@ impl fmt::Display for Barred<'_> {
 }
 
 /// Stops a test where a picture isn't the wanted one, and shows both.
-pub fn assert_picture(rt: &impl Abort, drawn: &str, wanted: &str) {
+pub(crate) fn assert_picture(rt: &impl Abort, drawn: &str, wanted: &str) {
     assert!(rt;
         drawn == wanted,
         "drawn:{}\nwanted:{}",
@@ -35,7 +35,7 @@ pub fn assert_picture(rt: &impl Abort, drawn: &str, wanted: &str) {
 }
 
 /// The same of a picture that may be refused, which ends the test.
-pub fn assert_text(
+pub(crate) fn assert_text(
     rt: &impl Abort,
     drawn: Result<String, TableError>,
     wanted: &str,

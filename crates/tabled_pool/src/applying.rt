@@ -15,10 +15,6 @@ pub struct NoRecords {}
 impl TableOption<NoRecords, CompactMultilineConfig, PoolTableDimension> for PoolTableDimension {
     ghost changes = { λ option r c d r' c' d'. (c' ≡ c) × (d' ≡ option) };
 
-    ghost refuses = { λ option e r c d r' c' d'. ⊥ };
-
-    ghost passes = { λ option r c d. ⊥ };
-
     fn change(
         self,
         _records: &mut NoRecords,

@@ -50,10 +50,6 @@ impl From<Vec<usize>> for HeightList {
 impl<R: ExactRecords, C> TableOption<R, C, CompleteDimension> for HeightList {
     ghost changes = { λ s r c d r' c' d'. (r' ≡ r) × ((c' ≡ c) × StoresHeights s.list.items (length (R.cells r)) d d') };
 
-    ghost refuses = { λ s e r c d r' c' d'. ⊥ };
-
-    ghost passes = { λ s r c d. ⊥ };
-
     ghost hint = { λ s. None };
 
     fn change(

@@ -21,8 +21,6 @@ pub struct Min;
 impl Measurement<Width> for Max {
     ghost measures = { λ s cells config. picked_of_rows Greatest Greatest Columns cells };
 
-    ghost passes = { λ s cells config. ⊥ };
-
     fn measure<R: PeekableRecords>(
         &self,
         records: &R,
@@ -34,8 +32,6 @@ impl Measurement<Width> for Max {
 
 impl Measurement<Height> for Max {
     ghost measures = { λ s cells config. picked_of_rows Greatest Greatest Lines cells };
-
-    ghost passes = { λ s cells config. ⊥ };
 
     fn measure<R: PeekableRecords>(
         &self,
@@ -49,8 +45,6 @@ impl Measurement<Height> for Max {
 impl Measurement<Width> for Min {
     ghost measures = { λ s cells config. picked_of_rows Greatest Least Columns cells };
 
-    ghost passes = { λ s cells config. ⊥ };
-
     fn measure<R: PeekableRecords>(
         &self,
         records: &R,
@@ -62,8 +56,6 @@ impl Measurement<Width> for Min {
 
 impl Measurement<Height> for Min {
     ghost measures = { λ s cells config. picked_of_rows Least Greatest Lines cells };
-
-    ghost passes = { λ s cells config. ⊥ };
 
     fn measure<R: PeekableRecords>(
         &self,

@@ -30,8 +30,8 @@ pub trait Measurement<A> {
     // The number for some cells, row by row, and a configuration.
     ghost measures: { Self → List (List (List ℕ)) → SpannedConfig → ℕ };
 
-    // Holds where a sum or product that it is made of passes the greatest `usize`.
-    ghost passes: { Self → List (List (List ℕ)) → SpannedConfig → Type 0 };
+    // Holds where a sum or product that it is made of passes the greatest `usize`: none does where nothing else is said.
+    ghost passes: { Self → List (List (List ℕ)) → SpannedConfig → Type 0 } = { λ _ _ _. ⊥ };
 
     /// Reads the number. It is refused with `Range`, exactly where a sum or product of it passes the greatest
     /// `usize`.
@@ -48,8 +48,6 @@ pub trait Measurement<A> {
 /// A number measures itself, whatever the table is.
 impl<A> Measurement<A> for usize {
     ghost measures = { λ n cells config. n };
-
-    ghost passes = { λ n cells config. ⊥ };
 
     fn measure<R: PeekableRecords>(
         &self,

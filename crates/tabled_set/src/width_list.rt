@@ -51,10 +51,6 @@ impl From<Vec<usize>> for WidthList {
 impl<R: ExactRecords, C> TableOption<R, C, CompleteDimension> for WidthList {
     ghost changes = { λ s r c d r' c' d'. (r' ≡ r) × ((c' ≡ c) × StoresWidths s.list.items (columns (R.cells r)) d d') };
 
-    ghost refuses = { λ s e r c d r' c' d'. ⊥ };
-
-    ghost passes = { λ s r c d. ⊥ };
-
     ghost hint = { λ s. None };
 
     fn change(

@@ -52,10 +52,6 @@ impl From<Sides<Indent>> for Margin {
 impl<R, D> TableOption<R, ColoredConfig, D> for Margin {
     ghost changes = { λ s r c d. Becomes (colored (record c.config { margin = s.indent })) r d };
 
-    ghost refuses = { λ s e r c d r' c' d'. ⊥ };
-
-    ghost passes = { λ s r c d. ⊥ };
-
     fn change(
         self,
         _records: &mut R,
@@ -74,10 +70,6 @@ impl<R, D> TableOption<R, ColoredConfig, D> for Margin {
 impl<R, D> TableOption<R, CompactConfig, D> for Margin {
     ghost changes = { λ s r c d. Becomes (record c { margin = s.indent }) r d };
 
-    ghost refuses = { λ s e r c d r' c' d'. ⊥ };
-
-    ghost passes = { λ s r c d. ⊥ };
-
     fn change(
         self,
         _records: &mut R,
@@ -95,10 +87,6 @@ impl<R, D> TableOption<R, CompactConfig, D> for Margin {
 
 impl<R, D> TableOption<R, CompactMultilineConfig, D> for Margin {
     ghost changes = { λ s r c d. Becomes (record c { config = record c.config { margin = s.indent } }) r d };
-
-    ghost refuses = { λ s e r c d r' c' d'. ⊥ };
-
-    ghost passes = { λ s r c d. ⊥ };
 
     fn change(
         self,

@@ -1,7 +1,8 @@
 //! The padding of cells.
 ghost use Rattle.std.specs.Prelude.{◌≡◌, if◌then◌else◌};
-ghost use Rattle.tabled_config.specs.Options.{Becomes, Stays, colored};
+ghost use Rattle.tabled_config.specs.Options.{Becomes, colored};
 ghost use Rattle.tabled_entity.specs.Changes.{for_all, with_change};
+ghost use Rattle.tabled_entity.specs.Places.{IsPart};
 ghost use Rattle.tabled_base.specs.declared.error.TableError.TheVariants.{Memory};
 ghost use Rattle.tabled_sides.specs.Sides.{filled, spaced};
 ghost use Rattle.tabled_sides.specs.declared.padding.PaddingExpand.TheVariants.{Horizontal, Vertical};
@@ -80,14 +81,12 @@ impl From<Sides<Indent>> for Padding {
     }
 }
 
-/// Refused with `Memory` alone, and then all is as it was.
+/// Refused with `Memory` alone, for a part of a table, and then all is as it was.
 impl<R> CellOption<R, ColoredConfig> for Padding {
     ghost changes = { λ s r c e r' c'. (r' ≡ r)
         × (c' ≡ colored (record c.config { padding = with_change c.config.padding e s.indent })) };
 
-    ghost refuses = { λ s f r c e r' c'. (f ≡ Memory) × ((r' ≡ r) × (c' ≡ c)) };
-
-    ghost passes = { λ s r c e. ⊥ };
+    ghost refuses = { λ s f r c e r' c'. IsPart e × ((f ≡ Memory) × ((r' ≡ r) × (c' ≡ c))) };
 
     fn change(
         &self,
@@ -106,10 +105,6 @@ impl<R> CellOption<R, ColoredConfig> for Padding {
 impl<R, D> TableOption<R, ColoredConfig, D> for Padding {
     ghost changes = { λ s r c d. Becomes (colored (record c.config { padding = for_all s.indent })) r d };
 
-    ghost refuses = { λ s e. Stays e };
-
-    ghost passes = { λ s r c d. ⊥ };
-
     fn change(
         self,
         _records: &mut R,
@@ -126,10 +121,6 @@ impl<R, D> TableOption<R, ColoredConfig, D> for Padding {
 
 impl<R, D> TableOption<R, CompactConfig, D> for Padding {
     ghost changes = { λ s r c d. Becomes (record c { padding = s.indent }) r d };
-
-    ghost refuses = { λ s e r c d r' c' d'. ⊥ };
-
-    ghost passes = { λ s r c d. ⊥ };
 
     fn change(
         self,
@@ -148,10 +139,6 @@ impl<R, D> TableOption<R, CompactConfig, D> for Padding {
 
 impl<R, D> TableOption<R, CompactMultilineConfig, D> for Padding {
     ghost changes = { λ s r c d. Becomes (record c { config = record c.config { padding = s.indent } }) r d };
-
-    ghost refuses = { λ s e r c d r' c' d'. ⊥ };
-
-    ghost passes = { λ s r c d. ⊥ };
 
     fn change(
         self,
