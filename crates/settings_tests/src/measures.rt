@@ -31,7 +31,7 @@ struct Endless;
 impl Measurement<Width> for Endless {
     ghost measures = { λ s cells config. 0 };
 
-    ghost passes = { λ s cells config. Unit {0} };
+    ghost out_of_range = { λ s cells config. Unit {0} };
 
     fn measure<R: PeekableRecords>(
         &self,

@@ -87,7 +87,7 @@ impl<R> CellOption<R, usize> for Counted {
 
     ghost refuses = { λ _ e r c _ r2 c2. (e ≡ Range) × (r2 ≡ r) × (c2 ≡ c) };
 
-    ghost passes = { λ _ _ c _. 2 ^ 64 ≤ c + 1 };
+    ghost out_of_range = { λ _ _ c _. 2 ^ 64 ≤ c + 1 };
 
     fn change(&self, _: &mut R, cfg: &mut usize, _: Entity) -> Result<(), TableError> {
         let Some(more) = cfg.checked_add(1) else {
@@ -121,7 +121,7 @@ impl<R, D> TableOption<R, usize, D> for Counted {
 
     ghost refuses = { λ _ e r c d r2 c2 d2. (e ≡ Range) × (r2 ≡ r) × (c2 ≡ c) × (d2 ≡ d) };
 
-    ghost passes = { λ _ _ c _. 2 ^ 64 ≤ c + 1 };
+    ghost out_of_range = { λ _ _ c _. 2 ^ 64 ≤ c + 1 };
 
     fn change(self, records: &mut R, cfg: &mut usize, _: &mut D) -> Result<(), TableError> {
         CellOption::change(&self, records, cfg, Entity::Global)

@@ -40,7 +40,7 @@ impl<R, C, D> TableOption<R, C, D> for Hints {
 
     ghost refuses = { λ _ _ _ _ _ _ _ _. ⊤ };
 
-    ghost passes = { λ _ _ _ _. ⊤ };
+    ghost out_of_range = { λ _ _ _ _. ⊤ };
 
     ghost hint = { λ option. option.entity };
 
@@ -132,7 +132,7 @@ impl<D> TableOption<VecRecords<Text<String>>, ColoredConfig, D> for Broken {
 
     ghost refuses = { λ _ _ _ _ _ _ _ _. ⊤ };
 
-    ghost passes = { λ _ _ _ _. ⊤ };
+    ghost out_of_range = { λ _ _ _ _. ⊤ };
 
     ghost hint = { λ _. None };
 

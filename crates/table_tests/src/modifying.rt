@@ -25,7 +25,7 @@ impl CellOption<VecRecords<Text<String>>, ColoredConfig> for Joins {
 
     ghost refuses = { λ _ _ _ _ _ _ _. ⊤ };
 
-    ghost passes = { λ _ _ _ _. ⊤ };
+    ghost out_of_range = { λ _ _ _ _. ⊤ };
 
     fn change(
         &self,

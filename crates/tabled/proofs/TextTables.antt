@@ -13,7 +13,7 @@ use Rattle.tabled_size.specs.Sheet.{is_empty}
 use Rattle.tabled_size.specs.Totals.{total_height, total_width}
 use Rattle.tabled_grid.specs.Picture.{picture}
 use Rattle.tabled_size.specs.PlainCells.{ArePlain}
-use Rattle.tabled_grid.specs.PlainSheet.{EachLineTakes}
+use Rattle.tabled_row.specs.Plain.{EachLineTakes}
 use Rattle.tabled_table.specs.TableSheet.{new_sheet}
 use Rattle.tabled_table.proofs.NewTables.{new_columns, new_height, new_lines}
 use Rattle.tabled.specs.Output.{output_text, printed}

@@ -5,9 +5,9 @@ ghost use Rattle.tabled_base.specs.TextRows.{text_rows};
 ghost use Rattle.tabled_size.specs.Totals.{total_height, total_width};
 ghost use Rattle.tabled_grid.specs.Picture.{picture};
 ghost use Rattle.tabled_size.specs.PlainCells.{ArePlain};
-ghost use Rattle.tabled_grid.specs.PlainSheet.{EachLineTakes};
+ghost use Rattle.tabled_row.specs.Plain.{EachLineTakes};
 ghost use Rattle.tabled_grid.specs.Printed.{Prints};
-ghost use Rattle.tabled_grid.specs.Sent.{Sent};
+ghost use Rattle.tabled_row.specs.Sent.{Sent};
 ghost use Rattle.tabled_table.specs.TableSheet.{new_sheet};
 
 use crate::plan::Plan;

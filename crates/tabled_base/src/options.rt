@@ -17,7 +17,7 @@ pub trait TableOption<R, C, D> {
     ghost refuses: { Self → TableError → R → C → D → R → C → D → Type 0 } = { λ _ _ _ _ _ _ _ _. ⊥ };
 
     // Holds where a sum or product of the change passes the greatest `usize`: none does where nothing else is said.
-    ghost passes: { Self → R → C → D → Type 0 } = { λ _ _ _ _. ⊥ };
+    ghost out_of_range: { Self → R → C → D → Type 0 } = { λ _ _ _ _. ⊥ };
 
     // What a caller may rely on after a change, of the same parts: nothing where nothing else is said.
     ghost promises: { Self → R → C → D → R → C → D → Type 0 } = { λ _ _ _ _ _ _ _. Unit {0} };
@@ -35,7 +35,7 @@ pub trait TableOption<R, C, D> {
         ensures err { IfErr result (λ e. refuses self e
             records.old cfg.old dims.old records.new cfg.new dims.new) }
         ensures only { IfErr result (λ e. (e ≡ Memory) ⊎ (e ≡ Range)) }
-        ensures range { IfErr result (λ e. e ≡ Range → passes self
+        ensures range { IfErr result (λ e. e ≡ Range → out_of_range self
             records.old cfg.old dims.old) };
 
     /// What the change leaves to be measured anew: the sizes of an entity, or nothing.
@@ -53,7 +53,7 @@ pub trait CellOption<R, C> {
     ghost refuses: { Self → TableError → R → C → Entity → R → C → Type 0 } = { λ _ _ _ _ _ _ _. ⊥ };
 
     // Holds where a sum or product of the change passes the greatest `usize`: none does where nothing else is said.
-    ghost passes: { Self → R → C → Entity → Type 0 } = { λ _ _ _ _. ⊥ };
+    ghost out_of_range: { Self → R → C → Entity → Type 0 } = { λ _ _ _ _. ⊥ };
 
     // What the change leaves to be measured anew: the whole table where nothing else is said.
     ghost hint: { Self → Option Entity } = { λ _. Some Global };
@@ -67,7 +67,7 @@ pub trait CellOption<R, C> {
             records.old cfg.old entity records.new cfg.new) }
         ensures only { IfErr result (λ e. (e ≡ Memory) ⊎ (e ≡ Range)) }
         ensures range { IfErr result (λ e. e ≡ Range
-            → passes self.now records.old cfg.old entity) };
+            → out_of_range self.now records.old cfg.old entity) };
 
     /// What the change leaves to be measured anew: the sizes of an entity, or nothing.
     fn hint_change(&self) -> Option<Entity>

@@ -10,7 +10,7 @@ use Rattle.tabled_size.specs.Estimates.{IsTooHigh, IsTooWide, column_width, esti
 use Rattle.tabled_size.specs.Sheet.{estimated, is_empty}
 use Rattle.tabled_size.proofs.Passing.{too_high_passes, too_wide_passes, width_at, width_ge}
 use Rattle.tabled_size.specs.Holds.{Holds, IsSized}
-use Rattle.tabled_grid.specs.Printed.{IsRefused, PassesRange}
+use Rattle.tabled_grid.specs.Printed.{IsRefused, IsOutOfRange}
 
 -- the estimated sizes reach to the last column and the last row
 pub sized_estimated : (cells : List (List (List ℕ))) (config : SpannedConfig) → IsSized (estimated cells config)
@@ -25,7 +25,7 @@ pub holds_estimated : (cells : List (List (List ℕ))) (config : SpannedConfig) 
 holds_estimated cells config row column r c = rw (width_at cells config column c) (width_ge cells config row column r)
 
 -- so that a table with them is refused for the range alone
-pub refused_estimated : (cells : List (List (List ℕ))) (config : SpannedConfig) (e : TableError) → IsRefused (estimated cells config) e → (e ≡ Range) × PassesRange (estimated cells config)
+pub refused_estimated : (cells : List (List (List ℕ))) (config : SpannedConfig) (e : TableError) → IsRefused (estimated cells config) e → (e ≡ Range) × IsOutOfRange (estimated cells config)
 refused_estimated cells config Memory h = absurd h
 refused_estimated cells config Writer h = absurd h
 refused_estimated cells config ShortWidths h = let sized = (sized_estimated cells config).columns in absurd (omega arith)
@@ -38,11 +38,11 @@ refused_estimated cells config (Narrow row column) h =
 refused_estimated cells config Range h = (refl, h.2)
 
 -- a cell that needs more columns than a number can say makes the total width pass
-pub passes_too_wide : (cells : List (List (List ℕ))) (config : SpannedConfig) → IsTooWide cells config → PassesRange (estimated cells config)
+pub passes_too_wide : (cells : List (List (List ℕ))) (config : SpannedConfig) → IsTooWide cells config → IsOutOfRange (estimated cells config)
 passes_too_wide cells config h = inl (too_wide_passes cells config h)
 
 -- a cell that needs more lines than a number can say makes the total height pass
-pub passes_too_high : (cells : List (List (List ℕ))) (config : SpannedConfig) → IsTooHigh cells config → PassesRange (estimated cells config)
+pub passes_too_high : (cells : List (List (List ℕ))) (config : SpannedConfig) → IsTooHigh cells config → IsOutOfRange (estimated cells config)
 passes_too_high cells config h = inr (too_high_passes cells config h)
 
 some_of_both : (row column m n : ℕ) → row < m → column < n → ((m == 0) || (n == 0)) ≡ false

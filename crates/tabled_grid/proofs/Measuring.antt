@@ -19,14 +19,16 @@ use Rattle.tabled_config.specs.Settings.{frame, style_at}
 use Rattle.tabled_size.specs.Sheet.{Sheet}
 use Rattle.tabled_priority.specs.Sums.{one_if, sum_below}
 use Rattle.tabled_size.specs.Totals.{filled_width}
-use Rattle.tabled_grid.specs.Block.{before_text, text_room, columns_before, cell_line, block, fill_above}
-use Rattle.tabled_grid.specs.Fill.{fill}
+use Rattle.tabled_row.specs.Block.{before_text, text_room, columns_before, cell_line, block, fill_above}
 use Rattle.tabled_size.specs.Holds.{Holds}
-use Rattle.tabled_grid.specs.Picture.{piece, cell_piece, rule_piece, left_edge, right_edge, row_line, rule_line}
+use Rattle.tabled_row.specs.Row.{piece, cell_piece, rule_piece, left_edge, right_edge, row_line, rule_line}
+use Rattle.tabled_grid.specs.Picture.{columns_of, row_of}
 use Rattle.tabled_size.specs.PlainCells.{ArePlain}
-use Rattle.tabled_grid.specs.PlainSheet.{IsPlainRule, IsPlainStyle, IsPlainConfig}
-use Rattle.tabled_grid.proofs.Blocks.{block-above, block-text, block-below}
-use Rattle.tabled_grid.proofs.Each.{each-more}
+use Rattle.tabled_row.specs.Plain.{IsPlainRule, IsPlainStyle}
+use Rattle.tabled_grid.specs.PlainSheet.{IsPlainConfig}
+use Rattle.tabled_row.proofs.Blocks.{block-above, block-text, block-below}
+use Rattle.tabled_row.proofs.Each.{each-more}
+use Rattle.tabled_row.proofs.Plains.{plain-fill}
 
 -- what the columns of a picture rest on
 pub record IsPlainSheet (t : Sheet) : Type 0 where
@@ -41,10 +43,6 @@ plain-cell t row column p r c =
     p.texts row [] r column [] (omega arith)
 
 -- ---- pieces joined
-
-pub plain-fill : (c n : ℕ) → IsPlainColumn c → IsPlainLine (fill c n) n
-plain-fill c zero h = plain_line-nil
-plain-fill c (suc n) h = plain_line-as (plain_line-append (plain_line-one c h) (plain-fill c n h)) (omega arith)
 
 plain-piece : (there : Bool) (c : ℕ) → IsPlainColumn c → IsPlainLine (piece there c) (one_if there)
 plain-piece true c h = plain_line-one c h
@@ -137,21 +135,21 @@ bar-sum r w (suc (suc n)) =
     (rw f at (bar-sum r w (suc n)))
     (ap one_if (later-bar n r.inner.there)))
 
-plain-cells : (t : Sheet) (row index : ℕ) → IsPlainSheet t → row < length t.cells → index < slice_index t.heights row → IsPlainLine (flat_map (cell_piece t row index) (range_with_len 0 (columns t.cells))) (sum_below (slice_index t.widths) (columns t.cells) + (columns t.cells - 1) * one_if (frame t.config).inner.there)
+plain-cells : (t : Sheet) (row index : ℕ) → IsPlainSheet t → row < length t.cells → index < slice_index t.heights row → IsPlainLine (flat_map (cell_piece (row_of t row) index) (range_with_len 0 (columns t.cells))) (sum_below (slice_index t.widths) (columns t.cells) + (columns t.cells - 1) * one_if (frame t.config).inner.there)
 unfolding cell_piece
 plain-cells t row index p l m =
     plain_line-as
-    (plain-each (cell_piece t row index) (λ i. one_if (has_bar (frame t.config) i) + slice_index t.widths i) (columns t.cells)
+    (plain-each (cell_piece (row_of t row) index) (λ i. one_if (has_bar (frame t.config) i) + slice_index t.widths i) (columns t.cells)
     (λ i k. plain_line-append (plain-piece (has_bar (frame t.config) i) (frame t.config).inner.main p.config.frame.vertical)
     (plain-block (style_at t.config row i) (slice_index t.widths i) (slice_index t.heights row) index (cell_at t.cells row i)
     (record { style = p.config.styles row i l k; plain = plain-cell t row i p l k; fits = p.holds row i l k }) m)))
     (bar-sum (frame t.config) (slice_index t.widths) (columns t.cells))
 
-plain-rules : (t : Sheet) (line : HorizontalLine) → IsPlainRule line → IsPlainLine (flat_map (rule_piece t line) (range_with_len 0 (columns t.cells))) (sum_below (slice_index t.widths) (columns t.cells) + (columns t.cells - 1) * one_if (frame t.config).inner.there)
+plain-rules : (t : Sheet) (line : HorizontalLine) → IsPlainRule line → IsPlainLine (flat_map (rule_piece (columns_of t) line) (range_with_len 0 (columns t.cells))) (sum_below (slice_index t.widths) (columns t.cells) + (columns t.cells - 1) * one_if (frame t.config).inner.there)
 unfolding rule_piece
 plain-rules t line q =
     plain_line-as
-    (plain-each (rule_piece t line) (λ i. one_if (has_bar (frame t.config) i) + slice_index t.widths i) (columns t.cells)
+    (plain-each (rule_piece (columns_of t) line) (λ i. one_if (has_bar (frame t.config) i) + slice_index t.widths i) (columns t.cells)
     (λ i k. plain_line-append (plain-piece (has_bar (frame t.config) i) (unwrap_or line.intersection 32) q.intersection) (plain-fill (unwrap_or line.main 32) (slice_index t.widths i) q.main)))
     (bar-sum (frame t.config) (slice_index t.widths) (columns t.cells))
 
@@ -163,7 +161,7 @@ plain-right : (f : Frame) (c : ℕ) → IsPlainColumn f.margin.right.fill → Is
 unfolding right_edge
 plain-right f c p q = plain_line-append (plain-piece f.right.there c q) (plain-fill f.margin.right.fill f.margin.right.size p)
 
-pub plain-row_line : (t : Sheet) (row index : ℕ) → IsPlainSheet t → row < length t.cells → index < slice_index t.heights row → IsPlainLine (row_line t row index) (filled_width t.config (columns t.cells) t.widths)
+pub plain-row_line : (t : Sheet) (row index : ℕ) → IsPlainSheet t → row < length t.cells → index < slice_index t.heights row → IsPlainLine (row_line (row_of t row) index) (filled_width t.config (columns t.cells) t.widths)
 unfolding row_line filled_width
 plain-row_line t row index p l m =
     let f = frame t.config in
@@ -171,7 +169,7 @@ plain-row_line t row index p l m =
     plain_line-append (plain-left f f.left.main q.margin_left q.left)
     (plain_line-append (plain-cells t row index p l m) (plain-right f f.right.main q.margin_right q.right))
 
-pub plain-rule_line : (t : Sheet) (line : HorizontalLine) → IsPlainSheet t → IsPlainRule line → IsPlainLine (rule_line t line) (filled_width t.config (columns t.cells) t.widths)
+pub plain-rule_line : (t : Sheet) (line : HorizontalLine) → IsPlainSheet t → IsPlainRule line → IsPlainLine (rule_line (columns_of t) line) (filled_width t.config (columns t.cells) t.widths)
 unfolding rule_line filled_width
 plain-rule_line t line p q =
     let f = frame t.config in

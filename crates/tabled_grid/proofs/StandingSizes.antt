@@ -10,8 +10,8 @@ use Rattle.tabled_size.specs.Estimates.{estimated_heights, estimated_widths}
 use Rattle.tabled_size.specs.FilledIn.{HasNoEstimate, IsFilledIn}
 use Rattle.tabled_size.specs.Reached.{reached}
 use Rattle.tabled_size.specs.Sheet.{Sheet, is_empty}
-use Rattle.tabled_size.specs.Standing.{stored_at}
-use Rattle.tabled_size.specs.StandingSheet.{standing, standing_sizes}
+use Rattle.tabled_size.specs.Entries.{stored_at}
+use Rattle.tabled_size.specs.Standing.{standing, standing_sizes}
 use Rattle.tabled_size.specs.Stored.{heights_of, widths_of}
 use Rattle.tabled_size.specs.Totals.{filled_height, filled_width}
 use Rattle.tabled_size.proofs.Passing.{too_high_passes, too_wide_passes}
@@ -20,8 +20,8 @@ use Rattle.tabled_size.proofs.Totalling.{heights_length, reached_stands, widths_
 use Rattle.tabled_grid.specs.Grid.{sheet_by}
 use Rattle.tabled_size.specs.Holds.{Holds, IsSized}
 use Rattle.tabled_grid.specs.Narrow.{IsNarrow}
-use Rattle.tabled_grid.specs.Printed.{IsRefused, PassesRange, Prints}
-use Rattle.tabled_grid.specs.Sent.{Sent}
+use Rattle.tabled_grid.specs.Printed.{IsRefused, IsOutOfRange, Prints}
+use Rattle.tabled_row.specs.Sent.{Sent}
 use Rattle.tabled_grid.proofs.EstimatedSizes.{holds_estimated}
 use Rattle.tabled_grid.proofs.Printing.{refused_so}
 
@@ -128,7 +128,7 @@ module _ (cells : List (List (List ℕ))) (config : SpannedConfig) where
       subst (λ ws. Holds (sized_by cells config ws (standing cells config sizes).heights)) (ap stands (sym s)) (holds_estimated cells config)
 
   -- a size that can't be estimated makes a total pass
-  pub passes_standing : (sizes : CompleteDimension) → HasNoEstimate sizes cells config → PassesRange (standing cells config sizes)
+  pub passes_standing : (sizes : CompleteDimension) → HasNoEstimate sizes cells config → IsOutOfRange (standing cells config sizes)
   passes_standing sizes cause =
       ⊎_elim
       (λ w. inl (subst (λ o. 2 ^ 64 ≤ filled_width config (columns cells) (standing_sizes o (estimated_widths cells config) (columns cells))) (sym w.0) (too_wide_passes cells config w.1)))

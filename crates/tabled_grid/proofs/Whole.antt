@@ -10,13 +10,16 @@ use Rattle.tabled_config.specs.Settings.{rule_at}
 use Rattle.tabled_size.specs.Sheet.{Sheet, is_empty}
 use Rattle.tabled_priority.specs.Sums.{sum_below, one_if}
 use Rattle.tabled_size.specs.Totals.{filled_width, filled_height, total_width, total_height, rules_at, part_height}
-use Rattle.tabled_grid.specs.Fill.{fill}
+use Rattle.tabled_row.specs.Fill.{fill}
 use Rattle.tabled_size.specs.Holds.{Holds}
-use Rattle.tabled_grid.specs.Picture.{row_line, row_lines, rule, rule_if, row_part, filled_picture, picture}
+use Rattle.tabled_row.specs.Row.{row_line, row_lines, rule_if}
+use Rattle.tabled_grid.specs.Picture.{columns_of, filled_picture, picture, row_of, row_part, rule}
 use Rattle.tabled_size.specs.PlainCells.{ArePlain}
-use Rattle.tabled_grid.specs.PlainSheet.{EachLineTakes, IsPlainConfig}
-use Rattle.tabled_grid.proofs.Each.{each-more, map-more}
-use Rattle.tabled_grid.proofs.Measuring.{IsPlainSheet, plain-fill, plain-row_line, plain-rule_line}
+use Rattle.tabled_row.specs.Plain.{EachLineTakes}
+use Rattle.tabled_grid.specs.PlainSheet.{IsPlainConfig}
+use Rattle.tabled_row.proofs.Each.{each-more, map-more}
+use Rattle.tabled_row.proofs.Plains.{plain-fill}
+use Rattle.tabled_grid.proofs.Measuring.{IsPlainSheet, plain-row_line, plain-rule_line}
 
 -- each line is plain and takes n columns
 abbrev EachPlain : ℕ → List (List ℕ) → Type 0
@@ -52,7 +55,7 @@ each-takes n [] h k d l = absurd (omega arith)
 each-takes n (x ∷ xs) h zero d l = h.0.columns
 each-takes n (x ∷ xs) h (suc k) d l = each-takes n xs h.1 k d (omega arith)
 
-each-rule_if : (t : Sheet) (o : Option HorizontalLine) (i : ℕ) → IsPlainSheet t → i ≤ length t.cells → rule_at t.config (length t.cells) i ≡ o → EachPlain (filled_width t.config (columns t.cells) t.widths) (rule_if t o)
+each-rule_if : (t : Sheet) (o : Option HorizontalLine) (i : ℕ) → IsPlainSheet t → i ≤ length t.cells → rule_at t.config (length t.cells) i ≡ o → EachPlain (filled_width t.config (columns t.cells) t.widths) (rule_if (columns_of t) o)
 each-rule_if t None i p b e = tt
 each-rule_if t (Some l) i p b e = (plain-rule_line t l p (p.config.rules i b l e), tt)
 
@@ -64,8 +67,8 @@ each-row : (t : Sheet) (row : ℕ) → IsPlainSheet t → row < length t.cells �
 unfolding row_part row_lines
 each-row t row p l =
     let n = filled_width t.config (columns t.cells) t.widths in
-    each-append n (rule t row) (map (row_line t row) (range_with_len 0 (slice_index t.heights row))) (each-rule t row p (omega arith))
-    (each-mapped n (row_line t row) (slice_index t.heights row) (λ i m. plain-row_line t row i p l m))
+    each-append n (rule t row) (map (row_line (row_of t row)) (range_with_len 0 (slice_index t.heights row))) (each-rule t row p (omega arith))
+    (each-mapped n (row_line (row_of t row)) (slice_index t.heights row) (λ i m. plain-row_line t row i p l m))
 
 each-filled : (t : Sheet) → IsPlainSheet t → EachPlain (filled_width t.config (columns t.cells) t.widths) (filled_picture t (filled_width t.config (columns t.cells) t.widths))
 unfolding filled_picture
@@ -92,7 +95,7 @@ picture_columns t config texts rectangular holds =
 
 -- ---- how many lines
 
-length-rule_if : (t : Sheet) (o : Option HorizontalLine) → length (rule_if t o) ≡ one_if (is_some o)
+length-rule_if : (t : Sheet) (o : Option HorizontalLine) → length (rule_if (columns_of t) o) ≡ one_if (is_some o)
 length-rule_if t None = refl
 length-rule_if t (Some l) = refl
 
@@ -103,10 +106,10 @@ length-rule t i = length-rule_if t (rule_at t.config (length t.cells) i)
 length-row : (t : Sheet) (row : ℕ) → length (row_part t row) ≡ part_height t.config (length t.cells) t.heights row
 unfolding row_part row_lines part_height
 length-row t row =
-    let lines = map (row_line t row) (range_with_len 0 (slice_index t.heights row)) in
+    let lines = map (row_line (row_of t row)) (range_with_len 0 (slice_index t.heights row)) in
     length-append (rule t row) lines
     ∙ ap (λ n. n + length lines) (length-rule t row)
-    ∙ ap (λ n. rules_at t.config (length t.cells) row + n) (length-map-range_with_len (row_line t row) 0 (slice_index t.heights row))
+    ∙ ap (λ n. rules_at t.config (length t.cells) row + n) (length-map-range_with_len (row_line (row_of t row)) 0 (slice_index t.heights row))
 
 length-flat : (f : ℕ → List (List ℕ)) (w : ℕ → ℕ) (n : ℕ) → ((i : ℕ) → length (f i) ≡ w i) → length (flat_map f (range_with_len 0 n)) ≡ sum_below w n
 length-flat f w zero h = refl

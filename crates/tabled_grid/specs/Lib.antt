@@ -1,11 +1,5 @@
-pub mod Block
-pub mod Fill
 pub mod Grid
-pub mod Kept
-pub mod Leading
-pub mod Marks
 pub mod Narrow
 pub mod Picture
 pub mod PlainSheet
 pub mod Printed
-pub mod Sent

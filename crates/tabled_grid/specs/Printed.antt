@@ -8,7 +8,7 @@ use Rattle.tabled_size.specs.Totals.{filled_height, filled_width}
 use Rattle.tabled_size.specs.Holds.{Holds, IsSized}
 use Rattle.tabled_grid.specs.Narrow.{IsFirstNarrow}
 use Rattle.tabled_grid.specs.Picture.{table_text}
-use Rattle.tabled_grid.specs.Sent.{Sent, Sends, Stops}
+use Rattle.tabled_row.specs.Sent.{Sent, Sends, Stops}
 
 -- the totals are numbers that a `usize` can say
 pub record IsInRange (t : Sheet) : Type 0 where
@@ -16,8 +16,8 @@ pub record IsInRange (t : Sheet) : Type 0 where
   pub height : filled_height t.config (length t.cells) t.heights < 2 ^ 64
 
 -- a total passes the greatest `usize`
-abbrev pub PassesRange : Sheet → Type 0
-PassesRange t =
+abbrev pub IsOutOfRange : Sheet → Type 0
+IsOutOfRange t =
     (2 ^ 64 ≤ filled_width t.config (columns t.cells) t.widths) ⊎ (2 ^ 64 ≤ filled_height t.config (length t.cells) t.heights)
 
 -- why a table with a row and a column is refused: the causes in the order in which they are looked for
@@ -25,7 +25,7 @@ abbrev pub IsRefused : Sheet → TableError → Type 0
 IsRefused t ShortWidths = length t.widths < columns t.cells
 IsRefused t ShortHeights = (columns t.cells ≤ length t.widths) × (length t.heights < length t.cells)
 IsRefused t (Narrow row column) = IsSized t × IsFirstNarrow t row column
-IsRefused t Range = IsSized t × Holds t × PassesRange t
+IsRefused t Range = IsSized t × Holds t × IsOutOfRange t
 IsRefused t _ = ⊥
 
 -- nothing stands against printing the table

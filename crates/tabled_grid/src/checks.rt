@@ -3,7 +3,7 @@ ghost use Rattle.std.specs.Prelude.{◌≡◌, ◌↔◌, ℕ, ◌<◌, ◌≤�
 ghost use Rattle.tabled_base.specs.Cells.{columns};
 ghost use Rattle.tabled_base.specs.declared.error.TableError.TheVariants.{ShortHeights, ShortWidths};
 ghost use Rattle.tabled_size.specs.Reached.{reached};
-ghost use Rattle.tabled_size.specs.StandingSheet.{standing};
+ghost use Rattle.tabled_size.specs.Standing.{standing};
 ghost use Rattle.tabled_size.specs.Totals.{filled_width};
 ghost use Rattle.tabled_size.specs.Holds.{Holds, IsHeld, IsSized};
 ghost use Rattle.tabled_grid.specs.Narrow.{IsNarrow, IsNarrowIn};

@@ -7,11 +7,10 @@ ghost use Rattle.tabled_grid.specs.Grid.{sheet_by};
 ghost use Rattle.tabled_size.specs.Holds.{IsSized};
 ghost use Rattle.tabled_size.specs.Sheet.{Sheet};
 
-use crate::block::CellBlock;
-use crate::content::Content;
 use std::marker::Model;
 use tabled_base::{PeekableRecords, Position};
 use tabled_config::{Frame, HorizontalLine, SpannedConfig};
+use tabled_row::{CellBlock, Content};
 use tabled_size::Dimension;
 
 /// Records, how they are set, and their sizes. Contracts see the sheet that they make.

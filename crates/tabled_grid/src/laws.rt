@@ -6,7 +6,8 @@ ghost use Rattle.tabled_size.specs.Totals.{total_height, total_width};
 ghost use Rattle.tabled_size.specs.Holds.{Holds};
 ghost use Rattle.tabled_grid.specs.Picture.{picture};
 ghost use Rattle.tabled_size.specs.PlainCells.{ArePlain};
-ghost use Rattle.tabled_grid.specs.PlainSheet.{EachLineTakes, IsPlainConfig};
+ghost use Rattle.tabled_row.specs.Plain.{EachLineTakes};
+ghost use Rattle.tabled_grid.specs.PlainSheet.{IsPlainConfig};
 
 /// The picture of a table has as many lines as the table's total height. If the cells are plain texts
 /// that the widths hold, and borders, fills and margins are plain characters of one column, each line

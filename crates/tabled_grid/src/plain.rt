@@ -5,7 +5,8 @@ ghost use Rattle.tabled_text.specs.Plain.{IsPlain, IsPlainColumn};
 ghost use Rattle.tabled_config.specs.Settings.{rule_at, style_at};
 ghost use Rattle.tabled_config.specs.declared.borders.HorizontalLine.{HorizontalLine};
 ghost use Rattle.tabled_size.specs.PlainCells.{ArePlain};
-ghost use Rattle.tabled_grid.specs.PlainSheet.{IsPlainConfig, IsPlainFrame, IsPlainPiece, IsPlainRule, IsPlainStyle};
+ghost use Rattle.tabled_row.specs.Plain.{IsPlainFrame, IsPlainPiece, IsPlainRule, IsPlainStyle};
+ghost use Rattle.tabled_grid.specs.PlainSheet.{IsPlainConfig};
 
 use tabled_base::{PeekableRecords, Position};
 use tabled_config::{CellStyle, Frame, HorizontalLine, Indent, Sides, SpannedConfig};

@@ -3,17 +3,15 @@ ghost use Rattle.std.specs.Prelude.{◌≡◌, false};
 ghost use Rattle.tabled_size.specs.Sheet.{is_empty};
 ghost use Rattle.tabled_grid.specs.Grid.{sheet_by};
 ghost use Rattle.tabled_size.specs.Holds.{Holds, IsSized};
-ghost use Rattle.tabled_grid.specs.Marks.{AreKept};
 ghost use Rattle.tabled_grid.specs.Printed.{Prints};
-ghost use Rattle.tabled_grid.specs.Sent.{Sent};
+ghost use Rattle.tabled_row.specs.Sent.{Sent};
 
 use crate::checks::{check_narrow, check_sizes, check_totals};
 use crate::grid::Grid;
-use crate::marks::Marks;
 use crate::picture::put_picture;
-use crate::text_sink::TextSink;
 use tabled_base::{PeekableRecords, TableError};
 use tabled_config::SpannedConfig;
+use tabled_row::{Marks, TextSink};
 use tabled_size::{Dimension, is_empty};
 
 /// Prints a table whose sizes hold its cells. Refused, before the first byte, where a total passes the
@@ -27,7 +25,6 @@ pub(crate) fn print_held<'a, R: PeekableRecords, D: Dimension, S: TextSink>(
     requires filled { is_empty grid.now.cells ≡ false }
     requires sized { IsSized grid.now }
     requires holds { Holds grid.now }
-    requires marked { AreKept grid.now.cells marks }
     ensures { Prints false grid.now (S.sent sink.old) result (S.sent sink.new) }
 {
     let whole = check_totals(grid)?;

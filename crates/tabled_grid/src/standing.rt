@@ -2,20 +2,19 @@
 ghost use Rattle.std.specs.Prelude.{◌≡◌, ◌⊎◌, IfErr, false, not, true};
 ghost use Rattle.tabled_base.specs.declared.error.TableError.TheVariants.{Memory, Range, Writer};
 ghost use Rattle.tabled_size.specs.Sheet.{estimated, is_empty};
-ghost use Rattle.tabled_size.specs.StandingSheet.{standing};
+ghost use Rattle.tabled_size.specs.Standing.{standing};
 ghost use Rattle.tabled_size.specs.Stored.{is_stored};
 ghost use Rattle.tabled_size.specs.Holds.{Holds, IsSized};
 ghost use Rattle.tabled_grid.specs.Printed.{Prints};
-ghost use Rattle.tabled_grid.specs.Sent.{Sent};
+ghost use Rattle.tabled_row.specs.Sent.{Sent};
 
 use crate::checks::check_stored;
 use crate::grid::Grid;
-use crate::marks::Marks;
 use crate::print::print_held;
-use crate::text_sink::TextSink;
 use std::alloc::Global;
 use tabled_base::{PeekableRecords, TableError};
 use tabled_config::SpannedConfig;
+use tabled_row::{Marks, TextSink};
 use tabled_size::{CompleteDimension, Estimate, is_empty};
 
 /// Prints records under a configuration, with the sizes that are stored, and with those that the texts

@@ -37,8 +37,8 @@ use Rattle.std.proofs.lemmas.Bool.Decides.{nat_tests}
 use Rattle.tabled_text.specs.Measure.{line_columns}
 use Rattle.std.proofs.lemmas.List.FromFn.{length-map-range_with_len, get_or-map-range_with_len}
 use Rattle.tabled_text.specs.Plain.{IsPlainLine, IsPlainColumn}
-use Rattle.tabled_grid.specs.PlainSheet.{EachLineTakes}
-use Rattle.tabled_grid.proofs.Each.{each-more}
+use Rattle.tabled_row.specs.Plain.{EachLineTakes}
+use Rattle.tabled_row.proofs.Each.{each-more}
 use Rattle.tabled_text.proofs.PlainLines.{plain_line-nil, plain_line-append, plain_line-as, plain_line-one}
 use Rattle.tabled_boxes.specs.declared.pieces.Rectangle.{Rectangle}
 use Rattle.tabled_boxes.specs.declared.pieces.Kind.{Kind}

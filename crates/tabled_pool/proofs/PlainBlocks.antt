@@ -30,10 +30,10 @@ use Rattle.tabled_text.proofs.PlainLines.{plain_line-append, plain_line-as, plai
 use Rattle.tabled_config.specs.declared.alignment.AlignmentHorizontal.{AlignmentHorizontal}
 use Rattle.tabled_config.specs.declared.alignment.AlignmentHorizontal.TheVariants as horizontal
 use Rattle.tabled_config.specs.declared.spanned.CellStyle.{CellStyle}
-use Rattle.tabled_grid.specs.Block.{before_text, text_room, columns_before, cell_line}
-use Rattle.tabled_grid.specs.PlainSheet.{IsPlainStyle}
-use Rattle.tabled_grid.specs.Fill.{fill}
-use Rattle.tabled_grid.proofs.Measuring.{plain-fill}
+use Rattle.tabled_row.specs.Block.{before_text, text_room, columns_before, cell_line}
+use Rattle.tabled_row.specs.Plain.{IsPlainStyle}
+use Rattle.tabled_row.specs.Fill.{fill}
+use Rattle.tabled_row.proofs.Plains.{plain-fill}
 use Rattle.tabled_pool.specs.Block.{lines_above, line_below, pool_block}
 use Rattle.tabled_pool.proofs.PoolBlocks.{block-above, block-top, block-text, block-past, block-below}
 

@@ -33,7 +33,7 @@ use Rattle.std.proofs.Common.{
 }
 use Rattle.tabled_config.specs.declared.borders.Borders.{Borders}
 use Rattle.tabled_text.specs.Plain.{IsPlain, IsPlainLine, IsPlainColumn}
-use Rattle.tabled_grid.specs.PlainSheet.{IsPlainPiece, IsPlainStyle}
+use Rattle.tabled_row.specs.Plain.{IsPlainPiece, IsPlainStyle}
 use Rattle.tabled_text.proofs.PlainLines.{plain_column-space}
 use Rattle.tabled_config.specs.Frame.{has_right}
 use Rattle.tabled_pool.specs.Frames.{has_bottom}

@@ -34,8 +34,8 @@ use Rattle.std.proofs.lemmas.Bool.{cases_lt}
 use Rattle.std.proofs.lemmas.Bool.Decides.{nat_tests}
 use Rattle.tabled_config.specs.declared.spanned.CellStyle.{CellStyle}
 use Rattle.tabled_text.specs.Measure.{lines_of}
-use Rattle.tabled_grid.specs.Fill.{fill}
-use Rattle.tabled_grid.specs.Block.{cell_line, free_lines, above_text}
+use Rattle.tabled_row.specs.Fill.{fill}
+use Rattle.tabled_row.specs.Block.{cell_line, free_lines, above_text}
 use Rattle.tabled_pool.specs.Block.{lines_above, line_below, pool_block}
 
 past_from_none : {X : Type 0} (xs : List X) (k : ℕ) → None ≡ slice_get xs k → length xs ≤ k

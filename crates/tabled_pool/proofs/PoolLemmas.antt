@@ -5,7 +5,7 @@ use Rattle.tabled_config.specs.declared.borders.Borders.{Borders}
 use Rattle.tabled_config.specs.declared.sides.Indent.{Indent}
 use Rattle.tabled_config.specs.declared.sides.Sides.{Sides}
 use Rattle.tabled_config.specs.declared.spanned.CellStyle.{CellStyle}
-use Rattle.tabled_grid.specs.PlainSheet.{EachLineTakes}
+use Rattle.tabled_row.specs.Plain.{EachLineTakes}
 use Rattle.tabled_boxes.specs.Boxes.{Part, box_of}
 use Rattle.tabled_boxes.proofs.Framing.{tree_framed_tiles, tree_framed_fits}
 use Rattle.tabled_pool.specs.declared.pool_table.PoolTable.{PoolTable}

@@ -32,7 +32,7 @@ use Rattle.std.proofs.Common.{
 }
 use Rattle.std.specs.List.{flat_map, range_with_len}
 use Rattle.tabled_text.specs.Plain.{IsPlainLine}
-use Rattle.tabled_grid.proofs.Each.{each-rest}
+use Rattle.tabled_row.proofs.Each.{each-rest}
 use Rattle.tabled_boxes.specs.declared.pieces.Kind.{Kind}
 use Rattle.tabled_boxes.specs.declared.pieces.Kind.TheVariants.{Leaf, Bar, Rule}
 use Rattle.tabled_boxes.specs.Boxes.{Part}

@@ -14,6 +14,6 @@ pub record IsApplied (changes : NoRecords → CompactMultilineConfig → PoolTab
   pub value : new.value ≡ old.value
 
 -- a sum or product of an option passes the range
-pub record IsPassed (passes : NoRecords → CompactMultilineConfig → PoolTableDimension → Type 0) (old : PoolTable) : Type 0 where
+pub record WasOutOfRange (out_of_range : NoRecords → CompactMultilineConfig → PoolTableDimension → Type 0) (old : PoolTable) : Type 0 where
   pub before : NoRecords
-  pub passed : passes before old.config old.dimension
+  pub passed : out_of_range before old.config old.dimension

@@ -2,8 +2,8 @@
 use Rattle.std.specs.Prelude.{ℕ, ◌-◌, ltb, if◌then◌else◌, List, ◌++◌, map, replicate}
 use Rattle.tabled_text.specs.Measure.{lines_of}
 use Rattle.tabled_config.specs.declared.spanned.CellStyle.{CellStyle}
-use Rattle.tabled_grid.specs.Block.{above_text, free_lines, cell_line}
-use Rattle.tabled_grid.specs.Fill.{fill}
+use Rattle.tabled_row.specs.Block.{above_text, free_lines, cell_line}
+use Rattle.tabled_row.specs.Fill.{fill}
 
 -- the lines above the text that alignment adds
 abbrev pub lines_above : CellStyle → ℕ → List ℕ → ℕ

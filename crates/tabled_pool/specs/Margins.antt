@@ -2,7 +2,7 @@
 use Rattle.std.specs.Prelude.{ℕ, List, ◌++◌, map, replicate}
 use Rattle.tabled_config.specs.declared.sides.Indent.{Indent}
 use Rattle.tabled_config.specs.declared.sides.Sides.{Sides}
-use Rattle.tabled_grid.specs.Fill.{fill, indent}
+use Rattle.tabled_row.specs.Fill.{fill, indent}
 
 -- a line between the side margins
 abbrev pub within_margin : Sides Indent → List ℕ → List ℕ

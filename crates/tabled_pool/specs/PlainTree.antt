@@ -2,7 +2,7 @@
 use Rattle.std.specs.Prelude.{◌≡◌, ℕ, Option, Some}
 use Rattle.tabled_text.specs.Plain.{IsPlain}
 use Rattle.tabled_config.specs.declared.borders.Borders.{Borders}
-use Rattle.tabled_grid.specs.PlainSheet.{IsPlainPiece, IsPlainStyle}
+use Rattle.tabled_row.specs.Plain.{IsPlainPiece, IsPlainStyle}
 use Rattle.tabled_boxes.specs.declared.gaps.Gaps.{Gaps}
 use Rattle.tabled_boxes.specs.declared.pieces.Kind.TheVariants.{Leaf}
 use Rattle.tabled_boxes.specs.Boxes.{Part}

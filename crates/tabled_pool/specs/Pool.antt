@@ -12,8 +12,8 @@ use Rattle.tabled_config.specs.declared.sides.Sides.{Sides}
 use Rattle.tabled_config.specs.declared.spanned.CellStyle.{CellStyle}
 use Rattle.tabled_config.specs.Compact.{each_side, no_indent}
 use Rattle.tabled_config.specs.Frame.{has_left, has_right}
-use Rattle.tabled_grid.specs.PlainSheet.{IsPlainStyle}
-use Rattle.tabled_grid.specs.Sent.{Sent, Sends, Stops}
+use Rattle.tabled_row.specs.Plain.{IsPlainStyle}
+use Rattle.tabled_row.specs.Sent.{Sent, Sends, Stops}
 use Rattle.tabled_boxes.specs.declared.gaps.Gaps.{Gaps}
 use Rattle.tabled_boxes.specs.declared.pieces.Kind.TheVariants.{Leaf}
 use Rattle.tabled_boxes.specs.declared.pieces.Rectangle.{Rectangle}
@@ -100,8 +100,8 @@ pub record IsInRange (t : PoolTable) : Type 0 where
   pub height : total_height t < 2 ^ 64
 
 -- a total passes the greatest `usize`
-abbrev pub PassesRange : PoolTable → Type 0
-PassesRange t = (2 ^ 64 ≤ total_width t) ⊎ (2 ^ 64 ≤ total_height t)
+abbrev pub IsOutOfRange : PoolTable → Type 0
+IsOutOfRange t = (2 ^ 64 ≤ total_width t) ⊎ (2 ^ 64 ≤ total_height t)
 
 -- what a call that prints a pool table leaves: on Ok its text was added; it is refused before the first byte where a total
 -- passes the range, or for want of memory; else the sink refused, with a beginning of the text added
@@ -109,7 +109,7 @@ abbrev pub WritesPool : {T : Type 0} → PoolTable → Sent → Result T TableEr
 WritesPool t old (Ok _) new = IsInRange t × Sends old new (pool_text t)
 WritesPool t old (Err e) new =
     ((e ≡ Memory) × (new ≡ old))
-    ⊎ (((e ≡ Range) × PassesRange t × (new ≡ old)) ⊎ (IsInRange t × Stops old e new (pool_text t)))
+    ⊎ (((e ≡ Range) × IsOutOfRange t × (new ≡ old)) ⊎ (IsInRange t × Stops old e new (pool_text t)))
 
 -- the texts are plain, and lines, fills and margins are plain characters of one column
 pub record IsPlainPool (t : PoolTable) : Type 0 where

@@ -1,7 +1,7 @@
 //! Options of pool tables.
 ghost use Rattle.std.specs.Prelude.{◌≡◌, ◌⊎◌, IfErr, IfOk, OnOk};
 ghost use Rattle.tabled_base.specs.declared.error.TableError.TheVariants.{Memory, Range};
-ghost use Rattle.tabled_pool.specs.Applied.{IsApplied, IsPassed};
+ghost use Rattle.tabled_pool.specs.Applied.{IsApplied, WasOutOfRange};
 
 use crate::pool_table::PoolTable;
 use tabled_base::{Entity, TableError, TableOption};
@@ -41,7 +41,7 @@ impl PoolTable {
         ensures ok { OnOk result (IsApplied (O.changes option) self.old self.new) }
         ensures err { IfErr result (λ e. IsApplied (O.refuses option e) self.old self.new) }
         ensures only { IfErr result (λ e. (e ≡ Memory) ⊎ (e ≡ Range)) }
-        ensures range { IfErr result (λ e. e ≡ Range → IsPassed (O.passes option) self.old) }
+        ensures range { IfErr result (λ e. e ≡ Range → WasOutOfRange (O.out_of_range option) self.old) }
     {
         let mut records = NoRecords {};
         match option.change(&mut records, &mut self.config, &mut self.dimension) {
@@ -59,7 +59,7 @@ impl PoolTable {
         ensures same_reference { IfOk result (λ table. table.ghost_name ≡ self.entry.ghost_name) }
         ensures ok { IfOk result (λ table. IsApplied (O.changes option) self.old table.now) }
         ensures only { IfErr result (λ e. (e ≡ Memory) ⊎ (e ≡ Range)) }
-        ensures range { IfErr result (λ e. e ≡ Range → IsPassed (O.passes option) self.old) }
+        ensures range { IfErr result (λ e. e ≡ Range → WasOutOfRange (O.out_of_range option) self.old) }
     {
         match self.apply(option) {
             Ok(()) => Ok(self),

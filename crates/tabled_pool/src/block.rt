@@ -3,15 +3,15 @@ ghost use Rattle.std.specs.Prelude.{◌≡◌, ◌-◌, ◌<◌, ◌++◌, [], s
 ghost use Rattle.std.specs.List.{slice_index_or};
 ghost use Rattle.std.specs.Option.{option_map};
 ghost use Rattle.tabled_text.specs.Measure.{line_columns, lines_of};
-ghost use Rattle.tabled_grid.specs.Block.{above_text, before_text, cell_line, columns_before, free_lines, text_room};
-ghost use Rattle.tabled_grid.specs.Fill.{fill};
-ghost use Rattle.tabled_grid.specs.Sent.{Sent, Writes};
+ghost use Rattle.tabled_row.specs.Block.{above_text, before_text, cell_line, columns_before, free_lines, text_room};
+ghost use Rattle.tabled_row.specs.Fill.{fill};
+ghost use Rattle.tabled_row.specs.Sent.{Sent, Writes};
 ghost use Rattle.tabled_pool.specs.Block.{line_below, lines_above, pool_block};
 
 use crate::pieces::put_fill;
 use tabled_base::TableError;
 use tabled_config::{AlignmentHorizontal, AlignmentVertical, CellStyle};
-use tabled_grid::TextSink;
+use tabled_row::TextSink;
 use tabled_text::{count_lines, line_width, text_width};
 
 /// The line of a text at an index.

@@ -1,9 +1,9 @@
 //! The lines of a drawing, place by place.
 ghost use Rattle.std.specs.Prelude.{◌≡◌, ◌^◌, ◌<◌, ◌+◌, ◌-◌, map, [], ◌∷◌};
 ghost use Rattle.std.specs.List.{flat_map, range_with_len, join_with_byte};
-ghost use Rattle.tabled_grid.specs.Sent.{Sent, Writes};
-ghost use Rattle.tabled_grid.specs.Leading.{WritesLines};
-ghost use Rattle.tabled_grid.specs.PlainSheet.{EachLineTakes};
+ghost use Rattle.tabled_row.specs.Sent.{Sent, Writes};
+ghost use Rattle.tabled_row.specs.Leading.{WritesLines};
+ghost use Rattle.tabled_row.specs.Plain.{EachLineTakes};
 ghost use Rattle.tabled_pool.specs.Drawn.{border_char, leaf_line, place_text, drawn_line, drawn};
 ghost use Rattle.tabled_pool.specs.Drawable.{IsDrawable};
 ghost use Rattle.tabled_pool.specs.Tiled.{Tiled};
@@ -15,7 +15,7 @@ use crate::pieces::{put_break, put_char};
 use crate::plan::{Drawing, border_char};
 use tabled_base::TableError;
 use tabled_boxes::Kind;
-use tabled_grid::TextSink;
+use tabled_row::TextSink;
 
 /// What stands at a place: a leaf's line where it begins, one character of a line.
 #[tactic(auto, unfolding(crate::specs::Drawn::place_text, crate::specs::Drawn::leaf_line))]

@@ -1,9 +1,9 @@
 //! The lines of a drawing, with a margin around them.
 ghost use Rattle.std.specs.Prelude.{◌≡◌, ◌++◌, [], ◌∷◌, ◌<◌, ◌-◌, ◌^◌, map, replicate};
 ghost use Rattle.std.specs.List.{join_with_byte, range_with_len};
-ghost use Rattle.tabled_grid.specs.Fill.{fill};
-ghost use Rattle.tabled_grid.specs.Leading.{WritesLines};
-ghost use Rattle.tabled_grid.specs.Sent.{Sent, Writes};
+ghost use Rattle.tabled_row.specs.Fill.{fill};
+ghost use Rattle.tabled_row.specs.Leading.{WritesLines};
+ghost use Rattle.tabled_row.specs.Sent.{Sent, Writes};
 ghost use Rattle.tabled_pool.specs.Drawn.{drawn, drawn_line};
 ghost use Rattle.tabled_pool.specs.Margins.{with_margin, within_margin};
 ghost use Rattle.tabled_pool.specs.Plans.{plan_of};
@@ -13,7 +13,7 @@ use crate::pieces::{put_break, put_fill};
 use crate::plan::Drawing;
 use tabled_base::TableError;
 use tabled_config::{Indent, Sides};
-use tabled_grid::TextSink;
+use tabled_row::TextSink;
 
 /// A line of the top or bottom margin, between the side margins.
 fn put_filled_line<S: TextSink>(

@@ -1,11 +1,11 @@
 //! Single characters, runs of one, and line feeds.
 ghost use Rattle.std.specs.Prelude.{◌≡◌, true, encode_utf8};
-ghost use Rattle.tabled_grid.specs.Fill.{fill};
-ghost use Rattle.tabled_grid.specs.Leading.{break};
-ghost use Rattle.tabled_grid.specs.Sent.{Sent, Writes};
+ghost use Rattle.tabled_row.specs.Fill.{fill};
+ghost use Rattle.tabled_row.specs.Leading.{break};
+ghost use Rattle.tabled_row.specs.Sent.{Sent, Writes};
 
 use tabled_base::TableError;
-use tabled_grid::TextSink;
+use tabled_row::TextSink;
 
 pub(crate) fn put_char<S: TextSink>(sink: &mut S, c: char) -> Result<(), TableError>
     ensures { Writes (S.sent sink.old) result (S.sent sink.new) (encode_utf8 c) }

@@ -2,15 +2,15 @@
 ghost use Rattle.std.specs.Prelude.{◌≡◌, ◌⊎◌, ◌≤◌, IfErr, IfOk, MatchOption, map, [], ◌++◌, ◌<◌, ◌^◌, ◌+◌, string_bytes};
 ghost use Rattle.tabled_base.specs.declared.error.TableError.TheVariants.{Memory, Range};
 ghost use Rattle.tabled_config.specs.Styles.{ascii};
-ghost use Rattle.tabled_grid.specs.PlainSheet.{EachLineTakes};
-ghost use Rattle.tabled_grid.specs.Sent.{Sent, Writes};
+ghost use Rattle.tabled_row.specs.Plain.{EachLineTakes};
+ghost use Rattle.tabled_row.specs.Sent.{Sent, Writes};
 ghost use Rattle.tabled_boxes.specs.Shown.{shown};
 ghost use Rattle.tabled_priority.specs.Sums.{one_if};
 ghost use Rattle.tabled_pool.specs.Drawn.{drawn};
 ghost use Rattle.tabled_pool.specs.Pool.{
   IsInRange,
   IsPlainPool,
-  PassesRange,
+  IsOutOfRange,
   WritesPool,
   borders_of,
   frame_of,
@@ -34,7 +34,7 @@ use std::alloc::Global;
 use tabled_base::TableError;
 use tabled_boxes::{Gaps, Piece, Rectangle, Size, TableValue, own_size, place_tree};
 use tabled_config::{Borders, CellStyle, CompactMultilineConfig, Indent, Sides, Style};
-use tabled_grid::TextSink;
+use tabled_row::TextSink;
 use tabled_size::{DimensionPriority, PoolTableDimension};
 
 fn one_if(there: bool) -> usize
@@ -109,7 +109,7 @@ impl PoolTable {
     /// whole pass the greatest `usize`.
     pub fn to_string(&self) -> Result<String, TableError>
         ensures ok { IfOk result (λ text. string_bytes text ≡ pool_text self.now) }
-        ensures err { IfErr result (λ e. (e ≡ Memory) ⊎ ((e ≡ Range) × PassesRange self.now)) }
+        ensures err { IfErr result (λ e. (e ≡ Memory) ⊎ ((e ≡ Range) × IsOutOfRange self.now)) }
     {
         let mut text = String::new(self.value.allocator());
         self.write_to(&mut text)?;
@@ -163,7 +163,7 @@ impl PoolTable {
 
     /// The columns and lines within the margin, if the totals are in range.
     fn checked_size(&self) -> Option<Size>
-        ensures { MatchOption result (PassesRange self.now) (λ size. (size.width ≡ framed_width self.now)
+        ensures { MatchOption result (IsOutOfRange self.now) (λ size. (size.width ≡ framed_width self.now)
             × (size.height ≡ framed_height self.now) × IsInRange self.now) }
     {
         let size = self.framed_size()?;

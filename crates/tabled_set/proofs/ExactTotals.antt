@@ -15,7 +15,7 @@ use Rattle.tabled_size.specs.FilledIn.{IsFilledIn}
 use Rattle.tabled_priority.specs.Least.{HasLeastGreatest}
 use Rattle.tabled_priority.specs.Permitted.{at, IsTakenFrom}
 use Rattle.tabled_size.specs.Sheet.{Sheet, estimated, is_empty}
-use Rattle.tabled_size.specs.StandingSheet.{standing, standing_sizes}
+use Rattle.tabled_size.specs.Standing.{standing, standing_sizes}
 use Rattle.tabled_size.specs.Stored.{heights_of, widths_of}
 use Rattle.tabled_size.specs.Totals.{filled_width, total_width}
 use Rattle.tabled_size.specs.declared.complete_dimension.CompleteDimension.{CompleteDimension}

@@ -12,7 +12,7 @@ use Rattle.tabled_size.specs.Estimates.{IsTooWide, estimated_heights, estimated_
 use Rattle.tabled_size.specs.FilledIn.{HasNoEstimate, IsFilledIn}
 use Rattle.tabled_priority.specs.Permitted.{FitsMinimums}
 use Rattle.tabled_size.specs.Sheet.{Sheet, is_empty}
-use Rattle.tabled_size.specs.StandingSheet.{standing, standing_sizes}
+use Rattle.tabled_size.specs.Standing.{standing, standing_sizes}
 use Rattle.tabled_size.specs.Stored.{heights_of, widths_of}
 use Rattle.tabled_size.specs.Totals.{filled_width, total_width}
 use Rattle.tabled_size.specs.declared.complete_dimension.CompleteDimension.{CompleteDimension}
@@ -21,7 +21,7 @@ use Rattle.tabled_change.specs.CellChanges.{AreChanged, AreChangedBefore}
 use Rattle.tabled_change.specs.declared.order.Order.TheVariants.{ByColumn}
 use Rattle.tabled_set.specs.ColumnChanges.{for_width}
 use Rattle.tabled_set.specs.Minimums.{emptied, minimums}
-use Rattle.tabled_set.specs.Narrowed.{IsNarrowed, Narrows, StopsNarrowing, WiderPasses}
+use Rattle.tabled_set.specs.Narrowed.{IsNarrowed, Narrows, StopsNarrowing, WiderOutOfRange}
 use Rattle.tabled_set.specs.Shrinking.{IsFound, IsShrunkBy}
 use Rattle.tabled_change.proofs.ChangingCells.{match-false, match-true}
 use Rattle.tabled_set.proofs.ChangingColumns.{rooms-before, rooms-made}
@@ -116,7 +116,7 @@ if-err P (Ok x) e h p = absurd h
 if-err P (Err d) e h p = subst P (sym h) p
 
 -- a total that passes the range is that of the sizes before they were filled in
-pub passes-before : (n : ℕ) (cells : List (List (List ℕ))) (config : SpannedConfig) (old mid : CompleteDimension) (e : TableError) → IsFilledIn old cells config mid → (e ≡ Memory) ⊎ ((e ≡ Range) × WiderPasses n cells config mid) → (e ≡ Memory) ⊎ ((e ≡ Range) × (HasNoEstimate old cells config ⊎ WiderPasses n cells config old))
+pub passes-before : (n : ℕ) (cells : List (List (List ℕ))) (config : SpannedConfig) (old mid : CompleteDimension) (e : TableError) → IsFilledIn old cells config mid → (e ≡ Memory) ⊎ ((e ≡ Range) × WiderOutOfRange n cells config mid) → (e ≡ Memory) ⊎ ((e ≡ Range) × (HasNoEstimate old cells config ⊎ WiderOutOfRange n cells config old))
 passes-before n cells config old mid e filled cause =
     let P : Sheet → Type 0 = λ t. (2 ^ 64 ≤ total_width t) ⊎ ((n < total_width t) × IsTooWide (emptied cells) config) in
     ⊎_elim (λ m. inl m) (λ h. inr (h.0, inr (subst P (standing-filled cells config old mid filled) h.1))) cause

@@ -13,8 +13,8 @@ use Rattle.tabled_base.specs.declared.position.Entity.TheVariants.{Row}
 use Rattle.tabled_config.specs.declared.spanned.SpannedConfig.{SpannedConfig}
 use Rattle.tabled_size.specs.Cleared.{AreCleared}
 use Rattle.tabled_size.specs.PlainCells.{ArePlain}
-use Rattle.tabled_size.specs.Standing.{clears_heights, clears_widths, unless_cleared}
-use Rattle.tabled_size.specs.StandingSheet.{standing}
+use Rattle.tabled_size.specs.Entries.{clears_heights, clears_widths, unless_cleared}
+use Rattle.tabled_size.specs.Standing.{standing}
 use Rattle.tabled_size.specs.Stored.{heights_of, widths_of}
 use Rattle.tabled_size.specs.declared.complete_dimension.CompleteDimension.{CompleteDimension}
 use Rattle.tabled_set.specs.BestNarrowing.{HasLeastWidth, IsBestCut, text_room}

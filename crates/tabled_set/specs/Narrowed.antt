@@ -6,7 +6,7 @@ use Rattle.tabled_config.specs.declared.spanned.SpannedConfig.{SpannedConfig}
 use Rattle.tabled_size.specs.Estimates.{IsTooWide}
 use Rattle.tabled_size.specs.FilledIn.{HasNoEstimate, IsFilledIn}
 use Rattle.tabled_size.specs.Sheet.{Sheet, is_empty}
-use Rattle.tabled_size.specs.StandingSheet.{standing}
+use Rattle.tabled_size.specs.Standing.{standing}
 use Rattle.tabled_size.specs.Stored.{heights_of, widths_of}
 use Rattle.tabled_size.specs.Totals.{total_width}
 use Rattle.tabled_size.specs.declared.complete_dimension.CompleteDimension.{CompleteDimension}
@@ -56,11 +56,11 @@ StopsNarrowing shrinks priority change n error cells config sizes cells' =
     (cells' ≡ cells) ⊎ ((error ≡ Memory) × IsNarrowedBefore shrinks priority change n (standing cells config sizes) cells')
 
 -- the total passes the greatest number, or the padding of a cell of a table wider than n
-abbrev pub WiderPasses : ℕ → List (List (List ℕ)) → SpannedConfig → CompleteDimension → Type 0
-WiderPasses n cells config sizes =
+abbrev pub WiderOutOfRange : ℕ → List (List (List ℕ)) → SpannedConfig → CompleteDimension → Type 0
+WiderOutOfRange n cells config sizes =
     (2 ^ 64 ≤ total_width (standing cells config sizes)) ⊎ ((n < total_width (standing cells config sizes)) × IsTooWide (emptied cells) config)
 
 -- a sum passes the greatest number: the measure's, a cell's that isn't stored, or one that narrowing to n needs
-abbrev pub NarrowingPasses : Type 0 → ℕ → List (List (List ℕ)) → SpannedConfig → CompleteDimension → Type 0
-NarrowingPasses measure_passes n cells config sizes =
-    (is_empty cells ≡ false) × (measure_passes ⊎ (HasNoEstimate sizes cells config ⊎ WiderPasses n cells config sizes))
+abbrev pub NarrowingOutOfRange : Type 0 → ℕ → List (List (List ℕ)) → SpannedConfig → CompleteDimension → Type 0
+NarrowingOutOfRange measure_out_of_range n cells config sizes =
+    (is_empty cells ≡ false) × (measure_out_of_range ⊎ (HasNoEstimate sizes cells config ⊎ WiderOutOfRange n cells config sizes))

@@ -25,7 +25,7 @@ pub(crate) fn change_measured<A, W: Measurement<A>, T: TextRule, R: RecordsMut>(
         (W.measures measure.now (R.cells records.old) cfg.now.config) entity e
         (R.cells records.old) (R.cells records.new)) }
     ensures only { IfErr result (λ e. (e ≡ Memory)
-        ⊎ ((e ≡ Range) × W.passes measure.now (R.cells records.old) cfg.now.config)) }
+        ⊎ ((e ≡ Range) × W.out_of_range measure.now (R.cells records.old) cfg.now.config)) }
 {
     let rooms = &measure.measure(records, cfg.as_ref())?;
     change_cells(

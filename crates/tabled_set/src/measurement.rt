@@ -31,7 +31,7 @@ pub trait Measurement<A> {
     ghost measures: { Self → List (List (List ℕ)) → SpannedConfig → ℕ };
 
     // Holds where a sum or product that it is made of passes the greatest `usize`: none does where nothing else is said.
-    ghost passes: { Self → List (List (List ℕ)) → SpannedConfig → Type 0 } = { λ _ _ _. ⊥ };
+    ghost out_of_range: { Self → List (List (List ℕ)) → SpannedConfig → Type 0 } = { λ _ _ _. ⊥ };
 
     /// Reads the number. It is refused with `Range`, exactly where a sum or product of it passes the greatest
     /// `usize`.
@@ -41,8 +41,8 @@ pub trait Measurement<A> {
         cfg: &SpannedConfig,
     ) -> Result<usize, TableError>
         ensures ok { IfOk result (λ n. n ≡ measures self.now (R.cells records.now) cfg.now) }
-        ensures fits { OnOk result (passes self.now (R.cells records.now) cfg.now → ⊥) }
-        ensures err { IfErr result (λ e. (e ≡ Range) × passes self.now (R.cells records.now) cfg.now) };
+        ensures fits { OnOk result (out_of_range self.now (R.cells records.now) cfg.now → ⊥) }
+        ensures err { IfErr result (λ e. (e ≡ Range) × out_of_range self.now (R.cells records.now) cfg.now) };
 }
 
 /// A number measures itself, whatever the table is.

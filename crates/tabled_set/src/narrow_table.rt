@@ -2,7 +2,7 @@
 ghost use Rattle.std.specs.Prelude.{◌≡◌, ◌⊎◌, IfErr, OnOk, false};
 ghost use Rattle.tabled_base.specs.declared.error.TableError.TheVariants.{Memory, Range};
 ghost use Rattle.tabled_change.specs.CellChanges.{if_taken};
-ghost use Rattle.tabled_set.specs.Narrowed.{Narrows, StopsNarrowing, WiderPasses};
+ghost use Rattle.tabled_set.specs.Narrowed.{Narrows, StopsNarrowing, WiderOutOfRange};
 ghost use Rattle.tabled_size.specs.FilledIn.{HasNoEstimate};
 ghost use Rattle.tabled_size.specs.Sheet.{is_empty};
 
@@ -32,7 +32,7 @@ pub(crate) fn narrow_table<T: TextRule, P: Peaker + Drop, R: RecordsMut>(
         (R.cells records.old) config.now sizes.old (R.cells records.new)) }
     ensures only { IfErr result (λ e. (e ≡ Memory) ⊎ ((e ≡ Range)
         × (HasNoEstimate sizes.old (R.cells records.old) config.now
-        ⊎ WiderPasses n (R.cells records.old) config.now sizes.old))) }
+        ⊎ WiderOutOfRange n (R.cells records.old) config.now sizes.old))) }
 {
     sizes.estimate(records, config)?;
     let alloc = records.allocator();

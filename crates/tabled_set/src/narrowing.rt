@@ -2,10 +2,10 @@
 ghost use Rattle.std.specs.Prelude.{◌≡◌, ◌⊎◌, ◌≤◌, ◌^◌, IfErr, IfOk, MatchOption, Some, false, is_some, length, take, true};
 ghost use Rattle.std.specs.List.{slice_index};
 ghost use Rattle.tabled_base.specs.declared.error.TableError.TheVariants.{Memory, Range};
-ghost use Rattle.tabled_set.specs.Narrowed.{WiderPasses};
+ghost use Rattle.tabled_set.specs.Narrowed.{WiderOutOfRange};
 ghost use Rattle.tabled_set.specs.Shrinking.{IsFound, IsShrunkBy};
 ghost use Rattle.tabled_size.specs.Sheet.{is_empty};
-ghost use Rattle.tabled_size.specs.StandingSheet.{standing};
+ghost use Rattle.tabled_size.specs.Standing.{standing};
 ghost use Rattle.tabled_size.specs.Stored.{widths_of};
 ghost use Rattle.tabled_priority.specs.Permitted.{FitsMinimums};
 ghost use Rattle.tabled_size.specs.Totals.{filled_width, total_width};
@@ -114,7 +114,7 @@ pub(crate) fn narrowed_widths<P: Peaker + Drop, R: ExactRecords>(
         (λ found. IsFound P.shrinks priority n (standing (R.cells records.now) config.now sizes.now)
         found.widths.items found.mins.items)) }
     ensures err { IfErr result (λ e. (e ≡ Memory)
-        ⊎ ((e ≡ Range) × WiderPasses n (R.cells records.now) config.now sizes.now)) }
+        ⊎ ((e ≡ Range) × WiderOutOfRange n (R.cells records.now) config.now sizes.now)) }
 {
     let columns = records.count_columns();
     let widths = first_widths(stored_widths(sizes), columns);

@@ -53,7 +53,7 @@ too_wide_passes cells config h =
     let at : f h.column ≡ column_width cells config h.column = width_at cells config h.column h.column_in in
     let needs : needed_width cells config h.row h.column ≤ column_width cells config h.column = width_ge cells config h.row h.column h.row_in in
     let part : sum_below f h.column + f h.column ≤ sum_below f (columns cells) = sum_step f h.column (columns cells) h.column_in in
-    let passes : 2 ^ 64 ≤ needed_width cells config h.row h.column = h.passes in
+    let passes : 2 ^ 64 ≤ needed_width cells config h.row h.column = h.out_of_range in
     omega arith
 
 -- a too high cell makes the whole too high
@@ -67,5 +67,5 @@ too_high_passes cells config h =
     let needs : needed_height cells config h.row h.column ≤ row_height cells config h.row = height_ge cells config h.row h.column h.column_in in
     let row : slice_index heights h.row ≤ f h.row = part_ge config (length cells) heights h.row in
     let part : sum_below f h.row + f h.row ≤ sum_below f (length cells) = sum_step f h.row (length cells) h.row_in in
-    let passes : 2 ^ 64 ≤ needed_height cells config h.row h.column = h.passes in
+    let passes : 2 ^ 64 ≤ needed_height cells config h.row h.column = h.out_of_range in
     omega arith

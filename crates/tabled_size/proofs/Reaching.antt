@@ -35,8 +35,8 @@ use Rattle.std.proofs.Math.Seq.{take-length}
 use Rattle.std.proofs.lemmas.List.{ext_get_or, get_or-take, length-take}
 use Rattle.std.proofs.lemmas.List.FromFn.{get_or-map-range_with_len, length-map-range_with_len}
 use Rattle.tabled_size.specs.Reached.{leading, reached}
-use Rattle.tabled_size.specs.Standing.{entry, stored_at}
-use Rattle.tabled_size.specs.StandingSheet.{standing_sizes}
+use Rattle.tabled_size.specs.Entries.{entry, stored_at}
+use Rattle.tabled_size.specs.Standing.{standing_sizes}
 
 leading_le : (sizes : List (Option ℕ)) → length (leading sizes) ≤ length sizes
 leading_le [] = omega arith

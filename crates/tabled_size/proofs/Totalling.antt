@@ -8,8 +8,8 @@ use Rattle.tabled_base.specs.declared.error.TableError.TheVariants.{Memory, Rang
 use Rattle.tabled_config.specs.declared.spanned.SpannedConfig.{SpannedConfig}
 use Rattle.tabled_size.specs.Estimates.{IsTooHigh, IsTooWide, column_width, estimated_heights, estimated_widths, row_height}
 use Rattle.tabled_size.specs.Reached.{reached}
-use Rattle.tabled_size.specs.Standing.{stored_at}
-use Rattle.tabled_size.specs.StandingSheet.{standing_sizes}
+use Rattle.tabled_size.specs.Entries.{stored_at}
+use Rattle.tabled_size.specs.Standing.{standing_sizes}
 use Rattle.tabled_size.specs.StandingTotals.{AnswersHeight, AnswersWidth}
 use Rattle.tabled_size.proofs.Passing.{too_high_passes, too_wide_passes}
 use Rattle.tabled_size.proofs.Reaching.{reached_filled, reached_standing}

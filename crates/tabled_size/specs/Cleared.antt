@@ -1,7 +1,7 @@
 -- What is left of stored sizes once some were forgotten.
 use Rattle.std.specs.Prelude.{◌≡◌, Option}
 use Rattle.tabled_base.specs.declared.position.Entity.{Entity}
-use Rattle.tabled_size.specs.Standing.{clears_heights, clears_widths, unless_cleared}
+use Rattle.tabled_size.specs.Entries.{clears_heights, clears_widths, unless_cleared}
 use Rattle.tabled_size.specs.Stored.{heights_of, widths_of}
 use Rattle.tabled_size.specs.declared.complete_dimension.CompleteDimension.{CompleteDimension}
 

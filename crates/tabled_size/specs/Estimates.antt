@@ -40,7 +40,7 @@ pub record IsTooWide (cells : List (List (List ℕ))) (config : SpannedConfig) :
   pub column : ℕ
   pub row_in : row < length cells
   pub column_in : column < columns cells
-  pub passes : 2 ^ 64 ≤ needed_width cells config row column
+  pub out_of_range : 2 ^ 64 ≤ needed_width cells config row column
 
 -- a cell needs more lines than a number can say
 pub record IsTooHigh (cells : List (List (List ℕ))) (config : SpannedConfig) : Type 0 where
@@ -48,4 +48,4 @@ pub record IsTooHigh (cells : List (List (List ℕ))) (config : SpannedConfig) :
   pub column : ℕ
   pub row_in : row < length cells
   pub column_in : column < columns cells
-  pub passes : 2 ^ 64 ≤ needed_height cells config row column
+  pub out_of_range : 2 ^ 64 ≤ needed_height cells config row column

@@ -1,5 +1,6 @@
 pub mod Cleared
 pub mod ConstSizes
+pub mod Entries
 pub mod Estimates
 pub mod FilledIn
 pub mod Holds
@@ -7,7 +8,6 @@ pub mod PlainCells
 pub mod Reached
 pub mod Sheet
 pub mod Standing
-pub mod StandingSheet
 pub mod StandingTotals
 pub mod Stored
 pub mod Totals

@@ -1,34 +1,21 @@
--- Sizes at a place, and which of them a hint clears.
-use Rattle.std.specs.Prelude.{ℕ, Bool, true, false, List, length, Option, Some, None, nat_lt, if◌then◌else◌}
-use Rattle.tabled_base.specs.declared.position.Entity.{Entity}
-use Rattle.tabled_base.specs.declared.position.Entity.TheVariants.{Global, Row, Column, Cell}
-use Rattle.tabled_priority.specs.Permitted.{at}
+-- A table with the sizes that stand.
+use Rattle.std.specs.Prelude.{ℕ, List, length, take, Option, Some, None}
+use Rattle.tabled_base.specs.Cells.{columns}
+use Rattle.tabled_config.specs.declared.spanned.SpannedConfig.{SpannedConfig}
+use Rattle.tabled_size.specs.declared.complete_dimension.CompleteDimension.{CompleteDimension}
+use Rattle.tabled_size.specs.Estimates.{estimated_heights, estimated_widths}
+use Rattle.tabled_size.specs.Sheet.{Sheet}
+use Rattle.tabled_size.specs.Stored.{heights_of, widths_of}
 
--- the entry of a list, if it has it
-abbrev pub entry : List ℕ → ℕ → Option ℕ
-entry xs i = if nat_lt i (length xs) then Some (at xs i) else None
+-- a list that is stored, as far as the table goes, and else the estimates
+abbrev pub standing_sizes : Option (List ℕ) → List ℕ → ℕ → List ℕ
+standing_sizes None estimates count = estimates
+standing_sizes (Some sizes) estimates count = take count sizes
 
--- the entry of a list that is stored
-abbrev pub stored_at : Option (List ℕ) → ℕ → Option ℕ
-stored_at None i = None
-stored_at (Some sizes) i = entry sizes i
-
--- a hint of the whole, a cell or a column clears the widths
-abbrev pub clears_widths : Option Entity → Bool
-clears_widths None = false
-clears_widths (Some Global) = true
-clears_widths (Some (Row row)) = false
-clears_widths (Some (Column column)) = true
-clears_widths (Some (Cell row column)) = true
-
--- a hint of the whole, a cell or a row clears the heights
-abbrev pub clears_heights : Option Entity → Bool
-clears_heights None = false
-clears_heights (Some Global) = true
-clears_heights (Some (Row row)) = true
-clears_heights (Some (Column column)) = false
-clears_heights (Some (Cell row column)) = true
-
--- what is left of a list after it may have been cleared
-abbrev pub unless_cleared : Bool → Option (List ℕ) → Option (List ℕ)
-unless_cleared clears sizes = if clears then None else sizes
+abbrev pub standing : List (List (List ℕ)) → SpannedConfig → CompleteDimension → Sheet
+standing cells config sizes = record {
+  cells = cells;
+  config = config;
+  widths = standing_sizes (widths_of sizes) (estimated_widths cells config) (columns cells);
+  heights = standing_sizes (heights_of sizes) (estimated_heights cells config) (length cells);
+}

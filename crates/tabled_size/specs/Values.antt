@@ -3,7 +3,7 @@ use Rattle.std.specs.Prelude.{◌≡◌, ℕ, Option, Some, length, nat_lt, if�
 use Rattle.tabled_size.specs.declared.static_dimension.DimensionValue.{DimensionValue}
 use Rattle.tabled_size.specs.declared.static_dimension.DimensionValue.TheVariants.{Exact, List as Listed, Partial}
 use Rattle.tabled_priority.specs.Permitted.{at}
-use Rattle.tabled_size.specs.Standing.{entry}
+use Rattle.tabled_size.specs.Entries.{entry}
 
 -- the size at a place
 abbrev pub value_at : DimensionValue → ℕ → Option ℕ

@@ -38,12 +38,12 @@ pub trait Estimate<R, C> {
     ghost estimates: { Self → R → C → Self → Type 0 };
 
     // A measure passes the greatest `usize`: none does where nothing else is said.
-    ghost passes: { Self → R → C → Type 0 } = { λ _ _ _. ⊥ };
+    ghost out_of_range: { Self → R → C → Type 0 } = { λ _ _ _. ⊥ };
 
     /// Stores estimated sizes where none are stored. Refused for memory, or with `Range` where a
     /// measure passes the greatest `usize`; the sizes then stay as they were.
     fn estimate(&mut self, records: &R, config: &C) -> Result<(), TableError>
         ensures ok { OnOk result (estimates self.old records.now config.now self.new) }
         ensures err { OnErr result (self.new ≡ self.old) }
-        ensures only { IfErr result (λ e. (e ≡ Memory) ⊎ ((e ≡ Range) × passes self.old records.now config.now)) };
+        ensures only { IfErr result (λ e. (e ≡ Memory) ⊎ ((e ≡ Range) × out_of_range self.old records.now config.now)) };
 }

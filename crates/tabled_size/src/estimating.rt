@@ -13,7 +13,7 @@ use tabled_config::{ColoredConfig, SpannedConfig};
 impl<R: PeekableRecords> Estimate<R, SpannedConfig> for CompleteDimension {
     ghost estimates = { λ old records config new. IsFilledIn old (R.cells records) config new };
 
-    ghost passes = { λ old records config. HasNoEstimate old (R.cells records) config };
+    ghost out_of_range = { λ old records config. HasNoEstimate old (R.cells records) config };
 
     fn estimate(&mut self, records: &R, config: &SpannedConfig) -> Result<(), TableError>
         ensures ok { OnOk result (IsFilledIn self.old (R.cells records.now) config.now self.new) }
@@ -40,7 +40,7 @@ impl<R: PeekableRecords> Estimate<R, SpannedConfig> for CompleteDimension {
 impl<R: PeekableRecords> Estimate<R, ColoredConfig> for CompleteDimension {
     ghost estimates = { λ old records config new. IsFilledIn old (R.cells records) config.config new };
 
-    ghost passes = { λ old records config. HasNoEstimate old (R.cells records) config.config };
+    ghost out_of_range = { λ old records config. HasNoEstimate old (R.cells records) config.config };
 
     fn estimate(&mut self, records: &R, config: &ColoredConfig) -> Result<(), TableError>
         ensures ok { OnOk result (IsFilledIn self.old (R.cells records.now) config.now.config self.new) }

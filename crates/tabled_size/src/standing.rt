@@ -5,7 +5,7 @@ ghost use Rattle.tabled_base.specs.declared.error.TableError.TheVariants.{Memory
 ghost use Rattle.tabled_size.specs.Estimates.{estimated_heights, estimated_widths};
 ghost use Rattle.tabled_size.specs.Reached.{reached};
 ghost use Rattle.tabled_size.specs.Sheet.{is_empty};
-ghost use Rattle.tabled_size.specs.StandingSheet.{standing};
+ghost use Rattle.tabled_size.specs.Standing.{standing};
 ghost use Rattle.tabled_size.specs.StandingTotals.{AnswersHeight, AnswersWidth};
 ghost use Rattle.tabled_size.specs.Stored.{heights_of, widths_of};
 

@@ -30,7 +30,7 @@ use Rattle.tabled_config.specs.Settings.{rule_at, style_at}
 use Rattle.tabled_config.specs.declared.spanned.SpannedConfig.{SpannedConfig}
 use Rattle.tabled_size.specs.Estimates.{estimated_heights, estimated_widths}
 use Rattle.tabled_size.specs.Sheet.{Sheet, is_empty}
-use Rattle.tabled_size.specs.StandingSheet.{standing_sizes}
+use Rattle.tabled_size.specs.Standing.{standing_sizes}
 use Rattle.tabled_size.specs.Stored.{heights_of, widths_of}
 use Rattle.tabled_priority.specs.Sums.{sum_below}
 use Rattle.tabled_size.specs.Totals.{filled_height, part_height, total_height, total_width}
@@ -38,7 +38,8 @@ use Rattle.tabled_priority.proofs.Sums.{sum_step}
 use Rattle.tabled_size.specs.Holds.{Holds}
 use Rattle.tabled_grid.specs.Picture.{picture}
 use Rattle.tabled_size.specs.PlainCells.{ArePlain}
-use Rattle.tabled_grid.specs.PlainSheet.{EachLineTakes, IsPlainConfig, IsPlainRule, IsPlainStyle}
+use Rattle.tabled_row.specs.Plain.{EachLineTakes, IsPlainRule, IsPlainStyle}
+use Rattle.tabled_grid.specs.PlainSheet.{IsPlainConfig}
 use Rattle.tabled_grid.proofs.EstimatedSizes.{holds_estimated}
 use Rattle.tabled_grid.proofs.Whole.{picture_columns, picture_lines}
 use Rattle.tabled_table.specs.NewConfig.{new_config}

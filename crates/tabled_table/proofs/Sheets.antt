@@ -6,7 +6,8 @@ use Rattle.tabled_size.specs.Totals.{total_height, total_width}
 use Rattle.tabled_size.specs.Holds.{Holds}
 use Rattle.tabled_grid.specs.Picture.{picture}
 use Rattle.tabled_size.specs.PlainCells.{ArePlain}
-use Rattle.tabled_grid.specs.PlainSheet.{EachLineTakes, IsPlainConfig}
+use Rattle.tabled_row.specs.Plain.{EachLineTakes}
+use Rattle.tabled_grid.specs.PlainSheet.{IsPlainConfig}
 use Rattle.tabled_grid.proofs.Whole.{picture_columns, picture_lines}
 
 -- where characters are plain, each takes as many columns as the whole

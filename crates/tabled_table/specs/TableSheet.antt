@@ -1,7 +1,7 @@
 -- What a table shows.
 use Rattle.std.specs.Prelude.{ℕ, List}
 use Rattle.tabled_size.specs.Sheet.{Sheet, estimated}
-use Rattle.tabled_size.specs.StandingSheet.{standing}
+use Rattle.tabled_size.specs.Standing.{standing}
 use Rattle.tabled_table.specs.NewConfig.{new_config}
 use Rattle.tabled_table.specs.declared.table.Table.{Table}
 

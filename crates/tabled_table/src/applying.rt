@@ -29,7 +29,7 @@ impl Table {
         ensures err { IfErr result (λ e. IsRefusedBy (O.refuses option e) self.old self.new) }
         ensures only { IfErr result (λ e. (e ≡ Memory) ⊎ (e ≡ Range)) }
         ensures range { IfErr result (λ e. e ≡ Range
-            → O.passes option self.old.records self.old.config self.old.dimension) }
+            → O.out_of_range option self.old.records self.old.config self.old.dimension) }
     {
         let hint = option.hint_change();
         match option.change(&mut self.records, &mut self.config, &mut self.dimension) {
@@ -58,7 +58,7 @@ impl Table {
         ensures promised { IfOk result (λ table. IsApplied (O.promises option) (O.hint option) self.old table.now) }
         ensures only { IfErr result (λ e. (e ≡ Memory) ⊎ (e ≡ Range)) }
         ensures range { IfErr result (λ e. e ≡ Range
-            → O.passes option self.old.records self.old.config self.old.dimension) }
+            → O.out_of_range option self.old.records self.old.config self.old.dimension) }
     {
         match self.apply(option) {
             Ok(()) => Ok(self),
@@ -79,7 +79,7 @@ impl Table {
             (T.picks target (length (cells_of self.old)) (columns (cells_of self.old)))
             (O.hint option.now) self.old self.new) }
         ensures err { IfErr result (λ e. IsModifyingRefused
-            (O.changes option.now) (O.refuses option.now) (O.passes option.now)
+            (O.changes option.now) (O.refuses option.now) (O.out_of_range option.now)
             (T.picks target (length (cells_of self.old)) (columns (cells_of self.old)))
             e self.old self.new) }
         ensures only { IfErr result (λ e. (e ≡ Memory) ⊎ (e ≡ Range)) }
@@ -107,7 +107,7 @@ impl Table {
     >(&mut self, target: T, option: O) -> Result<&mut Self, TableError>
         ensures* rests { sem 𝓛 (RestsIfErr the_row self.entry (λ table. table.ghost_name) result
             (λ last. IfErr result (λ e. IsModifyingRefused
-            (O.changes option) (O.refuses option) (O.passes option)
+            (O.changes option) (O.refuses option) (O.out_of_range option)
             (T.picks target (length (cells_of self.old)) (columns (cells_of self.old)))
             e self.old last))) }
         ensures same_reference { IfOk result (λ table. table.ghost_name ≡ self.entry.ghost_name) }
@@ -115,7 +115,7 @@ impl Table {
             (T.picks target (length (cells_of self.old)) (columns (cells_of self.old)))
             (O.hint option) self.old table.now) }
         ensures err { IfErr result (λ e. (left : Table) × IsModifyingRefused
-            (O.changes option) (O.refuses option) (O.passes option)
+            (O.changes option) (O.refuses option) (O.out_of_range option)
             (T.picks target (length (cells_of self.old)) (columns (cells_of self.old)))
             e self.old left) }
         ensures only { IfErr result (λ e. (e ≡ Memory) ⊎ (e ≡ Range)) }
@@ -135,7 +135,7 @@ impl Table {
             (T.picks target (length (cells_of self.old)) (columns (cells_of self.old)))
             (O.hint option) self.old self.new) }
         ensures err { IfErr result (λ e. IsModifyingRefused
-            (O.changes option) (O.refuses option) (O.passes option)
+            (O.changes option) (O.refuses option) (O.out_of_range option)
             (T.picks target (length (cells_of self.old)) (columns (cells_of self.old)))
             e self.old self.new) }
         ensures only { IfErr result (λ e. (e ≡ Memory) ⊎ (e ≡ Range)) }
@@ -158,7 +158,7 @@ fn change_target<
     ensures ok { OnOk result (ChangesEach (O.changes option.now)
         (T.picks target.now (length records.old) (columns records.old))
         records.old config.old records.new config.new) }
-    ensures err { IfErr result (λ e. IsPutBack (O.changes option.now) (O.refuses option.now) (O.passes option.now)
+    ensures err { IfErr result (λ e. IsPutBack (O.changes option.now) (O.refuses option.now) (O.out_of_range option.now)
         (T.picks target.now (length records.old) (columns records.old))
         e records.old config.old records.new config.new) }
     ensures only { IfErr result (λ e. (e ≡ Memory) ⊎ (e ≡ Range)) }
@@ -181,7 +181,7 @@ fn change_several<O: CellOption<VecRecords<Text<String>>, ColoredConfig>>(
     requires { 1 < length entities.now }
     ensures ok { OnOk result (ChangesEach (O.changes option.now) entities.now
         records.old config.old records.new config.new) }
-    ensures err { IfErr result (λ e. IsPutBack (O.changes option.now) (O.refuses option.now) (O.passes option.now)
+    ensures err { IfErr result (λ e. IsPutBack (O.changes option.now) (O.refuses option.now) (O.out_of_range option.now)
         entities.now e records.old config.old records.new config.new) }
     ensures only { IfErr result (λ e. (e ≡ Memory) ⊎ (e ≡ Range)) }
 {
@@ -204,7 +204,7 @@ fn change_each<O: CellOption<VecRecords<Text<String>>, ColoredConfig>>(
 ) -> Result<(), TableError>
     ensures ok { OnOk result (ChangesEach (O.changes option.now) entities.now
         records.old config.old records.new config.new) }
-    ensures err { IfErr result (λ e. IsStopped (O.changes option.now) (O.refuses option.now) (O.passes option.now)
+    ensures err { IfErr result (λ e. IsStopped (O.changes option.now) (O.refuses option.now) (O.out_of_range option.now)
         entities.now e records.old config.old records.new config.new) }
     ensures only { IfErr result (λ e. (e ≡ Memory) ⊎ (e ≡ Range)) }
 {

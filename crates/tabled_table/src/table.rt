@@ -15,9 +15,10 @@ ghost use Rattle.tabled_size.specs.Totals.{total_height, total_width};
 ghost use Rattle.tabled_size.specs.Holds.{Holds};
 ghost use Rattle.tabled_grid.specs.Picture.{picture, table_text};
 ghost use Rattle.tabled_size.specs.PlainCells.{ArePlain};
-ghost use Rattle.tabled_grid.specs.PlainSheet.{EachLineTakes, IsPlainConfig};
+ghost use Rattle.tabled_row.specs.Plain.{EachLineTakes};
+ghost use Rattle.tabled_grid.specs.PlainSheet.{IsPlainConfig};
 ghost use Rattle.tabled_grid.specs.Printed.{IsRefused, Prints};
-ghost use Rattle.tabled_grid.specs.Sent.{Sent};
+ghost use Rattle.tabled_row.specs.Sent.{Sent};
 ghost use Rattle.tabled_table.specs.Rows.{string_row};
 
 use crate::config::new_config;

@@ -17,7 +17,7 @@ impl<'a, W: Measurement<Width>, P, R: RecordsMut> CellOption<R, ColoredConfig>
 
     ghost refuses = { λ s f r c e r' c'. StopsEntity (if_wider (truncating s.rule.suffix.now s.rule.limit s.rule.multiline)) (W.measures s.width (R.cells r) c.config) e f (R.cells r) (R.cells r') × (c' ≡ c) };
 
-    ghost passes = { λ s r c e. W.passes s.width (R.cells r) c.config };
+    ghost out_of_range = { λ s r c e. W.out_of_range s.width (R.cells r) c.config };
 
     fn change(
         &self,

@@ -16,7 +16,7 @@ impl<W: Measurement<Width>, P, R: RecordsMut> CellOption<R, ColoredConfig> for W
 
     ghost refuses = { λ s f r c e r' c'. StopsEntity (if_wider (wrapping s.rule.keep_words)) (W.measures s.width (R.cells r) c.config) e f (R.cells r) (R.cells r') × (c' ≡ c) };
 
-    ghost passes = { λ s r c e. W.passes s.width (R.cells r) c.config };
+    ghost out_of_range = { λ s r c e. W.out_of_range s.width (R.cells r) c.config };
 
     fn change(
         &self,

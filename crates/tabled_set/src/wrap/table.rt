@@ -2,10 +2,10 @@
 ghost use Rattle.std.specs.Prelude.{◌≡◌, Some};
 ghost use Rattle.tabled_base.specs.declared.position.Entity.TheVariants.{Row};
 ghost use Rattle.tabled_change.specs.CellChanges.{wrapping};
-ghost use Rattle.tabled_set.specs.Narrowed.{Narrows, NarrowingPasses, StopsNarrowing};
+ghost use Rattle.tabled_set.specs.Narrowed.{Narrows, NarrowingOutOfRange, StopsNarrowing};
 ghost use Rattle.tabled_set.specs.Promised.{WrapsAsPromised};
 ghost use Rattle.tabled_size.specs.Cleared.{AreCleared};
-ghost use Rattle.tabled_size.specs.StandingSheet.{standing};
+ghost use Rattle.tabled_size.specs.Standing.{standing};
 ghost use Rattle.tabled_size.specs.declared.complete_dimension.CompleteDimension.{CompleteDimension};
 
 use crate::measurement::{Measurement, Width};
@@ -30,7 +30,7 @@ impl<W: Measurement<Width> + Drop, P: Peaker + Drop, R: RecordsMut> TableOption<
     ghost refuses = { λ s e r c d r' c' d'. StopsNarrowing P.shrinks s.priority (wrapping s.rule.keep_words)
         (W.measures s.width (R.cells r) c.config) e (R.cells r) c.config d (R.cells r') × (c' ≡ c) };
 
-    ghost passes = { λ s r c d. NarrowingPasses (W.passes s.width (R.cells r) c.config)
+    ghost out_of_range = { λ s r c d. NarrowingOutOfRange (W.out_of_range s.width (R.cells r) c.config)
         (W.measures s.width (R.cells r) c.config) (R.cells r) c.config d };
 
     // Of the sizes that are left once what is hinted was forgotten.

@@ -1,7 +1,7 @@
 use Rattle.std.proofs.Common.{sym}
 use Rattle.tabled_base.specs.TextRows.{text_rows}
 use Rattle.tabled_table.specs.TableSheet.{new_sheet}
-use Rattle.tabled_grid.proofs.Sending.{finished, sends-along}
+use Rattle.tabled_row.proofs.Sending.{finished, sends-along}
 use Rattle.tabled.proofs.Since.{begun_printed, puts_begun, puts_writes}
 use Rattle.tabled.proofs.TextTables.{feed_none, feed_some, feed_whole}
 use Rattle.tabled.proofs.program.put_output.Goals as goal

@@ -1,6 +1,6 @@
 use Rattle.std.proofs.Common.{◌∙◌, false, subst, sym}
 use Rattle.tabled_size.specs.Sheet.{Sheet}
-use Rattle.tabled_size.specs.StandingSheet.{standing}
+use Rattle.tabled_size.specs.Standing.{standing}
 use Rattle.tabled_size.specs.Holds.{Holds, IsSized}
 use Rattle.tabled_grid.specs.Printed.{Prints}
 use Rattle.tabled_grid.proofs.Printing.{estimating}
@@ -35,6 +35,3 @@ returns g c =
     (c.new-grid.ensures ∙ answered_filled (g.R.ExactRecords.cells c.args.records.now) c.args.config.now c.args.stored.now c.in_ok-sizes.sizes c.estimate.new.self
     c.in_ok-sizes.ensures.widths c.in_ok-sizes.ensures.heights c.in_ok-estimate.ensures.ok)
     c.print_held.ensures)
-
-pub print_held-requires-clause-marked : goal.print_held-requires-clause-marked
-print_held-requires-clause-marked g c = c.in_ok-marks.ensures.ok c.new-grid.result.cells

@@ -1,6 +1,6 @@
 use Rattle.std.proofs.Common.{◌∙◌, Bool, ap, false, not, subst, sym}
 use Rattle.tabled_size.specs.Sheet.{Sheet}
-use Rattle.tabled_size.specs.StandingSheet.{standing}
+use Rattle.tabled_size.specs.Standing.{standing}
 use Rattle.tabled_size.specs.Holds.{Holds, IsSized}
 use Rattle.tabled_grid.specs.Printed.{Prints}
 use Rattle.tabled_grid.proofs.Printing.{prints_nothing}
@@ -37,6 +37,3 @@ returns g c =
     let Q : Bool → Type 0 = λ estimates. Prints estimates (standing (g.R.ExactRecords.cells c.args.records.now) c.args.config.now c.args.stored.now)
     (g.S.TextSink.sent c.args.sink.now) c.print_filled_in.result (g.S.TextSink.sent c.print_filled_in.new.sink) in
     subst Q (ap not (sym (sym c.is_complete.ensures ∙ c.if-is_complete.false))) c.print_filled_in.ensures
-
-pub print_held-requires-clause-marked : goal.print_held-requires-clause-marked
-print_held-requires-clause-marked g c = c.new.ensures c.new-grid.result.cells

@@ -1,5 +1,5 @@
 use Rattle.std.proofs.Common.{◌-◌, ◌++◌, append_assoc, refl}
-use Rattle.tabled_grid.proofs.Sending.{further, finished, stopped, stopped-first}
+use Rattle.tabled_row.proofs.Sending.{further, finished, stopped, stopped-first}
 use Rattle.tabled_pool.proofs.block.put_aligned.Goals as goal
 
 pub returns-in_err-put_fill : goal.returns-in_err-put_fill

@@ -1,7 +1,7 @@
 use Rattle.std.proofs.Common.{◌-◌, ◌++◌, append_assoc, refl}
-use Rattle.tabled_grid.proofs.Sending.{further, finished, stopped, stopped-first}
-use Rattle.tabled_grid.specs.Block.{cell_line}
-use Rattle.tabled_grid.specs.Fill.{indent}
+use Rattle.tabled_row.proofs.Sending.{further, finished, stopped, stopped-first}
+use Rattle.tabled_row.specs.Block.{cell_line}
+use Rattle.tabled_row.specs.Fill.{indent}
 use Rattle.tabled_pool.proofs.block.put_cell_line.Goals as goal
 
 pub returns-in_err-put_fill : goal.returns-in_err-put_fill

@@ -1,6 +1,6 @@
 use Rattle.std.proofs.Common.{◌++◌, append_assoc, refl}
-use Rattle.tabled_grid.proofs.Sending.{further, finished, stopped, stopped-first}
-use Rattle.tabled_grid.specs.Fill.{indent}
+use Rattle.tabled_row.proofs.Sending.{further, finished, stopped, stopped-first}
+use Rattle.tabled_row.specs.Fill.{indent}
 use Rattle.tabled_pool.proofs.margins.put_filled_line.Goals as goal
 
 pub returns-in_err-put_fill : goal.returns-in_err-put_fill

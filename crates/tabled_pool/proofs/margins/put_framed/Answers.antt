@@ -1,4 +1,4 @@
-use Rattle.tabled_grid.proofs.Leading.{lines-text}
+use Rattle.tabled_row.proofs.Leading.{lines-text}
 use Rattle.tabled_pool.proofs.margins.put_framed.Goals as goal
 
 pub returns : goal.returns

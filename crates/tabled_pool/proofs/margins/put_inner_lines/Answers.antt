@@ -1,5 +1,5 @@
-use Rattle.tabled_grid.proofs.Each.{map-more, map-rest}
-use Rattle.tabled_grid.proofs.Leading.{lines-further, lines-stopped}
+use Rattle.tabled_row.proofs.Each.{map-more, map-rest}
+use Rattle.tabled_row.proofs.Leading.{lines-further, lines-stopped}
 use Rattle.tabled_pool.specs.Drawn.{drawn_line}
 use Rattle.tabled_pool.specs.Margins.{within_margin}
 use Rattle.tabled_pool.specs.Plans.{plan_of}

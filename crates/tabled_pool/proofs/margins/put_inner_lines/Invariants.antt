@@ -1,6 +1,6 @@
 use Rattle.std.proofs.Common.{map}
 use Rattle.std.specs.List.{range_with_len}
-use Rattle.tabled_grid.specs.Leading.{LineSends}
+use Rattle.tabled_row.specs.Leading.{LineSends}
 use Rattle.tabled_pool.specs.Drawn.{drawn_line}
 use Rattle.tabled_pool.specs.Margins.{within_margin}
 use Rattle.tabled_pool.specs.Plans.{plan_of}

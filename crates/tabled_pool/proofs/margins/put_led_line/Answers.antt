@@ -1,4 +1,4 @@
-use Rattle.tabled_grid.proofs.Leading.{one-line, one-line-stopped}
+use Rattle.tabled_row.proofs.Leading.{one-line, one-line-stopped}
 use Rattle.tabled_pool.proofs.margins.put_led_line.Goals as goal
 
 pub returns-in_err-put_break : goal.returns-in_err-put_break

@@ -1,7 +1,7 @@
 use Rattle.std.proofs.Common.{List, ◌++◌, map, replicate, refl, sym, ap, ◌∙◌, append_assoc}
 use Rattle.std.specs.List.{range_with_len}
-use Rattle.tabled_grid.proofs.Leading.{lines-further, lines-finished, lines-stopped, lines-stopped-first}
-use Rattle.tabled_grid.specs.Fill.{fill}
+use Rattle.tabled_row.proofs.Leading.{lines-further, lines-finished, lines-stopped, lines-stopped-first}
+use Rattle.tabled_row.specs.Fill.{fill}
 use Rattle.tabled_pool.specs.Drawn.{drawn, drawn_line}
 use Rattle.tabled_pool.specs.Margins.{within_margin, with_margin}
 use Rattle.tabled_pool.specs.Plans.{plan_of}

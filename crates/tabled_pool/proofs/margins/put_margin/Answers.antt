@@ -1,5 +1,5 @@
-use Rattle.tabled_grid.proofs.Each.{copies-append, copies-rest}
-use Rattle.tabled_grid.proofs.Leading.{lines-further, lines-stopped}
+use Rattle.tabled_row.proofs.Each.{copies-append, copies-rest}
+use Rattle.tabled_row.proofs.Leading.{lines-further, lines-stopped}
 use Rattle.tabled_pool.proofs.margins.put_margin.Goals as goal
 
 pub returns-in_err-put_led_margin : goal.returns-in_err-put_led_margin

@@ -1,6 +1,6 @@
 use Rattle.std.proofs.Common.{replicate}
-use Rattle.tabled_grid.specs.Fill.{fill}
-use Rattle.tabled_grid.specs.Leading.{LineSends}
+use Rattle.tabled_row.specs.Fill.{fill}
+use Rattle.tabled_row.specs.Leading.{LineSends}
 use Rattle.tabled_pool.specs.Margins.{within_margin}
 use Rattle.tabled_pool.proofs.margins.put_margin.Given as goal
 

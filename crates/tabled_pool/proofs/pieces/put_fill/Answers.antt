@@ -1,7 +1,7 @@
 use Rattle.std.proofs.Common.{◌-◌}
-use Rattle.tabled_grid.proofs.Sending.{further, stopped}
-use Rattle.tabled_grid.specs.Fill.{fill}
-use Rattle.tabled_grid.proofs.Fills.{fill-more, fill-one}
+use Rattle.tabled_row.proofs.Sending.{further, stopped}
+use Rattle.tabled_row.specs.Fill.{fill}
+use Rattle.tabled_row.proofs.Fills.{fill-more, fill-one}
 use Rattle.tabled_pool.proofs.pieces.put_fill.Goals as goal
 
 pub returns-in_err-write_text : goal.returns-in_err-write_text

@@ -1,5 +1,5 @@
-use Rattle.tabled_grid.specs.Sent.{Sends}
-use Rattle.tabled_grid.specs.Fill.{fill}
+use Rattle.tabled_row.specs.Sent.{Sends}
+use Rattle.tabled_row.specs.Fill.{fill}
 use Rattle.tabled_pool.proofs.pieces.put_fill.Given as goal
 
 abbrev pub invariant-copies : goal.invariant-copies

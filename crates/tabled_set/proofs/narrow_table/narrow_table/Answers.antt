@@ -1,10 +1,10 @@
 use Rattle.std.proofs.Common.{◌≡◌, ◌≤◌, ◌⊎◌, ◌∙◌, MatchOption, None, Option, subst}
 use Rattle.tabled_base.specs.declared.error.TableError.TheVariants.{Memory, Range}
 use Rattle.tabled_size.specs.FilledIn.{HasNoEstimate}
-use Rattle.tabled_size.specs.StandingSheet.{standing}
+use Rattle.tabled_size.specs.Standing.{standing}
 use Rattle.tabled_size.specs.Totals.{total_width}
 use Rattle.tabled_change.specs.CellChanges.{if_taken}
-use Rattle.tabled_set.specs.Narrowed.{StopsNarrowing, WiderPasses}
+use Rattle.tabled_set.specs.Narrowed.{StopsNarrowing, WiderOutOfRange}
 use Rattle.tabled_set.specs.Shrinking.{IsFound}
 use Rattle.tabled_set.specs.declared.columns.ColumnWidths.{ColumnWidths}
 use Rattle.tabled_set.proofs.NarrowingTables.{if-err, narrows-none, narrows-some, passes-before, stops-some}
@@ -16,7 +16,7 @@ returns-in_err-found-clause-only g c =
     let config = c.args.config.now in
     let old = c.args.sizes.now in
     if-err
-    (λ e. (e ≡ Memory) ⊎ ((e ≡ Range) × (HasNoEstimate old cells config ⊎ WiderPasses c.args.n cells config old)))
+    (λ e. (e ≡ Memory) ⊎ ((e ≡ Range) × (HasNoEstimate old cells config ⊎ WiderOutOfRange c.args.n cells config old)))
     c.from_residual-in_err-found.result _ c.from_residual-in_err-found.ensures.1
     (passes-before c.args.n cells config old c.estimate.new.self _ c.in_ok-estimate.ensures.ok c.in_err-found.ensures.err)
 

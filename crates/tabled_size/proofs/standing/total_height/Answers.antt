@@ -1,6 +1,6 @@
 use Rattle.std.proofs.Common.{◌∙◌, ℕ, List, Option, ap, length, option_map, refl, sym}
 use Rattle.tabled_size.specs.Estimates.{estimated_heights}
-use Rattle.tabled_size.specs.StandingSheet.{standing_sizes}
+use Rattle.tabled_size.specs.Standing.{standing_sizes}
 use Rattle.tabled_size.specs.Stored.{heights_of}
 use Rattle.tabled_size.proofs.Totalling.{reached_stands, height_moved}
 use Rattle.tabled_size.proofs.standing.total_height.Goals as goal

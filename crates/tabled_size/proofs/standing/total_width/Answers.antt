@@ -1,7 +1,7 @@
 use Rattle.std.proofs.Common.{◌∙◌, ℕ, List, Option, ap, option_map, refl, sym}
 use Rattle.tabled_base.specs.Cells.{columns}
 use Rattle.tabled_size.specs.Estimates.{estimated_widths}
-use Rattle.tabled_size.specs.StandingSheet.{standing_sizes}
+use Rattle.tabled_size.specs.Standing.{standing_sizes}
 use Rattle.tabled_size.specs.Stored.{widths_of}
 use Rattle.tabled_size.proofs.Totalling.{reached_stands, width_moved}
 use Rattle.tabled_size.proofs.standing.total_width.Goals as goal

@@ -1,5 +1,5 @@
 use Rattle.std.proofs.Common.{◌++◌, ◌∙◌, sym, ap, append-nil}
-use Rattle.tabled_grid.proofs.Sending.{further, stopped, took-more, took-none}
+use Rattle.tabled_row.proofs.Sending.{further, stopped, took-more, took-none}
 use Rattle.tabled.proofs.Blocks.{two_parts}
 use Rattle.tabled.proofs.Since.{advances_none, advances_then}
 use Rattle.tabled.proofs.block_sink.BlockSink.hold_parts.Goals as goal

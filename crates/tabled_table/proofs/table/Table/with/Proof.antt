@@ -143,7 +143,7 @@ with_spec 𝓤 𝓛 𝓜 𝓡 wired O L₀ g₁ d₁ m₁ =
     let Applied = λ (n : R.Denot). IsApplied (g₁.changes x) (g₁.hint x) r.now n in
     let Promised = λ (n : R.Denot). IsApplied (g₁.promises x) (g₁.hint x) r.now n in
     let Left = λ (e : TableError) (n : R.Denot). IsRefusedBy (g₁.refuses x e) r.now n in
-    let Passes = λ (e : TableError). (e ≡ Range → g₁.passes x r.now.records r.now.config r.now.dimension) in
+    let Passes = λ (e : TableError). (e ≡ Range → g₁.out_of_range x r.now.records r.now.config r.now.dimension) in
     calls_at ! (framed 𝓤 𝓛.H 𝓜 𝓣) G (met 𝓤 𝓛 𝓜 𝓡 (code.calls-tabled_table::table::Table::apply 𝓡.env wired) O L₀ g₁ d₁ m₁) z
     (and_then ! (get ! refl) (and_then ! (get ! refl) (no_more !))) (λ w.
     use1 𝓛 (later (some (λ (t : Done). ((‵ (flft (α ∷ []) full_share) ⊛ others) ⊛ ‵ ((result.the_row unit TE).own_val t (w ∷ []))) ⊛

@@ -1,0 +1,68 @@
+//! The columns and the rows of a table, as they are printed.
+ghost use Rattle.std.specs.Prelude.{◌<◌, length};
+ghost use Rattle.tabled_grid.specs.Picture.{columns_of, row_of};
+ghost use Rattle.tabled_size.specs.Holds.{IsSized};
+
+use crate::grid::Grid;
+use tabled_base::{PeekableRecords, Position};
+use tabled_config::Frame;
+use tabled_row::{CellBlock, Columns, Row};
+use tabled_size::Dimension;
+
+/// The columns of a table whose sizes are there.
+#[derive(Drop)]
+pub(crate) struct GridColumns<'a, R: PeekableRecords, D: Dimension> {
+    /// The table.
+    pub grid: &'a Grid<'a, R, D>,
+    ghost sized: { IsSized grid.now },
+}
+
+impl<'a, R: PeekableRecords, D: Dimension> Columns for GridColumns<'a, R, D> {
+    ghost sheet = { λ c. columns_of c.grid.now };
+
+    fn count_columns(&self) -> usize {
+        self.grid.count_columns()
+    }
+
+    fn width(&self, column: usize) -> usize {
+        self.grid.width(column)
+    }
+
+    fn frame(&self) -> &Frame {
+        self.grid.frame()
+    }
+}
+
+/// A row of a table whose sizes are there.
+#[derive(Drop)]
+pub(crate) struct GridRow<'a, R: PeekableRecords, D: Dimension> {
+    /// The table.
+    pub grid: &'a Grid<'a, R, D>,
+    /// The number of the row.
+    pub row: usize,
+    ghost sized: { IsSized grid.now },
+    ghost inside: { row < length grid.now.cells },
+}
+
+impl<'a, R: PeekableRecords, D: Dimension> Row<'a> for GridRow<'a, R, D> {
+    ghost sheet = { λ r. row_of r.grid.now r.row };
+
+    fn count_columns(&self) -> usize {
+        self.grid.count_columns()
+    }
+
+    fn height(&self) -> usize {
+        self.grid.height(self.row)
+    }
+
+    fn frame(&self) -> &Frame {
+        self.grid.frame()
+    }
+
+    fn cell(&self, column: usize) -> CellBlock<'a> {
+        self.grid.block(Position {
+            row: self.row,
+            column,
+        })
+    }
+}

@@ -1,0 +1,72 @@
+//! The columns of a table, and horizontal lines over them.
+ghost use Rattle.std.specs.Prelude.{◌≡◌, ◌<◌};
+ghost use Rattle.std.specs.List.{flat_map, range_with_len};
+ghost use Rattle.tabled_row.specs.Row.{ColumnSheet, rule_line, rule_piece};
+ghost use Rattle.tabled_row.specs.Sent.{Sent, Writes};
+
+use crate::edges::{put_left, put_piece, put_right};
+use crate::pieces::put_fill;
+use crate::text_sink::TextSink;
+use tabled_base::TableError;
+use tabled_config::{Frame, HorizontalLine};
+
+/// The columns of a table: how many there are, how wide each is, and what stands around and between them.
+pub trait Columns {
+    // What contracts see.
+    ghost sheet: { Self → ColumnSheet };
+
+    /// How many columns there are.
+    fn count_columns(&self) -> usize
+        ensures { result ≡ (sheet self.now).count };
+
+    /// How many text columns a column takes, padding included.
+    fn width(&self, column: usize) -> usize
+        requires { column < (sheet self.now).count }
+        ensures { result ≡ (sheet self.now).width column };
+
+    /// What stands around and between the columns.
+    fn frame(&self) -> &Frame
+        ensures { result.now ≡ (sheet self.now).frame };
+}
+
+fn put_rule_piece<C: Columns, S: TextSink>(
+    sink: &mut S,
+    columns: &C,
+    line: &HorizontalLine,
+    column: usize,
+) -> Result<(), TableError>
+    requires { column < (C.sheet columns.now).count }
+    ensures { Writes (S.sent sink.old) result (S.sent sink.new) (rule_piece (C.sheet columns.now) line.now column) }
+{
+    let there = columns.frame().has_bar(column);
+    put_piece(sink, there, line.intersection.unwrap_or(' '))?;
+    put_fill(sink, line.main.unwrap_or(' '), columns.width(column))
+}
+
+fn put_rule_pieces<C: Columns, S: TextSink>(
+    sink: &mut S,
+    columns: &C,
+    line: &HorizontalLine,
+) -> Result<(), TableError>
+    ensures { Writes (S.sent sink.old) result (S.sent sink.new)
+        (flat_map (rule_piece (C.sheet columns.now) line.now) (range_with_len 0 (C.sheet columns.now).count)) }
+{
+    'pieces: for column in 0..columns.count_columns() {
+        put_rule_piece(sink, columns, line, column)?;
+    }
+    Ok(())
+}
+
+/// A horizontal line.
+pub(crate) fn put_rule_line<C: Columns, S: TextSink>(
+    sink: &mut S,
+    columns: &C,
+    line: &HorizontalLine,
+) -> Result<(), TableError>
+    ensures { Writes (S.sent sink.old) result (S.sent sink.new) (rule_line (C.sheet columns.now) line.now) }
+{
+    let frame = columns.frame();
+    put_left(sink, frame, line.left.unwrap_or(' '))?;
+    put_rule_pieces(sink, columns, line)?;
+    put_right(sink, frame, line.right.unwrap_or(' '))
+}

@@ -1,0 +1,57 @@
+//! The text of a cell with the measures that were taken of it.
+ghost use Rattle.std.specs.Prelude.{◌≡◌, ◌-◌, ◌<◌, ◌^◌, length, slice_get, IfSome};
+ghost use Rattle.std.specs.Option.{option_map};
+ghost use Rattle.tabled_text.specs.Measure.{line_columns, lines_of, text_columns};
+ghost use Rattle.tabled_row.specs.Marks.{IsMarked};
+
+use crate::marks::Mark;
+use tabled_text::line_width;
+
+/// A text, its columns and its lines.
+#[derive(Clone, Copy)]
+pub struct Content<'a> {
+    pub text: &'a str,
+    pub columns: usize,
+    pub lines: usize,
+    ghost columns_are: { columns ≡ text_columns text.now },
+    ghost lines_are: { lines ≡ length (lines_of text.now) },
+}
+
+impl<'a> Content<'a> {
+    /// The line at an index with its columns, looked for from a mark on, which moves behind it. A text of
+    /// one line is that line, and isn't measured again.
+    pub(crate) fn line(&self, index: usize, mark: &mut Mark<'a>) -> Option<(&'a str, usize)>
+        requires index { index < 2 ^ 64 - 1 }
+        requires marked { IsMarked self.now.text.now mark.old }
+        ensures line { option_map (λ x. x.0.now) result
+            ≡ slice_get (lines_of self.now.text.now) index }
+        ensures columns { IfSome result (λ x. x.1 ≡ line_columns x.0.now) }
+        ensures marked { IsMarked self.now.text.now mark.new }
+    {
+        if self.lines == 1 {
+            return if index == 0 {
+                Some((self.text, self.columns))
+            } else {
+                None
+            };
+        }
+        let line = self.line_from(index, mark)?;
+        Some((line, line_width(line)))
+    }
+
+    /// The line at an index.
+    fn line_from(&self, index: usize, mark: &mut Mark<'a>) -> Option<&'a str>
+        requires index { index < 2 ^ 64 - 1 }
+        requires marked { IsMarked self.now.text.now mark.old }
+        ensures line { option_map (λ line. line.now) result ≡ slice_get (lines_of self.now.text.now) index }
+        ensures marked { IsMarked self.now.text.now mark.new }
+    {
+        if mark.line > index {
+            *mark = Mark::start(self.text);
+        }
+        'passed: while mark.line < index {
+            mark.next()?;
+        }
+        mark.next()
+    }
+}

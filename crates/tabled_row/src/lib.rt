@@ -1,0 +1,28 @@
+//! A row of cells and the horizontal lines between rows, written piece by piece to a sink.
+//!
+//! No line is built as a text, and printing takes no memory: each piece goes out as it comes. A row is anything that
+//! answers the blocks of its cells, so the rows of a table in memory and those of a stream print by the same calls.
+#![tactic(auto)]
+
+mod block;
+mod columns;
+mod content;
+mod edges;
+mod io_sink;
+mod kept;
+mod lines;
+mod marks;
+mod memory;
+mod pieces;
+mod room;
+mod row;
+mod text_sink;
+
+pub use block::CellBlock;
+pub use columns::Columns;
+pub use content::Content;
+pub use io_sink::IoSink;
+pub use lines::Lines;
+pub use marks::Marks;
+pub use row::Row;
+pub use text_sink::TextSink;

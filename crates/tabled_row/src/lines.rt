@@ -1,0 +1,174 @@
+//! Lines one below the other: those of rows and of margins, and horizontal lines.
+ghost use Rattle.std.specs.Prelude.{◌≡◌, ◌<◌, false, true, [], ◌∷◌, replicate};
+ghost use Rattle.std.proofs.Props.{props};
+ghost use Rattle.tabled_row.specs.Fill.{fill};
+ghost use Rattle.tabled_row.specs.Kept.{Keeps};
+ghost use Rattle.tabled_row.specs.Leading.{WritesLines, break};
+ghost use Rattle.tabled_row.specs.Marks.{AreClean, AreKept};
+ghost use Rattle.tabled_row.specs.Row.{ColumnSheet, RowSheet, row_line, row_lines, rule_if};
+ghost use Rattle.tabled_row.specs.Sent.{Sent, Writes};
+
+use crate::columns::Columns;
+use crate::kept::{KeptLine, put_kept_line};
+use crate::marks::Marks;
+use crate::pieces::put_fill;
+use crate::row::{Row, put_row_line};
+use crate::text_sink::TextSink;
+use tabled_base::TableError;
+use tabled_config::{HorizontalLine, Indent};
+
+/// The line feed before a line, if a line went before.
+fn put_break<S: TextSink>(sink: &mut S, begun: &mut bool) -> Result<(), TableError>
+    ensures printed { Writes (S.sent sink.old) result (S.sent sink.new) (break begun.old) }
+    ensures after { begun.new ≡ true }
+{
+    let before = *begun;
+    *begun = true;
+    if before {
+        sink.write_text("\n")
+    } else {
+        Ok(())
+    }
+}
+
+fn put_fill_line<S: TextSink>(
+    sink: &mut S,
+    begun: &mut bool,
+    c: char,
+    width: usize,
+) -> Result<(), TableError>
+    ensures { WritesLines (S.sent sink.old) begun.old result (S.sent sink.new) begun.new
+        (fill c width ∷ []) }
+{
+    put_break(sink, begun)?;
+    put_fill(sink, c, width)
+}
+
+/// The lines of a margin, each as wide as the whole.
+fn put_margin<S: TextSink>(
+    sink: &mut S,
+    begun: &mut bool,
+    side: Indent,
+    width: usize,
+) -> Result<(), TableError>
+    ensures { WritesLines (S.sent sink.old) begun.old result (S.sent sink.new) begun.new
+        (replicate side.size (fill side.fill width)) }
+{
+    'lines: for _i in 0..side.size {
+        put_fill_line(sink, begun, side.fill, width)?;
+    }
+    Ok(())
+}
+
+/// A line of a row, with the line feed before it.
+fn put_led_line<'a, R: Row<'a>, S: TextSink>(
+    sink: &mut S,
+    begun: &mut bool,
+    row: &R,
+    marks: &mut Marks<'a>,
+    index: usize,
+) -> Result<(), TableError>
+    requires index_in { index < (R.sheet row.now).height }
+    requires marked { AreKept (R.sheet row.now).text marks.old }
+    ensures printed { WritesLines (S.sent sink.old) begun.old result (S.sent sink.new) begun.new
+        (row_line (R.sheet row.now) index ∷ []) }
+    ensures marked { AreKept (R.sheet row.now).text marks.new }
+{
+    put_break(sink, begun)?;
+    put_row_line(sink, row, marks, index)
+}
+
+/// The lines of a row, of whose texts the marks are.
+#[tactic(auto, unfolding(crate::specs::Row::row_lines))]
+fn put_row_lines<'a, R: Row<'a>, S: TextSink>(
+    sink: &mut S,
+    begun: &mut bool,
+    row: &R,
+    marks: &mut Marks<'a>,
+) -> Result<(), TableError>
+    requires marked { AreKept (R.sheet row.now).text marks.old }
+    ensures printed { WritesLines (S.sent sink.old) begun.old result (S.sent sink.new) begun.new
+        (row_lines (R.sheet row.now)) }
+    ensures marked { AreKept (R.sheet row.now).text marks.new }
+{
+    'lines: for index in 0..row.height() {
+        put_led_line(sink, begun, row, marks, index)?;
+    }
+    Ok(())
+}
+
+/// Lines over the same columns while they are printed: whether a line went before, and what is kept for the next.
+#[derive(Drop)]
+pub struct Lines<'a, C: Columns> {
+    /// The columns.
+    pub columns: C,
+    begun: bool,
+    /// The horizontal line that was laid out last.
+    kept: KeptLine,
+    marks: Marks<'a>,
+    ghost known: { Keeps (C.sheet columns) kept },
+    ghost clean: { AreClean marks } by { Prim.hlevel props },
+}
+
+impl<'a, C: Columns> Lines<'a, C> {
+    /// No line so far.
+    pub fn new(columns: C, marks: Marks<'a>) -> Lines<'a, C>
+        requires { AreClean marks }
+        ensures columns { result.columns ≡ columns }
+        ensures begun { result.begun ≡ false }
+    {
+        Lines {
+            columns,
+            begun: false,
+            kept: KeptLine::new(),
+            marks,
+        }
+    }
+
+    /// The lines of a margin, each of so many columns.
+    pub fn put_margin<S: TextSink>(
+        &mut self,
+        sink: &mut S,
+        side: Indent,
+        width: usize,
+    ) -> Result<(), TableError>
+        ensures printed { WritesLines (S.sent sink.old) self.old.begun result (S.sent sink.new) self.new.begun
+            (replicate side.size (fill side.fill width)) }
+        ensures same { self.new.columns ≡ self.old.columns }
+    {
+        put_margin(sink, &mut self.begun, side, width)
+    }
+
+    /// A horizontal line, if there is one.
+    pub fn put_rule<S: TextSink>(
+        &mut self,
+        sink: &mut S,
+        rule: Option<HorizontalLine>,
+    ) -> Result<(), TableError>
+        ensures printed { WritesLines (S.sent sink.old) self.old.begun result (S.sent sink.new) self.new.begun
+            (rule_if (C.sheet self.old.columns) rule) }
+        ensures same { self.new.columns ≡ self.old.columns }
+    {
+        match rule {
+            Some(line) => {
+                put_break(sink, &mut self.begun)?;
+                put_kept_line(sink, &self.columns, &line, &mut self.kept)
+            }
+            None => Ok(()),
+        }
+    }
+
+    /// The lines of a row.
+    pub fn put_row<R: Row<'a>, S: TextSink>(
+        &mut self,
+        sink: &mut S,
+        row: &R,
+    ) -> Result<(), TableError>
+        ensures printed { WritesLines (S.sent sink.old) self.old.begun result (S.sent sink.new) self.new.begun
+            (row_lines (R.sheet row.now)) }
+        ensures same { self.new.columns ≡ self.old.columns }
+    {
+        self.marks.forget();
+        put_row_lines(sink, &mut self.begun, row, &mut self.marks)
+    }
+}

@@ -1,0 +1,120 @@
+//! A row of cells, a line at a time.
+ghost use Rattle.std.specs.Prelude.{◌≡◌, ◌<◌, []};
+ghost use Rattle.std.specs.List.{flat_map, range_with_len, slice_index_or};
+ghost use Rattle.tabled_row.specs.Marks.{AreKept};
+ghost use Rattle.tabled_row.specs.Row.{RowSheet, cell_block, cell_piece, row_line};
+ghost use Rattle.tabled_row.specs.Sent.{Sent, Writes};
+
+use crate::block::CellBlock;
+use crate::edges::{put_left, put_piece, put_right};
+use crate::marks::{Mark, Marks};
+use crate::text_sink::TextSink;
+use tabled_base::TableError;
+use tabled_config::Frame;
+
+/// A row of cells as it is printed: the blocks of the cells, and what stands around and between them.
+pub trait Row<'a> {
+    // What contracts see.
+    ghost sheet: { Self → RowSheet };
+
+    /// How many cells there are.
+    fn count_columns(&self) -> usize
+        ensures { result ≡ (sheet self.now).columns.count };
+
+    /// How many lines the row takes, padding included.
+    fn height(&self) -> usize
+        ensures { result ≡ (sheet self.now).height };
+
+    /// What stands around and between the cells.
+    fn frame(&self) -> &Frame
+        ensures { result.now ≡ (sheet self.now).columns.frame };
+
+    /// A cell as it is laid out.
+    fn cell(&self, column: usize) -> CellBlock<'a>
+        requires { column < (sheet self.now).columns.count }
+        ensures style { result.style ≡ (sheet self.now).style column }
+        ensures width { result.width ≡ (sheet self.now).columns.width column }
+        ensures height { result.height ≡ (sheet self.now).height }
+        ensures text { result.content.text.now ≡ (sheet self.now).text column };
+}
+
+/// A line of the block of a cell. Where its text has some lines, the next one is marked.
+fn put_block_line<'a, R: Row<'a>, S: TextSink>(
+    sink: &mut S,
+    row: &R,
+    marks: &mut Marks<'a>,
+    column: usize,
+    index: usize,
+) -> Result<(), TableError>
+    requires column_in { column < (R.sheet row.now).columns.count }
+    requires index_in { index < (R.sheet row.now).height }
+    requires marked { AreKept (R.sheet row.now).text marks.old }
+    ensures printed { Writes (S.sent sink.old) result (S.sent sink.new)
+        (slice_index_or (cell_block (R.sheet row.now) column) index []) }
+    ensures marked { AreKept (R.sheet row.now).text marks.new }
+{
+    let cell = row.cell(column);
+    let content = cell.content;
+    if content.lines <= 1 {
+        return cell.put_line(sink, &mut Mark::start(content.text), index);
+    }
+    let mut mark = marks.at(column, content.text);
+    cell.put_line(sink, &mut mark, index)?;
+    marks.keep(column, mark);
+    Ok(())
+}
+
+/// A line of a cell, with the vertical line before it.
+fn put_cell<'a, R: Row<'a>, S: TextSink>(
+    sink: &mut S,
+    row: &R,
+    marks: &mut Marks<'a>,
+    column: usize,
+    index: usize,
+) -> Result<(), TableError>
+    requires column_in { column < (R.sheet row.now).columns.count }
+    requires index_in { index < (R.sheet row.now).height }
+    requires marked { AreKept (R.sheet row.now).text marks.old }
+    ensures printed { Writes (S.sent sink.old) result (S.sent sink.new) (cell_piece (R.sheet row.now) index column) }
+    ensures marked { AreKept (R.sheet row.now).text marks.new }
+{
+    let frame = row.frame();
+    put_piece(sink, frame.has_bar(column), frame.inner.main)?;
+    put_block_line(sink, row, marks, column, index)
+}
+
+fn put_cells<'a, R: Row<'a>, S: TextSink>(
+    sink: &mut S,
+    row: &R,
+    marks: &mut Marks<'a>,
+    index: usize,
+) -> Result<(), TableError>
+    requires index_in { index < (R.sheet row.now).height }
+    requires marked { AreKept (R.sheet row.now).text marks.old }
+    ensures printed { Writes (S.sent sink.old) result (S.sent sink.new)
+        (flat_map (cell_piece (R.sheet row.now) index) (range_with_len 0 (R.sheet row.now).columns.count)) }
+    ensures marked { AreKept (R.sheet row.now).text marks.new }
+{
+    'cells: for column in 0..row.count_columns() {
+        put_cell(sink, row, marks, column, index)?;
+    }
+    Ok(())
+}
+
+/// A line of a row.
+pub(crate) fn put_row_line<'a, R: Row<'a>, S: TextSink>(
+    sink: &mut S,
+    row: &R,
+    marks: &mut Marks<'a>,
+    index: usize,
+) -> Result<(), TableError>
+    requires index_in { index < (R.sheet row.now).height }
+    requires marked { AreKept (R.sheet row.now).text marks.old }
+    ensures printed { Writes (S.sent sink.old) result (S.sent sink.new) (row_line (R.sheet row.now) index) }
+    ensures marked { AreKept (R.sheet row.now).text marks.new }
+{
+    let frame = row.frame();
+    put_left(sink, frame, frame.left.main)?;
+    put_cells(sink, row, marks, index)?;
+    put_right(sink, frame, frame.right.main)
+}
