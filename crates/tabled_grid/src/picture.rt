@@ -3,8 +3,11 @@ ghost use Rattle.std.specs.Prelude.{◌≡◌, ◌<◌, length};
 ghost use Rattle.std.specs.List.{flat_map, join_with_byte, range_with_len};
 ghost use Rattle.tabled_size.specs.Holds.{IsSized};
 ghost use Rattle.tabled_row.specs.Leading.{WritesLines};
+ghost use Rattle.tabled_row.specs.Marks.{AreClean};
 ghost use Rattle.tabled_row.specs.Sent.{Sent, Writes};
-ghost use Rattle.tabled_grid.specs.Picture.{filled_picture, row_part, rule};
+ghost use Rattle.tabled_row.specs.Going.{IsGoing};
+ghost use Rattle.std.proofs.Props.{props};
+ghost use Rattle.tabled_grid.specs.Picture.{columns_of, filled_picture, row_part, rule};
 
 use crate::grid::Grid;
 use crate::parts::{GridColumns, GridRow};
@@ -16,6 +19,7 @@ use tabled_size::Dimension;
 #[derive(Drop)]
 struct Picture<'a, R: PeekableRecords, D: Dimension> {
     lines: Lines<'a, GridColumns<'a, R, D>>,
+    ghost going: { IsGoing (columns_of lines.columns.grid.now) lines.kept lines.marks } by { Prim.hlevel props },
 }
 
 impl<'a, R: PeekableRecords, D: Dimension> Picture<'a, R, D> {
@@ -76,6 +80,7 @@ pub(crate) fn put_picture<'a, R: PeekableRecords, D: Dimension, S: TextSink>(
     whole: usize,
 ) -> Result<(), TableError>
     requires sized { IsSized grid.now }
+    requires clean { AreClean marks }
     ensures { Writes (S.sent sink.old) result (S.sent sink.new) (join_with_byte 10 (filled_picture grid.now whole)) }
 {
     let mut picture = Picture {

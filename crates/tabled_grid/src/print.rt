@@ -4,6 +4,7 @@ ghost use Rattle.tabled_size.specs.Sheet.{is_empty};
 ghost use Rattle.tabled_grid.specs.Grid.{sheet_by};
 ghost use Rattle.tabled_size.specs.Holds.{Holds, IsSized};
 ghost use Rattle.tabled_grid.specs.Printed.{Prints};
+ghost use Rattle.tabled_row.specs.Marks.{AreClean};
 ghost use Rattle.tabled_row.specs.Sent.{Sent};
 
 use crate::checks::{check_narrow, check_sizes, check_totals};
@@ -25,6 +26,7 @@ pub(crate) fn print_held<'a, R: PeekableRecords, D: Dimension, S: TextSink>(
     requires filled { is_empty grid.now.cells ≡ false }
     requires sized { IsSized grid.now }
     requires holds { Holds grid.now }
+    requires clean { AreClean marks }
     ensures { Prints false grid.now (S.sent sink.old) result (S.sent sink.new) }
 {
     let whole = check_totals(grid)?;

@@ -11,11 +11,10 @@ ghost use Rattle.tabled_pool.specs.Plans.{plan_of};
 
 use crate::block::put_block_line;
 use crate::find::find;
-use crate::pieces::{put_break, put_char};
 use crate::plan::{Drawing, border_char};
 use tabled_base::TableError;
 use tabled_boxes::Kind;
-use tabled_row::TextSink;
+use tabled_row::{CellBlock, Content, TextSink, put_char};
 
 /// What stands at a place: a leaf's line where it begins, one character of a line.
 #[tactic(auto, unfolding(crate::specs::Drawn::place_text, crate::specs::Drawn::leaf_line))]
@@ -38,14 +37,13 @@ fn put_place<S: TextSink>(
             if place.x != x {
                 return Ok(());
             }
-            put_block_line(
-                sink,
-                &drawing.style,
-                place.width,
-                place.height,
-                piece.text,
-                y - place.y,
-            )
+            let cell = CellBlock {
+                style: drawing.style,
+                width: place.width,
+                height: place.height,
+                content: Content::new(piece.text),
+            };
+            put_block_line(sink, &cell, y - place.y)
         }
         Kind::Bar => put_char(sink, border_char(drawing, Kind::Bar, place, x, y)),
         Kind::Rule => put_char(sink, border_char(drawing, Kind::Rule, place, x, y)),

@@ -6,7 +6,6 @@ mod block;
 mod draw;
 mod find;
 mod margins;
-mod pieces;
 mod plan;
 mod pool_table;
 

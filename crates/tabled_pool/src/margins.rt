@@ -9,11 +9,10 @@ ghost use Rattle.tabled_pool.specs.Margins.{with_margin, within_margin};
 ghost use Rattle.tabled_pool.specs.Plans.{plan_of};
 
 use crate::draw::put_line;
-use crate::pieces::{put_break, put_fill};
 use crate::plan::Drawing;
 use tabled_base::TableError;
 use tabled_config::{Indent, Sides};
-use tabled_row::TextSink;
+use tabled_row::{TextSink, put_break, put_fill};
 
 /// A line of the top or bottom margin, between the side margins.
 fn put_filled_line<S: TextSink>(

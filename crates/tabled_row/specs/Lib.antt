@@ -1,5 +1,6 @@
 pub mod Block
 pub mod Fill
+pub mod Going
 pub mod Kept
 pub mod Leading
 pub mod Marks

@@ -2,7 +2,7 @@
 ghost use Rattle.std.specs.Prelude.{◌≡◌, ◌≤◌, ◌<◌, ◌-◌, ◌^◌, []};
 ghost use Rattle.std.specs.List.{slice_index_or};
 ghost use Rattle.tabled_text.specs.Measure.{line_columns};
-ghost use Rattle.tabled_row.specs.Block.{above_text, before_text, block, cell_line, columns_before, fill_above, text_room};
+ghost use Rattle.tabled_row.specs.Block.{above_text, before_text, block, cell_line, columns_before, fill_above, free_lines, text_room};
 ghost use Rattle.tabled_row.specs.Marks.{IsMarked};
 ghost use Rattle.tabled_row.specs.Sent.{Sent, Writes};
 
@@ -76,7 +76,7 @@ impl<'a> CellBlock<'a> {
     }
 
     /// A line of the text, of so many columns, in the width of the cell.
-    fn put_text_line<S: TextSink>(
+    pub fn put_text_line<S: TextSink>(
         &self,
         sink: &mut S,
         line: &str,
@@ -96,10 +96,11 @@ impl<'a> CellBlock<'a> {
         put_behind(sink, behind, self.style.padding.right)
     }
 
-    /// The lines of the top fill above the text. In range: what alignment adds is at most the height less
-    /// the padding.
-    fn fill_above(&self) -> usize
-        ensures { result ≡ fill_above self.now.style self.now.height self.now.content.text.now }
+    /// The lines above the text that its alignment adds.
+    pub fn lines_above(&self) -> usize
+        ensures value { result ≡ above_text self.now.style.vertical (free_lines self.now.style self.now.height
+            self.now.content.text.now) }
+        ensures within { result ≤ self.now.height - self.now.style.padding.top.size }
     {
         let padding = self.style.padding;
         let free = self
@@ -107,7 +108,15 @@ impl<'a> CellBlock<'a> {
             .saturating_sub(self.content.lines)
             .saturating_sub(padding.top.size)
             .saturating_sub(padding.bottom.size);
-        padding.top.size + above_text(self.style.vertical, free)
+        above_text(self.style.vertical, free)
+    }
+
+    /// The lines of the top fill above the text. In range: what alignment adds is at most the height less
+    /// the padding.
+    fn fill_above(&self) -> usize
+        ensures { result ≡ fill_above self.now.style self.now.height self.now.content.text.now }
+    {
+        self.style.padding.top.size + self.lines_above()
     }
 
     /// A line of the block. A line of the text is looked for from a mark on.

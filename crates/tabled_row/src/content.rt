@@ -5,7 +5,7 @@ ghost use Rattle.tabled_text.specs.Measure.{line_columns, lines_of, text_columns
 ghost use Rattle.tabled_row.specs.Marks.{IsMarked};
 
 use crate::marks::Mark;
-use tabled_text::line_width;
+use tabled_text::{count_lines, line_width, text_width};
 
 /// A text, its columns and its lines.
 #[derive(Clone, Copy)]
@@ -18,6 +18,17 @@ pub struct Content<'a> {
 }
 
 impl<'a> Content<'a> {
+    /// A text, which is measured.
+    pub fn new(text: &'a str) -> Content<'a>
+        ensures { result.text.now ≡ text.now }
+    {
+        Content {
+            text,
+            columns: text_width(text),
+            lines: count_lines(text),
+        }
+    }
+
     /// The line at an index with its columns, looked for from a mark on, which moves behind it. A text of
     /// one line is that line, and isn't measured again.
     pub(crate) fn line(&self, index: usize, mark: &mut Mark<'a>) -> Option<(&'a str, usize)>

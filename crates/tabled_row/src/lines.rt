@@ -1,8 +1,7 @@
 //! Lines one below the other: those of rows and of margins, and horizontal lines.
 ghost use Rattle.std.specs.Prelude.{◌≡◌, ◌<◌, false, true, [], ◌∷◌, replicate};
-ghost use Rattle.std.proofs.Props.{props};
 ghost use Rattle.tabled_row.specs.Fill.{fill};
-ghost use Rattle.tabled_row.specs.Kept.{Keeps};
+ghost use Rattle.tabled_row.specs.Going.{IsGoing};
 ghost use Rattle.tabled_row.specs.Leading.{WritesLines, break};
 ghost use Rattle.tabled_row.specs.Marks.{AreClean, AreKept};
 ghost use Rattle.tabled_row.specs.Row.{ColumnSheet, RowSheet, row_line, row_lines, rule_if};
@@ -18,7 +17,7 @@ use tabled_base::TableError;
 use tabled_config::{HorizontalLine, Indent};
 
 /// The line feed before a line, if a line went before.
-fn put_break<S: TextSink>(sink: &mut S, begun: &mut bool) -> Result<(), TableError>
+pub fn put_break<S: TextSink>(sink: &mut S, begun: &mut bool) -> Result<(), TableError>
     ensures printed { Writes (S.sent sink.old) result (S.sent sink.new) (break begun.old) }
     ensures after { begun.new ≡ true }
 {
@@ -106,8 +105,6 @@ pub struct Lines<'a, C: Columns> {
     /// The horizontal line that was laid out last.
     kept: KeptLine,
     marks: Marks<'a>,
-    ghost known: { Keeps (C.sheet columns) kept },
-    ghost clean: { AreClean marks } by { Prim.hlevel props },
 }
 
 impl<'a, C: Columns> Lines<'a, C> {
@@ -116,6 +113,7 @@ impl<'a, C: Columns> Lines<'a, C> {
         requires { AreClean marks }
         ensures columns { result.columns ≡ columns }
         ensures begun { result.begun ≡ false }
+        ensures going { IsGoing (C.sheet result.columns) result.kept result.marks }
     {
         Lines {
             columns,
@@ -132,9 +130,11 @@ impl<'a, C: Columns> Lines<'a, C> {
         side: Indent,
         width: usize,
     ) -> Result<(), TableError>
+        requires going { IsGoing (C.sheet self.old.columns) self.old.kept self.old.marks }
         ensures printed { WritesLines (S.sent sink.old) self.old.begun result (S.sent sink.new) self.new.begun
             (replicate side.size (fill side.fill width)) }
         ensures same { self.new.columns ≡ self.old.columns }
+        ensures going { IsGoing (C.sheet self.new.columns) self.new.kept self.new.marks }
     {
         put_margin(sink, &mut self.begun, side, width)
     }
@@ -145,9 +145,11 @@ impl<'a, C: Columns> Lines<'a, C> {
         sink: &mut S,
         rule: Option<HorizontalLine>,
     ) -> Result<(), TableError>
+        requires going { IsGoing (C.sheet self.old.columns) self.old.kept self.old.marks }
         ensures printed { WritesLines (S.sent sink.old) self.old.begun result (S.sent sink.new) self.new.begun
             (rule_if (C.sheet self.old.columns) rule) }
         ensures same { self.new.columns ≡ self.old.columns }
+        ensures going { IsGoing (C.sheet self.new.columns) self.new.kept self.new.marks }
     {
         match rule {
             Some(line) => {
@@ -164,9 +166,11 @@ impl<'a, C: Columns> Lines<'a, C> {
         sink: &mut S,
         row: &R,
     ) -> Result<(), TableError>
+        requires going { IsGoing (C.sheet self.old.columns) self.old.kept self.old.marks }
         ensures printed { WritesLines (S.sent sink.old) self.old.begun result (S.sent sink.new) self.new.begun
             (row_lines (R.sheet row.now)) }
         ensures same { self.new.columns ≡ self.old.columns }
+        ensures going { IsGoing (C.sheet self.new.columns) self.new.kept self.new.marks }
     {
         self.marks.forget();
         put_row_lines(sink, &mut self.begun, row, &mut self.marks)

@@ -11,7 +11,8 @@ const SPACES: &str = "                                                          
 
 const DASHES: &str = "----------------------------------------------------------------";
 
-pub(crate) fn put_char<S: TextSink>(sink: &mut S, c: char) -> Result<(), TableError>
+/// One character.
+pub fn put_char<S: TextSink>(sink: &mut S, c: char) -> Result<(), TableError>
     ensures { Writes (S.sent sink.old) result (S.sent sink.new) (encode_utf8 c) }
 {
     let mut room = [0u8; 4];
@@ -109,7 +110,7 @@ fn put_copies<S: TextSink>(sink: &mut S, c: char, count: usize) -> Result<(), Ta
 }
 
 /// A character a number of times; spaces and dashes go out in blocks.
-pub(crate) fn put_fill<S: TextSink>(sink: &mut S, c: char, count: usize) -> Result<(), TableError>
+pub fn put_fill<S: TextSink>(sink: &mut S, c: char, count: usize) -> Result<(), TableError>
     ensures { Writes (S.sent sink.old) result (S.sent sink.new) (fill c count) }
 {
     match c {

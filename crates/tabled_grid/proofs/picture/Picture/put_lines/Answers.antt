@@ -7,24 +7,30 @@ use Rattle.tabled_grid.proofs.picture.Picture.put_lines.Goals as goal
 
 pub returns-in_err-put_margin : goal.returns-in_err-put_margin
 unfolding filled_picture
-returns-in_err-put_margin g c = lines-stopped-first _ _ _ _ _ (rw c.frame.ensures at c.in_err-put_margin.ensures) c.from_residual.ensures.1 refl
+returns-in_err-put_margin g c = lines-stopped-first _ _ _ _ _ (rw c.frame.ensures at c.in_err-put_margin.ensures.printed) c.from_residual.ensures.1 refl
 
 pub returns-in_err-put_rows : goal.returns-in_err-put_rows
 unfolding filled_picture
 returns-in_err-put_rows g c =
-    lines-stopped _ _ _ _ _ (rw c.frame.ensures at c.in_ok-put_margin.ensures) c.in_err-put_rows.ensures.printed c.from_residual-in_err-put_rows.ensures.1 refl
+    lines-stopped _ _ _ _ _ (rw c.frame.ensures at c.in_ok-put_margin.ensures.printed)
+    (rw c.in_ok-put_margin.ensures.same at c.in_err-put_rows.ensures.printed) c.from_residual-in_err-put_rows.ensures.1 refl
 
 pub returns-in_err-put_rule : goal.returns-in_err-put_rule
 unfolding filled_picture
 returns-in_err-put_rule g c =
     lines-stopped _
     (let margin = (frame c.args.self.now.lines.columns.grid.now.config).margin.bottom in replicate margin.size (fill margin.fill c.args.whole))
-    _ _ _ (lines-further c.in_ok-put_margin.ensures c.in_ok-put_rows.ensures.printed refl) (rw c.in_ok-put_rows.ensures.same at c.in_err-put_rule.ensures.printed) c.from_residual-in_err-put_rule.ensures.1
+    _ _ _
+    (lines-further c.in_ok-put_margin.ensures.printed (rw c.in_ok-put_margin.ensures.same at c.in_ok-put_rows.ensures.printed) refl)
+    (rw (c.in_ok-put_rows.ensures.same, c.in_ok-put_margin.ensures.same) at c.in_err-put_rule.ensures.printed) c.from_residual-in_err-put_rule.ensures.1
     (rw (c.frame.ensures, c.count_rows.ensures, append_assoc) refl)
 
 pub returns : goal.returns
 unfolding filled_picture
 returns g c =
     lines-finished _ _ _ _ _
-    (lines-further (lines-further c.in_ok-put_margin.ensures c.in_ok-put_rows.ensures.printed refl) (rw c.in_ok-put_rows.ensures.same at c.in_ok-put_rule.ensures.printed) refl) c.put_margin-2.ensures
+    (lines-further
+    (lines-further c.in_ok-put_margin.ensures.printed (rw c.in_ok-put_margin.ensures.same at c.in_ok-put_rows.ensures.printed) refl)
+    (rw (c.in_ok-put_rows.ensures.same, c.in_ok-put_margin.ensures.same) at c.in_ok-put_rule.ensures.printed) refl)
+    c.put_margin-2.ensures.printed
     (rw (c.frame.ensures, c.count_rows.ensures, append_assoc, append_assoc) refl)

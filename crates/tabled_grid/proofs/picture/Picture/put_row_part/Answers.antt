@@ -9,4 +9,4 @@ returns-in_err-put_rule-clause-printed g c = lines-stopped-first _ _ _ _ _ c.in_
 
 pub returns-clause-printed : goal.returns-clause-printed
 unfolding row_part
-returns-clause-printed g c = lines-finished _ _ _ _ _ c.in_ok-put_rule.ensures.printed (rw c.in_ok-put_rule.ensures.same at c.put_row.ensures.printed) refl
+returns-clause-printed g c = lines-finished _ _ _ _ _ c.in_ok-put_rule.ensures.printed c.put_row.ensures.printed refl
