@@ -25,7 +25,7 @@ fn put_buffered<S: TextSink>(alloc: Global, text: &str, sink: &mut S) -> Result<
         return Ok(());
     }
     let records = text_rows(alloc, text)?;
-    print_estimated(alloc, &records, &new_config(alloc), sink)
+    print_estimated(alloc, sink, &records, &new_config(alloc))
 }
 
 /// Prints the table of a text: a row a line (a last line feed ends the last row, and the empty text has

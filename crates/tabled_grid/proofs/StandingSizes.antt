@@ -9,7 +9,7 @@ use Rattle.tabled_size.specs.declared.complete_dimension.CompleteDimension.{Comp
 use Rattle.tabled_size.specs.Estimates.{estimated_heights, estimated_widths}
 use Rattle.tabled_size.specs.FilledIn.{HasNoEstimate, IsFilledIn}
 use Rattle.tabled_size.specs.Reached.{reached}
-use Rattle.tabled_size.specs.Sheet.{Sheet, is_empty}
+use Rattle.tabled_size.specs.Sheet.{Sheet, estimated, is_empty}
 use Rattle.tabled_size.specs.Entries.{stored_at}
 use Rattle.tabled_size.specs.Standing.{standing, standing_sizes}
 use Rattle.tabled_size.specs.Stored.{heights_of, widths_of}
@@ -63,6 +63,20 @@ module _ (cells : List (List (List ℕ))) (config : SpannedConfig) where
       (ap (λ o. reached (stored_at o) (length cells)) filled.heights
       ∙ reached_filled (heights_of copy) (estimated_heights cells config) (length cells) (heights_length cells config)
       ∙ ap (λ o. standing_sizes o (estimated_heights cells config) (length cells)) h)
+
+  -- a copy has the sizes that stand
+  pub same_standing : (sizes copy : CompleteDimension) → widths_of copy ≡ widths_of sizes → heights_of copy ≡ heights_of sizes → standing cells config copy ≡ standing cells config sizes
+  same_standing sizes copy w h =
+      same_sizes _ _ _ _
+      (ap (λ o. standing_sizes o (estimated_widths cells config) (columns cells)) w)
+      (ap (λ o. standing_sizes o (estimated_heights cells config) (length cells)) h)
+
+  -- where nothing is stored the estimates stand
+  pub standing_estimated : (sizes : CompleteDimension) → widths_of sizes ≡ None → heights_of sizes ≡ None → standing cells config sizes ≡ estimated cells config
+  standing_estimated sizes w h =
+      same_sizes _ _ _ _
+      (ap (λ o. standing_sizes o (estimated_widths cells config) (columns cells)) w)
+      (ap (λ o. standing_sizes o (estimated_heights cells config) (length cells)) h)
 
   -- what a test of stored sizes says of those that stand
   pub widths_checked : {T : Type 0} (r : Result T TableError) (sizes : CompleteDimension) (list : List ℕ) (n : ℕ) → n ≡ columns cells → widths_of sizes ≡ Some list → OnOk r (n ≤ length (reached (stored_at (widths_of sizes)) n)) → OnOk r (columns cells ≤ length (standing cells config sizes).widths)

@@ -23,10 +23,10 @@ use tabled_size::{CompleteDimension, Estimate, is_empty};
 /// column doesn't hold, `Range` where a total passes the greatest `usize`; later only for what the sink
 /// refuses. Memory is taken where a list isn't stored, and may be refused then.
 pub fn print_standing<R: PeekableRecords, S: TextSink>(
+    sink: &mut S,
     records: &R,
     config: &SpannedConfig,
     stored: &CompleteDimension,
-    sink: &mut S,
 ) -> Result<(), TableError>
     ensures { Prints (not (is_stored stored.now)) (standing (R.cells records.now) config.now stored.now)
         (S.sent sink.old) result (S.sent sink.new) }
@@ -39,15 +39,15 @@ pub fn print_standing<R: PeekableRecords, S: TextSink>(
         let grid = Grid::new(records, config, stored);
         return print_held(sink, &grid, Marks::new());
     }
-    print_filled_in(records, config, stored, sink)
+    print_copied(sink, records, config, stored)
 }
 
-/// Prints a table with a row and a column, the sizes that aren't stored estimated.
-fn print_filled_in<R: PeekableRecords, S: TextSink>(
+/// Prints a table with a row and a column, with a copy of the stored sizes that estimates fill in.
+fn print_copied<R: PeekableRecords, S: TextSink>(
+    sink: &mut S,
     records: &R,
     config: &SpannedConfig,
     stored: &CompleteDimension,
-    sink: &mut S,
 ) -> Result<(), TableError>
     requires filled { is_empty (R.cells records.now) ≡ false }
     requires sized { IsSized (standing (R.cells records.now) config.now stored.now) }
@@ -55,7 +55,23 @@ fn print_filled_in<R: PeekableRecords, S: TextSink>(
     ensures { Prints true (standing (R.cells records.now) config.now stored.now)
         (S.sent sink.old) result (S.sent sink.new) }
 {
-    let mut sizes = stored.clone()?;
+    let copy = stored.clone()?;
+    print_filled_in(sink, records, config, copy)
+}
+
+/// Prints a table with a row and a column, the sizes that aren't stored estimated.
+fn print_filled_in<R: PeekableRecords, S: TextSink>(
+    sink: &mut S,
+    records: &R,
+    config: &SpannedConfig,
+    mut sizes: CompleteDimension,
+) -> Result<(), TableError>
+    requires filled { is_empty (R.cells records.now) ≡ false }
+    requires sized { IsSized (standing (R.cells records.now) config.now sizes) }
+    requires holds { Holds (standing (R.cells records.now) config.now sizes) }
+    ensures { Prints true (standing (R.cells records.now) config.now sizes)
+        (S.sent sink.old) result (S.sent sink.new) }
+{
     sizes.estimate(records, config)?;
     let marks = Marks::for_columns(sizes.allocator(), records.count_columns())?;
     let grid = Grid::new(records, config, &sizes);
@@ -67,13 +83,16 @@ fn print_filled_in<R: PeekableRecords, S: TextSink>(
 /// `usize`.
 pub fn print_estimated<R: PeekableRecords, S: TextSink>(
     alloc: Global,
+    sink: &mut S,
     records: &R,
     config: &SpannedConfig,
-    sink: &mut S,
 ) -> Result<(), TableError>
     ensures printed { Prints true (estimated (R.cells records.now) config.now)
         (S.sent sink.old) result (S.sent sink.new) }
     ensures only { IfErr result (λ e. (e ≡ Memory) ⊎ ((e ≡ Range) ⊎ (e ≡ Writer))) }
 {
-    print_standing(records, config, &CompleteDimension::new(alloc), sink)
+    if is_empty(records) {
+        return Ok(());
+    }
+    print_filled_in(sink, records, config, CompleteDimension::new(alloc))
 }

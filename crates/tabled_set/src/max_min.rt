@@ -10,12 +10,12 @@ use tabled_config::SpannedConfig;
 
 /// As a width the columns of the widest cell, as a height the lines of the highest one; without a cell 0. Padding
 /// doesn't count. Never refused.
-#[derive(Debug)]
+#[derive(Debug, Drop)]
 pub struct Max;
 
 /// As a width the greatest, over the rows, of a row's narrowest cell; as a height the least, over the rows, of a row's
 /// highest cell; without a cell 0. Padding doesn't count. Never refused.
-#[derive(Debug)]
+#[derive(Debug, Drop)]
 pub struct Min;
 
 impl Measurement<Width> for Max {

@@ -16,12 +16,12 @@ use tabled_config::SpannedConfig;
 
 /// The direction across a table: what measures a `Width` answers text columns, and an option of it changes
 /// how wide cells and columns are.
-#[derive(Debug)]
+#[derive(Debug, Drop)]
 pub struct Width;
 
 /// The direction down a table: what measures a `Height` answers lines, and an option of it changes how high
 /// cells and rows are.
-#[derive(Debug)]
+#[derive(Debug, Drop)]
 pub struct Height;
 
 /// A number that an option reads from the table that it changes: text columns where `A` is `Width`, lines

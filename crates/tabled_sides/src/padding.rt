@@ -19,7 +19,7 @@ pub struct Padding {
 }
 
 /// A direction in which padding expands.
-#[derive(Debug)]
+#[derive(Debug, Drop)]
 pub enum PaddingExpand {
     /// To the left and right.
     Horizontal,

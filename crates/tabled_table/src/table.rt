@@ -221,7 +221,7 @@ impl Table {
     pub fn write_to<S: TextSink>(&self, sink: &mut S) -> Result<(), TableError>
         ensures { Prints (not (is_stored self.now.dimension)) (sheet self.now) (S.sent sink.old) result (S.sent sink.new) }
     {
-        print_standing(&self.records, self.config.as_ref(), &self.dimension, sink)
+        print_standing(sink, &self.records, self.config.as_ref(), &self.dimension)
     }
 
     /// The text that `write_to` writes. Refused for memory, and for what a table is refused by `write_to`.

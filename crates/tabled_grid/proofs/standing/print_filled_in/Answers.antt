@@ -1,4 +1,4 @@
-use Rattle.std.proofs.Common.{◌∙◌, false, subst, sym}
+use Rattle.std.proofs.Common.{◌∙◌, false, refl, subst, sym}
 use Rattle.tabled_size.specs.Sheet.{Sheet}
 use Rattle.tabled_size.specs.Standing.{standing}
 use Rattle.tabled_size.specs.Holds.{Holds, IsSized}
@@ -9,29 +9,29 @@ use Rattle.tabled_grid.proofs.standing.print_filled_in.Goals as goal
 
 pub returns-in_err-estimate : goal.returns-in_err-estimate
 returns-in_err-estimate g c =
-    refused_unestimated (g.R.ExactRecords.cells c.args.records.now) c.args.config.now c.args.stored.now c.in_ok-sizes.sizes _ _ _
-    c.in_ok-sizes.ensures.widths c.in_ok-sizes.ensures.heights c.requires.filled c.requires.sized c.requires.holds
+    refused_unestimated (g.R.ExactRecords.cells c.args.records.now) c.args.config.now c.args.sizes c.args.sizes _ _ _
+    refl refl c.requires.filled c.requires.sized c.requires.holds
     c.in_err-estimate.ensures.only c.from_residual-in_err-estimate.ensures.1
 
 pub print_held-requires-clause-sized : goal.print_held-requires-clause-sized
 print_held-requires-clause-sized g c =
     subst IsSized
-    (sym (c.new-grid.ensures ∙ answered_filled (g.R.ExactRecords.cells c.args.records.now) c.args.config.now c.args.stored.now c.in_ok-sizes.sizes c.estimate.new.self
-    c.in_ok-sizes.ensures.widths c.in_ok-sizes.ensures.heights c.in_ok-estimate.ensures.ok))
+    (sym (c.new-grid.ensures ∙ answered_filled (g.R.ExactRecords.cells c.args.records.now) c.args.config.now c.args.sizes c.args.sizes c.estimate.new.self
+    refl refl c.in_ok-estimate.ensures.ok))
     c.requires.sized
 
 pub print_held-requires-clause-holds : goal.print_held-requires-clause-holds
 print_held-requires-clause-holds g c =
     subst Holds
-    (sym (c.new-grid.ensures ∙ answered_filled (g.R.ExactRecords.cells c.args.records.now) c.args.config.now c.args.stored.now c.in_ok-sizes.sizes c.estimate.new.self
-    c.in_ok-sizes.ensures.widths c.in_ok-sizes.ensures.heights c.in_ok-estimate.ensures.ok))
+    (sym (c.new-grid.ensures ∙ answered_filled (g.R.ExactRecords.cells c.args.records.now) c.args.config.now c.args.sizes c.args.sizes c.estimate.new.self
+    refl refl c.in_ok-estimate.ensures.ok))
     c.requires.holds
 
 pub returns : goal.returns
 returns g c =
     let P : Sheet → Type 0 = λ t. Prints false t (g.S.TextSink.sent c.args.sink.now) c.print_held.result (g.S.TextSink.sent c.print_held.new.sink) in
-    estimating (standing (g.R.ExactRecords.cells c.args.records.now) c.args.config.now c.args.stored.now)
+    estimating (standing (g.R.ExactRecords.cells c.args.records.now) c.args.config.now c.args.sizes)
     (g.S.TextSink.sent c.args.sink.now) (g.S.TextSink.sent c.print_held.new.sink) c.print_held.result (subst P
-    (c.new-grid.ensures ∙ answered_filled (g.R.ExactRecords.cells c.args.records.now) c.args.config.now c.args.stored.now c.in_ok-sizes.sizes c.estimate.new.self
-    c.in_ok-sizes.ensures.widths c.in_ok-sizes.ensures.heights c.in_ok-estimate.ensures.ok)
+    (c.new-grid.ensures ∙ answered_filled (g.R.ExactRecords.cells c.args.records.now) c.args.config.now c.args.sizes c.args.sizes c.estimate.new.self
+    refl refl c.in_ok-estimate.ensures.ok)
     c.print_held.ensures)

@@ -35,5 +35,5 @@ returns-then-is_complete g c =
 pub returns : goal.returns
 returns g c =
     let Q : Bool → Type 0 = λ estimates. Prints estimates (standing (g.R.ExactRecords.cells c.args.records.now) c.args.config.now c.args.stored.now)
-    (g.S.TextSink.sent c.args.sink.now) c.print_filled_in.result (g.S.TextSink.sent c.print_filled_in.new.sink) in
-    subst Q (ap not (sym (sym c.is_complete.ensures ∙ c.if-is_complete.false))) c.print_filled_in.ensures
+    (g.S.TextSink.sent c.args.sink.now) c.print_copied.result (g.S.TextSink.sent c.print_copied.new.sink) in
+    subst Q (ap not (sym (sym c.is_complete.ensures ∙ c.if-is_complete.false))) c.print_copied.ensures
