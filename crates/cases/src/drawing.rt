@@ -1,4 +1,5 @@
 //! Tables of rows, and what they answer.
+ghost use Rattle.std.specs.Prelude.{◌<◌, length};
 
 use crate::fault::Fault;
 use crate::reading::{list_of, text_of};
@@ -33,18 +34,7 @@ fn push_row(alloc: Global, builder: &mut Builder, row: &[Value]) -> Result<(), F
 /// What a table answers to a question.
 pub fn answer(alloc: Global, table: &Table, question: &str) -> Result<String, Fault> {
     match question {
-        "picture" => match printed(alloc, table)? {
-            Ok(text) => Ok(text),
-            Err(error) => shown_word(alloc, error),
-        },
-        "refused" => match printed(alloc, table)? {
-            Ok(_) => Ok(String::new(alloc)),
-            Err(error) => shown_word(alloc, error),
-        },
-        "top" => match printed(alloc, table)? {
-            Ok(text) => Ok(String::from_str(alloc, first_line(text.as_str()))?),
-            Err(error) => shown_word(alloc, error),
-        },
+        "picture" | "top" | "refused" => answer_printed(alloc, table, question),
         "width" => shown_number(alloc, table.total_width()),
         "height" => shown_number(alloc, table.total_height()),
         "widths" => shown_sizes(alloc, table.get_dimension().get_widths()),
@@ -56,10 +46,16 @@ pub fn answer(alloc: Global, table: &Table, question: &str) -> Result<String, Fa
     }
 }
 
-fn first_line(text: &str) -> &str {
-    match text.split_once('\n') {
-        Some((first, _)) => first,
-        None => text,
+// The picture, its first line, or nothing; and where the table is refused, the word of it.
+fn answer_printed(alloc: Global, table: &Table, question: &str) -> Result<String, Fault> {
+    match (printed(alloc, table)?, question) {
+        (Ok(text), "picture") => Ok(text),
+        (Ok(text), "top") => {
+            let top = text.split('\n').next().unwrap_or("");
+            Ok(String::from_str(alloc, top)?)
+        }
+        (Ok(_), _) => Ok(String::new(alloc)),
+        (Err(error), _) => shown_word(alloc, error),
     }
 }
 
@@ -111,7 +107,9 @@ fn show_row(
     text: &mut String,
     records: &VecRecords<Text<String>>,
     row: usize,
-) -> Result<(), AllocError> {
+) -> Result<(), AllocError>
+    requires { row < length records.now }
+{
     for column in 0..records.count_columns() {
         let cell = records.get_text(Position { row, column });
         write!(text, "{cell:?} ")?;

@@ -24,31 +24,17 @@ struct Narrowing<'a> {
 }
 
 impl<'a> Narrowing<'a> {
-    // With another word: `keep_words`, `multiline`, `suffix=`, `limit=` or `priority=`.
-    fn with(self, word: &'a str) -> Result<Narrowing<'a>, Fault> {
+    // Takes another word: `keep_words`, `multiline`, `suffix=`, `limit=` or `priority=`.
+    fn take(&mut self, word: &'a str) -> Result<(), Fault> {
         match word.split_once('=') {
-            Some(("suffix", suffix)) => Ok(Narrowing { suffix, ..self }),
-            Some(("priority", priority)) => Ok(Narrowing { priority, ..self }),
-            Some(("limit", name)) => {
-                let limit = limit(name)?;
-                Ok(Narrowing { limit, ..self })
-            }
-            _ => self.with_flag(word),
+            Some(("suffix", suffix)) => self.suffix = suffix,
+            Some(("priority", priority)) => self.priority = priority,
+            Some(("limit", name)) => self.limit = limit(name)?,
+            None if word == "keep_words" => self.keep_words = true,
+            None if word == "multiline" => self.multiline = true,
+            _ => return Err(Fault::Unknown("no such way to narrow")),
         }
-    }
-
-    fn with_flag(self, word: &str) -> Result<Narrowing<'a>, Fault> {
-        match word {
-            "keep_words" => Ok(Narrowing {
-                keep_words: true,
-                ..self
-            }),
-            "multiline" => Ok(Narrowing {
-                multiline: true,
-                ..self
-            }),
-            _ => Err(Fault::Unknown("no such way to narrow")),
-        }
+        Ok(())
     }
 
     fn wrap(self) -> Wrap {
@@ -87,7 +73,7 @@ fn read<'a>(words: &mut Words<'a>) -> Result<Narrowing<'a>, Fault> {
     };
     for word in words.others().split(' ') {
         if !word.is_empty() {
-            narrow = narrow.with(word)?;
+            narrow.take(word)?;
         }
     }
     Ok(narrow)

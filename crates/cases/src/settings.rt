@@ -14,19 +14,12 @@ use tabled::settings::{Height, Margin, Padding, Style, Width};
 /// Obeys a command.
 pub fn set(alloc: Global, table: &mut Table, command: &str) -> Result<(), Fault> {
     let mut words = Words::new(command);
-    match words.word() {
+    let kind = words.word();
+    match kind {
         "wrap" => narrow(table, true, &mut words)?,
         "truncate" => narrow(table, false, &mut words)?,
-        "widths" => {
-            let widths = words.numbers(alloc)?;
-            table.get_dimension_mut().set_widths(widths);
-        }
-        "heights" => {
-            let heights = words.numbers(alloc)?;
-            table.get_dimension_mut().set_heights(heights);
-        }
-        "list" => set_list(alloc, table, &mut words)?,
-        kind => set_look(table, kind, &mut words)?,
+        "widths" | "heights" | "list" => set_sizes(alloc, table, kind, &mut words)?,
+        _ => set_look(table, kind, &mut words)?,
     }
     if words.has_more() {
         return Err(Fault::Unknown("too many words"));
@@ -34,11 +27,20 @@ pub fn set(alloc: Global, table: &mut Table, command: &str) -> Result<(), Fault>
     Ok(())
 }
 
-// Stores a list of sizes as an option.
-fn set_list(alloc: Global, table: &mut Table, words: &mut Words<'_>) -> Result<(), Fault> {
-    match words.word() {
-        "widths" => table.apply(Width::list(alloc, words.numbers(alloc)?)?)?,
-        "heights" => table.apply(Height::list(alloc, words.numbers(alloc)?)?)?,
+// Stores sizes directly, or lists of them as options.
+fn set_sizes(
+    alloc: Global,
+    table: &mut Table,
+    kind: &str,
+    words: &mut Words<'_>,
+) -> Result<(), Fault> {
+    let direction = if kind == "list" { words.word() } else { kind };
+    let sizes = words.numbers(alloc)?;
+    match (kind, direction) {
+        ("list", "widths") => table.apply(Width::list(alloc, sizes)?)?,
+        ("list", "heights") => table.apply(Height::list(alloc, sizes)?)?,
+        (_, "widths") => table.get_dimension_mut().set_widths(sizes),
+        (_, "heights") => table.get_dimension_mut().set_heights(sizes),
         _ => return Err(Fault::Unknown("no such list")),
     }
     Ok(())
