@@ -33,11 +33,11 @@ fn judge_text(alloc: Global, case: &toml::Table, report: &mut String) -> Result<
 // A table that is set and asked.
 fn judge_table(alloc: Global, case: &toml::Table, report: &mut String) -> Result<(), Fault> {
     let mut table = table_of(alloc, list_at(case, "rows")?)?;
-    let refused = set_each(alloc, &mut table, list_at(case, "set")?, report)?;
-    if refused.is_some() && !case.contains_key("refused") {
+    let stopped = set_each(alloc, &mut table, list_at(case, "set")?, report)?;
+    if stopped.is_some() && !case.contains_key("stopped") {
         return Err(Fault::Unknown("a setting is refused"));
     }
-    judge_answers(alloc, &table, refused, case, report)
+    judge_answers(alloc, &table, stopped, case, report)
 }
 
 // Obeys the commands, up to one that is refused.
@@ -65,7 +65,7 @@ fn set_each(
 fn judge_answers(
     alloc: Global,
     table: &Table,
-    refused: Option<TableError>,
+    stopped: Option<TableError>,
     case: &toml::Table,
     report: &mut String,
 ) -> Result<(), Fault> {
@@ -73,7 +73,7 @@ fn judge_answers(
     for (question, value) in case {
         if !is_given(question.as_str()) {
             asked = true;
-            judge_answer(alloc, table, refused, question.as_str(), value, report)?;
+            judge_answer(alloc, table, stopped, question.as_str(), value, report)?;
         }
     }
     if asked {
@@ -88,17 +88,17 @@ fn is_given(key: &str) -> bool {
     key == "name" || key == "rows" || key == "set"
 }
 
-// What is refused is a setting, and else the printing.
+// Only where a command was refused it can be asked why.
 fn judge_answer(
     alloc: Global,
     table: &Table,
-    refused: Option<TableError>,
+    stopped: Option<TableError>,
     question: &str,
     value: &Value,
     report: &mut String,
 ) -> Result<(), Fault> {
-    let answer = match refused {
-        Some(error) if question == "refused" => shown_word(alloc, error)?,
+    let answer = match stopped {
+        Some(error) if question == "stopped" => shown_word(alloc, error)?,
         _ => answer(alloc, table, question)?,
     };
     let wanted = wanted(alloc, value)?;
