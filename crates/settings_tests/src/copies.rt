@@ -3,6 +3,8 @@
 use crate::shown::{assert_text, records_of, shown};
 use std::test::Fail;
 use tabled_base::{CellText, ExactRecords, PeekableRecords, Position, RecordsMut, Text};
+use tabled_set::{Truncate, Wrap};
+use tabled_size::PriorityMax;
 
 #[test]
 fn a_copied_text_is_equal(rt: HostRuntime) -> Result<(), Fail> {
@@ -37,4 +39,22 @@ fn one_cell_is_set(rt: HostRuntime) -> Result<(), Fail> {
     assert_eq!(rt; (records.count_rows(), records.count_columns()), (2, 2));
     records.set(Position::new(1, 0), String::from_str(alloc, "new")?)?;
     assert_text(&rt, shown(alloc, &records), "2x2 [a][bb] [new][]")
+}
+
+#[test]
+fn a_truncate_is_copied(rt: HostRuntime) -> Result<(), Fail> {
+    let option = Truncate::new(7).suffix("..").priority(PriorityMax::left());
+    let copy = option.clone()?;
+    assert!(rt; copy == option);
+    assert!(rt; copy.multiline(true) > option);
+    Ok(())
+}
+
+#[test]
+fn a_wrap_is_copied(rt: HostRuntime) -> Result<(), Fail> {
+    let wrap = Wrap::new(7).keep_words(true).priority(PriorityMax::left());
+    let copy = wrap.clone()?;
+    let shown = format!(in rt.alloc(); "{wrap:?}")?;
+    assert_eq!(rt; format!(in rt.alloc(); "{copy:?}")?, shown);
+    Ok(())
 }

@@ -1,17 +1,13 @@
-//! Tests of what a table is made of: what no clause says of records, values, configurations, sizes,
-//! priorities, and options on single cells. Nothing stands here outside of tests.
+//! Tests of what a table is made of that aren't seen beside their pictures in `cases`: records, values, configurations,
+//! sizes, priorities, and options of a caller's own on single cells. Nothing stands here outside of tests.
 #![tactic(auto)]
 
-#[cfg(test)]
-mod cells;
 #[cfg(test)]
 mod configurations;
 #[cfg(test)]
 mod copies;
 #[cfg(test)]
 mod dimensions;
-#[cfg(test)]
-mod extremes;
 #[cfg(test)]
 mod measures;
 #[cfg(test)]
@@ -29,10 +25,6 @@ mod sides;
 #[cfg(test)]
 mod stepwise;
 #[cfg(test)]
-mod truncated;
-#[cfg(test)]
 mod values;
 #[cfg(test)]
 mod walks;
-#[cfg(test)]
-mod wrapped;

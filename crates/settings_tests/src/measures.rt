@@ -1,12 +1,61 @@
-//! Measures of a caller's own, and refusals.
+//! Options on the cells of an entity: measures of a caller's own, refusals, and parts outside of the records.
 ghost use Rattle.std.specs.Prelude.{length};
 
-use crate::cells::{ROWS, changed, tried};
-use crate::shown::{assert_text, records_of};
+use crate::shown::{Rows, assert_text, records_of, shown};
+use std::alloc::Global;
 use std::test::Fail;
-use tabled_base::{Entity, ExactRecords, PeekableRecords, TableError, Text, VecRecords};
-use tabled_config::SpannedConfig;
+use tabled_base::{
+    CellOption, Entity, ExactRecords, PeekableRecords, TableError, Text, VecRecords,
+};
+use tabled_config::{ColoredConfig, SpannedConfig};
 use tabled_set::{Height, Measurement, Width, Wrap};
+
+// Four cells.
+const ROWS: Rows = &[&["abc", "de"], &["fgh", "ijk"]];
+
+// What an option answers on cells, and what it leaves of them.
+fn tried<O: CellOption<VecRecords<Text<String>>, ColoredConfig>>(
+    alloc: Global,
+    rows: Rows,
+    option: &O,
+    entity: Entity,
+) -> Result<(Result<(), TableError>, String), TableError> {
+    let mut records = records_of(alloc, rows)?;
+    let mut config = ColoredConfig::new(SpannedConfig::new(alloc));
+    let answer = option.change(&mut records, &mut config, entity);
+    Ok((answer, shown(alloc, &records)?))
+}
+
+// What an option makes of cells.
+fn changed<O: CellOption<VecRecords<Text<String>>, ColoredConfig>>(
+    alloc: Global,
+    rows: Rows,
+    option: &O,
+    entity: Entity,
+) -> Result<String, TableError> {
+    let (answer, text) = tried(alloc, rows, option, entity)?;
+    answer?;
+    Ok(text)
+}
+
+#[test]
+fn what_lies_outside_is_passed_over(rt: HostRuntime) -> Result<(), Fail> {
+    for entity in [
+        Entity::Row(2),
+        Entity::Row(usize::MAX),
+        Entity::Column(2),
+        Entity::Column(usize::MAX),
+        Entity::Cell(0, 2),
+        Entity::Cell(2, 0),
+    ] {
+        assert_text(
+            &rt,
+            changed(rt.alloc(), ROWS, &Width::wrap(1), entity),
+            "2x2 [abc][de] [fgh][ijk]",
+        )?;
+    }
+    Ok(())
+}
 
 // As many as there are rows.
 #[derive(Drop)]

@@ -13,7 +13,7 @@ use tabled_size::CompleteDimension;
 use tabled_table::Table;
 
 /// Four cells, with sizes stored that are greater than the estimated ones.
-pub const CELLS: Sheet<'static> = Sheet {
+pub const CELLS: Sheet = Sheet {
     rows: &[&["a", "bb"], &["ccc", "d"]],
     widths: Some(&[9, 9]),
     heights: Some(&[2, 2]),
@@ -21,7 +21,7 @@ pub const CELLS: Sheet<'static> = Sheet {
 };
 
 // The same sizes without a cell.
-const NO_CELLS: Sheet<'static> = Sheet { rows: &[], ..CELLS };
+const NO_CELLS: Sheet = Sheet { rows: &[], ..CELLS };
 
 /// Whether widths and heights are stored.
 pub(crate) fn stored(table: &Table) -> (bool, bool) {
@@ -69,7 +69,7 @@ fn hint(table: &mut Table, entity: Option<Entity>) -> Result<(bool, bool), Table
 
 fn hinted(
     alloc: Global,
-    sheet: &Sheet<'_>,
+    sheet: &Sheet,
     entity: Option<Entity>,
 ) -> Result<(bool, bool), TableError> {
     hint(&mut table_of(alloc, sheet)?, entity)
@@ -92,24 +92,13 @@ fn apply<O: TableOption<VecRecords<Text<String>>, ColoredConfig, CompleteDimensi
     table.with(option)?.to_string()
 }
 
-/// The picture of a sheet to which an option was applied.
-pub(crate) fn applied<
-    O: TableOption<VecRecords<Text<String>>, ColoredConfig, CompleteDimension> + Drop,
->(alloc: Global, sheet: &Sheet<'_>, option: O) -> Result<String, TableError> {
+// The picture of a sheet to which an option was applied.
+fn applied<O: TableOption<VecRecords<Text<String>>, ColoredConfig, CompleteDimension> + Drop>(
+    alloc: Global,
+    sheet: &Sheet,
+    option: O,
+) -> Result<String, TableError> {
     apply(&mut table_of(alloc, sheet)?, option)
-}
-
-const MODERN: &str = picture! {
-    "┌─────┬────┐"
-    "│ a   │ bb │"
-    "├─────┼────┤"
-    "│ ccc │ d  │"
-    "└─────┴────┘"
-};
-
-#[test]
-fn a_style_is_set_and_the_sizes_are_forgotten(rt: HostRuntime) -> Result<(), Fail> {
-    assert_text(&rt, applied(rt.alloc(), &CELLS, Style::modern()), MODERN)
 }
 
 const BARE: &str = picture! {

@@ -1,6 +1,6 @@
 //! Grids with given sizes and with estimated ones, and refusals before the first byte.
 
-use crate::made::{PAIRS, PICTURE, Setting, Sheet, Sizes, assert_drawn, table_of};
+use crate::made::{PAIRS, PICTURE, Sheet, Sizes, table_of};
 use crate::showing::assert_picture;
 use std::alloc::Global;
 use std::test::Fail;
@@ -8,11 +8,7 @@ use tabled_base::TableError;
 use tabled_grid::{TextSink, print_grid};
 
 // Prints a sheet with the sizes that it stores.
-fn put_sheet<S: TextSink>(
-    alloc: Global,
-    sheet: &Sheet<'_>,
-    sink: &mut S,
-) -> Result<(), TableError> {
+fn put_sheet<S: TextSink>(alloc: Global, sheet: &Sheet, sink: &mut S) -> Result<(), TableError> {
     let table = table_of(alloc, sheet)?;
     print_grid(
         sink,
@@ -22,7 +18,7 @@ fn put_sheet<S: TextSink>(
     )
 }
 
-const SIZED: Sheet<'static> = Sheet {
+const SIZED: Sheet = Sheet {
     widths: Some(&[5, 4]),
     heights: Some(&[1, 1]),
     ..PAIRS
@@ -46,13 +42,11 @@ fn a_lent_sink_is_a_sink(rt: HostRuntime) -> Result<(), Fail> {
 }
 
 // What a sheet answers, and how many bytes of it went out.
-fn answered(alloc: Global, sheet: &Sheet<'_>) -> (Result<(), TableError>, usize) {
+fn answered(alloc: Global, sheet: &Sheet) -> (Result<(), TableError>, usize) {
     let mut sink = String::new(alloc);
     let answer = put_sheet(alloc, sheet, &mut sink);
     (answer, sink.len())
 }
-
-const ENDLESS: &[Setting] = &[Setting::Margin(((usize::MAX, ' '), (0, ' '), (0, ' '), (0, ' ')))];
 
 const NARROW: TableError = TableError::Narrow { row: 0, column: 0 };
 
@@ -69,7 +63,7 @@ fn a_grid_is_refused_before_the_first_byte(rt: HostRuntime) {
     for (widths, heights, refusal) in REFUSED {
         let sheet = Sheet {
             rows: PAIRS.rows,
-            settings: ENDLESS,
+            margin: usize::MAX,
             widths,
             heights,
         };
@@ -77,9 +71,9 @@ fn a_grid_is_refused_before_the_first_byte(rt: HostRuntime) {
     }
 }
 
-const EMPTY: Sheet<'static> = Sheet {
+const EMPTY: Sheet = Sheet {
     rows: &[],
-    settings: ENDLESS,
+    margin: usize::MAX,
     ..SIZED
 };
 
@@ -91,12 +85,12 @@ fn an_empty_grid_is_never_refused(rt: HostRuntime) {
 // More cells of several lines than have a mark of their own in a row.
 const COLUMNS: usize = 70;
 
-const CROWD: Sheet<'static> = Sheet {
+const CROWD: Sheet = Sheet {
     rows: &[&["a\nbc\nd"; COLUMNS]],
     ..PAIRS
 };
 
-const SIZED_CROWD: Sheet<'static> = Sheet {
+const SIZED_CROWD: Sheet = Sheet {
     widths: Some(&[4; COLUMNS]),
     heights: Some(&[3]),
     ..CROWD
@@ -131,7 +125,8 @@ fn crowd(alloc: Global) -> Result<String, TableError> {
 #[test]
 fn many_cells_of_several_lines_stand_side_by_side(rt: HostRuntime) -> Result<(), Fail> {
     let want = crowd(rt.alloc())?;
-    assert_drawn(&rt, rt.alloc(), &CROWD, want.as_str())?;
+    let drawn = table_of(rt.alloc(), &CROWD)?.to_string()?;
+    assert_picture(&rt, drawn.as_str(), want.as_str());
     let mut text = String::new(rt.alloc());
     put_sheet(rt.alloc(), &SIZED_CROWD, &mut text)?;
     assert_picture(&rt, text.as_str(), want.as_str());

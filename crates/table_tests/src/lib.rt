@@ -1,9 +1,7 @@
-//! Tests of whole tables: what no clause says of their pictures, of printing and its sinks, of options on
-//! tables, of refusals, and of the program. Nothing stands here outside of tests.
+//! Tests of whole tables that aren't seen beside their pictures in `cases`: tables made of values, sinks and writers,
+//! options of a caller's own, and the program. Nothing stands here outside of tests.
 #![tactic(auto)]
 
-#[cfg(test)]
-mod alignments;
 #[cfg(test)]
 mod applying;
 #[cfg(test)]
@@ -15,23 +13,11 @@ mod made;
 #[cfg(test)]
 mod making;
 #[cfg(test)]
-mod margins;
-#[cfg(test)]
 mod modifying;
-#[cfg(test)]
-mod narrowing;
-#[cfg(test)]
-mod plain;
 #[cfg(test)]
 mod runs;
 #[cfg(test)]
-mod settings;
-#[cfg(test)]
 mod showing;
-#[cfg(test)]
-mod sizes;
-#[cfg(test)]
-mod styles;
 #[cfg(test)]
 mod totals;
 #[cfg(test)]

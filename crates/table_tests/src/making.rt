@@ -1,6 +1,6 @@
 //! Tables made of values, of rows and of nothing.
 
-use crate::made::{PAIRS, PICTURE, Sheet, assert_drawn, table_of, totals};
+use crate::made::{PAIRS, PICTURE, Sheet, table_of};
 use crate::showing::{assert_text, picture};
 use std::alloc::Global;
 use std::test::Fail;
@@ -137,30 +137,13 @@ fn a_builder_becomes_a_table(rt: HostRuntime) -> Result<(), Fail> {
     assert_text(&rt, of_a_builder(rt.alloc()), PICTURE)
 }
 
-const CITIES: &str = picture! {
-    "+-------+---+"
-    "| 北京  | 1 |"
-    "| Пекин |   |"
-    "+-------+---+"
-};
-
-const CITY: Sheet<'static> = Sheet {
-    rows: &[&["北京\nПекин", "1"]],
-    ..PAIRS
-};
-
-#[test]
-fn cells_of_several_lines_and_wide_characters_stand_straight(rt: HostRuntime) -> Result<(), Fail> {
-    assert_drawn(&rt, rt.alloc(), &CITY, CITIES)
-}
-
 // How many rows and columns there are, told twice, and whether there is none.
 fn counts(table: &Table) -> ((usize, usize), (usize, usize), bool) {
     let counted = (table.count_rows(), table.count_columns());
     (table.shape(), counted, table.is_empty())
 }
 
-const THREE_COLUMNS: Sheet<'static> = Sheet {
+const THREE_COLUMNS: Sheet = Sheet {
     rows: &[&["a", "b", "c"], &["d"]],
     ..PAIRS
 };
@@ -176,15 +159,6 @@ fn a_table_counts_its_rows_and_columns(rt: HostRuntime) -> Result<(), Fail> {
 fn an_empty_table_counts_nothing(rt: HostRuntime) {
     let table = Table::empty(rt.alloc());
     assert_eq!(rt; counts(&table), ((0, 0), (0, 0), true));
-}
-
-const NO_ROWS: Sheet<'static> = Sheet { rows: &[], ..PAIRS };
-
-#[test]
-fn tables_have_their_totals(rt: HostRuntime) -> Result<(), Fail> {
-    assert_eq!(rt; totals(rt.alloc(), &PAIRS)?, (Ok(12), Ok(5)));
-    assert_eq!(rt; totals(rt.alloc(), &NO_ROWS)?, (Ok(0), Ok(0)));
-    Ok(())
 }
 
 // Whether a table equals its copy.

@@ -8,11 +8,10 @@ use crate::showing::{assert_text, picture};
 use std::alloc::Global;
 use std::test::Fail;
 use tabled_base::{
-    CellOption, Columns, Entity, ExactRecords, Object, PeekableRecords, Position, RecordsMut, Rows,
-    Segment, TableError, Text, VecRecords,
+    CellOption, Entity, ExactRecords, Object, PeekableRecords, Position, RecordsMut, Rows, Segment,
+    TableError, Text, VecRecords,
 };
 use tabled_config::{AlignmentHorizontal, ColoredConfig};
-use tabled_set::Width;
 use tabled_table::Table;
 
 // Aligns texts at the right. A single cell gets the text on its left before its own, and a dot behind
@@ -78,7 +77,7 @@ fn modify<
 fn modified<
     T: Object<VecRecords<Text<String>>> + Drop,
     O: CellOption<VecRecords<Text<String>>, ColoredConfig> + Drop,
->(alloc: Global, sheet: &Sheet<'_>, target: T, option: O) -> Result<String, TableError> {
+>(alloc: Global, sheet: &Sheet, target: T, option: O) -> Result<String, TableError> {
     modify(&mut table_of(alloc, sheet)?, target, option)
 }
 
@@ -116,7 +115,7 @@ fn the_whole_table_is_modified(rt: HostRuntime) -> Result<(), Fail> {
     )
 }
 
-const LETTERS: Sheet<'static> = Sheet {
+const LETTERS: Sheet = Sheet {
     rows: &[&["a", "b", "c"]],
     ..PAIRS
 };
@@ -155,7 +154,7 @@ fn join_all(table: &mut Table) -> (Result<(), TableError>, (bool, bool)) {
     (answer, stored(table))
 }
 
-const REFUSING: Sheet<'static> = Sheet {
+const REFUSING: Sheet = Sheet {
     rows: &[&["a", "!"], &["bbbb", "cc"]],
     ..CELLS
 };
@@ -190,22 +189,4 @@ fn a_modification_without_memory_puts_the_settings_back(rt: HostRuntime) -> Resu
     assert_eq!(rt; sizes, (false, false));
     assert_eq!(rt; is_at_the_right(&table), answer.is_ok());
     Ok(())
-}
-
-const FIRST_COLUMN: &str = picture! {
-    "+----+----+"
-    "| a  | bb |"
-    "+----+----+"
-    "| cc |    |"
-    "| c  |    |"
-    "+----+----+"
-};
-
-#[test]
-fn one_column_is_wrapped(rt: HostRuntime) -> Result<(), Fail> {
-    assert_text(
-        &rt,
-        modified(rt.alloc(), &PAIRS, Columns::first(), Width::wrap(2)),
-        FIRST_COLUMN,
-    )
 }

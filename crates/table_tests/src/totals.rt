@@ -8,10 +8,7 @@ ghost use Rattle.tabled_size.specs.Totals.{total_width};
 ghost use Rattle.tabled_table.specs.TableSheet.{cells_of, sheet};
 ghost use Rattle.tabled_text.specs.Plain.{IsPlain};
 
-use crate::applying::applied;
-use crate::made::{PAIRS, Setting, Sheet, table_of};
-use crate::narrowing::Never;
-use crate::showing::{assert_text, picture};
+use crate::made::{PAIRS, table_of};
 use std::alloc::Global;
 use std::test::Fail;
 use tabled_base::TableError;
@@ -19,23 +16,6 @@ use tabled_set::Width;
 use tabled_size::{Peaker, Priority};
 use tabled_table::Table;
 use tabled_text::{line_width, lines};
-
-// Columns of 6, 7 and 6.
-const GREETINGS: Sheet<'static> = Sheet {
-    rows: &[
-        &["&str", "&str", "i32"],
-        &["1", "Hello", "100"],
-        &["2", "World", "1000"],
-    ],
-    settings: &[Setting::Modern],
-    ..PAIRS
-};
-
-// Whether the greetings, wrapped to 15 columns, begin with a line.
-fn begins<P: Peaker + Drop>(alloc: Global, priority: P, line: &str) -> Result<bool, TableError> {
-    let text = applied(alloc, &GREETINGS, Width::wrap(15).priority(priority))?;
-    Ok(text.starts_with(line))
-}
 
 // Wraps by the greatest widths: what is told here follows from `with` alone.
 fn wrap_level(table: &mut Table, n: usize) -> Result<(), TableError>
@@ -126,24 +106,6 @@ fn narrows_to_each<P: Peaker + Copy + Drop>(
 }
 
 #[test]
-fn columns_shrink_by_each_priority(rt: HostRuntime) -> Result<(), Fail> {
-    let alloc = rt.alloc();
-    assert!(rt; begins(alloc, Priority::left(), "┌──┬───┬──────┐\n")?);
-    assert!(rt; begins(alloc, Priority::right(), "┌──────┬───┬──┐\n")?);
-    assert!(rt; begins(alloc, Priority::min(true), "┌──┬───────┬──┐\n")?);
-    Ok(())
-}
-
-#[test]
-fn the_greatest_columns_shrink_alike(rt: HostRuntime) -> Result<(), Fail> {
-    let alloc = rt.alloc();
-    assert!(rt; begins(alloc, Priority::max(true), "┌────┬────┬───┐\n")?);
-    assert!(rt; begins(alloc, Priority::max(false), "┌───┬────┬────┐\n")?);
-    assert!(rt; begins(alloc, Priority::none(), "┌───┬────┬────┐\n")?);
-    Ok(())
-}
-
-#[test]
 fn each_total_is_exact(rt: HostRuntime) -> Result<(), Fail> {
     let alloc = rt.alloc();
     assert!(rt; narrows_to_each(alloc, Priority::none())?);
@@ -165,66 +127,5 @@ fn each_total_is_exact_by_the_sizes(rt: HostRuntime) -> Result<(), Fail> {
 #[test]
 fn a_leveled_table_has_its_total(rt: HostRuntime) -> Result<(), Fail> {
     assert_eq!(rt; leveled(rt.alloc())?, (9, 8));
-    Ok(())
-}
-
-const NARROWEST: &str = picture! {
-    "+--+--+"
-    "|  |  |"
-    "+--+--+"
-    "|  |  |"
-    "+--+--+"
-};
-
-#[test]
-fn no_table_is_narrower_than_its_padding(rt: HostRuntime) -> Result<(), Fail> {
-    assert_text(&rt, applied(rt.alloc(), &PAIRS, Width::wrap(0)), NARROWEST)
-}
-
-const GREETING: Sheet<'static> = Sheet {
-    rows: &[&["&str"], &["Hello World!"]],
-    ..PAIRS
-};
-
-const HELLO: &str = picture! {
-    "+-----+"
-    "| &st |"
-    "| r   |"
-    "+-----+"
-    "| Hel |"
-    "| lo  |"
-    "| Wor |"
-    "| ld! |"
-    "+-----+"
-};
-
-#[test]
-fn a_header_is_wrapped_too(rt: HostRuntime) -> Result<(), Fail> {
-    assert_text(&rt, applied(rt.alloc(), &GREETING, Width::wrap(7)), HELLO)
-}
-
-const CHINESE: Sheet<'static> = Sheet {
-    rows: &[&["中文字"]],
-    ..PAIRS
-};
-
-const REPLACED: &str = picture! {
-    "+-------+"
-    "| 中文\u{FFFD} |"
-    "+-------+"
-};
-
-#[test]
-fn half_a_wide_character_is_replaced(rt: HostRuntime) -> Result<(), Fail> {
-    assert_text(
-        &rt,
-        applied(rt.alloc(), &CHINESE, Width::truncate(9)),
-        REPLACED,
-    )
-}
-
-#[test]
-fn a_priority_may_leave_the_columns(rt: HostRuntime) -> Result<(), Fail> {
-    assert!(rt; begins(rt.alloc(), Never, "┌──────┬───────┬──────┐\n")?);
     Ok(())
 }

@@ -97,7 +97,7 @@ fn nothing_is_tried_again_after_an_interruption(rt: HostRuntime) -> Result<(), F
     Ok(())
 }
 
-const SIZED: Sheet<'static> = Sheet {
+const SIZED: Sheet = Sheet {
     widths: Some(&[5, 4]),
     heights: Some(&[1, 1]),
     ..PAIRS

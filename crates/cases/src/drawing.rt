@@ -1,0 +1,132 @@
+//! Tables of rows, and what they answer.
+ghost use Rattle.std.specs.Prelude.{◌<◌, length};
+
+use crate::fault::Fault;
+use crate::reading::{list_of, text_of};
+use crate::report::shown_numbers;
+use std::alloc::{AllocError, Global};
+use tabled::builder::Builder;
+use tabled::grid::config::{Position, SpannedConfig};
+use tabled::grid::records::{ExactRecords, PeekableRecords, Text, VecRecords};
+use tabled::settings::measurement::{Max, Measurement, Min};
+use tabled::settings::{Height, Width};
+use tabled::{IoSink, Table, TableError};
+use toml::Value;
+
+/// The table of rows of texts.
+pub fn table_of(alloc: Global, rows: &[Value]) -> Result<Table, Fault> {
+    let mut builder = Builder::new(alloc);
+    for row in rows {
+        push_row(alloc, &mut builder, list_of(row)?)?;
+    }
+    Ok(Table::from(builder))
+}
+
+fn push_row(alloc: Global, builder: &mut Builder, row: &[Value]) -> Result<(), Fault> {
+    let mut texts = Vec::new(alloc);
+    for text in row {
+        texts.push(text_of(text)?)?;
+    }
+    builder.push_record(texts)?;
+    Ok(())
+}
+
+/// What a table answers to a question.
+pub fn answer(alloc: Global, table: &Table, question: &str) -> Result<String, Fault> {
+    match question {
+        "picture" | "top" | "refused" => answer_printed(alloc, table, question),
+        "width" => shown_number(alloc, table.total_width()),
+        "height" => shown_number(alloc, table.total_height()),
+        "widths" => shown_sizes(alloc, table.get_dimension().get_widths()),
+        "heights" => shown_sizes(alloc, table.get_dimension().get_heights()),
+        "cells" => shown_cells(alloc, table.get_records()),
+        "plain" => Ok(format!(in alloc; "{}", table.is_plain())?),
+        "extremes" => extremes(alloc, table),
+        _ => Err(Fault::Unknown("no such question")),
+    }
+}
+
+// The picture, its first line, or nothing; and where the table is refused, the word of it.
+fn answer_printed(alloc: Global, table: &Table, question: &str) -> Result<String, Fault> {
+    match (printed(alloc, table)?, question) {
+        (Ok(text), "picture") => Ok(text),
+        (Ok(text), "top") => {
+            let top = text.split('\n').next().unwrap_or("");
+            Ok(String::from_str(alloc, top)?)
+        }
+        (Ok(_), _) => Ok(String::new(alloc)),
+        (Err(error), _) => shown_word(alloc, error),
+    }
+}
+
+/// The word of a refusal.
+pub fn shown_word(alloc: Global, error: TableError) -> Result<String, Fault> {
+    Ok(format!(in alloc; "{error:?}")?)
+}
+
+fn shown_number(alloc: Global, answer: Result<usize, TableError>) -> Result<String, Fault> {
+    match answer {
+        Ok(number) => Ok(format!(in alloc; "{number}")?),
+        Err(error) => shown_word(alloc, error),
+    }
+}
+
+fn shown_sizes(alloc: Global, sizes: Option<&[usize]>) -> Result<String, Fault> {
+    match sizes {
+        Some(sizes) => Ok(shown_numbers(alloc, sizes)?),
+        None => Ok(String::from_str(alloc, "none")?),
+    }
+}
+
+// What a table prints, or why it is refused. A writer has to get the same as a string, and nothing of a table that is
+// refused.
+fn printed(alloc: Global, table: &Table) -> Result<Result<String, TableError>, Fault> {
+    let printed = table.to_string();
+    let mut bytes: Vec<u8> = Vec::new(alloc);
+    let answer = table.write_to(&mut IoSink::new(&mut bytes));
+    let same = match &printed {
+        Ok(text) => answer == Ok(()) && bytes.as_slice() == text.as_bytes(),
+        Err(error) => answer == Err(*error) && bytes.is_empty(),
+    };
+    if !same {
+        return Err(Fault::Unknown("a writer gets another picture"));
+    }
+    Ok(printed)
+}
+
+// The cells, a row a line, each in quotes and with a space behind it.
+fn shown_cells(alloc: Global, records: &VecRecords<Text<String>>) -> Result<String, Fault> {
+    let mut text = String::new(alloc);
+    for row in 0..records.count_rows() {
+        show_row(&mut text, records, row)?;
+    }
+    Ok(text)
+}
+
+fn show_row(
+    text: &mut String,
+    records: &VecRecords<Text<String>>,
+    row: usize,
+) -> Result<(), AllocError>
+    requires { row < length records.now }
+{
+    for column in 0..records.count_columns() {
+        let cell = records.get_text(Position { row, column });
+        write!(text, "{cell:?} ")?;
+    }
+    text.push('\n')?;
+    Ok(())
+}
+
+// The greatest and the least width of texts, and the greatest and the least height.
+fn extremes(alloc: Global, table: &Table) -> Result<String, Fault> {
+    let records = table.get_records();
+    let config: &SpannedConfig = table.get_config().as_ref();
+    let measures = [
+        Measurement::<Width>::measure(&Max, records, config)?,
+        Measurement::<Width>::measure(&Min, records, config)?,
+        Measurement::<Height>::measure(&Max, records, config)?,
+        Measurement::<Height>::measure(&Min, records, config)?,
+    ];
+    Ok(shown_numbers(alloc, &measures)?)
+}

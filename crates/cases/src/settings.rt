@@ -1,0 +1,176 @@
+//! What the commands of a case set of its table.
+
+use crate::fault::Fault;
+use crate::narrowing::{narrow, set_part};
+use crate::words::Words;
+use std::alloc::Global;
+use tabled::Table;
+use tabled::grid::config::{
+    AlignmentHorizontal as Horizontal, AlignmentVertical as Vertical, Borders, HorizontalLine,
+    Indent, Sides,
+};
+use tabled::settings::{Height, Margin, Padding, Style, Width};
+
+/// Obeys a command.
+pub fn set(alloc: Global, table: &mut Table, command: &str) -> Result<(), Fault> {
+    let mut words = Words::new(command);
+    let kind = words.word();
+    match kind {
+        "wrap" => narrow(table, true, &mut words)?,
+        "truncate" => narrow(table, false, &mut words)?,
+        "widths" | "heights" | "list" => set_sizes(alloc, table, kind, &mut words)?,
+        _ => set_look(table, kind, &mut words)?,
+    }
+    if words.has_more() {
+        return Err(Fault::Unknown("too many words"));
+    }
+    Ok(())
+}
+
+// Stores sizes directly, or lists of them as options.
+fn set_sizes(
+    alloc: Global,
+    table: &mut Table,
+    kind: &str,
+    words: &mut Words<'_>,
+) -> Result<(), Fault> {
+    let direction = if kind == "list" { words.word() } else { kind };
+    let sizes = words.numbers(alloc)?;
+    match (kind, direction) {
+        ("list", "widths") => table.apply(Width::list(alloc, sizes)?)?,
+        ("list", "heights") => table.apply(Height::list(alloc, sizes)?)?,
+        (_, "widths") => table.get_dimension_mut().set_widths(sizes),
+        (_, "heights") => table.get_dimension_mut().set_heights(sizes),
+        _ => return Err(Fault::Unknown("no such list")),
+    }
+    Ok(())
+}
+
+// Sets what is seen around the texts.
+fn set_look(table: &mut Table, kind: &str, words: &mut Words<'_>) -> Result<(), Fault> {
+    match kind {
+        "style" => set_style(table, words.word()),
+        "bare" => set_bare(table),
+        "border" => set_border(table, words),
+        "line" => set_line(table, words),
+        "padding" => set_padding(table, words),
+        "margin" => Ok(table.apply(Margin::from(read_sides(words)?))?),
+        "horizontal" | "vertical" | "lines" => set_alignment(table, kind, words),
+        _ => Err(Fault::Unknown("no such command")),
+    }
+}
+
+fn set_style(table: &mut Table, name: &str) -> Result<(), Fault> {
+    let style = match name {
+        "ascii" => Style::ascii(),
+        "modern" => Style::modern(),
+        "extended" => Style::extended(),
+        "markdown" => Style::markdown(),
+        "psql" => Style::psql(),
+        "empty" => Style::empty(),
+        _ => return Err(Fault::Unknown("no such style")),
+    };
+    table.apply(style)?;
+    Ok(())
+}
+
+// No borders and no padding.
+fn set_bare(table: &mut Table) -> Result<(), Fault> {
+    table.apply(Style::empty())?;
+    table.apply(Padding::zero())?;
+    Ok(())
+}
+
+fn set_border(table: &mut Table, words: &mut Words<'_>) -> Result<(), Fault> {
+    let config = table.get_config_mut().as_mut();
+    let borders = with_border(*config.get_borders(), words.word(), words.mark()?)?;
+    config.set_borders(borders);
+    Ok(())
+}
+
+// The borders with another character at one place.
+fn with_border(
+    mut borders: Borders<char>,
+    place: &str,
+    mark: Option<char>,
+) -> Result<Borders<char>, Fault> {
+    match place {
+        "horizontal" => borders.horizontal = mark,
+        "vertical" => borders.vertical = mark,
+        "intersection" => borders.intersection = mark,
+        "left_intersection" => borders.left_intersection = mark,
+        "right_intersection" => borders.right_intersection = mark,
+        _ => return Err(Fault::Unknown("no such border")),
+    }
+    Ok(borders)
+}
+
+// A line by its index: its main character, and those at the left, at a bar and at the right.
+fn set_line(table: &mut Table, words: &mut Words<'_>) -> Result<(), Fault> {
+    let index = words.number()?;
+    let main = words.mark()?;
+    let left = words.mark()?;
+    let intersection = words.mark()?;
+    let right = words.mark()?;
+    let line = HorizontalLine {
+        main,
+        left,
+        intersection,
+        right,
+    };
+    let config = table.get_config_mut().as_mut();
+    config.insert_horizontal_line(index, line)?;
+    Ok(())
+}
+
+// Sizes of the left, the right, the top and the bottom, and then their fills: spaces, if none is given.
+fn read_sides(words: &mut Words<'_>) -> Result<Sides<Indent>, Fault> {
+    let sizes = [
+        words.number()?,
+        words.number()?,
+        words.number()?,
+        words.number()?,
+    ];
+    let mut fills = [' '; 4];
+    if words.has_more() {
+        for fill in &mut fills {
+            *fill = words.mark()?.unwrap_or(' ');
+        }
+    }
+    Ok(Sides::new(
+        Indent::new(sizes[0], fills[0]),
+        Indent::new(sizes[1], fills[1]),
+        Indent::new(sizes[2], fills[2]),
+        Indent::new(sizes[3], fills[3]),
+    ))
+}
+
+fn set_padding(table: &mut Table, words: &mut Words<'_>) -> Result<(), Fault> {
+    let part = words.part()?;
+    let padding = Padding::from(read_sides(words)?);
+    match part {
+        None => table.apply(padding)?,
+        Some(entity) => set_part(table, entity, &padding)?,
+    }
+    Ok(())
+}
+
+// An alignment of the texts of an entity, or of their lines.
+fn set_alignment(table: &mut Table, kind: &str, words: &mut Words<'_>) -> Result<(), Fault> {
+    let Some(entity) = words.part()? else {
+        return Err(Fault::Unknown("no such entity"));
+    };
+    let config = table.get_config_mut().as_mut();
+    match (kind, words.word()) {
+        ("horizontal", "left") => config.set_alignment_horizontal(entity, Horizontal::Left)?,
+        ("horizontal", "center") => config.set_alignment_horizontal(entity, Horizontal::Center)?,
+        ("horizontal", "right") => config.set_alignment_horizontal(entity, Horizontal::Right)?,
+        ("vertical", "top") => config.set_alignment_vertical(entity, Vertical::Top)?,
+        ("vertical", "center") => config.set_alignment_vertical(entity, Vertical::Center)?,
+        ("vertical", "bottom") => config.set_alignment_vertical(entity, Vertical::Bottom)?,
+        ("lines", "each") => config.set_line_alignment(entity, true)?,
+        ("lines", "together") => config.set_line_alignment(entity, false)?,
+        _ => return Err(Fault::Unknown("no such alignment")),
+    }
+    Ok(())
+}

@@ -1,0 +1,89 @@
+//! Lists of sizes that are shrunk by each priority.
+
+use crate::fault::Fault;
+use crate::reading::{list_at, list_of, number_at, numbers_of};
+use crate::report::{compare, shown_numbers};
+use std::alloc::Global;
+use tabled::settings::peaker::{Peaker, Priority, Steps};
+use toml::Value;
+
+/// Compares the lists that the priorities make with those that are wanted of them.
+pub fn judge_sizes(alloc: Global, case: &toml::Table, report: &mut String) -> Result<(), Fault> {
+    let mut asked = false;
+    for (priority, value) in case {
+        if !is_given(priority.as_str()) {
+            asked = true;
+            judge_list(alloc, case, priority.as_str(), value, report)?;
+        }
+    }
+    if asked {
+        Ok(())
+    } else {
+        Err(Fault::Unknown("nothing is wanted"))
+    }
+}
+
+// Whether a key says what is given.
+fn is_given(key: &str) -> bool {
+    key == "name" || key == "sizes" || key == "minimums" || key == "by"
+}
+
+fn judge_list(
+    alloc: Global,
+    case: &toml::Table,
+    priority: &str,
+    value: &Value,
+    report: &mut String,
+) -> Result<(), Fault> {
+    let minimums = numbers_of(alloc, list_at(case, "minimums")?)?;
+    let mut sizes = numbers_of(alloc, list_at(case, "sizes")?)?;
+    let by = number_at(case, "by")?;
+    let steps = shrink(priority, minimums.as_slice(), sizes.as_mut_slice(), by)?;
+    if steps > most_steps(sizes.len()) {
+        return Err(Fault::Unknown("too many steps"));
+    }
+    let left = shown_numbers(alloc, sizes.as_slice())?;
+    let wanted = numbers_of(alloc, list_of(value)?)?;
+    let wanted = shown_numbers(alloc, wanted.as_slice())?;
+    compare(report, priority, left.as_str(), wanted.as_str())?;
+    Ok(())
+}
+
+// The visits of columns that are enough for so many sizes, whatever is taken of them.
+fn most_steps(count: usize) -> usize {
+    let side = count.saturating_add(1);
+    side.saturating_mul(side).saturating_mul(8)
+}
+
+// Shrinks a list, and answers the steps that were taken.
+fn shrink(
+    priority: &str,
+    minimums: &[usize],
+    sizes: &mut [usize],
+    by: usize,
+) -> Result<usize, Fault> {
+    match priority {
+        "none" => shrink_by(Priority::none(), minimums, sizes, by),
+        "left" => shrink_by(Priority::left(), minimums, sizes, by),
+        "right" => shrink_by(Priority::right(), minimums, sizes, by),
+        "max_left" => shrink_by(Priority::max(false), minimums, sizes, by),
+        "max_right" => shrink_by(Priority::max(true), minimums, sizes, by),
+        "min_left" => shrink_by(Priority::min(false), minimums, sizes, by),
+        "min_right" => shrink_by(Priority::min(true), minimums, sizes, by),
+        _ => Err(Fault::Unknown("no such priority")),
+    }
+}
+
+fn shrink_by<P: Peaker + Drop>(
+    mut priority: P,
+    minimums: &[usize],
+    sizes: &mut [usize],
+    by: usize,
+) -> Result<usize, Fault> {
+    if !minimums.is_empty() && minimums.len() != sizes.len() {
+        return Err(Fault::Unknown("a minimum for each size, or none"));
+    }
+    let mut steps = Steps::new();
+    let _taken = priority.shrink(minimums, sizes, by, &mut steps);
+    Ok(steps.count())
+}
