@@ -1,4 +1,4 @@
-use Rattle.std.proofs.Common.{subst, sym}
+use Rattle.std.proofs.Common.{subst, sym, true}
 use Rattle.tabled_size.specs.Holds.{Holds, IsSized}
 use Rattle.tabled_size.specs.Sheet.{Sheet}
 use Rattle.tabled_grid.specs.Printed.{Prints}

@@ -11,7 +11,7 @@ pub returns-in_err-estimate : goal.returns-in_err-estimate
 returns-in_err-estimate g c =
     refused_unestimated (g.R.ExactRecords.cells c.args.records.now) c.args.config.now c.args.sizes c.args.sizes _ _ _
     refl refl c.requires.filled c.requires.sized c.requires.holds
-    c.in_err-estimate.ensures.only c.from_residual-in_err-estimate.ensures.1
+    c.in_err-estimate.ensures.only c.from_residual.ensures.1
 
 pub print_held-requires-clause-sized : goal.print_held-requires-clause-sized
 print_held-requires-clause-sized g c =
