@@ -6,6 +6,7 @@ use crate::words::{Words, mark, number};
 use std::alloc::Global;
 use tabled::grid::config::{ColoredConfig, Entity};
 use tabled::grid::records::{Text, VecRecords};
+use tabled::settings::measurement::{Max, Min};
 use tabled::settings::object::{Columns, Rows, Segment};
 use tabled::settings::peaker::{Peaker, Priority};
 use tabled::settings::width::{SuffixLimit, Truncate, Wrap};
@@ -131,6 +132,18 @@ fn narrow_by<P: Peaker + Drop>(
     } else {
         table.apply(narrow.truncate().priority(priority))
     }
+}
+
+/// Wraps or truncates the whole table to the columns of its greatest or its least texts.
+pub fn narrow_to(table: &mut Table, wraps: bool, measure: &str) -> Result<(), Fault> {
+    match measure {
+        "max" if wraps => table.apply(Width::wrap(Max))?,
+        "max" => table.apply(Width::truncate(Max))?,
+        "min" if wraps => table.apply(Width::wrap(Min))?,
+        "min" => table.apply(Width::truncate(Min))?,
+        _ => return Err(Fault::Unknown("no such measure")),
+    }
+    Ok(())
 }
 
 /// A text that is cut, wrapped or truncated by itself.

@@ -1,7 +1,7 @@
 //! What the commands of a case set of its table.
 
 use crate::fault::Fault;
-use crate::narrowing::{narrow, set_part};
+use crate::narrowing::{narrow, narrow_to, set_part};
 use crate::words::Words;
 use std::alloc::Global;
 use tabled::Table;
@@ -18,6 +18,8 @@ pub fn set(alloc: Global, table: &mut Table, command: &str) -> Result<(), Fault>
     match kind {
         "wrap" => narrow(table, true, &mut words)?,
         "truncate" => narrow(table, false, &mut words)?,
+        "wrap_to" => narrow_to(table, true, words.word())?,
+        "truncate_to" => narrow_to(table, false, words.word())?,
         "widths" | "heights" | "list" => set_sizes(alloc, table, kind, &mut words)?,
         _ => set_look(table, kind, &mut words)?,
     }
