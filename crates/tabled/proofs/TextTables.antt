@@ -1,6 +1,7 @@
 -- Tables of texts: whether they are empty, and what is printed of them.
 use Rattle.std.proofs.Common.{◌≡◌, ℕ, ◌<◌, ◌≤◌, ◌==◌, cond, true, false, List, [], ◌∷◌, ◌++◌, length, map, refl, sym, ap, arith, length-append}
 use Rattle.std.specs.List.{join_with_byte}
+use Rattle.std.specs.Str.{IsUtf8}
 use Rattle.std.proofs.lemmas.Bool.Decides.{nat_tests}
 use Rattle.std.proofs.lemmas.List.{length-map}
 use Rattle.std.proofs.lemmas.List.Splits.{length-slice_split}
@@ -9,23 +10,22 @@ use Rattle.tabled_base.specs.Cells.{IsRectangular, lengthened}
 use Rattle.tabled_base.specs.TextRows.{cells_of, most_cells, row_lines, text_rows, without_last_feed}
 use Rattle.tabled_base.proofs.Lengthening.{length-lengthened}
 use Rattle.tabled_base.proofs.Splitting.{rows-rectangular}
+use Rattle.tabled_base.proofs.TextCells.{text_cells}
 use Rattle.tabled_size.specs.Sheet.{is_empty}
 use Rattle.tabled_size.specs.Totals.{total_height, total_width}
 use Rattle.tabled_grid.specs.Picture.{picture}
-use Rattle.tabled_size.specs.PlainCells.{ArePlain}
 use Rattle.tabled_row.specs.Plain.{EachLineTakes}
 use Rattle.tabled_table.specs.TableSheet.{new_sheet}
-use Rattle.tabled_table.proofs.NewTables.{new_columns, new_height, new_lines}
+use Rattle.tabled_table.proofs.NewTables.{new_height, new_lines, new_texts}
 use Rattle.tabled.specs.Output.{output_text, printed}
 
 text_rectangular : (text : List ℕ) → IsRectangular (text_rows text)
 unfolding text_rows
 text_rectangular text = rows-rectangular (row_lines text)
 
--- the lines of the table of a text of plain cells are equally wide
-pub text_columns : (text : List ℕ) → ArePlain (text_rows text)
-    → EachLineTakes (total_width (new_sheet (text_rows text))) (picture (new_sheet (text_rows text)))
-text_columns text plain = new_columns (text_rows text) (text_rectangular text) plain
+-- the lines of the table of a text are equally wide
+pub text_columns : (text : List ℕ) → IsUtf8 text → EachLineTakes (total_width (new_sheet (text_rows text))) (picture (new_sheet (text_rows text)))
+text_columns text u = new_texts (text_rows text) (text_rectangular text) (text_cells text u)
 
 -- and as many as its total height says
 pub text_lines : (text : List ℕ) → length (picture (new_sheet (text_rows text))) ≡ total_height (new_sheet (text_rows text))

@@ -93,7 +93,7 @@ pub mod settings {
 
 /// Lower layers, by the crate's names.
 pub mod grid {
-    pub use tabled_grid::{is_plain_config, is_plain_records, print_grid};
+    pub use tabled_grid::{is_apart_config, is_plain_config, is_plain_records, print_grid};
 
     /// Marks that colour a text.
     pub mod ansi {

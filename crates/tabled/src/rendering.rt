@@ -4,7 +4,6 @@ ghost use Rattle.tabled_base.specs.declared.error.TableError.TheVariants.{Memory
 ghost use Rattle.tabled_base.specs.TextRows.{text_rows};
 ghost use Rattle.tabled_size.specs.Totals.{total_height, total_width};
 ghost use Rattle.tabled_grid.specs.Picture.{picture};
-ghost use Rattle.tabled_size.specs.PlainCells.{ArePlain};
 ghost use Rattle.tabled_row.specs.Plain.{EachLineTakes};
 ghost use Rattle.tabled_grid.specs.Printed.{Prints};
 ghost use Rattle.tabled_row.specs.Sent.{Sent};
@@ -31,7 +30,7 @@ fn put_buffered<S: TextSink>(alloc: Global, text: &str, sink: &mut S) -> Result<
 /// Prints the table of a text: a row a line (a last line feed ends the last row, and the empty text has
 /// none), a cell between tabs, short rows lengthened with empty cells. No cell is copied. Refused for memory,
 /// with `Range` before the first byte where a total passes the greatest `usize`, and for what the sink
-/// refuses; then a beginning went out.
+/// refuses; then a beginning went out. Each line takes the same columns, whatever the cells are.
 #[tactic(auto, using(crate::proofs::TextTables::text_columns, crate::proofs::TextTables::text_lines))]
 pub fn render<S: TextSink>(
     alloc: Global,
@@ -41,8 +40,7 @@ pub fn render<S: TextSink>(
 ) -> Result<(), TableError>
     ensures printed { Prints true (new_sheet (text_rows text.now)) (S.sent sink.old) result (S.sent sink.new) }
     ensures only { IfErr result (λ e. (e ≡ Memory) ⊎ ((e ≡ Range) ⊎ (e ≡ Writer))) }
-    ensures columns { ArePlain (text_rows text.now)
-        → EachLineTakes (total_width (new_sheet (text_rows text.now)))
+    ensures columns { EachLineTakes (total_width (new_sheet (text_rows text.now)))
         (picture (new_sheet (text_rows text.now))) }
     ensures lines { length (picture (new_sheet (text_rows text.now)))
         ≡ total_height (new_sheet (text_rows text.now)) }

@@ -11,3 +11,4 @@ pub mod Rests
 pub mod RowLemmas
 pub mod Spans
 pub mod Splitting
+pub mod TextCells

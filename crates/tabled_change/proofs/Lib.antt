@@ -4,4 +4,5 @@ pub mod Endings
 pub mod JoinedLines
 pub mod Staying
 pub mod SuffixLemmas
+pub mod TruncatedTexts
 pub mod WalkLemmas

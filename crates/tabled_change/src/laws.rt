@@ -1,6 +1,7 @@
 //! Laws of truncated texts, each the contract of a function.
 ghost use Rattle.std.specs.Prelude.{◌≡◌, ℕ, Bool, true, false, List, [], chars};
 ghost use Rattle.std.specs.List.{list_all};
+ghost use Rattle.tabled_apart.specs.Fitting.{FitsIn};
 ghost use Rattle.tabled_change.specs.LongestLines.{HasLongestLines};
 ghost use Rattle.tabled_change.specs.PlainEnding.{IsPlainLimit};
 ghost use Rattle.tabled_change.specs.Truncated.{IsTruncated};
@@ -10,10 +11,13 @@ ghost use Rattle.tabled_text.specs.Longest.{IsLongestCut};
 ghost use Rattle.tabled_text.specs.Plain.{is_plain_character, IsPlain};
 ghost use Rattle.tabled_text.specs.Room.{StaysWithin};
 
-/// A truncated plain text is plain and stays in its room, if the suffix and the character in its place are plain
-/// too. Without a suffix it is the cut text, and of a plain line the longest beginning that finds room, as each line
+/// A truncated text fits in its room, whatever its characters are, if the suffix and the character in its place are plain;
+/// a plain one stays plain. Without a suffix it is the cut text, and of a plain line the longest beginning that finds room, as each line
 /// is where lines are truncated by themselves.
 pub fn truncated_texts()
+    ensures fits { (room : ℕ) (suffix : List ℕ) (limit : SuffixLimit) (multiline : Bool) (text answer : List ℕ)
+        → IsPlain suffix → IsPlainLimit limit
+        → IsTruncated room suffix limit multiline text answer → FitsIn room answer }
     ensures room { (room : ℕ) (suffix : List ℕ) (limit : SuffixLimit) (multiline : Bool) (text answer : List ℕ)
         → IsPlain suffix → IsPlainLimit limit → IsPlain text
         → IsTruncated room suffix limit multiline text answer → StaysWithin room answer }

@@ -1,6 +1,7 @@
+mod PlainTests
+pub mod ApartPictures
 pub mod EstimatedSizes
 pub mod Measuring
-mod PlainTests
 pub mod Printing
 pub mod StandingSizes
 pub mod Whole

@@ -1,5 +1,31 @@
 -- The columns of what is made of plain pieces.
-use Rattle.std.proofs.Common.{◌≡◌, ℕ, zero, suc, ◌+◌, ◌-◌, ◌*◌, ◌<◌, ◌≤◌, ◌==◌, Bool, true, false, cond, List, [], unwrap_or, length, get_or, sym, ◌∙◌, ap, subst, arith, ⊎_elim}
+use Rattle.std.proofs.Common.{
+  ◌≡◌,
+  ℕ,
+  zero,
+  suc,
+  ◌+◌,
+  ◌-◌,
+  ◌*◌,
+  ◌<◌,
+  ◌≤◌,
+  ◌==◌,
+  Bool,
+  true,
+  false,
+  cond,
+  List,
+  [],
+  unwrap_or,
+  length,
+  get_or,
+  sym,
+  ◌∙◌,
+  ap,
+  subst,
+  arith,
+  ⊎_elim,
+}
 use Rattle.std.specs.List.{flat_map, range_with_len, slice_index}
 use Rattle.std.proofs.lemmas.Bool.{cases_lt}
 use Rattle.std.proofs.lemmas.Bool.Decides.{nat_tests}
@@ -28,7 +54,10 @@ use Rattle.tabled_row.specs.Plain.{IsPlainRule, IsPlainStyle}
 use Rattle.tabled_grid.specs.PlainSheet.{IsPlainConfig}
 use Rattle.tabled_row.proofs.Blocks.{block-above, block-text, block-below}
 use Rattle.tabled_row.proofs.Each.{each-more}
-use Rattle.tabled_row.proofs.Plains.{plain-fill}
+use Rattle.tabled_row.proofs.ApartLines.{columns_before-fits}
+use Rattle.tabled_row.proofs.Bars.{bar-sum}
+use Rattle.tabled_row.proofs.Plains.{plain-each, plain-fill, plain-left, plain-piece, plain-right, plain_rule_line}
+use Rattle.tabled_row.specs.Apart.{line_total}
 
 -- what the columns of a picture rest on
 pub record IsPlainSheet (t : Sheet) : Type 0 where
@@ -42,33 +71,7 @@ plain-cell t row column p r c =
     let long : length (get_or t.cells row []) ≡ columns t.cells = p.rectangular row [] r in
     p.texts row [] r column [] (omega arith)
 
--- ---- pieces joined
-
-plain-piece : (there : Bool) (c : ℕ) → IsPlainColumn c → IsPlainLine (piece there c) (one_if there)
-plain-piece true c h = plain_line-one c h
-plain-piece false c h = plain_line-nil
-
-plain-each : (f : ℕ → List ℕ) (w : ℕ → ℕ) (n : ℕ) → ((i : ℕ) → i < n → IsPlainLine (f i) (w i)) → IsPlainLine (flat_map f (range_with_len 0 n)) (sum_below w n)
-plain-each f w zero h = plain_line-nil
-plain-each f w (suc n) h =
-    let P : List ℕ → Type 0 = λ bs. IsPlainLine bs (sum_below w n + w n) in
-    let e : n + 1 ≡ suc n = omega arith in
-    let more = sym (each-more f n) ∙ ap (λ k. flat_map f (range_with_len 0 k)) e in
-    subst P more (plain_line-append (plain-each f w n (λ i l. h i (omega arith))) (h n (omega arith)))
-
 -- ---- a line of a cell
-
-before-le : (a : AlignmentHorizontal) (n : ℕ) → before_text a n ≤ n
-before-le horizontal.Left n = omega arith
-before-le horizontal.Center n = omega arith
-before-le horizontal.Right n = omega arith
-
-columns_before-fits : (s : CellStyle) (room : ℕ) (text line : List ℕ) → line_columns line ≤ text_columns text → text_columns text ≤ room → columns_before s room text line + line_columns line ≤ room
-columns_before-fits s room text line l m =
-    elim s.line_alignment as (λ b. before_text s.horizontal (room - (cond b (line_columns line) (text_columns text))) + line_columns line ≤ room) [
-      | true ↦ let h = before-le s.horizontal (room - line_columns line) in omega arith
-      | false ↦ let h = before-le s.horizontal (room - text_columns text) in omega arith
-    ]
 
 -- a column holds a cell's text and its padding
 record IsPlainCell (s : CellStyle) (w : ℕ) (text : List ℕ) : Type 0 where
@@ -76,7 +79,8 @@ record IsPlainCell (s : CellStyle) (w : ℕ) (text : List ℕ) : Type 0 where
   plain : IsPlain text
   fits : text_columns text + (s.padding.left.size + s.padding.right.size) ≤ w
 
-plain-cell_line : (s : CellStyle) (w : ℕ) (text : List ℕ) (j : ℕ) → IsPlainCell s w text → j < length (lines_of text) → IsPlainLine (cell_line s w text (get_or (lines_of text) j [])) w
+plain-cell_line : (s : CellStyle) (w : ℕ) (text : List ℕ) (j : ℕ) → IsPlainCell s w text → j < length (lines_of text)
+    → IsPlainLine (cell_line s w text (get_or (lines_of text) j [])) w
 unfolding cell_line
 plain-cell_line s w text j p l =
     let line = get_or (lines_of text) j [] in
@@ -95,7 +99,8 @@ plain-cell_line s w text j p l =
 
 -- ---- a line of a block, by where it stands
 
-plain-at_text : (s : CellStyle) (w h k : ℕ) (text : List ℕ) → IsPlainCell s w text → k < h → fill_above s h text ≤ k → IsPlainLine (get_or (block s w h text) k []) w
+plain-at_text : (s : CellStyle) (w h k : ℕ) (text : List ℕ) → IsPlainCell s w text → k < h → fill_above s h text ≤ k
+    → IsPlainLine (get_or (block s w h text) k []) w
 plain-at_text s w h k text p l m =
     let P : List ℕ → Type 0 = λ bs. IsPlainLine bs w in
     let j = k - fill_above s h text in
@@ -117,25 +122,9 @@ plain-block s w h k text p l =
 
 -- ---- lines of a table
 
-later-bar : (n : ℕ) (b : Bool) → cond (suc n == 0) false b ≡ b
-later-bar n b = grind (arith, nat_tests)
-
-bar-step : (s u a b n x : ℕ) → s ≡ u + n * x → a ≡ x → s + (a + b) ≡ u + b + (n + 1) * x
-bar-step s u a b n x h e = omega arith
-
-bar-sum : (r : Frame) (w : ℕ → ℕ) (n : ℕ) → sum_below (λ i. one_if (has_bar r i) + w i) n ≡ sum_below w n + (n - 1) * one_if r.inner.there
-bar-sum r w zero = omega arith
-bar-sum r w (suc zero) = omega arith
-bar-sum r w (suc (suc n)) =
-    let x = one_if r.inner.there in
-    let e : suc (suc n) - 1 ≡ n + 1 = omega arith in
-    let f : suc n - 1 ≡ n = omega arith in
-    rw e
-    (bar-step _ _ (one_if (has_bar r (suc n))) (w (suc n)) n x
-    (rw f at (bar-sum r w (suc n)))
-    (ap one_if (later-bar n r.inner.there)))
-
-plain-cells : (t : Sheet) (row index : ℕ) → IsPlainSheet t → row < length t.cells → index < slice_index t.heights row → IsPlainLine (flat_map (cell_piece (row_of t row) index) (range_with_len 0 (columns t.cells))) (sum_below (slice_index t.widths) (columns t.cells) + (columns t.cells - 1) * one_if (frame t.config).inner.there)
+plain-cells : (t : Sheet) (row index : ℕ) → IsPlainSheet t → row < length t.cells → index < slice_index t.heights row
+    → IsPlainLine (flat_map (cell_piece (row_of t row) index) (range_with_len 0 (columns t.cells)))
+    (sum_below (slice_index t.widths) (columns t.cells) + (columns t.cells - 1) * one_if (frame t.config).inner.there)
 unfolding cell_piece
 plain-cells t row index p l m =
     plain_line-as
@@ -145,23 +134,8 @@ plain-cells t row index p l m =
     (record { style = p.config.styles row i l k; plain = plain-cell t row i p l k; fits = p.holds row i l k }) m)))
     (bar-sum (frame t.config) (slice_index t.widths) (columns t.cells))
 
-plain-rules : (t : Sheet) (line : HorizontalLine) → IsPlainRule line → IsPlainLine (flat_map (rule_piece (columns_of t) line) (range_with_len 0 (columns t.cells))) (sum_below (slice_index t.widths) (columns t.cells) + (columns t.cells - 1) * one_if (frame t.config).inner.there)
-unfolding rule_piece
-plain-rules t line q =
-    plain_line-as
-    (plain-each (rule_piece (columns_of t) line) (λ i. one_if (has_bar (frame t.config) i) + slice_index t.widths i) (columns t.cells)
-    (λ i k. plain_line-append (plain-piece (has_bar (frame t.config) i) (unwrap_or line.intersection 32) q.intersection) (plain-fill (unwrap_or line.main 32) (slice_index t.widths i) q.main)))
-    (bar-sum (frame t.config) (slice_index t.widths) (columns t.cells))
-
-plain-left : (f : Frame) (c : ℕ) → IsPlainColumn f.margin.left.fill → IsPlainColumn c → IsPlainLine (left_edge f c) (f.margin.left.size + one_if f.left.there)
-unfolding left_edge
-plain-left f c p q = plain_line-append (plain-fill f.margin.left.fill f.margin.left.size p) (plain-piece f.left.there c q)
-
-plain-right : (f : Frame) (c : ℕ) → IsPlainColumn f.margin.right.fill → IsPlainColumn c → IsPlainLine (right_edge f c) (one_if f.right.there + f.margin.right.size)
-unfolding right_edge
-plain-right f c p q = plain_line-append (plain-piece f.right.there c q) (plain-fill f.margin.right.fill f.margin.right.size p)
-
-pub plain-row_line : (t : Sheet) (row index : ℕ) → IsPlainSheet t → row < length t.cells → index < slice_index t.heights row → IsPlainLine (row_line (row_of t row) index) (filled_width t.config (columns t.cells) t.widths)
+pub plain-row_line : (t : Sheet) (row index : ℕ) → IsPlainSheet t → row < length t.cells → index < slice_index t.heights row
+    → IsPlainLine (row_line (row_of t row) index) (filled_width t.config (columns t.cells) t.widths)
 unfolding row_line filled_width
 plain-row_line t row index p l m =
     let f = frame t.config in
@@ -169,9 +143,7 @@ plain-row_line t row index p l m =
     plain_line-append (plain-left f f.left.main q.margin_left q.left)
     (plain_line-append (plain-cells t row index p l m) (plain-right f f.right.main q.margin_right q.right))
 
-pub plain-rule_line : (t : Sheet) (line : HorizontalLine) → IsPlainSheet t → IsPlainRule line → IsPlainLine (rule_line (columns_of t) line) (filled_width t.config (columns t.cells) t.widths)
-unfolding rule_line filled_width
-plain-rule_line t line p q =
-    let f = frame t.config in
-    plain_line-append (plain-left f (unwrap_or line.left 32) p.config.frame.margin_left q.left)
-    (plain_line-append (plain-rules t line q) (plain-right f (unwrap_or line.right 32) p.config.frame.margin_right q.right))
+pub plain-rule_line : (t : Sheet) (line : HorizontalLine) → IsPlainSheet t → IsPlainRule line
+    → IsPlainLine (rule_line (columns_of t) line) (filled_width t.config (columns t.cells) t.widths)
+unfolding filled_width line_total
+plain-rule_line t line p q = plain_rule_line (columns_of t) line p.config.frame.margin_left p.config.frame.margin_right q

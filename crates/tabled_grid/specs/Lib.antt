@@ -1,3 +1,4 @@
+pub mod ApartSheet
 pub mod Grid
 pub mod Narrow
 pub mod Picture

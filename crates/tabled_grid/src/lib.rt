@@ -4,6 +4,7 @@
 //! whose sinks stand here too.
 #![tactic(auto)]
 
+mod apart;
 mod checks;
 mod grid;
 pub mod laws;
@@ -13,6 +14,7 @@ mod plain;
 mod print;
 mod standing;
 
+pub use apart::is_apart_config;
 pub use plain::{is_plain_config, is_plain_records};
 pub use print::print_grid;
 pub use standing::{print_estimated, print_standing};

@@ -48,7 +48,7 @@ fn is_plain_rule_at(config: &SpannedConfig, rows: usize, index: usize) -> bool
 }
 
 /// Whether the lines above the rows, and the one below the last, are plain.
-fn are_plain_rules(config: &SpannedConfig, rows: usize) -> bool
+pub(crate) fn are_plain_rules(config: &SpannedConfig, rows: usize) -> bool
     ensures { IsTrue result ↔ ((i : ℕ) → i ≤ rows → (line : HorizontalLine)
         → rule_at config.now rows i ≡ Some line → IsPlainRule line) }
 {

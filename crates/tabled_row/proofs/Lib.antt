@@ -1,7 +1,10 @@
+pub mod ApartLines
+pub mod Bars
 pub mod Blocks
 pub mod Contents
 pub mod Each
 pub mod Fills
+pub mod Joined
 pub mod Leading
 pub mod Marking
 pub mod Plains

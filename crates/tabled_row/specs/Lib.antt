@@ -1,3 +1,4 @@
+pub mod Apart
 pub mod Block
 pub mod Fill
 pub mod Going

@@ -10,6 +10,7 @@ mod content;
 mod edges;
 mod io_sink;
 mod kept;
+pub mod laws;
 mod lines;
 mod marks;
 mod memory;

@@ -5,9 +5,10 @@ use Rattle.std.specs.List.{slice_index_or}
 use Rattle.std.proofs.Math.Seq.{take-length}
 use Rattle.std.proofs.lemmas.Bool.{MatchBool-at_true, MatchBool-at_false, and_from, cases_Bool, le-leb, lt-leb, lt-ltb}
 use Rattle.std.proofs.lemmas.List.{get_or_default}
+use Rattle.std.specs.List.{All}
+use Rattle.std.specs.Str.{IsUtf8}
 use Rattle.tabled_text.specs.Plain.{IsPlain}
-use Rattle.tabled_text.specs.Room.{StaysWithin}
-use Rattle.tabled_text.proofs.StayLemmas.{IsPlain-stays, text_columns-stays}
+use Rattle.tabled_apart.specs.Fitting.{FitsIn}
 use Rattle.tabled_base.specs.Cells.{IsRectangular, cell_at, columns}
 use Rattle.tabled_config.specs.declared.spanned.SpannedConfig.{SpannedConfig}
 use Rattle.tabled_size.specs.Estimates.{estimated_heights, estimated_widths, needed_width}
@@ -31,10 +32,15 @@ use Rattle.tabled_set.specs.Promised.{TakesFrom, TakesGreatest}
 use Rattle.tabled_set.proofs.Emptied.{emptied-columns, emptied-empty, minimums-le, minimums-length, side_padding-le}
 use Rattle.tabled_size.specs.Holds.{Holds, IsSized}
 use Rattle.tabled_size.specs.PlainCells.{ArePlain}
+use Rattle.tabled_size.specs.TextCells.{AreTexts}
 
--- a text that is changed for a room is plain and stays in it
+-- a text that is changed for a room fits in it
 abbrev pub FindsRoom : (ℕ → List ℕ → List ℕ → Type 0) → Type 0
-FindsRoom change = (room : ℕ) (before after : List ℕ) → IsPlain before → change room before after → StaysWithin room after
+FindsRoom change = (room : ℕ) (before after : List ℕ) → IsUtf8 before → change room before after → FitsIn room after
+
+-- and is plain where it was
+abbrev pub KeepsPlain : (ℕ → List ℕ → List ℕ → Type 0) → Type 0
+KeepsPlain change = (room : ℕ) (before after : List ℕ) → IsPlain before → change room before after → IsPlain after
 
 -- ---- cells that are changed
 -- the columns of equally long rows are the cells of each
@@ -53,15 +59,17 @@ changed_empty chosen change old new h =
     ap (λ n. (n == 0) || (columns new == 0)) h.rows ∙ ap (λ n. (length old == 0) || (n == 0)) (changed_columns chosen change old new h)
 
 -- a property of each cell, by its place
-plain_cell : (cells : List (List (List ℕ))) (row column : ℕ) → IsRectangular cells → ArePlain cells → row < length cells → column < columns cells → IsPlain (cell_at cells row column)
-plain_cell cells row column rectangular plain r c = plain row [] r column [] (let e = row_length cells row rectangular r in omega arith)
+cell_of : (P : List ℕ → Type 0) (cells : List (List (List ℕ))) (row column : ℕ) → IsRectangular cells → All (All P) cells → row < length cells
+    → column < columns cells → P (cell_at cells row column)
+cell_of P cells row column rectangular each r c = each row [] r column [] (let e = row_length cells row rectangular r in omega arith)
 
-plain_cells : (cells : List (List (List ℕ))) → ((row column : ℕ) → row < length cells → column < length (slice_index_or cells row []) → IsPlain (cell_at cells row column)) → ArePlain cells
-plain_cells cells h row d r column e c =
+cells_of : (P : List ℕ → Type 0) (cells : List (List (List ℕ)))
+    → ((row column : ℕ) → row < length cells → column < length (slice_index_or cells row []) → P (cell_at cells row column)) → All (All P) cells
+cells_of P cells h row d r column e c =
     let same : slice_index_or cells row d ≡ slice_index_or cells row [] = get_or_default cells row d [] r in
     let c' : column < length (slice_index_or cells row []) = subst (λ cs. column < length cs) same c in
-    subst (λ cs. IsPlain (slice_index_or cs column e)) (sym same)
-    (subst IsPlain (get_or_default (slice_index_or cells row []) column [] e c') (h row column r c'))
+    subst (λ cs. P (slice_index_or cs column e)) (sym same)
+    (subst P (get_or_default (slice_index_or cells row []) column [] e c') (h row column r c'))
 
 -- ---- totals
 full_total : (t : Sheet) → is_empty t.cells ≡ false → length t.widths ≡ columns t.cells → total_width t ≡ sum t.widths + frame_width t.config (columns t.cells)
@@ -146,10 +154,13 @@ module _ {P : Type 0} (shrinks : P → List ℕ → List ℕ → ℕ → List �
   changed_for_room row column r c =
       subst (λ ws. change (at ws column - side_padding config row column) (cell_at cells row column) (cell_at new row column)) (sym new_widths) (changed_cell row column r c)
 
-  -- where the cells are plain, and changed texts stay in their rooms
-  module _ (rooms : FindsRoom change) (rectangular : IsRectangular cells) (plain : ArePlain cells) (wider : n < total_width (standing cells config sizes)) (heights_clear : heights_of last ≡ None) where
-    stays : (row column : ℕ) → row < length cells → column < columns cells → StaysWithin (at h.widths column - side_padding config row column) (cell_at new row column)
-    stays row column r c = rooms (at h.widths column - side_padding config row column) (cell_at cells row column) (cell_at new row column) (plain_cell cells row column rectangular plain r c) (changed_cell row column r c)
+  -- where changed texts fit in their rooms
+  module _ (rooms : FindsRoom change) (keeps : KeepsPlain change) (rectangular : IsRectangular cells) (texts : AreTexts cells)
+      (wider : n < total_width (standing cells config sizes)) (heights_clear : heights_of last ≡ None) where
+    stays : (row column : ℕ) → row < length cells → column < columns cells → FitsIn (at h.widths column - side_padding config row column) (cell_at new row column)
+    stays row column r c =
+        rooms (at h.widths column - side_padding config row column) (cell_at cells row column) (cell_at new row column)
+        (cell_of IsUtf8 cells row column rectangular texts r c) (changed_cell row column r c)
 
     new_sized : IsSized (standing new config last)
     new_sized = record {
@@ -161,16 +172,28 @@ module _ {P : Type 0} (shrinks : P → List ℕ → List ℕ → ℕ → List �
     new_holds row column r c =
         let r' : row < length cells = subst (λ k. row < k) h.changed.rows r in
         let c' : column < columns cells = subst (λ k. column < k) new_columns c in
-        let fits = text_columns-stays (stays row column r' c') in
+        let fits = (stays row column r' c').columns in
         let own = side_padding-le cells config row column r' c' in
         let above = kept column in
         subst (λ ws. needed_width new config row column ≤ at ws column) (sym new_widths) (omega arith)
 
-    new_plain : ArePlain new
-    new_plain = plain_cells new (λ row column r c.
+    -- a column of a new row is one of the table
+    old_column : (row column : ℕ) → row < length cells → column < length (slice_index_or new row []) → column < columns cells
+    old_column row column r c =
+        let e : length (slice_index_or new row []) ≡ columns cells = h.changed.row_lengths row ∙ row_length cells row rectangular r in
+        subst (λ k. column < k) e c
+
+    new_texts : AreTexts new
+    new_texts = cells_of IsUtf8 new (λ row column r c.
         let r' : row < length cells = subst (λ k. row < k) h.changed.rows r in
-        let e : length (slice_index_or new row []) ≡ columns cells = h.changed.row_lengths row ∙ row_length cells row rectangular r' in
-        IsPlain-stays (stays row column r' (subst (λ k. column < k) e c)))
+        (stays row column r' (old_column row column r' c)).utf8)
+
+    new_plain : ArePlain cells → ArePlain new
+    new_plain plain = cells_of IsPlain new (λ row column r c.
+        let r' : row < length cells = subst (λ k. row < k) h.changed.rows r in
+        let c' = old_column row column r' c in
+        keeps (at h.widths column - side_padding config row column) (cell_at cells row column) (cell_at new row column)
+        (cell_of IsPlain cells row column rectangular plain r' c') (changed_cell row column r' c'))
 
     full : is_empty cells ≡ false
     full = full_wider (standing cells config sizes) n wider
@@ -204,5 +227,6 @@ module _ {P : Type 0} (shrinks : P → List ℕ → List ℕ → ℕ → List �
               ∙ ap (max n) (sym least_total);
           sized = new_sized;
           holds = new_holds;
+          texts = new_texts;
           plain = new_plain;
         }

@@ -1,18 +1,18 @@
 -- What wrapped and truncated tables keep of what is promised.
 use Rattle.std.proofs.Common.{◌≡◌, ℕ, ◌<◌, Bool, true, false, List, [], Option, Some, None, nat_lt, refl, sym, ap, ◌∙◌, subst, ⊎_elim}
-use Rattle.std.proofs.lemmas.Bool.{MatchBool-at_true, MatchBool-at_false, cases_Bool, lt-ltb, ltb-false}
+use Rattle.std.proofs.lemmas.Bool.{MatchBool-at_true, MatchBool-at_false, cases_Bool, lt-ltb}
 use Rattle.tabled_text.specs.Measure.{text_columns}
 use Rattle.tabled_text.specs.Plain.{IsPlain}
-use Rattle.tabled_text.specs.Room.{StaysWithin}
 use Rattle.tabled_text.proofs.FewestLines.{fewest-wrapped}
 use Rattle.tabled_text.proofs.OwnBreaking.{old_text}
-use Rattle.tabled_text.proofs.StayLemmas.{StaysWithin-from, StaysWithin-wrapped}
+use Rattle.tabled_text.proofs.StayLemmas.{IsPlain-stays, StaysWithin-wrapped}
+use Rattle.tabled_apart.proofs.FittingLaws.{fits-wrapped}
 use Rattle.tabled_base.specs.Cells.{IsInside, IsRectangular, cell_at}
 use Rattle.tabled_base.specs.declared.position.Entity.{Entity}
 use Rattle.tabled_base.specs.declared.position.Entity.TheVariants.{Row}
 use Rattle.tabled_config.specs.declared.spanned.SpannedConfig.{SpannedConfig}
 use Rattle.tabled_size.specs.Cleared.{AreCleared}
-use Rattle.tabled_size.specs.PlainCells.{ArePlain}
+use Rattle.tabled_size.specs.TextCells.{AreTexts}
 use Rattle.tabled_size.specs.Entries.{clears_heights, clears_widths, unless_cleared}
 use Rattle.tabled_size.specs.Standing.{standing}
 use Rattle.tabled_size.specs.Stored.{heights_of, widths_of}
@@ -26,22 +26,32 @@ use Rattle.tabled_set.specs.Promised.{IsWiderThan, TakesFrom, TakesGreatest, Tru
 use Rattle.tabled_change.specs.Truncated.{IsTruncated}
 use Rattle.tabled_change.specs.declared.suffix.SuffixLimit.{SuffixLimit}
 use Rattle.tabled_change.proofs.Bare.{longest_lines, longest_truncated}
-use Rattle.tabled_set.proofs.ExactTotals.{FindsRoom, IsNarrowed-wider, changed_for_room, exact_total, leveled}
+use Rattle.tabled_set.proofs.ExactTotals.{FindsRoom, IsNarrowed-wider, KeepsPlain, changed_for_room, exact_total, leveled}
 use Rattle.tabled_change.proofs.Staying.{StaysWithin-truncated}
+use Rattle.tabled_change.proofs.TruncatedTexts.{fits-if_wider}
 
 -- ---- changed texts stay in their rooms
 FindsRoom-wrapping : (words : Bool) → FindsRoom (wrapping words)
-FindsRoom-wrapping words room before after p w = StaysWithin-wrapped p w
+FindsRoom-wrapping words room before after p w = fits-wrapped room words before after w
 
-FindsRoom-truncating : (suffix : List ℕ) (limit : SuffixLimit) (multiline : Bool) → IsPlain suffix → IsPlainLimit limit → FindsRoom (if_wider (truncating suffix limit multiline))
-FindsRoom-truncating suffix limit multiline q l room before after p w =
+FindsRoom-truncating : (suffix : List ℕ) (limit : SuffixLimit) (multiline : Bool) → IsPlain suffix → IsPlainLimit limit
+    → FindsRoom (if_wider (truncating suffix limit multiline))
+FindsRoom-truncating suffix limit multiline q l room before after p w = fits-if_wider room suffix limit multiline before after q l p w
+
+-- ---- and plain where they were
+KeepsPlain-wrapping : (words : Bool) → KeepsPlain (wrapping words)
+KeepsPlain-wrapping words room before after p w = IsPlain-stays (StaysWithin-wrapped {n = room} p w)
+
+KeepsPlain-truncating : (suffix : List ℕ) (limit : SuffixLimit) (multiline : Bool) → IsPlain suffix → IsPlainLimit limit
+    → KeepsPlain (if_wider (truncating suffix limit multiline))
+KeepsPlain-truncating suffix limit multiline q l room before after p w =
     let ended = IsTruncated room suffix limit multiline before after in
     let stays = after ≡ before in
     ⊎_elim
-    (λ y. StaysWithin-truncated room suffix limit multiline before after q l p (MatchBool-at_true ended stays y w))
+    (λ y. IsPlain-stays (StaysWithin-truncated room suffix limit multiline before after q l p (MatchBool-at_true ended stays y w)))
     (λ no.
     let same : after ≡ before = MatchBool-at_false ended stays no w in
-    subst (StaysWithin room) (sym same) (StaysWithin-from p (ltb-false room (text_columns before) no)))
+    subst IsPlain (sym same) p)
     (cases_Bool (nat_lt room (text_columns before)))
 
 -- ---- a table that was narrowed, once what is hinted was forgotten, the widths never
@@ -62,9 +72,9 @@ module _ {P : Type 0} (shrinks : P → List ℕ → List ℕ → ℕ → List �
   heights_clear : heights_of last ≡ None
   heights_clear = cleared.heights ∙ ap (unless_cleared (clears_heights hint)) narrowed.cleared ∙ cleared_none (clears_heights hint)
 
-  exact_of : FindsRoom change → IsRectangular cells → ArePlain cells → HasExactTotal n (standing cells config sizes) (standing new config last)
-  exact_of rooms rectangular plain =
-      exact_total shrinks s change n cells config sizes new stored last takes wide.estimates narrowed widths_stay rooms rectangular plain wide.wider heights_clear
+  exact_of : FindsRoom change → KeepsPlain change → IsRectangular cells → AreTexts cells → HasExactTotal n (standing cells config sizes) (standing new config last)
+  exact_of rooms keeps rectangular texts =
+      exact_total shrinks s change n cells config sizes new stored last takes wide.estimates narrowed widths_stay rooms keeps rectangular texts wide.wider heights_clear
 
   cell_of : (row column : ℕ) → IsInside cells row column → change (text_room (standing new config last) row column) (cell_at cells row column) (cell_at new row column)
   cell_of row column inside =
@@ -85,7 +95,9 @@ module _ {P : Type 0} (shrinks : P → List ℕ → List ℕ → ℕ → List �
       let change = wrapping words in
       let room = text_room (standing new config last) in
       record {
-        exact = λ takes wide plain. exact_of shrinks s change n cells config sizes new stored last (Some (Row 0)) refl narrows cleared takes wide (FindsRoom-wrapping words) rectangular plain;
+        exact = λ takes wide texts.
+            exact_of shrinks s change n cells config sizes new stored last (Some (Row 0)) refl narrows cleared takes wide
+            (FindsRoom-wrapping words) (KeepsPlain-wrapping words) rectangular texts;
         best = λ takes wide.
             let changed = cell_of shrinks s change n cells config sizes new stored last (Some (Row 0)) refl narrows cleared takes wide in
             record {
@@ -126,7 +138,9 @@ module _ {P : Type 0} (shrinks : P → List ℕ → List ℕ → ℕ → List �
     truncates =
         let change = if_wider (truncating suffix limit multiline) in
         record {
-          exact = λ takes p l wide plain. exact_of shrinks s change n cells config sizes new stored last None refl narrows cleared takes wide (FindsRoom-truncating suffix limit multiline p l) rectangular plain;
+          exact = λ takes p l wide texts.
+              exact_of shrinks s change n cells config sizes new stored last None refl narrows cleared takes wide
+              (FindsRoom-truncating suffix limit multiline p l) (KeepsPlain-truncating suffix limit multiline p l) rectangular texts;
           best = longest_of;
           least = λ greatest wide.
               least_of shrinks s change n cells config sizes new stored last None refl narrows cleared (takes_of greatest) wide greatest;

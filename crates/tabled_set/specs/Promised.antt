@@ -5,8 +5,8 @@ use Rattle.tabled_set.specs.ExactTotal.{HasEstimatedWidths, HasExactTotal}
 use Rattle.tabled_change.specs.PlainEnding.{IsPlainLimit}
 use Rattle.tabled_change.specs.declared.suffix.SuffixLimit.{SuffixLimit}
 use Rattle.tabled_priority.specs.Permitted.{IsTakenFrom}
-use Rattle.tabled_size.specs.PlainCells.{ArePlain}
 use Rattle.tabled_size.specs.Sheet.{Sheet}
+use Rattle.tabled_size.specs.TextCells.{AreTexts}
 use Rattle.tabled_priority.specs.Shrunk.{IsMaxShrunk}
 use Rattle.tabled_size.specs.Totals.{total_width}
 use Rattle.tabled_text.specs.Plain.{IsPlain}
@@ -28,15 +28,15 @@ pub record IsWiderThan (n : ℕ) (t : Sheet) : Type 0 where
   pub estimates : HasEstimatedWidths t
   pub wider : n < total_width t
 
--- wrapped to n: by a priority that takes all it can, plain texts have the exact total, and all texts the fewest lines; by
+-- wrapped to n: by a priority that takes all it can, the exact total and the fewest lines, whatever the texts are; by
 -- one that takes the greatest first, the greatest width is the least possible
 pub record WrapsAsPromised {P : Type 0} (shrinks : P → List ℕ → List ℕ → ℕ → List ℕ → P → Type 0) (s : P) (words : Bool) (n : ℕ) (old new : Sheet) : Type 0 where
-  pub exact : TakesFrom shrinks s → IsWiderThan n old → ArePlain old.cells → HasExactTotal n old new
+  pub exact : TakesFrom shrinks s → IsWiderThan n old → AreTexts old.cells → HasExactTotal n old new
   pub best : TakesFrom shrinks s → IsWiderThan n old → IsBestWrapped words old new
   pub least : TakesGreatest shrinks s → IsWiderThan n old → HasLeastWidth old new
 
--- truncated to n: the same totals, where the suffix is plain too; without a suffix the longest beginnings
+-- truncated to n: the same totals, where the suffix is plain; without a suffix the longest beginnings
 pub record TruncatesAsPromised {P : Type 0} (shrinks : P → List ℕ → List ℕ → ℕ → List ℕ → P → Type 0) (s : P) (suffix : List ℕ) (limit : SuffixLimit) (multiline : Bool) (n : ℕ) (old new : Sheet) : Type 0 where
-  pub exact : TakesFrom shrinks s → IsPlain suffix → IsPlainLimit limit → IsWiderThan n old → ArePlain old.cells → HasExactTotal n old new
+  pub exact : TakesFrom shrinks s → IsPlain suffix → IsPlainLimit limit → IsWiderThan n old → AreTexts old.cells → HasExactTotal n old new
   pub best : TakesFrom shrinks s → suffix ≡ [] → IsWiderThan n old → IsBestCut multiline old new
   pub least : TakesGreatest shrinks s → IsWiderThan n old → HasLeastWidth old new

@@ -10,5 +10,6 @@ pub mod Sheet
 pub mod Standing
 pub mod StandingTotals
 pub mod Stored
+pub mod TextCells
 pub mod Totals
 pub mod Values

@@ -1,6 +1,7 @@
 -- The settings of a new table are plain characters of one column, so its lines are straight.
 use Rattle.std.proofs.Common.{
   ◌≡◌,
+  inl,
   ℕ,
   ◌+◌,
   ◌<◌,
@@ -42,6 +43,11 @@ use Rattle.tabled_row.specs.Plain.{EachLineTakes, IsPlainRule, IsPlainStyle}
 use Rattle.tabled_grid.specs.PlainSheet.{IsPlainConfig}
 use Rattle.tabled_grid.proofs.EstimatedSizes.{holds_estimated}
 use Rattle.tabled_grid.proofs.Whole.{picture_columns, picture_lines}
+use Rattle.tabled_apart.specs.Lines.{IsSeparatorColumn}
+use Rattle.tabled_size.specs.TextCells.{AreTexts}
+use Rattle.tabled_row.specs.Apart.{IsApartStyle}
+use Rattle.tabled_grid.specs.ApartSheet.{IsApartConfig}
+use Rattle.tabled_grid.proofs.ApartPictures.{apart_columns}
 use Rattle.tabled_table.specs.NewConfig.{new_config}
 use Rattle.tabled_table.specs.NewTable.{IsNew}
 use Rattle.tabled_table.specs.TableSheet.{new_sheet, sheet}
@@ -99,6 +105,40 @@ new_plain rows count = record {
   styles = λ row column h k. style_plain row column;
 }
 
+-- bars and spaces are separators
+separator-bar : IsSeparatorColumn 124
+separator-bar = record { plain = bar; steady = refl }
+
+separator-space : IsSeparatorColumn 32
+separator-space = record { plain = plain_column-space; steady = refl }
+
+style_apart : (row column : ℕ) → IsApartStyle (style_at new_config row column)
+unfolding style_at new_config
+style_apart row column = record { left = separator-space; right = separator-space; top = separator-space; bottom = separator-space }
+
+pub new_apart : (rows count : ℕ) → IsApartConfig new_config rows count
+unfolding new_config
+new_apart rows count = record {
+  margin_top = plain_column-space;
+  margin_bottom = plain_column-space;
+  rules = λ i b. rule_plain rows i;
+  styles = λ row column h k. style_apart row column;
+  gaps = λ row h. inl refl;
+  frame = record {
+    inner = separator-bar;
+    left = separator-bar;
+    right = separator-bar;
+    margin_left = separator-space;
+    margin_right = separator-space;
+  };
+}
+
+-- each line of a new table takes as many columns as the whole, whatever its texts are
+pub new_texts : (cells : List (List (List ℕ))) → IsRectangular cells → AreTexts cells
+    → EachLineTakes (total_width (new_sheet cells)) (picture (new_sheet cells))
+new_texts cells h texts =
+    apart_columns (new_sheet cells) (new_apart (length cells) (columns cells)) texts h (holds_estimated cells new_config)
+
 -- each line of a new table of plain texts takes as many columns as the whole
 pub new_columns : (cells : List (List (List ℕ))) → IsRectangular cells → ArePlain cells
     → EachLineTakes (total_width (new_sheet cells)) (picture (new_sheet cells))
@@ -148,6 +188,10 @@ new_stands cells table new =
 pub new_is_plain : (cells : List (List (List ℕ))) (table : Table) → IsNew cells table
     → IsPlainConfig (sheet table).config (length cells) (columns cells)
 new_is_plain cells table new = subst (λ c. IsPlainConfig c (length cells) (columns cells)) (sym new.config) (new_plain (length cells) (columns cells))
+
+pub new_is_apart : (cells : List (List (List ℕ))) (table : Table) → IsNew cells table
+    → IsApartConfig (sheet table).config (length cells) (columns cells)
+new_is_apart cells table new = subst (λ c. IsApartConfig c (length cells) (columns cells)) (sym new.config) (new_apart (length cells) (columns cells))
 
 pub new_holds : (cells : List (List (List ℕ))) (table : Table) → IsNew cells table → Holds (sheet table)
 new_holds cells table new = subst Holds (sym (new_stands cells table new)) (holds_estimated cells new_config)

@@ -7,10 +7,18 @@ use Rattle.tabled_size.specs.Holds.{Holds}
 use Rattle.tabled_grid.specs.Picture.{picture}
 use Rattle.tabled_size.specs.PlainCells.{ArePlain}
 use Rattle.tabled_row.specs.Plain.{EachLineTakes}
+use Rattle.tabled_grid.specs.ApartSheet.{IsApartConfig}
 use Rattle.tabled_grid.specs.PlainSheet.{IsPlainConfig}
+use Rattle.tabled_size.specs.TextCells.{AreTexts}
+use Rattle.tabled_grid.proofs.ApartPictures.{apart_columns}
 use Rattle.tabled_grid.proofs.Whole.{picture_columns, picture_lines}
 
--- where characters are plain, each takes as many columns as the whole
+-- where texts are kept apart, each takes as many columns as the whole
+pub sheet_texts : (t : Sheet) → IsRectangular t.cells → IsApartConfig t.config (length t.cells) (columns t.cells)
+    → AreTexts t.cells → Holds t → EachLineTakes (total_width t) (picture t)
+sheet_texts t rectangular config texts holds = apart_columns t config texts rectangular holds
+
+-- and so where characters are plain
 pub sheet_columns : (t : Sheet) → IsRectangular t.cells → IsPlainConfig t.config (length t.cells) (columns t.cells)
     → ArePlain t.cells → Holds t → EachLineTakes (total_width t) (picture t)
 sheet_columns t rectangular config texts holds = picture_columns t config texts rectangular holds

@@ -15,7 +15,9 @@ ghost use Rattle.tabled_size.specs.Totals.{total_height, total_width};
 ghost use Rattle.tabled_size.specs.Holds.{Holds};
 ghost use Rattle.tabled_grid.specs.Picture.{picture, table_text};
 ghost use Rattle.tabled_size.specs.PlainCells.{ArePlain};
+ghost use Rattle.tabled_size.specs.TextCells.{AreTexts};
 ghost use Rattle.tabled_row.specs.Plain.{EachLineTakes};
+ghost use Rattle.tabled_grid.specs.ApartSheet.{IsApartConfig};
 ghost use Rattle.tabled_grid.specs.PlainSheet.{IsPlainConfig};
 ghost use Rattle.tabled_grid.specs.Printed.{IsRefused, Prints};
 ghost use Rattle.tabled_row.specs.Sent.{Sent};
@@ -26,7 +28,7 @@ use std::alloc::Global;
 use std::convert::AsStr;
 use tabled_base::{Builder, CellText, ExactRecords, TableError, Text, VecRecords};
 use tabled_config::ColoredConfig;
-use tabled_grid::{TextSink, is_plain_config, is_plain_records, print_standing};
+use tabled_grid::{TextSink, is_apart_config, is_plain_config, is_plain_records, print_standing};
 use tabled_size::{CompleteDimension, is_empty, total_height, total_width};
 use tabled_value::{Tabled, value_records};
 
@@ -170,9 +172,20 @@ impl Table {
         is_empty(&self.records)
     }
 
+    /// Whether the settings keep the texts apart, whatever these are: what stands beside cells are separators of one column
+    /// (a space, lines of boxes, printable ASCII but `#`, `*` and digits), with a vertical line or padding between each two
+    /// cells of a row, and horizontal lines and the lines of margins are of plain characters. Then each printed line takes
+    /// `total_width` columns, if the widths hold the texts, as estimated ones do.
+    pub fn is_apart(&self) -> bool
+        ensures { IsTrue result ↔ IsApartConfig (sheet self.now).config (length (cells_of self.now))
+            (columns (cells_of self.now)) }
+    {
+        is_apart_config(self.config.as_ref(), self.count_rows(), self.count_columns())
+    }
+
     /// Whether the texts, borders, fills and margins are plain characters, and all but the texts of one
     /// column. Then each printed line takes `total_width` columns, if the widths hold the texts, as
-    /// estimated ones do.
+    /// estimated ones do, also where cells touch.
     pub fn is_plain(&self) -> bool
         ensures { IsTrue result ↔ (IsPlainConfig (sheet self.now).config (length (cells_of self.now))
             (columns (cells_of self.now)) × ArePlain (cells_of self.now)) }
@@ -185,12 +198,15 @@ impl Table {
     /// The columns of each line of the printed table: the widths that stand, the vertical lines and the
     /// side margins; 0 for an empty table. Refused for memory where no widths are stored, with `ShortWidths` where fewer widths are
     /// stored than there are columns, and with `Range` where the sum passes the greatest `usize`.
-    #[tactic(auto, using(crate::proofs::Sheets::sheet_columns))]
+    #[tactic(auto, using(crate::proofs::Sheets::sheet_columns, crate::proofs::Sheets::sheet_texts))]
     pub fn total_width(&self) -> Result<usize, TableError>
         ensures empty { is_empty (cells_of self.now) ≡ true → result ≡ Ok 0 }
         ensures filled { is_empty (cells_of self.now) ≡ false → AnswersWidth (sheet self.now).config
             (columns (cells_of self.now)) (sheet self.now).widths result }
         ensures memory { IfErr result (λ e. e ≡ Memory → widths_of self.now.dimension ≡ None) }
+        ensures texts { IsApartConfig (sheet self.now).config (length (cells_of self.now)) (columns (cells_of self.now))
+            → AreTexts (cells_of self.now) → Holds (sheet self.now)
+            → EachLineTakes (total_width (sheet self.now)) (picture (sheet self.now)) }
         ensures columns { IsPlainConfig (sheet self.now).config (length (cells_of self.now)) (columns (cells_of self.now))
             → ArePlain (cells_of self.now) → Holds (sheet self.now)
             → EachLineTakes (total_width (sheet self.now)) (picture (sheet self.now)) }

@@ -120,9 +120,25 @@ missed-cyrillic : IsMissed 0x410 0x44F
 unfolding regional_indicator_ranges emoji_modifier_ranges emoji_presentation_ranges joining_group_rows named_rows
 missed-cyrillic = record { indicators = refl; modifiers = refl; emoji = refl; joining = refl; named = refl }
 
-missed-boxes : IsMissed 0x2500 0x257F
+missed-dashes : IsMissed 0x2010 0x2017
+unfolding regional_indicator_ranges emoji_modifier_ranges emoji_presentation_ranges joining_group_rows named_rows
+missed-dashes = record { indicators = refl; modifiers = refl; emoji = refl; joining = refl; named = refl }
+
+missed-low_quotes : IsMissed 0x201A 0x201B
+unfolding regional_indicator_ranges emoji_modifier_ranges emoji_presentation_ranges joining_group_rows named_rows
+missed-low_quotes = record { indicators = refl; modifiers = refl; emoji = refl; joining = refl; named = refl }
+
+missed-dots : IsMissed 0x201E 0x2027
+unfolding regional_indicator_ranges emoji_modifier_ranges emoji_presentation_ranges joining_group_rows named_rows
+missed-dots = record { indicators = refl; modifiers = refl; emoji = refl; joining = refl; named = refl }
+
+missed-boxes : IsMissed 0x2500 0x259F
 unfolding regional_indicator_ranges emoji_modifier_ranges emoji_presentation_ranges joining_group_rows named_rows
 missed-boxes = record { indicators = refl; modifiers = refl; emoji = refl; joining = refl; named = refl }
+
+missed-braille : IsMissed 0x2800 0x28FF
+unfolding regional_indicator_ranges emoji_modifier_ranges emoji_presentation_ranges joining_group_rows named_rows
+missed-braille = record { indicators = refl; modifiers = refl; emoji = refl; joining = refl; named = refl }
 
 missed-ideographs : IsMissed 0x4E00 0x9FFF
 unfolding regional_indicator_ranges emoji_modifier_ranges emoji_presentation_ranges joining_group_rows named_rows
@@ -145,11 +161,16 @@ is_simple-listed c h =
     ⊎_elim (λ a. or_left (is_in_range 0x20 0x7E c) (nat_lt 0xA0 c && is_simple_kind (kind c)) a)
     (λ h₁. ⊎_elim (is_simple-high 0xC0 0xFF missed-latin (lit< tt) c)
     (λ h₂. ⊎_elim (is_simple-high 0x410 0x44F missed-cyrillic (lit< tt) c)
-    (λ h₃. ⊎_elim (is_simple-high 0x2500 0x257F missed-boxes (lit< tt) c)
-    (λ h₄. ⊎_elim (is_simple-high 0x4E00 0x9FFF missed-ideographs (lit< tt) c)
+    (λ h₃. ⊎_elim (is_simple-high 0x2010 0x2017 missed-dashes (lit< tt) c)
+    (λ h₄. ⊎_elim (is_simple-high 0x201A 0x201B missed-low_quotes (lit< tt) c)
+    (λ h₅. ⊎_elim (is_simple-high 0x201E 0x2027 missed-dots (lit< tt) c)
+    (λ h₆. ⊎_elim (is_simple-high 0x2500 0x259F missed-boxes (lit< tt) c)
+    (λ h₇. ⊎_elim (is_simple-high 0x2800 0x28FF missed-braille (lit< tt) c)
+    (λ h₈. ⊎_elim (is_simple-high 0x4E00 0x9FFF missed-ideographs (lit< tt) c)
     (λ a. is_simple-high 0xFFFD 0xFFFD missed-replacement (lit< tt) c
     (subst (λ x. is_in_range 0xFFFD 0xFFFD x ≡ true) (sym (eqb-true c 0xFFFD a)) refl))
-    (or_cases _ _ h₄)) (or_cases _ _ h₃)) (or_cases _ _ h₂)) (or_cases _ _ h₁)) (or_cases _ _ h)
+    (or_cases _ _ h₈)) (or_cases _ _ h₇)) (or_cases _ _ h₆)) (or_cases _ _ h₅)) (or_cases _ _ h₄)) (or_cases _ _ h₃)) (or_cases _ _ h₂))
+    (or_cases _ _ h₁)) (or_cases _ _ h)
 
 -- that a listed character ends no sequence needs no test
 pub is_plain-listed : (c : ℕ) → is_listed c ≡ true → has_plain_width c ≡ is_plain_character c

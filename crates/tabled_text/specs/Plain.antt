@@ -6,12 +6,13 @@ use Rattle.std.specs.Str.{IsUtf8}
 use Rattle.unicode_width.proofs.Rules.{is_simple}
 use Rattle.tabled_text.specs.Measure.{char_columns, line_columns}
 
--- the characters that are listed as plain: printable ASCII, Latin letters, Cyrillic letters, lines of
--- boxes, ideographs, and the replacement character
+-- the characters that are listed as plain: printable ASCII, Latin letters, Cyrillic letters, dashes, dots and daggers,
+-- lines and blocks of boxes, braille, ideographs, and the replacement character
 abbrev pub is_listed : ℕ → Bool
 is_listed c =
-    is_in_range 0x20 0x7E c || (is_in_range 0xC0 0xFF c || (is_in_range 0x410 0x44F c || (is_in_range 0x2500 0x257F c
-    || (is_in_range 0x4E00 0x9FFF c || (c == 0xFFFD)))))
+    is_in_range 0x20 0x7E c || (is_in_range 0xC0 0xFF c || (is_in_range 0x410 0x44F c
+    || (is_in_range 0x2010 0x2017 c || (is_in_range 0x201A 0x201B c || (is_in_range 0x201E 0x2027 c
+    || (is_in_range 0x2500 0x259F c || (is_in_range 0x2800 0x28FF c || (is_in_range 0x4E00 0x9FFF c || (c == 0xFFFD)))))))))
 
 -- one or two columns
 abbrev pub has_plain_width : ℕ → Bool

@@ -40,11 +40,12 @@ fn an_empty_line_is_a_line(rt: HostRuntime) {
 fn listed_characters_and_line_feeds_are_plain(rt: HostRuntime) {
     assert!(rt; is_plain(""));
     assert!(rt; is_plain("Hello, мир 中文 ─│┼ ÀÿÑ \u{FFFD}\n"));
+    assert!(rt; is_plain("‐‗‚‛„‧†•… ▀▟ \u{2800}⣿"));
 }
 
 #[test]
 fn other_characters_are_not_plain(rt: HostRuntime) {
-    for text in ["a\tb", "e\u{301}", "あ", "😳"] {
+    for text in ["a\tb", "e\u{301}", "あ", "😳", "\u{200F}", "‘", "’", "“", "”", "\u{2028}", "■", "⤀"] {
         assert!(rt; !is_plain(text), "at {text}");
     }
 }

@@ -1,9 +1,11 @@
 use Rattle.tabled_change.proofs.Bare.{IsCut-truncated, longest_lines, longest_truncated}
 use Rattle.tabled_change.proofs.Staying.{StaysWithin-truncated}
+use Rattle.tabled_change.proofs.TruncatedTexts.{fits-truncated}
 use Rattle.tabled_change.proofs.laws.truncated_texts.Goals as goal
 
 pub returns : goal.returns
 returns g = record {
+  fits = fits-truncated;
   room = StaysWithin-truncated;
   cut = IsCut-truncated;
   longest = longest_truncated;

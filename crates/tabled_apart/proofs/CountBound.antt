@@ -1,0 +1,414 @@
+-- No text takes more columns than its characters count.
+use Rattle.std.proofs.Common.{
+  ◌≡◌,
+  ℕ,
+  ◌+◌,
+  ◌≤◌,
+  Bool,
+  true,
+  false,
+  cond,
+  not,
+  nat_le,
+  ◌==◌,
+  ◌&&◌,
+  List,
+  [],
+  ◌∷◌,
+  Option,
+  Some,
+  None,
+  refl,
+  ap,
+  arith,
+  subst,
+  max,
+}
+use Rattle.std.proofs.lemmas.Bool.{and_parts}
+use Rattle.std.proofs.lemmas.Bool.Decides.{nat_tests}
+use Rattle.std.proofs.lemmas.List.Sums.{sum_by-cons}
+use Rattle.ucd_emoji.specs.Binary.{is_emoji_variation_base}
+use Rattle.ucd_bidi.specs.JoiningType.{joining_type, joining_type_eq}
+use Rattle.ucd_bidi.specs.declared.JoiningType.TheVariants.{Transparent}
+use Rattle.unicode_width.specs.declared.kind.Kind.{Kind}
+use Rattle.unicode_width.specs.declared.kind.Kind.TheVariants as kinds
+use Rattle.unicode_width.specs.declared.state.After.{After}
+use Rattle.unicode_width.specs.declared.state.After.TheVariants.{
+  Nothing,
+  LineFeed,
+  EmojiModifier,
+  RegionalIndicator,
+  RegionalIndicators,
+  Emoji,
+  ZwjEmoji,
+  KeycapZwjEmoji,
+  IndicatorZwj,
+  EvenIndicatorsZwj,
+  OddIndicatorsZwj,
+  TagEnd,
+  TagDigit1,
+  TagDigit2,
+  TagDigit3,
+  TagLetter1,
+  TagLetter2,
+  TagLetter3,
+  TagLetter4,
+  TagLetter5,
+  TagLetter6,
+  KiratE,
+  KiratAi,
+  Alef,
+  Solidus,
+  SolidusAlef,
+  Lamed,
+  ZwjLamed,
+  Ya,
+  ZwjYa,
+  VowelZwjYa,
+  Tifinagh,
+  ZwjTifinagh,
+  JoinerTifinagh,
+  LisuTone,
+  OrkhonI,
+  ZwjOrkhonI,
+  KhmerLetter,
+}
+use Rattle.unicode_width.specs.declared.state.State.{State}
+use Rattle.unicode_width.specs.declared.state.Change.{Change}
+use Rattle.unicode_width.specs.declared.state.Change.TheVariants.{Less, Same, One, Three}
+use Rattle.unicode_width.specs.Kind.{kind, is_ligature_transparent, is_text_presentation_base}
+use Rattle.unicode_width.specs.Width.{
+  plain,
+  single,
+  of_kind,
+  alone,
+  char_width,
+  before_alef,
+  joins,
+  Reading,
+  added,
+  joined_or,
+  with_joiner,
+  if_kept,
+  is_joined_emoji,
+  is_kept,
+  is_lam,
+  skips_marks,
+  is_line_feed,
+  is_quote,
+  is_plain,
+  past_selectors,
+  in_context,
+  past_emoji,
+  step,
+  read_before,
+  str_width,
+}
+use Rattle.tabled_text.specs.Measure.{char_columns, char_count, columns_of, count_of}
+
+-- ---- what a state keeps back
+
+-- the columns that a later step may add beyond the count of its character
+abbrev slack_after : After → ℕ
+slack_after ZwjEmoji = 1
+slack_after IndicatorZwj = 1
+slack_after OddIndicatorsZwj = 1
+slack_after EvenIndicatorsZwj = 3
+slack_after _ = 0
+
+abbrev flag : Bool → ℕ
+flag true = 1
+flag false = 0
+
+abbrev slack : State → ℕ
+slack s = slack_after s.after + (flag s.emoji + flag s.quote)
+
+-- the columns that there are at least, where a step may take one away
+abbrev credit : After → ℕ
+credit KhmerLetter = 1
+credit JoinerTifinagh = 1
+credit IndicatorZwj = 1
+credit OddIndicatorsZwj = 1
+credit _ = 0
+
+-- the columns and the slack are at most m
+record Bounded (m : ℕ) (r : Reading) : Type 0 where
+  bound : r.0 + slack r.1 ≤ m
+  covers : credit r.1.after ≤ r.0
+
+Bounded-cond : (m : ℕ) (b : Bool) (x y : Reading) → (b ≡ true → Bounded m x) → (b ≡ false → Bounded m y) → Bounded m (cond b x y)
+Bounded-cond m true x y f g = f refl
+Bounded-cond m false x y f g = g refl
+
+-- ---- a character by itself
+
+single-bound : (c : ℕ) → (single false c).0 + slack (single false c).1 ≤ max 1 (single false c).0
+single-bound c = grind arith
+
+single-credit : (c : ℕ) → credit (single false c).1.after ≡ 0
+single-credit c = grind arith
+
+of_kind-bound : (c : ℕ) (k : Kind) → (of_kind false c k).0 + slack (of_kind false c k).1 ≤ max 1 (of_kind false c k).0
+of_kind-bound c kinds.Zero = omega arith
+of_kind-bound c kinds.Narrow = omega arith
+of_kind-bound c kinds.Wide = omega arith
+of_kind-bound c kinds.Ambiguous = omega arith
+of_kind-bound c kinds.Alef = omega arith
+of_kind-bound c kinds.KhmerLetter = omega arith
+of_kind-bound c kinds.TifinaghConsonant = omega arith
+of_kind-bound c kinds.LisuTone = omega arith
+of_kind-bound c kinds.RegionalIndicator = omega arith
+of_kind-bound c kinds.EmojiModifier = omega arith
+of_kind-bound c kinds.Emoji = omega arith
+of_kind-bound c kinds.Single = single-bound c
+
+of_kind-credit : (c : ℕ) (k : Kind) → credit (of_kind false c k).1.after ≤ (of_kind false c k).0
+of_kind-credit c kinds.Zero = omega arith
+of_kind-credit c kinds.Narrow = omega arith
+of_kind-credit c kinds.Wide = omega arith
+of_kind-credit c kinds.Ambiguous = omega arith
+of_kind-credit c kinds.Alef = omega arith
+of_kind-credit c kinds.KhmerLetter = omega arith
+of_kind-credit c kinds.TifinaghConsonant = omega arith
+of_kind-credit c kinds.LisuTone = omega arith
+of_kind-credit c kinds.RegionalIndicator = omega arith
+of_kind-credit c kinds.EmojiModifier = omega arith
+of_kind-credit c kinds.Emoji = omega arith
+of_kind-credit c kinds.Single = omega (arith, single-credit c)
+
+columns-high : (c : ℕ) → nat_le c 0xA0 ≡ false → char_columns c ≡ (alone false c).0
+unfolding char_width
+columns-high c h = grind (arith, nat_tests)
+
+Bounded-alone : (m c total : ℕ) → nat_le c 0xA0 ≡ false → total ≤ m → Bounded (m + char_count c) (added total (alone false c))
+unfolding alone
+Bounded-alone m c total h le =
+    let e : char_columns c ≡ (of_kind false c (kind c)).0 = columns-high c h in
+    let b = of_kind-bound c (kind c) in
+    let k = of_kind-credit c (kind c) in
+    record { bound = omega arith; covers = omega arith }
+
+-- ---- a character that joins those after it
+
+-- what a join asks of the slack and the credit before it, and leaves after it
+abbrev IsCovered : After → Option (Change × After) → Type 0
+IsCovered after None = Unit {0}
+IsCovered after (Some (Less, next)) = (credit after ≡ 1) × (credit next ≡ 0) × (slack_after next ≤ slack_after after + 2)
+IsCovered after (Some (Same, next)) = (credit next ≡ 0) × (slack_after next ≤ slack_after after + 1)
+IsCovered after (Some (One, next)) = (credit next ≤ 1) × (slack_after next ≤ slack_after after)
+IsCovered after (Some (Three, next)) = (credit next ≤ 1) × (slack_after next + 2 ≤ slack_after after)
+
+IsCovered-cond : (after : After) (b : Bool) (x y : Option (Change × After)) → IsCovered after x → IsCovered after y → IsCovered after (cond b x y)
+IsCovered-cond after true x y f g = f
+IsCovered-cond after false x y f g = g
+
+joins-covered : (after : After) (c : ℕ) → IsCovered after (joins false after c)
+unfolding joins before_alef
+joins-covered Nothing c = grind arith
+joins-covered LineFeed c = grind arith
+joins-covered EmojiModifier c = grind arith
+joins-covered RegionalIndicator c = grind arith
+joins-covered RegionalIndicators c = grind arith
+joins-covered Emoji c = grind arith
+joins-covered ZwjEmoji c = grind arith
+joins-covered KeycapZwjEmoji c = grind arith
+joins-covered IndicatorZwj c = grind arith
+joins-covered EvenIndicatorsZwj c = grind arith
+joins-covered OddIndicatorsZwj c = grind arith
+joins-covered TagEnd c = grind arith
+joins-covered TagDigit1 c = grind arith
+joins-covered TagDigit2 c = grind arith
+joins-covered TagDigit3 c = grind arith
+joins-covered TagLetter1 c = grind arith
+joins-covered TagLetter2 c = grind arith
+joins-covered TagLetter3 c = grind arith
+joins-covered TagLetter4 c = grind arith
+joins-covered TagLetter5 c = grind arith
+joins-covered TagLetter6 c = grind arith
+joins-covered KiratE c = grind arith
+joins-covered KiratAi c = grind arith
+joins-covered Alef c =
+    let same : (credit Nothing ≡ 0) × (slack_after Nothing ≤ slack_after Alef + 1) = (refl, omega arith) in
+    let mark : (credit Alef ≡ 0) × (slack_after Alef ≤ slack_after Alef + 1) = (refl, omega arith) in
+    IsCovered-cond Alef (is_lam c) _ _ same (IsCovered-cond Alef (((alone false c).0 == 0) && joining_type_eq (joining_type c) Transparent) _ _ mark tt)
+joins-covered Solidus c = grind arith
+joins-covered SolidusAlef c = grind arith
+joins-covered Lamed c = grind arith
+joins-covered ZwjLamed c = grind arith
+joins-covered Ya c = grind arith
+joins-covered ZwjYa c = grind arith
+joins-covered VowelZwjYa c = grind arith
+joins-covered Tifinagh c = grind arith
+joins-covered ZwjTifinagh c = grind arith
+joins-covered JoinerTifinagh c = grind arith
+joins-covered LisuTone c = grind arith
+joins-covered OrkhonI c = grind arith
+joins-covered ZwjOrkhonI c = grind arith
+joins-covered KhmerLetter c = grind arith
+
+-- a character of one column at least
+Bounded-joined : (m n total : ℕ) (after : After) (j : Option (Change × After)) (own : ℕ × State) → 1 ≤ n → total + slack_after after ≤ m
+    → credit after ≤ total
+    → IsCovered after j → Bounded (m + n) (added total own) → Bounded (m + n) (joined_or total j own)
+Bounded-joined m n total after None own some le k fair rest = rest
+Bounded-joined m n total after (Some (Less, next)) own some le k fair rest =
+    let a = fair.0 in let b = fair.1 in let d = fair.2 in record { bound = omega arith; covers = omega arith }
+Bounded-joined m n total after (Some (Same, next)) own some le k fair rest =
+    let a = fair.0 in let b = fair.1 in record { bound = omega arith; covers = omega arith }
+Bounded-joined m n total after (Some (One, next)) own some le k fair rest =
+    let a = fair.0 in let b = fair.1 in record { bound = omega arith; covers = omega arith }
+Bounded-joined m n total after (Some (Three, next)) own some le k fair rest =
+    let a = fair.0 in let b = fair.1 in record { bound = omega arith; covers = omega arith }
+
+-- a joiner before a state changes neither slack nor credit
+record IsSame (a b : After) : Type 0 where
+  slack : slack_after a ≡ slack_after b
+  credit : credit a ≡ credit b
+
+with_joiner-same : (after : After) → IsSame (with_joiner after) after
+with_joiner-same Nothing = record { slack = refl; credit = refl }
+with_joiner-same LineFeed = record { slack = refl; credit = refl }
+with_joiner-same EmojiModifier = record { slack = refl; credit = refl }
+with_joiner-same RegionalIndicator = record { slack = refl; credit = refl }
+with_joiner-same RegionalIndicators = record { slack = refl; credit = refl }
+with_joiner-same Emoji = record { slack = refl; credit = refl }
+with_joiner-same ZwjEmoji = record { slack = refl; credit = refl }
+with_joiner-same KeycapZwjEmoji = record { slack = refl; credit = refl }
+with_joiner-same IndicatorZwj = record { slack = refl; credit = refl }
+with_joiner-same EvenIndicatorsZwj = record { slack = refl; credit = refl }
+with_joiner-same OddIndicatorsZwj = record { slack = refl; credit = refl }
+with_joiner-same TagEnd = record { slack = refl; credit = refl }
+with_joiner-same TagDigit1 = record { slack = refl; credit = refl }
+with_joiner-same TagDigit2 = record { slack = refl; credit = refl }
+with_joiner-same TagDigit3 = record { slack = refl; credit = refl }
+with_joiner-same TagLetter1 = record { slack = refl; credit = refl }
+with_joiner-same TagLetter2 = record { slack = refl; credit = refl }
+with_joiner-same TagLetter3 = record { slack = refl; credit = refl }
+with_joiner-same TagLetter4 = record { slack = refl; credit = refl }
+with_joiner-same TagLetter5 = record { slack = refl; credit = refl }
+with_joiner-same TagLetter6 = record { slack = refl; credit = refl }
+with_joiner-same KiratE = record { slack = refl; credit = refl }
+with_joiner-same KiratAi = record { slack = refl; credit = refl }
+with_joiner-same Alef = record { slack = refl; credit = refl }
+with_joiner-same Solidus = record { slack = refl; credit = refl }
+with_joiner-same SolidusAlef = record { slack = refl; credit = refl }
+with_joiner-same Lamed = record { slack = refl; credit = refl }
+with_joiner-same ZwjLamed = record { slack = refl; credit = refl }
+with_joiner-same Ya = record { slack = refl; credit = refl }
+with_joiner-same ZwjYa = record { slack = refl; credit = refl }
+with_joiner-same VowelZwjYa = record { slack = refl; credit = refl }
+with_joiner-same Tifinagh = record { slack = refl; credit = refl }
+with_joiner-same ZwjTifinagh = record { slack = refl; credit = refl }
+with_joiner-same JoinerTifinagh = record { slack = refl; credit = refl }
+with_joiner-same LisuTone = record { slack = refl; credit = refl }
+with_joiner-same OrkhonI = record { slack = refl; credit = refl }
+with_joiner-same ZwjOrkhonI = record { slack = refl; credit = refl }
+with_joiner-same KhmerLetter = record { slack = refl; credit = refl }
+
+-- ---- one step
+
+count-some : (c : ℕ) → 1 ≤ char_count c
+count-some c = omega arith
+
+Bounded-past_selectors : (m c total : ℕ) (after : After) → nat_le c 0xA0 ≡ false → total + slack_after after ≤ m → credit after ≤ total
+    → Bounded (m + char_count c) (past_selectors false c total after)
+unfolding past_selectors
+Bounded-past_selectors m c total after h le k =
+    let w = with_joiner-same after in
+    let a = w.slack in let b = w.credit in
+    Bounded-cond (m + char_count c) (skips_marks after && (c == 0x200D)) _ _ (λ _. record { bound = omega arith; covers = omega arith })
+    (λ _. Bounded-cond (m + char_count c) (skips_marks after && is_ligature_transparent c) _ _ (λ _. record { bound = omega arith; covers = omega arith })
+    (λ _. Bounded-joined m (char_count c) total after (joins false after c) (alone false c) (count-some c) le k (joins-covered after c)
+    (Bounded-alone m c total h (omega arith))))
+
+-- what stays of a state under a selector keeps back no more
+record IsLess (s u : State) : Type 0 where
+  after : slack_after s.after ≤ slack_after u.after
+  emoji : flag s.emoji ≤ flag u.emoji
+  quote : flag s.quote ≤ flag u.quote
+  credit : credit s.after ≤ credit u.after
+
+IsLess-self : (s : State) → IsLess s s
+IsLess-self s = record { after = omega arith; emoji = omega arith; quote = omega arith; credit = omega arith }
+
+IsLess-cond : (b : Bool) (s t u : State) → IsLess s u → IsLess t u → IsLess (cond b s t) u
+IsLess-cond true s t u f g = f
+IsLess-cond false s t u f g = g
+
+IsLess-kept : (s : State) → IsLess (if_kept s) s
+IsLess-kept s = IsLess-cond (is_kept s.after) s plain s (IsLess-self s)
+    (record { after = omega arith; emoji = omega arith; quote = omega arith; credit = omega arith })
+
+Bounded-emoji : (m n total : ℕ) (s u : State) → 1 ≤ n → IsLess u s → Bounded m (total, s) → Bounded (m + n) (total, record u { emoji = true })
+Bounded-emoji m n total s u some le h =
+    let a = le.after in let b = le.quote in let d = le.credit in let e = h.bound in let f = h.covers in record { bound = omega arith; covers = omega arith }
+
+Bounded-quote : (m n total : ℕ) (s u : State) → 1 ≤ n → IsLess u s → Bounded m (total, s) → Bounded (m + n) (total, record u { quote = true })
+Bounded-quote m n total s u some le h =
+    let a = le.after in let b = le.emoji in let d = le.credit in let e = h.bound in let f = h.covers in record { bound = omega arith; covers = omega arith }
+
+Bounded-text : (m n total : ℕ) (s u : State) → IsLess u s → Bounded m (total, s) → Bounded (m + n) (total, record u { text = true })
+Bounded-text m n total s u le h =
+    let a = le.after in let b = le.emoji in let q = le.quote in let d = le.credit in let e = h.bound in let f = h.covers in record { bound = omega arith; covers = omega arith }
+
+flag-true : (b : Bool) → b ≡ true → flag b ≡ 1
+flag-true b h = ap flag h
+
+Bounded-in_context : (m c total : ℕ) (s : State) → nat_le c 0xA0 ≡ false → Bounded m (total, s) → Bounded (m + char_count c) (in_context false c total s)
+unfolding in_context
+Bounded-in_context m c total s high h =
+    let n = char_count c in
+    let some = count-some c in
+    let e = h.bound in let f = h.covers in
+    Bounded-cond (m + n) (c == 0xFE0F) _ _
+    (λ _. Bounded-emoji m n total s (cond (is_joined_emoji s.after) s (if_kept s)) some
+    (IsLess-cond (is_joined_emoji s.after) s (if_kept s) s (IsLess-self s) (IsLess-kept s)) h)
+    (λ _. Bounded-cond (m + n) (c == 0xFE01) _ _ (λ _. Bounded-quote m n total s (if_kept s) some (IsLess-kept s) h)
+    (λ _. Bounded-cond (m + n) (c == 0xFE0E) _ _ (λ _. Bounded-text m n total s (if_kept s) (IsLess-kept s) h)
+    (λ _. Bounded-cond (m + n) (s.text && is_text_presentation_base c) _ _ (λ _. record { bound = omega arith; covers = omega arith })
+    (λ _. Bounded-cond (m + n) (s.quote && is_quote c) _ _
+    (λ y. let q = flag-true s.quote (and_parts s.quote (is_quote c) y).0 in record { bound = omega arith; covers = omega arith })
+    (λ _. Bounded-past_selectors m c total s.after high (omega arith) f)))))
+
+Bounded-past_emoji : (m c total : ℕ) (s : State) → Bounded m (total, s) → Bounded (m + char_count c) (past_emoji false c total s)
+unfolding past_emoji
+Bounded-past_emoji m c total s h =
+    let n = char_count c in
+    let some = count-some c in
+    let e = h.bound in let f = h.covers in
+    Bounded-cond (m + n) (c == 0x0A) _ _ (λ _. record { bound = omega arith; covers = omega arith })
+    (λ _. Bounded-cond (m + n) ((c == 0x0D) && is_line_feed s.after) _ _ (λ _. record { bound = omega arith; covers = omega arith })
+    (λ _. Bounded-cond (m + n) (nat_le c 0xA0) _ _ (λ _. record { bound = omega arith; covers = omega arith })
+    (λ high. Bounded-cond (m + n) (is_plain s) _ _ (λ _. Bounded-alone m c total high (omega arith)) (λ _. Bounded-in_context m c total s high h))))
+
+joined_or_two : (b : Bool) → cond b 0 2 ≤ 2
+joined_or_two b = grind arith
+
+not-false : (b : Bool) → not b ≡ false → b ≡ true
+not-false true h = refl
+not-false false h = cc
+
+Bounded-step : (m c : ℕ) (r : Reading) → Bounded m r → Bounded (m + char_count c) (step false c r)
+unfolding step
+Bounded-step m c (total, s) h =
+    let n = char_count c in
+    let some = count-some c in
+    let e = h.bound in let f = h.covers in
+    let kept = IsLess-kept s in
+    let a = kept.after in let q = kept.quote in let d = kept.credit in
+    let two = joined_or_two (is_joined_emoji s.after) in
+    Bounded-cond (m + n) (not s.emoji) _ _ (λ _. Bounded-past_emoji m c total s h)
+    (λ y. let j = flag-true s.emoji (not-false s.emoji y) in
+    Bounded-cond (m + n) (is_emoji_variation_base c) _ _ (λ _. record { bound = omega arith; covers = omega arith })
+    (λ _. Bounded-past_emoji m c total (record (if_kept s) { emoji = false }) (record { bound = omega arith; covers = omega arith })))
+
+Bounded-read_before : (cs : List ℕ) → Bounded (count_of cs) (read_before false cs (0, plain))
+Bounded-read_before [] = record { bound = omega arith; covers = omega arith }
+Bounded-read_before (c ∷ cs) =
+    let e : count_of cs + char_count c ≡ count_of (c ∷ cs) = omega (arith, sum_by-cons char_count c cs) in
+    subst (λ k. Bounded k (read_before false (c ∷ cs) (0, plain))) e (Bounded-step (count_of cs) c (read_before false cs (0, plain)) (Bounded-read_before cs))
+
+-- a text takes no more columns than its characters count
+pub columns-count : (cs : List ℕ) → columns_of cs ≤ count_of cs
+unfolding str_width
+columns-count cs = let b = (Bounded-read_before cs).bound in omega arith

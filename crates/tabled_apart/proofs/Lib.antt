@@ -1,0 +1,10 @@
+pub mod CountBound
+pub mod CutBound
+pub mod Ends
+pub mod FittingLaws
+pub mod LineLaws
+pub mod Missed
+pub mod SeparatorLaws
+pub mod SeparatorSteps
+pub mod Within
+pub mod WrapBound

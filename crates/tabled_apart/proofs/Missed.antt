@@ -1,0 +1,150 @@
+-- Characters that the tables of special sequences do not have.
+use Rattle.std.proofs.Common.{◌≡◌, ℕ, ◌≤◌, Bool, true, false, cond, nat_le, nat_lt, ◌&&◌, ◌||◌, List, [], ◌∷◌, refl, sym, ap, ◌∙◌, arith, subst, ⊎_elim}
+use Rattle.std.proofs.lemmas.Bool.{and_parts, or_cases, leb-true, eqb-true}
+use Rattle.std.proofs.lemmas.Bool.Decides.{nat_tests}
+use Rattle.std.specs.Int.{is_in_range}
+use Rattle.ucd_table.specs.Rows.{Range, Row, in_ranges, value_in}
+use Rattle.ucd_bidi.specs.JoiningGroup.{joining_group, joining_group_eq}
+use Rattle.ucd_bidi.specs.JoiningGroupRows.{joining_group_rows}
+use Rattle.ucd_bidi.specs.declared.JoiningGroup.TheVariants.{NoJoiningGroup, Lam}
+use Rattle.ucd_derived.specs.Binary.{is_default_ignorable_code_point}
+use Rattle.ucd_derived.specs.DefaultIgnorableCodePointRanges.{default_ignorable_code_point_ranges}
+use Rattle.ucd_emoji.specs.Binary.{is_emoji_variation_base, is_emoji_modifier_base}
+use Rattle.ucd_emoji.specs.Ranges.{emoji_variation_base_ranges, emoji_modifier_base_ranges}
+use Rattle.unicode_width.specs.Width.{is_lam}
+use Rattle.tabled_text.specs.Plain.{is_listed}
+use Rattle.tabled_apart.specs.Separators.{is_keycap_base}
+
+-- no range has a member from low to high
+abbrev pub misses : ℕ → ℕ → List Range → Bool
+misses low high [] = true
+misses low high (r ∷ rs) = (nat_lt high r.0 || nat_lt r.1 low) && misses low high rs
+
+outside : (a b low high c : ℕ) → (nat_lt high a || nat_lt b low) ≡ true → low ≤ c → c ≤ high → (nat_le a c && nat_le c b) ≡ false
+outside a b low high c h l u = grind (arith, nat_tests)
+
+in_ranges-missed : (low high : ℕ) (rs : List Range) → misses low high rs ≡ true → (c : ℕ) → low ≤ c → c ≤ high → in_ranges rs c ≡ false
+unfolding in_ranges
+in_ranges-missed low high [] h c l u = refl
+in_ranges-missed low high (r ∷ rs) h c l u =
+    let parts = and_parts (nat_lt high r.0 || nat_lt r.1 low) (misses low high rs) h in
+    ap (λ t. t || in_ranges rs c) (outside r.0 r.1 low high c parts.0 l u) ∙ in_ranges-missed low high rs parts.1 c l u
+
+-- no row has a member from low to high
+abbrev misses_rows : {V : Type 0} → ℕ → ℕ → List (Row V) → Bool
+misses_rows low high [] = true
+misses_rows low high (r ∷ rs) = (nat_lt high r.0 || nat_lt r.1 low) && misses_rows low high rs
+
+value_in-missed : {V : Type 0} (d : V) (low high : ℕ) (rs : List (Row V)) → misses_rows low high rs ≡ true → (c : ℕ) → low ≤ c → c ≤ high
+    → value_in d rs c ≡ d
+unfolding value_in
+value_in-missed d low high [] h c l u = refl
+value_in-missed d low high (r ∷ rs) h c l u =
+    let parts = and_parts (nat_lt high r.0 || nat_lt r.1 low) (misses_rows low high rs) h in
+    ap (λ t. cond t r.2 (value_in d rs c)) (outside r.0 r.1 low high c parts.0 l u) ∙ value_in-missed d low high rs parts.1 c l u
+
+-- ---- a character that joins nothing by the tables
+
+pub record IsUnmarked (c : ℕ) : Type 0 where
+  pub variation : is_emoji_variation_base c ≡ false
+  pub base : is_emoji_modifier_base c ≡ false
+  pub ignorable : is_default_ignorable_code_point c ≡ false
+  pub lam : is_lam c ≡ false
+
+record IsMissed (low high : ℕ) : Type 0 where
+  variations : misses low high emoji_variation_base_ranges ≡ true
+  bases : misses low high emoji_modifier_base_ranges ≡ true
+  ignorables : misses low high default_ignorable_code_point_ranges ≡ true
+  joining : misses_rows low high joining_group_rows ≡ true
+
+unmarked-missed : (low high : ℕ) → IsMissed low high → (c : ℕ) → is_in_range low high c ≡ true → IsUnmarked c
+unfolding is_emoji_variation_base is_emoji_modifier_base is_default_ignorable_code_point joining_group
+unmarked-missed low high m c h =
+    let parts = and_parts (nat_le low c) (nat_le c high) h in
+    let l = leb-true low c parts.0 in
+    let u = leb-true c high parts.1 in
+    let group = value_in-missed NoJoiningGroup low high joining_group_rows m.joining c l u in
+    record {
+      variation = in_ranges-missed low high emoji_variation_base_ranges m.variations c l u;
+      base = in_ranges-missed low high emoji_modifier_base_ranges m.bases c l u;
+      ignorable = in_ranges-missed low high default_ignorable_code_point_ranges m.ignorables c l u;
+      lam = ap (λ g. joining_group_eq g Lam) group;
+    }
+
+missed-signs : IsMissed 0x20 0x22
+unfolding emoji_variation_base_ranges emoji_modifier_base_ranges default_ignorable_code_point_ranges joining_group_rows
+missed-signs = record { variations = refl; bases = refl; ignorables = refl; joining = refl }
+
+missed-dollar : IsMissed 0x24 0x29
+unfolding emoji_variation_base_ranges emoji_modifier_base_ranges default_ignorable_code_point_ranges joining_group_rows
+missed-dollar = record { variations = refl; bases = refl; ignorables = refl; joining = refl }
+
+missed-plus : IsMissed 0x2B 0x2F
+unfolding emoji_variation_base_ranges emoji_modifier_base_ranges default_ignorable_code_point_ranges joining_group_rows
+missed-plus = record { variations = refl; bases = refl; ignorables = refl; joining = refl }
+
+missed-letters : IsMissed 0x3A 0x7E
+unfolding emoji_variation_base_ranges emoji_modifier_base_ranges default_ignorable_code_point_ranges joining_group_rows
+missed-letters = record { variations = refl; bases = refl; ignorables = refl; joining = refl }
+
+missed-latin : IsMissed 0xC0 0xFF
+unfolding emoji_variation_base_ranges emoji_modifier_base_ranges default_ignorable_code_point_ranges joining_group_rows
+missed-latin = record { variations = refl; bases = refl; ignorables = refl; joining = refl }
+
+missed-cyrillic : IsMissed 0x410 0x44F
+unfolding emoji_variation_base_ranges emoji_modifier_base_ranges default_ignorable_code_point_ranges joining_group_rows
+missed-cyrillic = record { variations = refl; bases = refl; ignorables = refl; joining = refl }
+
+missed-dashes : IsMissed 0x2010 0x2017
+unfolding emoji_variation_base_ranges emoji_modifier_base_ranges default_ignorable_code_point_ranges joining_group_rows
+missed-dashes = record { variations = refl; bases = refl; ignorables = refl; joining = refl }
+
+missed-low_quotes : IsMissed 0x201A 0x201B
+unfolding emoji_variation_base_ranges emoji_modifier_base_ranges default_ignorable_code_point_ranges joining_group_rows
+missed-low_quotes = record { variations = refl; bases = refl; ignorables = refl; joining = refl }
+
+missed-dots : IsMissed 0x201E 0x2027
+unfolding emoji_variation_base_ranges emoji_modifier_base_ranges default_ignorable_code_point_ranges joining_group_rows
+missed-dots = record { variations = refl; bases = refl; ignorables = refl; joining = refl }
+
+missed-boxes : IsMissed 0x2500 0x259F
+unfolding emoji_variation_base_ranges emoji_modifier_base_ranges default_ignorable_code_point_ranges joining_group_rows
+missed-boxes = record { variations = refl; bases = refl; ignorables = refl; joining = refl }
+
+missed-braille : IsMissed 0x2800 0x28FF
+unfolding emoji_variation_base_ranges emoji_modifier_base_ranges default_ignorable_code_point_ranges joining_group_rows
+missed-braille = record { variations = refl; bases = refl; ignorables = refl; joining = refl }
+
+missed-ideographs : IsMissed 0x4E00 0x9FFF
+unfolding emoji_variation_base_ranges emoji_modifier_base_ranges default_ignorable_code_point_ranges joining_group_rows
+missed-ideographs = record { variations = refl; bases = refl; ignorables = refl; joining = refl }
+
+missed-replacement : IsMissed 0xFFFD 0xFFFD
+unfolding emoji_variation_base_ranges emoji_modifier_base_ranges default_ignorable_code_point_ranges joining_group_rows
+missed-replacement = record { variations = refl; bases = refl; ignorables = refl; joining = refl }
+
+printable_parts : (c : ℕ) → is_in_range 0x20 0x7E c ≡ true → is_keycap_base c ≡ false
+    → (is_in_range 0x20 0x22 c || (is_in_range 0x24 0x29 c || (is_in_range 0x2B 0x2F c || is_in_range 0x3A 0x7E c))) ≡ true
+printable_parts c h k = grind (arith, nat_tests)
+
+unmarked-printable : (c : ℕ) → is_in_range 0x20 0x7E c ≡ true → is_keycap_base c ≡ false → IsUnmarked c
+unmarked-printable c h k =
+    ⊎_elim (unmarked-missed 0x20 0x22 missed-signs c)
+    (λ h₁. ⊎_elim (unmarked-missed 0x24 0x29 missed-dollar c)
+    (λ h₂. ⊎_elim (unmarked-missed 0x2B 0x2F missed-plus c) (unmarked-missed 0x3A 0x7E missed-letters c)
+    (or_cases _ _ h₂)) (or_cases _ _ h₁)) (or_cases _ _ (printable_parts c h k))
+
+pub unmarked-listed : (c : ℕ) → is_listed c ≡ true → is_keycap_base c ≡ false → IsUnmarked c
+unmarked-listed c h k =
+    ⊎_elim (λ a. unmarked-printable c a k)
+    (λ h₁. ⊎_elim (unmarked-missed 0xC0 0xFF missed-latin c)
+    (λ h₂. ⊎_elim (unmarked-missed 0x410 0x44F missed-cyrillic c)
+    (λ h₃. ⊎_elim (unmarked-missed 0x2010 0x2017 missed-dashes c)
+    (λ h₄. ⊎_elim (unmarked-missed 0x201A 0x201B missed-low_quotes c)
+    (λ h₅. ⊎_elim (unmarked-missed 0x201E 0x2027 missed-dots c)
+    (λ h₆. ⊎_elim (unmarked-missed 0x2500 0x259F missed-boxes c)
+    (λ h₇. ⊎_elim (unmarked-missed 0x2800 0x28FF missed-braille c)
+    (λ h₈. ⊎_elim (unmarked-missed 0x4E00 0x9FFF missed-ideographs c)
+    (λ a. unmarked-missed 0xFFFD 0xFFFD missed-replacement c (subst (λ x. is_in_range 0xFFFD 0xFFFD x ≡ true) (sym (eqb-true c 0xFFFD a)) refl))
+    (or_cases _ _ h₈)) (or_cases _ _ h₇)) (or_cases _ _ h₆)) (or_cases _ _ h₅)) (or_cases _ _ h₄)) (or_cases _ _ h₃)) (or_cases _ _ h₂))
+    (or_cases _ _ h₁)) (or_cases _ _ h)

@@ -1,0 +1,5 @@
+use Rattle.tabled_apart.proofs.SeparatorLaws.{columns-separator, columns-between, columns-meet}
+use Rattle.tabled_apart.proofs.laws.separators.Goals as goal
+
+pub returns : goal.returns
+returns g = record { first = columns-separator; between = columns-between; meet = columns-meet }

@@ -1,0 +1,129 @@
+//! Whether the settings of a table keep the texts of its cells apart, so that all its lines take the same columns.
+ghost use Rattle.std.specs.Prelude.{◌≡◌, ◌↔◌, ◌<◌, ◌≤◌, ◌⊎◌, ℕ, IsTrue, Some, true};
+ghost use Rattle.tabled_text.specs.Plain.{IsPlainColumn};
+ghost use Rattle.tabled_config.specs.Settings.{frame, rule_at, style_at};
+ghost use Rattle.tabled_config.specs.declared.borders.HorizontalLine.{HorizontalLine};
+ghost use Rattle.tabled_row.specs.Apart.{HasGaps, IsApartFrame, IsApartStyle};
+ghost use Rattle.tabled_row.specs.Plain.{IsPlainRule};
+ghost use Rattle.tabled_grid.specs.ApartSheet.{IsApartConfig};
+
+use crate::plain::are_plain_rules;
+use tabled_apart::is_separator_column;
+use tabled_config::{CellStyle, Frame, SpannedConfig};
+use tabled_text::is_plain_column;
+
+fn is_apart_frame(frame: Frame) -> bool
+    ensures { IsTrue result ↔ IsApartFrame frame }
+{
+    is_separator_column(frame.inner.main)
+        && is_separator_column(frame.left.main)
+        && is_separator_column(frame.right.main)
+        && is_separator_column(frame.margin.left.fill)
+        && is_separator_column(frame.margin.right.fill)
+}
+
+fn is_apart_style(style: CellStyle) -> bool
+    ensures { IsTrue result ↔ IsApartStyle style }
+{
+    is_separator_column(style.padding.left.fill)
+        && is_separator_column(style.padding.right.fill)
+        && is_separator_column(style.padding.top.fill)
+        && is_separator_column(style.padding.bottom.fill)
+}
+
+/// Whether the cells of a row are padded by separators.
+fn are_apart_styles_in(config: &SpannedConfig, row: usize, columns: usize) -> bool
+    ensures { IsTrue result ↔ ((column : ℕ) → column < columns → IsApartStyle (style_at config.now row column)) }
+{
+    'columns: for column in 0..columns {
+        if !is_apart_style(config.style_at(row, column)) {
+            return false;
+        }
+    }
+    true
+}
+
+/// Whether each cell of a row has padding on the left.
+fn has_left_padding(config: &SpannedConfig, row: usize, columns: usize) -> bool
+    ensures { IsTrue result ↔ ((column : ℕ) → column < columns → 0 < (style_at config.now row column).padding.left.size) }
+{
+    'columns: for column in 0..columns {
+        if config.style_at(row, column).padding.left.size == 0 {
+            return false;
+        }
+    }
+    true
+}
+
+/// Whether each cell of a row has padding on the right.
+fn has_right_padding(config: &SpannedConfig, row: usize, columns: usize) -> bool
+    ensures { IsTrue result ↔ ((column : ℕ) → column < columns → 0 < (style_at config.now row column).padding.right.size) }
+{
+    'columns: for column in 0..columns {
+        if config.style_at(row, column).padding.right.size == 0 {
+            return false;
+        }
+    }
+    true
+}
+
+/// Whether a separator stands between each two cells of a row: a vertical line, or padding.
+fn has_gaps(config: &SpannedConfig, row: usize, columns: usize) -> bool
+    ensures { IsTrue result ↔ HasGaps (frame config.now) columns (style_at config.now row) }
+{
+    config.frame().inner.there
+        || has_left_padding(config, row, columns)
+        || has_right_padding(config, row, columns)
+}
+
+/// Whether the texts of a row are kept apart.
+fn is_apart_row(config: &SpannedConfig, row: usize, columns: usize) -> bool
+    ensures { IsTrue result ↔ (((column : ℕ) → column < columns → IsApartStyle (style_at config.now row column))
+        × HasGaps (frame config.now) columns (style_at config.now row)) }
+{
+    are_apart_styles_in(config, row, columns) && has_gaps(config, row, columns)
+}
+
+/// Whether those of each row are.
+fn are_apart_rows(config: &SpannedConfig, rows: usize, columns: usize) -> bool
+    ensures { IsTrue result ↔ ((row : ℕ) → row < rows
+        → ((column : ℕ) → column < columns → IsApartStyle (style_at config.now row column))
+        × HasGaps (frame config.now) columns (style_at config.now row)) }
+{
+    'rows: for row in 0..rows {
+        if !is_apart_row(config, row, columns) {
+            return false;
+        }
+    }
+    true
+}
+
+/// Whether what stands around the cells is: separators beside them, plain characters above and below.
+fn is_apart_around(frame: Frame) -> bool
+    ensures { IsTrue result ↔ (IsApartFrame frame × IsPlainColumn frame.margin.top.fill
+        × IsPlainColumn frame.margin.bottom.fill) }
+{
+    is_apart_frame(frame)
+        && is_plain_column(frame.margin.top.fill)
+        && is_plain_column(frame.margin.bottom.fill)
+}
+
+/// Whether the horizontal lines are plain, and the texts of each row are kept apart.
+fn are_apart_places(config: &SpannedConfig, rows: usize, columns: usize) -> bool
+    ensures { IsTrue result ↔ (((i : ℕ) → i ≤ rows → (line : HorizontalLine)
+        → rule_at config.now rows i ≡ Some line → IsPlainRule line)
+        × ((row : ℕ) → row < rows
+        → ((column : ℕ) → column < columns → IsApartStyle (style_at config.now row column))
+        × HasGaps (frame config.now) columns (style_at config.now row))) }
+{
+    are_plain_rules(config, rows) && are_apart_rows(config, rows, columns)
+}
+
+/// Whether the settings of a table with so many rows and columns keep any texts apart: what stands beside cells are
+/// separators of one column, with a vertical line or padding between each two cells of a row, and horizontal lines and
+/// the lines of margins are of plain characters. Then each line takes the table's columns, whatever its texts are.
+pub fn is_apart_config(config: &SpannedConfig, rows: usize, columns: usize) -> bool
+    ensures { IsTrue result ↔ IsApartConfig config.now rows columns }
+{
+    is_apart_around(config.frame()) && are_apart_places(config, rows, columns)
+}
