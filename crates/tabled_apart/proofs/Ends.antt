@@ -1,13 +1,43 @@
 -- Texts that begin or end apart, by bytes, and lines that are joined of them.
-use Rattle.std.proofs.Common.{◌≡◌, ℕ, zero, suc, ◌+◌, ◌<◌, true, false, ◌&&◌, List, [], ◌∷◌, ◌++◌, chars, refl, sym, ap, ◌∙◌, arith, subst}
+use Rattle.std.proofs.Common.{
+  ◌≡◌,
+  ℕ,
+  zero,
+  suc,
+  ◌+◌,
+  ◌<◌,
+  ◌==◌,
+  Bool,
+  true,
+  false,
+  not,
+  ◌&&◌,
+  List,
+  [],
+  ◌∷◌,
+  ◌++◌,
+  chars,
+  encode_utf8,
+  refl,
+  sym,
+  ap,
+  ◌∙◌,
+  append_assoc,
+  arith,
+  subst,
+}
 use Rattle.std.specs.List.{list_all}
-use Rattle.std.proofs.lemmas.Bool.{and_parts, or_left, or_right}
+use Rattle.std.specs.Str.{IsUtf8}
+use Rattle.std.proofs.lemmas.Bool.{and_from, and_parts, or_left, or_right}
+use Rattle.std.proofs.lemmas.Bool.Decides.{nat_tests}
 use Rattle.std.proofs.lemmas.Str.{chars-append, chars-nil, IsUtf8-nil}
 use Rattle.unicode_width.specs.Width.{str_width}
 use Rattle.tabled_text.specs.Measure.{line_columns, columns_of}
 use Rattle.tabled_apart.specs.Lines.{is_no_feed, EndsApart, IsFrame, IsLine}
-use Rattle.tabled_apart.specs.Separators.{is_separator, stands_before, begins_apart, ends_before}
-use Rattle.tabled_apart.proofs.LineLaws.{line-append}
+use Rattle.unicode_width.proofs.Rules.{is_simple}
+use Rattle.tabled_text.specs.Plain.{is_listed, has_plain_width, is_plain_character, IsPlainColumn}
+use Rattle.tabled_apart.specs.Separators.{is_keycap_base, is_separator, begins_with_selector, stands_before, begins_apart, ends_before}
+use Rattle.tabled_apart.proofs.LineLaws.{chars-one, line-append, line-one}
 use Rattle.tabled_apart.proofs.SeparatorLaws.{begins_apart-separators, ends_before-separators}
 
 pub line-as : {line : List ℕ} {m n : ℕ} → IsLine line m → m ≡ n → IsLine line n
@@ -100,6 +130,60 @@ closes-append {front} {back} l f g =
       ends = λ more. subst (λ t. ends_before t more ≡ true) (sym (chars-append front back l.utf8))
           (ends_before-append (chars front) (chars back) more (f.ends more) (g.ends more));
     }
+
+-- ---- texts that begin apart, whatever follows
+
+pub record Opens (text : List ℕ) : Type 0 where
+  pub opens : (back : List ℕ) → begins_apart (chars text ++ back) ≡ true
+
+pub opens-frame : {frame : List ℕ} {n : ℕ} → IsFrame frame n → 0 < n → Opens frame
+opens-frame {frame} {n} p some =
+    let own : columns_of (chars frame) ≡ n = p.columns in
+    record { opens = λ back. begins-some (chars frame) back p.separators (omega arith) }
+
+pub opens-append : {front : List ℕ} (back : List ℕ) → IsUtf8 front → Opens front → Opens (front ++ back)
+opens-append {front} back u o =
+    record {
+      opens = λ more. subst (λ t. begins_apart (t ++ more) ≡ true) (sym (chars-append front back u))
+          (subst (λ t. begins_apart t ≡ true) (sym (append_assoc (chars front) (chars back) more)) (o.opens (chars back ++ more)));
+    }
+
+pub opens-begins : {text : List ℕ} → Opens text → BeginsApart text
+opens-begins {text} o = record { begins = subst (λ t. begins_apart t ≡ true) (append-nothing (chars text)) (o.opens []) }
+
+-- ---- a plain character before what begins apart
+
+not_selector : (c : ℕ) → is_listed c ≡ true → (c == 0xFE0F) ≡ false
+not_selector c h = grind (arith, nat_tests)
+
+no_selector : (cs : List ℕ) → begins_apart cs ≡ true → begins_with_selector cs ≡ false
+no_selector [] h = refl
+no_selector (c ∷ cs) h =
+    let parts = and_parts (is_plain_character c) (not (is_keycap_base c && begins_with_selector cs)) h in
+    not_selector c (and_parts (is_listed c) (has_plain_width c && is_simple c) parts.0).0
+
+stands-plain : (c : ℕ) (back : List ℕ) → is_plain_character c ≡ true → begins_apart back ≡ true → stands_before c back ≡ true
+stands-plain c back h b =
+    and_from (is_plain_character c) (not (is_keycap_base c && begins_with_selector back)) h
+    (ap (λ s. not (is_keycap_base c && s)) (no_selector back b) ∙ nothing (is_keycap_base c))
+  where
+    nothing : (k : Bool) → not (k && false) ≡ true
+    nothing true = refl
+    nothing false = refl
+
+chars-first : (c : ℕ) (text : List ℕ) → IsPlainColumn c → chars (encode_utf8 c ++ text) ≡ c ∷ chars text
+chars-first c text p = chars-append (encode_utf8 c) text (line-one c p).utf8 ∙ ap (λ t. t ++ chars text) (chars-one c p)
+
+pub begins-one : (c : ℕ) (text : List ℕ) → IsPlainColumn c → BeginsApart text → BeginsApart (encode_utf8 c ++ text)
+begins-one c text p b = record {
+  begins = subst (λ t. begins_apart t ≡ true) (sym (chars-first c text p)) (stands-plain c (chars text) p.character b.begins);
+}
+
+pub opens-one : (c : ℕ) (text : List ℕ) → IsPlainColumn c → Opens text → Opens (encode_utf8 c ++ text)
+opens-one c text p o = record {
+  opens = λ back. subst (λ t. begins_apart (t ++ back) ≡ true) (sym (chars-first c text p))
+      (stands-plain c (chars text ++ back) p.character (o.opens back));
+}
 
 -- ---- joined lines
 

@@ -39,7 +39,7 @@ use Rattle.std.proofs.Math.Utf8.{scalar}
 use Rattle.std.proofs.lemmas.Str.{IsUtf8-append, chars-append, chars-encodes}
 use Rattle.unicode_width.proofs.Rules.{is_simple}
 use Rattle.tabled_text.specs.Measure.{lines_of, line_columns, columns_of}
-use Rattle.tabled_text.specs.Plain.{is_listed, has_plain_width, is_plain_character}
+use Rattle.tabled_text.specs.Plain.{is_listed, has_plain_width, is_plain_character, IsPlainColumn}
 use Rattle.tabled_text.proofs.Bridge.{each_in_lines, lines_of-chars, utf8_lines}
 use Rattle.tabled_text.proofs.PlainLines.{plain_line-one, scalar-listed}
 use Rattle.tabled_text.proofs.WrapRoom.{not_break}
@@ -87,15 +87,30 @@ frame-append {front} {back} {m} {n} p q =
       columns = (line-append (line-frame p) (line-frame q) met).columns;
     }
 
+pub chars-one : (c : ℕ) → IsPlainColumn c → chars (encode_utf8 c) ≡ c ∷ []
+chars-one c h =
+    let scalar_one : scalar c ≡ true = scalar-listed c (and_parts (is_listed c) (has_plain_width c && is_simple c) h.character).0 in
+    ap chars (sym (append-nil (encode_utf8 c))) ∙ chars-encodes (c ∷ []) (ap (λ b. b && true) scalar_one)
+
+-- a plain character of one column by itself
+pub line-one : (c : ℕ) → IsPlainColumn c → IsLine (encode_utf8 c) 1
+line-one c h =
+    let p = plain_line-one c h in record {
+      utf8 = p.utf8;
+      feedless = ap (list_all is_no_feed) (chars-one c h) ∙ and_from (is_no_feed c) true (ap not (not_break c h.character)) refl;
+      columns = p.columns;
+    }
+
 pub frame-one : (c : ℕ) → IsSeparatorColumn c → IsFrame (encode_utf8 c) 1
 frame-one c own =
     let h = own.plain in
-    let k = own.steady in
     let p = plain_line-one c h in
-    let scalar_one : scalar c ≡ true = scalar-listed c (and_parts (is_listed c) (has_plain_width c && is_simple c) h.character).0 in
-    let e : chars (encode_utf8 c) ≡ c ∷ [] = ap chars (sym (append-nil (encode_utf8 c))) ∙ chars-encodes (c ∷ []) (ap (λ b. b && true) scalar_one) in
-    let s = and_from (is_plain_character c) (not (is_keycap_base c)) h.character (ap not k) in
-    record { utf8 = p.utf8; separators = ap (list_all is_separator) e ∙ and_from (is_separator c) true s refl; columns = p.columns }
+    let s = and_from (is_plain_character c) (not (is_keycap_base c)) h.character (ap not own.steady) in
+    record {
+      utf8 = p.utf8;
+      separators = ap (list_all is_separator) (chars-one c h) ∙ and_from (is_separator c) true s refl;
+      columns = p.columns;
+    }
 
 -- what stands between two frames adds its columns
 pub line-framed : {left line right : List ℕ} {k n l : ℕ} → IsFrame left k → IsLine line n → IsFrame right l → IsLine (left ++ (line ++ right)) (k + (n + l))

@@ -63,7 +63,7 @@ text-cell t row column p r c =
     p.texts row [] r column [] (omega arith)
 
 apart-row : (t : Sheet) (row : ℕ) → IsApartSheet t → row < length t.cells → IsApartRow (row_of t row)
-apart-row t row p r = record { frame = p.config.frame; styles = λ c k. p.config.styles row c r k; gaps = p.config.gaps row r }
+apart-row t row p r = record { frame = p.config.frame; cells = p.config.cells row r }
 
 holds-row : (t : Sheet) (row : ℕ) → IsApartSheet t → row < length t.cells → HoldsTexts (row_of t row)
 holds-row t row p r = record { texts = λ c k. text-cell t row c p r k; fits = λ c k. p.holds row c r k }

@@ -4,15 +4,14 @@ use Rattle.tabled_text.specs.Plain.{IsPlainColumn}
 use Rattle.tabled_config.specs.declared.borders.HorizontalLine.{HorizontalLine}
 use Rattle.tabled_config.specs.declared.spanned.SpannedConfig.{SpannedConfig}
 use Rattle.tabled_config.specs.Settings.{frame, rule_at, style_at}
-use Rattle.tabled_row.specs.Apart.{HasGaps, IsApartFrame, IsApartStyle}
+use Rattle.tabled_row.specs.Apart.{AreApartCells, IsApartFrame}
 use Rattle.tabled_row.specs.Plain.{IsPlainRule}
 
--- of a table with so many rows and columns: what stands beside cells are separators of one column, with one between
--- each two cells of a row; horizontal lines and the lines of margins are plain
+-- of a table with so many rows and columns: what stands beside the cells of each row keeps them apart, and horizontal
+-- lines and the lines of margins are plain
 pub record IsApartConfig (config : SpannedConfig) (rows count : ℕ) : Type 0 where
   pub margin_top : IsPlainColumn (frame config).margin.top.fill
   pub margin_bottom : IsPlainColumn (frame config).margin.bottom.fill
   pub rules : (i : ℕ) → i ≤ rows → (line : HorizontalLine) → rule_at config rows i ≡ Some line → IsPlainRule line
-  pub styles : (row column : ℕ) → row < rows → column < count → IsApartStyle (style_at config row column)
-  pub gaps : (row : ℕ) → row < rows → HasGaps (frame config) count (style_at config row)
+  pub cells : (row : ℕ) → row < rows → AreApartCells (frame config) count (style_at config row)
   pub frame : IsApartFrame (frame config)

@@ -1,9 +1,10 @@
 //! Whether the settings of a table keep the texts of its cells apart, so that all its lines take the same columns.
 ghost use Rattle.std.specs.Prelude.{◌≡◌, ◌↔◌, ◌<◌, ◌≤◌, ◌⊎◌, ℕ, IsTrue, Some, true};
 ghost use Rattle.tabled_text.specs.Plain.{IsPlainColumn};
+ghost use Rattle.tabled_apart.specs.Lines.{IsSeparatorColumn};
 ghost use Rattle.tabled_config.specs.Settings.{frame, rule_at, style_at};
 ghost use Rattle.tabled_config.specs.declared.borders.HorizontalLine.{HorizontalLine};
-ghost use Rattle.tabled_row.specs.Apart.{HasGaps, IsApartFrame, IsApartStyle};
+ghost use Rattle.tabled_row.specs.Apart.{AreApartCells, ArePaddedLeft, HasGaps, HasSteadyBars, IsApartFrame, IsApartStyle};
 ghost use Rattle.tabled_row.specs.Plain.{IsPlainRule};
 ghost use Rattle.tabled_grid.specs.ApartSheet.{IsApartConfig};
 
@@ -15,9 +16,9 @@ use tabled_text::is_plain_column;
 fn is_apart_frame(frame: Frame) -> bool
     ensures { IsTrue result ↔ IsApartFrame frame }
 {
-    is_separator_column(frame.inner.main)
-        && is_separator_column(frame.left.main)
-        && is_separator_column(frame.right.main)
+    is_plain_column(frame.inner.main)
+        && is_plain_column(frame.left.main)
+        && is_plain_column(frame.right.main)
         && is_separator_column(frame.margin.left.fill)
         && is_separator_column(frame.margin.right.fill)
 }
@@ -29,6 +30,13 @@ fn is_apart_style(style: CellStyle) -> bool
         && is_separator_column(style.padding.right.fill)
         && is_separator_column(style.padding.top.fill)
         && is_separator_column(style.padding.bottom.fill)
+}
+
+/// Whether the vertical lines before cells are separators.
+fn are_separators(frame: Frame) -> bool
+    ensures { IsTrue result ↔ (IsSeparatorColumn frame.left.main × IsSeparatorColumn frame.inner.main) }
+{
+    is_separator_column(frame.left.main) && is_separator_column(frame.inner.main)
 }
 
 /// Whether the cells of a row are padded by separators.
@@ -45,7 +53,7 @@ fn are_apart_styles_in(config: &SpannedConfig, row: usize, columns: usize) -> bo
 
 /// Whether each cell of a row has padding on the left.
 fn has_left_padding(config: &SpannedConfig, row: usize, columns: usize) -> bool
-    ensures { IsTrue result ↔ ((column : ℕ) → column < columns → 0 < (style_at config.now row column).padding.left.size) }
+    ensures { IsTrue result ↔ ArePaddedLeft columns (style_at config.now row) }
 {
     'columns: for column in 0..columns {
         if config.style_at(row, column).padding.left.size == 0 {
@@ -67,7 +75,14 @@ fn has_right_padding(config: &SpannedConfig, row: usize, columns: usize) -> bool
     true
 }
 
-/// Whether a separator stands between each two cells of a row: a vertical line, or padding.
+/// Whether no cell of a row joins the vertical line before it: that is a separator, or left padding follows.
+fn has_steady_bars(config: &SpannedConfig, row: usize, columns: usize) -> bool
+    ensures { IsTrue result ↔ HasSteadyBars (frame config.now) columns (style_at config.now row) }
+{
+    are_separators(config.frame()) || has_left_padding(config, row, columns)
+}
+
+/// Whether something stands between each two cells of a row: a vertical line, or padding.
 fn has_gaps(config: &SpannedConfig, row: usize, columns: usize) -> bool
     ensures { IsTrue result ↔ HasGaps (frame config.now) columns (style_at config.now row) }
 {
@@ -76,22 +91,21 @@ fn has_gaps(config: &SpannedConfig, row: usize, columns: usize) -> bool
         || has_right_padding(config, row, columns)
 }
 
-/// Whether the texts of a row are kept apart.
-fn is_apart_row(config: &SpannedConfig, row: usize, columns: usize) -> bool
-    ensures { IsTrue result ↔ (((column : ℕ) → column < columns → IsApartStyle (style_at config.now row column))
-        × HasGaps (frame config.now) columns (style_at config.now row)) }
+/// Whether the cells of a row are kept apart.
+fn are_apart_cells(config: &SpannedConfig, row: usize, columns: usize) -> bool
+    ensures { IsTrue result ↔ AreApartCells (frame config.now) columns (style_at config.now row) }
 {
-    are_apart_styles_in(config, row, columns) && has_gaps(config, row, columns)
+    are_apart_styles_in(config, row, columns)
+        && has_steady_bars(config, row, columns)
+        && has_gaps(config, row, columns)
 }
 
 /// Whether those of each row are.
 fn are_apart_rows(config: &SpannedConfig, rows: usize, columns: usize) -> bool
-    ensures { IsTrue result ↔ ((row : ℕ) → row < rows
-        → ((column : ℕ) → column < columns → IsApartStyle (style_at config.now row column))
-        × HasGaps (frame config.now) columns (style_at config.now row)) }
+    ensures { IsTrue result ↔ ((row : ℕ) → row < rows → AreApartCells (frame config.now) columns (style_at config.now row)) }
 {
     'rows: for row in 0..rows {
-        if !is_apart_row(config, row, columns) {
+        if !are_apart_cells(config, row, columns) {
             return false;
         }
     }
@@ -112,16 +126,15 @@ fn is_apart_around(frame: Frame) -> bool
 fn are_apart_places(config: &SpannedConfig, rows: usize, columns: usize) -> bool
     ensures { IsTrue result ↔ (((i : ℕ) → i ≤ rows → (line : HorizontalLine)
         → rule_at config.now rows i ≡ Some line → IsPlainRule line)
-        × ((row : ℕ) → row < rows
-        → ((column : ℕ) → column < columns → IsApartStyle (style_at config.now row column))
-        × HasGaps (frame config.now) columns (style_at config.now row))) }
+        × ((row : ℕ) → row < rows → AreApartCells (frame config.now) columns (style_at config.now row))) }
 {
     are_plain_rules(config, rows) && are_apart_rows(config, rows, columns)
 }
 
-/// Whether the settings of a table with so many rows and columns keep any texts apart: what stands beside cells are
-/// separators of one column, with a vertical line or padding between each two cells of a row, and horizontal lines and
-/// the lines of margins are of plain characters. Then each line takes the table's columns, whatever its texts are.
+/// Whether the settings of a table with so many rows and columns keep any texts apart. Padding and side margins are
+/// separators; vertical lines are too, or they are other plain characters, as `#`, with left padding in each cell; a
+/// vertical line or padding stands between each two cells of a row; horizontal lines and the lines of margins are plain.
+/// Then each line takes the table's columns, whatever its texts are.
 pub fn is_apart_config(config: &SpannedConfig, rows: usize, columns: usize) -> bool
     ensures { IsTrue result ↔ IsApartConfig config.now rows columns }
 {

@@ -2,6 +2,7 @@
 use Rattle.std.specs.Prelude.{◌≡◌, ℕ, ◌+◌, ◌-◌, ◌*◌, ◌<◌, ◌≤◌, ◌⊎◌, true}
 use Rattle.std.specs.Str.{IsUtf8}
 use Rattle.tabled_text.specs.Measure.{text_columns}
+use Rattle.tabled_text.specs.Plain.{IsPlainColumn}
 use Rattle.tabled_apart.specs.Lines.{IsSeparatorColumn}
 use Rattle.tabled_config.specs.declared.frame.Frame.{Frame}
 use Rattle.tabled_config.specs.declared.spanned.CellStyle.{CellStyle}
@@ -22,25 +23,39 @@ pub record IsApartStyle (style : CellStyle) : Type 0 where
   pub top : IsSeparatorColumn style.padding.top.fill
   pub bottom : IsSeparatorColumn style.padding.bottom.fill
 
--- what stands on the lines of rows beside cells are separators
+-- the vertical lines are plain, and the side margins separators
 pub record IsApartFrame (frame : Frame) : Type 0 where
-  pub inner : IsSeparatorColumn frame.inner.main
-  pub left : IsSeparatorColumn frame.left.main
-  pub right : IsSeparatorColumn frame.right.main
+  pub inner : IsPlainColumn frame.inner.main
+  pub left : IsPlainColumn frame.left.main
+  pub right : IsPlainColumn frame.right.main
   pub margin_left : IsSeparatorColumn frame.margin.left.fill
   pub margin_right : IsSeparatorColumn frame.margin.right.fill
+
+-- each of some cells has padding on its left
+abbrev pub ArePaddedLeft : ℕ → (ℕ → CellStyle) → Type 0
+ArePaddedLeft count style = (c : ℕ) → c < count → 0 < (style c).padding.left.size
+
+-- the vertical lines before cells are separators, or padding follows them: a selector at the beginning of a text would
+-- join `#`, `*` or a digit before it
+abbrev pub HasSteadyBars : Frame → ℕ → (ℕ → CellStyle) → Type 0
+HasSteadyBars frame count style = (IsSeparatorColumn frame.left.main × IsSeparatorColumn frame.inner.main) ⊎ ArePaddedLeft count style
 
 -- between each two of some cells stands a vertical line, or the left or the right padding of each cell
 abbrev pub HasGaps : Frame → ℕ → (ℕ → CellStyle) → Type 0
 HasGaps frame count style =
     (frame.inner.there ≡ true)
-    ⊎ (((c : ℕ) → c < count → 0 < (style c).padding.left.size) ⊎ ((c : ℕ) → c < count → 0 < (style c).padding.right.size))
+    ⊎ (ArePaddedLeft count style ⊎ ((c : ℕ) → c < count → 0 < (style c).padding.right.size))
 
--- separators stand beside the cells, and between each two
+-- some cells are kept apart by what stands beside them: no text joins that, and something stands between each two
+pub record AreApartCells (frame : Frame) (count : ℕ) (style : ℕ → CellStyle) : Type 0 where
+  pub styles : (c : ℕ) → c < count → IsApartStyle (style c)
+  pub bars : HasSteadyBars frame count style
+  pub gaps : HasGaps frame count style
+
+-- a row of such cells between such edges
 pub record IsApartRow (row : RowSheet) : Type 0 where
   pub frame : IsApartFrame row.columns.frame
-  pub styles : (c : ℕ) → c < row.columns.count → IsApartStyle (row.style c)
-  pub gaps : HasGaps row.columns.frame row.columns.count row.style
+  pub cells : AreApartCells row.columns.frame row.columns.count row.style
 
 -- the cells are texts, and the columns hold them with their padding
 pub record HoldsTexts (row : RowSheet) : Type 0 where

@@ -122,12 +122,11 @@ new_apart rows count = record {
   margin_top = plain_column-space;
   margin_bottom = plain_column-space;
   rules = λ i b. rule_plain rows i;
-  styles = λ row column h k. style_apart row column;
-  gaps = λ row h. inl refl;
+  cells = λ row h. record { styles = λ column k. style_apart row column; bars = inl (separator-bar, separator-bar); gaps = inl refl };
   frame = record {
-    inner = separator-bar;
-    left = separator-bar;
-    right = separator-bar;
+    inner = bar;
+    left = bar;
+    right = bar;
     margin_left = separator-space;
     margin_right = separator-space;
   };

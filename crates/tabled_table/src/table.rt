@@ -180,7 +180,11 @@ impl Table {
         ensures { IsTrue result ↔ IsApartConfig (sheet self.now).config (length (cells_of self.now))
             (columns (cells_of self.now)) }
     {
-        is_apart_config(self.config.as_ref(), self.count_rows(), self.count_columns())
+        is_apart_config(
+            self.config.as_ref(),
+            self.count_rows(),
+            self.count_columns(),
+        )
     }
 
     /// Whether the texts, borders, fills and margins are plain characters, and all but the texts of one

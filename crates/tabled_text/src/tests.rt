@@ -45,7 +45,9 @@ fn listed_characters_and_line_feeds_are_plain(rt: HostRuntime) {
 
 #[test]
 fn other_characters_are_not_plain(rt: HostRuntime) {
-    for text in ["a\tb", "e\u{301}", "あ", "😳", "\u{200F}", "‘", "’", "“", "”", "\u{2028}", "■", "⤀"] {
+    for text in [
+        "a\tb", "e\u{301}", "あ", "😳", "\u{200F}", "‘", "’", "“", "”", "\u{2028}", "■", "⤀",
+    ] {
         assert!(rt; !is_plain(text), "at {text}");
     }
 }

@@ -1,8 +1,7 @@
 use Rattle.std.proofs.Common.{ℕ, ◌<◌}
 use Rattle.tabled_config.specs.Settings.{frame, style_at}
-use Rattle.tabled_row.specs.Apart.{HasGaps, IsApartStyle}
+use Rattle.tabled_row.specs.Apart.{AreApartCells}
 use Rattle.tabled_grid.proofs.apart.are_apart_rows.Given as goal
 
 abbrev pub invariant-rows : goal.invariant-rows
-invariant-rows l = (r : ℕ) → r < l.row
-    → ((c : ℕ) → c < l.columns → IsApartStyle (style_at l.config r c)) × HasGaps (frame l.config) l.columns (style_at l.config r)
+invariant-rows l = (r : ℕ) → r < l.row → AreApartCells (frame l.config) l.columns (style_at l.config r)

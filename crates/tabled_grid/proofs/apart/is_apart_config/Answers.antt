@@ -8,9 +8,8 @@ returns-then-is_apart_around c =
             margin_top = around.1;
             margin_bottom = around.2;
             rules = places.0;
-            styles = λ row column r k. (places.1 row r).0 column k;
-            gaps = λ row r. (places.1 row r).1;
+            cells = places.1;
             frame = around.0;
           },
-      λ apart. c.are_apart_places.ensures.1 (apart.rules, λ row r. (λ column k. apart.styles row column r k, apart.gaps row r)),
+      λ apart. c.are_apart_places.ensures.1 (apart.rules, apart.cells),
     )
