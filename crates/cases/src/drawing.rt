@@ -8,6 +8,7 @@ use std::alloc::{AllocError, Global};
 use tabled::builder::Builder;
 use tabled::grid::config::{Position, SpannedConfig};
 use tabled::grid::records::{ExactRecords, PeekableRecords, Text, VecRecords};
+use tabled::grid::util::string::{line_width, lines};
 use tabled::settings::measurement::{Max, Measurement, Min};
 use tabled::settings::{Height, Width};
 use tabled::{IoSink, Table, TableError};
@@ -41,6 +42,7 @@ pub fn answer(alloc: Global, table: &Table, question: &str) -> Result<String, Fa
         "heights" => shown_sizes(alloc, table.get_dimension().get_heights()),
         "cells" => shown_cells(alloc, table.get_records()),
         "plain" => Ok(format!(in alloc; "{}", table.is_plain())?),
+        "apart" => Ok(format!(in alloc; "{}", table.is_apart())?),
         "extremes" => extremes(alloc, table),
         _ => Err(Fault::Unknown("no such question")),
     }
@@ -79,7 +81,7 @@ fn shown_sizes(alloc: Global, sizes: Option<&[usize]>) -> Result<String, Fault> 
 }
 
 // What a table prints, or why it is refused. A writer has to get the same as a string, and nothing of a table that is
-// refused.
+// refused. Where texts are kept apart, each line has to take the table's columns.
 fn printed(alloc: Global, table: &Table) -> Result<Result<String, TableError>, Fault> {
     let printed = table.to_string();
     let mut bytes: Vec<u8> = Vec::new(alloc);
@@ -91,7 +93,17 @@ fn printed(alloc: Global, table: &Table) -> Result<Result<String, TableError>, F
     if !same {
         return Err(Fault::Unknown("a writer gets another picture"));
     }
+    if let Ok(text) = &printed {
+        if table.is_apart() && !is_straight(text.as_str(), table.total_width()?) {
+            return Err(Fault::Unknown("a line takes other columns"));
+        }
+    }
     Ok(printed)
+}
+
+// Whether each line takes so many columns.
+fn is_straight(text: &str, columns: usize) -> bool {
+    lines(text).all(|line| line_width(line) == columns)
 }
 
 // The cells, a row a line, each in quotes and with a space behind it.
