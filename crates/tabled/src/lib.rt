@@ -22,7 +22,11 @@ pub use tabled_value::Tabled;
 
 /// Facts of texts, options and tables that a caller can rest on: each is the contract of a function that does nothing.
 pub mod laws {
+    pub use tabled_apart::laws::{
+        count_is_bound, lines_of_any_text, separators, texts_in_room, texts_that_fit,
+    };
     pub use tabled_grid::laws::pictures;
+    pub use tabled_row::laws::rows_of_any_text;
     pub use tabled_set::laws::truncated_texts;
     pub use tabled_table::laws::new_tables;
     pub use tabled_text::laws::{
@@ -135,6 +139,7 @@ pub mod grid {
     pub mod util {
         /// Texts that are measured, cut and wrapped.
         pub mod string {
+            pub use tabled_apart::is_separator_column;
             pub use tabled_text::{
                 TextLines, count_lines, cut_str, is_fullest, is_plain, is_plain_column, line_width,
                 lines, split_str, text_width, wrap_text,
