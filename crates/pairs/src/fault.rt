@@ -14,19 +14,11 @@ pub enum Fault {
     #[error("no character")]
     Unknown,
     /// A line of a table takes other columns than the table.
-    #[error("a line of {taken} columns in a table of {wanted}, with U+{first:04X}")]
-    Uneven {
-        first: u32,
-        taken: usize,
-        wanted: usize,
-    },
+    #[error("a line of {taken} columns in a table of {wanted}")]
+    Uneven { taken: usize, wanted: usize },
     /// A narrowed table takes other columns than were asked for.
-    #[error("a table of {taken} columns where {wanted} were asked for, with U+{first:04X}")]
-    Missed {
-        first: u32,
-        taken: usize,
-        wanted: usize,
-    },
+    #[error("a table of {taken} columns where {wanted} were asked for")]
+    Missed { taken: usize, wanted: usize },
 }
 
 impl From<AllocError> for Fault {

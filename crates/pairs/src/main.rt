@@ -7,6 +7,7 @@
 mod characters;
 mod fault;
 mod measuring;
+mod ways;
 
 use anyhow::Result;
 use std::io;
