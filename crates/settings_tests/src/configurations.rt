@@ -146,14 +146,17 @@ fn flags_are_handed_on(rt: HostRuntime) -> Result<(), Fail> {
     Ok(())
 }
 
+// Sets the alignment of a row, and answers that of one of its cells.
+fn aligned(mut colored: ColoredConfig) -> Result<AlignmentVertical, TableError> {
+    let config = colored.as_mut();
+    config.set_alignment_vertical(Entity::Row(0), AlignmentVertical::Bottom)?;
+    Ok(colored.as_ref().get_alignment_vertical(Position::new(0, 3)))
+}
+
 #[test]
 fn a_colored_configuration_is_changed_in_place(rt: HostRuntime) -> Result<(), Fail> {
-    let mut colored = ColoredConfig::new(SpannedConfig::new(rt.alloc()));
-    colored
-        .as_mut()
-        .set_alignment_vertical(Entity::Row(0), AlignmentVertical::Bottom)?;
-    let got = colored.as_ref().get_alignment_vertical(Position::new(0, 3));
-    assert_eq!(rt; got, AlignmentVertical::Bottom);
+    let colored = ColoredConfig::new(SpannedConfig::new(rt.alloc()));
+    assert_eq!(rt; aligned(colored)?, AlignmentVertical::Bottom);
     Ok(())
 }
 

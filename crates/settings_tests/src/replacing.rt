@@ -54,29 +54,49 @@ fn a_multiline_configuration_replaces_another(rt: HostRuntime) -> Result<(), Fai
     Ok(())
 }
 
+// The line that a configuration has once an option replaced it.
+fn replaced<O: TableOption<(), ColoredConfig, ()> + Drop>(
+    config: &mut ColoredConfig,
+    option: O,
+) -> Result<Option<HorizontalLine>, TableError> {
+    TableOption::change(option, &mut (), config, &mut ())?;
+    Ok(config.as_ref().get_horizontal_line(3))
+}
+
+fn replaced_by_lined(alloc: Global) -> Result<Option<HorizontalLine>, TableError> {
+    let mut config = ColoredConfig::new(SpannedConfig::new(alloc));
+    replaced(&mut config, lined(alloc)?)
+}
+
 #[test]
 fn a_colored_configuration_replaces_another(rt: HostRuntime) -> Result<(), Fail> {
-    let mut config = ColoredConfig::new(SpannedConfig::new(rt.alloc()));
-    TableOption::change(lined(rt.alloc())?, &mut (), &mut config, &mut ())?;
-    assert_eq!(rt; config.as_ref().get_horizontal_line(3), Some(LINE));
+    assert_eq!(rt; replaced_by_lined(rt.alloc())?, Some(LINE));
     Ok(())
+}
+
+fn replaced_by_settings(alloc: Global) -> Result<Option<HorizontalLine>, TableError> {
+    replaced(&mut lined(alloc)?, SpannedConfig::new(alloc))
 }
 
 #[test]
 fn settings_replace_a_colored_configuration(rt: HostRuntime) -> Result<(), Fail> {
-    let mut config = lined(rt.alloc())?;
-    let settings = SpannedConfig::new(rt.alloc());
-    TableOption::change(settings, &mut (), &mut config, &mut ())?;
-    assert_eq!(rt; config.as_ref().get_horizontal_line(3), None);
+    assert_eq!(rt; replaced_by_settings(rt.alloc())?, None);
     Ok(())
+}
+
+// Whether a configuration equals lent settings that replaced it.
+fn is_copied(config: &mut ColoredConfig, settings: &SpannedConfig) -> Result<bool, TableError> {
+    TableOption::change(settings, &mut (), config, &mut ())?;
+    Ok(*config.as_ref() == *settings)
+}
+
+fn replaced_by_lent(alloc: Global) -> Result<bool, TableError> {
+    is_copied(&mut lined(alloc)?, &SpannedConfig::new(alloc))
 }
 
 #[test]
 fn lent_settings_are_copied(rt: HostRuntime) -> Result<(), Fail> {
-    let mut config = lined(rt.alloc())?;
-    let settings = SpannedConfig::new(rt.alloc());
-    TableOption::change(&settings, &mut (), &mut config, &mut ())?;
-    assert!(rt; *config.as_ref() == settings);
+    assert!(rt; replaced_by_lent(rt.alloc())?);
     Ok(())
 }
 

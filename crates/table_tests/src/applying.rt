@@ -158,10 +158,32 @@ const EMPTIED: &str = picture! {
     "└─────┴───┘"
 };
 
+// The same of a sheet's table.
+fn broken_off(
+    alloc: Global,
+    sheet: &Sheet,
+) -> Result<(Result<(), TableError>, (bool, bool)), TableError> {
+    Ok(break_off(&mut table_of(alloc, sheet)?))
+}
+
 #[test]
-fn a_refused_option_leaves_its_changes_and_no_sizes(rt: HostRuntime) -> Result<(), Fail> {
-    let mut table = table_of(rt.alloc(), &CELLS)?;
+fn a_refused_option_leaves_no_sizes(rt: HostRuntime) -> Result<(), Fail> {
     let refused = (Err(TableError::Memory), (false, false));
-    assert_eq!(rt; break_off(&mut table), refused);
-    assert_text(&rt, table.to_string(), EMPTIED)
+    assert_eq!(rt; broken_off(rt.alloc(), &CELLS)?, refused);
+    Ok(())
+}
+
+// What is printed then.
+fn broken_picture(table: &mut Table) -> Result<String, TableError> {
+    let _answer = break_off(table);
+    table.to_string()
+}
+
+fn picture_of_broken(alloc: Global, sheet: &Sheet) -> Result<String, TableError> {
+    broken_picture(&mut table_of(alloc, sheet)?)
+}
+
+#[test]
+fn a_refused_option_leaves_its_changes(rt: HostRuntime) -> Result<(), Fail> {
+    assert_text(&rt, picture_of_broken(rt.alloc(), &CELLS), EMPTIED)
 }

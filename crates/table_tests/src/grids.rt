@@ -1,7 +1,7 @@
 //! Grids with given sizes and with estimated ones, and refusals before the first byte.
 
 use crate::made::{PAIRS, PICTURE, Sheet, Sizes, table_of};
-use crate::showing::assert_picture;
+use crate::showing::{assert_picture, assert_text};
 use std::alloc::Global;
 use std::test::Fail;
 use tabled_base::TableError;
@@ -125,10 +125,21 @@ fn crowd(alloc: Global) -> Result<String, TableError> {
 #[test]
 fn many_cells_of_several_lines_stand_side_by_side(rt: HostRuntime) -> Result<(), Fail> {
     let want = crowd(rt.alloc())?;
-    let drawn = table_of(rt.alloc(), &CROWD)?.to_string()?;
-    assert_picture(&rt, drawn.as_str(), want.as_str());
-    let mut text = String::new(rt.alloc());
-    put_sheet(rt.alloc(), &SIZED_CROWD, &mut text)?;
-    assert_picture(&rt, text.as_str(), want.as_str());
-    Ok(())
+    assert_text(&rt, drawn(rt.alloc(), &CROWD), want.as_str())
+}
+
+fn drawn(alloc: Global, sheet: &Sheet) -> Result<String, TableError> {
+    table_of(alloc, sheet)?.to_string()
+}
+
+fn printed(alloc: Global, sheet: &Sheet) -> Result<String, TableError> {
+    let mut text = String::new(alloc);
+    put_sheet(alloc, sheet, &mut text)?;
+    Ok(text)
+}
+
+#[test]
+fn many_cells_of_given_sizes_stand_side_by_side(rt: HostRuntime) -> Result<(), Fail> {
+    let want = crowd(rt.alloc())?;
+    assert_text(&rt, printed(rt.alloc(), &SIZED_CROWD), want.as_str())
 }

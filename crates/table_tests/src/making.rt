@@ -148,10 +148,13 @@ const THREE_COLUMNS: Sheet = Sheet {
     ..PAIRS
 };
 
+fn counts_of_three(alloc: Global) -> Result<((usize, usize), (usize, usize), bool), TableError> {
+    Ok(counts(&table_of(alloc, &THREE_COLUMNS)?))
+}
+
 #[test]
 fn a_table_counts_its_rows_and_columns(rt: HostRuntime) -> Result<(), Fail> {
-    let table = table_of(rt.alloc(), &THREE_COLUMNS)?;
-    assert_eq!(rt; counts(&table), ((2, 3), (2, 3), false));
+    assert_eq!(rt; counts_of_three(rt.alloc())?, ((2, 3), (2, 3), false));
     Ok(())
 }
 
@@ -166,10 +169,26 @@ fn is_its_copy(table: &Table) -> Result<bool, TableError> {
     Ok(table.clone()? == *table)
 }
 
+fn pairs_are_their_copy(alloc: Global) -> Result<bool, TableError> {
+    is_its_copy(&table_of(alloc, &PAIRS)?)
+}
+
 #[test]
-fn a_copy_is_equal_and_another_table_is_not(rt: HostRuntime) -> Result<(), Fail> {
-    let table = table_of(rt.alloc(), &PAIRS)?;
-    assert!(rt; is_its_copy(&table)?);
-    assert!(rt; Table::empty(rt.alloc()) != table);
+fn a_copy_is_equal(rt: HostRuntime) -> Result<(), Fail> {
+    assert!(rt; pairs_are_their_copy(rt.alloc())?);
+    Ok(())
+}
+
+fn is_an_empty_table(table: &Table, alloc: Global) -> bool {
+    *table == Table::empty(alloc)
+}
+
+fn pairs_are_an_empty_table(alloc: Global) -> Result<bool, TableError> {
+    Ok(is_an_empty_table(&table_of(alloc, &PAIRS)?, alloc))
+}
+
+#[test]
+fn another_table_is_not_equal(rt: HostRuntime) -> Result<(), Fail> {
+    assert!(rt; !pairs_are_an_empty_table(rt.alloc())?);
     Ok(())
 }

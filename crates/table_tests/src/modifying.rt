@@ -167,12 +167,32 @@ const REFUSED: &str = picture! {
     "+------+----+"
 };
 
+// The same of a sheet's table, and whether the text of its first cell stands at the right then.
+fn joined(
+    alloc: Global,
+    sheet: &Sheet,
+) -> Result<(Result<(), TableError>, (bool, bool), bool), TableError> {
+    let mut table = table_of(alloc, sheet)?;
+    let (answer, sizes) = join_all(&mut table);
+    Ok((answer, sizes, is_at_the_right(&table)))
+}
+
 #[test]
 fn a_refused_modification_puts_the_settings_back(rt: HostRuntime) -> Result<(), Fail> {
-    let mut table = table_of(rt.alloc(), &REFUSING)?;
-    let refused = (Err(TableError::Range), (false, false));
-    assert_eq!(rt; join_all(&mut table), refused);
-    assert_text(&rt, table.to_string(), REFUSED)
+    let refused = (Err(TableError::Range), (false, false), false);
+    assert_eq!(rt; joined(rt.alloc(), &REFUSING)?, refused);
+    Ok(())
+}
+
+fn joined_picture(alloc: Global, sheet: &Sheet) -> Result<String, TableError> {
+    let mut table = table_of(alloc, sheet)?;
+    let _answer = join_all(&mut table);
+    table.to_string()
+}
+
+#[test]
+fn a_refused_modification_leaves_the_cells_before(rt: HostRuntime) -> Result<(), Fail> {
+    assert_text(&rt, joined_picture(rt.alloc(), &REFUSING), REFUSED)
 }
 
 // Whether the text of the first cell stands at the right.
@@ -184,9 +204,7 @@ fn is_at_the_right(table: &Table) -> bool {
 // Under `--fail-alloc` each growth is refused in turn.
 #[test]
 fn a_modification_without_memory_puts_the_settings_back(rt: HostRuntime) -> Result<(), Fail> {
-    let mut table = table_of(rt.alloc(), &CELLS)?;
-    let (answer, sizes) = join_all(&mut table);
-    assert_eq!(rt; sizes, (false, false));
-    assert_eq!(rt; is_at_the_right(&table), answer.is_ok());
+    let (answer, sizes, is_right) = joined(rt.alloc(), &CELLS)?;
+    assert_eq!(rt; (sizes, is_right), ((false, false), answer.is_ok()));
     Ok(())
 }

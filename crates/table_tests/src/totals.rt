@@ -3,7 +3,7 @@ ghost use Rattle.std.specs.Prelude.{◌≡◌, OnOk, [], false, max, true, ⊤};
 ghost use Rattle.tabled_set.specs.BestNarrowing.{HasLeastWidth, IsBestCut, IsBestWrapped};
 ghost use Rattle.tabled_set.specs.ExactTotal.{empty_width};
 ghost use Rattle.tabled_set.specs.Promised.{IsWiderThan};
-ghost use Rattle.tabled_size.specs.PlainCells.{ArePlain};
+ghost use Rattle.tabled_size.specs.TextCells.{AreTexts};
 ghost use Rattle.tabled_size.specs.Totals.{total_width};
 ghost use Rattle.tabled_table.specs.TableSheet.{cells_of, sheet};
 ghost use Rattle.tabled_text.specs.Plain.{IsPlain};
@@ -19,7 +19,7 @@ use tabled_text::{line_width, lines};
 
 // Wraps by the greatest widths: what is told here follows from `with` alone.
 fn wrap_level(table: &mut Table, n: usize) -> Result<(), TableError>
-    ensures total { OnOk result (IsWiderThan n (sheet table.old) → ArePlain (cells_of table.old)
+    ensures total { OnOk result (IsWiderThan n (sheet table.old) → AreTexts (cells_of table.old)
         → total_width (sheet table.new) ≡ max n (empty_width (sheet table.old))) }
     ensures best { OnOk result (IsWiderThan n (sheet table.old)
         → IsBestWrapped false (sheet table.old) (sheet table.new)) }
@@ -33,7 +33,7 @@ fn wrap_level(table: &mut Table, n: usize) -> Result<(), TableError>
 // Truncates each line by the greatest widths, with a suffix.
 fn truncate_level(table: &mut Table, n: usize, suffix: &str) -> Result<(), TableError>
     ensures total { OnOk result (IsPlain suffix.now → IsWiderThan n (sheet table.old)
-        → ArePlain (cells_of table.old) → total_width (sheet table.new) ≡ max n (empty_width (sheet table.old))) }
+        → AreTexts (cells_of table.old) → total_width (sheet table.new) ≡ max n (empty_width (sheet table.old))) }
     ensures best { OnOk result (suffix.now ≡ [] → IsWiderThan n (sheet table.old)
         → IsBestCut true (sheet table.old) (sheet table.new)) }
     ensures least { OnOk result (IsWiderThan n (sheet table.old)
@@ -67,8 +67,14 @@ fn narrow<P: Peaker + Drop>(
     }
 }
 
-// The pairs that are narrowed, and what is said of the total height.
-fn narrowed<P: Peaker + Drop>(
+// What is printed, and what is said of the total height.
+fn shown(table: &Table) -> Result<(String, usize), TableError> {
+    let height = table.total_height()?;
+    Ok((table.to_string()?, height))
+}
+
+// The pairs that are narrowed.
+fn narrowed<P: Peaker + Copy + Drop>(
     alloc: Global,
     wraps: bool,
     width: usize,
@@ -76,7 +82,7 @@ fn narrowed<P: Peaker + Drop>(
 ) -> Result<(String, usize), TableError> {
     let mut table = table_of(alloc, &PAIRS)?;
     narrow(&mut table, wraps, width, priority)?;
-    Ok((table.to_string()?, table.total_height()?))
+    shown(&table)
 }
 
 // Whether a text has so many lines, each of so many columns.
