@@ -1,5 +1,5 @@
 //! One setting of a table: for the whole of it, for rows, for columns and for cells.
-ghost use Rattle.std.specs.Prelude.{◌≡◌, IfOk, IsOk, OnErr, OnOk};
+ghost use Rattle.std.specs.Prelude.{◌≡◌, ℕ, IfOk, IfSome, IsOk, OnErr, OnOk};
 ghost use Rattle.tabled_entity.specs.Changes.{for_all, setting_at, with_change};
 ghost use Rattle.tabled_entity.specs.Places.{IsPart, IsWhole};
 
@@ -96,6 +96,18 @@ impl<T: Copy> EntityMap<T> {
     /// What the settings grow by.
     pub fn allocator(&self) -> Global {
         *self.changes.allocator()
+    }
+
+    /// The value of every cell, where nothing was set for a part.
+    #[inline]
+    pub fn shared(&self) -> Option<T>
+        ensures { IfSome result (λ value. (row column : ℕ) → setting_at self.now row column ≡ value) }
+    {
+        if self.changes.is_empty() {
+            Some(self.whole)
+        } else {
+            None
+        }
     }
 
     /// The value of a cell.

@@ -1,5 +1,5 @@
 //! A table with the dimension that answers its sizes.
-ghost use Rattle.std.specs.Prelude.{◌≡◌, ◌<◌, length};
+ghost use Rattle.std.specs.Prelude.{◌≡◌, ◌<◌, ℕ, IfSome, length};
 ghost use Rattle.std.specs.List.{slice_index};
 ghost use Rattle.tabled_base.specs.Cells.{IsInside, cell_at, columns};
 ghost use Rattle.tabled_config.specs.Settings.{frame, rule_at, style_at};
@@ -10,7 +10,7 @@ ghost use Rattle.tabled_size.specs.Sheet.{Sheet};
 use std::marker::Model;
 use tabled_base::{PeekableRecords, Position};
 use tabled_config::{Frame, HorizontalLine, SpannedConfig};
-use tabled_row::{CellBlock, Content};
+use tabled_row::{CellBlock, Content, SharedStyle};
 use tabled_size::Dimension;
 
 /// Records, how they are set, and their sizes. Contracts see the sheet that they make.
@@ -23,6 +23,7 @@ pub(crate) struct Grid<'a, R: PeekableRecords, D: Dimension> {
     /// The columns that each column takes and the lines that each row takes, padding included.
     pub dimension: &'a D,
     around: Frame,
+    shared: Option<SharedStyle>,
 }
 
 impl<'a, R: PeekableRecords, D: Dimension> Model for Grid<'a, R, D> {
@@ -30,7 +31,9 @@ impl<'a, R: PeekableRecords, D: Dimension> Model for Grid<'a, R, D> {
 
     ghost view = { λ g. sheet_by (R.cells g.records.now) g.config.now (D.width_at g.dimension.now) (D.height_at g.dimension.now) };
 
-    ghost invariant = { λ g. g.around ≡ frame g.config.now };
+    ghost invariant = { λ g. (g.around ≡ frame g.config.now)
+        × IfSome g.shared (λ shared. ((row column : ℕ) → style_at g.config.now row column ≡ shared.style)
+        × (shared.bar ≡ (frame g.config.now).inner)) };
 }
 
 impl<'a, R: PeekableRecords, D: Dimension> Grid<'a, R, D> {
@@ -38,11 +41,17 @@ impl<'a, R: PeekableRecords, D: Dimension> Grid<'a, R, D> {
     pub fn new(records: &'a R, config: &'a SpannedConfig, dimension: &'a D) -> Grid<'a, R, D>
         ensures { result ≡ sheet_by (R.cells records.now) config.now (D.width_at dimension.now) (D.height_at dimension.now) }
     {
+        let around = config.frame();
+        let shared = match config.shared_style() {
+            Some(style) => Some(SharedStyle::new(style, around.inner)),
+            None => None,
+        };
         Grid {
             records,
             config,
             dimension,
-            around: config.frame(),
+            around,
+            shared,
         }
     }
 
@@ -51,6 +60,14 @@ impl<'a, R: PeekableRecords, D: Dimension> Grid<'a, R, D> {
         ensures { result.now ≡ frame self.now.config }
     {
         &self.around
+    }
+
+    /// How the texts of all cells stand, if it is known that they stand alike.
+    pub fn shared_style(&self) -> Option<&SharedStyle>
+        ensures { IfSome result (λ shared. ((row column : ℕ) → style_at self.now.config row column ≡ shared.now.style)
+            × (shared.now.bar ≡ (frame self.now.config).inner)) }
+    {
+        self.shared.as_ref()
     }
 
     /// How many rows there are.
@@ -68,7 +85,7 @@ impl<'a, R: PeekableRecords, D: Dimension> Grid<'a, R, D> {
     }
 
     /// The text of a cell, with its measures.
-    fn content(&self, at: Position) -> Content<'a>
+    pub fn content(&self, at: Position) -> Content<'a>
         requires { IsInside self.now.cells at.row at.column }
         ensures { result.text.now ≡ cell_at self.now.cells at.row at.column }
     {

@@ -6,7 +6,7 @@ ghost use Rattle.tabled_size.specs.Holds.{IsSized};
 use crate::grid::Grid;
 use tabled_base::{PeekableRecords, Position};
 use tabled_config::Frame;
-use tabled_row::{CellBlock, Columns, Row};
+use tabled_row::{CellBlock, Columns, Content, Row, SharedStyle};
 use tabled_size::Dimension;
 
 /// The columns of a table whose sizes are there.
@@ -57,6 +57,21 @@ impl<'a, R: PeekableRecords, D: Dimension> Row<'a> for GridRow<'a, R, D> {
 
     fn frame(&self) -> &Frame {
         self.grid.frame()
+    }
+
+    fn shared_style(&self) -> Option<&SharedStyle> {
+        self.grid.shared_style()
+    }
+
+    fn width(&self, column: usize) -> usize {
+        self.grid.width(column)
+    }
+
+    fn content(&self, column: usize) -> Content<'a> {
+        self.grid.content(Position {
+            row: self.row,
+            column,
+        })
     }
 
     fn cell(&self, column: usize) -> CellBlock<'a> {

@@ -1,5 +1,5 @@
 -- The lines of a text of one line.
-use Rattle.std.proofs.Common.{◌≡◌, ℕ, zero, suc, ◌<◌, List, [], ◌∷◌, Some, None, length, slice_get, refl, sym, ◌∙◌, ap, arith}
+use Rattle.std.proofs.Common.{◌≡◌, ℕ, zero, suc, ◌<◌, List, [], ◌∷◌, Some, None, length, get_or, slice_get, refl, sym, ◌∙◌, ap, arith}
 use Rattle.tabled_text.specs.Measure.{line_columns, lines_of, text_columns}
 use Rattle.tabled_text.proofs.Bridge.{lines_of-one, text_columns-one}
 
@@ -16,6 +16,11 @@ pub line-later : (text : List ℕ) (lines k : ℕ) → lines ≡ length (lines_o
 line-later text lines k l one h =
     let e : length (lines_of text) ≡ 1 = omega arith in
     past-one text k h ∙ sym (ap (λ ls. slice_get ls k) (lines_of-one text e))
+
+pub first-one : (text : List ℕ) (lines : ℕ) → lines ≡ length (lines_of text) → lines ≡ 1 → text ≡ get_or (lines_of text) 0 []
+first-one text lines l one =
+    let e : length (lines_of text) ≡ 1 = omega arith in
+    sym (ap (λ ls. get_or ls 0 []) (lines_of-one text e))
 
 pub columns-one : (text : List ℕ) (lines columns : ℕ) → lines ≡ length (lines_of text) → lines ≡ 1 → columns ≡ text_columns text → columns ≡ line_columns text
 columns-one text lines columns l one c = c ∙ text_columns-one text (let e : length (lines_of text) ≡ 1 = omega arith in e)

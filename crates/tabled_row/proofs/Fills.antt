@@ -1,5 +1,6 @@
 -- Runs of one character.
-use Rattle.std.proofs.Common.{◌≡◌, ℕ, zero, suc, ◌+◌, ◌-◌, ◌<◌, ◌≤◌, ◌∷◌, ◌++◌, length, take, encode_utf8, refl, sym, ◌∙◌, ap, append-nil, append_assoc, zero-add, suc-add, get_or, arith}
+use Rattle.std.proofs.Common.{◌≡◌, ℕ, zero, suc, ◌+◌, ◌-◌, ◌<◌, ◌≤◌, List, ◌∷◌, ◌++◌, length, take, drop, encode_utf8, refl, sym, ◌∙◌, ap, append-nil, append_assoc, zero-add, suc-add, get_or, arith}
+use Rattle.std.proofs.lemmas.List.{get_or_append_left, length-append}
 use Rattle.std.proofs.lemmas.Str.{IsCharBoundary-from_ascii, encode_ascii}
 use Rattle.std.specs.Str.{IsCharBoundary}
 use Rattle.std.specs.List.{slice_range}
@@ -37,6 +38,12 @@ fill-take c (suc n) (suc m) small h =
 pub fill-range : (c n m : ℕ) → c < 128 → n ≤ m → slice_range (fill c m) 0 n ≡ fill c n
 fill-range c n m small h = let e : n - 0 ≡ n = omega arith in ap (λ k. take k (fill c m)) e ∙ fill-take c n m small h
 
+-- of copies before a text, the last n
+pub fill-drop : (c k n : ℕ) (rest : List ℕ) → c < 128 → drop k (fill c (k + n) ++ rest) ≡ fill c n ++ rest
+fill-drop c zero n rest small = ap (λ j. fill c j ++ rest) (zero-add n)
+fill-drop c (suc k) n rest small =
+    ap (λ j. drop (suc k) (fill c j ++ rest)) (suc-add k n) ∙ ap (λ u. drop (suc k) (u ++ rest)) (fill-byte c (k + n) small) ∙ fill-drop c k n rest small
+
 fill-length : (c n : ℕ) → c < 128 → length (fill c n) ≡ n
 fill-length c zero small = refl
 fill-length c (suc n) small = ap length (fill-byte c n small) ∙ ap suc (fill-length c n small)
@@ -45,6 +52,16 @@ fill-ascii : (c n i : ℕ) → c < 128 → get_or (fill c n) i 0 < 128
 fill-ascii c zero i small = omega arith
 fill-ascii c (suc n) zero small = rw (fill-byte c n small) small
 fill-ascii c (suc n) (suc i) small = rw (fill-byte c n small) (fill-ascii c n i small)
+
+-- a byte of copies before a text
+pub fill-first_bytes : (c n i : ℕ) (rest : List ℕ) → c < 128 → i < n → get_or (fill c n ++ rest) i 0 < 128
+fill-first_bytes c n i rest small l =
+    let e = get_or_append_left (fill c n) rest 0 i (omega (arith, fill-length c n small)) in
+    let a = fill-ascii c n i small in
+    omega arith
+
+pub fill-long : (c n : ℕ) (rest : List ℕ) → c < 128 → n ≤ length (fill c n ++ rest)
+fill-long c n rest small = omega (arith, fill-length c n small, length-append (fill c n) rest)
 
 pub fill-boundary : (c i n : ℕ) → c < 128 → i ≤ n → IsCharBoundary (fill c n) i
 fill-boundary c i n small h =

@@ -4,6 +4,7 @@ pub mod Blocks
 pub mod Contents
 pub mod Each
 pub mod Fills
+pub mod Flushing
 pub mod Joined
 pub mod Leading
 pub mod Marking

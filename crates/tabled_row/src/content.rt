@@ -2,10 +2,11 @@
 ghost use Rattle.std.specs.Prelude.{◌≡◌, ◌-◌, ◌<◌, ◌^◌, length, slice_get, IfSome};
 ghost use Rattle.std.specs.Option.{option_map};
 ghost use Rattle.tabled_text.specs.Measure.{line_columns, lines_of, text_columns};
+ghost use Rattle.tabled_row.specs.Flush.{first_line};
 ghost use Rattle.tabled_row.specs.Marks.{IsMarked};
 
 use crate::marks::Mark;
-use tabled_text::{count_lines, line_width, text_width};
+use tabled_text::{count_lines, line_width, split_line, text_width};
 
 /// A text, its columns and its lines.
 #[derive(Clone, Copy)]
@@ -27,6 +28,18 @@ impl<'a> Content<'a> {
             columns: text_width(text),
             lines: count_lines(text),
         }
+    }
+
+    /// The first line with its columns.
+    pub(crate) fn first_line(&self) -> (&'a str, usize)
+        ensures line { result.0.now ≡ first_line self.now.text.now }
+        ensures columns { result.1 ≡ line_columns result.0.now }
+    {
+        if self.lines == 1 {
+            return (self.text, self.columns);
+        }
+        let (line, _) = split_line(self.text);
+        (line, line_width(line))
     }
 
     /// The line at an index with its columns, looked for from a mark on, which moves behind it. A text of

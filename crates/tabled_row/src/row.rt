@@ -1,13 +1,16 @@
 //! A row of cells, a line at a time.
-ghost use Rattle.std.specs.Prelude.{◌≡◌, ◌<◌, []};
+ghost use Rattle.std.specs.Prelude.{◌≡◌, ◌<◌, ℕ, IfSome, []};
 ghost use Rattle.std.specs.List.{flat_map, range_with_len, slice_index_or};
 ghost use Rattle.tabled_row.specs.Marks.{AreKept};
 ghost use Rattle.tabled_row.specs.Row.{RowSheet, cell_block, cell_piece, row_line};
 ghost use Rattle.tabled_row.specs.Sent.{Sent, Writes};
 
 use crate::block::CellBlock;
+use crate::content::Content;
 use crate::edges::{put_left, put_piece, put_right};
+use crate::flush::put_flush_cells;
 use crate::marks::{Mark, Marks};
+use crate::shared::SharedStyle;
 use crate::text_sink::TextSink;
 use tabled_base::TableError;
 use tabled_config::Frame;
@@ -28,6 +31,21 @@ pub trait Row<'a> {
     /// What stands around and between the cells.
     fn frame(&self) -> &Frame
         ensures { result.now ≡ (sheet self.now).columns.frame };
+
+    /// How the texts of all cells stand, if it is known that they stand alike.
+    fn shared_style(&self) -> Option<&SharedStyle>
+        ensures { IfSome result (λ shared. ((column : ℕ) → column < (sheet self.now).columns.count
+            → (sheet self.now).style column ≡ shared.now.style) × (shared.now.bar ≡ (sheet self.now).columns.frame.inner)) };
+
+    /// How many text columns a column takes, padding included.
+    fn width(&self, column: usize) -> usize
+        requires { column < (sheet self.now).columns.count }
+        ensures { result ≡ (sheet self.now).columns.width column };
+
+    /// The text of a cell, with its measures.
+    fn content(&self, column: usize) -> Content<'a>
+        requires { column < (sheet self.now).columns.count }
+        ensures { result.text.now ≡ (sheet self.now).text column };
 
     /// A cell as it is laid out.
     fn cell(&self, column: usize) -> CellBlock<'a>
@@ -83,7 +101,7 @@ fn put_cell<'a, R: Row<'a>, S: TextSink>(
     put_block_line(sink, row, marks, column, index)
 }
 
-fn put_cells<'a, R: Row<'a>, S: TextSink>(
+fn put_each_cell<'a, R: Row<'a>, S: TextSink>(
     sink: &mut S,
     row: &R,
     marks: &mut Marks<'a>,
@@ -99,6 +117,28 @@ fn put_cells<'a, R: Row<'a>, S: TextSink>(
         put_cell(sink, row, marks, column, index)?;
     }
     Ok(())
+}
+
+/// The cells of a line. Where they are of one line and stand alike, they need no blocks.
+fn put_cells<'a, R: Row<'a>, S: TextSink>(
+    sink: &mut S,
+    row: &R,
+    marks: &mut Marks<'a>,
+    index: usize,
+) -> Result<(), TableError>
+    requires index_in { index < (R.sheet row.now).height }
+    requires marked { AreKept (R.sheet row.now).text marks.old }
+    ensures printed { Writes (S.sent sink.old) result (S.sent sink.new)
+        (flat_map (cell_piece (R.sheet row.now) index) (range_with_len 0 (R.sheet row.now).columns.count)) }
+    ensures marked { AreKept (R.sheet row.now).text marks.new }
+{
+    if row.height() == 1
+        && let Some(shared) = row.shared_style()
+        && let Some(gap) = shared.gap()
+    {
+        return put_flush_cells(sink, row, &gap);
+    }
+    put_each_cell(sink, row, marks, index)
 }
 
 /// A line of a row.

@@ -1,5 +1,7 @@
 //! The columns and the lines of a text.
 ghost use Rattle.std.specs.Prelude.{◌≡◌, ◌*◌, ◌≤◌, length};
+ghost use Rattle.std.specs.Int.{is_in_range};
+ghost use Rattle.std.specs.List.{list_all};
 ghost use Rattle.tabled_text.specs.Measure.{lines_of, line_columns, text_columns};
 
 use crate::line::lines;
@@ -32,13 +34,22 @@ pub fn count_lines(text: &str) -> usize
     text.split('\n').count()
 }
 
+/// Whether a text is printable ASCII, and so one line of as many columns as bytes.
+fn is_printable(text: &str) -> bool
+    ensures { result ≡ list_all (is_in_range 0x20 0x7E) text.now }
+{
+    text.as_bytes().iter().all(|b| matches!(*b, b' '..=b'~'))
+}
+
 /// The columns and the lines of a text. A text of one line is measured as that line.
 pub fn text_measures(text: &str) -> (usize, usize)
     ensures columns { result.0 ≡ text_columns text.now }
     ensures lines { result.1 ≡ length (lines_of text.now) }
     ensures bound { result.0 ≤ 2 * length text.now }
 {
-    if text.as_bytes().contains(&b'\n') {
+    if is_printable(text) {
+        (text.len(), 1)
+    } else if text.as_bytes().contains(&b'\n') {
         (text_width(text), count_lines(text))
     } else {
         (line_width(text), 1)

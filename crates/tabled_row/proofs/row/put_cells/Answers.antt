@@ -1,18 +1,17 @@
-use Rattle.tabled_row.proofs.Sending.{stopped, further}
+use Rattle.std.proofs.Common.{◌≡◌, ◌∙◌, sym, ap, arith}
+use Rattle.std.specs.List.{flat_map, range_with_len}
 use Rattle.tabled_row.specs.Row.{cell_piece}
-use Rattle.tabled_row.proofs.Each.{each-more, each-rest}
+use Rattle.tabled_row.proofs.Flushing.{cells-flush}
+use Rattle.tabled_row.proofs.Sending.{finished, sends-none}
 use Rattle.tabled_row.proofs.row.put_cells.Goals as goal
 
-pub returns-in_err-put_cell-clause-printed : goal.returns-in_err-put_cell-clause-printed
-returns-in_err-put_cell-clause-printed g c =
-    let within = rw c.count_columns-column-end.ensures at c.cells-test.true in
-    stopped _ _ _ c.cells.invariant.printed c.in_err-put_cell.ensures.printed c.from_residual.ensures.1
-    (each-rest (cell_piece (g.R.Row.sheet c.args.row.now) c.args.index) _ _ within)
-
-pub cells-preserved : goal.cells-preserved
-cells-preserved g c =
-    record {
-      printed = further c.cells.invariant.printed c.in_ok-put_cell.ensures.printed
-          (each-more (cell_piece (g.R.Row.sheet c.args.row.now) c.args.index) _);
-      marked = c.in_ok-put_cell.ensures.marked;
-    }
+pub returns-clause-printed : goal.returns-clause-printed
+returns-clause-printed g c =
+    let row = g.R.Row.sheet c.args.row.now in
+    let one : row.height ≡ 1 = sym c.height.ensures ∙ c.if-height-eq1.true in
+    let first : c.args.index ≡ 0 = (let i = c.requires.index_in in omega arith) in
+    let gap = c.in-Some-gap.gap in
+    let style = c.in-Some-gap.ensures.0 in
+    finished _ _ _ _ (sends-none _) c.put_flush_cells.ensures
+    (ap (λ i. flat_map (cell_piece row i) (range_with_len 0 row.columns.count)) first
+    ∙ cells-flush row gap.style.now gap.flush (λ column l. c.in-Some.ensures.0 column l ∙ sym style) one)

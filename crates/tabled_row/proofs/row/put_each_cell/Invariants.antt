@@ -2,7 +2,7 @@ use Rattle.std.specs.List.{flat_map, range_with_len}
 use Rattle.tabled_row.specs.Marks.{AreKept}
 use Rattle.tabled_row.specs.Row.{cell_piece}
 use Rattle.tabled_row.specs.Sent.{Sends}
-use Rattle.tabled_row.proofs.row.put_cells.Given as goal
+use Rattle.tabled_row.proofs.row.put_each_cell.Given as goal
 
 abbrev pub invariant-cells : goal.invariant-cells
 invariant-cells g l =
