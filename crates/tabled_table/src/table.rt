@@ -173,9 +173,10 @@ impl Table {
     }
 
     /// Whether the settings keep the texts apart, whatever these are: what stands beside cells are separators of one column
-    /// (a space, lines of boxes, printable ASCII but `#`, `*` and digits), with a vertical line or padding between each two
-    /// cells of a row, and horizontal lines and the lines of margins are of plain characters. Then each printed line takes
-    /// `total_width` columns, if the widths hold the texts, as estimated ones do.
+    /// (a space, lines, blocks and dots, printable ASCII but `#`, `*` and digits), or vertical lines of any plain characters
+    /// with left padding behind them; a vertical line or padding stands between each two cells of a row; and horizontal lines
+    /// and the lines of margins are of plain characters. Then each printed line takes `total_width` columns, if the widths hold
+    /// the texts, as estimated ones do.
     pub fn is_apart(&self) -> bool
         ensures { IsTrue result ↔ IsApartConfig (sheet self.now).config (length (cells_of self.now))
             (columns (cells_of self.now)) }

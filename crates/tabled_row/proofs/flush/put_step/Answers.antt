@@ -27,7 +27,7 @@ returns-then-column-count_columns g c =
     let next = opening row.columns style (c.args.column + 1) in
     let taken : c.first_line-columns.result.1 ≡ line_columns (first_line (row.text c.args.column)) = c.first_line-columns.ensures.columns ∙ ap line_columns same in
     let free : c.saturating_sub-2.result + style.padding.right.size
-        ≡ text_room style (row.columns.width c.args.column) - line_columns (first_line (row.text c.args.column)) + style.padding.right.size =
+    ≡ text_room style (row.columns.width c.args.column) - line_columns (first_line (row.text c.args.column)) + style.padding.right.size =
     omega (arith, taken, c.width.ensures, c.saturating_sub.ensures, c.saturating_sub-room.ensures, c.saturating_sub-2.ensures) in
     let spaces = fill 32 (c.saturating_sub-2.result + style.padding.right.size) in
     let inside = rw c.count_columns.ensures at c.if-column-count_columns.true in
@@ -44,7 +44,7 @@ returns-else-column-count_columns g c =
     let next = opening row.columns style (c.args.column + 1) in
     let taken : c.first_line-columns.result.1 ≡ line_columns (first_line (row.text c.args.column)) = c.first_line-columns.ensures.columns ∙ ap line_columns same in
     let free : c.saturating_sub-2.result + style.padding.right.size
-        ≡ text_room style (row.columns.width c.args.column) - line_columns (first_line (row.text c.args.column)) + style.padding.right.size =
+    ≡ text_room style (row.columns.width c.args.column) - line_columns (first_line (row.text c.args.column)) + style.padding.right.size =
     omega (arith, taken, c.width.ensures, c.saturating_sub.ensures, c.saturating_sub-room.ensures, c.saturating_sub-2.ensures) in
     let spaces = fill 32 (c.saturating_sub-2.result + style.padding.right.size) in
     let past = rw c.count_columns.ensures at c.if-column-count_columns.false in
