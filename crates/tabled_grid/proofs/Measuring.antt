@@ -1,59 +1,28 @@
 -- The columns of what is made of plain pieces.
-use Rattle.std.proofs.Common.{
-  ◌≡◌,
-  ℕ,
-  zero,
-  suc,
-  ◌+◌,
-  ◌-◌,
-  ◌*◌,
-  ◌<◌,
-  ◌≤◌,
-  ◌==◌,
-  Bool,
-  true,
-  false,
-  cond,
-  List,
-  [],
-  unwrap_or,
-  length,
-  get_or,
-  sym,
-  ◌∙◌,
-  ap,
-  subst,
-  arith,
-  ⊎_elim,
-}
+use Rattle.std.proofs.Common.{◌≡◌, ℕ, ◌+◌, ◌-◌, ◌*◌, ◌<◌, ◌≤◌, List, [], length, get_or, sym, subst, arith, ⊎_elim}
 use Rattle.std.specs.List.{flat_map, range_with_len, slice_index}
 use Rattle.std.proofs.lemmas.Bool.{cases_lt}
-use Rattle.std.proofs.lemmas.Bool.Decides.{nat_tests}
 use Rattle.std.proofs.lemmas.Option.{slice_get_cases, slice_get-get_or}
 use Rattle.tabled_text.specs.Measure.{lines_of, text_columns, line_columns}
-use Rattle.tabled_text.specs.Plain.{IsPlain, IsPlainColumn, IsPlainLine}
+use Rattle.tabled_text.specs.Plain.{IsPlain, IsPlainLine}
 use Rattle.tabled_text.proofs.Bridge.{line_columns-le}
-use Rattle.tabled_text.proofs.PlainLines.{plain_line-nil, plain_line-append, plain_line-as, plain_line-one, plain_line-each, plain_column-space}
+use Rattle.tabled_text.proofs.PlainLines.{plain_line-append, plain_line-as, plain_line-each, plain_column-space}
 use Rattle.tabled_base.specs.Cells.{IsRectangular, cell_at, columns}
-use Rattle.tabled_config.specs.declared.alignment.AlignmentHorizontal.{AlignmentHorizontal}
-use Rattle.tabled_config.specs.declared.alignment.AlignmentHorizontal.TheVariants as horizontal
 use Rattle.tabled_config.specs.declared.spanned.CellStyle.{CellStyle}
-use Rattle.tabled_config.specs.declared.frame.Frame.{Frame}
 use Rattle.tabled_config.specs.declared.borders.HorizontalLine.{HorizontalLine}
 use Rattle.tabled_config.specs.Frame.{has_bar}
 use Rattle.tabled_config.specs.Settings.{frame, style_at}
 use Rattle.tabled_size.specs.Sheet.{Sheet}
 use Rattle.tabled_priority.specs.Sums.{one_if, sum_below}
 use Rattle.tabled_size.specs.Totals.{filled_width}
-use Rattle.tabled_row.specs.Block.{before_text, text_room, columns_before, cell_line, block, fill_above}
+use Rattle.tabled_row.specs.Block.{text_room, columns_before, cell_line, block, fill_above}
 use Rattle.tabled_size.specs.Holds.{Holds}
-use Rattle.tabled_row.specs.Row.{piece, cell_piece, rule_piece, left_edge, right_edge, row_line, rule_line}
+use Rattle.tabled_row.specs.Row.{cell_piece, row_line, rule_line}
 use Rattle.tabled_grid.specs.Picture.{columns_of, row_of}
 use Rattle.tabled_size.specs.PlainCells.{ArePlain}
 use Rattle.tabled_row.specs.Plain.{IsPlainRule, IsPlainStyle}
 use Rattle.tabled_grid.specs.PlainSheet.{IsPlainConfig}
 use Rattle.tabled_row.proofs.Blocks.{block-above, block-text, block-below}
-use Rattle.tabled_row.proofs.Each.{each-more}
 use Rattle.tabled_row.proofs.ApartLines.{columns_before-fits}
 use Rattle.tabled_row.proofs.Bars.{bar-sum}
 use Rattle.tabled_row.proofs.Plains.{plain-each, plain-fill, plain-left, plain-piece, plain-right, plain_rule_line}

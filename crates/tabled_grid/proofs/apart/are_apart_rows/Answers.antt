@@ -1,4 +1,4 @@
-use Rattle.std.proofs.Common.{ℕ, ◌<◌, arith, refl}
+use Rattle.std.proofs.Common.{arith, refl}
 use Rattle.tabled_config.specs.Settings.{frame, style_at}
 use Rattle.tabled_row.specs.Apart.{AreApartCells}
 use Rattle.tabled_grid.proofs.PlainTests.{below_next, said_no}

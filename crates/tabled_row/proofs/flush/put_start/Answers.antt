@@ -1,4 +1,4 @@
-use Rattle.std.proofs.Common.{◌∙◌, sym, arith}
+use Rattle.std.proofs.Common.{sym, arith}
 use Rattle.tabled_row.proofs.Flushing.{opening-end, opening-inside}
 use Rattle.tabled_row.proofs.Sending.{finished, sends-along, sends-none}
 use Rattle.tabled_row.proofs.flush.put_start.Goals as goal

@@ -1,4 +1,4 @@
-use Rattle.std.proofs.Common.{◌≡◌, ◌+◌, ◌-◌, ◌++◌, refl, sym, ap, ◌∙◌, append-nil, arith}
+use Rattle.std.proofs.Common.{◌≡◌, ◌+◌, ◌-◌, ◌++◌, sym, ap, ◌∙◌, append-nil, arith}
 use Rattle.tabled_text.specs.Measure.{line_columns}
 use Rattle.tabled_row.specs.Block.{text_room}
 use Rattle.tabled_row.specs.Fill.{fill}

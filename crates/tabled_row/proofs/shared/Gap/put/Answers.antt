@@ -1,4 +1,4 @@
-use Rattle.std.proofs.Common.{◌≡◌, ◌++◌, drop, sym, ap, ◌∙◌, lit<}
+use Rattle.std.proofs.Common.{◌++◌, drop, sym, ap, ◌∙◌, lit<}
 use Rattle.tabled_row.specs.Fill.{fill}
 use Rattle.tabled_row.specs.Row.{piece}
 use Rattle.tabled_row.proofs.Fills.{fill-drop}
