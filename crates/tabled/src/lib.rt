@@ -22,9 +22,7 @@ pub use tabled_value::Tabled;
 
 /// Facts of texts, options and tables that a caller can rest on: each is the contract of a function that does nothing.
 pub mod laws {
-    pub use tabled_apart::laws::{
-        count_is_bound, lines_of_any_text, separators, texts_in_room, texts_that_fit,
-    };
+    pub use tabled_apart::laws::{count_is_bound, lines_of_any_text, separators, texts_that_fit};
     pub use tabled_grid::laws::pictures;
     pub use tabled_row::laws::rows_of_any_text;
     pub use tabled_set::laws::truncated_texts;

@@ -1,5 +1,5 @@
 -- Texts of any characters that take at most some columns: what is cut, wrapped, joined and filled.
-use Rattle.std.proofs.Common.{ℕ, ◌+◌, ◌≤◌, Bool, List, [], ◌∷◌, ◌++◌, All, subst, sym, sum_by, replicate, encode_utf8_all, lit<}
+use Rattle.std.proofs.Common.{ℕ, ◌+◌, ◌≤◌, Bool, List, [], ◌∷◌, ◌++◌, All, subst, sym, sum_by, replicate, encode_utf8_all, chars, true, ◌≡◌, lit<}
 use Rattle.std.specs.List.{join_with_byte}
 use Rattle.std.specs.Str.{IsUtf8}
 use Rattle.std.proofs.lemmas.List.Elements.{All-head, All-tail}
@@ -7,13 +7,14 @@ use Rattle.std.proofs.lemmas.Str.{IsUtf8-append, IsUtf8-nil}
 use Rattle.tabled_text.specs.Cut.{IsCut}
 use Rattle.tabled_text.specs.Measure.{line_columns, lines_of, text_columns}
 use Rattle.tabled_text.specs.Plain.{IsPlain, IsPlainColumn}
+use Rattle.tabled_text.specs.Room.{stays}
 use Rattle.tabled_text.specs.Wrapping.{IsWrapped}
 use Rattle.tabled_text.proofs.Bridge.{greatest-le}
 use Rattle.tabled_text.proofs.JoinLemmas.{text_columns-join}
 use Rattle.tabled_text.proofs.StayLemmas.{StaysWithin-filled, StaysWithin-none, text_columns-stays}
 use Rattle.tabled_text.proofs.WordLemmas.{IsUtf8-mark}
 use Rattle.tabled_apart.specs.Fitting.{FitsIn}
-use Rattle.tabled_apart.proofs.CutBound.{cut_bound, cut_suffixed}
+use Rattle.tabled_apart.proofs.CutBound.{cut_bound, cut_followed, cut_suffixed}
 use Rattle.tabled_apart.proofs.WrapBound.{wrap_bound}
 
 pub fits-cut : (n : ℕ) (text answer : List ℕ) → IsCut n text answer → FitsIn n answer
@@ -22,6 +23,10 @@ fits-cut n text answer c = record { utf8 = c.utf8; columns = cut_bound n text an
 pub fits-suffix : (n w : ℕ) (text answer suffix : List ℕ) → IsPlain suffix → n + sum_by line_columns (lines_of suffix) ≤ w → IsCut n text answer
     → FitsIn w (answer ++ suffix)
 fits-suffix n w text answer suffix p le c = record { utf8 = IsUtf8-append answer suffix c.utf8 p.utf8; columns = cut_suffixed n w text answer suffix p le c }
+
+pub fits-followed : (n w : ℕ) (text answer tail : List ℕ) → n ≤ w → IsCut n text answer → IsUtf8 tail
+    → ((k : ℕ) → k ≤ n → stays w k (chars tail) ≡ true) → FitsIn w (answer ++ tail)
+fits-followed n w text answer tail le c u s = record { utf8 = IsUtf8-append answer tail c.utf8 u; columns = cut_followed n w text answer tail le c u s }
 
 pub fits-wrapped : (n : ℕ) (words : Bool) (text answer : List ℕ) → IsWrapped n words text answer → FitsIn n answer
 fits-wrapped n words text answer w = record { utf8 = w.utf8; columns = wrap_bound n words text answer w }

@@ -3,7 +3,7 @@ ghost use Rattle.std.specs.Prelude.{◌≡◌, ◌<◌, ◌≤◌, ℕ, Bool, tr
 ghost use Rattle.std.specs.List.{flat_map, join_with_byte, slice_index_or};
 ghost use Rattle.std.specs.Str.{IsUtf8};
 ghost use Rattle.tabled_text.specs.Cut.{IsCut};
-ghost use Rattle.tabled_text.specs.Measure.{char_columns, columns_of, count_of, line_columns, lines_of, text_columns};
+ghost use Rattle.tabled_text.specs.Measure.{char_columns, columns_of, count_of, line_columns, lines_of};
 ghost use Rattle.tabled_text.specs.Plain.{IsPlain, IsPlainColumn};
 ghost use Rattle.tabled_text.specs.Room.{stays};
 ghost use Rattle.tabled_text.specs.Wrapping.{IsWrapped};
@@ -47,24 +47,14 @@ pub fn lines_of_any_text()
         → IsLine (slice_index_or (lines_of text) k []) (line_columns (slice_index_or (lines_of text) k [])) }
 {}
 
-/// A cut and a wrapped text of any characters takes at most its columns, also where words are kept whole, and so does a
-/// plain suffix behind a cut text.
-pub fn texts_in_room()
-    ensures cut { (n : ℕ) (text answer : List ℕ) → IsCut n text answer → text_columns answer ≤ n }
-    ensures suffix { (n w : ℕ) (text answer suffix : List ℕ) → IsPlain suffix
-        → n + sum_by line_columns (lines_of suffix) ≤ w → IsCut n text answer → text_columns (answer ++ suffix) ≤ w }
-    ensures followed { (n w : ℕ) (text answer tail : List ℕ) → n ≤ w → IsCut n text answer → IsUtf8 tail
-        → ((k : ℕ) → k ≤ n → stays w k (chars tail) ≡ true) → text_columns (answer ++ tail) ≤ w }
-    ensures wrapped { (n : ℕ) (words : Bool) (text answer : List ℕ) → IsWrapped n words text answer
-        → text_columns answer ≤ n }
-{}
-
-/// Texts of any characters that take at most some columns: what is cut, with a plain suffix or none, what is wrapped, what
-/// is joined of such texts, no text, and copies of a plain character.
+/// Texts of any characters that take at most some columns: what is cut, also with a plain suffix or another text behind
+/// it that stays in the room, what is wrapped, what is joined of such texts, no text, and copies of a plain character.
 pub fn texts_that_fit()
     ensures cut { (n : ℕ) (text answer : List ℕ) → IsCut n text answer → FitsIn n answer }
     ensures suffix { (n w : ℕ) (text answer suffix : List ℕ) → IsPlain suffix
         → n + sum_by line_columns (lines_of suffix) ≤ w → IsCut n text answer → FitsIn w (answer ++ suffix) }
+    ensures followed { (n w : ℕ) (text answer tail : List ℕ) → n ≤ w → IsCut n text answer → IsUtf8 tail
+        → ((k : ℕ) → k ≤ n → stays w k (chars tail) ≡ true) → FitsIn w (answer ++ tail) }
     ensures wrapped { (n : ℕ) (words : Bool) (text answer : List ℕ) → IsWrapped n words text answer → FitsIn n answer }
     ensures joined { (n : ℕ) (texts : List (List ℕ)) → All (FitsIn n) texts → FitsIn n (join_with_byte 10 texts) }
     ensures none { (n : ℕ) → FitsIn n [] }

@@ -1,6 +1,6 @@
 -- A framed box fills its rectangle.
 use Rattle.std.proofs.Common.{◌≡◌, ℕ, ◌+◌, ◌-◌, ◌≤◌, arith}
-use Rattle.tabled_config.specs.declared.sides.Sides.{Sides}
+use Rattle.tabled_border.specs.declared.sides.Sides.{Sides}
 use Rattle.tabled_boxes.specs.declared.pieces.Rectangle.{Rectangle}
 use Rattle.tabled_boxes.specs.Boxes.{Box, left_part, right_part, top_part, bottom_part, box_of}
 use Rattle.tabled_boxes.specs.Tiling.{within, covering, Tiles, AreTiles, EachFits, LeavesFit, framed}

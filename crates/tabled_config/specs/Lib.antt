@@ -1,7 +1,5 @@
 pub mod Compact
-pub mod Frame
 pub mod Lending
-pub mod Lines
 pub mod Options
 pub mod Settings
 pub mod Spanned

@@ -2,19 +2,16 @@
 ghost use Rattle.std.specs.Prelude.{◌≡◌, ◌==◌, ℕ, if◌then◌else◌, IfErr, IfOk, IfSome, IsOk, OnErr, OnOk, Some, []};
 ghost use Rattle.tabled_base.specs.declared.error.TableError.TheVariants.{Memory};
 ghost use Rattle.tabled_entity.specs.Changes.{setting_at, with_change};
-ghost use Rattle.tabled_config.specs.Lines.{line_set, with_line};
+ghost use Rattle.tabled_border.specs.Lines.{line_set, with_line};
 ghost use Rattle.tabled_entity.specs.Places.{IsWhole};
 
 use crate::alignment::{AlignmentHorizontal, AlignmentVertical};
-use crate::borders::{Borders, HorizontalLine};
 use crate::compact::CompactConfig;
 use crate::compact_multiline::CompactMultilineConfig;
-use crate::frame::Frame;
-use crate::lines::Lines;
-use crate::sides::{Indent, Sides};
 use crate::style::Style;
 use std::alloc::Global;
 use tabled_base::{Entity, Position, TableError};
+use tabled_border::{Borders, Frame, HorizontalLine, Indent, Lines, Sides};
 use tabled_entity::EntityMap;
 
 /// How the text of a cell stands in its place.
@@ -50,7 +47,7 @@ pub struct SpannedConfig {
 
 impl SpannedConfig {
     ghost use Rattle.tabled_config.specs.Options.{with_style};
-    ghost use Rattle.tabled_config.specs.Settings.{frame, rule_at, style_at};
+    ghost use Rattle.tabled_config.specs.Settings.{frame, rule_at, shared_style, style_at};
     ghost use Rattle.tabled_config.specs.Spanned.{
       new_spanned,
       spanned_of_compact,
@@ -339,9 +336,10 @@ impl SpannedConfig {
     }
 
     /// How the texts of all cells stand, where nothing was set for parts of the table.
-    #[tactic(auto, unfolding(crate::specs::Settings::style_at))]
+    #[tactic(auto, unfolding(crate::specs::Settings::shared_style, crate::specs::Settings::style_at))]
     pub fn shared_style(&self) -> Option<CellStyle>
-        ensures { IfSome result (λ style. (row column : ℕ) → style_at self.now row column ≡ style) }
+        ensures value { result ≡ shared_style self.now }
+        ensures everywhere { IfSome result (λ style. (row column : ℕ) → style_at self.now row column ≡ style) }
     {
         Some(CellStyle {
             padding: self.padding.shared()?,

@@ -1,10 +1,10 @@
 -- What a map of changes finds by its places is the latest setting that covers a cell.
-use Rattle.std.proofs.Common.{[], ◌∷◌, suc, refl, arith, ◌≡◌, ℕ, ◌-◌, ◌<◌, List, length, reverse, Option, Some, ap, sym, ◌∙◌, subst, get_or}
+use Rattle.std.proofs.Common.{[], ◌∷◌, suc, refl, arith, ◌≡◌, ℕ, ◌-◌, ◌<◌, List, length, reverse, Option, Some, None, ap, sym, ◌∙◌, subst, get_or}
 use Rattle.std.proofs.lemmas.List.{reverse-reverse, get_or-reverse}
 use Rattle.tabled_base.specs.declared.position.Entity.{Entity}
 use Rattle.tabled_base.specs.declared.position.Entity.TheVariants.{Global, Row, Column, Cell}
 use Rattle.tabled_entity.specs.declared.places.Places.{Places}
-use Rattle.tabled_entity.specs.Changes.{first_covering}
+use Rattle.tabled_entity.specs.Changes.{first_covering, if_unparted}
 use Rattle.tabled_entity.specs.Places.{IsIndexed, found, last_for, later, latest}
 use Rattle.tabled_entity.proofs.Covering.{IsBelow, latest_place, below-latest_place, said_at, said_at-latest}
 
@@ -36,3 +36,13 @@ pub nothing_set : {T : Type 0} (whole : T) (items : List (Entity × T)) (row col
     ≡ first_covering whole (reverse items) row column
 nothing_set whole [] row column h = refl
 nothing_set whole (item ∷ items) row column h = let e : suc (length items) ≡ 0 = h in absurd (omega arith)
+
+-- then the value of the whole table is shared
+pub unparted : {T : Type 0} (whole : T) (items : List (Entity × T)) → length items ≡ 0 → Some whole ≡ if_unparted whole (reverse items)
+unparted whole [] h = refl
+unparted whole (item ∷ items) h = let e : suc (length items) ≡ 0 = h in absurd (omega arith)
+
+-- and else none is
+pub parted : {T : Type 0} (whole : T) (parts : List (Entity × T)) → 0 < length parts → None ≡ if_unparted whole parts
+parted whole [] h = absurd (omega arith)
+parted whole (part ∷ earlier) h = refl

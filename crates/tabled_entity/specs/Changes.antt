@@ -1,5 +1,5 @@
 -- What was set, in order, and what it says of each cell.
-use Rattle.std.specs.Prelude.{ℕ, ◌==◌, ◌&&◌, if◌then◌else◌, Bool, true, List, [], ◌∷◌}
+use Rattle.std.specs.Prelude.{ℕ, ◌==◌, ◌&&◌, if◌then◌else◌, Bool, true, List, [], ◌∷◌, Option, Some, None}
 use Rattle.tabled_base.specs.declared.position.Entity.{Entity}
 use Rattle.tabled_base.specs.declared.position.Entity.TheVariants.{Global, Row, Column, Cell}
 
@@ -26,6 +26,15 @@ module _ {T : Type 0} where
   -- the latest setting that covers a cell
   abbrev pub setting_at : Changes T → ℕ → ℕ → T
   setting_at changes row column = first_covering changes.whole changes.parts row column
+
+  -- what the whole table has, where nothing was set for a part
+  abbrev pub if_unparted : T → List (Entity × T) → Option T
+  if_unparted whole [] = Some whole
+  if_unparted whole (part ∷ earlier) = None
+
+  -- the one value of all cells, where nothing was set for a part
+  abbrev pub shared : Changes T → Option T
+  shared changes = if_unparted changes.whole changes.parts
 
   -- the settings after one more; one for the whole table forgets all others
   abbrev pub with_change : Changes T → Entity → T → Changes T

@@ -1,6 +1,6 @@
 //! One setting of a table: for the whole of it, for rows, for columns and for cells.
 ghost use Rattle.std.specs.Prelude.{◌≡◌, ℕ, IfOk, IfSome, IsOk, OnErr, OnOk};
-ghost use Rattle.tabled_entity.specs.Changes.{for_all, setting_at, with_change};
+ghost use Rattle.tabled_entity.specs.Changes.{for_all, setting_at, shared, with_change};
 ghost use Rattle.tabled_entity.specs.Places.{IsPart, IsWhole};
 
 use crate::places::Places;
@@ -101,7 +101,8 @@ impl<T: Copy> EntityMap<T> {
     /// The value of every cell, where nothing was set for a part.
     #[inline]
     pub fn shared(&self) -> Option<T>
-        ensures { IfSome result (λ value. (row column : ℕ) → setting_at self.now row column ≡ value) }
+        ensures value { result ≡ shared self.now }
+        ensures everywhere { IfSome result (λ value. (row column : ℕ) → setting_at self.now row column ≡ value) }
     {
         if self.changes.is_empty() {
             Some(self.whole)

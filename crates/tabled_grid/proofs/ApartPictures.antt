@@ -34,7 +34,7 @@ use Rattle.std.specs.Str.{IsUtf8}
 use Rattle.tabled_text.specs.Measure.{line_columns}
 use Rattle.tabled_text.specs.Plain.{IsPlainColumn}
 use Rattle.tabled_base.specs.Cells.{IsRectangular, cell_at, columns}
-use Rattle.tabled_config.specs.declared.borders.HorizontalLine.{HorizontalLine}
+use Rattle.tabled_border.specs.declared.borders.HorizontalLine.{HorizontalLine}
 use Rattle.tabled_config.specs.Settings.{frame, rule_at}
 use Rattle.tabled_row.specs.Apart.{HoldsTexts, IsApartRow, line_total}
 use Rattle.tabled_row.specs.Fill.{fill}

@@ -9,8 +9,8 @@ use Rattle.tabled_text.proofs.Bridge.{line_columns-le}
 use Rattle.tabled_text.proofs.PlainLines.{plain_line-append, plain_line-as, plain_line-each, plain_column-space}
 use Rattle.tabled_base.specs.Cells.{IsRectangular, cell_at, columns}
 use Rattle.tabled_config.specs.declared.spanned.CellStyle.{CellStyle}
-use Rattle.tabled_config.specs.declared.borders.HorizontalLine.{HorizontalLine}
-use Rattle.tabled_config.specs.Frame.{has_bar}
+use Rattle.tabled_border.specs.declared.borders.HorizontalLine.{HorizontalLine}
+use Rattle.tabled_border.specs.Frame.{has_bar}
 use Rattle.tabled_config.specs.Settings.{frame, style_at}
 use Rattle.tabled_size.specs.Sheet.{Sheet}
 use Rattle.tabled_priority.specs.Sums.{one_if, sum_below}

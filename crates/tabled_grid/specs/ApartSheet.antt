@@ -1,7 +1,7 @@
 -- Tables whose settings keep the texts of their cells apart, whatever these are.
 use Rattle.std.specs.Prelude.{◌≡◌, ℕ, ◌<◌, ◌≤◌, Some}
 use Rattle.tabled_text.specs.Plain.{IsPlainColumn}
-use Rattle.tabled_config.specs.declared.borders.HorizontalLine.{HorizontalLine}
+use Rattle.tabled_border.specs.declared.borders.HorizontalLine.{HorizontalLine}
 use Rattle.tabled_config.specs.declared.spanned.SpannedConfig.{SpannedConfig}
 use Rattle.tabled_config.specs.Settings.{frame, rule_at, style_at}
 use Rattle.tabled_row.specs.Apart.{AreApartCells, IsApartFrame}

@@ -3,7 +3,7 @@ ghost use Rattle.std.specs.Prelude.{◌≡◌, ◌↔◌, ◌<◌, ◌≤◌, �
 ghost use Rattle.tabled_text.specs.Plain.{IsPlainColumn};
 ghost use Rattle.tabled_apart.specs.Lines.{IsSeparatorColumn};
 ghost use Rattle.tabled_config.specs.Settings.{frame, rule_at, style_at};
-ghost use Rattle.tabled_config.specs.declared.borders.HorizontalLine.{HorizontalLine};
+ghost use Rattle.tabled_border.specs.declared.borders.HorizontalLine.{HorizontalLine};
 ghost use Rattle.tabled_row.specs.Apart.{AreApartCells, ArePaddedLeft, HasGaps, HasSteadyBars, IsApartFrame, IsApartStyle};
 ghost use Rattle.tabled_row.specs.Plain.{IsPlainRule};
 ghost use Rattle.tabled_grid.specs.ApartSheet.{IsApartConfig};

@@ -1,8 +1,8 @@
 -- Lines with a margin around them.
 use Rattle.std.proofs.Common.{◌≡◌, ℕ, List, [], ◌∷◌, ◌++◌, map, replicate, refl, sym, ◌∙◌, ap, append_assoc}
 use Rattle.std.specs.List.{range_with_len}
-use Rattle.tabled_config.specs.declared.sides.Indent.{Indent}
-use Rattle.tabled_config.specs.declared.sides.Sides.{Sides}
+use Rattle.tabled_border.specs.declared.sides.Indent.{Indent}
+use Rattle.tabled_border.specs.declared.sides.Sides.{Sides}
 use Rattle.tabled_row.specs.Fill.{fill}
 use Rattle.tabled_pool.specs.Drawn.{Plan, drawn, drawn_line}
 use Rattle.tabled_pool.specs.Margins.{within_margin, with_margin}

@@ -31,11 +31,11 @@ use Rattle.std.proofs.Common.{
   ⊎_elim,
   ◌⊎◌,
 }
-use Rattle.tabled_config.specs.declared.borders.Borders.{Borders}
+use Rattle.tabled_border.specs.declared.borders.Borders.{Borders}
 use Rattle.tabled_text.specs.Plain.{IsPlain, IsPlainLine, IsPlainColumn}
 use Rattle.tabled_row.specs.Plain.{IsPlainPiece, IsPlainStyle}
 use Rattle.tabled_text.proofs.PlainLines.{plain_column-space}
-use Rattle.tabled_config.specs.Frame.{has_right}
+use Rattle.tabled_border.specs.Frame.{has_right}
 use Rattle.tabled_pool.specs.Frames.{has_bottom}
 use Rattle.tabled_pool.proofs.PlainBlocks.{plain-pool_block}
 use Rattle.tabled_boxes.specs.declared.gaps.Gaps.{Gaps}

@@ -1,9 +1,9 @@
 -- Pool tables as plans.
 use Rattle.std.proofs.Common.{◌≡◌, ℕ, ◌+◌, ◌≤◌, List, refl, sym, arith}
 use Rattle.std.specs.List.{join_with_byte}
-use Rattle.tabled_config.specs.declared.borders.Borders.{Borders}
-use Rattle.tabled_config.specs.declared.sides.Indent.{Indent}
-use Rattle.tabled_config.specs.declared.sides.Sides.{Sides}
+use Rattle.tabled_border.specs.declared.borders.Borders.{Borders}
+use Rattle.tabled_border.specs.declared.sides.Indent.{Indent}
+use Rattle.tabled_border.specs.declared.sides.Sides.{Sides}
 use Rattle.tabled_config.specs.declared.spanned.CellStyle.{CellStyle}
 use Rattle.tabled_row.specs.Plain.{EachLineTakes}
 use Rattle.tabled_boxes.specs.Boxes.{Part, box_of}

@@ -28,14 +28,14 @@ use Rattle.std.specs.Prelude.{
   encode_utf8,
 }
 use Rattle.std.specs.List.{range_with_len, flat_map, slice_index_or}
-use Rattle.tabled_config.specs.declared.borders.Borders.{Borders}
+use Rattle.tabled_border.specs.declared.borders.Borders.{Borders}
 use Rattle.tabled_config.specs.declared.spanned.CellStyle.{CellStyle}
 use Rattle.tabled_pool.specs.Block.{pool_block}
 use Rattle.tabled_boxes.specs.declared.pieces.Rectangle.{Rectangle}
 use Rattle.tabled_boxes.specs.declared.pieces.Kind.{Kind}
 use Rattle.tabled_boxes.specs.declared.pieces.Kind.TheVariants.{Leaf, Bar, Rule}
 use Rattle.tabled_boxes.specs.Boxes.{Part}
-use Rattle.tabled_config.specs.Frame.{has_right}
+use Rattle.tabled_border.specs.Frame.{has_right}
 use Rattle.tabled_pool.specs.Frames.{has_bottom}
 use Rattle.tabled_pool.specs.Owner.{owner, is_border, is_border_before, is_border_above}
 

@@ -1,7 +1,7 @@
 -- Lines with a margin around them.
 use Rattle.std.specs.Prelude.{ℕ, List, ◌++◌, map, replicate}
-use Rattle.tabled_config.specs.declared.sides.Indent.{Indent}
-use Rattle.tabled_config.specs.declared.sides.Sides.{Sides}
+use Rattle.tabled_border.specs.declared.sides.Indent.{Indent}
+use Rattle.tabled_border.specs.declared.sides.Sides.{Sides}
 use Rattle.tabled_row.specs.Fill.{fill, indent}
 
 -- a line between the side margins

@@ -1,7 +1,7 @@
 -- New pool tables.
 use Rattle.std.specs.Prelude.{◌≡◌, ℕ}
 use Rattle.tabled_config.specs.declared.compact_multiline.CompactMultilineConfig.{CompactMultilineConfig}
-use Rattle.tabled_config.specs.declared.sides.Indent.{Indent}
+use Rattle.tabled_border.specs.declared.sides.Indent.{Indent}
 use Rattle.tabled_config.specs.Compact.{IsPlainMultiline, no_indent}
 use Rattle.tabled_config.specs.Styles.{ascii}
 use Rattle.tabled_size.specs.declared.pool_table_dimension.DimensionPriority.TheVariants.{List as Each}

@@ -1,7 +1,7 @@
 -- Trees of plain texts under plain borders.
 use Rattle.std.specs.Prelude.{◌≡◌, ℕ, Option, Some}
 use Rattle.tabled_text.specs.Plain.{IsPlain}
-use Rattle.tabled_config.specs.declared.borders.Borders.{Borders}
+use Rattle.tabled_border.specs.declared.borders.Borders.{Borders}
 use Rattle.tabled_row.specs.Plain.{IsPlainPiece, IsPlainStyle}
 use Rattle.tabled_boxes.specs.declared.gaps.Gaps.{Gaps}
 use Rattle.tabled_boxes.specs.declared.pieces.Kind.TheVariants.{Leaf}

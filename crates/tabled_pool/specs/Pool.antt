@@ -5,13 +5,13 @@ use Rattle.tabled_base.specs.declared.error.TableError.{TableError}
 use Rattle.tabled_base.specs.declared.error.TableError.TheVariants.{Memory, Range}
 use Rattle.tabled_text.specs.Plain.{IsPlain, IsPlainColumn}
 use Rattle.tabled_priority.specs.Sums.{one_if}
-use Rattle.tabled_config.specs.declared.borders.Borders.{Borders}
+use Rattle.tabled_border.specs.declared.borders.Borders.{Borders}
 use Rattle.tabled_config.specs.declared.compact_multiline.CompactMultilineConfig.{CompactMultilineConfig}
-use Rattle.tabled_config.specs.declared.sides.Indent.{Indent}
-use Rattle.tabled_config.specs.declared.sides.Sides.{Sides}
+use Rattle.tabled_border.specs.declared.sides.Indent.{Indent}
+use Rattle.tabled_border.specs.declared.sides.Sides.{Sides}
 use Rattle.tabled_config.specs.declared.spanned.CellStyle.{CellStyle}
 use Rattle.tabled_config.specs.Compact.{each_side, no_indent}
-use Rattle.tabled_config.specs.Frame.{has_left, has_right}
+use Rattle.tabled_border.specs.Frame.{has_left, has_right}
 use Rattle.tabled_row.specs.Plain.{IsPlainStyle}
 use Rattle.tabled_row.specs.Sent.{Sent, Sends, Stops}
 use Rattle.tabled_boxes.specs.declared.gaps.Gaps.{Gaps}

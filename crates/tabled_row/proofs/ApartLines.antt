@@ -33,9 +33,9 @@ use Rattle.tabled_apart.proofs.Ends.{
 }
 use Rattle.tabled_config.specs.declared.alignment.AlignmentHorizontal.{AlignmentHorizontal}
 use Rattle.tabled_config.specs.declared.alignment.AlignmentHorizontal.TheVariants as horizontal
-use Rattle.tabled_config.specs.declared.frame.Frame.{Frame}
+use Rattle.tabled_border.specs.declared.frame.Frame.{Frame}
 use Rattle.tabled_config.specs.declared.spanned.CellStyle.{CellStyle}
-use Rattle.tabled_config.specs.Frame.{has_bar}
+use Rattle.tabled_border.specs.Frame.{has_bar}
 use Rattle.tabled_priority.specs.Sums.{one_if, sum_below}
 use Rattle.tabled_row.specs.Apart.{ArePaddedLeft, HoldsTexts, IsApartRow, IsApartStyle, line_total}
 use Rattle.tabled_row.specs.Block.{before_text, text_room, columns_before, cell_line, block, fill_above}

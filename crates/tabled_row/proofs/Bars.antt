@@ -1,8 +1,8 @@
 -- The columns of the vertical lines between columns.
 use Rattle.std.proofs.Common.{◌≡◌, ℕ, zero, suc, ◌+◌, ◌-◌, ◌*◌, ◌==◌, Bool, false, cond, ap, arith}
 use Rattle.std.proofs.lemmas.Bool.Decides.{nat_tests}
-use Rattle.tabled_config.specs.declared.frame.Frame.{Frame}
-use Rattle.tabled_config.specs.Frame.{has_bar}
+use Rattle.tabled_border.specs.declared.frame.Frame.{Frame}
+use Rattle.tabled_border.specs.Frame.{has_bar}
 use Rattle.tabled_priority.specs.Sums.{one_if, sum_below}
 
 pub later-bar : (n : ℕ) (b : Bool) → cond (suc n == 0) false b ≡ b

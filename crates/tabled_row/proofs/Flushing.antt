@@ -8,9 +8,9 @@ use Rattle.tabled_text.specs.Measure.{line_columns, lines_of}
 use Rattle.tabled_text.proofs.Bridge.{some_line}
 use Rattle.tabled_config.specs.declared.alignment.AlignmentVertical.{AlignmentVertical}
 use Rattle.tabled_config.specs.declared.alignment.AlignmentVertical.TheVariants as vertical
-use Rattle.tabled_config.specs.declared.frame.VerticalLine.{VerticalLine}
+use Rattle.tabled_border.specs.declared.frame.VerticalLine.{VerticalLine}
 use Rattle.tabled_config.specs.declared.spanned.CellStyle.{CellStyle}
-use Rattle.tabled_config.specs.Frame.{has_bar}
+use Rattle.tabled_border.specs.Frame.{has_bar}
 use Rattle.tabled_row.specs.Block.{above_text, block, cell_line, fill_above, text_room}
 use Rattle.tabled_row.specs.Fill.{fill}
 use Rattle.tabled_row.specs.Flush.{IsFlush, first_line, flush_cells, flush_step, opening}

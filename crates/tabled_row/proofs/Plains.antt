@@ -3,9 +3,9 @@ use Rattle.std.proofs.Common.{◌≡◌, ℕ, zero, suc, ◌+◌, ◌-◌, ◌*�
 use Rattle.std.specs.List.{flat_map, range_with_len}
 use Rattle.tabled_text.specs.Plain.{IsPlainColumn, IsPlainLine}
 use Rattle.tabled_text.proofs.PlainLines.{plain_line-nil, plain_line-append, plain_line-as, plain_line-one}
-use Rattle.tabled_config.specs.declared.borders.HorizontalLine.{HorizontalLine}
-use Rattle.tabled_config.specs.declared.frame.Frame.{Frame}
-use Rattle.tabled_config.specs.Frame.{has_bar}
+use Rattle.tabled_border.specs.declared.borders.HorizontalLine.{HorizontalLine}
+use Rattle.tabled_border.specs.declared.frame.Frame.{Frame}
+use Rattle.tabled_border.specs.Frame.{has_bar}
 use Rattle.tabled_priority.specs.Sums.{one_if, sum_below}
 use Rattle.tabled_row.specs.Apart.{line_total}
 use Rattle.tabled_row.specs.Fill.{fill}

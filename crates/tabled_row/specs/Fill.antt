@@ -1,6 +1,6 @@
 -- Runs of one character.
 use Rattle.std.specs.Prelude.{ℕ, zero, suc, List, [], ◌++◌, encode_utf8}
-use Rattle.tabled_config.specs.declared.sides.Indent.{Indent}
+use Rattle.tabled_border.specs.declared.sides.Indent.{Indent}
 
 -- the character c, n times
 abbrev pub fill : ℕ → ℕ → List ℕ

@@ -3,9 +3,9 @@ use Rattle.std.specs.Prelude.{◌≡◌, ℕ, ◌+◌, ◌-◌, nat_lt, if◌the
 use Rattle.std.specs.List.{flat_map, range_with_len, slice_index_or}
 use Rattle.tabled_text.specs.Measure.{line_columns, lines_of}
 use Rattle.tabled_config.specs.declared.alignment.AlignmentHorizontal.TheVariants as horizontal
-use Rattle.tabled_config.specs.declared.frame.VerticalLine.{VerticalLine}
+use Rattle.tabled_border.specs.declared.frame.VerticalLine.{VerticalLine}
 use Rattle.tabled_config.specs.declared.spanned.CellStyle.{CellStyle}
-use Rattle.tabled_config.specs.Frame.{has_bar}
+use Rattle.tabled_border.specs.Frame.{has_bar}
 use Rattle.tabled_row.specs.Block.{text_room}
 use Rattle.tabled_row.specs.Fill.{fill}
 use Rattle.tabled_row.specs.Row.{ColumnSheet, RowSheet, piece}

@@ -1,6 +1,6 @@
 -- A horizontal line that is kept.
 use Rattle.std.specs.Prelude.{◌≡◌, true, Some, take}
-use Rattle.tabled_config.specs.declared.borders.HorizontalLine.{HorizontalLine}
+use Rattle.tabled_border.specs.declared.borders.HorizontalLine.{HorizontalLine}
 use Rattle.tabled_row.specs.declared.kept.KeptLine.{KeptLine}
 use Rattle.tabled_row.specs.Row.{ColumnSheet, rule_line}
 

@@ -1,7 +1,7 @@
 -- Totals of widths that are read as 0 past the end of their list.
 use Rattle.std.proofs.Common.{◌≡◌, ℕ, ◌+◌, ◌-◌, ◌*◌, ◌<◌, ◌≤◌, List, length, Option, Some, refl, sym, ap, arith}
 use Rattle.std.specs.List.{slice_index}
-use Rattle.tabled_config.specs.Frame.{has_left, has_right, has_inner}
+use Rattle.tabled_border.specs.Frame.{has_left, has_right, has_inner}
 use Rattle.tabled_config.specs.declared.spanned.SpannedConfig.{SpannedConfig}
 use Rattle.tabled_priority.specs.Permitted.{at}
 use Rattle.tabled_size.specs.Reached.{reached}

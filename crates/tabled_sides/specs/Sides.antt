@@ -1,7 +1,7 @@
 -- Margins and paddings of spaces, and of other characters.
 use Rattle.std.specs.Prelude.{ℕ}
-use Rattle.tabled_config.specs.declared.sides.Indent.{Indent}
-use Rattle.tabled_config.specs.declared.sides.Sides.{Sides}
+use Rattle.tabled_border.specs.declared.sides.Indent.{Indent}
+use Rattle.tabled_border.specs.declared.sides.Sides.{Sides}
 
 -- so many columns and lines of spaces, one number for each side
 abbrev pub spaced : ℕ → ℕ → ℕ → ℕ → Sides Indent

@@ -14,6 +14,7 @@ pub mod OwnBreaking
 pub mod PlainLemmas
 pub mod PlainLines
 pub mod StayLemmas
+pub mod Tables
 pub mod WordLemmas
 pub mod WrapKept
 pub mod WrapRoom

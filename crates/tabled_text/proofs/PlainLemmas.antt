@@ -36,7 +36,6 @@ use Rattle.std.proofs.lemmas.List.Sums.{sum_by-cons}
 use Rattle.unicode_width.specs.declared.kind.Kind.{Kind}
 use Rattle.ucd_bidi.specs.declared.JoiningGroup.TheVariants.{NoJoiningGroup}
 use Rattle.std.specs.Int.{is_in_range}
-use Rattle.ucd_table.specs.Rows.{Range, Row, in_ranges, value_in}
 use Rattle.ucd_emoji.specs.Binary.{is_emoji_presentation, is_emoji_modifier}
 use Rattle.ucd_emoji.specs.Ranges.{emoji_presentation_ranges, emoji_modifier_ranges}
 use Rattle.ucd_props.specs.Binary.{is_regional_indicator}
@@ -59,34 +58,7 @@ use Rattle.unicode_width.specs.Width.{str_width}
 use Rattle.unicode_width.proofs.Rules.{is_simple, is_simple_kind, str_width-simple}
 use Rattle.tabled_text.specs.Plain.{is_listed, has_plain_width, is_plain_character}
 use Rattle.tabled_text.specs.Measure.{char_columns, columns_of, char_count, count_of}
-
--- no range has a member from low to high
-abbrev misses : ℕ → ℕ → List Range → Bool
-misses low high [] = true
-misses low high (r ∷ rs) = (nat_lt high r.0 || nat_lt r.1 low) && misses low high rs
-
-outside : (a b low high c : ℕ) → (nat_lt high a || nat_lt b low) ≡ true → low ≤ c → c ≤ high → (nat_le a c && nat_le c b) ≡ false
-outside a b low high c h l u = grind (arith, nat_tests)
-
-in_ranges-missed : (low high : ℕ) (rs : List Range) → misses low high rs ≡ true → (c : ℕ) → low ≤ c → c ≤ high → in_ranges rs c ≡ false
-unfolding in_ranges
-in_ranges-missed low high [] h c l u = refl
-in_ranges-missed low high (r ∷ rs) h c l u =
-    let parts = and_parts (nat_lt high r.0 || nat_lt r.1 low) (misses low high rs) h in
-    ap (λ t. t || in_ranges rs c) (outside r.0 r.1 low high c parts.0 l u) ∙ in_ranges-missed low high rs parts.1 c l u
-
--- no row has a member from low to high
-abbrev misses_rows : {V : Type 0} → ℕ → ℕ → List (Row V) → Bool
-misses_rows low high [] = true
-misses_rows low high (r ∷ rs) = (nat_lt high r.0 || nat_lt r.1 low) && misses_rows low high rs
-
-value_in-missed : {V : Type 0} (d : V) (low high : ℕ) (rs : List (Row V)) → misses_rows low high rs ≡ true → (c : ℕ)
-    → low ≤ c → c ≤ high → value_in d rs c ≡ d
-unfolding value_in
-value_in-missed d low high [] h c l u = refl
-value_in-missed d low high (r ∷ rs) h c l u =
-    let parts = and_parts (nat_lt high r.0 || nat_lt r.1 low) (misses_rows low high rs) h in
-    ap (λ t. cond t r.2 (value_in d rs c)) (outside r.0 r.1 low high c parts.0 l u) ∙ value_in-missed d low high rs parts.1 c l u
+use Rattle.tabled_text.proofs.Tables.{in_ranges-missed, misses, misses_rows, value_in-missed}
 
 is_simple_kind-by_width : (a b c : Bool) → is_simple_kind (by_width a b c) ≡ true
 is_simple_kind-by_width true b c = refl

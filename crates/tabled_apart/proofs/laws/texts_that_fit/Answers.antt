@@ -1,10 +1,11 @@
-use Rattle.tabled_apart.proofs.FittingLaws.{fits-cut, fits-suffix, fits-wrapped, fits-joined, fits-none, fits-filled}
+use Rattle.tabled_apart.proofs.FittingLaws.{fits-cut, fits-followed, fits-suffix, fits-wrapped, fits-joined, fits-none, fits-filled}
 use Rattle.tabled_apart.proofs.laws.texts_that_fit.Goals as goal
 
 pub returns : goal.returns
 returns g = record {
   cut = fits-cut;
   suffix = fits-suffix;
+  followed = fits-followed;
   wrapped = fits-wrapped;
   joined = fits-joined;
   none = fits-none;

@@ -1,6 +1,6 @@
 //! What stands around and between the cells of any line of a table.
 ghost use Rattle.std.specs.Prelude.{◌≡◌};
-ghost use Rattle.tabled_config.specs.Frame.{frame_of, has_bar, vertical_line};
+ghost use Rattle.tabled_border.specs.Frame.{frame_of, has_bar, vertical_line};
 
 use crate::borders::Borders;
 use crate::sides::{Indent, Sides};
@@ -40,7 +40,7 @@ pub struct Frame {
 
 impl Frame {
     /// The frame of borders in a margin.
-    pub(crate) fn new(borders: &Borders<char>, margin: Sides<Indent>) -> Frame
+    pub fn new(borders: &Borders<char>, margin: Sides<Indent>) -> Frame
         ensures { result ≡ frame_of borders.now margin }
     {
         Frame {

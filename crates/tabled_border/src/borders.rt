@@ -50,7 +50,7 @@ pub struct HorizontalLine {
 }
 
 impl HorizontalLine {
-    ghost use Rattle.tabled_config.specs.Frame.{if_any};
+    ghost use Rattle.tabled_border.specs.Frame.{if_any};
 
     /// The line, if any of its characters is there.
     fn if_any(self) -> Option<HorizontalLine>
@@ -65,7 +65,7 @@ impl HorizontalLine {
 }
 
 impl<T> Borders<T> {
-    ghost use Rattle.tabled_config.specs.Frame.{no_borders};
+    ghost use Rattle.tabled_border.specs.Frame.{no_borders};
 
     /// No line at all.
     pub fn empty() -> Borders<T>
@@ -92,7 +92,7 @@ impl<T> Borders<T> {
 }
 
 impl Borders<char> {
-    ghost use Rattle.tabled_config.specs.Frame.{border_at, has_inner, has_left, has_right};
+    ghost use Rattle.tabled_border.specs.Frame.{border_at, has_inner, has_left, has_right};
 
     /// Whether the left vertical line is there: any of its characters is.
     pub fn has_left(&self) -> bool

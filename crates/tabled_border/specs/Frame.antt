@@ -1,11 +1,11 @@
 -- Which lines of a frame are there, and their characters.
 use Rattle.std.specs.Prelude.{ℕ, ◌==◌, if◌then◌else◌, Bool, false, ◌||◌, Option, Some, None, is_some, unwrap_or}
-use Rattle.tabled_config.specs.declared.borders.Borders.{Borders}
-use Rattle.tabled_config.specs.declared.borders.HorizontalLine.{HorizontalLine}
-use Rattle.tabled_config.specs.declared.frame.Frame.{Frame}
-use Rattle.tabled_config.specs.declared.frame.VerticalLine.{VerticalLine}
-use Rattle.tabled_config.specs.declared.sides.Indent.{Indent}
-use Rattle.tabled_config.specs.declared.sides.Sides.{Sides}
+use Rattle.tabled_border.specs.declared.borders.Borders.{Borders}
+use Rattle.tabled_border.specs.declared.borders.HorizontalLine.{HorizontalLine}
+use Rattle.tabled_border.specs.declared.frame.Frame.{Frame}
+use Rattle.tabled_border.specs.declared.frame.VerticalLine.{VerticalLine}
+use Rattle.tabled_border.specs.declared.sides.Indent.{Indent}
+use Rattle.tabled_border.specs.declared.sides.Sides.{Sides}
 
 -- no line at all
 abbrev pub no_borders : {T : Type 0} → Borders T

@@ -1,6 +1,6 @@
 //! The horizontal lines that were set by their index.
 ghost use Rattle.std.specs.Prelude.{◌≡◌, ◌==◌, ℕ, if◌then◌else◌, IfOk, OnErr, OnOk, [], Some};
-ghost use Rattle.tabled_config.specs.Lines.{line_set, with_line};
+ghost use Rattle.tabled_border.specs.Lines.{line_set, with_line};
 
 use crate::borders::HorizontalLine;
 use std::alloc::{AllocError, Global};
@@ -15,7 +15,7 @@ pub struct Lines {
 
 impl Model for Lines {
     ghost use Rattle.std.specs.Prelude.{ℕ, List};
-    ghost use Rattle.tabled_config.specs.declared.borders.HorizontalLine.{HorizontalLine};
+    ghost use Rattle.tabled_border.specs.declared.borders.HorizontalLine.{HorizontalLine};
 
     ghost Value = { List (ℕ × HorizontalLine) };
 
@@ -71,7 +71,7 @@ impl PartialEq for Lines {
     ghost use Rattle.std.specs.Prelude.{◌&&◌, nat_eq};
     ghost use Rattle.std.specs.Cmp.{and_per, nat_eq_equiv, on_per, partial_equiv_from_equiv};
     ghost use Rattle.std.specs.Cmp.Lexicographic.{lists_per, pointwise};
-    ghost use Rattle.tabled_config.specs.contracts.borders.HorizontalLinePartialEq.TheImpl.Laws.{laws-law as line_per};
+    ghost use Rattle.tabled_border.specs.contracts.borders.HorizontalLinePartialEq.TheImpl.Laws.{laws-law as line_per};
 
     ghost eq = { λ a b. pointwise (λ p q. nat_eq p.0 q.0 && ⟦<HorizontalLine as PartialEq>⟧.eq p.1 q.1) a b };
 
@@ -86,7 +86,7 @@ impl PartialEq for Lines {
 impl Eq for Lines {
     ghost use Rattle.std.specs.Cmp.{and_equiv, nat_eq_equiv, on_equiv};
     ghost use Rattle.std.specs.Cmp.Lexicographic.{lists_equiv};
-    ghost use Rattle.tabled_config.specs.contracts.borders.HorizontalLineEq.TheImpl.Laws.{laws-law as line_eq};
+    ghost use Rattle.tabled_border.specs.contracts.borders.HorizontalLineEq.TheImpl.Laws.{laws-law as line_eq};
 
     ghost laws = { lists_equiv (and_equiv (on_equiv (λ p. p.0) nat_eq_equiv)
         (on_equiv (λ p. p.1) line_eq)) };

@@ -1,7 +1,7 @@
 use Rattle.std.proofs.Common.{◌==◌, ◌∙◌, ap, cond, Some}
 use Rattle.std.specs.Cmp.{unsigned_tied}
-use Rattle.tabled_config.specs.Lines.{line_set}
-use Rattle.tabled_config.proofs.lines.Lines.insert.Goals as goal
+use Rattle.tabled_border.specs.Lines.{line_set}
+use Rattle.tabled_border.proofs.lines.Lines.insert.Goals as goal
 
 pub returns-clause-latest : goal.returns-clause-latest
 returns-clause-latest c =
