@@ -1,9 +1,10 @@
 -- Rows whose cells stand in one list.
-use Rattle.std.proofs.Common.{◌≡◌, ℕ, ◌<◌, ◌≤◌, List, [], ◌∷◌, ◌++◌, length, map, take, drop, get_or, append_assoc, refl, sym, ap, ◌∙◌, arith, All}
-use Rattle.std.proofs.Math.Seq.{drop-append_seam, take-length}
-use Rattle.std.proofs.lemmas.List.{drop-append-le, length-drop, length-take, take-append-le}
+use Rattle.std.proofs.Common.{◌≡◌, ℕ, ◌+◌, ◌-◌, ◌<◌, ◌≤◌, List, [], ◌∷◌, ◌++◌, length, map, take, drop, replicate, get_or, refl, sym, ap, ◌∙◌, arith, All}
+use Rattle.std.proofs.Math.Seq.{take-length}
+use Rattle.std.proofs.lemmas.List.{drop-append-le, get_or-drop, get_or-map, get_or-take, get_or_append_left, length-drop, length-take, take-append-le}
 use Rattle.std.proofs.lemmas.List.Elements.{All-head, All-tail, All-cons, All-nil, All-append, All-map}
 use Rattle.std.proofs.lemmas.Simd.{map-map}
+use Rattle.tabled_text.specs.Measure.{greatest}
 use Rattle.tabled_base.specs.Cells.{columns, IsRectangular, lengthened}
 use Rattle.tabled_base.specs.LentRows.{ArePlaced, IsPlaced, part, spread}
 use Rattle.tabled_base.specs.TextRows.{cells_of}
@@ -16,40 +17,58 @@ length-part cells span n h =
     omega (arith, length-take span.count (drop span.start cells), length-drop span.start cells)
 
 -- further cells leave a row that is there
-part-append : (cells more : List (List ℕ)) (span : RowRange) (n : ℕ) → IsPlaced (length cells) n span → part (cells ++ more) span ≡ part cells span
-part-append cells more span n h =
-    let inside = h.inside in
+part-append : (cells more : List (List ℕ)) (span : RowRange) → span.start + span.count ≤ length cells → part (cells ++ more) span ≡ part cells span
+part-append cells more span inside =
     ap (take span.count) (drop-append-le span.start cells more (omega arith))
     ∙ take-append-le span.count (drop span.start cells) more (omega (arith, length-drop span.start cells))
 
--- the row of the cells that come
-part-new : (cells more : List (List ℕ)) (span : RowRange) → span.start ≡ length cells → span.count ≡ length more → part (cells ++ more) span ≡ more
-part-new cells more span s e =
-    rw (s, e)
-    (ap (take (length more)) (drop-append_seam cells more) ∙ take-length more)
+-- the row whose cells are all from one on
+pub part-last : (cells : List (List ℕ)) (span : RowRange) → span.start + span.count ≡ length cells → part cells span ≡ drop span.start cells
+part-last cells span e =
+    let rest = drop span.start cells in
+    let count : span.count ≡ length rest = omega (arith, length-drop span.start cells) in
+    ap (λ n. take n rest) count ∙ take-length rest
 
-parts-append : (cells more : List (List ℕ)) (n : ℕ) (rows : List RowRange) → ArePlaced (length cells) n rows
+-- all rows' cells are there
+abbrev pub AreInside : ℕ → List RowRange → Type 0
+AreInside count rows = All (λ row. row.start + row.count ≤ count) rows
+
+pub parts-append : (cells more : List (List ℕ)) (rows : List RowRange) → AreInside (length cells) rows
     → map (part (cells ++ more)) rows ≡ map (part cells) rows
-parts-append cells more n [] h = refl
-parts-append cells more n (span ∷ rows) h =
-    ap (λ r. r ∷ map (part (cells ++ more)) rows) (part-append cells more span n (All-head (IsPlaced (length cells) n) span rows h))
-    ∙ ap (λ rs. part cells span ∷ rs) (parts-append cells more n rows (All-tail (IsPlaced (length cells) n) span rows h))
+parts-append cells more [] h = refl
+parts-append cells more (span ∷ rows) h =
+    let own = All-head (λ row. row.start + row.count ≤ length cells) span rows h in
+    ap (λ r. r ∷ map (part (cells ++ more)) rows) (part-append cells more span own)
+    ∙ ap (λ rs. part cells span ∷ rs) (parts-append cells more rows (All-tail (λ row. row.start + row.count ≤ length cells) span rows h))
 
--- a row comes
-pub parts-more : (cells more : List (List ℕ)) (n : ℕ) (rows : List RowRange) (span : RowRange)
-    → ArePlaced (length cells) n rows → span.start ≡ length cells → span.count ≡ length more
-    → map (part (cells ++ more)) (rows ++ span ∷ []) ≡ map (part cells) rows ++ more ∷ []
-parts-more cells more n [] span h s e = ap (λ r. r ∷ []) (part-new cells more span s e)
-parts-more cells more n (row ∷ rows) span h s e =
-    ap (λ r. r ∷ map (part (cells ++ more)) (rows ++ span ∷ [])) (part-append cells more row n (All-head (IsPlaced (length cells) n) row rows h))
-    ∙ ap (λ rs. part cells row ∷ rs) (parts-more cells more n rows span (All-tail (IsPlaced (length cells) n) row rows h) s e)
+pub inside-grown : (count count' : ℕ) (rows : List RowRange) → AreInside count rows → count ≤ count' → AreInside count' rows
+inside-grown count count' rows h c = λ k d l. let old = h k d l in omega arith
 
-pub placed-more : (count columns count' columns' : ℕ) (rows : List RowRange) (span : RowRange) → ArePlaced count columns rows
-    → count ≤ count' → columns ≤ columns' → IsPlaced count' columns' span → ArePlaced count' columns' (rows ++ span ∷ [])
-placed-more count columns count' columns' rows span h c n own =
-    All-append (IsPlaced count' columns') rows (span ∷ [])
-    (λ k d l. let old = h k d l in let inside = old.inside in let within = old.within in record { inside = omega arith; within = omega arith })
-    (All-cons (IsPlaced count' columns') span [] own (All-nil (IsPlaced count' columns')))
+pub inside-more : (count count' : ℕ) (rows : List RowRange) (span : RowRange) → AreInside count rows → count ≤ count'
+    → span.start + span.count ≤ count' → AreInside count' (rows ++ span ∷ [])
+inside-more count count' rows span h c own =
+    All-append (λ row. row.start + row.count ≤ count') rows (span ∷ []) (inside-grown count count' rows h c)
+    (All-cons (λ row. row.start + row.count ≤ count') span [] own (All-nil (λ row. row.start + row.count ≤ count')))
+
+-- the longest row has as many columns as are told
+pub placed-all : (count : ℕ) (rows : List RowRange) → AreInside count rows → ArePlaced count (greatest (map (λ row. row.count) rows)) rows
+placed-all count [] h = All-nil (IsPlaced count 0)
+placed-all count (span ∷ rows) h =
+    let n = greatest (map (λ row. row.count) (span ∷ rows)) in
+    All-cons (IsPlaced count n) span rows
+    (record { inside = All-head (λ row. row.start + row.count ≤ count) span rows h; within = omega arith })
+    (λ k d l. let own = placed-all count rows (All-tail (λ row. row.start + row.count ≤ count) span rows h) k d l in
+    let inside = own.inside in let within = own.within in record { inside = inside; within = omega arith })
+
+-- rows have as many cells as their parts
+pub counts-parts : (cells : List (List ℕ)) (rows : List RowRange) → AreInside (length cells) rows
+    → map (λ row. row.count) rows ≡ map length (map (part cells) rows)
+counts-parts cells [] h = refl
+counts-parts cells (span ∷ rows) h =
+    let inside = All-head (λ row. row.start + row.count ≤ length cells) span rows h in
+    let own : span.count ≡ length (part cells span) = omega (arith, length-take span.count (drop span.start cells), length-drop span.start cells) in
+    ap (λ n. n ∷ map (λ row. row.count) rows) own
+    ∙ ap (λ l. length (part cells span) ∷ l) (counts-parts cells rows (All-tail (λ row. row.start + row.count ≤ length cells) span rows h))
 
 -- each row is as long as there are columns
 long : (cells : List (List ℕ)) (n : ℕ) (rows : List RowRange) → ArePlaced (length cells) n rows → All (λ row. length row ≡ n) (spread cells n rows)
@@ -67,16 +86,19 @@ spread-columns cells n [] h some = absurd (omega arith)
 spread-columns cells n (span ∷ rows) h some = All-head
     (λ row. length row ≡ n) (lengthened n (part cells span)) (spread cells n rows) (long cells n (span ∷ rows) h)
 
--- the rows of the lines so far, and those of the lines that are left
-pub parts-step : (cells more all_cells : List (List ℕ)) (n : ℕ) (rows all_rows : List RowRange) (span : RowRange)
-    (rest whole : List (List (List ℕ))) → ArePlaced (length cells) n rows → span.start ≡ length cells → span.count
-    ≡ length more → all_cells ≡ cells ++ more → all_rows ≡ rows ++ span ∷ [] → map (part cells) rows ++ more ∷ rest
-    ≡ whole → map (part all_cells) all_rows ++ rest ≡ whole
-parts-step cells more all_cells n rows all_rows span rest whole h s e c r w =
-    rw (c, r)
-    (ap (λ l. l ++ rest) (parts-more cells more n rows span h s e) ∙ append_assoc (map (part cells) rows) (more ∷ []) rest ∙ w)
-
 -- all rows, lengthened
 pub spread-all : (cells : List (List ℕ)) (n : ℕ) (rows : List RowRange) (lines : List (List ℕ)) → map (part cells) rows
     ≡ map cells_of lines → spread cells n rows ≡ map (λ line. lengthened n (cells_of line)) lines
 spread-all cells n rows lines e = sym (map-map (lengthened n) (part cells) rows) ∙ ap (map (lengthened n)) e ∙ map-map (lengthened n) cells_of lines
+
+-- a cell that doesn't only lengthen its row
+pub cell-spread : (cells : List (List ℕ)) (n : ℕ) (rows : List RowRange) (row column : ℕ) (d : RowRange) → ArePlaced (length cells) n rows
+    → row < length rows → column < (get_or rows row d).count
+    → get_or cells ((get_or rows row d).start + column) [] ≡ get_or (get_or (spread cells n rows) row []) column []
+cell-spread cells n rows row column d h r c =
+    let span = get_or rows row d in
+    let size = length-part cells span n (h row d r) in
+    sym
+    (ap (λ cs. get_or cs column []) (get_or-map (λ span. lengthened n (part cells span)) rows row d [] r)
+    ∙ get_or_append_left (part cells span) (replicate (n - length (part cells span)) []) [] column (omega (arith, c, size))
+    ∙ get_or-take span.count (drop span.start cells) column [] c ∙ get_or-drop span.start cells column [])

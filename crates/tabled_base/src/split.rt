@@ -1,15 +1,17 @@
 //! The rows and cells of a text.
-ghost use Rattle.std.specs.Prelude.{◌≡◌, ◌++◌, IfErr, IfOk, map};
+ghost use Rattle.std.specs.Prelude.{◌≡◌, ◌≤◌, IfErr, IfOk, map};
+ghost use Rattle.std.specs.List.{slice_range};
+ghost use Rattle.std.specs.Str.{IsCharBoundary};
 ghost use Rattle.tabled_base.specs.Cells.{lengthened};
+ghost use Rattle.tabled_base.specs.LentRows.{HasNo, IsLent};
 ghost use Rattle.tabled_base.specs.TextRows.{cells_of, most_cells, text_rows, without_last_feed};
 ghost use Rattle.tabled_base.specs.declared.error.TableError.TheVariants.{Memory};
-ghost use Rattle.tabled_text.specs.Measure.{lines_of};
+ghost use Rattle.tabled_text.specs.Measure.{greatest, lines_of};
 
 use crate::error::TableError;
-use crate::lent_rows::{LentRows, RowRange};
-use crate::text::Text;
+use crate::lent_rows::{LentCell, LentRows, RowRange};
 use std::alloc::Global;
-use tabled_text::lines;
+use tabled_text::text_measures;
 
 /// The rows of a text by line feeds, with cells by tabs, short rows lengthened with empty cells. A last
 /// line feed ends the last row, and the empty text has no row. Every cell lends the text.
@@ -19,7 +21,7 @@ pub fn text_rows(alloc: Global, text: &str) -> Result<LentRows<'_>, TableError>
     ensures only { IfErr result (λ e. e ≡ Memory) }
 {
     if text.is_empty() {
-        return Ok(LentRows::new(Vec::new(alloc), Vec::new(alloc), 0));
+        return Ok(LentRows::new(text, Vec::new(alloc), Vec::new(alloc), 0));
     }
     split_rows(alloc, without_last_feed(text))
 }
@@ -42,26 +44,50 @@ fn split_rows(alloc: Global, text: &str) -> Result<LentRows<'_>, TableError>
         (lines_of text.now)) }
     ensures only { IfErr result (λ e. e ≡ Memory) }
 {
+    let bytes = text.as_bytes();
     let mut cells = Vec::new(alloc);
     let mut rows = Vec::new(alloc);
-    let mut columns: usize = 0;
-    for line in lines(text) {
-        let start = cells.len();
-        push_cells(&mut cells, line)?;
-        let count = cells.len() - start;
-        columns = columns.max(count);
-        rows.push(RowRange { start, count })?;
+    let mut start: usize = 0;
+    let mut first: usize = 0;
+    'bytes: for at in 0..bytes.len() {
+        let byte = bytes[at];
+        if byte != b'\t' && byte != b'\n' {
+            continue;
+        }
+        cells.push(measured(text, start, at))?;
+        start = at + 1;
+        if byte == b'\t' {
+            continue;
+        }
+        rows.push(RowRange::between(first, cells.len()))?;
+        first = cells.len();
     }
-    Ok(LentRows::new(cells, rows, columns))
+    cells.push(measured(text, start, bytes.len()))?;
+    rows.push(RowRange::between(first, cells.len()))?;
+    let columns = most_columns(rows.as_slice());
+    Ok(LentRows::new(text, cells, rows, columns))
 }
 
-/// Puts the cells of a line behind others.
-fn push_cells<'a>(cells: &mut Vec<Text<&'a str>>, line: &'a str) -> Result<(), TableError>
-    ensures ok { IfOk result (λ _. cells.new.items ≡ cells.old.items ++ cells_of line.now) }
-    ensures only { IfErr result (λ e. e ≡ Memory) }
+/// The cell that stands between two places of a text.
+fn measured(text: &str, start: usize, end: usize) -> LentCell
+    requires ordered { start ≤ end }
+    requires begins { IsCharBoundary text.now start }
+    requires ends { IsCharBoundary text.now end }
+    requires line { HasNo 10 (slice_range text.now start end) }
+    ensures lent { IsLent text.now start result }
+    ensures end { result.end ≡ end }
 {
-    for cell in line.split('\t') {
-        cells.push(Text::new(cell))?;
+    let (columns, _lines) = text_measures(&text[start..end]);
+    LentCell { end, columns }
+}
+
+/// How many cells the longest of some rows has.
+fn most_columns(rows: &[RowRange]) -> usize
+    ensures { result ≡ greatest (map (λ row. row.count) rows.now) }
+{
+    let mut most: usize = 0;
+    'rows: for row in rows {
+        most = most.max(row.count);
     }
-    Ok(())
+    most
 }
