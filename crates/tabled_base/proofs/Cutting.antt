@@ -1,15 +1,16 @@
 -- What holds while a text is cut into cells and rows.
-use Rattle.std.proofs.Common.{◌≡◌, ◌==◌, ℕ, ◌+◌, ◌-◌, ◌<◌, ◌≤◌, false, List, [], ◌∷◌, ◌++◌, length, map, take, drop, get_or, append_assoc, length-append, refl, sym, ap, subst, ◌∙◌, arith}
-use Rattle.std.specs.List.{slice_range}
+use Rattle.std.proofs.Common.{◌≡◌, ◌==◌, ◌&&◌, true, ℕ, ◌+◌, ◌-◌, ◌<◌, ◌≤◌, false, List, [], ◌∷◌, ◌++◌, length, map, take, drop, get_or, append_assoc, length-append, refl, sym, ap, subst, ◌∙◌, arith}
+use Rattle.std.specs.Int.{is_in_range}
+use Rattle.std.specs.List.{list_all, slice_range}
 use Rattle.std.specs.Str.{IsCharBoundary, IsUtf8}
 use Rattle.std.proofs.Math.Seq.{take-length}
 use Rattle.std.proofs.lemmas.Bool.Decides.{nat_tests}
 use Rattle.std.proofs.lemmas.List.{drop-append-le, drop_all, drop_more, length-drop, map-append}
 use Rattle.std.proofs.lemmas.Str.{IsCharBoundary-after_ascii, IsCharBoundary-start}
 use Rattle.std.proofs.lemmas.List.Edits.{between_more}
-use Rattle.std.proofs.lemmas.List.Folds.{drop_split}
+use Rattle.std.proofs.lemmas.List.Folds.{drop_split, list_all-append}
 use Rattle.std.proofs.lemmas.List.Elements.{All-append, All-cons, All-nil}
-use Rattle.tabled_base.specs.LentRows.{AreLent, HasNo, IsLent, behind, part, texts_from}
+use Rattle.tabled_base.specs.LentRows.{AreLent, HasNo, IsLent, IsPrintable, behind, part, texts_from}
 use Rattle.tabled_base.specs.declared.lent_rows.LentCell.{LentCell}
 use Rattle.tabled_base.specs.declared.lent_rows.RowRange.{RowRange}
 use Rattle.tabled_base.proofs.LentCells.{behind-more, length-texts, lent-more, texts-more}
@@ -192,3 +193,22 @@ within-none text at =
 pub within-end : (text bytes : List ℕ) (start at : ℕ) → at ≤ length bytes → length bytes ≤ at → IsWithin text start at
     → IsWithin text start (length bytes)
 within-end text bytes start at le end h = subst (IsWithin text start) (omega (arith, le, end)) h
+
+-- a printable byte ends no cell
+pub within-printable : (text : List ℕ) (start at : ℕ) → at < length text → IsWithin text start at → is_in_range 0x20 0x7E (get_or text at 0) ≡ true
+    → IsWithin text start (at + 1)
+within-printable text start at l h own =
+    within-more text start at l h (λ e. grind (arith, nat_tests, own, e)) (λ e. grind (arith, nat_tests, own, e))
+
+pub printable-more : (text : List ℕ) (start at : ℕ) → start ≤ at → at < length text → IsPrintable (slice_range text start at)
+    → is_in_range 0x20 0x7E (get_or text at 0) ≡ true → IsPrintable (slice_range text start (at + 1))
+printable-more text start at o l h own =
+    let one : list_all (is_in_range 0x20 0x7E) (get_or text at 0 ∷ []) ≡ true = ap (λ b. b && true) own in
+    ap (list_all (is_in_range 0x20 0x7E)) (between_more text start at 0 o l)
+    ∙ list_all-append (is_in_range 0x20 0x7E) (slice_range text start at) (get_or text at 0 ∷ [])
+    ∙ ap (λ b. b && list_all (is_in_range 0x20 0x7E) (get_or text at 0 ∷ [])) h ∙ one
+
+pub printable-none : (text : List ℕ) (at : ℕ) → IsPrintable (slice_range text at at)
+printable-none text at =
+    let zero : at - at ≡ 0 = omega arith in
+    ap (λ n. list_all (is_in_range 0x20 0x7E) (take n (drop at text))) zero

@@ -1,6 +1,7 @@
 -- Rows of a text. Its cells stand one after another, with a byte between them, and so do its rows.
-use Rattle.std.specs.Prelude.{◌≡◌, ◌==◌, ⊤, false, ℕ, zero, suc, ◌+◌, ◌≤◌, List, [], ◌∷◌, length, map, take, drop}
-use Rattle.std.specs.List.{All, slice_range}
+use Rattle.std.specs.Prelude.{◌≡◌, ◌==◌, ⊤, false, true, ℕ, zero, suc, ◌+◌, ◌≤◌, List, [], ◌∷◌, length, map, take, drop}
+use Rattle.std.specs.Int.{is_in_range}
+use Rattle.std.specs.List.{All, list_all, slice_range}
 use Rattle.std.specs.Str.{IsCharBoundary}
 use Rattle.tabled_text.specs.Measure.{lines_of, text_columns}
 use Rattle.tabled_base.specs.Cells.{lengthened}
@@ -10,6 +11,10 @@ use Rattle.tabled_base.specs.declared.lent_rows.RowRange.{RowRange}
 -- a byte stands nowhere in a text
 abbrev pub HasNo : ℕ → List ℕ → Type 0
 HasNo byte text = All (λ b. (b == byte) ≡ false) text
+
+-- a text is printable ASCII
+abbrev pub IsPrintable : List ℕ → Type 0
+IsPrintable text = list_all (is_in_range 0x20 0x7E) text ≡ true
 
 -- the texts of cells, the first of which begins at a place, each other one a byte behind the end of the one before
 abbrev pub texts_from : List ℕ → ℕ → List LentCell → List (List ℕ)

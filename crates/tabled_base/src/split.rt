@@ -1,9 +1,9 @@
 //! The rows and cells of a text.
-ghost use Rattle.std.specs.Prelude.{◌≡◌, ◌≤◌, IfErr, IfOk, map};
+ghost use Rattle.std.specs.Prelude.{◌≡◌, ◌≤◌, IfErr, IfOk, map, true};
 ghost use Rattle.std.specs.List.{slice_range};
 ghost use Rattle.std.specs.Str.{IsCharBoundary};
 ghost use Rattle.tabled_base.specs.Cells.{lengthened};
-ghost use Rattle.tabled_base.specs.LentRows.{HasNo, IsLent};
+ghost use Rattle.tabled_base.specs.LentRows.{HasNo, IsLent, IsPrintable};
 ghost use Rattle.tabled_base.specs.TextRows.{cells_of, most_cells, text_rows, without_last_feed};
 ghost use Rattle.tabled_base.specs.declared.error.TableError.TheVariants.{Memory};
 ghost use Rattle.tabled_text.specs.Measure.{greatest, lines_of};
@@ -11,7 +11,7 @@ ghost use Rattle.tabled_text.specs.Measure.{greatest, lines_of};
 use crate::error::TableError;
 use crate::lent_rows::{LentCell, LentRows, RowRange};
 use std::alloc::Global;
-use tabled_text::text_measures;
+use tabled_text::line_width;
 
 /// The rows of a text by line feeds, with cells by tabs, short rows lengthened with empty cells. A last
 /// line feed ends the last row, and the empty text has no row. Every cell lends the text.
@@ -49,35 +49,47 @@ fn split_rows(alloc: Global, text: &str) -> Result<LentRows<'_>, TableError>
     let mut rows = Vec::new(alloc);
     let mut start: usize = 0;
     let mut first: usize = 0;
+    // Whether the cell is printable ASCII so far.
+    let mut printable = true;
     'bytes: for at in 0..bytes.len() {
         let byte = bytes[at];
-        if byte != b'\t' && byte != b'\n' {
+        if matches!(byte, b' '..=b'~') {
             continue;
         }
-        cells.push(measured(text, start, at))?;
+        if byte != b'\t' && byte != b'\n' {
+            printable = false;
+            continue;
+        }
+        cells.push(measured(text, start, at, printable))?;
         start = at + 1;
+        printable = true;
         if byte == b'\t' {
             continue;
         }
         rows.push(RowRange::between(first, cells.len()))?;
         first = cells.len();
     }
-    cells.push(measured(text, start, bytes.len()))?;
+    cells.push(measured(text, start, bytes.len(), printable))?;
     rows.push(RowRange::between(first, cells.len()))?;
     let columns = most_columns(rows.as_slice());
     Ok(LentRows::new(text, cells, rows, columns))
 }
 
-/// The cell that stands between two places of a text.
-fn measured(text: &str, start: usize, end: usize) -> LentCell
+/// The cell that stands between two places of a text. Printable ASCII takes as many columns as bytes.
+fn measured(text: &str, start: usize, end: usize, printable: bool) -> LentCell
     requires ordered { start ≤ end }
     requires begins { IsCharBoundary text.now start }
     requires ends { IsCharBoundary text.now end }
     requires line { HasNo 10 (slice_range text.now start end) }
+    requires printable { printable ≡ true → IsPrintable (slice_range text.now start end) }
     ensures lent { IsLent text.now start result }
     ensures end { result.end ≡ end }
 {
-    let (columns, _lines) = text_measures(&text[start..end]);
+    let columns = if printable {
+        end - start
+    } else {
+        line_width(&text[start..end])
+    };
     LentCell { end, columns }
 }
 

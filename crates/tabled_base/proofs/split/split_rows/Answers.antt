@@ -1,10 +1,12 @@
-use Rattle.std.proofs.Common.{◌≡◌, ◌+◌, ◌<◌, ◌++◌, [], ◌∷◌, length, map, get_or, sym, ap, subst, ◌∙◌, arith, length-append}
+use Rattle.std.proofs.Common.{◌≡◌, false, true, ◌+◌, ◌<◌, ◌++◌, [], ◌∷◌, length, map, get_or, sym, ap, subst, ◌∙◌, arith, length-append}
+use Rattle.std.specs.Int.{is_in_range}
+use Rattle.std.proofs.lemmas.Bool.Decides.{nat_tests}
 use Rattle.std.proofs.lemmas.Simd.{map-map}
 use Rattle.tabled_text.specs.Measure.{greatest, lines_of}
 use Rattle.tabled_base.specs.Cells.{lengthened}
 use Rattle.tabled_base.specs.LentRows.{ArePlaced, IsLent, part, texts_from}
 use Rattle.tabled_base.specs.TextRows.{cells_of, most_cells}
-use Rattle.tabled_base.proofs.Cutting.{IsWithin, cut-feed, cut-tab, cut-start, inside-next, rows-cut, within-end, within-more, within-none}
+use Rattle.tabled_base.proofs.Cutting.{IsWithin, cut-feed, cut-tab, cut-start, inside-next, printable-more, printable-none, rows-cut, within-end, within-more, within-none, within-printable}
 use Rattle.tabled_base.proofs.LentCells.{length-texts, lent-more}
 use Rattle.tabled_base.proofs.Spans.{AreInside, counts-parts, placed-all, spread-all}
 use Rattle.tabled_base.proofs.split.split_rows.Goals as goal
@@ -12,7 +14,7 @@ use Rattle.tabled_base.proofs.split.split_rows.Goals as goal
 pub bytes-init : goal.bytes-init
 bytes-init c =
     rw (c.new-cells.ensures.items, c.new-rows.ensures.items)
-    (record { cut = cut-start c.args.text.now c.utf8.text; within = within-none c.args.text.now 0 })
+    (record { cut = cut-start c.args.text.now c.utf8.text; within = within-none c.args.text.now 0; printable = λ _. printable-none c.args.text.now 0 })
 
 pub bytes-preserved-then-byte-ne10 : goal.bytes-preserved-then-byte-ne10
 bytes-preserved-then-byte-ne10 c =
@@ -22,6 +24,20 @@ bytes-preserved-then-byte-ne10 c =
       cut = was.cut;
       within = within-more c.args.text.now c.bytes.start c.bytes.at (subst (λ t. c.bytes.at < length t) same c.bytes-test.true) was.within
           (subst (λ t. get_or t c.bytes.at 0 ≡ 9 → ⊥) same c.if-byte-ne9.true) (subst (λ t. get_or t c.bytes.at 0 ≡ 10 → ⊥) same c.if-byte-ne10.true);
+      printable = λ e. absurd (let f : false ≡ true = e in cc);
+    }
+
+pub bytes-preserved-then-matches : goal.bytes-preserved-then-matches
+bytes-preserved-then-matches c =
+    let was = c.bytes.invariant in
+    let text = c.args.text.now in
+    let same = c.as_bytes-bytes.ensures.value in
+    let inside : c.bytes.at < length text = subst (λ t. c.bytes.at < length t) same c.bytes-test.true in
+    let own : is_in_range 0x20 0x7E (get_or text c.bytes.at 0) ≡ true = subst (λ t. is_in_range 0x20 0x7E (get_or t c.bytes.at 0) ≡ true) same (grind (arith, nat_tests, c.if-matches.true)) in
+    record {
+      cut = was.cut;
+      within = within-printable text c.bytes.start c.bytes.at inside was.within own;
+      printable = λ e. printable-more text c.bytes.start c.bytes.at was.within.ordered inside (was.printable e) own;
     }
 
 pub measured-requires-clause-ordered : goal.measured-requires-clause-ordered
@@ -59,6 +75,7 @@ bytes-preserved-then-byte-eq9 c =
           (cut-tab text c.bytes.cells.items c.bytes.rows.items c.bytes.start c.bytes.first c.bytes.at c.measured.result c.utf8.text was.cut
           was.within inside tab c.measured.ensures.lent c.measured.ensures.end);
       within = within-none text (c.bytes.at + 1);
+      printable = λ _. printable-none text (c.bytes.at + 1);
     }
 
 pub between-requires : goal.between-requires
@@ -85,6 +102,7 @@ bytes-preserved c =
           (cut-feed text c.bytes.cells.items c.bytes.rows.items c.bytes.start c.bytes.first c.bytes.at c.measured.result c.between.result
           c.utf8.text was.cut was.within inside feed c.measured.ensures.lent c.measured.ensures.end c.between.ensures.start end);
       within = within-none text (c.bytes.at + 1);
+      printable = λ _. printable-none text (c.bytes.at + 1);
     }
 
 pub between-requires-2 : goal.between-requires-2
