@@ -1,5 +1,6 @@
 pub mod Bare
 pub mod ChangingCells
+pub mod CopiedFeeds
 pub mod Endings
 pub mod JoinedLines
 pub mod Staying

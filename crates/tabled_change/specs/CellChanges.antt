@@ -1,5 +1,5 @@
 -- Cells of which some are changed, and the others stay.
-use Rattle.std.specs.Prelude.{◌≡◌, ◌⊎◌, ℕ, Bool, true, ◌&&◌, ◌||◌, ◌==◌, nat_lt, List, [], MatchBool, Option, Some, None, length, slice_index_or}
+use Rattle.std.specs.Prelude.{◌≡◌, ◌⊎◌, ℕ, Bool, true, not, ◌&&◌, ◌||◌, ◌==◌, nat_lt, List, [], MatchBool, Option, Some, None, length, slice_index_or}
 use Rattle.tabled_base.specs.Cells.{IsInside, cell_at}
 use Rattle.tabled_base.specs.declared.error.TableError.{TableError}
 use Rattle.tabled_base.specs.declared.error.TableError.TheVariants.{Memory}
@@ -12,7 +12,7 @@ use Rattle.tabled_change.specs.declared.order.Order.{Order}
 use Rattle.tabled_change.specs.declared.order.Order.TheVariants.{ByColumn, ByRow}
 use Rattle.tabled_change.specs.declared.suffix.SuffixLimit.{SuffixLimit}
 use Rattle.tabled_change.specs.declared.which.Which.{Which}
-use Rattle.tabled_change.specs.declared.which.Which.TheVariants.{Every, Higher, Lower, Narrower, Wider}
+use Rattle.tabled_change.specs.declared.which.Which.TheVariants.{Every, Higher, Lower, Narrower, NotAsWide, Wider}
 
 -- ---- one text
 
@@ -24,11 +24,12 @@ wrapping words room before after = IsWrapped room words before after
 abbrev pub truncating : List ℕ → SuffixLimit → Bool → ℕ → List ℕ → List ℕ → Type 0
 truncating suffix limit multiline room before after = IsTruncated room suffix limit multiline before after
 
--- whether a text is changed for a room: any text, or one of more or fewer columns, or of more or fewer lines
+-- whether a text is changed for a room: any text, one of more or fewer columns or of either, or of more or fewer lines
 abbrev pub is_taken : Which → ℕ → List ℕ → Bool
 is_taken Every room text = true
 is_taken Wider room text = nat_lt room (text_columns text)
 is_taken Narrower room text = nat_lt (text_columns text) room
+is_taken NotAsWide room text = not (text_columns text == room)
 is_taken Higher room text = nat_lt room (length (lines_of text))
 is_taken Lower room text = nat_lt (length (lines_of text)) room
 

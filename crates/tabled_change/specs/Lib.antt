@@ -1,5 +1,7 @@
 pub mod CellChanges
+pub mod Justified
 pub mod LongestLines
 pub mod PlainEnding
+pub mod TextLines
 pub mod Truncated
 pub mod Walking

@@ -2,7 +2,10 @@
 #![tactic(auto)]
 
 mod changing;
+mod filling;
+mod justifying;
 pub mod laws;
+mod line_counts;
 mod order;
 mod rooms;
 mod suffix;
@@ -12,6 +15,9 @@ mod which;
 mod wrapping;
 
 pub use changing::{Change, TextRule};
+pub use filling::Filling;
+pub use justifying::Justifying;
+pub use line_counts::{Lengthening, Limiting};
 pub use order::Order;
 pub use rooms::Rooms;
 pub use suffix::SuffixLimit;

@@ -14,6 +14,8 @@ pub enum Which {
     Wider,
     /// Cells of fewer columns.
     Narrower,
+    /// Cells of more or fewer columns.
+    NotAsWide,
     /// Cells of more lines.
     Higher,
     /// Cells of fewer lines.
@@ -30,6 +32,7 @@ impl Which {
             Which::Every => true,
             Which::Wider => room < records.get_width(at),
             Which::Narrower => records.get_width(at) < room,
+            Which::NotAsWide => records.get_width(at) != room,
             Which::Higher => room < records.count_lines(at),
             Which::Lower => records.count_lines(at) < room,
         }

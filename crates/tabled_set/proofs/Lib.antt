@@ -1,8 +1,5 @@
-pub mod ChangingColumns
-pub mod Emptied
-pub mod ExactTotals
-pub mod NarrowingTables
-pub mod PaddedTotals
+pub mod Justifying
 pub mod Picking
+pub mod PromisedSizes
 pub mod Promises
 pub mod Stopping

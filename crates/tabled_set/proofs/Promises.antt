@@ -17,16 +17,17 @@ use Rattle.tabled_size.specs.Entries.{clears_heights, clears_widths, unless_clea
 use Rattle.tabled_size.specs.Standing.{standing}
 use Rattle.tabled_size.specs.Stored.{heights_of, widths_of}
 use Rattle.tabled_size.specs.declared.complete_dimension.CompleteDimension.{CompleteDimension}
-use Rattle.tabled_set.specs.BestNarrowing.{HasLeastWidth, IsBestCut, text_room}
+use Rattle.tabled_resize.specs.BestNarrowing.{HasLeastWidth, IsBestCut, text_room}
 use Rattle.tabled_change.specs.CellChanges.{if_wider, truncating, wrapping}
-use Rattle.tabled_set.specs.ExactTotal.{HasExactTotal}
-use Rattle.tabled_set.specs.Narrowed.{IsNarrowed, Narrows}
+use Rattle.tabled_resize.specs.ExactTotal.{HasExactTotal}
+use Rattle.tabled_resize.specs.Narrowed.{IsNarrowed, Narrows}
 use Rattle.tabled_change.specs.PlainEnding.{IsPlainLimit}
-use Rattle.tabled_set.specs.Promised.{IsWiderThan, TakesFrom, TakesGreatest, TruncatesAsPromised, WrapsAsPromised}
+use Rattle.tabled_resize.specs.Priorities.{TakesFrom, TakesGreatest}
+use Rattle.tabled_set.specs.Promised.{IsWiderThan, TruncatesAsPromised, WrapsAsPromised}
 use Rattle.tabled_change.specs.Truncated.{IsTruncated}
 use Rattle.tabled_change.specs.declared.suffix.SuffixLimit.{SuffixLimit}
 use Rattle.tabled_change.proofs.Bare.{longest_lines, longest_truncated}
-use Rattle.tabled_set.proofs.ExactTotals.{FindsRoom, IsNarrowed-wider, KeepsPlain, changed_for_room, exact_total, leveled}
+use Rattle.tabled_resize.proofs.ExactTotals.{FindsRoom, IsNarrowed-wider, KeepsPlain, changed_for_room, exact_total, leveled}
 use Rattle.tabled_change.proofs.Staying.{StaysWithin-truncated}
 use Rattle.tabled_change.proofs.TruncatedTexts.{fits-if_wider}
 

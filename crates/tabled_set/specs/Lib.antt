@@ -1,9 +1,4 @@
-pub mod BestNarrowing
-pub mod ColumnChanges
-pub mod ExactTotal
 pub mod Extremes
+pub mod InTurn
 pub mod Lists
-pub mod Minimums
-pub mod Narrowed
 pub mod Promised
-pub mod Shrinking

@@ -1,27 +1,17 @@
 -- What options that narrow a table promise of it, by the priority and the texts.
-use Rattle.std.specs.Prelude.{◌≡◌, ◌<◌, ℕ, Bool, List, []}
-use Rattle.tabled_set.specs.BestNarrowing.{HasLeastWidth, IsBestCut, IsBestWrapped}
-use Rattle.tabled_set.specs.ExactTotal.{HasEstimatedWidths, HasExactTotal}
+use Rattle.std.specs.Prelude.{◌≡◌, ◌<◌, ℕ, Bool, List, [], false, length, max, sum}
+use Rattle.tabled_resize.specs.BestNarrowing.{HasLeastWidth, IsBestCut, IsBestWrapped}
+use Rattle.tabled_resize.specs.ExactTotal.{HasEstimatedWidths, HasExactTotal}
 use Rattle.tabled_change.specs.PlainEnding.{IsPlainLimit}
 use Rattle.tabled_change.specs.declared.suffix.SuffixLimit.{SuffixLimit}
-use Rattle.tabled_priority.specs.Permitted.{IsTakenFrom}
-use Rattle.tabled_size.specs.Sheet.{Sheet}
+use Rattle.tabled_config.specs.declared.spanned.SpannedConfig.{SpannedConfig}
+use Rattle.tabled_resize.specs.HeightFrame.{frame_height}
+use Rattle.tabled_resize.specs.Priorities.{AddsTo, TakesFrom, TakesGreatest}
+use Rattle.tabled_size.specs.Holds.{Holds}
+use Rattle.tabled_size.specs.Sheet.{Sheet, estimated, is_empty}
 use Rattle.tabled_size.specs.TextCells.{AreTexts}
-use Rattle.tabled_priority.specs.Shrunk.{IsMaxShrunk}
-use Rattle.tabled_size.specs.Totals.{total_width}
+use Rattle.tabled_size.specs.Totals.{total_height, total_width}
 use Rattle.tabled_text.specs.Plain.{IsPlain}
-
--- ---- the priority: what it may make of a list in some state
-
--- a list that shrinks loses as much as is wanted, or as much as it can, as by the five
-abbrev pub TakesFrom : {P : Type 0} → (P → List ℕ → List ℕ → ℕ → List ℕ → P → Type 0) → P → Type 0
-TakesFrom {P} shrinks s = (last : P) (old mins new : List ℕ) (by : ℕ) → shrinks s old mins by new last → IsTakenFrom old mins by new
-
--- the greatest shrink first, of equals those on one side, as by `PriorityMax`
-abbrev pub TakesGreatest : {P : Type 0} → (P → List ℕ → List ℕ → ℕ → List ℕ → P → Type 0) → P → Type 0
-TakesGreatest {P} shrinks s = (last : P) (old mins new : List ℕ) (by : ℕ) → shrinks s old mins by new last → (right : Bool) × IsMaxShrunk right old mins by new
-
--- ---- the table
 
 -- widths that are estimated and take more than n in all
 pub record IsWiderThan (n : ℕ) (t : Sheet) : Type 0 where
@@ -40,3 +30,18 @@ pub record TruncatesAsPromised {P : Type 0} (shrinks : P → List ℕ → List �
   pub exact : TakesFrom shrinks s → IsPlain suffix → IsPlainLimit limit → IsWiderThan n old → AreTexts old.cells → HasExactTotal n old new
   pub best : TakesFrom shrinks s → suffix ≡ [] → IsWiderThan n old → IsBestCut multiline old new
   pub least : TakesGreatest shrinks s → IsWiderThan n old → HasLeastWidth old new
+
+-- widened to n: by a priority that adds all that is wanted, the total is n where a width isn't zero; whatever the
+-- priority is, a table that held its cells does
+pub record WidensAsPromised {P : Type 0} (grows : P → List ℕ → ℕ → List ℕ → P → Type 0) (s : P) (n : ℕ) (old new : Sheet) : Type 0 where
+  pub exact : AddsTo grows s → is_empty old.cells ≡ false → total_width old < n → 0 < sum old.widths → total_width new ≡ n
+  pub holds : Holds old → Holds new
+
+-- heightened to n, by a priority that adds all that is wanted: the total is n
+pub record HeightensAsPromised {P : Type 0} (grows : P → List ℕ → ℕ → List ℕ → P → Type 0) (s : P) (n : ℕ) (cells : List (List (List ℕ))) (config : SpannedConfig) (new : Sheet) : Type 0 where
+  pub exact : AddsTo grows s → is_empty cells ≡ false → total_height (estimated cells config) < n → total_height new ≡ n
+
+-- limited to n, by a priority that takes all it can: the total is n, or what the table takes without its rows where this
+-- is greater
+pub record LimitsAsPromised {P : Type 0} (shrinks : P → List ℕ → List ℕ → ℕ → List ℕ → P → Type 0) (s : P) (n : ℕ) (cells : List (List (List ℕ))) (config : SpannedConfig) (new : Sheet) : Type 0 where
+  pub exact : TakesFrom shrinks s → is_empty cells ≡ false → n < total_height (estimated cells config) → total_height new ≡ max n (frame_height config (length cells))

@@ -6,7 +6,11 @@ ghost use Rattle.tabled_base.specs.declared.error.TableError.TheVariants.{Memory
 ghost use Rattle.tabled_config.specs.declared.spanned.SpannedConfig.{SpannedConfig};
 ghost use Rattle.tabled_change.specs.declared.suffix.SuffixLimit.TheVariants.{Cut};
 
+use crate::cell_height_increase::CellHeightIncrease;
+use crate::cell_height_limit::CellHeightLimit;
 use crate::height_list::HeightList;
+use crate::justify::Justify;
+use crate::min_width::MinWidth;
 use crate::truncate::Truncate;
 use crate::width_list::WidthList;
 use crate::wrap::Wrap;
@@ -79,6 +83,22 @@ impl Width {
         Truncate::new(width)
     }
 
+    /// Increases to a measure, as `MinWidth::new` does.
+    pub fn increase<W: Measurement<Width>>(width: W) -> MinWidth<W>
+        ensures width { result.width ≡ width }
+        ensures fill { result.rule.fill ≡ 32 }
+        ensures priority { result.priority.kept ≡ 0 }
+    {
+        MinWidth::new(width)
+    }
+
+    /// Gives all cells the columns of a measure, as `Justify::new` does.
+    pub fn justify<W: Measurement<Width>>(width: W) -> Justify<W>
+        ensures { result.width ≡ width }
+    {
+        Justify::new(width)
+    }
+
     /// Stores the widths that an iterator gives, as `WidthList::from_iter` does. Refused with `Memory` alone.
     pub fn list<I: IntoIterator<Item = usize>>(
         alloc: Global,
@@ -94,6 +114,20 @@ impl Width {
 }
 
 impl Height {
+    /// Increases to a measure, as `CellHeightIncrease::new` does.
+    pub fn increase<W: Measurement<Height>>(height: W) -> CellHeightIncrease<W>
+        ensures { result.height ≡ height }
+    {
+        CellHeightIncrease::new(height)
+    }
+
+    /// Limits to a measure, as `CellHeightLimit::new` does.
+    pub fn limit<W: Measurement<Height>>(height: W) -> CellHeightLimit<W>
+        ensures { result.height ≡ height }
+    {
+        CellHeightLimit::new(height)
+    }
+
     /// Stores the heights that an iterator gives, as `HeightList::from_iter` does. Refused with `Memory` alone.
     pub fn list<I: IntoIterator<Item = usize>>(
         alloc: Global,

@@ -23,5 +23,5 @@ pub use fullest::is_fullest;
 pub use line::{TextLines, lines, split_line};
 pub use measure::{count_lines, line_width, text_measures, text_width};
 pub use plain::{is_plain, is_plain_column};
-pub use sink::copies;
+pub use sink::{copies, push_copies};
 pub use wrap::wrap_text;

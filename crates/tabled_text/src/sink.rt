@@ -50,11 +50,18 @@ pub(crate) fn put_copies<S: Sink>(out: &mut S, c: char, n: usize) -> Result<(), 
     Ok(())
 }
 
+/// Appends n copies of a character to a text. Refused for memory.
+pub fn push_copies(text: &mut String, c: char, n: usize) -> Result<(), AllocError>
+    ensures { OnOk result (string_bytes text.new ≡ string_bytes text.old ++ encode_utf8_all (replicate n c)) }
+{
+    put_copies(text, c, n)
+}
+
 /// A text of n copies of a character. Refused for memory.
 pub fn copies(alloc: Global, c: char, n: usize) -> Result<String, AllocError>
     ensures { IfOk result (λ answer. string_bytes answer ≡ encode_utf8_all (replicate n c)) }
 {
     let mut text = String::new(alloc);
-    put_copies(&mut text, c, n)?;
+    push_copies(&mut text, c, n)?;
     Ok(text)
 }

@@ -1,18 +1,18 @@
 //! Truncating the cells of whole tables.
 ghost use Rattle.std.specs.Prelude.{◌≡◌, None};
 ghost use Rattle.tabled_change.specs.CellChanges.{if_wider, truncating};
-ghost use Rattle.tabled_set.specs.Narrowed.{Narrows, NarrowingOutOfRange, StopsNarrowing};
+ghost use Rattle.tabled_resize.specs.Narrowed.{Narrows, NarrowingOutOfRange, StopsNarrowing};
 ghost use Rattle.tabled_set.specs.Promised.{TruncatesAsPromised};
 ghost use Rattle.tabled_size.specs.Cleared.{AreCleared};
 ghost use Rattle.tabled_size.specs.Standing.{standing};
 ghost use Rattle.tabled_size.specs.declared.complete_dimension.CompleteDimension.{CompleteDimension};
 
 use crate::measurement::{Measurement, Width};
-use crate::narrow_table::narrow_table;
 use crate::truncate::Truncate;
 use tabled_base::{Entity, RecordsMut, TableError, TableOption};
 use tabled_change::Which;
 use tabled_config::ColoredConfig;
+use tabled_resize::narrow_table;
 use tabled_size::{CompleteDimension, Peaker, is_empty};
 
 /// A table wider than the measure is narrowed to it: its columns shrink by the excess, and each cell that is wider

@@ -2,18 +2,18 @@
 ghost use Rattle.std.specs.Prelude.{◌≡◌, Some};
 ghost use Rattle.tabled_base.specs.declared.position.Entity.TheVariants.{Row};
 ghost use Rattle.tabled_change.specs.CellChanges.{wrapping};
-ghost use Rattle.tabled_set.specs.Narrowed.{Narrows, NarrowingOutOfRange, StopsNarrowing};
+ghost use Rattle.tabled_resize.specs.Narrowed.{Narrows, NarrowingOutOfRange, StopsNarrowing};
 ghost use Rattle.tabled_set.specs.Promised.{WrapsAsPromised};
 ghost use Rattle.tabled_size.specs.Cleared.{AreCleared};
 ghost use Rattle.tabled_size.specs.Standing.{standing};
 ghost use Rattle.tabled_size.specs.declared.complete_dimension.CompleteDimension.{CompleteDimension};
 
 use crate::measurement::{Measurement, Width};
-use crate::narrow_table::narrow_table;
 use crate::wrap::Wrap;
 use tabled_base::{Entity, RecordsMut, TableError, TableOption};
 use tabled_change::Which;
 use tabled_config::ColoredConfig;
+use tabled_resize::narrow_table;
 use tabled_size::{CompleteDimension, Peaker, is_empty};
 
 /// A table wider than the measure is narrowed to it: its columns shrink by the excess, and every cell is wrapped

@@ -2,7 +2,7 @@ use Rattle.std.proofs.Common.{◌≡◌, ℕ, IfErr, refl, rules, subst}
 use Rattle.std.proofs.lemmas.Result.{on_ok_weaker}
 use Rattle.tabled_config.specs.declared.spanned.SpannedConfig.{SpannedConfig}
 use Rattle.tabled_change.specs.CellChanges.{wrapping}
-use Rattle.tabled_set.specs.Narrowed.{Narrows, StopsNarrowing}
+use Rattle.tabled_resize.specs.Narrowed.{Narrows, StopsNarrowing}
 use Rattle.tabled_set.proofs.Promises.{wraps}
 use Rattle.tabled_set.proofs.Stopping.{stops-with}
 use Rattle.tabled_set.proofs.wrap.table.WrapTableOptionColoredConfigCompleteDimension.change.Goals as goal

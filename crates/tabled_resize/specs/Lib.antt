@@ -1,0 +1,11 @@
+pub mod BestNarrowing
+pub mod ColumnChanges
+pub mod ExactTotal
+pub mod Growing
+pub mod HeightFrame
+pub mod Increased
+pub mod Limited
+pub mod Minimums
+pub mod Narrowed
+pub mod Priorities
+pub mod Shrinking

@@ -1,0 +1,19 @@
+use Rattle.std.proofs.Common.{rules}
+use Rattle.std.proofs.lemmas.Result.{on_ok_weaker}
+use Rattle.tabled_resize.specs.Limited.{LimitsHeight}
+use Rattle.tabled_set.specs.InTurn.{first_in_turn, shrinks_in_turn}
+use Rattle.tabled_set.proofs.PromisedSizes.{limits}
+use Rattle.tabled_set.proofs.cell_height_limit.CellHeightLimitTableOptionColoredConfigCompleteDimension.change.Goals as goal
+
+pub returns-clause-promised : goal.returns-clause-promised
+returns-clause-promised g c =
+    let s = c.args.self in
+    let cells = g.R.ExactRecords.cells c.args.records.now in
+    let config = c.args.cfg.now.config in
+    let n = g.W.Measurement.measures s.height cells config in
+    let old = c.args.dims.now in
+    let new = c.limit_measured.new.dims in
+    let after = g.R.ExactRecords.cells c.limit_measured.new.records in
+    on_ok_weaker {P = LimitsHeight shrinks_in_turn first_in_turn n cells config old after new} c.limit_measured.result
+    (λ h left cleared. limits shrinks_in_turn first_in_turn n cells config old after new left h cleared)
+    (search rules)

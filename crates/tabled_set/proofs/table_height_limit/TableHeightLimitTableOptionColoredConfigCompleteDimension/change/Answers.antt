@@ -1,0 +1,18 @@
+use Rattle.std.proofs.Common.{rules}
+use Rattle.std.proofs.lemmas.Result.{on_ok_weaker}
+use Rattle.tabled_resize.specs.Limited.{LimitsHeight}
+use Rattle.tabled_set.proofs.PromisedSizes.{limits}
+use Rattle.tabled_set.proofs.table_height_limit.TableHeightLimitTableOptionColoredConfigCompleteDimension.change.Goals as goal
+
+pub returns-clause-promised : goal.returns-clause-promised
+returns-clause-promised g c =
+    let s = c.args.self in
+    let cells = g.R.ExactRecords.cells c.args.records.now in
+    let config = c.args.cfg.now.config in
+    let n = g.W.Measurement.measures s.height cells config in
+    let old = c.args.dims.now in
+    let new = c.limit_measured.new.dims in
+    let after = g.R.ExactRecords.cells c.limit_measured.new.records in
+    on_ok_weaker {P = LimitsHeight g.P.Peaker.shrinks s.priority n cells config old after new} c.limit_measured.result
+    (λ h left cleared. limits g.P.Peaker.shrinks s.priority n cells config old after new left h cleared)
+    (search rules)
