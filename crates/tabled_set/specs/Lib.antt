@@ -1,4 +1,5 @@
 pub mod Extremes
 pub mod InTurn
 pub mod Lists
+pub mod Percents
 pub mod Promised

@@ -1,3 +1,4 @@
+pub mod EstimatedTotals
 pub mod Greatest
 pub mod Passing
 pub mod Reaching

@@ -7,6 +7,13 @@ use Rattle.tabled_config.specs.Settings.{frame, rule_at}
 use Rattle.tabled_priority.specs.Sums.{one_if, sum_below}
 use Rattle.tabled_size.specs.Sheet.{Sheet, is_empty}
 
+-- around columns that take so much in all: the vertical lines that are there, and the margin on the left and right
+unfoldable pub framed_width : SpannedConfig → ℕ → ℕ → ℕ
+framed_width config columns inside =
+    let f = frame config in
+    (f.margin.left.size + one_if f.left.there)
+    + ((inside + (columns - 1) * one_if f.inner.there) + (one_if f.right.there + f.margin.right.size))
+
 -- of a table with some columns: their widths, the vertical lines that are there, and the margin on
 -- the left and right
 unfoldable pub filled_width : SpannedConfig → ℕ → List ℕ → ℕ
@@ -23,6 +30,11 @@ rules_at config rows i = one_if (is_some (rule_at config rows i))
 -- a row with the horizontal line above it
 unfoldable pub part_height : SpannedConfig → ℕ → List ℕ → ℕ → ℕ
 part_height config rows heights row = rules_at config rows row + slice_index heights row
+
+-- around rows that take so much in all with the lines above them: the last line, and the margin at the top and bottom
+unfoldable pub framed_height : SpannedConfig → ℕ → ℕ → ℕ
+framed_height config rows inside =
+    (frame config).margin.top.size + (inside + (rules_at config rows rows + (frame config).margin.bottom.size))
 
 -- of a table with some rows: their heights, the horizontal lines that are there, and the margin at
 -- the top and bottom

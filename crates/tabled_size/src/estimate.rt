@@ -10,7 +10,7 @@ use tabled_base::{PeekableRecords, Position, TableError};
 use tabled_config::SpannedConfig;
 
 /// The columns that a cell needs, if a number can say them.
-fn needed_width<R: PeekableRecords>(
+pub(crate) fn needed_width<R: PeekableRecords>(
     records: &R,
     config: &SpannedConfig,
     at: Position,
@@ -83,7 +83,11 @@ pub fn estimate_widths<R: PeekableRecords>(
 }
 
 /// The lines that the cells of a row need, if a number can say them.
-fn row_height<R: PeekableRecords>(records: &R, config: &SpannedConfig, row: usize) -> Option<usize>
+pub(crate) fn row_height<R: PeekableRecords>(
+    records: &R,
+    config: &SpannedConfig,
+    row: usize,
+) -> Option<usize>
     requires { row < length (R.cells records.now) }
     ensures { MatchOption result (IsTooHigh (R.cells records.now) config.now)
         (λ n. n ≡ row_height (R.cells records.now) config.now row) }

@@ -3,12 +3,12 @@ ghost use Rattle.std.specs.Prelude.{◌≡◌, ◌<◌, ◌≤◌, ◌^◌, Matc
 ghost use Rattle.std.specs.List.{slice_index};
 ghost use Rattle.tabled_size.specs.Reached.{reached};
 ghost use Rattle.tabled_priority.specs.Sums.{one_if, sum_below};
-ghost use Rattle.tabled_size.specs.Totals.{filled_height, filled_width, part_height, rules_at};
+ghost use Rattle.tabled_size.specs.Totals.{filled_height, filled_width, framed_height, framed_width, part_height, rules_at};
 
 use crate::dimension::Dimension;
 use tabled_config::SpannedConfig;
 
-fn one_if(there: bool) -> usize
+pub(crate) fn one_if(there: bool) -> usize
     ensures { result ≡ one_if there }
 {
     if there { 1 } else { 0 }
@@ -46,9 +46,25 @@ fn sum_widths<D: Dimension>(sizes: &D, columns: usize) -> Option<usize>
     Some(total)
 }
 
+/// The columns of a table with so many columns, at least one, that take so much in all: these, vertical lines and side
+/// margins. `None` where they pass the greatest `usize`.
+#[tactic(auto, unfolding(crate::specs::Totals::framed_width))]
+pub(crate) fn framed_width(config: &SpannedConfig, columns: usize, inside: usize) -> Option<usize>
+    ensures { let whole = framed_width config.now columns inside in
+        MatchOption result (2 ^ 64 ≤ whole) (λ n. n ≡ whole) }
+{
+    let frame = config.frame();
+    let margin = frame.margin;
+    let left = margin.left.size.checked_add(one_if(frame.left.there))?;
+    let right = one_if(frame.right.there).checked_add(margin.right.size)?;
+    let bars = columns.saturating_sub(1) * one_if(frame.inner.there);
+    let inside = inside.checked_add(bars)?;
+    left.checked_add(inside.checked_add(right)?)
+}
+
 /// The columns of a table with so many columns, at least one, whose widths are all there: the widths,
 /// vertical lines and side margins. `None` where they pass the greatest `usize`.
-#[tactic(auto, unfolding(crate::specs::Totals::filled_width))]
+#[tactic(auto, unfolding(crate::specs::Totals::filled_width, crate::specs::Totals::framed_width))]
 pub fn filled_width<D: Dimension>(
     config: &SpannedConfig,
     columns: usize,
@@ -58,13 +74,7 @@ pub fn filled_width<D: Dimension>(
     ensures { let whole = filled_width config.now columns (reached (D.width_at sizes.now) columns) in
         MatchOption result (2 ^ 64 ≤ whole) (λ n. n ≡ whole) }
 {
-    let frame = config.frame();
-    let margin = frame.margin;
-    let left = margin.left.size.checked_add(one_if(frame.left.there))?;
-    let right = one_if(frame.right.there).checked_add(margin.right.size)?;
-    let bars = columns.saturating_sub(1) * one_if(frame.inner.there);
-    let inside = sum_widths(sizes, columns)?.checked_add(bars)?;
-    left.checked_add(inside.checked_add(right)?)
+    framed_width(config, columns, sum_widths(sizes, columns)?)
 }
 
 #[tactic(auto, unfolding(crate::specs::Totals::part_height))]
@@ -96,16 +106,26 @@ fn sum_rows<D: Dimension>(config: &SpannedConfig, rows: usize, sizes: &D) -> Opt
     Some(total)
 }
 
+/// The lines of a table with so many rows, at least one, that take so much in all with the lines above them: these, the
+/// last line, top and bottom margin. `None` where they pass the greatest `usize`.
+#[tactic(auto, unfolding(crate::specs::Totals::framed_height))]
+pub(crate) fn framed_height(config: &SpannedConfig, rows: usize, inside: usize) -> Option<usize>
+    ensures { let whole = framed_height config.now rows inside in
+        MatchOption result (2 ^ 64 ≤ whole) (λ n. n ≡ whole) }
+{
+    let margin = config.frame().margin;
+    let last = one_if(config.rule_at(rows, rows).is_some());
+    let below = last.checked_add(margin.bottom.size)?;
+    margin.top.size.checked_add(inside.checked_add(below)?)
+}
+
 /// The lines of a table with so many rows, at least one, whose heights are all there: the heights,
 /// horizontal lines, top and bottom margin. `None` where they pass the greatest `usize`.
-#[tactic(auto, unfolding(crate::specs::Totals::filled_height))]
+#[tactic(auto, unfolding(crate::specs::Totals::filled_height, crate::specs::Totals::framed_height))]
 pub fn filled_height<D: Dimension>(config: &SpannedConfig, rows: usize, sizes: &D) -> Option<usize>
     requires { rows ≤ length (reached (D.height_at sizes.now) rows) }
     ensures { let whole = filled_height config.now rows (reached (D.height_at sizes.now) rows) in
         MatchOption result (2 ^ 64 ≤ whole) (λ n. n ≡ whole) }
 {
-    let last = one_if(config.rule_at(rows, rows).is_some());
-    let below = last.checked_add(config.margin.bottom.size)?;
-    let inside = sum_rows(config, rows, sizes)?.checked_add(below)?;
-    config.margin.top.size.checked_add(inside)
+    framed_height(config, rows, sum_rows(config, rows, sizes)?)
 }

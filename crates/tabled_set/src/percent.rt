@@ -1,0 +1,62 @@
+//! Measures that are a part of the whole table.
+ghost use Rattle.std.specs.Prelude.{◌≡◌, ◌<◌, ◌≤◌, ◌^◌, ◌*◌, IfErr, IfOk, OnOk};
+ghost use Rattle.tabled_base.specs.declared.error.TableError.TheVariants.{Range};
+ghost use Rattle.tabled_set.specs.Percents.{HasNoPercent, percent_of};
+ghost use Rattle.tabled_size.specs.Sheet.{estimated};
+ghost use Rattle.tabled_size.specs.Totals.{total_height, total_width};
+
+use crate::measurement::{Height, Measurement, Width};
+use tabled_base::{PeekableRecords, TableError};
+use tabled_config::SpannedConfig;
+use tabled_size::{estimated_total_height, estimated_total_width};
+
+/// So many hundredths of the whole table with estimated sizes, rounded down: of its columns or its lines, with borders
+/// and margins. Refused with `Range` where the total or its product with the number passes the greatest `usize`.
+#[derive(Debug, Drop)]
+pub struct Percent(pub usize);
+
+/// So many hundredths of a number. Refused with `Range` where the product passes the greatest `usize`.
+fn hundredths(whole: usize, percent: usize) -> Result<usize, TableError>
+    ensures ok { IfOk result (λ n. n ≡ percent_of percent whole) }
+    ensures fits { OnOk result (whole * percent < 2 ^ 64) }
+    ensures err { IfErr result (λ e. (e ≡ Range) × (2 ^ 64 ≤ whole * percent)) }
+{
+    match whole.checked_mul(percent) {
+        Some(product) => Ok(product / 100),
+        None => Err(TableError::Range),
+    }
+}
+
+impl Measurement<Width> for Percent {
+    ghost measures = { λ s cells config. percent_of s.0 (total_width (estimated cells config)) };
+
+    ghost out_of_range = { λ s cells config. HasNoPercent s.0 (total_width (estimated cells config)) };
+
+    fn measure<R: PeekableRecords>(
+        &self,
+        records: &R,
+        cfg: &SpannedConfig,
+    ) -> Result<usize, TableError> {
+        match estimated_total_width(records, cfg) {
+            Some(total) => hundredths(total, self.0),
+            None => Err(TableError::Range),
+        }
+    }
+}
+
+impl Measurement<Height> for Percent {
+    ghost measures = { λ s cells config. percent_of s.0 (total_height (estimated cells config)) };
+
+    ghost out_of_range = { λ s cells config. HasNoPercent s.0 (total_height (estimated cells config)) };
+
+    fn measure<R: PeekableRecords>(
+        &self,
+        records: &R,
+        cfg: &SpannedConfig,
+    ) -> Result<usize, TableError> {
+        match estimated_total_height(records, cfg) {
+            Some(total) => hundredths(total, self.0),
+            None => Err(TableError::Range),
+        }
+    }
+}

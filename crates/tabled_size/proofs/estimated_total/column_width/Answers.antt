@@ -1,0 +1,18 @@
+use Rattle.std.proofs.Common.{◌≡◌, ◌∙◌, ℕ, ap, arith, length}
+use Rattle.tabled_size.specs.Estimates.{column_width, needed_width}
+use Rattle.tabled_size.proofs.Greatest.{greatest_below, greatest_more}
+use Rattle.tabled_size.proofs.estimated_total.column_width.Goals as goal
+
+pub rows-preserved : goal.rows-preserved
+rows-preserved g c =
+    let f = λ (row : ℕ). needed_width (g.R.ExactRecords.cells c.args.records.now) c.args.config.now row c.args.column in
+    let e = greatest_more f c.rows.row in
+    omega (arith, e, c.rows.invariant, c.max-most.ensures, c.in_ok-width.ensures)
+
+pub returns : goal.returns
+unfolding column_width
+returns g c =
+    let cells = g.R.ExactRecords.cells c.args.records.now in
+    let f = λ (row : ℕ). needed_width cells c.args.config.now row c.args.column in
+    let e : c.rows.row ≡ length cells = omega (arith, c.count_rows-row-end.ensures) in
+    c.rows.invariant ∙ ap (greatest_below f) e
