@@ -1,13 +1,14 @@
 #!/usr/bin/env python3
 """Times programs that print tab-separated files as tables, in interleaved rounds.
 
-usage: compare.py [--rounds N] [--with NAME=COMMAND ..] PROGRAM FOLDER
+usage: compare.py [--rounds N] [--baseline PROGRAM] [--with NAME=COMMAND ..] PROGRAM FOLDER
 
 PROGRAM is the built `tabprint`, FOLDER holds the files of generate.py. Each program reads a file on
-standard input; its output goes to the null device. Printed are, for each file, the medians of the
-processor time (user and system) and of the peak memory, and both as multiples of PROGRAM's; then
-whether the bars hold: at least five times as fast as `column`, and at most the bytes of the input, 48
-bytes a cell and 16 MB of memory.
+standard input; its output goes to the null device. Printed are, for each file, the shortest and the
+median of the processor time (user and system) and the median of the peak memory, and the first and the
+last of them as multiples of the baseline's, a program written by hand for this one job, or of PROGRAM's
+where none is given; then whether the bars hold: at least five times as fast as `column`, at most the
+bytes of the input, 48 bytes a cell and 16 MB of memory, and the shares of the baseline below.
 """
 
 import argparse
@@ -17,21 +18,62 @@ import shlex
 import statistics
 import subprocess
 import sys
+import tempfile
 
 COLUMN = ["column", "-t", "-s", "\t"]
 
+# The shares of the baseline's processor time that PROGRAM may take, and that of its peak memory.
+TIMES = {"short": 0.60, "long": 0.75, "mixed": 0.80, "wide": 0.60}
+MEMORY = 0.60
 
-def measured(command, path):
+# Runs a program as a child of a small process, since a child's peak begins at that of its parent, and
+# writes the processor times in microseconds, the peak in KB, and the wait status.
+LAUNCHER = r"""
+#include <stdio.h>
+#include <sys/resource.h>
+#include <sys/wait.h>
+#include <unistd.h>
+
+static long micros(struct timeval time) { return time.tv_sec * 1000000L + time.tv_usec; }
+
+int main(int count, char **words) {
+    struct rusage usage;
+    int status;
+    pid_t child = fork();
+    (void)count;
+    if (child == 0) {
+        execvp(words[1], words + 1);
+        _exit(127);
+    }
+    wait4(child, &status, 0, &usage);
+    fprintf(stderr, "\n%ld %ld %d\n", micros(usage.ru_utime) + micros(usage.ru_stime), usage.ru_maxrss, status);
+    return 0;
+}
+"""
+
+
+def launcher(folder):
+    """Builds the small process in a folder."""
+    source, built = folder / "launch.c", folder / "launch"
+    source.write_text(LAUNCHER)
+    subprocess.run(["cc", "-O1", "-o", built, source], check=True)
+    return built
+
+
+def measured(launch, command, path):
     """The processor time in seconds, and the peak memory in bytes."""
-    with open(path, "rb") as source, open(os.devnull, "wb") as sink:
-        child = subprocess.Popen(
-            command, stdin=source, stdout=sink, env={**os.environ, "LC_ALL": "C.UTF-8"}
+    with open(path, "rb") as source:
+        run = subprocess.run(
+            [launch, *command],
+            stdin=source,
+            stdout=subprocess.DEVNULL,
+            stderr=subprocess.PIPE,
+            env={**os.environ, "LC_ALL": "C.UTF-8"},
         )
-        _, status, usage = os.wait4(child.pid, 0)
-    child.returncode = os.waitstatus_to_exitcode(status)
-    if child.returncode != 0:
-        sys.exit(f"{command[0]} ended with {child.returncode} on {path.name}")
-    return usage.ru_utime + usage.ru_stime, usage.ru_maxrss * 1024
+    time, peak, status = map(int, run.stderr.split()[-3:])
+    if status != 0:
+        sys.exit(f"{command[0]} ended with {os.waitstatus_to_exitcode(status)} on {path.name}")
+    return time / 1e6, peak * 1024
 
 
 def cells(path):
@@ -39,38 +81,66 @@ def cells(path):
     return data.count(b"\n") + data.count(b"\t")
 
 
-def compare(path, programs, rounds):
+def rounds_of(launch, path, programs, rounds):
+    """For each program the shortest and the median of the times, and the median of the peaks."""
     runs = {name: [] for name in programs}
     for _ in range(rounds):
         for name, command in programs.items():
-            runs[name].append(measured(command, path))
-    times = {name: statistics.median(t for t, _ in found) for name, found in runs.items()}
-    peaks = {name: statistics.median(p for _, p in found) for name, found in runs.items()}
-    size = path.stat().st_size
-    print(f"{path.name}: {size} bytes, {cells(path)} cells")
-    for name in programs:
-        print(
-            f"  {name:12} {times[name]:8.3f} s  x{times[name] / times['tabprint']:6.2f}"
-            f"  {peaks[name] / 1e6:8.1f} MB  x{peaks[name] / peaks['tabprint']:6.2f}"
+            runs[name].append(measured(launch, command, path))
+    return {
+        name: (
+            min(time for time, _ in found),
+            statistics.median(time for time, _ in found),
+            statistics.median(peak for _, peak in found),
         )
-    fast = times["column"] >= 5 * times["tabprint"]
-    small = peaks["tabprint"] <= size + 48 * cells(path) + 16_000_000
-    print(f"  five times as fast as column: {'yes' if fast else 'NO'}; memory: {'yes' if small else 'NO'}")
-    return fast and small
+        for name, found in runs.items()
+    }
+
+
+def holds(path, found):
+    """Whether the bars hold that the given programs allow to judge."""
+    shortest, median, peak = found["tabprint"]
+    answers = {
+        "five times as fast as column": found["column"][1] >= 5 * median,
+        "memory": peak <= path.stat().st_size + 48 * cells(path) + 16_000_000,
+    }
+    if "baseline" in found:
+        answers["time to the baseline"] = shortest <= TIMES.get(path.stem, 1) * found["baseline"][0]
+        answers["memory to the baseline"] = peak <= MEMORY * found["baseline"][2]
+    print("  " + "; ".join(f"{bar}: {'yes' if kept else 'NO'}" for bar, kept in answers.items()))
+    return all(answers.values())
+
+
+def compare(launch, path, programs, rounds):
+    found = rounds_of(launch, path, programs, rounds)
+    unit = found["baseline" if "baseline" in found else "tabprint"]
+    print(f"{path.name}: {path.stat().st_size} bytes, {cells(path)} cells")
+    for name, (shortest, median, peak) in found.items():
+        print(
+            f"  {name:12} {shortest * 1e3:8.1f} ms  x{shortest / unit[0]:6.2f}  median {median * 1e3:8.1f} ms"
+            f"  {peak / 1e6:8.1f} MB  x{peak / unit[2]:6.2f}"
+        )
+    return holds(path, found)
 
 
 def main():
     parser = argparse.ArgumentParser()
     parser.add_argument("--rounds", type=int, default=9)
+    parser.add_argument("--baseline")
     parser.add_argument("--with", action="append", default=[], dest="others")
     parser.add_argument("program")
     parser.add_argument("folder", type=pathlib.Path)
     asked = parser.parse_args()
     programs = {"tabprint": [asked.program], "column": COLUMN}
+    if asked.baseline:
+        programs["baseline"] = shlex.split(asked.baseline)
     for other in asked.others:
         name, _, command = other.partition("=")
         programs[name] = shlex.split(command)
-    held = [compare(path, programs, asked.rounds) for path in sorted(asked.folder.glob("*.tsv"))]
+    with tempfile.TemporaryDirectory() as folder:
+        launch = launcher(pathlib.Path(folder))
+        paths = sorted(asked.folder.glob("*.tsv"))
+        held = [compare(launch, path, programs, asked.rounds) for path in paths]
     sys.exit(0 if held and all(held) else 1)
 
 

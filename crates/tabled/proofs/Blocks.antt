@@ -4,6 +4,7 @@ use Rattle.std.proofs.Common.{
   ℕ,
   ◌+◌,
   ◌-◌,
+  ◌≤◌,
   List,
   [],
   ◌++◌,
@@ -22,7 +23,8 @@ use Rattle.std.proofs.Common.{
   arith,
 }
 use Rattle.std.specs.Io.KnownBytes.{Appends, Keeps, append_known}
-use Rattle.std.proofs.lemmas.List.{drop-drop, length-drop, take-append-drop, take_all}
+use Rattle.std.proofs.lemmas.List.{drop-append-le, drop-drop, length-drop, length-take-le, take-append-drop, take-take, take_all}
+use Rattle.std.proofs.Math.Seq.{take-append-add, take-append_seam}
 
 -- the writer took n bytes of what waited
 pub handed_over : (a b : Option (List ℕ)) (waiting : List ℕ) (n : ℕ) → Appends a b (take n waiting)
@@ -68,3 +70,18 @@ taken_more a b items buffer t n e h =
 -- a slice is its two parts
 pub two_parts : (n : ℕ) (rest front back : List ℕ) → front ≡ take n rest → back ≡ drop n rest → front ++ back ≡ rest
 two_parts n rest front back e f = ap (λ u. u ++ back) e ∙ ap (λ u. take n rest ++ u) f ∙ take-append-drop n rest
+
+-- bytes that were copied behind those that are used wait behind the others
+pub held_more : (taken used size : ℕ) (items place more copied rest tail : List ℕ) → taken ≤ used → used ≤ length place → used + length more ≤ size
+    → place ≡ items → copied ≡ more
+    → drop taken (take (used + length more) (take size ((take used place ++ (copied ++ rest)) ++ tail))) ≡ drop taken (take used items) ++ more
+held_more taken used size items place more copied rest tail t u v e f =
+    let front = take used place in
+    let long : length front ≡ used = length-take-le used place u in
+    let whole : take (used + length more) (front ++ (more ++ (rest ++ tail))) ≡ front ++ more =
+    ap (λ n. take (n + length more) (front ++ (more ++ (rest ++ tail)))) (sym long) ∙ take-append-add front (more ++ (rest ++ tail)) (length more)
+    ∙ ap (λ w. front ++ w) (take-append_seam more (rest ++ tail)) in
+    let same : (front ++ (copied ++ rest)) ++ tail ≡ front ++ (more ++ (rest ++ tail)) =
+    append_assoc front (copied ++ rest) tail ∙ ap (λ w. front ++ w) (append_assoc copied rest tail) ∙ ap (λ c. front ++ (c ++ (rest ++ tail))) f in
+    ap (drop taken) (take-take (used + length more) size ((front ++ (copied ++ rest)) ++ tail) v ∙ ap (take (used + length more)) same ∙ whole)
+    ∙ drop-append-le taken front more (omega (arith, long)) ∙ ap (λ p. drop taken (take used p) ++ more) e

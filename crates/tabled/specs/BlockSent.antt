@@ -1,5 +1,5 @@
 -- What a sink over a block of bytes was sent, and what its writer has of it.
-use Rattle.std.specs.Prelude.{◌≡◌, ℕ, ◌==◌, ◌&&◌, if◌then◌else◌, Bool, true, false, List, [], ◌∷◌, Option, Some, None, drop}
+use Rattle.std.specs.Prelude.{◌≡◌, ℕ, ◌==◌, ◌&&◌, if◌then◌else◌, Bool, true, false, List, [], ◌∷◌, Option, Some, None, drop, take}
 use Rattle.std.specs.Io.KnownBytes.{Appends, append_known}
 use Rattle.tabled_row.specs.Sent.{Sent}
 use Rattle.tabled.specs.declared.block_sink.BlockSink.{BlockSink}
@@ -7,7 +7,7 @@ use Rattle.tabled.specs.declared.held.Held.{Held}
 
 -- the bytes that still wait for a writer
 abbrev pub waiting : Held → List ℕ
-waiting held = drop held.taken held.bytes.items
+waiting held = drop held.taken (take held.used held.bytes.items)
 
 -- a block before a writer: the name of the reference to the writer, the bytes that the writer holds,
 -- those that still wait for it, and how often it failed

@@ -1,7 +1,7 @@
 //! A writer behind a block of bytes.
-ghost use Rattle.std.specs.Prelude.{◌≡◌, ◌<◌, ℕ, List, [], IfErr, OnOk, length};
+ghost use Rattle.std.specs.Prelude.{◌≡◌, ◌+◌, ◌<◌, ◌≤◌, ℕ, List, [], IfErr, OnOk, length};
 ghost use Rattle.tabled_base.specs.declared.error.TableError.TheVariants.{Writer};
-ghost use Rattle.tabled_row.specs.Sent.{Rose, Writes};
+ghost use Rattle.tabled_row.specs.Sent.{Rose, Sends, Writes};
 ghost use Rattle.tabled.specs.BlockSent.{Advances, Block, block, block_sent, sent_since, waiting};
 
 use crate::held::{BLOCK, Held};
@@ -50,7 +50,7 @@ impl<'a, W: Write> BlockSink<'a, W> {
             (block_sent (block W.contents self.new)) [] }
         ensures advanced { Advances (block W.contents self.old) (block W.contents self.new) }
         ensures emptied { OnOk result (waiting self.new.held.now ≡ []) }
-        ensures cleared { OnOk result (self.new.held.now.bytes.items ≡ []) }
+        ensures cleared { OnOk result (self.new.held.now.used ≡ 0) }
         ensures only { IfErr result (λ e. e ≡ Writer) }
     {
         if self.failures > 0 {
@@ -71,7 +71,7 @@ impl<'a, W: Write> BlockSink<'a, W> {
         ensures written { Writes (block_sent (block W.contents self.old)) result
             (block_sent (block W.contents self.new)) [] }
         ensures advanced { Advances (block W.contents self.old) (block W.contents self.new) }
-        ensures room { OnOk result (length self.new.held.now.bytes.items < BLOCK) }
+        ensures room { OnOk result (self.new.held.now.used < BLOCK) }
     {
         if self.held.len() < BLOCK {
             return Ok(());
@@ -79,15 +79,15 @@ impl<'a, W: Write> BlockSink<'a, W> {
         self.hand_over()
     }
 
-    /// Holds some bytes back.
+    /// Holds some bytes back, for which the block has to have room.
     #[inline]
-    fn hold(&mut self, bytes: &[u8]) -> Result<(), TableError>
-        ensures written { Writes (block_sent (block W.contents self.old)) result
+    fn hold(&mut self, bytes: &[u8])
+        requires room { self.old.held.now.used + length bytes.now ≤ BLOCK }
+        ensures written { Sends (block_sent (block W.contents self.old))
             (block_sent (block W.contents self.new)) bytes.now }
         ensures advanced { Advances (block W.contents self.old) (block W.contents self.new) }
     {
-        self.held.add(bytes)?;
-        Ok(())
+        self.held.add(bytes);
     }
 
     /// Holds any bytes back, and hands each block that is full to the writer.
@@ -102,7 +102,7 @@ impl<'a, W: Write> BlockSink<'a, W> {
             self.make_room()?;
             let room = BLOCK - self.held.len();
             let (front, back) = rest.split_at(room.min(rest.len()));
-            self.hold(front)?;
+            self.hold(front);
             rest = back;
         }
         Ok(())
@@ -140,7 +140,8 @@ impl<'a, W: Write> Blocked for BlockSink<'a, W> {
     #[inline]
     fn add_text(&mut self, text: &str) -> Result<(), TableError> {
         if self.held.len() + text.len() <= BLOCK {
-            return self.hold(text.as_bytes());
+            self.hold(text.as_bytes());
+            return Ok(());
         }
         self.hold_parts(text.as_bytes())
     }

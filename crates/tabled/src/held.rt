@@ -1,44 +1,61 @@
 //! Bytes that wait for a writer.
-ghost use Rattle.std.specs.Prelude.{◌≡◌, ◌≤◌, [], ◌++◌, IfOk, OnErr, OnOk, drop, length, vec_len};
+ghost use Rattle.std.specs.Prelude.{◌≡◌, ◌+◌, ◌≤◌, ◌^◌, [], ◌++◌, IfOk, drop, length, vec_len};
 
 use std::alloc::{AllocError, Global};
-use tabled_base::TableError;
 
 /// How many bytes are handed on at a time.
 pub(crate) const BLOCK: usize = 1 << 16;
 
-/// A block of bytes, of which a writer took some from the front.
+/// Copies bytes to a place of their length; a single one, the commonest, without a copy of a slice.
+#[inline]
+fn copy(to: &mut [u8], bytes: &[u8])
+    requires { length to.old ≡ length bytes.now }
+    ensures { to.new ≡ bytes.now }
+{
+    match bytes {
+        [byte] => to[0] = *byte,
+        _ => to.copy_from_slice(bytes),
+    }
+}
+
+/// A block of bytes: those that were put in it so far, of which a writer took some from the front.
 #[derive(Drop)]
 pub(crate) struct Held {
     bytes: Vec<u8>,
+    used: usize,
     taken: usize,
-    ghost within: { taken ≤ vec_len bytes },
+    ghost whole: { vec_len bytes ≡ 2 ^ 16 },
+    ghost within: { taken ≤ used },
+    ghost inside: { used ≤ 2 ^ 16 },
 }
 
 impl Held {
     ghost use Rattle.tabled.specs.BlockSent.{waiting};
-    ghost use Rattle.tabled_base.specs.declared.error.TableError.TheVariants.{Memory};
 
-    /// An empty one, with the memory of a block.
+    /// An empty one, in memory of its own.
     pub fn new(alloc: Global) -> Result<Held, AllocError>
         ensures { IfOk result (λ held. waiting held ≡ []) }
     {
-        let bytes = Vec::with_capacity(alloc, BLOCK)?;
-        Ok(Held { bytes, taken: 0 })
+        let bytes = vec![in alloc; 0u8; BLOCK]?;
+        Ok(Held {
+            bytes,
+            used: 0,
+            taken: 0,
+        })
     }
 
     /// How many bytes there are, with those that were taken.
     pub fn len(&self) -> usize
-        ensures { result ≡ length self.now.bytes.items }
+        ensures { result ≡ self.now.used }
     {
-        self.bytes.len()
+        self.used
     }
 
     /// The bytes that wait.
     pub fn rest(&self) -> &[u8]
         ensures { result.now ≡ waiting self.now }
     {
-        &self.bytes[self.taken..]
+        &self.bytes[self.taken..self.used]
     }
 
     /// Some of them were taken.
@@ -52,22 +69,20 @@ impl Held {
     /// All of them were taken.
     pub fn clear(&mut self)
         ensures waiting { waiting self.new ≡ [] }
-        ensures bytes { self.new.bytes.items ≡ [] }
+        ensures used { self.new.used ≡ 0 }
     {
         self.taken = 0;
-        self.bytes.clear();
+        self.used = 0;
     }
 
-    /// Puts bytes behind the others; a single one, the commonest, without a copy of a slice.
+    /// Puts bytes behind the others, for which there has to be room.
     #[inline]
-    pub fn add(&mut self, bytes: &[u8]) -> Result<(), AllocError>
-        ensures added { OnOk result (waiting self.new ≡ waiting self.old ++ bytes.now) }
-        ensures kept { OnErr result (waiting self.new ≡ waiting self.old) }
+    pub fn add(&mut self, bytes: &[u8])
+        requires room { self.old.used + length bytes.now ≤ BLOCK }
+        ensures added { waiting self.new ≡ waiting self.old ++ bytes.now }
     {
-        match bytes {
-            [byte] => self.bytes.push(*byte)?,
-            _ => self.bytes.extend_from_slice(bytes)?,
-        }
-        Ok(())
+        let end = self.used + bytes.len();
+        copy(&mut self.bytes[self.used..end], bytes);
+        self.used = end;
     }
 }

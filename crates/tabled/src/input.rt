@@ -5,6 +5,7 @@ ghost use Rattle.tabled.specs.declared.fault.Fault.TheVariants.{Usage};
 ghost use Rattle.tabled.specs.Runs.{HasRead};
 
 use crate::fault::Fault;
+use simdutf8::is_utf8;
 use std::alloc::Global;
 use std::io::Read;
 
@@ -42,8 +43,9 @@ pub(crate) fn read_text<I: Read>(alloc: Global, input: &mut I) -> Result<String,
     ensures read { IfErr result (λ fault. fault ≢ Usage) }
 {
     let bytes = read_all(alloc, input)?;
-    let Ok(text) = String::from_utf8(bytes) else {
+    if !is_utf8(&bytes) {
         return Err(Fault::Input);
-    };
-    Ok(text)
+    }
+    // In range: the bytes were tested just now.
+    Ok(unsafe { String::from_utf8_unchecked(bytes) })
 }

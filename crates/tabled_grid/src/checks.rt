@@ -147,7 +147,7 @@ fn check_stored_cells<R: PeekableRecords>(
     ensures err { IfErr result (IsNarrow (standing (R.cells records.now) config.now stored.now)) }
 {
     match stored.get_widths() {
-        Some(_) => check_narrow(&Grid::new(records, config, stored)),
+        Some(_) => check_narrow(&Grid::new(records, config, stored, None)),
         None => Ok(()),
     }
 }

@@ -7,6 +7,7 @@ ghost use Rattle.tabled_grid.specs.Grid.{sheet_by};
 ghost use Rattle.tabled_size.specs.Holds.{IsSized};
 ghost use Rattle.tabled_size.specs.Sheet.{Sheet};
 
+use std::alloc::Global;
 use std::marker::Model;
 use tabled_base::{PeekableRecords, Position};
 use tabled_config::{Frame, HorizontalLine, SpannedConfig};
@@ -22,6 +23,8 @@ pub(crate) struct Grid<'a, R: PeekableRecords, D: Dimension> {
     pub config: &'a SpannedConfig,
     /// The columns that each column takes and the lines that each row takes, padding included.
     pub dimension: &'a D,
+    /// What memory may be taken from while the table is printed, if it may.
+    pub memory: Option<Global>,
     around: Frame,
     shared: Option<SharedStyle>,
 }
@@ -38,7 +41,12 @@ impl<'a, R: PeekableRecords, D: Dimension> Model for Grid<'a, R, D> {
 
 impl<'a, R: PeekableRecords, D: Dimension> Grid<'a, R, D> {
     /// Records under settings, with the sizes that a dimension answers. Their frame is taken once.
-    pub fn new(records: &'a R, config: &'a SpannedConfig, dimension: &'a D) -> Grid<'a, R, D>
+    pub fn new(
+        records: &'a R,
+        config: &'a SpannedConfig,
+        dimension: &'a D,
+        memory: Option<Global>,
+    ) -> Grid<'a, R, D>
         ensures { result ≡ sheet_by (R.cells records.now) config.now (D.width_at dimension.now) (D.height_at dimension.now) }
     {
         let around = config.frame();
@@ -50,6 +58,7 @@ impl<'a, R: PeekableRecords, D: Dimension> Grid<'a, R, D> {
             records,
             config,
             dimension,
+            memory,
             around,
             shared,
         }

@@ -84,7 +84,7 @@ pub(crate) fn put_picture<'a, R: PeekableRecords, D: Dimension, S: TextSink>(
     ensures { Writes (S.sent sink.old) result (S.sent sink.new) (join_with_byte 10 (filled_picture grid.now whole)) }
 {
     let mut picture = Picture {
-        lines: Lines::new(GridColumns { grid }, marks),
+        lines: Lines::new(GridColumns { grid }, marks, grid.memory),
     };
     picture.put_lines(sink, whole)
 }

@@ -50,7 +50,7 @@ pub fn print_grid<R: PeekableRecords, D: Dimension, S: TextSink>(
     if is_empty(records) {
         return Ok(());
     }
-    let grid = Grid::new(records, config, dimension);
+    let grid = Grid::new(records, config, dimension, None);
     check_sizes(&grid)?;
     check_narrow(&grid)?;
     print_held(sink, &grid, Marks::new())

@@ -36,7 +36,7 @@ pub fn print_standing<R: PeekableRecords, S: TextSink>(
     }
     check_stored(records, config, stored)?;
     if stored.is_complete() {
-        let grid = Grid::new(records, config, stored);
+        let grid = Grid::new(records, config, stored, None);
         return print_held(sink, &grid, Marks::new());
     }
     print_copied(sink, records, config, stored)
@@ -73,8 +73,9 @@ fn print_filled_in<R: PeekableRecords, S: TextSink>(
         (S.sent sink.old) result (S.sent sink.new) }
 {
     sizes.estimate(records, config)?;
-    let marks = Marks::for_columns(sizes.allocator(), records.count_columns())?;
-    let grid = Grid::new(records, config, &sizes);
+    let alloc = sizes.allocator();
+    let marks = Marks::for_columns(alloc, records.count_columns())?;
+    let grid = Grid::new(records, config, &sizes, Some(alloc));
     print_held(sink, &grid, marks)
 }
 

@@ -7,5 +7,6 @@ pub mod Kept
 pub mod Leading
 pub mod Marks
 pub mod Plain
+pub mod Rooms
 pub mod Row
 pub mod Sent

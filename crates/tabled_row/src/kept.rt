@@ -1,13 +1,15 @@
 //! A horizontal line that is kept as it was laid out. The lines between rows are mostly alike, and one
 //! that is known goes out in one piece.
-ghost use Rattle.std.specs.Prelude.{◌≡◌, Some, None, IfSome, take, true};
+ghost use Rattle.std.specs.Prelude.{◌≡◌, Some, None, IfSome, true};
 ghost use Rattle.tabled_row.specs.Kept.{Keeps};
+ghost use Rattle.tabled_row.specs.Rooms.{room_text};
 ghost use Rattle.tabled_row.specs.Row.{ColumnSheet, rule_line};
 ghost use Rattle.tabled_row.specs.Sent.{Sent, Writes};
 
 use crate::columns::{Columns, put_rule_line};
 use crate::room::Room;
 use crate::text_sink::TextSink;
+use std::alloc::Global;
 use tabled_base::TableError;
 use tabled_config::HorizontalLine;
 
@@ -20,13 +22,13 @@ pub(crate) struct KeptLine {
 }
 
 impl KeptLine {
-    /// No line so far.
-    pub fn new() -> KeptLine
+    /// No line so far. Where memory may be taken, a line of any length is kept, and else one of 4 KiB at most.
+    pub fn new(memory: Option<Global>) -> KeptLine
         ensures { result.line ≡ None }
     {
         KeptLine {
             line: None,
-            room: Room::new(),
+            room: Room::new(memory),
             whole: false,
         }
     }
@@ -43,7 +45,7 @@ impl KeptLine {
 
     /// The text of the line, if the room holds it.
     fn text(&self) -> Option<&str>
-        ensures text { IfSome result (λ text. text.now ≡ take self.now.room.used self.now.room.bytes) }
+        ensures text { IfSome result (λ text. text.now ≡ room_text self.now.room) }
         ensures whole { IfSome result (λ _. self.now.whole ≡ true) }
     {
         if self.whole { self.room.text() } else { None }

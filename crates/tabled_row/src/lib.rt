@@ -1,7 +1,8 @@
 //! A row of cells and the horizontal lines between rows, written piece by piece to a sink.
 //!
-//! No line is built as a text, and printing takes no memory: each piece goes out as it comes. A row is anything that
-//! answers the blocks of its cells, so the rows of a table in memory and those of a stream print by the same calls.
+//! No line of a row is built as a text, and printing takes no memory unless the caller lends an allocator for the horizontal line
+//! that is kept: each piece goes out as it comes. A row is anything that answers the blocks of its cells, so the rows of a
+//! table in memory and those of a stream print by the same calls.
 #![tactic(auto)]
 
 mod block;

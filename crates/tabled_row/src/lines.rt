@@ -13,6 +13,7 @@ use crate::marks::Marks;
 use crate::pieces::put_fill;
 use crate::row::{Row, put_row_line};
 use crate::text_sink::TextSink;
+use std::alloc::Global;
 use tabled_base::TableError;
 use tabled_config::{HorizontalLine, Indent};
 
@@ -108,8 +109,8 @@ pub struct Lines<'a, C: Columns> {
 }
 
 impl<'a, C: Columns> Lines<'a, C> {
-    /// No line so far.
-    pub fn new(columns: C, marks: Marks<'a>) -> Lines<'a, C>
+    /// No line so far. A horizontal line is kept in memory where that may be taken, and else in 4 KiB without.
+    pub fn new(columns: C, marks: Marks<'a>, memory: Option<Global>) -> Lines<'a, C>
         requires { AreClean marks }
         ensures columns { result.columns ≡ columns }
         ensures begun { result.begun ≡ false }
@@ -118,7 +119,7 @@ impl<'a, C: Columns> Lines<'a, C> {
         Lines {
             columns,
             begun: false,
-            kept: KeptLine::new(),
+            kept: KeptLine::new(memory),
             marks,
         }
     }

@@ -4,25 +4,26 @@ ghost use Rattle.tabled_base.specs.declared.error.TableError.TheVariants.{Memory
 ghost use Rattle.tabled_row.specs.Sent.{Sent, Writes};
 
 use crate::text_sink::TextSink;
+use std::alloc::Global;
 use tabled_base::TableError;
 
-/// The bytes that it takes.
+/// The bytes that a room in no memory takes.
 const ROOM: usize = 4096;
 
 /// A room of fixed size as a sink. A text that doesn't fit is refused for memory.
 #[derive(Drop)]
-pub(crate) struct Room {
+pub(crate) struct FixedRoom {
     bytes: [u8; ROOM],
     used: usize,
     ghost within: { used ≤ 4096 },
 }
 
-impl Room {
+impl FixedRoom {
     /// An empty room.
-    pub fn new() -> Room
+    pub fn new() -> FixedRoom
         ensures { result.used ≡ 0 }
     {
-        Room {
+        FixedRoom {
             bytes: [0; ROOM],
             used: 0,
         }
@@ -43,7 +44,7 @@ impl Room {
     }
 }
 
-impl TextSink for Room {
+impl TextSink for FixedRoom {
     ghost sent = { λ r. record { bytes = Some (take r.used r.bytes); failures = 0; grows = true } };
 
     fn write_text(&mut self, text: &str) -> Result<(), TableError>
@@ -59,5 +60,61 @@ impl TextSink for Room {
         self.bytes[self.used..end].copy_from_slice(text.as_bytes());
         self.used = end;
         Ok(())
+    }
+}
+
+/// A room as a sink: memory that grows where that may be taken, and else 4 KiB without memory.
+#[derive(Drop)]
+pub(crate) enum Room {
+    /// In no memory.
+    Fixed(FixedRoom),
+    /// In memory.
+    Grown(String),
+}
+
+impl Room {
+    ghost use Rattle.tabled_row.specs.Rooms.{room_text};
+
+    /// An empty room, in memory of an allocator if there is one.
+    pub fn new(memory: Option<Global>) -> Room
+        ensures { room_text result ≡ [] }
+    {
+        match memory {
+            Some(alloc) => Room::Grown(String::new(alloc)),
+            None => Room::Fixed(FixedRoom::new()),
+        }
+    }
+
+    /// Empties the room.
+    pub fn clear(&mut self)
+        ensures { room_text self.new ≡ [] }
+    {
+        match self {
+            Room::Fixed(room) => room.clear(),
+            Room::Grown(text) => text.clear(),
+        }
+    }
+
+    /// The text in the room, if it is one.
+    pub fn text(&self) -> Option<&str>
+        ensures { IfSome result (λ text. text.now ≡ room_text self.now) }
+    {
+        match self {
+            Room::Fixed(room) => room.text(),
+            Room::Grown(text) => Some(text.as_str()),
+        }
+    }
+}
+
+impl TextSink for Room {
+    ghost use Rattle.tabled_row.specs.Rooms.{room_text};
+
+    ghost sent = { λ r. record { bytes = Some (room_text r); failures = 0; grows = true } };
+
+    fn write_text(&mut self, text: &str) -> Result<(), TableError> {
+        match self {
+            Room::Fixed(room) => room.write_text(text),
+            Room::Grown(grown) => grown.write_text(text),
+        }
     }
 }

@@ -7,7 +7,7 @@ ghost use Rattle.tabled_row.specs.Sent.{Sent, Writes};
 
 use crate::edges::put_piece;
 use crate::pieces::put_spaces;
-use crate::room::Room;
+use crate::room::FixedRoom;
 use crate::text_sink::TextSink;
 use tabled_base::TableError;
 use tabled_config::{AlignmentHorizontal, CellStyle, VerticalLine};
@@ -73,7 +73,7 @@ impl<'a> Gap<'a> {
 pub struct SharedStyle {
     style: CellStyle,
     bar: VerticalLine,
-    room: Room,
+    room: FixedRoom,
     whole: bool,
     ghost kept: { whole ≡ true → IsFlush style × (take room.used room.bytes ≡ gap_text bar style) },
 }
@@ -84,7 +84,7 @@ impl SharedStyle {
         ensures style { result.style ≡ style }
         ensures bar { result.bar ≡ bar }
     {
-        let mut room = Room::new();
+        let mut room = FixedRoom::new();
         let whole = is_flush(&style) && put_gap_text(&mut room, bar, &style).is_ok();
         SharedStyle {
             style,

@@ -1,4 +1,4 @@
-use Rattle.std.proofs.Common.{◌≡◌, List, ℕ, [], IfSome, OnOk, ap, ◌∙◌, rules, subst}
+use Rattle.std.proofs.Common.{◌≡◌, [], IfSome, OnOk, ap, ◌∙◌, rules, subst}
 use Rattle.tabled_row.specs.Sent.{Writes}
 use Rattle.tabled.specs.BlockSent.{Advances, block, block_sent, waiting}
 use Rattle.tabled.specs.Output.{Puts, output_text}

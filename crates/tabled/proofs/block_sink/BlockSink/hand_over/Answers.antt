@@ -1,5 +1,5 @@
-use Rattle.std.proofs.Common.{ℕ, List, [], refl, sym, subst, arith, take}
-use Rattle.std.specs.Io.KnownBytes.{Appends, Keeps, append_known}
+use Rattle.std.proofs.Common.{[], refl, arith}
+use Rattle.std.specs.Io.KnownBytes.{Keeps}
 use Rattle.tabled_row.proofs.Sending.{Appends-nil, further}
 use Rattle.tabled.specs.BlockSent.{waiting}
 use Rattle.tabled.proofs.Since.{advances_then, failed, kept_so, took, took_none}

@@ -1,6 +1,5 @@
-use Rattle.std.proofs.Common.{◌++◌, ◌∙◌, sym, ap, append-nil}
+use Rattle.std.proofs.Common.{sym}
 use Rattle.tabled_row.proofs.Sending.{further, stopped, took-more, took-none}
-use Rattle.tabled.proofs.Blocks.{two_parts}
 use Rattle.tabled.proofs.Since.{advances_none, advances_then}
 use Rattle.tabled.proofs.block_sink.BlockSink.hold_parts.Goals as goal
 
@@ -14,19 +13,9 @@ returns-in_err-make_room g c = record {
   advanced = advances_then _ _ _ c.pieces.invariant.advanced c.in_err-make_room.ensures.advanced;
 }
 
-pub returns-in_err-hold : goal.returns-in_err-hold
-returns-in_err-hold g c = record {
-  written = stopped _ _ c.split_at.result.1.now
-      (further c.pieces.invariant.took.sends c.in_ok-make_room.ensures.written (sym (append-nil c.pieces.invariant.took.front)))
-      c.in_err-hold.ensures.written c.from_residual-in_err-hold.ensures.1
-      (sym c.pieces.invariant.took.whole
-      ∙ ap (λ u. c.pieces.invariant.took.front ++ u) (sym (two_parts _ _ _ _ c.split_at.ensures.front c.split_at.ensures.back)));
-  advanced = advances_then _ _ _ (advances_then _ _ _ c.pieces.invariant.advanced c.in_ok-make_room.ensures.advanced) c.in_err-hold.ensures.advanced;
-}
-
 pub pieces-preserved : goal.pieces-preserved
 pieces-preserved g c = record {
   took = took-more _ _ _ _ _ _ _ c.pieces.invariant.took
-      (further c.in_ok-make_room.ensures.written c.in_ok-hold.ensures.written (sym c.split_at.ensures.front)) c.split_at.ensures.back;
-  advanced = advances_then _ _ _ (advances_then _ _ _ c.pieces.invariant.advanced c.in_ok-make_room.ensures.advanced) c.in_ok-hold.ensures.advanced;
+      (further c.in_ok-make_room.ensures.written c.hold.ensures.written (sym c.split_at.ensures.front)) c.split_at.ensures.back;
+  advanced = advances_then _ _ _ (advances_then _ _ _ c.pieces.invariant.advanced c.in_ok-make_room.ensures.advanced) c.hold.ensures.advanced;
 }
