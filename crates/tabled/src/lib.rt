@@ -51,7 +51,7 @@ pub mod settings {
 
     /// Numbers that are read from a table.
     pub mod measurement {
-        pub use tabled_set::{Max, Measurement, Min};
+        pub use tabled_set::{Max, Measurement, Min, Percent};
     }
 
     /// Parts of a table that are chosen.
@@ -74,12 +74,15 @@ pub mod settings {
 
     /// How texts are made to fit some columns.
     pub mod width {
-        pub use tabled_set::{SuffixLimit, Truncate, Width, WidthList, Wrap};
+        pub use tabled_set::{Justify, MinWidth, SuffixLimit, Truncate, Width, WidthList, Wrap};
     }
 
     /// How texts are made to fit some lines.
     pub mod height {
-        pub use tabled_set::{Height, HeightList};
+        pub use tabled_set::{
+            CellHeightIncrease, CellHeightLimit, Height, HeightList, TableHeightIncrease,
+            TableHeightLimit,
+        };
     }
 
     /// Columns and lines kept free around a table.
