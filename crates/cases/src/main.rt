@@ -1,23 +1,10 @@
-//! Tables beside their pictures: reads cases from standard input, makes the table of each, and tells of each case
-//! that doesn't come out as it should.
-//!
-//! A `[[case]]` has rows, commands that set the table in order, and what is wanted of it; a `[[text]]` is narrowed by
-//! itself, and the sizes of a `[[shrink]]` by each priority that it names.
+//! Tables beside their pictures: reads cases from standard input, has each judged, and tells of each that doesn't come
+//! out as it should.
 #![tactic(auto)]
 
-mod drawing;
-mod fault;
-mod judging;
-mod narrowing;
-mod never;
-mod reading;
-mod report;
-mod settings;
-mod shrinking;
-mod words;
-
 use anyhow::{Result, bail};
-use std::alloc::{AllocError, Global};
+use case_judge::{list_of, text_of, told};
+use std::alloc::Global;
 use std::io;
 use toml::Value;
 
@@ -42,7 +29,7 @@ fn main(rt: HostRuntime) -> Result<()> {
 fn tell_all(rt: &impl Print, alloc: Global, kind: &str, cases: &Value) -> Result<(usize, usize)> {
     let mut held: usize = 0;
     let mut failed: usize = 0;
-    for case in reading::list_of(cases)? {
+    for case in list_of(cases)? {
         if tell(rt, alloc, kind, case)? {
             held = held.saturating_add(1);
         } else {
@@ -62,17 +49,9 @@ fn tell(rt: &impl Print, alloc: Global, kind: &str, case: &Value) -> Result<bool
         return Ok(true);
     }
     let name = match case.get("name").or(case.get("text")) {
-        Some(name) => reading::text_of(name)?,
+        Some(name) => text_of(name)?,
         None => "without a name",
     };
     println!(rt; "{kind}: {name}\n{report}")?;
     Ok(false)
-}
-
-// What is told of a case, also where it can't be judged.
-fn told(alloc: Global, kind: &str, case: &toml::Table) -> Result<String, AllocError> {
-    match judging::judge(alloc, kind, case) {
-        Ok(report) => Ok(report),
-        Err(fault) => format!(in alloc; "{fault}\n"),
-    }
 }

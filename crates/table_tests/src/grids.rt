@@ -1,51 +1,22 @@
 //! Grids with given sizes and with estimated ones, and refusals before the first byte.
 
-use crate::made::{PAIRS, PICTURE, Sheet, Sizes, table_of};
+use crate::made::{PICTURE, SIZED};
 use crate::showing::{assert_picture, assert_text};
 use std::alloc::Global;
 use std::test::Fail;
+use table_uses::{PAIRS, Sheet, Sizes, answered, bytes_of, drawn, lent, printed};
 use tabled_base::TableError;
-use tabled_grid::{TextSink, print_grid};
-
-// Prints a sheet with the sizes that it stores.
-fn put_sheet<S: TextSink>(alloc: Global, sheet: &Sheet, sink: &mut S) -> Result<(), TableError> {
-    let table = table_of(alloc, sheet)?;
-    print_grid(
-        sink,
-        table.get_records(),
-        table.get_config().as_ref(),
-        table.get_dimension(),
-    )
-}
-
-const SIZED: Sheet = Sheet {
-    widths: Some(&[5, 4]),
-    heights: Some(&[1, 1]),
-    ..PAIRS
-};
 
 #[test]
 fn bytes_are_those_of_the_text(rt: HostRuntime) -> Result<(), Fail> {
-    let mut bytes: Vec<u8> = Vec::new(rt.alloc());
-    put_sheet(rt.alloc(), &SIZED, &mut bytes)?;
+    let bytes = bytes_of(rt.alloc(), &SIZED)?;
     assert_picture(&rt, str::from_utf8(bytes.as_slice())?, PICTURE);
     Ok(())
 }
 
 #[test]
 fn a_lent_sink_is_a_sink(rt: HostRuntime) -> Result<(), Fail> {
-    let mut text = String::new(rt.alloc());
-    let mut sink = &mut text;
-    put_sheet(rt.alloc(), &SIZED, &mut sink)?;
-    assert_picture(&rt, text.as_str(), PICTURE);
-    Ok(())
-}
-
-// What a sheet answers, and how many bytes of it went out.
-fn answered(alloc: Global, sheet: &Sheet) -> (Result<(), TableError>, usize) {
-    let mut sink = String::new(alloc);
-    let answer = put_sheet(alloc, sheet, &mut sink);
-    (answer, sink.len())
+    assert_text(&rt, lent(rt.alloc(), &SIZED), PICTURE)
 }
 
 const NARROW: TableError = TableError::Narrow { row: 0, column: 0 };
@@ -126,16 +97,6 @@ fn crowd(alloc: Global) -> Result<String, TableError> {
 fn many_cells_of_several_lines_stand_side_by_side(rt: HostRuntime) -> Result<(), Fail> {
     let want = crowd(rt.alloc())?;
     assert_text(&rt, drawn(rt.alloc(), &CROWD), want.as_str())
-}
-
-fn drawn(alloc: Global, sheet: &Sheet) -> Result<String, TableError> {
-    table_of(alloc, sheet)?.to_string()
-}
-
-fn printed(alloc: Global, sheet: &Sheet) -> Result<String, TableError> {
-    let mut text = String::new(alloc);
-    put_sheet(alloc, sheet, &mut text)?;
-    Ok(text)
 }
 
 #[test]

@@ -7,12 +7,20 @@ use crate::reading::{list_at, text_at, text_of};
 use crate::report::{compare, wanted};
 use crate::settings::set;
 use crate::shrinking::judge_sizes;
-use std::alloc::Global;
+use std::alloc::{AllocError, Global};
 use tabled::{Table, TableError};
 use toml::Value;
 
-/// What is told of a case of some kind.
-pub fn judge(alloc: Global, kind: &str, case: &toml::Table) -> Result<String, Fault> {
+/// What is told of a case of some kind, also where it can't be judged; nothing where it holds.
+pub fn told(alloc: Global, kind: &str, case: &toml::Table) -> Result<String, AllocError> {
+    match judge(alloc, kind, case) {
+        Ok(report) => Ok(report),
+        Err(fault) => format!(in alloc; "{fault}\n"),
+    }
+}
+
+// What is told of a case that can be judged.
+fn judge(alloc: Global, kind: &str, case: &toml::Table) -> Result<String, Fault> {
     let mut report = String::new(alloc);
     match kind {
         "case" => judge_table(alloc, case, &mut report)?,

@@ -103,7 +103,12 @@ fn printed(alloc: Global, table: &Table) -> Result<Result<String, TableError>, F
 
 // Whether each line takes so many columns.
 fn is_straight(text: &str, columns: usize) -> bool {
-    lines(text).all(|line| line_width(line) == columns)
+    for line in lines(text) {
+        if line_width(line) != columns {
+            return false;
+        }
+    }
+    true
 }
 
 // The cells, a row a line, each in quotes and with a space behind it.

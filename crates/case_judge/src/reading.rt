@@ -33,7 +33,7 @@ pub fn list_of(value: &Value) -> Result<&[Value], Fault> {
 pub fn list_at<'a>(entry: &'a Table, key: &str) -> Result<&'a [Value], Fault> {
     match entry.get(key) {
         Some(value) => list_of(value),
-        None => Ok(&[]),
+        None => Ok(Default::default()),
     }
 }
 
