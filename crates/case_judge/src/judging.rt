@@ -2,7 +2,7 @@
 
 use crate::drawing::{answer, shown_word, table_of};
 use crate::fault::Fault;
-use crate::narrowing::narrowed;
+use crate::sizing::narrowed;
 use crate::reading::{list_at, text_at, text_of};
 use crate::report::{compare, wanted};
 use crate::settings::set;

@@ -8,12 +8,12 @@
 mod drawing;
 mod fault;
 mod judging;
-mod narrowing;
 mod never;
 mod reading;
 mod report;
 mod settings;
 mod shrinking;
+mod sizing;
 mod words;
 
 pub use fault::Fault;

@@ -1,7 +1,7 @@
 //! What the commands of a case set of its table.
 
 use crate::fault::Fault;
-use crate::narrowing::{narrow, narrow_to, set_part};
+use crate::sizing::{Change, justify_to, limit_to, resize, set_part, truncate_to, wrap_to};
 use crate::words::Words;
 use std::alloc::Global;
 use tabled::Table;
@@ -16,10 +16,15 @@ pub fn set(alloc: Global, table: &mut Table, command: &str) -> Result<(), Fault>
     let mut words = Words::new(command);
     let kind = words.word();
     match kind {
-        "wrap" => narrow(table, true, &mut words)?,
-        "truncate" => narrow(table, false, &mut words)?,
-        "wrap_to" => narrow_to(table, true, words.word())?,
-        "truncate_to" => narrow_to(table, false, words.word())?,
+        "wrap" => resize(table, Change::Wrap, &mut words)?,
+        "truncate" => resize(table, Change::Truncate, &mut words)?,
+        "increase" => resize(table, Change::Increase, &mut words)?,
+        "heighten" => resize(table, Change::Heighten, &mut words)?,
+        "limit" => resize(table, Change::Limit, &mut words)?,
+        "wrap_to" => wrap_to(table, words.word())?,
+        "truncate_to" => truncate_to(table, words.word())?,
+        "justify_to" => justify_to(table, words.word())?,
+        "limit_to" => limit_to(table, words.word())?,
         "widths" | "heights" | "list" => set_sizes(alloc, table, kind, &mut words)?,
         _ => set_look(table, kind, &mut words)?,
     }

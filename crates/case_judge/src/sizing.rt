@@ -1,0 +1,233 @@
+//! Texts, cells and tables that get some columns or lines.
+
+use crate::fault::Fault;
+use crate::never::Never;
+use crate::words::{Words, mark, number};
+use std::alloc::Global;
+use tabled::grid::config::{ColoredConfig, Entity};
+use tabled::grid::records::{Text, VecRecords};
+use tabled::settings::measurement::{Max, Min, Percent};
+use tabled::settings::object::{Columns, Rows, Segment};
+use tabled::settings::peaker::{Peaker, Priority};
+use tabled::settings::width::{Justify, MinWidth, SuffixLimit, Truncate, Wrap};
+use tabled::settings::{CellOption, Height, Width};
+use tabled::{Table, TableError};
+
+/// What is done to get some columns or lines.
+#[derive(Clone, Copy)]
+pub enum Change {
+    Wrap,
+    Truncate,
+    Increase,
+    Heighten,
+    Limit,
+}
+
+/// How many columns or lines there are to be, and how they are reached.
+#[derive(Clone, Copy)]
+struct Sizing<'a> {
+    size: usize,
+    keep_words: bool,
+    suffix: &'a str,
+    limit: SuffixLimit,
+    multiline: bool,
+    fill: char,
+    priority: &'a str,
+}
+
+impl<'a> Sizing<'a> {
+    // Takes another word: `keep_words`, `multiline`, `suffix=`, `limit=`, `fill=` or `priority=`.
+    fn take(&mut self, word: &'a str) -> Result<(), Fault> {
+        match word.split_once('=') {
+            Some(("suffix", suffix)) => self.suffix = suffix,
+            Some(("priority", priority)) => self.priority = priority,
+            Some(("limit", name)) => self.limit = limit(name)?,
+            Some(("fill", name)) => self.fill = mark(name)?.unwrap_or(' '),
+            None if word == "keep_words" => self.keep_words = true,
+            None if word == "multiline" => self.multiline = true,
+            _ => return Err(Fault::Unknown("no such way to size")),
+        }
+        Ok(())
+    }
+
+    fn wrap(self) -> Wrap {
+        Width::wrap(self.size).keep_words(self.keep_words)
+    }
+
+    fn truncate(self) -> Truncate<'a> {
+        Width::truncate(self.size)
+            .suffix(self.suffix)
+            .suffix_limit(self.limit)
+            .multiline(self.multiline)
+    }
+
+    fn increase(self) -> MinWidth {
+        Width::increase(self.size).fill_with(self.fill)
+    }
+}
+
+// What is done with a suffix that has no room: `cut`, `ignore`, or the character that takes its place.
+fn limit(name: &str) -> Result<SuffixLimit, Fault> {
+    match name {
+        "cut" => Ok(SuffixLimit::Cut),
+        "ignore" => Ok(SuffixLimit::Ignore),
+        _ => match mark(name)? {
+            Some(character) => Ok(SuffixLimit::Replace(character)),
+            None => Err(Fault::Unknown("no such limit")),
+        },
+    }
+}
+
+// The columns or lines, and how they are reached.
+fn read<'a>(words: &mut Words<'a>) -> Result<Sizing<'a>, Fault> {
+    let mut sizing = Sizing {
+        size: words.number()?,
+        keep_words: false,
+        suffix: "",
+        limit: SuffixLimit::Cut,
+        multiline: false,
+        fill: ' ',
+        priority: "none",
+    };
+    for word in words.others().split(' ') {
+        if !word.is_empty() {
+            sizing.take(word)?;
+        }
+    }
+    Ok(sizing)
+}
+
+/// Changes the cells of an entity, or the whole table.
+pub fn resize(table: &mut Table, change: Change, words: &mut Words<'_>) -> Result<(), Fault> {
+    let part = words.part()?;
+    let sizing = read(words)?;
+    match part {
+        Some(entity) => Ok(resize_cells(table, change, entity, sizing)?),
+        None => resize_table(table, change, sizing),
+    }
+}
+
+fn resize_cells(
+    table: &mut Table,
+    change: Change,
+    entity: Entity,
+    sizing: Sizing<'_>,
+) -> Result<(), TableError> {
+    match change {
+        Change::Wrap => set_part(table, entity, &sizing.wrap()),
+        Change::Truncate => set_part(table, entity, &sizing.truncate()),
+        Change::Increase => set_part(table, entity, &sizing.increase()),
+        Change::Heighten => set_part(table, entity, &Height::increase(sizing.size)),
+        Change::Limit => set_part(table, entity, &Height::limit(sizing.size)),
+    }
+}
+
+/// Sets the cells of an entity by an option.
+pub fn set_part<O: CellOption<VecRecords<Text<String>>, ColoredConfig>>(
+    table: &mut Table,
+    entity: Entity,
+    option: &O,
+) -> Result<(), TableError> {
+    match entity {
+        Entity::Global => table.apply_to(Segment::all(), option),
+        Entity::Row(row) => table.apply_to(Rows::one(row), option),
+        Entity::Column(column) => table.apply_to(Columns::one(column), option),
+        Entity::Cell(row, column) => table.apply_to((row, column), option),
+    }
+}
+
+fn resize_table(table: &mut Table, change: Change, sizing: Sizing<'_>) -> Result<(), Fault> {
+    match sizing.priority {
+        "none" => resize_by(table, change, sizing, Priority::none())?,
+        "left" => resize_by(table, change, sizing, Priority::left())?,
+        "right" => resize_by(table, change, sizing, Priority::right())?,
+        "max_left" => resize_by(table, change, sizing, Priority::max(false))?,
+        "max_right" => resize_by(table, change, sizing, Priority::max(true))?,
+        "min_left" => resize_by(table, change, sizing, Priority::min(false))?,
+        "min_right" => resize_by(table, change, sizing, Priority::min(true))?,
+        "never" => resize_by(table, change, sizing, Never)?,
+        _ => return Err(Fault::Unknown("no such priority")),
+    }
+    Ok(())
+}
+
+fn resize_by<P: Peaker + Drop>(
+    table: &mut Table,
+    change: Change,
+    sizing: Sizing<'_>,
+    priority: P,
+) -> Result<(), TableError> {
+    match change {
+        Change::Wrap => table.apply(sizing.wrap().priority(priority)),
+        Change::Truncate => table.apply(sizing.truncate().priority(priority)),
+        Change::Increase => table.apply(sizing.increase().priority(priority)),
+        Change::Heighten => table.apply(Height::increase(sizing.size).priority(priority)),
+        Change::Limit => table.apply(Height::limit(sizing.size).priority(priority)),
+    }
+}
+
+/// Wraps the whole table to a measure of it: the columns of its greatest or its least texts, or so many hundredths of
+/// its own.
+pub fn wrap_to(table: &mut Table, measure: &str) -> Result<(), Fault> {
+    match measure {
+        "max" => table.apply(Width::wrap(Max))?,
+        "min" => table.apply(Width::wrap(Min))?,
+        _ => table.apply(Width::wrap(percent(measure)?))?,
+    }
+    Ok(())
+}
+
+/// Truncates the whole table to a measure of it.
+pub fn truncate_to(table: &mut Table, measure: &str) -> Result<(), Fault> {
+    match measure {
+        "max" => table.apply(Width::truncate(Max))?,
+        "min" => table.apply(Width::truncate(Min))?,
+        _ => table.apply(Width::truncate(percent(measure)?))?,
+    }
+    Ok(())
+}
+
+/// Gives all cells the columns of a measure.
+pub fn justify_to(table: &mut Table, measure: &str) -> Result<(), Fault> {
+    match measure {
+        "max" => table.apply(Justify::max())?,
+        "min" => table.apply(Justify::min())?,
+        _ => table.apply(Width::justify(number(measure)?))?,
+    }
+    Ok(())
+}
+
+/// Limits the whole table to hundredths of its lines.
+pub fn limit_to(table: &mut Table, measure: &str) -> Result<(), Fault> {
+    table.apply(Height::limit(percent(measure)?))?;
+    Ok(())
+}
+
+// A number with a per cent sign.
+fn percent(measure: &str) -> Result<Percent, Fault> {
+    match measure.strip_suffix('%') {
+        Some(word) => Ok(Percent(number(word)?)),
+        None => Err(Fault::Unknown("no such measure")),
+    }
+}
+
+/// A text that is cut, wrapped or truncated by itself.
+pub fn narrowed(alloc: Global, text: &str, by: &str) -> Result<String, Fault> {
+    let mut words = Words::new(by);
+    match words.word() {
+        "cut" => {
+            let cut = Truncate::truncate(alloc, text, number(words.others())?)?;
+            Ok(cut.into_owned(alloc)?)
+        }
+        "wrap" => {
+            let sizing = read(&mut words)?;
+            Ok(Wrap::wrap(alloc, text, sizing.size, sizing.keep_words)?)
+        }
+        "truncate" => {
+            let sizing = read(&mut words)?;
+            let truncate = sizing.truncate();
+            Ok(truncate.shorten(alloc, text, sizing.size)?)
+        }
+        _ => Err(Fault::Unknown("no such way to narrow a text")),
+    }
+}
