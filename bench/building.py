@@ -9,18 +9,25 @@ import tempfile
 
 TOP = pathlib.Path(__file__).resolve().parent.parent
 
+
+def standing_on(crate):
+    """The crate and all of the repository's that it stands on, lowest first."""
+    below = {}
+    for line in (TOP / "crates.txt").read_text().splitlines():
+        if ":" in line:
+            name, _, named = line.partition(":")
+            below[name] = named.split()
+    wanted, open_ones = set(), [crate]
+    while open_ones:
+        name = open_ones.pop()
+        if name in below and name not in wanted:
+            wanted.add(name)
+            open_ones += below[name]
+    return tuple(name for name in below if name in wanted)
+
+
 # What a program of tables stands on.
-TABLED = (
-    "tabled_text",
-    "tabled_base",
-    "tabled_config",
-    "tabled_size",
-    "tabled_value",
-    "tabled_set",
-    "tabled_grid",
-    "tabled_table",
-    "tabled",
-)
+TABLED = standing_on("tabled")
 
 
 def build(folder, name, crates, files):
