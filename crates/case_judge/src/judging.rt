@@ -2,11 +2,11 @@
 
 use crate::drawing::{answer, shown_word, table_of};
 use crate::fault::Fault;
-use crate::sizing::narrowed;
 use crate::reading::{list_at, text_at, text_of};
 use crate::report::{compare, wanted};
 use crate::settings::set;
 use crate::shrinking::judge_sizes;
+use crate::sizing::narrowed;
 use std::alloc::{AllocError, Global};
 use tabled::{Table, TableError};
 use toml::Value;

@@ -1,4 +1,4 @@
--- What options that narrow a table promise of it, by the priority and the texts.
+-- What options that change the sizes of a table promise of it, by the priority and the texts.
 use Rattle.std.specs.Prelude.{◌≡◌, ◌<◌, ℕ, Bool, List, [], false, length, max, sum}
 use Rattle.tabled_resize.specs.BestNarrowing.{HasLeastWidth, IsBestCut, IsBestWrapped}
 use Rattle.tabled_resize.specs.ExactTotal.{HasEstimatedWidths, HasExactTotal}
