@@ -1,6 +1,7 @@
 pub mod Cells
 pub mod Error
 pub mod Given
+pub mod Laws
 pub mod LentRows
 pub mod Picks
 pub mod PicksLaws

@@ -1,8 +1,9 @@
 -- What is walked of a source of rows: its rows in order, and of each row its cells.
-use Rattle.std.specs.Prelude.{List}
+use Rattle.std.specs.Prelude.{◌≡◌, Bool, true, List}
 use Rattle.std.specs.List.{All, AllZip}
 use Rattle.std.specs.declared.option.Option.{Option}
-use Rattle.std.specs.Iterator.{Count, HoldsAlong, IsFiniteIterable}
+use Rattle.std.specs.declared.option.Option.TheVariants.{None}
+use Rattle.std.specs.Iterator.{Count, HoldsAlong, IsFiniteIterable, Yields}
 use Rattle.tabled_base.specs.Given.{Given}
 
 -- the rows may be asked for to their end, and so may the cells of each row that comes
@@ -18,3 +19,14 @@ pub record RowsGiven {V S W T A : Type 0} (rows_become : V → S → Type 0) (ro
   pub lists : List W
   pub all : Given rows_become row_steps rows lists
   pub each : AllZip (Given cells_become cell_steps) lists cells
+
+-- some rows come first, and of each its cells; where these are the whole, no more come
+pub record RowsBegin {V S W T A : Type 0} (rows_become : V → S → Type 0) (row_steps : S → Option W → S → Type 0)
+    (cells_become : W → T → Type 0) (cell_steps : T → Option A → T → Type 0) (rows : V) (cells : List (List A)) (whole : Bool) : Type 0 where
+  pub lists : List W
+  pub iterator : S
+  pub made : rows_become rows iterator
+  pub reached : S
+  pub yielded : Yields row_steps iterator lists reached
+  pub each : AllZip (Given cells_become cell_steps) lists cells
+  pub ended : whole ≡ true → (last : S) × row_steps reached None last

@@ -1,6 +1,7 @@
 //! Sources of rows that are walked once.
-ghost use Rattle.std.specs.Prelude.{List};
-ghost use Rattle.tabled_base.specs.RowsGiven.{RowsEnd, RowsGiven};
+ghost use Rattle.std.specs.Prelude.{◌≡◌, Bool, List, true};
+ghost use Rattle.tabled_base.specs.Laws.{whole_rows};
+ghost use Rattle.tabled_base.specs.RowsGiven.{RowsBegin, RowsEnd, RowsGiven};
 
 /// What gives rows of cells, one after another: vectors, slices and arrays of rows, owned or lent,
 /// and every iterator of rows.
@@ -20,6 +21,9 @@ pub trait IntoRecords {
     // Holds of a source and the cells, row by row, that may come of it.
     ghost gives: { Self → List (List Self.Cell) → Type 0 };
 
+    // Holds of a source, the cells, row by row, that may come of it first, and whether these are all.
+    ghost begins: { Self → List (List Self.Cell) → Bool → Type 0 };
+
     /// The rows, from the first.
     fn iter_rows(self) -> Self::IterRows
         ensures ends { ends self → RowsEnd Self.IterRows.into_iter_gives
@@ -28,7 +32,13 @@ pub trait IntoRecords {
             Self.IterColumns.IntoIter.can_next Self.IterColumns.IntoIter.remaining result }
         ensures gives { (cells : List (List Self.Cell)) → RowsGiven Self.IterRows.into_iter_gives
             Self.IterRows.IntoIter.next_gives Self.IterColumns.into_iter_gives
-            Self.IterColumns.IntoIter.next_gives result cells → gives self cells };
+            Self.IterColumns.IntoIter.next_gives result cells → gives self cells }
+        ensures begins { (cells : List (List Self.Cell)) (whole : Bool) → RowsBegin Self.IterRows.into_iter_gives
+            Self.IterRows.IntoIter.next_gives Self.IterColumns.into_iter_gives
+            Self.IterColumns.IntoIter.next_gives result cells whole → begins self cells whole };
+
+    // All rows that may come are rows that it may give.
+    ghost whole_rows: { (source : Self) (cells : List (List Self.Cell)) → begins source cells true → gives source cells };
 }
 
 impl<I: IntoIterator> IntoRecords for I
@@ -47,6 +57,11 @@ where
 
     ghost gives = { RowsGiven I.into_iter_gives I.IntoIter.next_gives I.Item.into_iter_gives
         I.Item.IntoIter.next_gives };
+
+    ghost begins = { RowsBegin I.into_iter_gives I.IntoIter.next_gives I.Item.into_iter_gives
+        I.Item.IntoIter.next_gives };
+
+    ghost whole_rows = { λ source cells begun. whole_rows begun };
 
     fn iter_rows(self) -> I {
         self

@@ -5,7 +5,7 @@ ghost use Rattle.tabled_size.specs.Holds.{IsSized};
 ghost use Rattle.tabled_row.specs.Leading.{WritesLines};
 ghost use Rattle.tabled_row.specs.Marks.{AreClean};
 ghost use Rattle.tabled_row.specs.Sent.{Sent, Writes};
-ghost use Rattle.tabled_row.specs.Going.{IsGoing};
+ghost use Rattle.tabled_row.specs.Kept.{Keeps};
 ghost use Rattle.std.proofs.Props.{props};
 ghost use Rattle.tabled_grid.specs.Picture.{columns_of, filled_picture, row_part, rule};
 
@@ -18,8 +18,11 @@ use tabled_size::Dimension;
 /// The lines of a table while they are printed.
 #[derive(Drop)]
 struct Picture<'a, R: PeekableRecords, D: Dimension> {
-    lines: Lines<'a, GridColumns<'a, R, D>>,
-    ghost going: { IsGoing (columns_of lines.columns.grid.now) lines.kept lines.marks } by { Prim.hlevel props },
+    lines: Lines<GridColumns<'a, R, D>>,
+    /// Where the next line of each cell of many lines begins.
+    marks: Marks<'a>,
+    ghost kept: { Keeps (columns_of lines.columns.grid.now) lines.kept } by { Prim.hlevel props },
+    ghost clean: { AreClean marks } by { Prim.hlevel props },
 }
 
 impl<'a, R: PeekableRecords, D: Dimension> Picture<'a, R, D> {
@@ -43,7 +46,8 @@ impl<'a, R: PeekableRecords, D: Dimension> Picture<'a, R, D> {
     {
         let grid = self.lines.columns.grid;
         self.put_rule(sink, row)?;
-        self.lines.put_row(sink, &GridRow { grid, row })
+        self.lines
+            .put_row(sink, &GridRow { grid, row }, &mut self.marks)
     }
 
     fn put_rows<S: TextSink>(&mut self, sink: &mut S) -> Result<(), TableError>
@@ -84,7 +88,8 @@ pub(crate) fn put_picture<'a, R: PeekableRecords, D: Dimension, S: TextSink>(
     ensures { Writes (S.sent sink.old) result (S.sent sink.new) (join_with_byte 10 (filled_picture grid.now whole)) }
 {
     let mut picture = Picture {
-        lines: Lines::new(GridColumns { grid }, marks, grid.memory),
+        lines: Lines::new(GridColumns { grid }, grid.memory),
+        marks,
     };
     picture.put_lines(sink, whole)
 }

@@ -2,7 +2,6 @@ pub mod Apart
 pub mod Block
 pub mod Fill
 pub mod Flush
-pub mod Going
 pub mod Kept
 pub mod Leading
 pub mod Marks

@@ -58,7 +58,7 @@ fn put_rule_pieces<C: Columns, S: TextSink>(
 }
 
 /// A horizontal line.
-pub(crate) fn put_rule_line<C: Columns, S: TextSink>(
+pub fn put_rule_line<C: Columns, S: TextSink>(
     sink: &mut S,
     columns: &C,
     line: &HorizontalLine,

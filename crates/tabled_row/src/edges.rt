@@ -9,14 +9,14 @@ use tabled_base::TableError;
 use tabled_config::Frame;
 
 /// A character of a vertical line, if that is there.
-pub(crate) fn put_piece<S: TextSink>(sink: &mut S, there: bool, c: char) -> Result<(), TableError>
+pub fn put_piece<S: TextSink>(sink: &mut S, there: bool, c: char) -> Result<(), TableError>
     ensures { Writes (S.sent sink.old) result (S.sent sink.new) (piece there c) }
 {
     if there { put_char(sink, c) } else { Ok(()) }
 }
 
 /// The left margin and the left vertical line.
-pub(crate) fn put_left<S: TextSink>(sink: &mut S, frame: &Frame, c: char) -> Result<(), TableError>
+pub fn put_left<S: TextSink>(sink: &mut S, frame: &Frame, c: char) -> Result<(), TableError>
     ensures { Writes (S.sent sink.old) result (S.sent sink.new) (left_edge frame.now c) }
 {
     put_indent(sink, frame.margin.left)?;
@@ -24,7 +24,7 @@ pub(crate) fn put_left<S: TextSink>(sink: &mut S, frame: &Frame, c: char) -> Res
 }
 
 /// The right vertical line and the right margin.
-pub(crate) fn put_right<S: TextSink>(sink: &mut S, frame: &Frame, c: char) -> Result<(), TableError>
+pub fn put_right<S: TextSink>(sink: &mut S, frame: &Frame, c: char) -> Result<(), TableError>
     ensures { Writes (S.sent sink.old) result (S.sent sink.new) (right_edge frame.now c) }
 {
     put_piece(sink, frame.right.there, c)?;

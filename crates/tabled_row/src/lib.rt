@@ -23,12 +23,13 @@ mod shared;
 mod text_sink;
 
 pub use block::CellBlock;
-pub use columns::Columns;
+pub use columns::{Columns, put_rule_line};
 pub use content::Content;
+pub use edges::{put_left, put_piece, put_right};
 pub use io_sink::IoSink;
 pub use lines::{Lines, put_break};
 pub use marks::Marks;
-pub use pieces::{put_char, put_fill};
+pub use pieces::{put_char, put_fill, put_indent};
 pub use row::Row;
 pub use shared::SharedStyle;
 pub use text_sink::TextSink;

@@ -1,7 +1,7 @@
 //! Lines one below the other: those of rows and of margins, and horizontal lines.
 ghost use Rattle.std.specs.Prelude.{◌≡◌, ◌<◌, false, true, [], ◌∷◌, replicate};
 ghost use Rattle.tabled_row.specs.Fill.{fill};
-ghost use Rattle.tabled_row.specs.Going.{IsGoing};
+ghost use Rattle.tabled_row.specs.Kept.{Keeps};
 ghost use Rattle.tabled_row.specs.Leading.{WritesLines, break};
 ghost use Rattle.tabled_row.specs.Marks.{AreClean, AreKept};
 ghost use Rattle.tabled_row.specs.Row.{ColumnSheet, RowSheet, row_line, row_lines, rule_if};
@@ -99,28 +99,25 @@ fn put_row_lines<'a, R: Row<'a>, S: TextSink>(
 
 /// Lines over the same columns while they are printed: whether a line went before, and what is kept for the next.
 #[derive(Drop)]
-pub struct Lines<'a, C: Columns> {
+pub struct Lines<C: Columns> {
     /// The columns.
     pub columns: C,
     begun: bool,
     /// The horizontal line that was laid out last.
     kept: KeptLine,
-    marks: Marks<'a>,
 }
 
-impl<'a, C: Columns> Lines<'a, C> {
+impl<C: Columns> Lines<C> {
     /// No line so far. A horizontal line is kept in memory where that may be taken, and else in 4 KiB without.
-    pub fn new(columns: C, marks: Marks<'a>, memory: Option<Global>) -> Lines<'a, C>
-        requires { AreClean marks }
+    pub fn new(columns: C, memory: Option<Global>) -> Lines<C>
         ensures columns { result.columns ≡ columns }
         ensures begun { result.begun ≡ false }
-        ensures going { IsGoing (C.sheet result.columns) result.kept result.marks }
+        ensures kept { Keeps (C.sheet result.columns) result.kept }
     {
         Lines {
             columns,
             begun: false,
             kept: KeptLine::new(memory),
-            marks,
         }
     }
 
@@ -131,11 +128,11 @@ impl<'a, C: Columns> Lines<'a, C> {
         side: Indent,
         width: usize,
     ) -> Result<(), TableError>
-        requires going { IsGoing (C.sheet self.old.columns) self.old.kept self.old.marks }
+        requires kept { Keeps (C.sheet self.old.columns) self.old.kept }
         ensures printed { WritesLines (S.sent sink.old) self.old.begun result (S.sent sink.new) self.new.begun
             (replicate side.size (fill side.fill width)) }
         ensures same { self.new.columns ≡ self.old.columns }
-        ensures going { IsGoing (C.sheet self.new.columns) self.new.kept self.new.marks }
+        ensures kept { Keeps (C.sheet self.new.columns) self.new.kept }
     {
         put_margin(sink, &mut self.begun, side, width)
     }
@@ -146,11 +143,11 @@ impl<'a, C: Columns> Lines<'a, C> {
         sink: &mut S,
         rule: Option<HorizontalLine>,
     ) -> Result<(), TableError>
-        requires going { IsGoing (C.sheet self.old.columns) self.old.kept self.old.marks }
+        requires kept { Keeps (C.sheet self.old.columns) self.old.kept }
         ensures printed { WritesLines (S.sent sink.old) self.old.begun result (S.sent sink.new) self.new.begun
             (rule_if (C.sheet self.old.columns) rule) }
         ensures same { self.new.columns ≡ self.old.columns }
-        ensures going { IsGoing (C.sheet self.new.columns) self.new.kept self.new.marks }
+        ensures kept { Keeps (C.sheet self.new.columns) self.new.kept }
     {
         match rule {
             Some(line) => {
@@ -161,19 +158,22 @@ impl<'a, C: Columns> Lines<'a, C> {
         }
     }
 
-    /// The lines of a row.
-    pub fn put_row<R: Row<'a>, S: TextSink>(
+    /// The lines of a row. The marks are those of its cells afterwards, whatever they were.
+    pub fn put_row<'a, R: Row<'a>, S: TextSink>(
         &mut self,
         sink: &mut S,
         row: &R,
+        marks: &mut Marks<'a>,
     ) -> Result<(), TableError>
-        requires going { IsGoing (C.sheet self.old.columns) self.old.kept self.old.marks }
+        requires kept { Keeps (C.sheet self.old.columns) self.old.kept }
+        requires clean { AreClean marks.old }
         ensures printed { WritesLines (S.sent sink.old) self.old.begun result (S.sent sink.new) self.new.begun
             (row_lines (R.sheet row.now)) }
         ensures same { self.new.columns ≡ self.old.columns }
-        ensures going { IsGoing (C.sheet self.new.columns) self.new.kept self.new.marks }
+        ensures kept { Keeps (C.sheet self.new.columns) self.new.kept }
+        ensures clean { AreClean marks.new }
     {
-        self.marks.forget();
-        put_row_lines(sink, &mut self.begun, row, &mut self.marks)
+        marks.forget();
+        put_row_lines(sink, &mut self.begun, row, marks)
     }
 }
