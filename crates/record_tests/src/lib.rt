@@ -15,4 +15,6 @@ mod shown;
 #[cfg(test)]
 mod values;
 #[cfg(test)]
+mod views;
+#[cfg(test)]
 mod walks;

@@ -6,7 +6,7 @@ use std::test::Fail;
 use tabled_base::{Builder, CellText, IntoRecords, Records, TableError};
 
 // The rows as a builder takes them, through `IntoRecords` alone.
-fn walked<I: IntoRecords>(alloc: Global, rows: I) -> Result<String, TableError>
+pub(crate) fn walked<I: IntoRecords>(alloc: Global, rows: I) -> Result<String, TableError>
 where
     I::Cell: CellText + Drop,
     requires { I.ends rows }

@@ -1,0 +1,6 @@
+pub mod CutRows
+pub mod Empty
+pub mod FirstCells
+pub mod LaterRows
+pub mod Limited
+pub mod RowByRow
