@@ -87,15 +87,6 @@ fn cells_are_cut_to_their_columns(rt: HostRuntime) -> Result<(), Fail> {
 }
 
 #[test]
-fn no_row_past_the_limit_is_asked_for(rt: HostRuntime) -> Result<(), Fail> {
-    let mut taken: usize = 0;
-    let rows = ROWS.into_iter().inspect(|_| taken = taken.wrapping_add(1));
-    assert_text(&rt, walked(rt.alloc(), LimitRows::new(rows, 1)), "1x3 [a][b][c]")?;
-    assert_eq!(rt; taken, 1);
-    Ok(())
-}
-
-#[test]
 fn records_of_an_iterator_give_all_rows(rt: HostRuntime) -> Result<(), Fail> {
     let records = IterRecords::new(ROWS, 1, Some(1));
     assert_eq!(rt; records.count_columns(), 1);
