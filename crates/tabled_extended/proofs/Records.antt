@@ -41,11 +41,13 @@ parts-more answers fields records parts n label m h a =
     record {
       each = λ index below.
           elim (cases_lt index (length parts)) [
-            inl l ↦ (let e = h.each index l in (e.0, e.1, get_or_append_left parts (last ∷ []) [] index l ∙ e.2))
-          | inr r ↦
-              (let same : index ≡ n = omega (arith, length-append parts (last ∷ [])) in
-              (label, subst (λ k. answers k label) (sym same) a,
-              get_or_push parts last [] index (omega arith) ∙ ap (λ k. record_lines (widest fields) (widest_value records) fields label (get_or records k [])) (sym same)))
+            | inl l ↦ (let e = h.each index l in (e.0, e.1, get_or_append_left parts (last ∷ []) [] index l ∙ e.2))
+            | inr r ↦
+                (let same : index ≡ n = omega (arith, length-append parts (last ∷ [])) in (
+                  label,
+                  subst (λ k. answers k label) (sym same) a,
+                  get_or_push parts last [] index (omega arith) ∙ ap (λ k. record_lines (widest fields) (widest_value records) fields label (get_or records k [])) (sym same),
+                ))
           ];
     }
 
@@ -108,9 +110,9 @@ so_far-stopped {answers} {fields} {records} {n} {a} {b} {c} {q} r e h l (inl w) 
 so_far-stopped {answers} {fields} {records} {n} {a} {b} {c} {q} r e h l (inr w) =
     let last : List (List ℕ) = record_lines (widest fields) (widest_value records) fields w.0 (get_or records n []) in
     let whole : flat_map (λ lines. lines) (h.parts ++ last ∷ []) ≡ flat_map (λ lines. lines) h.parts ++ last =
-        flat_map-append (λ lines. lines) h.parts (last ∷ []) ∙ ap (λ u. flat_map (λ lines. lines) h.parts ++ u) (append-nil last) in
+    flat_map-append (λ lines. lines) h.parts (last ∷ []) ∙ ap (λ u. flat_map (λ lines. lines) h.parts ++ u) (append-nil last) in
     let stops : WritesLines {T = Unit {0}} a false (Err e) c r (flat_map (λ lines. lines) (h.parts ++ last ∷ [])) =
-        lines-finished {T = Unit {0}} c r last (flat_map (λ lines. lines) (h.parts ++ last ∷ [])) (Err e) h.sends w.2 whole in
+    lines-finished {T = Unit {0}} c r last (flat_map (λ lines. lines) (h.parts ++ last ∷ [])) (Err e) h.sends w.2 whole in
     record {
       some = omega arith;
       parts = h.parts ++ last ∷ [];
@@ -135,8 +137,11 @@ records-stopped r (Ok x) e f v ef ev h l w k i = absurd i
 records-stopped {answers} {fields} {records} {n} {a} {b} {c} {q} r (Err d) e f v ef ev h l w k i =
     let k₁ = subst (λ (x : ℕ). PrintsRecord {T = Unit {0}} (answers n) (λ label. record_lines x v fields label (get_or records n [])) b q (Err e) c r) ef k in
     let k₂ = subst (λ (x : ℕ). PrintsRecord {T = Unit {0}} (answers n) (λ label. record_lines (widest fields) x fields label (get_or records n [])) b q (Err e) c r) ev k₁ in
-    inr (w, so_far-stopped r d h l
-    (subst (λ (x : TableError). PrintsRecord {T = Unit {0}} (answers n) (λ label. record_lines (widest fields) (widest_value records) fields label (get_or records n [])) b q (Err x) c r) (sym i) k₂))
+    inr (
+      w,
+      so_far-stopped r d h l
+          (subst (λ (x : TableError). PrintsRecord {T = Unit {0}} (answers n) (λ label. record_lines (widest fields) (widest_value records) fields label (get_or records n [])) b q (Err x) c r) (sym i) k₂),
+    )
 
 -- a table without records prints nothing
 pub nothing-printed : (answers : ℕ → List ℕ → Type 0) (fields : List (List ℕ)) (records : List (List (List ℕ))) (a : Sent)

@@ -16,7 +16,10 @@ use tabled_value::Tabled;
 
 impl ExtendedTable<RecordTemplate> {
     /// A table of the fields of values, each field's name and text escaped. Refused only for memory.
-    pub fn new<I: IntoIterator>(alloc: Global, iter: I) -> Result<ExtendedTable<RecordTemplate>, TableError>
+    pub fn new<I: IntoIterator>(
+        alloc: Global,
+        iter: I,
+    ) -> Result<ExtendedTable<RecordTemplate>, TableError>
     where
         I::Item: Tabled + Drop,
         requires { IsFiniteIterable I.into_iter_gives I.IntoIter.can_next I.IntoIter.remaining iter }

@@ -213,7 +213,7 @@ fn put_record<F: Template, S: TextSink>(
     requires range { widths.field + 3 + widths.value < 2 ^ 64 }
     ensures { PrintsRecord (F.answers table.now.template index)
         (λ label. record_lines widths.field widths.value table.now.fields.items label
-            (slice_index_or (row_texts table.now.records.items) index []))
+        (slice_index_or (row_texts table.now.records.items) index []))
         (S.sent sink.old) begun.old result (S.sent sink.new) begun.new }
 {
     let alloc = *table.fields.allocator();
