@@ -1,0 +1,31 @@
+-- Records of escaped texts, one after another.
+use Rattle.std.proofs.Common.{◌≡◌, ℕ, List, [], ◌∷◌, ◌++◌, map, sym, ap, ◌∙◌, refl}
+use Rattle.std.specs.List.{AllZip}
+use Rattle.std.specs.declared.alloc.Global.{Global}
+use Rattle.std.specs.declared.vec.Vec.{Vec}
+use Rattle.std.proofs.lemmas.List.{map-append}
+use Rattle.tabled_base.specs.Cells.{row_texts}
+use Rattle.tabled_value.proofs.Joining.{all_zip-more}
+use Rattle.tabled_value.proofs.RowsAdded.{row_texts-push}
+use Rattle.tabled_extended.specs.Escaped.{escaped}
+
+-- a record stands for each value
+pub record AreEscaped {V : Type 0} (shows : V → List (List ℕ) → Type 0) (values : List V) (all : List (List (List ℕ))) : Type 0 where
+  pub rows : List (List (List ℕ))
+  pub each : AllZip shows values rows
+  pub whole : all ≡ map (map escaped) rows
+
+pub escaped-none : {V : Type 0} (shows : V → List (List ℕ) → Type 0) (rows : List (Vec (List ℕ) Global)) → rows ≡ [] → AreEscaped shows [] (row_texts rows)
+escaped-none shows rows e = record { rows = []; each = tt; whole = ap row_texts e }
+
+pub escaped-more : {V : Type 0} (shows : V → List (List ℕ) → Type 0) (values : List V) (rows new : List (Vec (List ℕ) Global))
+    (row : Vec (List ℕ) Global) (value : V) (texts : List (List ℕ)) → AreEscaped shows values (row_texts rows) → new ≡ rows ++ row ∷ []
+    → shows value texts → row.items ≡ map escaped texts → AreEscaped shows (values ++ value ∷ []) (row_texts new)
+escaped-more shows values rows new row value texts h e r t = record {
+  rows = h.rows ++ texts ∷ [];
+  each = all_zip-more shows values h.rows value texts h.each r;
+  whole =
+      ap row_texts e ∙ row_texts-push rows row ∙ ap (λ u. u ++ row.items ∷ []) h.whole
+      ∙ ap (λ (t' : List (List ℕ)). map (map escaped) h.rows ++ t' ∷ []) t
+      ∙ sym (map-append (map escaped) h.rows (texts ∷ []));
+}

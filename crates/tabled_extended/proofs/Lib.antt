@@ -1,0 +1,3 @@
+pub mod EscapedRecords
+pub mod Records
+pub mod Zipped

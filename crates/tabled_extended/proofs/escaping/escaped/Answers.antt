@@ -1,0 +1,16 @@
+use Rattle.std.proofs.Common.{rules, ◌≡◌, ap, map, sym, ◌∙◌}
+use Rattle.std.specs.List.{flat_map}
+use Rattle.std.specs.Str.{chars}
+use Rattle.std.specs.Str.Iter.{chars_rest}
+use Rattle.std.proofs.lemmas.Iterator.{YieldsList-from_chars, items_from_drains}
+use Rattle.std.proofs.lemmas.List.{map-id}
+use Rattle.tabled_extended.specs.Escaped.{escape}
+use Rattle.tabled_extended.proofs.escaping.escaped.Goals as goal
+
+pub returns : goal.returns
+returns c =
+    let start : chars_rest c.into_iter-c-iterator.result ≡ c.args.text.now = search rules in
+    let all : map (λ x. x) c.characters.yielded ≡ chars c.args.text.now =
+    items_from_drains c.characters.yielded (c.characters.c-iterator, c.characters.yielded_by, λ _. (c.next.new.self, c.in-None.ensures.steps))
+    (YieldsList-from_chars c.args.text.now c.utf8.text start) in
+    c.characters.invariant ∙ ap (flat_map escape) (sym (map-id c.characters.yielded) ∙ all)

@@ -1,0 +1,20 @@
+use Rattle.std.proofs.Common.{◌≡◌, ◌<◌, length, get_or, arith, ap, sym, subst, rules}
+use Rattle.tabled_row.proofs.Leading.{lines-further, lines-stopped}
+use Rattle.tabled_extended.specs.RecordLines.{value_line}
+use Rattle.tabled_extended.proofs.Zipped.{zip-next, zip-rest, zip-all}
+use Rattle.tabled_extended.proofs.printing.put_values.Goals as goal
+
+pub values-preserved : goal.values-preserved
+values-preserved g c =
+    lines-further c.values.invariant c.in_ok-put_value.ensures
+    (zip-next (value_line c.args.columns) c.args.fields.now c.args.values.now c.values.index c.index-fields-index.result c.index-values-index.result
+    (omega arith) (omega arith) c.index-fields-index.is c.index-values-index.is)
+
+pub returns-in_err-put_value : goal.returns-in_err-put_value
+returns-in_err-put_value g c =
+    lines-stopped _ _ _ _ _ c.values.invariant c.in_err-put_value.ensures c.from_residual.ensures.1
+    (zip-rest (value_line c.args.columns) c.args.fields.now c.args.values.now c.values.index c.index-fields-index.result c.index-values-index.result
+    (omega arith) (omega arith) c.index-fields-index.is c.index-values-index.is)
+
+pub returns : goal.returns
+returns g c = rw (sym (zip-all c.args.fields.now c.args.values.now c.values.index (omega arith))) c.values.invariant

@@ -1,0 +1,6 @@
+use Rattle.std.proofs.Common.{◌≡◌, max, drop}
+use Rattle.tabled_extended.specs.RecordLines.{widest}
+use Rattle.tabled_extended.proofs.printing.widest.Given as goal
+
+abbrev pub invariant-texts : goal.invariant-texts
+invariant-texts l = max l.columns (widest (drop l.text-index l.texts)) ≡ widest l.texts

@@ -1,0 +1,7 @@
+use Rattle.std.proofs.Common.{◌≡◌, max, drop}
+use Rattle.tabled_base.specs.Cells.{row_texts}
+use Rattle.tabled_extended.specs.RecordLines.{widest_value}
+use Rattle.tabled_extended.proofs.printing.widest_value.Given as goal
+
+abbrev pub invariant-records : goal.invariant-records
+invariant-records l = max l.columns (widest_value (row_texts (drop l.record-index l.records))) ≡ widest_value (row_texts l.records)

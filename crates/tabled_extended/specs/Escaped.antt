@@ -1,0 +1,23 @@
+-- Escaped texts: each character stands for itself, or is written by others that can be seen.
+use Rattle.std.specs.Prelude.{ℕ, Bool, ◌==◌, ◌||◌, ◌&&◌, nat_le, nat_lt, false, List, [], ◌∷◌, ◌++◌, if◌then◌else◌, chars, codes, encode_utf8}
+use Rattle.std.specs.Fmt.{digits}
+use Rattle.std.specs.List.{flat_map}
+
+-- U+0001 to U+001F and U+007F to U+009F
+abbrev pub is_control : ℕ → Bool
+is_control c = nat_lt c 32 || (nat_le 127 c && nat_le c 159)
+
+-- a character in an escaped text: quotes and the backslash behind a backslash; tab, carriage return, line feed and
+-- U+0000 by a letter or 0; another control character by its number, in lower-case hexadecimal
+abbrev pub escape : ℕ → List ℕ
+escape c =
+    if c == 34 || (c == 39 || c == 92) then 92 ∷ c ∷ []
+    else (if c == 9 then codes "\\t"
+    else (if c == 13 then codes "\\r"
+    else (if c == 10 then codes "\\n"
+    else (if c == 0 then codes "\\0"
+    else (if is_control c then codes "\\u{" ++ (digits 16 false c ++ codes "}")
+    else encode_utf8 c)))))
+
+abbrev pub escaped : List ℕ → List ℕ
+escaped text = flat_map escape (chars text)

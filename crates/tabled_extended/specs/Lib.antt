@@ -1,0 +1,3 @@
+pub mod Escaped
+pub mod PrintedRecords
+pub mod RecordLines

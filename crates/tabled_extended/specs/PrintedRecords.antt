@@ -1,0 +1,48 @@
+-- What printing a table of records leaves of a sink.
+use Rattle.std.specs.Prelude.{◌≡◌, ◌⊎◌, ℕ, ◌+◌, ◌^◌, ◌<◌, ◌≤◌, true, List, [], Result, Ok, Err, length, slice_index_or, Bool}
+use Rattle.tabled_base.specs.declared.error.TableError.{TableError}
+use Rattle.tabled_base.specs.declared.error.TableError.TheVariants.{Memory, Range}
+use Rattle.tabled_row.specs.Leading.{LineSends, LineStops}
+use Rattle.tabled_row.specs.Sent.{Sent, Sends, Stops}
+use Rattle.tabled_extended.specs.RecordLines.{AreRecordLines, record_lines, text_of, widest, widest_value}
+
+-- the same sink, that may be refused memory: a label takes some whatever the sink does
+abbrev pub growing : Sent → Sent
+growing sent = record { bytes = sent.bytes; failures = sent.failures; grows = true }
+
+-- there is a record, and the columns of a field, a bar between spaces and a value pass the greatest `usize`
+pub record IsTooWide (fields : List (List ℕ)) (records : List (List (List ℕ))) : Type 0 where
+  pub some : 0 < length records
+  pub past : 2 ^ 64 ≤ widest fields + 3 + widest_value records
+
+-- the whole text was added
+pub record PrintsAll (answers : ℕ → List ℕ → Type 0) (fields : List (List ℕ)) (records : List (List (List ℕ))) (old new : Sent) : Type 0 where
+  pub parts : List (List (List ℕ))
+  pub whole : length parts ≡ length records
+  pub lines : AreRecordLines answers fields records parts
+  pub sends : Sends old new (text_of parts)
+
+-- a beginning of the text was added, up to a refusal with its cause
+pub record PrintsSome (answers : ℕ → List ℕ → Type 0) (fields : List (List ℕ)) (records : List (List (List ℕ)))
+    (old : Sent) (error : TableError) (new : Sent) : Type 0 where
+  pub some : 0 < length records
+  pub parts : List (List (List ℕ))
+  pub within : length parts ≤ length records
+  pub lines : AreRecordLines answers fields records parts
+  pub stops : Stops (growing old) error (growing new) (text_of parts)
+
+-- on Ok the whole text was added; a table that is too wide is refused before the first byte, and any other one only
+-- for memory or by the sink
+abbrev pub PrintsRecords : {T : Type 0} → (ℕ → List ℕ → Type 0) → List (List ℕ) → List (List (List ℕ)) → Sent → Result T TableError → Sent → Type 0
+PrintsRecords answers fields records old (Ok _) new = (IsTooWide fields records → ⊥) × PrintsAll answers fields records old new
+PrintsRecords answers fields records old (Err e) new =
+    ((e ≡ Range) × IsTooWide fields records × (new ≡ old))
+    ⊎ ((IsTooWide fields records → ⊥) × PrintsSome answers fields records old e new)
+
+-- ---- for the private functions
+
+-- the lines of one record: under some label that the template answers, or nothing where the label was refused
+abbrev pub PrintsRecord : {T : Type 0} → (List ℕ → Type 0) → (List ℕ → List (List ℕ)) → Sent → Bool → Result T TableError → Sent → Bool → Type 0
+PrintsRecord answers lines old begun (Ok _) new begun' = (label : List ℕ) × answers label × LineSends old begun new begun' (lines label)
+PrintsRecord answers lines old begun (Err e) new begun' =
+    ((e ≡ Memory) × (new ≡ old)) ⊎ ((label : List ℕ) × answers label × LineStops old begun e new (lines label))

@@ -1,0 +1,43 @@
+//! A function of a caller's as a template.
+ghost use Rattle.std.specs.Prelude.{◌≡◌, ◌<◌, ◌^◌, ℕ, List, Ok, string_bytes};
+ghost use Rattle.std.specs.declared.alloc.Global.{Global};
+ghost use Rattle.std.specs.declared.string.String.{String};
+
+use crate::label_fn::LabelFn;
+use crate::template::Template;
+use std::alloc::Global;
+use std::marker::Model;
+use tabled_base::TableError;
+
+/// Gives the texts that a function answers for the indices of the records, from 0.
+#[derive(Drop)]
+pub struct FnTemplate<G: LabelFn> {
+    g: G,
+}
+
+impl<G: LabelFn> Model for FnTemplate<G> {
+    ghost Value = { G };
+
+    ghost view = { λ template. template.g };
+
+    ghost invariant = { λ template. G.callable template.g };
+}
+
+impl<G: LabelFn> FnTemplate<G> {
+    /// A template that answers what a function does. The function may be called on every index.
+    pub fn new(g: G) -> FnTemplate<G>
+        requires { G.callable g }
+        ensures { result ≡ g }
+    {
+        FnTemplate { g }
+    }
+}
+
+impl<G: LabelFn> Template for FnTemplate<G> {
+    ghost answers = { λ g index text. (answer : String Global) × G.gives g index (Ok answer)
+        × (text ≡ string_bytes answer) };
+
+    fn label(&self, _alloc: Global, index: usize) -> Result<String, TableError> {
+        Ok(self.g.text_at(index)?)
+    }
+}

@@ -1,0 +1,15 @@
+//! Tables that show each record by itself, a line for each of its fields.
+#![tactic(auto)]
+
+mod escaping;
+mod extended_table;
+mod fn_template;
+mod label_fn;
+mod making;
+mod printing;
+mod template;
+
+pub use extended_table::ExtendedTable;
+pub use fn_template::FnTemplate;
+pub use label_fn::LabelFn;
+pub use template::{RecordTemplate, Template};

@@ -1,0 +1,292 @@
+//! The lines of records.
+ghost use Rattle.std.specs.Prelude.{codes, ◌≡◌, ◌⊎◌, ◌≤◌, true, false, ◌∷◌, [], ◌++◌, ◌+◌, ◌-◌, ◌<◌, ◌^◌, ℕ, List, IfErr, IfOk, OnOk, map, string_bytes, length, slice_index_or};
+ghost use Rattle.std.specs.List.{zip};
+ghost use Rattle.tabled_base.specs.Cells.{row_texts};
+ghost use Rattle.tabled_base.specs.declared.error.TableError.TheVariants.{Memory, Range};
+ghost use Rattle.tabled_row.specs.Fill.{fill};
+ghost use Rattle.tabled_row.specs.Leading.{WritesLines};
+ghost use Rattle.tabled_row.specs.Sent.{Sent, Writes};
+ghost use Rattle.tabled_text.specs.Measure.{text_columns};
+ghost use Rattle.tabled_extended.specs.RecordLines.{AreRecordLines, header, record_lines, rule_behind, text_of, title, value_line, widest, widest_value};
+ghost use Rattle.tabled_extended.specs.PrintedRecords.{IsTooWide, PrintsRecord, PrintsRecords};
+
+use crate::extended_table::ExtendedTable;
+use crate::template::Template;
+use std::alloc::Global;
+use tabled_base::{CellText, TableError, Text};
+use tabled_row::{TextSink, put_break, put_fill};
+use tabled_text::text_width;
+
+/// The columns of the widest field and of the widest value.
+#[derive(Clone, Copy)]
+pub(crate) struct Widths {
+    pub field: usize,
+    pub value: usize,
+}
+
+/// The columns of the widest of some texts.
+pub(crate) fn widest(texts: &[Text<String>]) -> usize
+    ensures { result ≡ widest texts.now }
+{
+    let mut columns: usize = 0;
+    'texts: for text in texts {
+        columns = columns.max(text.width());
+    }
+    columns
+}
+
+/// The columns of the widest value.
+pub(crate) fn widest_value(records: &[Vec<Text<String>>]) -> usize
+    ensures { result ≡ widest_value (row_texts records.now) }
+{
+    let mut columns: usize = 0;
+    'records: for record in records {
+        columns = columns.max(widest(record.as_slice()));
+    }
+    columns
+}
+
+/// The text of a template between dashes.
+fn title(alloc: Global, label: &str) -> Result<String, TableError>
+    ensures text { IfOk result (λ text. string_bytes text ≡ title label.now) }
+    ensures only { IfErr result (λ e. e ≡ Memory) }
+{
+    let mut text = String::from_str(alloc, "-")?;
+    text.push_str(label)?;
+    text.push('-')?;
+    Ok(text)
+}
+
+/// The dashes over a record from the column of the bar on.
+fn put_cross<S: TextSink>(sink: &mut S, before: usize, behind: usize) -> Result<(), TableError>
+    ensures { Writes (S.sent sink.old) result (S.sent sink.new)
+        (fill 45 before ++ (43 ∷ fill 45 behind)) }
+{
+    put_fill(sink, '-', before)?;
+    sink.write_text("+")?;
+    put_fill(sink, '-', behind)
+}
+
+/// What stands behind a title of so many columns.
+fn put_rule<S: TextSink>(sink: &mut S, widths: Widths, columns: usize) -> Result<(), TableError>
+    requires { widths.field + 3 + widths.value < 2 ^ 64 }
+    ensures { Writes (S.sent sink.old) result (S.sent sink.new) (rule_behind widths.field widths.value columns) }
+{
+    let whole = widths.field + 3 + widths.value;
+    if columns < whole {
+        if columns < widths.field + 2 {
+            put_cross(sink, widths.field + 1 - columns, widths.value + 1)
+        } else {
+            put_fill(sink, '-', whole - columns)
+        }
+    } else {
+        Ok(())
+    }
+}
+
+/// A title and what stands behind it.
+fn put_titled<S: TextSink>(sink: &mut S, widths: Widths, above: &str) -> Result<(), TableError>
+    requires { widths.field + 3 + widths.value < 2 ^ 64 }
+    ensures { Writes (S.sent sink.old) result (S.sent sink.new) (header widths.field widths.value above.now) }
+{
+    sink.write_text(above)?;
+    put_rule(sink, widths, text_width(above))
+}
+
+/// The first line of a record.
+fn put_header<S: TextSink>(
+    sink: &mut S,
+    begun: &mut bool,
+    widths: Widths,
+    above: &str,
+) -> Result<(), TableError>
+    requires { widths.field + 3 + widths.value < 2 ^ 64 }
+    ensures { WritesLines (S.sent sink.old) begun.old result (S.sent sink.new) begun.new
+        (header widths.field widths.value above.now ∷ []) }
+{
+    put_break(sink, begun)?;
+    put_titled(sink, widths, above)
+}
+
+/// The columns that are left behind a field.
+fn padding(columns: usize, field: &Text<String>) -> usize
+    ensures { result ≡ columns - text_columns field.now }
+{
+    columns.saturating_sub(field.width())
+}
+
+/// A field, spaces, the bar and a value.
+fn put_pieces<S: TextSink>(
+    sink: &mut S,
+    field: &str,
+    spaces: usize,
+    value: &str,
+) -> Result<(), TableError>
+    ensures { Writes (S.sent sink.old) result (S.sent sink.new)
+        (field.now ++ (fill 32 spaces ++ (codes " | " ++ value.now))) }
+{
+    sink.write_text(field)?;
+    put_fill(sink, ' ', spaces)?;
+    sink.write_text(" | ")?;
+    sink.write_text(value)
+}
+
+/// A field and its value.
+fn put_shown<S: TextSink>(
+    sink: &mut S,
+    columns: usize,
+    field: &Text<String>,
+    value: &Text<String>,
+) -> Result<(), TableError>
+    ensures { Writes (S.sent sink.old) result (S.sent sink.new) (value_line columns (field.now, value.now)) }
+{
+    put_pieces(sink, field.text(), padding(columns, field), value.text())
+}
+
+/// The line of a field.
+fn put_value<S: TextSink>(
+    sink: &mut S,
+    begun: &mut bool,
+    columns: usize,
+    field: &Text<String>,
+    value: &Text<String>,
+) -> Result<(), TableError>
+    ensures { WritesLines (S.sent sink.old) begun.old result (S.sent sink.new) begun.new
+        (value_line columns (field.now, value.now) ∷ []) }
+{
+    put_break(sink, begun)?;
+    put_shown(sink, columns, field, value)
+}
+
+/// A line for each field that has a value.
+fn put_values<S: TextSink>(
+    sink: &mut S,
+    begun: &mut bool,
+    columns: usize,
+    fields: &[Text<String>],
+    values: &[Text<String>],
+) -> Result<(), TableError>
+    ensures { WritesLines (S.sent sink.old) begun.old result (S.sent sink.new) begun.new
+        (map (value_line columns) (zip fields.now values.now)) }
+{
+    let count = fields.len().min(values.len());
+    'values: for index in 0..count {
+        put_value(sink, begun, columns, &fields[index], &values[index])?;
+    }
+    Ok(())
+}
+
+/// The lines of a record under a title.
+fn put_lines<S: TextSink>(
+    sink: &mut S,
+    begun: &mut bool,
+    widths: Widths,
+    fields: &[Text<String>],
+    above: &str,
+    values: &[Text<String>],
+) -> Result<(), TableError>
+    requires { widths.field + 3 + widths.value < 2 ^ 64 }
+    ensures { WritesLines (S.sent sink.old) begun.old result (S.sent sink.new) begun.new
+        (header widths.field widths.value above.now ∷ map (value_line widths.field) (zip fields.now values.now)) }
+{
+    put_header(sink, begun, widths, above)?;
+    put_values(sink, begun, widths.field, fields, values)
+}
+
+/// The values of a record.
+fn values_at(records: &[Vec<Text<String>>], index: usize) -> &[Text<String>]
+    requires { index < length records.now }
+    ensures { result.now ≡ slice_index_or (row_texts records.now) index [] }
+{
+    records[index].as_slice()
+}
+
+/// The lines of a record, under a text that the template answers for its index.
+fn put_record<F: Template, S: TextSink>(
+    sink: &mut S,
+    begun: &mut bool,
+    table: &ExtendedTable<F>,
+    widths: Widths,
+    index: usize,
+) -> Result<(), TableError>
+    requires there { index < length table.now.records.items }
+    requires range { widths.field + 3 + widths.value < 2 ^ 64 }
+    ensures { PrintsRecord (F.answers table.now.template index)
+        (λ label. record_lines widths.field widths.value table.now.fields.items label
+        (slice_index_or (row_texts table.now.records.items) index []))
+        (S.sent sink.old) begun.old result (S.sent sink.new) begun.new }
+{
+    let alloc = *table.fields.allocator();
+    let label = table.template.label(alloc, index)?;
+    let above = title(alloc, &label)?;
+    let values = values_at(table.records.as_slice(), index);
+    put_lines(sink, begun, widths, table.fields.as_slice(), &above, values)
+}
+
+/// The lines of all records.
+fn put_records<F: Template, S: TextSink>(
+    sink: &mut S,
+    table: &ExtendedTable<F>,
+    widths: Widths,
+) -> Result<(), TableError>
+    requires field { widths.field ≡ widest table.now.fields.items }
+    requires value { widths.value ≡ widest_value (row_texts table.now.records.items) }
+    requires range { widths.field + 3 + widths.value < 2 ^ 64 }
+    ensures { PrintsRecords (F.answers table.now.template) table.now.fields.items (row_texts table.now.records.items)
+        (S.sent sink.old) result (S.sent sink.new) }
+{
+    let mut begun = false;
+    'records: for index in 0..table.records.len() {
+        put_record(sink, &mut begun, table, widths, index)?;
+    }
+    Ok(())
+}
+
+impl<F: Template> ExtendedTable<F> {
+    /// Prints for each record its header, which has the text that the template answers for its index, and a line for
+    /// each field that has a value; a further field or value isn't shown, but counts for the widths. A table without
+    /// records has no line. Refused with `Range` where the columns of a field, a bar and a value pass the greatest
+    /// `usize`, before the first byte; for the memory of a label, as its record is reached; and for what the sink
+    /// refuses. In both last cases a beginning went out.
+    pub fn write_to<S: TextSink>(&self, sink: &mut S) -> Result<(), TableError>
+        ensures { PrintsRecords (F.answers self.now.template) self.now.fields.items (row_texts self.now.records.items)
+            (S.sent sink.old) result (S.sent sink.new) }
+    {
+        if self.records.is_empty() {
+            return Ok(());
+        }
+        let widths = Widths {
+            field: widest(self.fields.as_slice()),
+            value: widest_value(self.records.as_slice()),
+        };
+        if !is_in_range(widths) {
+            return Err(TableError::Range);
+        }
+        put_records(sink, self, widths)
+    }
+
+    /// The text that `write_to` writes. Refused as `write_to` is.
+    pub fn to_string(&self) -> Result<String, TableError>
+        ensures ok { IfOk result (λ text. (parts : List (List (List ℕ)))
+            × (length parts ≡ length (row_texts self.now.records.items))
+            × AreRecordLines (F.answers self.now.template) self.now.fields.items (row_texts self.now.records.items) parts
+            × (string_bytes text ≡ text_of parts)) }
+        ensures err { IfErr result (λ e. (e ≡ Memory)
+            ⊎ ((e ≡ Range) × IsTooWide self.now.fields.items (row_texts self.now.records.items))) }
+    {
+        let mut text = String::new(*self.fields.allocator());
+        self.write_to(&mut text)?;
+        Ok(text)
+    }
+}
+
+/// Whether the columns of a field, a bar and a value are in range.
+fn is_in_range(widths: Widths) -> bool
+    ensures yes { result ≡ true → widths.field + 3 + widths.value < 2 ^ 64 }
+    ensures no { result ≡ false → 2 ^ 64 ≤ widths.field + 3 + widths.value }
+{
+    match widths.field.checked_add(3) {
+        Some(columns) => columns.checked_add(widths.value).is_some(),
+        None => false,
+    }
+}
