@@ -1,0 +1,5 @@
+pub mod CompactCells
+pub mod CompactLines
+pub mod GoesOn
+pub mod Printed
+pub mod Shown
