@@ -1,10 +1,10 @@
 -- Calls that go on only where nothing was refused before, one after another.
-use Rattle.std.proofs.Common.{◌≡◌, ℕ, Bool, List, [], ◌++◌, Result, Ok, Err, refl, sym, ◌∙◌, ap, subst}
-use Rattle.std.specs.Result.{IsErrAnd}
+use Rattle.std.proofs.Common.{◌≡◌, ℕ, Bool, true, List, [], ◌∷◌, ◌++◌, Result, Ok, Err, refl, sym, ◌∙◌, ap, subst}
+use Rattle.std.specs.Result.{IsErrAnd, OnOk}
 use Rattle.tabled_base.specs.declared.error.TableError.{TableError}
-use Rattle.tabled_row.specs.Leading.{WritesLines}
+use Rattle.tabled_row.specs.Leading.{WritesLines, break}
 use Rattle.tabled_row.specs.Sent.{Sent, Stops, Writes}
-use Rattle.tabled_row.proofs.Leading.{lines-finished, lines-stopped-first}
+use Rattle.tabled_row.proofs.Leading.{lines-finished, lines-stopped-first, one-line, one-line-stopped}
 use Rattle.tabled_row.proofs.Sending.{finished, stopped-first}
 use Rattle.tabled_compact.specs.GoesOn.{GoesOn, GoesOnLines}
 
@@ -54,3 +54,15 @@ pub goes-stopped : {T U V : Type 0} (before : Result T TableError) (a c : Sent) 
 goes-stopped {U = U} (Ok x) a c s rest whole r e r' p h i w =
     let P : Result U TableError → Type 0 = λ y. Writes a y c s in stopped-first r' e rest (subst P h p) i w
 goes-stopped (Err f) a c s rest whole r e r' p h i w = (err-as r' e f i (same-error r e f h p.0), p.1)
+
+-- a line with the line feed before it
+pub led-goes-on : {T U V : Type 0} (before : Result T TableError) (a b c : Sent) (m n : Bool) (l : List ℕ) (r : Result U TableError)
+    (r' : Result V TableError) → GoesOn before a r b (break m) → OnOk r (n ≡ true) → GoesOn r b r' c l
+    → GoesOnLines before a m r' c n (l ∷ [])
+led-goes-on (Ok x) a b c m n l (Ok y) r' p o q = one-line m c n l r' p q o
+led-goes-on (Ok x) a b c m n l (Err e) r' p o q =
+    let P : Sent → Type 0 = λ x. Stops a e x (break m) in one-line-stopped m n l r' e (subst P (sym q.1) p) (is-same r' e q.0)
+led-goes-on {U = U} (Err e) a b c m n l r r' p o q =
+    let P : Result U TableError → Type 0 = λ x. GoesOn x b r' c l in
+    let later : (r' ≡ Err e) × (c ≡ b) = subst P p.0 q in
+    (later.0, later.1 ∙ p.1)

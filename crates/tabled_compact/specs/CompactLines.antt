@@ -38,14 +38,14 @@ unfoldable pub above : CompactSheet → Bool → List (List ℕ)
 above t false = head_lines t
 above t true = rule_if (columns_of t) (separator t.config.borders)
 
--- a row below another one
-unfoldable pub below : CompactSheet → List (List ℕ) → List (List ℕ)
-below t row = above t true ++ (compact_row t row ∷ [])
+-- a row with what stands above it, below another one or not
+unfoldable pub row_part : CompactSheet → Bool → List (List ℕ) → List (List ℕ)
+row_part t follows row = above t follows ++ (compact_row t row ∷ [])
 
 -- the rows, with what stands above each
 unfoldable pub rows_lines : CompactSheet → List (List (List ℕ)) → List (List ℕ)
 rows_lines t [] = []
-rows_lines t (row ∷ rows) = above t false ++ (compact_row t row ∷ flat_map (below t) rows)
+rows_lines t (row ∷ rows) = row_part t false row ++ flat_map (row_part t true) rows
 
 -- the lines of a table with these rows; without a row there are none
 unfoldable pub compact_lines : CompactSheet → List (List (List ℕ)) → List (List ℕ)

@@ -1,11 +1,11 @@
 -- Which compact tables are printed, why others are refused, and what a call that prints leaves.
-use Rattle.std.specs.Prelude.{◌≡◌, ◌^◌, ◌<◌, ◌≤◌, ◌+◌, ◌⊎◌, ℕ, Bool, false, List, [], length, Result, Ok, Err}
+use Rattle.std.specs.Prelude.{◌≡◌, ◌^◌, ◌<◌, ◌≤◌, ◌+◌, ◌⊎◌, ℕ, Bool, false, true, List, [], length, Result, Ok, Err}
 use Rattle.tabled_base.specs.declared.error.TableError.{TableError}
 use Rattle.tabled_base.specs.declared.error.TableError.TheVariants.{Range, ShortWidths}
 use Rattle.tabled_row.specs.Sent.{Sent, Sends, Stops}
 use Rattle.tabled_compact.specs.CompactCells.{CompactSheet}
 use Rattle.tabled_compact.specs.CompactLines.{compact_text, compact_width}
-use Rattle.tabled_compact.specs.Shown.{AreEnough, AreWanted, shown}
+use Rattle.tabled_compact.specs.Shown.{AreEnough, AreWanted, has_rows, shown}
 use Rattle.tabled_compact.specs.declared.window.Window.{Window}
 
 -- why a table that shows a row is refused: a width isn't there; or all are, and the total passes the greatest `usize`
@@ -46,7 +46,7 @@ pub record IsEnded (t : CompactSheet) (w : Window) (comes : List (List (List ℕ
   pub rows : List (List (List ℕ))
   pub came : comes rows false
   pub taken : AreWanted t.count w rows
-  pub filled : shown t.count w rows ≡ [] → ⊥
+  pub filled : has_rows (shown t.count w rows) ≡ true
   pub ends : IsRefusedEarly t w rows old error new ⊎ IsStopped t w rows old error new
 
 -- what a call that prints a compact table leaves

@@ -1,13 +1,10 @@
 //! The columns of a compact table.
-ghost use Rattle.std.specs.Prelude.{◌≡◌, ◌<◌, ◌≤◌, ◌^◌, IfOk, IfErr, MatchOption, length};
+ghost use Rattle.std.specs.Prelude.{◌≡◌, ◌<◌, ◌≤◌, ◌^◌, IfOk, IfErr, OnOk, length};
 ghost use Rattle.std.specs.List.{slice_index};
-ghost use Rattle.tabled_base.specs.declared.error.TableError.TheVariants.{Range, ShortWidths};
+ghost use Rattle.tabled_base.specs.declared.error.TableError.TheVariants.{ShortWidths};
 ghost use Rattle.tabled_border.specs.Frame.{frame_of};
-ghost use Rattle.tabled_priority.specs.Sums.{one_if, sum_below};
 ghost use Rattle.tabled_size.specs.Reached.{reached};
 ghost use Rattle.tabled_compact.specs.CompactCells.{CompactSheet, columns_of, sheet_by};
-ghost use Rattle.tabled_compact.specs.CompactLines.{compact_width};
-ghost use Rattle.tabled_compact.specs.Printed.{IsRefused};
 
 use std::marker::Model;
 use tabled_base::TableError;
@@ -41,6 +38,7 @@ impl<'a, D: Dimension> CompactColumns<'a, D> {
         count: usize,
     ) -> Result<CompactColumns<'a, D>, TableError>
         ensures ok { IfOk result (λ columns. columns ≡ sheet_by config.now (D.width_at dimension.now) count) }
+        ensures sized { OnOk result (count ≤ length (reached (D.width_at dimension.now) count)) }
         ensures err { IfErr result (λ e. (e ≡ ShortWidths) × (length (reached (D.width_at dimension.now) count) < count)) }
     {
         check_widths(dimension, count)?;

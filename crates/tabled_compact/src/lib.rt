@@ -3,8 +3,15 @@
 
 mod cell;
 mod columns;
+mod lines;
 mod row;
+mod print;
+mod rows;
 mod rules;
+mod table;
+mod total;
 mod window;
 
+pub use print::print_compact;
+pub use table::CompactTable;
 pub use window::Window;
