@@ -1,5 +1,6 @@
 //! Tables of single lines, and how they are set.
 ghost use Rattle.std.specs.Prelude.{◌≡◌, Some, None};
+ghost use Rattle.std.specs.Borrow.{Lends, sem};
 ghost use Rattle.tabled_size.specs.declared.const_dimension.ConstSize.TheVariants.{Value};
 ghost use Rattle.tabled_compact.specs.NewTable.{IsNewConfig};
 
@@ -11,12 +12,12 @@ use tabled_size::{ConstDimension, ConstSize};
 /// given, padding included: a text that is wider than its room is printed whole, and each text is taken as a single line.
 #[derive(Debug, Clone, Copy)]
 pub struct CompactTable<I, D> {
-    records: I,
-    config: CompactConfig,
-    dimension: D,
-    columns: usize,
-    limit: Option<usize>,
-    skip: usize,
+    pub(crate) records: I,
+    pub(crate) config: CompactConfig,
+    pub(crate) dimension: D,
+    pub(crate) columns: usize,
+    pub(crate) limit: Option<usize>,
+    pub(crate) skip: usize,
 }
 
 /// Ascii borders, one column of padding left and right, texts at the left.
@@ -32,6 +33,24 @@ fn new_config() -> CompactConfig
         ))
         .set_alignment_horizontal(AlignmentHorizontal::Left)
         .set_borders(Style::ascii().get_borders())
+}
+
+fn width_of<const COLUMNS: usize, const ROWS: usize>(
+    sizes: ConstDimension<COLUMNS, ROWS>,
+) -> ConstSize<COLUMNS>
+    ensures { result ≡ sizes.entry.width }
+{
+    let both: (ConstSize<COLUMNS>, ConstSize<ROWS>) = sizes.into();
+    both.0
+}
+
+fn height_of<const COLUMNS: usize, const ROWS: usize>(
+    sizes: ConstDimension<COLUMNS, ROWS>,
+) -> ConstSize<ROWS>
+    ensures { result ≡ sizes.entry.height }
+{
+    let both: (ConstSize<COLUMNS>, ConstSize<ROWS>) = sizes.into();
+    both.1
 }
 
 impl<I> CompactTable<I, ConstDimension<0, 0>> {
@@ -57,23 +76,22 @@ impl<I> CompactTable<I, ConstDimension<0, 0>> {
 
 impl<I, const ROWS: usize, const COLUMNS: usize> CompactTable<I, ConstDimension<COLUMNS, ROWS>> {
     /// Gives each row a height, which printing doesn't read.
-    pub fn height<S: Into<ConstSize<COUNT>>, const COUNT: usize>(
+    pub fn height<const COUNT: usize>(
         self,
-        size: S,
+        height: ConstSize<COUNT>,
     ) -> CompactTable<I, ConstDimension<COLUMNS, COUNT>>
         ensures width { result.dimension.width ≡ self.dimension.width }
-        ensures height { S.into_gives size result.dimension.height }
+        ensures height { result.dimension.height ≡ height.entry }
         ensures records { result.records ≡ self.records }
         ensures config { result.config ≡ self.config }
         ensures columns { result.columns ≡ self.columns }
         ensures limit { result.limit ≡ self.limit }
         ensures skip { result.skip ≡ self.skip }
     {
-        let (width, _) = self.dimension.into();
         CompactTable {
             records: self.records,
             config: self.config,
-            dimension: ConstDimension::new(width, size.into()),
+            dimension: ConstDimension::new(width_of(self.dimension), height),
             columns: self.columns,
             limit: self.limit,
             skip: self.skip,
@@ -81,11 +99,11 @@ impl<I, const ROWS: usize, const COLUMNS: usize> CompactTable<I, ConstDimension<
     }
 
     /// Gives the columns widths, padding included: one for all, or an array of one each.
-    pub fn width<S: Into<ConstSize<COUNT>>, const COUNT: usize>(
+    pub fn width<const COUNT: usize>(
         self,
-        size: S,
+        width: ConstSize<COUNT>,
     ) -> CompactTable<I, ConstDimension<COUNT, ROWS>>
-        ensures width { S.into_gives size result.dimension.width }
+        ensures width { result.dimension.width ≡ width.entry }
         ensures height { result.dimension.height ≡ self.dimension.height }
         ensures records { result.records ≡ self.records }
         ensures config { result.config ≡ self.config }
@@ -93,11 +111,10 @@ impl<I, const ROWS: usize, const COLUMNS: usize> CompactTable<I, ConstDimension<
         ensures limit { result.limit ≡ self.limit }
         ensures skip { result.skip ≡ self.skip }
     {
-        let (_, height) = self.dimension.into();
         CompactTable {
             records: self.records,
             config: self.config,
-            dimension: ConstDimension::new(size.into(), height),
+            dimension: ConstDimension::new(width, height_of(self.dimension)),
             columns: self.columns,
             limit: self.limit,
             skip: self.skip,
@@ -106,6 +123,9 @@ impl<I, const ROWS: usize, const COLUMNS: usize> CompactTable<I, ConstDimension<
 }
 
 impl<I, D> CompactTable<I, D> {
+    ghost use Rattle.tabled_compact.specs.contracts.table.CompactTable.{the_row};
+    ghost use Rattle.tabled_config.specs.contracts.compact.CompactConfig.{the_row as config_row};
+
     /// A table of rows, over no column yet, whose widths a dimension answers. Nothing is estimated.
     pub fn with_dimension(records: I, dimension: D) -> Self
     where
@@ -162,5 +182,13 @@ impl<I, D> CompactTable<I, D> {
         ensures { result.now ≡ self.now.config }
     {
         &self.config
+    }
+
+    /// What is set for all cells, to be changed.
+    pub fn get_config_mut(&mut self) -> &mut CompactConfig
+        ensures* lends { sem 𝓛 (Lends (the_row I.row D.row) config_row self.entry result (λ config. record self.old { config = config })) }
+        ensures value { result.now ≡ self.old.config }
+    {
+        &mut self.config
     }
 }
