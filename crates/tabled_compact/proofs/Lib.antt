@@ -1,0 +1,9 @@
+pub mod Going
+pub mod Parts
+pub mod Printings
+pub mod Putting
+pub mod RowLines
+pub mod RowPieces
+pub mod SoFar
+pub mod Tables
+pub mod Windows

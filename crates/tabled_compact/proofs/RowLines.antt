@@ -1,0 +1,32 @@
+-- The lines of rows, where these come one by one.
+use Rattle.std.proofs.Common.{◌≡◌, ℕ, zero, suc, ◌==◌, if◌then◌else◌, true, false, List, [], ◌∷◌, ◌++◌, refl, sym, ◌∙◌, ap, append-nil, append_assoc, arith}
+use Rattle.std.specs.List.{flat_map}
+use Rattle.std.proofs.lemmas.Bool.Decides.{nat_tests}
+use Rattle.std.proofs.lemmas.List.Concat.{flat_map-append}
+use Rattle.tabled_compact.specs.CompactCells.{CompactSheet}
+use Rattle.tabled_compact.specs.CompactLines.{row_part, rows_lines}
+use Rattle.tabled_compact.specs.Shown.{has_rows}
+
+pub not-zero : (k : ℕ) → (suc k == 0) ≡ false
+not-zero k = grind (arith, nat_tests)
+
+one-more : (t : CompactSheet) (rows : List (List (List ℕ))) (row : List (List ℕ))
+    → rows_lines t (rows ++ row ∷ []) ≡ rows_lines t rows ++ row_part t (has_rows rows) row
+unfolding rows_lines
+one-more t [] row = append-nil (row_part t false row)
+one-more t (x ∷ rows) row =
+    let f = row_part t true in
+    ap (λ u. row_part t false x ++ u) (flat_map-append f rows (row ∷ []) ∙ ap (λ u. flat_map f rows ++ u) (append-nil (f row)))
+    ∙ sym (append_assoc (row_part t false x) (flat_map f rows) (f row))
+
+-- a row that is shown, or not
+pub rows_lines-more : (t : CompactSheet) (rows : List (List (List ℕ))) (row : List (List ℕ)) (k : ℕ)
+    → rows_lines t (rows ++ (if k == 0 then row ∷ [] else [])) ≡ rows_lines t rows ++ (if k == 0 then row_part t (has_rows rows) row else [])
+rows_lines-more t rows row zero = one-more t rows row
+rows_lines-more t rows row (suc k) = rw (not-zero k) (ap (rows_lines t) (append-nil rows) ∙ sym (append-nil (rows_lines t rows)))
+
+pub has_rows-more : {A : Type 0} (rows : List A) (row : A) (k : ℕ) → has_rows (rows ++ (if k == 0 then row ∷ [] else [])) ≡ (if k == 0 then true else has_rows rows)
+has_rows-more [] row zero = refl
+has_rows-more [] row (suc k) = rw (not-zero k) refl
+has_rows-more (x ∷ rows) row zero = refl
+has_rows-more (x ∷ rows) row (suc k) = rw (not-zero k) refl

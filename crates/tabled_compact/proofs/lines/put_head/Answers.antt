@@ -1,0 +1,20 @@
+use Rattle.std.proofs.Common.{refl}
+use Rattle.tabled_border.specs.Frame.{if_any, top_line}
+use Rattle.tabled_row.specs.Row.{rule_if}
+use Rattle.tabled_row.proofs.Leading.{lines-finished, lines-stopped-first}
+use Rattle.tabled_compact.specs.CompactCells.{columns_of}
+use Rattle.tabled_compact.specs.CompactLines.{head_lines}
+use Rattle.tabled_compact.proofs.lines.put_head.Goals as goal
+
+pub returns-in_err-put_margin : goal.returns-in_err-put_margin
+unfolding head_lines
+returns-in_err-put_margin g c =
+    let t = c.args.columns.now in
+    lines-stopped-first _ (rule_if (columns_of t) (if_any (top_line t.config.borders))) _ _ _ c.in_err-put_margin.ensures c.from_residual.ensures.1
+    (rw (c.get_margin.ensures, c.config-config.ensures, c.requires) refl)
+
+pub returns : goal.returns
+unfolding head_lines
+returns g c =
+    lines-finished _ _ _ _ _ c.in_ok-put_margin.ensures c.put_rule.ensures
+    (rw (c.get_margin.ensures, c.line_at.ensures, c.get_borders.ensures, c.config-config.ensures, c.requires) refl)

@@ -1,0 +1,17 @@
+use Rattle.std.proofs.Common.{refl}
+use Rattle.tabled_row.proofs.Leading.{lines-finished, lines-stopped-first}
+use Rattle.tabled_compact.specs.CompactLines.{margin_lines, tail_lines}
+use Rattle.tabled_compact.proofs.lines.put_tail.Goals as goal
+
+pub returns-in_err-put_rule : goal.returns-in_err-put_rule
+unfolding tail_lines
+returns-in_err-put_rule g c =
+    let t = c.args.columns.now in
+    lines-stopped-first _ (margin_lines t t.config.margin.bottom) _ _ _ c.in_err-put_rule.ensures c.from_residual.ensures.1
+    (rw (c.line_at.ensures, c.get_borders.ensures, c.config-config.ensures) refl)
+
+pub returns : goal.returns
+unfolding tail_lines
+returns g c =
+    lines-finished _ _ _ _ _ c.in_ok-put_rule.ensures c.put_margin.ensures
+    (rw (c.get_margin.ensures, c.line_at.ensures, c.get_borders.ensures, c.config-config.ensures, c.requires) refl)

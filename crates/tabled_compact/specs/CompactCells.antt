@@ -1,0 +1,63 @@
+-- The cells and the rows of a compact table.
+use Rattle.std.specs.Prelude.{ℕ, ◌-◌, List, [], ◌++◌, Option, if◌then◌else◌, nat_lt, slice_index_or}
+use Rattle.std.specs.List.{flat_map, range_with_len, slice_index}
+use Rattle.tabled_text.specs.Measure.{text_columns}
+use Rattle.tabled_border.specs.Frame.{frame_of, has_bar}
+use Rattle.tabled_config.specs.declared.compact.CompactConfig.{CompactConfig}
+use Rattle.tabled_size.specs.Reached.{reached}
+use Rattle.tabled_row.specs.Block.{before_text}
+use Rattle.tabled_row.specs.Fill.{fill, indent}
+use Rattle.tabled_row.specs.Row.{ColumnSheet, left_edge, piece, right_edge}
+
+-- how a compact table is set: what is the same for all cells, how many columns there are, and the widths of these, as
+-- far as they are there
+pub record CompactSheet : Type 0 where
+  pub config : CompactConfig
+  pub count : ℕ
+  pub widths : List ℕ
+
+-- so many columns under a configuration, with the widths that a dimension answers
+abbrev pub sheet_by : CompactConfig → (ℕ → Option ℕ) → ℕ → CompactSheet
+sheet_by config width_at count = record { config = config; count = count; widths = reached width_at count }
+
+-- its columns, in their frame
+abbrev pub columns_of : CompactSheet → ColumnSheet
+columns_of t = record { count = t.count; width = slice_index t.widths; frame = frame_of t.config.borders t.config.margin }
+
+-- the columns that a text leaves free in its room, which is what the side padding leaves of the width: none where the
+-- text is wider
+abbrev pub free_columns : CompactConfig → ℕ → List ℕ → ℕ
+free_columns config width text = width - config.padding.left.size - config.padding.right.size - text_columns text
+
+-- a cell: left padding, indent, the whole text, spaces, right padding
+unfoldable pub compact_cell : CompactConfig → ℕ → List ℕ → List ℕ
+compact_cell config width text =
+    let free = free_columns config width text in
+    let before = before_text config.alignment_horizontal free in
+    indent config.padding.left
+    ++ (fill 32 before ++ (text ++ (fill 32 (free - before) ++ indent config.padding.right)))
+
+-- a text in its column, behind the vertical line before it
+unfoldable pub compact_piece : CompactSheet → ℕ → List ℕ → List ℕ
+compact_piece t column text =
+    let f = (columns_of t).frame in
+    piece (has_bar f column) f.inner.main ++ compact_cell t.config (slice_index t.widths column) text
+
+-- some columns of a row: where a cell is missing, it is empty
+abbrev pub pieces : CompactSheet → List (List ℕ) → List ℕ → List ℕ
+pieces t row columns = flat_map (λ column. compact_piece t column (slice_index_or row column [])) columns
+
+-- what stands before the first cell of a row
+unfoldable pub row_start : CompactSheet → List ℕ
+row_start t = left_edge (columns_of t).frame (columns_of t).frame.left.main
+
+-- what stands behind some first cells of a row: those that it lacks, and the right edge
+unfoldable pub row_end : CompactSheet → ℕ → List ℕ
+row_end t from =
+    pieces t [] (range_with_len from (t.count - from)) ++ right_edge (columns_of t).frame (columns_of t).frame.right.main
+
+-- the line of a row: its cells between the edges; cells past the columns are passed over
+unfoldable pub compact_row : CompactSheet → List (List ℕ) → List ℕ
+compact_row t row =
+    let f = (columns_of t).frame in
+    left_edge f f.left.main ++ (pieces t row (range_with_len 0 t.count) ++ right_edge f f.right.main)

@@ -1,0 +1,7 @@
+pub mod CompactCells
+pub mod CompactLines
+pub mod GoesOn
+pub mod NewTable
+pub mod Printed
+pub mod RowsPut
+pub mod Shown

@@ -1,0 +1,55 @@
+-- Which compact tables are printed, why others are refused, and what a call that prints leaves.
+use Rattle.std.specs.Prelude.{◌≡◌, ◌^◌, ◌<◌, ◌≤◌, ◌+◌, ◌⊎◌, ℕ, Bool, false, true, List, [], length, Result, Ok, Err}
+use Rattle.tabled_base.specs.declared.error.TableError.{TableError}
+use Rattle.tabled_base.specs.declared.error.TableError.TheVariants.{Range, ShortWidths}
+use Rattle.tabled_row.specs.Sent.{Sent, Sends, Stops}
+use Rattle.tabled_compact.specs.CompactCells.{CompactSheet}
+use Rattle.tabled_compact.specs.CompactLines.{compact_text, compact_width}
+use Rattle.tabled_compact.specs.Shown.{AreEnough, AreWanted, has_rows, shown}
+use Rattle.tabled_compact.specs.declared.window.Window.{Window}
+
+-- why a table that shows a row is refused: a width isn't there; or all are, and the total passes the greatest `usize`
+abbrev pub IsRefused : CompactSheet → TableError → Type 0
+IsRefused t ShortWidths = length t.widths < t.count
+IsRefused t Range = (t.count ≤ length t.widths) × (2 ^ 64 ≤ compact_width t)
+IsRefused t _ = ⊥
+
+-- nothing stands against printing the table
+pub record IsPrintable (t : CompactSheet) : Type 0 where
+  pub sized : t.count ≤ length t.widths
+  pub in_range : compact_width t < 2 ^ 64
+
+-- on Ok: the text of the rows that came was added, of which the source has no more or no more are wanted; a table that
+-- shows one can be printed
+pub record IsPrinted (t : CompactSheet) (w : Window) (comes : List (List (List ℕ)) → Bool → Type 0) (old new : Sent) : Type 0 where
+  pub rows : List (List (List ℕ))
+  pub whole : Bool
+  pub came : comes rows whole
+  pub taken : AreWanted t.count w rows
+  pub enough : AreEnough t.count w rows whole
+  pub printable : (shown t.count w rows ≡ []) ⊎ IsPrintable t
+  pub sends : Sends old new (compact_text t (shown t.count w rows))
+
+-- before the first byte: the first row that is shown came, and the table is refused for its cause
+pub record IsRefusedEarly (t : CompactSheet) (w : Window) (rows : List (List (List ℕ))) (old : Sent) (error : TableError) (new : Sent) : Type 0 where
+  pub first : length rows ≡ w.skip + 1
+  pub cause : IsRefused t error
+  pub same : new ≡ old
+
+-- the table can be printed, and the sink refused, with a beginning of the text of the rows that came added
+pub record IsStopped (t : CompactSheet) (w : Window) (rows : List (List (List ℕ))) (old : Sent) (error : TableError) (new : Sent) : Type 0 where
+  pub printable : IsPrintable t
+  pub stops : Stops old error new (compact_text t (shown t.count w rows))
+
+-- on Err: a row is shown, and either of these
+pub record IsEnded (t : CompactSheet) (w : Window) (comes : List (List (List ℕ)) → Bool → Type 0) (old : Sent) (error : TableError) (new : Sent) : Type 0 where
+  pub rows : List (List (List ℕ))
+  pub came : comes rows false
+  pub taken : AreWanted t.count w rows
+  pub filled : has_rows (shown t.count w rows) ≡ true
+  pub ends : IsRefusedEarly t w rows old error new ⊎ IsStopped t w rows old error new
+
+-- what a call that prints a compact table leaves
+abbrev pub PrintsCompact : {T : Type 0} → CompactSheet → Window → (List (List (List ℕ)) → Bool → Type 0) → Sent → Result T TableError → Sent → Type 0
+PrintsCompact t w comes old (Ok _) new = IsPrinted t w comes old new
+PrintsCompact t w comes old (Err error) new = IsEnded t w comes old error new

@@ -1,0 +1,84 @@
+//! A text in its column.
+ghost use Rattle.std.specs.Prelude.{◌≡◌, ◌≤◌, ◌<◌, ◌++◌};
+ghost use Rattle.std.specs.List.{slice_index};
+ghost use Rattle.tabled_row.specs.Block.{before_text};
+ghost use Rattle.tabled_row.specs.Fill.{fill, indent};
+ghost use Rattle.tabled_row.specs.Sent.{Sent, Writes};
+ghost use Rattle.tabled_compact.specs.CompactCells.{compact_cell, compact_piece, free_columns};
+
+use crate::columns::CompactColumns;
+use tabled_base::{CellText, TableError};
+use tabled_config::{AlignmentHorizontal, CompactConfig, Indent, Sides};
+use tabled_row::{Columns, TextSink, put_fill, put_indent, put_piece};
+use tabled_size::Dimension;
+
+/// The part of some free columns that stands before a text.
+fn columns_before(alignment: AlignmentHorizontal, free: usize) -> usize
+    ensures value { result ≡ before_text alignment free }
+    ensures within { result ≤ free }
+{
+    match alignment {
+        AlignmentHorizontal::Left => 0,
+        AlignmentHorizontal::Center => free / 2,
+        AlignmentHorizontal::Right => free,
+    }
+}
+
+/// The columns that a text leaves free in its room; none where it is wider.
+fn free_columns<T: CellText>(config: &CompactConfig, width: usize, cell: &T) -> usize
+    ensures { result ≡ free_columns config.now width (T.text cell.now) }
+{
+    let padding = config.get_padding();
+    width
+        .saturating_sub(padding.left.size)
+        .saturating_sub(padding.right.size)
+        .saturating_sub(cell.width())
+}
+
+/// A text between padding and spaces.
+fn put_spaced<S: TextSink>(
+    sink: &mut S,
+    padding: &Sides<Indent>,
+    before: usize,
+    text: &str,
+    behind: usize,
+) -> Result<(), TableError>
+    ensures { Writes (S.sent sink.old) result (S.sent sink.new) (indent padding.now.left
+        ++ (fill 32 before ++ (text.now ++ (fill 32 behind ++ indent padding.now.right)))) }
+{
+    put_indent(sink, padding.left)?;
+    put_fill(sink, ' ', before)?;
+    sink.write_text(text)?;
+    put_fill(sink, ' ', behind)?;
+    put_indent(sink, padding.right)
+}
+
+/// A text in its room. One that is wider goes out whole too, without indent and spaces.
+#[tactic(auto, unfolding(crate::specs::CompactCells::compact_cell))]
+fn put_text<T: CellText, S: TextSink>(
+    sink: &mut S,
+    config: &CompactConfig,
+    width: usize,
+    cell: &T,
+) -> Result<(), TableError>
+    ensures { Writes (S.sent sink.old) result (S.sent sink.new) (compact_cell config.now width (T.text cell.now)) }
+{
+    let free = free_columns(config, width, cell);
+    let before = columns_before(config.get_alignment_horizontal(), free);
+    put_spaced(sink, config.get_padding(), before, cell.text(), free - before)
+}
+
+/// A text in a column, behind the vertical line before it.
+pub(crate) fn put_cell<D: Dimension, T: CellText, S: TextSink>(
+    sink: &mut S,
+    columns: &CompactColumns<'_, D>,
+    column: usize,
+    cell: &T,
+) -> Result<(), TableError>
+    requires { column < columns.now.count }
+    ensures { Writes (S.sent sink.old) result (S.sent sink.new) (compact_piece columns.now column (T.text cell.now)) }
+{
+    let frame = columns.frame();
+    put_piece(sink, frame.has_bar(column), frame.inner.main)?;
+    put_text(sink, columns.config(), columns.width(column), cell)
+}

@@ -1,0 +1,75 @@
+//! The columns of a compact table.
+ghost use Rattle.std.specs.Prelude.{◌≡◌, ◌<◌, ◌≤◌, ◌^◌, IfOk, IfErr, OnOk, length};
+ghost use Rattle.std.specs.List.{slice_index};
+ghost use Rattle.tabled_base.specs.declared.error.TableError.TheVariants.{ShortWidths};
+ghost use Rattle.tabled_border.specs.Frame.{frame_of};
+ghost use Rattle.tabled_size.specs.Reached.{reached};
+ghost use Rattle.tabled_compact.specs.CompactCells.{CompactSheet, columns_of, sheet_by};
+
+use std::marker::Model;
+use tabled_base::TableError;
+use tabled_config::{CompactConfig, Frame};
+use tabled_row::Columns;
+use tabled_size::{Dimension, check_widths};
+
+/// The columns of a compact table whose widths are there. Contracts see the sheet that they make.
+#[derive(Drop)]
+pub(crate) struct CompactColumns<'a, D: Dimension> {
+    config: &'a CompactConfig,
+    dimension: &'a D,
+    count: usize,
+    around: Frame,
+}
+
+impl<'a, D: Dimension> Model for CompactColumns<'a, D> {
+    ghost Value = { CompactSheet };
+
+    ghost view = { λ c. sheet_by c.config.now (D.width_at c.dimension.now) c.count };
+
+    ghost invariant = { λ c. (c.around ≡ frame_of c.config.now.borders c.config.now.margin)
+        × (c.count ≤ length (reached (D.width_at c.dimension.now) c.count)) };
+}
+
+impl<'a, D: Dimension> CompactColumns<'a, D> {
+    /// So many columns under a configuration. Refused with `ShortWidths` where the dimension lacks the width of one.
+    pub fn new(
+        config: &'a CompactConfig,
+        dimension: &'a D,
+        count: usize,
+    ) -> Result<CompactColumns<'a, D>, TableError>
+        ensures ok { IfOk result (λ columns. columns ≡ sheet_by config.now (D.width_at dimension.now) count) }
+        ensures sized { OnOk result (count ≤ length (reached (D.width_at dimension.now) count)) }
+        ensures err { IfErr result (λ e. (e ≡ ShortWidths) × (length (reached (D.width_at dimension.now) count) < count)) }
+    {
+        check_widths(dimension, count)?;
+        Ok(CompactColumns {
+            config,
+            dimension,
+            count,
+            around: config.frame(),
+        })
+    }
+
+    /// What is set for all cells.
+    pub fn config(&self) -> &CompactConfig
+        ensures { result.now ≡ self.now.config }
+    {
+        self.config
+    }
+}
+
+impl<'a, D: Dimension> Columns for CompactColumns<'a, D> {
+    ghost sheet = { λ c. columns_of c };
+
+    fn count_columns(&self) -> usize {
+        self.count
+    }
+
+    fn width(&self, column: usize) -> usize {
+        self.dimension.get_width(column)
+    }
+
+    fn frame(&self) -> &Frame {
+        &self.around
+    }
+}

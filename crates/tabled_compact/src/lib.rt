@@ -1,0 +1,21 @@
+//! Tables of single lines that are printed while their rows are walked: no row is kept, and printing takes no memory.
+#![tactic(auto)]
+
+mod applying;
+mod cell;
+mod columns;
+mod lines;
+mod row;
+mod no_records;
+mod print;
+mod printing;
+mod rows;
+mod rules;
+mod table;
+mod total;
+mod window;
+
+pub use no_records::NoRecords;
+pub use print::print_compact;
+pub use table::CompactTable;
+pub use window::Window;

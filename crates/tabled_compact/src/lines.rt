@@ -1,0 +1,130 @@
+//! The lines of a compact table, row by row.
+ghost use Rattle.std.specs.Prelude.{◌≡◌, List, [], ◌∷◌, map, true, OnOk, Result};
+ghost use Rattle.std.specs.Iterator.{IsFiniteIterable};
+ghost use Rattle.tabled_base.specs.Given.{Given};
+ghost use Rattle.tabled_row.specs.Leading.{WritesLines, break};
+ghost use Rattle.tabled_row.specs.Sent.{Sent};
+ghost use Rattle.tabled_compact.specs.CompactCells.{compact_row};
+ghost use Rattle.tabled_compact.specs.CompactLines.{above, compact_width, head_lines, row_part, tail_lines};
+ghost use Rattle.tabled_compact.specs.GoesOn.{GoesOn, GoesOnLines};
+
+use crate::columns::CompactColumns;
+use crate::row::put_row_line;
+use crate::rules::{put_margin, put_rule, separator};
+use tabled_base::{CellText, TableError};
+use tabled_row::{TextSink, put_break};
+use tabled_size::Dimension;
+
+/// What stands above the first row: the margin, and the top line.
+#[tactic(auto, unfolding(crate::specs::CompactLines::head_lines))]
+fn put_head<D: Dimension, S: TextSink>(
+    sink: &mut S,
+    begun: &mut bool,
+    columns: &CompactColumns<'_, D>,
+    whole: usize,
+) -> Result<(), TableError>
+    requires { whole ≡ compact_width columns.now }
+    ensures { WritesLines (S.sent sink.old) begun.old result (S.sent sink.new) begun.new (head_lines columns.now) }
+{
+    let config = columns.config();
+    put_margin(sink, begun, config.get_margin().top, whole)?;
+    put_rule(sink, begun, columns, config.get_borders().line_at(1, 0))
+}
+
+/// What stands below the last row: the bottom line, and the margin.
+#[tactic(auto, unfolding(crate::specs::CompactLines::tail_lines))]
+pub(crate) fn put_tail<D: Dimension, S: TextSink>(
+    sink: &mut S,
+    begun: &mut bool,
+    columns: &CompactColumns<'_, D>,
+    whole: usize,
+) -> Result<(), TableError>
+    requires { whole ≡ compact_width columns.now }
+    ensures { WritesLines (S.sent sink.old) begun.old result (S.sent sink.new) begun.new (tail_lines columns.now) }
+{
+    let config = columns.config();
+    put_rule(sink, begun, columns, config.get_borders().line_at(1, 1))?;
+    put_margin(sink, begun, config.get_margin().bottom, whole)
+}
+
+/// What stands above a row that follows another one, or above the first.
+#[tactic(auto, unfolding(crate::specs::CompactLines::above))]
+fn put_above<D: Dimension, S: TextSink>(
+    sink: &mut S,
+    begun: &mut bool,
+    columns: &CompactColumns<'_, D>,
+    whole: usize,
+    follows: bool,
+) -> Result<(), TableError>
+    requires { whole ≡ compact_width columns.now }
+    ensures { WritesLines (S.sent sink.old) begun.old result (S.sent sink.new) begun.new (above columns.now follows) }
+{
+    if follows {
+        put_rule(sink, begun, columns, separator(columns.config().get_borders()))
+    } else {
+        put_head(sink, begun, columns, whole)
+    }
+}
+
+/// The line feed before a row, unless the sink refused something before.
+fn put_row_break<S: TextSink>(
+    sink: &mut S,
+    begun: &mut bool,
+    before: Result<(), TableError>,
+) -> Result<(), TableError>
+    ensures put { GoesOn before (S.sent sink.old) result (S.sent sink.new) (break begun.old) }
+    ensures after { OnOk result (begun.new ≡ true) }
+{
+    before?;
+    put_break(sink, begun)
+}
+
+/// A row, unless the sink refused something before. The cells are walked to their end in any case.
+fn put_led_row<C: IntoIterator, D: Dimension, S: TextSink>(
+    sink: &mut S,
+    begun: &mut bool,
+    columns: &CompactColumns<'_, D>,
+    cells: C,
+    before: Result<(), TableError>,
+) -> Result<(), TableError>
+where
+    C::Item: CellText + Drop,
+    requires { IsFiniteIterable C.into_iter_gives C.IntoIter.can_next C.IntoIter.remaining cells }
+    ensures { (items : List C.Item) × Given C.into_iter_gives C.IntoIter.next_gives cells items
+        × GoesOnLines before (S.sent sink.old) begun.old result (S.sent sink.new) begun.new
+        (compact_row columns.now (map C.Item.text items) ∷ []) }
+{
+    let before = put_row_break(sink, begun, before);
+    put_row_line(sink, columns, cells, before)
+}
+
+/// A row with what stands above it. The cells are walked to their end, also where the sink refuses something.
+pub(crate) fn put_row_part<C: IntoIterator, D: Dimension, S: TextSink>(
+    sink: &mut S,
+    begun: &mut bool,
+    columns: &CompactColumns<'_, D>,
+    whole: usize,
+    follows: bool,
+    cells: C,
+) -> Result<(), TableError>
+where
+    C::Item: CellText + Drop,
+    requires ends { IsFiniteIterable C.into_iter_gives C.IntoIter.can_next C.IntoIter.remaining cells }
+    requires whole { whole ≡ compact_width columns.now }
+    ensures { (items : List C.Item) × Given C.into_iter_gives C.IntoIter.next_gives cells items
+        × WritesLines (S.sent sink.old) begun.old result (S.sent sink.new) begun.new
+        (row_part columns.now follows (map C.Item.text items)) }
+{
+    let before = put_above(sink, begun, columns, whole, follows);
+    put_led_row(sink, begun, columns, cells, before)
+}
+
+/// Walks a row that isn't shown.
+pub(crate) fn walk<C: IntoIterator>(cells: C)
+where
+    C::Item: Drop,
+    requires { IsFiniteIterable C.into_iter_gives C.IntoIter.can_next C.IntoIter.remaining cells }
+    ensures { (items : List C.Item) × Given C.into_iter_gives C.IntoIter.next_gives cells items }
+{
+    'cells: for _cell in cells {}
+}

@@ -1,0 +1,41 @@
+//! Which rows of a source are shown.
+ghost use Rattle.std.specs.Prelude.{◌≡◌, ◌==◌, ◌↔◌, IsTrue};
+
+/// Some rows of a source: those after so many that are skipped, and no more than the limit, if there is one.
+#[derive(Debug, Clone, Copy, PartialEq, Eq)]
+pub struct Window {
+    /// How many rows are skipped.
+    pub skip: usize,
+    /// How many of the rows that follow are shown at most.
+    pub limit: Option<usize>,
+}
+
+impl Window {
+    ghost use Rattle.tabled_compact.specs.Shown.{IsSpent, window_after};
+
+    /// Whether no row is shown any more.
+    pub(crate) fn is_spent(&self) -> bool
+        ensures { IsTrue result ↔ IsSpent self.now }
+    {
+        match self.limit {
+            Some(left) => left == 0,
+            None => false,
+        }
+    }
+
+    /// Counts the next row, and tells whether it is shown.
+    pub(crate) fn take_row(&mut self) -> bool
+        ensures shown { result ≡ (self.old.skip == 0) }
+        ensures left { self.new ≡ window_after self.old 1 }
+    {
+        if self.skip > 0 {
+            self.skip -= 1;
+            return false;
+        }
+        self.limit = match self.limit {
+            Some(left) => Some(left.saturating_sub(1)),
+            None => None,
+        };
+        true
+    }
+}
