@@ -38,6 +38,11 @@ pub mod tables {
     pub use tabled_table::Table;
 }
 
+/// Places in tables, one after another.
+pub mod iter {
+    pub use tabled_table::LayoutIterator;
+}
+
 /// Making tables row by row.
 pub mod builder {
     pub use tabled_base::Builder;

@@ -1,2 +1,5 @@
 pub mod NewTables
+pub mod Progressions
 pub mod Sheets
+pub mod Shown
+pub mod ShownTables

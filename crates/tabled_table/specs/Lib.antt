@@ -1,7 +1,9 @@
 pub mod Applied
+pub mod Batches
 pub mod Lending
 pub mod NewConfig
 pub mod NewTable
+pub mod PrintedWith
 pub mod Rows
 pub mod Stopped
 pub mod TableSheet

@@ -1,0 +1,28 @@
+use Rattle.std.proofs.Common.{◌∙◌, ◌||◌, ap, is_some, nat_lt, sym}
+use Rattle.tabled_grid.proofs.Printing.{prints_nothing}
+use Rattle.tabled_table.specs.PrintedWith.{shown, shown_config}
+use Rattle.tabled_table.proofs.ShownTables.{prints_changed, prints_unchanged, refused_missing}
+use Rattle.tabled_table.proofs.table.Table.print_with.Goals as goal
+
+pub returns-then-is_empty-clause-printed : goal.returns-then-is_empty-clause-printed
+returns-then-is_empty-clause-printed g c =
+    prints_nothing (shown c.args.self.now c.args.width c.args.align c.args.fill) _ (sym c.is_empty.ensures.value ∙ c.if-is_empty.true)
+
+pub returns-in_err-missing-clause-printed : goal.returns-in_err-missing-clause-printed
+returns-in_err-missing-clause-printed g c =
+    refused_missing c.args.self.now c.args.width c.args.align c.args.fill _ c.from_residual.result _
+    (sym c.is_empty.ensures.value ∙ c.if-is_empty.false) c.in_err-missing.ensures.err c.from_residual.ensures.1
+
+pub returns-then-not-is_changed-clause-printed : goal.returns-then-not-is_changed-clause-printed
+returns-then-not-is_changed-clause-printed g c =
+    prints_unchanged c.args.self.now c.args.width c.args.align c.args.fill _ _ c.write_to.result
+    (ap (λ n. is_some c.args.align || nat_lt 0 n) (sym c.in_ok-missing.ensures.ok) ∙ sym c.is_changed.ensures ∙ c.if-not-is_changed.true)
+    c.write_to.ensures
+
+pub returns-clause-printed : goal.returns-clause-printed
+returns-clause-printed g c =
+    prints_changed c.args.self.now c.args.width c.args.align c.args.fill _ _ c.print_standing.result c.in_ok-config.config
+    (c.in_ok-config.ensures.ok
+    ∙ ap (λ k. shown_config k c.args.align c.args.fill c.in_ok-missing.missing) c.as_ref.ensures
+    ∙ ap (λ n. shown_config c.args.self.now.config.config c.args.align c.args.fill n) c.in_ok-missing.ensures.ok)
+    c.print_standing.ensures

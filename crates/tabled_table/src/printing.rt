@@ -1,0 +1,162 @@
+//! A table that is printed with a width and an alignment of its own.
+ghost use Rattle.std.specs.Prelude.{◌≡◌, ◌⊎◌, ◌||◌, ◌+◌, ◌<◌, ◌^◌, IfErr, IfOk, None, Some, false, is_some, length, max, nat_lt};
+ghost use Rattle.tabled_apart.specs.Lines.{IsSeparatorColumn};
+ghost use Rattle.tabled_text.specs.Plain.{IsPlainColumn};
+ghost use Rattle.tabled_base.specs.Cells.{columns};
+ghost use Rattle.tabled_base.specs.declared.error.TableError.TheVariants.{Memory, Range, ShortWidths};
+ghost use Rattle.tabled_size.specs.Holds.{Holds};
+ghost use Rattle.tabled_size.specs.PlainCells.{ArePlain};
+ghost use Rattle.tabled_size.specs.Sheet.{is_empty};
+ghost use Rattle.tabled_size.specs.Stored.{is_stored, widths_of};
+ghost use Rattle.tabled_size.specs.TextCells.{AreTexts};
+ghost use Rattle.tabled_size.specs.Totals.{total_width};
+ghost use Rattle.tabled_row.specs.Plain.{EachLineTakes};
+ghost use Rattle.tabled_row.specs.Sent.{Sent};
+ghost use Rattle.tabled_grid.specs.ApartSheet.{IsApartConfig};
+ghost use Rattle.tabled_grid.specs.Picture.{picture};
+ghost use Rattle.tabled_grid.specs.PlainSheet.{IsPlainConfig};
+ghost use Rattle.tabled_grid.specs.Printed.{Prints};
+ghost use Rattle.tabled_table.specs.PrintedWith.{asked, left_part, missing_columns, shown, shown_config, shown_fill, takes_memory, widened};
+ghost use Rattle.tabled_table.specs.TableSheet.{cells_of, sheet};
+
+use crate::table::Table;
+use std::fmt;
+use tabled_base::{Entity, TableError};
+use tabled_config::{AlignmentHorizontal, Indent, Sides, SpannedConfig};
+use tabled_grid::{TextSink, print_standing};
+use tabled_size::is_empty;
+
+/// How many of the missing columns stand on the left.
+fn left_part(align: Option<AlignmentHorizontal>, missing: usize) -> usize
+    ensures { result ≡ left_part align missing }
+{
+    match align {
+        None | Some(AlignmentHorizontal::Left) => missing,
+        Some(AlignmentHorizontal::Center) => missing / 2,
+        Some(AlignmentHorizontal::Right) => 0,
+    }
+}
+
+/// Whether settings are to be changed for an alignment, if one is given, and the missing columns.
+fn is_changed(align: Option<AlignmentHorizontal>, missing: usize) -> bool
+    ensures { result ≡ (is_some align || nat_lt 0 missing) }
+{
+    align.is_some() || missing > 0
+}
+
+/// A margin with the missing columns on its sides.
+fn widened(
+    margin: Sides<Indent>,
+    align: Option<AlignmentHorizontal>,
+    fill: char,
+    missing: usize,
+) -> Sides<Indent>
+    requires { 0 < missing → margin.left.size + margin.right.size + missing < 2 ^ 64 }
+    ensures { result ≡ widened margin align fill missing }
+{
+    if missing == 0 {
+        return margin;
+    }
+    let fill = if fill == '\0' { ' ' } else { fill };
+    let left = left_part(align, missing);
+    let right = missing - left;
+    Sides::new(
+        Indent::new(margin.left.size + left, fill),
+        Indent::new(margin.right.size + right, fill),
+        margin.top,
+        margin.bottom,
+    )
+}
+
+/// A copy of some settings, with an alignment for the whole table if one is given, and the missing columns in the margin.
+/// Refused for memory alone.
+fn shown_config(
+    config: &SpannedConfig,
+    align: Option<AlignmentHorizontal>,
+    fill: char,
+    missing: usize,
+) -> Result<SpannedConfig, TableError>
+    requires { 0 < missing → config.now.margin.left.size + config.now.margin.right.size + missing < 2 ^ 64 }
+    ensures ok { IfOk result (λ shown. shown ≡ shown_config config.now align fill missing) }
+    ensures only { IfErr result (λ e. e ≡ Memory) }
+{
+    let mut shown = config.clone()?;
+    shown.set_margin(widened(*config.get_margin(), align, fill, missing));
+    if let Some(alignment) = align {
+        shown.set_alignment_horizontal(Entity::Global, alignment)?;
+    }
+    Ok(shown)
+}
+
+impl Table {
+    /// The columns that a table with a row and a column lacks to a width: none where no width is asked for, or where the total
+    /// passes the greatest `usize`. Refused for memory where no widths are stored, and with `ShortWidths`.
+    #[tactic(auto, using(crate::proofs::Shown::margins_within))]
+    fn missing_columns(&self, width: Option<usize>) -> Result<usize, TableError>
+        requires { is_empty (cells_of self.now) ≡ false }
+        ensures ok { IfOk result (λ n. n ≡ missing_columns self.now width) }
+        ensures room { IfOk result (λ n. 0 < n → self.now.config.config.margin.left.size
+            + self.now.config.config.margin.right.size + n < 2 ^ 64) }
+        ensures err { IfErr result (λ e. ((e ≡ Memory) × (widths_of self.now.dimension ≡ None))
+            ⊎ ((e ≡ ShortWidths) × (length (sheet self.now).widths < columns (cells_of self.now)))) }
+    {
+        let Some(width) = width else {
+            return Ok(0);
+        };
+        match self.total_width() {
+            Ok(total) => Ok(width.saturating_sub(total)),
+            Err(TableError::Range) => Ok(0),
+            Err(error) => Err(error),
+        }
+    }
+
+    /// Prints the table as `write_to` does, with an alignment for the whole of it, if one is given, and at least as wide as is
+    /// asked for: the columns that its total lacks become margin. `Left` (as `None`) puts all of them on the left, `Right` on the
+    /// right, `Center` the smaller half on the left. Where columns are missing, both side margins are of `fill`, of spaces for
+    /// U+0000; else the fills stay. The table is left as it was. Refused as `write_to`, and for memory also where
+    /// settings are to be changed, before the first byte.
+    #[tactic(auto, using(crate::proofs::ShownTables::total_of_shown, crate::proofs::ShownTables::texts_of_shown, crate::proofs::ShownTables::columns_of_shown))]
+    pub fn print_with<S: TextSink>(
+        &self,
+        sink: &mut S,
+        width: Option<usize>,
+        align: Option<AlignmentHorizontal>,
+        fill: char,
+    ) -> Result<(), TableError>
+        ensures printed { Prints (takes_memory self.now width align) (shown self.now width align fill)
+            (S.sent sink.old) result (S.sent sink.new) }
+        ensures total { is_empty (cells_of self.now) ≡ false
+            → total_width (shown self.now width align fill) ≡ max (asked width) (total_width (sheet self.now)) }
+        ensures texts { IsApartConfig (sheet self.now).config (length (cells_of self.now)) (columns (cells_of self.now))
+            → AreTexts (cells_of self.now) → Holds (sheet self.now) → IsSeparatorColumn (shown_fill fill)
+            → EachLineTakes (total_width (shown self.now width align fill)) (picture (shown self.now width align fill)) }
+        ensures columns { IsPlainConfig (sheet self.now).config (length (cells_of self.now)) (columns (cells_of self.now))
+            → ArePlain (cells_of self.now) → Holds (sheet self.now) → IsPlainColumn (shown_fill fill)
+            → EachLineTakes (total_width (shown self.now width align fill)) (picture (shown self.now width align fill)) }
+    {
+        if is_empty(&self.records) {
+            return Ok(());
+        }
+        let missing = self.missing_columns(width)?;
+        if !is_changed(align, missing) {
+            return self.write_to(sink);
+        }
+        let config = shown_config(self.config.as_ref(), align, fill, missing)?;
+        print_standing(sink, &self.records, &config, &self.dimension)
+    }
+}
+
+/// The text that `to_string` gives; `fmt::Error` where that is refused, or a writer fails.
+impl fmt::Display for Table {
+    ghost use Rattle.tabled_table.specs.TableSheet.{sheet};
+    ghost use Rattle.tabled_grid.specs.Picture.{table_text};
+
+    ghost output = { λ table. Some (table_text (sheet table)) };
+
+    fn fmt<W: fmt::Write>(&self, f: &mut fmt::Formatter<W>) -> fmt::Result {
+        match self.to_string() {
+            Ok(text) => f.write_str(&text),
+            Err(_) => Err(fmt::Error),
+        }
+    }
+}
