@@ -1,11 +1,13 @@
 #!/usr/bin/env python3
-"""Times the wrapping and truncating of whole tables, over the files that `generate.py` writes and parts of them.
+"""Times the options of whole tables, over the files that `generate.py` writes and parts of them.
 
 usage: options.py [FOLDER]
 
 A small program is written into FOLDER (else a temporary folder) beside copies of the crates, built with `rt run`, and
 run on the first tenth and third of the rows of each file, and on all of them. Each table is narrowed to half of its
-total width, the greatest columns first, in copies that are made beforehand.
+total width and widened to twice of it, made half and twice as high, its texts are made 8 columns wide, lists of sizes
+are stored, and padding and a margin are set; the greatest columns and rows shrink first, and the least grow first. The
+copies that are changed are made beforehand.
 Printed are medians of the rounds: milliseconds, and nanoseconds a byte of the texts, which stay the same where a call
 is linear in them.
 """
@@ -23,8 +25,10 @@ FILES = ("long.tsv", "short.tsv", "wide.tsv", "mixed.tsv")
 PARTS = (10, 3, 1)
 
 PROGRAM = """\
-//! Times the narrowing of the table of tab-separated rows on standard input.
+//! Times options on the table of tab-separated rows on standard input.
 #![tactic(auto)]
+
+ghost use Rattle.std.specs.Prelude.{◌*◌, ◌<◌, ◌^◌};
 
 use std::alloc::Global;
 use std::io;
@@ -34,7 +38,7 @@ use tabled::grid::config::ColoredConfig;
 use tabled::grid::dimension::CompleteDimension;
 use tabled::grid::records::{Text, VecRecords};
 use tabled::settings::peaker::Priority;
-use tabled::settings::{TableOption, Width};
+use tabled::settings::{Height, Margin, Padding, TableOption, Width};
 use tabled::{Table, TableError};
 
 const ROUNDS: usize = 5;
@@ -64,7 +68,7 @@ where
     Ok(())
 }
 
-fn measure_all(rt: &HostRuntime, table: &Table, width: usize) -> Result<(), anyhow::Error> {
+fn narrow(rt: &HostRuntime, table: &Table, width: usize) -> Result<(), anyhow::Error> {
     let greatest = Priority::max(true);
     measure(rt, "wrap", table, Width::wrap(width).priority(greatest))?;
     let words = Width::wrap(width).keep_words(true);
@@ -72,13 +76,48 @@ fn measure_all(rt: &HostRuntime, table: &Table, width: usize) -> Result<(), anyh
     measure(rt, "truncate", table, Width::truncate(width).priority(greatest))
 }
 
+fn widen(rt: &HostRuntime, table: &Table, width: usize) -> Result<(), anyhow::Error> {
+    let least = Priority::min(true);
+    measure(rt, "increase", table, Width::increase(width).priority(least))?;
+    measure(rt, "justify", table, Width::justify(8))
+}
+
+fn raise(rt: &HostRuntime, table: &Table, height: usize) -> Result<(), anyhow::Error>
+    requires { height * 2 < 2 ^ 64 }
+{
+    let higher = Height::increase(height * 2);
+    measure(rt, "higher", table, higher.priority(Priority::min(true)))?;
+    let lower = Height::limit(height / 2);
+    measure(rt, "lower", table, lower.priority(Priority::max(true)))
+}
+
+fn store(rt: &HostRuntime, alloc: Global, table: &Table) -> Result<(), anyhow::Error> {
+    let widths = Width::list(alloc, (0..table.count_columns()).map(|_| 8))?;
+    measure(rt, "widths", table, widths)?;
+    let heights = Height::list(alloc, (0..table.count_rows()).map(|_| 2))?;
+    measure(rt, "heights", table, heights)
+}
+
+fn surround(rt: &HostRuntime, table: &Table) -> Result<(), anyhow::Error> {
+    measure(rt, "padding", table, Padding::new(2, 2, 1, 1))?;
+    measure(rt, "margin", table, Margin::new(2, 2, 1, 1))
+}
+
 fn main(rt: HostRuntime) -> Result<(), anyhow::Error> {
     let alloc = rt.alloc();
     let text = io::read_to_string(alloc, &mut rt.stdin())?;
     let table = table_of(alloc, text.as_str())?;
-    let width = table.total_width()? / 2;
+    let width = table.total_width()?;
+    let height = table.total_height()?;
+    if width > usize::MAX / 2 || height > usize::MAX / 2 {
+        return Ok(());
+    }
     for _round in 0..ROUNDS {
-        measure_all(&rt, &table, width)?;
+        narrow(&rt, &table, width / 2)?;
+        widen(&rt, &table, width * 2)?;
+        raise(&rt, &table, height)?;
+        store(&rt, alloc, &table)?;
+        surround(&rt, &table)?;
     }
     Ok(())
 }
