@@ -147,8 +147,7 @@ module _ {S W T A : Type 0} (steps : S → Option W → S → Type 0) (becomes :
   one_later : {old new : S} {row : W} {c : List A} {cs : List (List A)} {whole : Bool} → steps old (Some row) new → Given becomes cell_steps row c
       → ReadsLater steps becomes cell_steps (Some new) cs whole → ReadsLater steps becomes cell_steps (Some old) (c ∷ cs) whole
   one_later {new = new} {row = row} came given more =
-      let q = more.1 in
-      (
+      let q = more.1 in (
         more.0,
         record {
           reached = q.reached;

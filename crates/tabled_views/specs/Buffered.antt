@@ -16,8 +16,8 @@ abbrev pub cells_ahead : {A : Type 0} → List (Vec A Global) → List (List A)
 cells_ahead rows = map (λ row. row.items) rows
 
 -- the rows of an iterator that isn't at its end may be asked for, and end
-abbrev pub MayGiveLater : {S W T : Type 0} → (S → Type 0) → (S → Option W → S → Type 0) → (S → Count) → (W → T → Type 0) → (T → Type 0)
-    → (T → Count) → Option S → Type 0
+abbrev pub MayGiveLater : {S W T : Type 0} → (S → Type 0) → (S → Option W → S → Type 0) → (S → Count) → (W → T → Type 0)
+    → (T → Type 0) → (T → Count) → Option S → Type 0
 MayGiveLater can_row row_steps rows_left cells_become can_cell cells_left rows =
     MatchOption rows ⊤ (λ it. MayGive can_row row_steps rows_left cells_become can_cell cells_left it)
 
@@ -73,12 +73,14 @@ pub record LaterRow {S W T A : Type 0} (steps : S → Option W → S → Type 0)
   pub made : becomes row cells
 
 -- a row came, that was read ahead or is a later one
-abbrev pub row_comes : {S W T A : Type 0} → (S → Option W → S → Type 0) → (W → T → Type 0) → BufRows A S → BufCells A T → BufRows A S → Type 0
+abbrev pub row_comes : {S W T A : Type 0} → (S → Option W → S → Type 0) → (W → T → Type 0) → BufRows A S → BufCells A T
+    → BufRows A S → Type 0
 row_comes steps becomes s (Kept cells) t = (into_iter_len cells ≡ length (into_iter_items cells)) × KeptRow s (into_iter_items cells) t
 row_comes steps becomes s (Later cells) t = LaterRow steps becomes s cells t
 
 -- the rows that were read ahead come first, and then those of the iterator that isn't at its end
-abbrev pub buf_steps : {S W T A : Type 0} → (S → Option W → S → Type 0) → (W → T → Type 0) → BufRows A S → Option (BufCells A T) → BufRows A S → Type 0
+abbrev pub buf_steps : {S W T A : Type 0} → (S → Option W → S → Type 0) → (W → T → Type 0) → BufRows A S → Option (BufCells A T)
+    → BufRows A S → Type 0
 buf_steps {S} steps becomes s r t = MatchOption r
     (into_iter_steps s.kept None t.kept × MatchOption s.later ⊤ (λ it. (last : S) × steps it None last))
     (λ cells. row_comes steps becomes s cells t)
