@@ -6,3 +6,5 @@ pub mod LentBegin
 pub mod LimitedRuns
 pub mod PassRuns
 pub mod Runs
+pub mod RowsRead
+pub mod BufferedRuns

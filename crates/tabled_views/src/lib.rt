@@ -2,14 +2,17 @@
 //! of empty cells.
 #![tactic(auto)]
 
+mod buffer;
 mod empty;
 mod iter_records;
 mod limit_columns;
 mod limit_rows;
+mod read_ahead;
 mod skip_rows;
 mod truncate;
 mod walk;
 
+pub use buffer::{BufCells, BufRecords, BufRows};
 pub use empty::{EmptyCells, EmptyRecords, EmptyRows};
 pub use iter_records::IterRecords;
 pub use limit_columns::{FirstCells, LimitColumns, NarrowRows};
