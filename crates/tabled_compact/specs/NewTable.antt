@@ -6,6 +6,7 @@ use Rattle.tabled_config.specs.declared.alignment.AlignmentHorizontal.TheVariant
 use Rattle.tabled_config.specs.declared.compact.CompactConfig.{CompactConfig}
 use Rattle.tabled_config.specs.Compact.{IsPlainCompact, no_indent}
 use Rattle.tabled_config.specs.Styles.{ascii}
+use Rattle.tabled_views.specs.declared.empty.EmptyRecords.{EmptyRecords}
 
 -- one column on the left and right
 abbrev pub one_beside : Sides Indent
@@ -17,3 +18,7 @@ pub record IsNewConfig (config : CompactConfig) : Type 0 where
   pub plain : CompactConfig
   pub is_plain : IsPlainCompact plain
   pub set : config ≡ record plain { padding = one_beside; borders = ascii.borders; alignment_horizontal = Left }
+
+-- the records that options of a compact table see: no row and no column
+abbrev pub no_records : EmptyRecords
+no_records = record { rows = 0; columns = 0 }

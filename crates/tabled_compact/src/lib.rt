@@ -6,7 +6,6 @@ mod cell;
 mod columns;
 mod lines;
 mod row;
-mod no_records;
 mod print;
 mod printing;
 mod rows;
@@ -15,7 +14,6 @@ mod table;
 mod total;
 mod window;
 
-pub use no_records::NoRecords;
 pub use print::print_compact;
 pub use table::CompactTable;
 pub use window::Window;

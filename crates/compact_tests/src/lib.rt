@@ -1,0 +1,5 @@
+//! Compact tables as users print them.
+#![tactic(auto)]
+
+#[cfg(test)]
+mod tests;
