@@ -1,3 +1,4 @@
 pub mod Escaped
 pub mod PrintedRecords
 pub mod RecordLines
+pub mod Rows

@@ -1,6 +1,7 @@
 //! Tables that show each record by itself, a line for each of its fields.
 #![tactic(auto)]
 
+mod copying;
 mod escaping;
 mod extended_table;
 mod fn_template;

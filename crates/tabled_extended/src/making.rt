@@ -6,12 +6,13 @@ ghost use Rattle.tabled_base.specs.Cells.{row_texts};
 ghost use Rattle.tabled_base.specs.Given.{Given};
 ghost use Rattle.tabled_base.specs.declared.error.TableError.TheVariants.{Memory};
 ghost use Rattle.tabled_extended.specs.Escaped.{escaped};
+ghost use Rattle.tabled_extended.specs.Rows.{first_row, further_rows};
 
 use crate::escaping::escaped_texts;
 use crate::extended_table::ExtendedTable;
 use crate::template::RecordTemplate;
 use std::alloc::Global;
-use tabled_base::TableError;
+use tabled_base::{CellText, IntoRecords, TableError, Text};
 use tabled_value::Tabled;
 
 impl ExtendedTable<RecordTemplate> {
@@ -41,5 +42,84 @@ impl ExtendedTable<RecordTemplate> {
             records,
             template: RecordTemplate,
         })
+    }
+
+    /// A table of rows: the first names the fields, and the others are the records, each as long as it comes. Nothing
+    /// is escaped. Without a row there is no field and no record. Refused only for memory.
+    pub fn from_rows<I: IntoRecords>(
+        alloc: Global,
+        rows: I,
+    ) -> Result<ExtendedTable<RecordTemplate>, TableError>
+    where
+        I::Cell: CellText + Drop,
+        requires { I.ends rows }
+        ensures ok { IfOk result (λ table. (cells : List (List I.Cell)) × I.gives rows cells
+            × (table.fields.items ≡ first_row (map (map I.Cell.text) cells))
+            × (row_texts table.records.items ≡ further_rows (map (map I.Cell.text) cells))) }
+        ensures only { IfErr result (λ e. e ≡ Memory) }
+    {
+        let records = collect_rows(alloc, rows)?;
+        Ok(named_by_first(alloc, records))
+    }
+}
+
+/// The texts of rows, measured.
+fn collect_rows<I: IntoRecords>(
+    alloc: Global,
+    rows: I,
+) -> Result<Vec<Vec<Text<String>>>, TableError>
+where
+    I::Cell: CellText + Drop,
+    requires { I.ends rows }
+    ensures ok { IfOk result (λ all. (cells : List (List I.Cell)) × I.gives rows cells
+        × (row_texts all.items ≡ map (map I.Cell.text) cells)) }
+    ensures only { IfErr result (λ e. e ≡ Memory) }
+{
+    let mut all = Vec::new(alloc);
+    for row in rows.iter_rows() {
+        all.push(collect_row(alloc, row)?)?;
+    }
+    Ok(all)
+}
+
+/// The texts of cells, measured.
+fn collect_row<I: IntoIterator>(alloc: Global, cells: I) -> Result<Vec<Text<String>>, TableError>
+where
+    I::Item: CellText + Drop,
+    requires { IsFiniteIterable I.into_iter_gives I.IntoIter.can_next I.IntoIter.remaining cells }
+    ensures ok { IfOk result (λ row. (items : List I.Item)
+        × Given I.into_iter_gives I.IntoIter.next_gives cells items
+        × (row.items ≡ map I.Item.text items)) }
+    ensures only { IfErr result (λ e. e ≡ Memory) }
+{
+    let mut row = Vec::new(alloc);
+    for cell in cells {
+        let text = String::from_str(alloc, cell.text())?;
+        row.push(Text::new(text))?;
+    }
+    Ok(row)
+}
+
+/// A table of rows of which the first names the fields.
+#[tactic(auto, using(crate::proofs::FirstRow::first_removed, crate::proofs::FirstRow::further_removed, crate::proofs::FirstRow::first_of_none, crate::proofs::FirstRow::further_of_none))]
+fn named_by_first(
+    alloc: Global,
+    mut rows: Vec<Vec<Text<String>>>,
+) -> ExtendedTable<RecordTemplate>
+    ensures fields { result.fields.items ≡ first_row (row_texts rows.items) }
+    ensures records { row_texts result.records.items ≡ further_rows (row_texts rows.items) }
+{
+    if rows.is_empty() {
+        return ExtendedTable {
+            fields: Vec::new(alloc),
+            records: rows,
+            template: RecordTemplate,
+        };
+    }
+    let fields = rows.remove(0);
+    ExtendedTable {
+        fields,
+        records: rows,
+        template: RecordTemplate,
     }
 }

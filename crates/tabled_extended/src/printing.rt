@@ -13,6 +13,7 @@ ghost use Rattle.tabled_extended.specs.PrintedRecords.{IsTooWide, PrintsRecord, 
 use crate::extended_table::ExtendedTable;
 use crate::template::Template;
 use std::alloc::Global;
+use std::fmt;
 use tabled_base::{CellText, TableError, Text};
 use tabled_row::{TextSink, put_break, put_fill};
 use tabled_text::text_width;
@@ -277,6 +278,21 @@ impl<F: Template> ExtendedTable<F> {
         let mut text = String::new(*self.fields.allocator());
         self.write_to(&mut text)?;
         Ok(text)
+    }
+}
+
+/// A text that `to_string` may give; `fmt::Error` where that is refused, or a writer fails. A template may answer one text
+/// or another, so that no one text is told here: `to_string` tells what the lines are.
+impl<F: Template> fmt::Display for ExtendedTable<F> {
+    ghost use Rattle.std.specs.Prelude.{None};
+
+    ghost output = { λ _. None };
+
+    fn fmt<W: fmt::Write>(&self, f: &mut fmt::Formatter<W>) -> fmt::Result {
+        match self.to_string() {
+            Ok(text) => f.write_str(&text),
+            Err(_) => Err(fmt::Error),
+        }
     }
 }
 

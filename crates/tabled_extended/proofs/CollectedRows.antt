@@ -1,0 +1,34 @@
+-- Rows that are collected one after another.
+use Rattle.std.proofs.Common.{◌≡◌, ℕ, List, [], ◌∷◌, ◌++◌, Option, map, sym, ap, ◌∙◌}
+use Rattle.std.specs.List.{AllZip}
+use Rattle.std.specs.declared.alloc.Global.{Global}
+use Rattle.std.specs.declared.vec.Vec.{Vec}
+use Rattle.std.proofs.lemmas.List.{map-append}
+use Rattle.tabled_base.specs.Cells.{row_texts}
+use Rattle.tabled_base.specs.Given.{Given}
+use Rattle.tabled_value.proofs.Joining.{all_zip-more}
+use Rattle.tabled_value.proofs.RowsAdded.{row_texts-push}
+
+-- the cells of the lists so far have the texts of the rows
+pub record Collected {W T A : Type 0} (becomes : W → T → Type 0) (steps : T → Option A → T → Type 0)
+    (text : A → List ℕ) (lists : List W) (rows : List (List (List ℕ))) : Type 0 where
+  pub cells : List (List A)
+  pub each : AllZip (Given becomes steps) lists cells
+  pub texts : rows ≡ map (map text) cells
+
+pub collected-none : {W T A : Type 0} (becomes : W → T → Type 0) (steps : T → Option A → T → Type 0) (text : A → List ℕ)
+    (rows : List (Vec (List ℕ) Global)) → rows ≡ [] → Collected becomes steps text [] (row_texts rows)
+collected-none becomes steps text rows e = record { cells = []; each = tt; texts = ap row_texts e }
+
+pub collected-more : {W T A : Type 0} {becomes : W → T → Type 0} {steps : T → Option A → T → Type 0} {text : A → List ℕ}
+    {lists : List W} {list : W} {items : List A} (rows new : List (Vec (List ℕ) Global)) (row : Vec (List ℕ) Global)
+    → Collected becomes steps text lists (row_texts rows) → new ≡ rows ++ row ∷ [] → Given becomes steps list items
+    → row.items ≡ map text items → Collected becomes steps text (lists ++ list ∷ []) (row_texts new)
+collected-more {becomes = becomes} {steps = steps} {text = text} {lists = lists} {list = list} {items = items} rows new row h e given t = record {
+  cells = h.cells ++ items ∷ [];
+  each = all_zip-more (Given becomes steps) lists h.cells list items h.each given;
+  texts =
+      ap row_texts e ∙ row_texts-push rows row ∙ ap (λ u. u ++ row.items ∷ []) h.texts
+      ∙ ap (λ (t' : List (List ℕ)). map (map text) h.cells ++ t' ∷ []) t
+      ∙ sym (map-append (map text) h.cells (items ∷ []));
+}
