@@ -50,7 +50,11 @@ fn the_first_cells_of_each_row_are_given(rt: HostRuntime) -> Result<(), Fail> {
         (2, "3x2 [a][b] [][] [d][e]"),
         (usize::MAX, ALL),
     ] {
-        assert_text(&rt, walked(rt.alloc(), LimitColumns::new(ROWS, limit)), want)?;
+        assert_text(
+            &rt,
+            walked(rt.alloc(), LimitColumns::new(ROWS, limit)),
+            want,
+        )?;
     }
     Ok(())
 }

@@ -82,9 +82,9 @@ pieces-whole t row n k h =
     let e : n ≡ k + (n - k) = omega arith in
     let z : 0 + k ≡ k = omega arith in
     let whole : flat_map f (range_with_len 0 n) ≡ flat_map f (range_with_len 0 k) ++ flat_map f (range_with_len k (n - k)) =
-        ap (λ m. flat_map f (range_with_len 0 m)) e ∙ ap (flat_map f) (range-append 0 k (n - k))
-        ∙ flat_map-append f (range_with_len 0 k) (range_with_len (0 + k) (n - k))
-        ∙ ap (λ m. flat_map f (range_with_len 0 k) ++ flat_map f (range_with_len m (n - k))) z in
+    ap (λ m. flat_map f (range_with_len 0 m)) e ∙ ap (flat_map f) (range-append 0 k (n - k))
+    ∙ flat_map-append f (range_with_len 0 k) (range_with_len (0 + k) (n - k))
+    ∙ ap (λ m. flat_map f (range_with_len 0 k) ++ flat_map f (range_with_len m (n - k))) z in
     ⊎_elim
     (λ (l : length row < n).
     let long : length row ≤ k = omega arith in

@@ -38,18 +38,20 @@ pub rows-begin : {V S W T A : Type 0} (rows_become : V → S → Type 0) (row_st
     → rows_become rows it → (reached : S) → Yields row_steps it lists reached → (whole : Bool)
     → (whole ≡ true → (last : S) × row_steps reached None last) → SoFar becomes steps text (λ rs. Q rs whole) lists
     → (cells : List (List A)) × (w : Bool) × RowsBegin rows_become row_steps becomes steps rows cells w × Q (map (map text) cells) w
-rows-begin rows_become row_steps becomes steps text Q rows lists it made reached yielded whole ended so_far =
-    (so_far.cells, whole,
-    record {
-      lists = lists;
-      iterator = it;
-      made = made;
-      reached = reached;
-      yielded = yielded;
-      each = so_far.each;
-      ended = ended;
-    },
-    so_far.holds)
+rows-begin rows_become row_steps becomes steps text Q rows lists it made reached yielded whole ended so_far = (
+  so_far.cells,
+  whole,
+  record {
+    lists = lists;
+    iterator = it;
+    made = made;
+    reached = reached;
+    yielded = yielded;
+    each = so_far.each;
+    ended = ended;
+  },
+  so_far.holds,
+)
 
 -- the cells of the lists so far
 abbrev pub AllCame : {W T A : Type 0} → (W → T → Type 0) → (T → Option A → T → Type 0) → List W → Type 0

@@ -65,7 +65,13 @@ fn put_text<T: CellText, S: TextSink>(
 {
     let free = free_columns(config, width, cell);
     let before = columns_before(config.get_alignment_horizontal(), free);
-    put_spaced(sink, config.get_padding(), before, cell.text(), free - before)
+    put_spaced(
+        sink,
+        config.get_padding(),
+        before,
+        cell.text(),
+        free - before,
+    )
 }
 
 /// A text in a column, behind the vertical line before it.

@@ -60,7 +60,12 @@ fn put_above<D: Dimension, S: TextSink>(
     ensures { WritesLines (S.sent sink.old) begun.old result (S.sent sink.new) begun.new (above columns.now follows) }
 {
     if follows {
-        put_rule(sink, begun, columns, separator(columns.config().get_borders()))
+        put_rule(
+            sink,
+            begun,
+            columns,
+            separator(columns.config().get_borders()),
+        )
     } else {
         put_head(sink, begun, columns, whole)
     }

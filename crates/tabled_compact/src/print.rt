@@ -123,5 +123,12 @@ where
     ensures { PrintsCompact (sheet_by config.now (D.width_at dimension.now) columns) window
         (Came (I.begins records) I.Cell.text) (S.sent sink.old) result (S.sent sink.new) }
 {
-    print_rows(sink, records.iter_rows(), config, dimension, columns, window)
+    print_rows(
+        sink,
+        records.iter_rows(),
+        config,
+        dimension,
+        columns,
+        window,
+    )
 }

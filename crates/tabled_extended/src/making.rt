@@ -102,10 +102,7 @@ where
 
 /// A table of rows of which the first names the fields.
 #[tactic(auto, using(crate::proofs::FirstRow::first_removed, crate::proofs::FirstRow::further_removed, crate::proofs::FirstRow::first_of_none, crate::proofs::FirstRow::further_of_none))]
-fn named_by_first(
-    alloc: Global,
-    mut rows: Vec<Vec<Text<String>>>,
-) -> ExtendedTable<RecordTemplate>
+fn named_by_first(alloc: Global, mut rows: Vec<Vec<Text<String>>>) -> ExtendedTable<RecordTemplate>
     ensures fields { result.fields.items ≡ first_row (row_texts rows.items) }
     ensures records { row_texts result.records.items ≡ further_rows (row_texts rows.items) }
 {

@@ -30,18 +30,20 @@ returns-then-left-eq0 g c =
     let long = all_came-length becomes steps (xs ++ x ∷ []) came.0 came.1 in
     let one = length-append xs (x ∷ []) in
     let left = c.rows.invariant.left in
-    let zero = c.if-left-eq0.true in
-    (came.0, false,
-    record {
-      lists = xs ++ x ∷ [];
-      iterator = it.result;
-      made = it.ensures.into_iter_gives;
-      reached = c.next.new.self;
-      yielded = more;
-      each = came.1;
-      ended = λ e. let no : false ≡ true = e in absurd (cc);
-    },
-    omega (arith, long, one, left, zero))
+    let zero = c.if-left-eq0.true in (
+      came.0,
+      false,
+      record {
+        lists = xs ++ x ∷ [];
+        iterator = it.result;
+        made = it.ensures.into_iter_gives;
+        reached = c.next.new.self;
+        yielded = more;
+        each = came.1;
+        ended = λ e. let no : false ≡ true = e in absurd (cc);
+      },
+      omega (arith, long, one, left, zero),
+    )
 
 pub rows-preserved : goal.rows-preserved
 rows-preserved g c =
@@ -64,15 +66,17 @@ returns g c =
     let it = c.into_iter-row-iterator in
     let came = c.rows.invariant.came in
     let long = all_came-length becomes steps c.rows.yielded came.0 came.1 in
-    let left = c.rows.invariant.left in
-    (came.0, true,
-    record {
-      lists = c.rows.yielded;
-      iterator = it.result;
-      made = it.ensures.into_iter_gives;
-      reached = c.rows.row-iterator;
-      yielded = c.rows.yielded_by;
-      each = came.1;
-      ended = λ e. (c.next.new.self, c.in-None.ensures.steps);
-    },
-    (omega (arith, long, left), refl))
+    let left = c.rows.invariant.left in (
+      came.0,
+      true,
+      record {
+        lists = c.rows.yielded;
+        iterator = it.result;
+        made = it.ensures.into_iter_gives;
+        reached = c.rows.row-iterator;
+        yielded = c.rows.yielded_by;
+        each = came.1;
+        ended = λ e. (c.next.new.self, c.in-None.ensures.steps);
+      },
+      (omega (arith, long, left), refl),
+    )

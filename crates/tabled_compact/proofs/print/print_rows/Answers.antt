@@ -16,9 +16,10 @@ pub returns-then-columns-eq0 : goal.returns-then-columns-eq0
 returns-then-columns-eq0 g c =
     let t = sheet_by c.args.config.now (g.D.Dimension.width_at c.args.dimension.now) c.args.columns in
     let why : (c.args.columns ≡ 0) ⊎ IsSpent c.args.window =
-        elim c.then-columns-eq0.branch
-        [ then-columns-eq0-via-then-columns-eq0 w ↦ inl w.if-columns-eq0.true
-        | then-columns-eq0-via-else-columns-eq0+then-is_spent w ↦ inr (w.if-is_spent.ensures.0 refl) ] in
+    elim c.then-columns-eq0.branch [
+      | then-columns-eq0-via-then-columns-eq0 w ↦ inl w.if-columns-eq0.true
+      | then-columns-eq0-via-else-columns-eq0+then-is_spent w ↦ inr (w.if-is_spent.ensures.0 refl)
+    ] in
     prints-nothing t c.args.window _ _ ([], c.pass_over.ensures, refl) why
 
 pub returns-in-Err : goal.returns-in-Err

@@ -12,12 +12,14 @@ returns-in_err-column g c =
     let text = g.C.Item.CellText.text in
     let came = c.in_err-column.ensures in
     let n = min (length came.0) t.count in
-    let cells = pieces t (map text came.0) (range_with_len 0 n) in
-    (came.0, came.1,
-    goes-stopped c.args.before _ _ (row_start t ++ cells) (row_end t n) _ _ c.in_err-column.field-0.0 _
-    (goes-on c.args.before _ _ _ (row_start t) cells _ c.put_row_start-before.result _ c.put_row_start-before.ensures came.3 refl)
-    refl c.from_residual.ensures.1
-    (row-split t (map text came.0) n (sym (ap (λ k. min k t.count) (length-map came.0 text)))))
+    let cells = pieces t (map text came.0) (range_with_len 0 n) in (
+      came.0,
+      came.1,
+      goes-stopped c.args.before _ _ (row_start t ++ cells) (row_end t n) _ _ c.in_err-column.field-0.0 _
+          (goes-on c.args.before _ _ _ (row_start t) cells _ c.put_row_start-before.result _ c.put_row_start-before.ensures came.3 refl)
+          refl c.from_residual.ensures.1
+          (row-split t (map text came.0) n (sym (ap (λ k. min k t.count) (length-map came.0 text)))),
+    )
 
 pub returns : goal.returns
 returns g c =
@@ -27,10 +29,12 @@ returns g c =
     let n = c.in_ok-column.column in
     let k = min (length came.0) t.count in
     let count : n ≡ k = came.2 in
-    let cells = pieces t (map text came.0) (range_with_len 0 k) in
-    (came.0, came.1,
-    goes-on c.args.before _ _ _ (row_start t ++ cells) (row_end t n) _ (Ok n) c.put_row_end.result
-    (goes-on c.args.before _ _ _ (row_start t) cells _ c.put_row_start-before.result _ c.put_row_start-before.ensures came.3 refl)
-    c.put_row_end.ensures
-    (row-split t (map text came.0) k (sym (ap (λ k. min k t.count) (length-map came.0 text)))
-    ∙ ap (λ m. (row_start t ++ cells) ++ row_end t m) (sym count)))
+    let cells = pieces t (map text came.0) (range_with_len 0 k) in (
+      came.0,
+      came.1,
+      goes-on c.args.before _ _ _ (row_start t ++ cells) (row_end t n) _ (Ok n) c.put_row_end.result
+          (goes-on c.args.before _ _ _ (row_start t) cells _ c.put_row_start-before.result _ c.put_row_start-before.ensures came.3 refl)
+          c.put_row_end.ensures
+          (row-split t (map text came.0) k (sym (ap (λ k. min k t.count) (length-map came.0 text)))
+          ∙ ap (λ m. (row_start t ++ cells) ++ row_end t m) (sym count)),
+    )

@@ -52,7 +52,7 @@ returns-in_err-put_row-clause-put g c =
     let put = rw c.rows.invariant.same at c.in_err-put_row.ensures.put in
     let P : List (List (List ℕ)) → Type 0 = HavePut self.columns self.window old self.begun sent mid.begun mid.any mid.window in
     let Q : List (List (List ℕ)) → Bool → Type 0 =
-        PutsRows self.columns self.window old self.begun c.from_residual.result new after.begun after.any in
+    PutsRows self.columns self.window old self.begun c.from_residual.result new after.begun after.any in
     rows-begin g.R.IntoIterator.into_iter_gives steps becomes cells text Q c.args.rows (xs ++ x ∷ []) it.result it.ensures.into_iter_gives
     c.next.new.self more false (λ e. absurd (cc))
     (so_far-more becomes cells text P (λ rs. Q rs false) xs x put.0 c.rows.invariant.so_far put.1
@@ -80,7 +80,7 @@ returns-then-is_spent-clause-put g c =
     let put = rw c.rows.invariant.same at c.in_ok-put_row.ensures.put in
     let P : List (List (List ℕ)) → Type 0 = HavePut self.columns self.window old self.begun sent mid.begun mid.any mid.window in
     let Q : List (List (List ℕ)) → Bool → Type 0 =
-        PutsRows self.columns self.window old self.begun (Ok tt) new after.begun after.any in
+    PutsRows self.columns self.window old self.begun (Ok tt) new after.begun after.any in
     rows-begin g.R.IntoIterator.into_iter_gives steps becomes cells text Q c.args.rows (xs ++ x ∷ []) it.result it.ensures.into_iter_gives
     c.next.new.self more false (λ e. absurd (cc))
     (so_far-more becomes cells text P (λ rs. Q rs false) xs x put.0 c.rows.invariant.so_far put.1

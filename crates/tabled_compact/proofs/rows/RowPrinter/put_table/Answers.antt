@@ -5,15 +5,21 @@ use Rattle.tabled_compact.proofs.rows.RowPrinter.put_table.Goals as goal
 pub returns-in_err-put_rows : goal.returns-in_err-put_rows
 returns-in_err-put_rows g c =
     let self = c.args.self in
-    let put = c.in_err-put_rows.ensures.put in
-    (put.0, put.1, put.2,
-    table-stopped self.columns self.window _ self.begun _ _ _ _ _ put.1 _ c.from_residual.result refl put.3 c.requires.alone c.from_residual.ensures.1)
+    let put = c.in_err-put_rows.ensures.put in (
+      put.0,
+      put.1,
+      put.2,
+      table-stopped self.columns self.window _ self.begun _ _ _ _ _ put.1 _ c.from_residual.result refl put.3 c.requires.alone c.from_residual.ensures.1,
+    )
 
 pub returns : goal.returns
 returns g c =
     let self = c.args.self in
     let put = c.in_ok-put_rows.ensures.put in
-    let mid = c.put_rows.new.self in
-    (put.0, put.1, put.2,
-    table-put self.columns self.window _ self.begun _ mid.begun mid.any _ _ _ put.1 _ _ c.put_end.result refl put.3 c.requires.alone
-    (rw c.in_ok-put_rows.ensures.same at c.put_end.ensures.put) c.put_end.ensures.refused)
+    let mid = c.put_rows.new.self in (
+      put.0,
+      put.1,
+      put.2,
+      table-put self.columns self.window _ self.begun _ mid.begun mid.any _ _ _ put.1 _ _ c.put_end.result refl put.3 c.requires.alone
+          (rw c.in_ok-put_rows.ensures.same at c.put_end.ensures.put) c.put_end.ensures.refused,
+    )
