@@ -1,0 +1,124 @@
+//! Whole pictures.
+
+use crate::named::{C, Language, Plain, Quoted};
+use std::alloc::Global;
+use std::process::Abort;
+use std::test::Fail;
+use tabled_base::TableError;
+use tabled_extended::{ExtendedTable, FnTemplate, LabelFn};
+
+/// The picture of the language.
+pub(crate) const LANGUAGE: &str = "\
+-[ RECORD 0 ]-+---------------
+name          | C
+designed_by   | Dennis Ritchie
+invented_year | 1972";
+
+const TWO: &str = "\
+-[ RECORD 0 ]-+--------------------
+name          | C
+designed_by   | Dennis Ritchie
+invented_year | 1972
+-[ RECORD 1 ]-+--------------------
+name          | Rust
+designed_by   | Graydon Hoare et al
+invented_year | 2010";
+
+// Stops a test where a text isn't the wanted one; one that is refused ends it.
+fn assert_text(
+    rt: &impl Abort,
+    text: Result<String, TableError>,
+    wanted: &str,
+) -> Result<(), Fail> {
+    assert_eq!(rt; text?.as_str(), wanted);
+    Ok(())
+}
+
+fn languages(alloc: Global) -> Result<String, TableError> {
+    let rust = Language {
+        name: "Rust",
+        designer: "Graydon Hoare et al",
+        year: "2010",
+    };
+    ExtendedTable::new(alloc, [C, rust])?.to_string()
+}
+
+#[test]
+fn a_record_has_a_header_and_a_line_for_each_field(rt: HostRuntime) -> Result<(), Fail> {
+    let text = ExtendedTable::new(rt.alloc(), [C])?.to_string();
+    assert_text(&rt, text, LANGUAGE)?;
+    assert_text(&rt, languages(rt.alloc()), TWO)
+}
+
+fn plain(alloc: Global, text: &'static str) -> Result<String, TableError> {
+    ExtendedTable::new(alloc, [Plain(text)])?.to_string()
+}
+
+#[test]
+fn new_escapes_names_and_texts(rt: HostRuntime) -> Result<(), Fail> {
+    let text = ExtendedTable::new(rt.alloc(), [Quoted("x\ny")])?.to_string();
+    assert_text(&rt, text, "-[ RECORD 0 ]-\na\\\"b | x\\ny")?;
+    let text = plain(rt.alloc(), "'\\\t\r\0\u{1}\u{1f}");
+    let wanted = "-[ RECORD 0 ]------------\nk | \\'\\\\\\t\\r\\0\\u{1}\\u{1f}";
+    assert_text(&rt, text, wanted)?;
+    let text = plain(rt.alloc(), "\u{7f}\u{9f}\u{a0}");
+    let wanted = "-[ RECORD 0 ]----\nk | \\u{7f}\\u{9f}\u{a0}";
+    assert_text(&rt, text, wanted)
+}
+
+#[test]
+fn no_record_prints_nothing(rt: HostRuntime) -> Result<(), Fail> {
+    let none: [Language; 0] = [];
+    let text = ExtendedTable::new(rt.alloc(), none)?.to_string();
+    assert_text(&rt, text, "")
+}
+
+fn both(
+    alloc: Global,
+    first: &'static str,
+    second: &'static str,
+) -> Result<ExtendedTable, TableError> {
+    ExtendedTable::new(alloc, [Plain(first), Plain(second)])
+}
+
+// The picture of a table under headers that a function answers.
+fn under<G: LabelFn + Drop>(table: ExtendedTable, g: G) -> Result<String, TableError>
+    requires { G.callable g }
+{
+    table.template(FnTemplate::new(g)).to_string()
+}
+
+#[test]
+fn a_function_answers_the_headers(rt: HostRuntime) -> Result<(), Fail> {
+    let alloc = rt.alloc();
+    let table = both(alloc, "v", "")?;
+    let text = under(table, |index: usize| format!(in alloc; "r{index}"));
+    assert_text(&rt, text, "-r0--\nk | v\n-r1--\nk | ")
+}
+
+#[test]
+fn a_character_of_two_columns_takes_two(rt: HostRuntime) -> Result<(), Fail> {
+    let alloc = rt.alloc();
+    let table = both(alloc, "中", "a")?;
+    let text = under(table, |_index: usize| Ok(String::new(alloc)));
+    assert_text(&rt, text, "--+---\nk | 中\n--+---\nk | a")
+}
+
+#[test]
+fn the_first_row_names_the_fields_and_nothing_is_escaped(rt: HostRuntime) -> Result<(), Fail> {
+    let rows = [["k", "中\""], ["v", "\\"]];
+    let text = ExtendedTable::from_rows(rt.alloc(), rows)?.to_string();
+    assert_text(&rt, text, "-[ RECORD 0 ]-\nk   | v\n中\" | \\")
+}
+
+// What Display writes of a copy of a table.
+fn copied(alloc: Global, table: &ExtendedTable) -> Result<String, TableError> {
+    let copy = table.clone()?;
+    Ok(format!(in alloc; "{copy}")?)
+}
+
+#[test]
+fn a_copy_displays_the_same_picture(rt: HostRuntime) -> Result<(), Fail> {
+    let table = ExtendedTable::new(rt.alloc(), [C])?;
+    assert_text(&rt, copied(rt.alloc(), &table), LANGUAGE)
+}
