@@ -1,4 +1,5 @@
 pub mod TopAndBottom
+pub mod Endings
 pub mod Measures
 pub mod NextPut
 pub mod Parts

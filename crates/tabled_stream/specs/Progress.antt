@@ -1,5 +1,6 @@
 -- How far a stream was printed.
 use Rattle.std.specs.Prelude.{◌≡◌, ℕ, ◌+◌, ◌==◌, ◌^◌, ◌<◌, ◌≤◌, ◌⊎◌, Bool, true, false, List, [], ◌∷◌, ◌++◌, Option, Some, None, Result, Ok, Err, length, slice_index, unwrap_or}
+use Rattle.std.specs.Result.{IsErrAnd}
 use Rattle.tabled_base.specs.declared.error.TableError.{TableError}
 use Rattle.tabled_base.specs.declared.error.TableError.TheVariants.{Memory, Range}
 use Rattle.tabled_border.specs.Frame.{frame_of}
@@ -15,7 +16,7 @@ use Rattle.tabled_stream.specs.declared.settings.Settings.{Settings}
 use Rattle.tabled_stream.specs.Printed.{lines_above}
 use Rattle.tabled_stream.specs.Row.{compact_style, content_at}
 use Rattle.tabled_stream.specs.Streamed.{IsStreamed, column_count, content_height, content_width}
-use Rattle.tabled_stream.specs.Streams.{IsTooHighFirst}
+use Rattle.tabled_stream.specs.Streams.{IsTooHighFirst, stream_total}
 
 -- a layout is that of some settings, where some rows were read ahead
 pub record IsLaidOut (settings : Settings) (config : CompactConfig) (ahead_rows : List (List (List ℕ))) (layout : Layout) : Type 0 where
@@ -111,3 +112,13 @@ pub record EndsSheet {R : Type 0} (settings : Settings) (config : CompactConfig)
   pub sheet : Sheet
   pub in_reach : IsInReach settings config ahead_rows shown sheet
   pub writes : Writes start result now (table_text sheet)
+
+-- printing of further rows behind those that were printed, as many as may be, and of the end of the table: it is done, or was
+-- refused there, or halts before
+abbrev pub FinishesMore : {R : Type 0} → Option ℕ → ℕ → ℕ → Bool → List (List (List ℕ)) → Layout → Bool → Sent → Bool → Result R TableError → Sent → Type 0
+FinishesMore limit lines total whole more layout first old begun result new =
+    (settings : Settings) (config : CompactConfig) (ahead_rows shown : List (List (List ℕ))) (start : Sent)
+    → length ahead_rows ≤ length shown → lines ≡ unwrap_or settings.height 1 → 0 < length shown → 0 < layout.count
+    → total ≡ stream_total settings config ahead_rows → HasPut settings config ahead_rows shown start layout first old begun
+    → (IsLimited limit (length more) whole × EndsSheet settings config ahead_rows (shown ++ more) start result new)
+    ⊎ IsErrAnd result (λ e. Halts settings config ahead_rows (shown ++ more) start layout.count e new)

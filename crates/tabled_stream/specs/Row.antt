@@ -1,5 +1,5 @@
 -- A row as it is printed.
-use Rattle.std.specs.Prelude.{◌≡◌, ℕ, ◌+◌, if◌then◌else◌, Bool, false, List, [], ◌++◌, ◌⊎◌, Option, map, Result, Ok, Err}
+use Rattle.std.specs.Prelude.{◌≡◌, ℕ, ◌+◌, ◌-◌, ◌*◌, if◌then◌else◌, Bool, false, List, [], ◌++◌, ◌⊎◌, Option, map, Result, Ok, Err}
 use Rattle.std.specs.List.{range_with_len, slice_index, slice_index_or}
 use Rattle.tabled_base.specs.declared.error.TableError.{TableError}
 use Rattle.tabled_base.specs.declared.error.TableError.TheVariants.{Memory}
@@ -8,6 +8,7 @@ use Rattle.tabled_config.specs.declared.alignment.AlignmentVertical.TheVariants.
 use Rattle.tabled_config.specs.declared.compact.CompactConfig.{CompactConfig}
 use Rattle.tabled_config.specs.declared.spanned.CellStyle.{CellStyle}
 use Rattle.tabled_border.specs.declared.borders.HorizontalLine.{HorizontalLine}
+use Rattle.tabled_priority.specs.Sums.{one_if, sum_below}
 use Rattle.tabled_row.specs.Leading.{LineSends, LineStops}
 use Rattle.tabled_row.specs.Row.{ColumnSheet, RowSheet, row_lines, rule_if}
 use Rattle.tabled_row.specs.Sent.{Sent}
@@ -21,6 +22,13 @@ content_at layout column = slice_index_or layout.contents.items column layout.re
 -- its width
 abbrev pub width_at : Layout → ℕ → ℕ
 width_at layout column = content_at layout column + layout.side
+
+-- the widths of all columns, the vertical lines that are there, and the side margins
+unfoldable pub layout_total : Layout → ℕ
+layout_total layout =
+    let f = layout.frame in
+    (f.margin.left.size + one_if f.left.there)
+    + ((sum_below (width_at layout) layout.count + (layout.count - 1) * one_if f.inner.there) + (one_if f.right.there + f.margin.right.size))
 
 -- all columns
 abbrev pub layout_columns : Layout → ColumnSheet

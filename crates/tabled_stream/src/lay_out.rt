@@ -1,24 +1,24 @@
 //! The columns of a stream, laid out by its settings and the rows that are read ahead.
-ghost use Rattle.std.specs.Prelude.{◌≡◌, ◌+◌, ◌<◌, ◌≤◌, ◌^◌, ℕ, IfErr, IfOk, MatchOption};
+ghost use Rattle.std.specs.Prelude.{◌≡◌, ◌+◌, ◌<◌, ◌≤◌, ◌^◌, ◌⊎◌, ℕ, IfErr, IfOk, MatchOption, MatchResult};
 ghost use Rattle.std.specs.List.{slice_index_or};
 ghost use Rattle.tabled_base.specs.Cells.{texts_of};
-ghost use Rattle.tabled_base.specs.declared.error.TableError.TheVariants.{Memory};
-ghost use Rattle.tabled_priority.specs.Sums.{one_if, sum_below};
-ghost use Rattle.tabled_row.specs.Apart.{line_total};
+ghost use Rattle.tabled_base.specs.declared.error.TableError.TheVariants.{Memory, Range};
 ghost use Rattle.tabled_stream.specs.Progress.{IsLaidOut};
-ghost use Rattle.tabled_stream.specs.Row.{compact_style, content_at, layout_columns, width_at};
+ghost use Rattle.tabled_stream.specs.Row.{compact_style, content_at, layout_total};
 ghost use Rattle.tabled_stream.specs.Streamed.{column_count, content_width};
+ghost use Rattle.tabled_stream.specs.Streams.{stream_total};
 
 use crate::layout::Layout;
 use crate::settings::Settings;
 use crate::sniff::{longest_row, widest_cells};
+use crate::total::total_width;
 use std::alloc::Global;
 use tabled_base::{CellText, TableError};
 use tabled_config::{AlignmentVertical, CellStyle, CompactConfig, SpannedConfig};
 use tabled_row::SharedStyle;
 
 /// How many columns there are.
-fn count_columns<C: CellText>(settings: &Settings, rows: &[Vec<C>]) -> usize
+pub(crate) fn count_columns<C: CellText>(settings: &Settings, rows: &[Vec<C>]) -> usize
     ensures { result ≡ column_count settings.now (texts_of C.text rows.now) }
 {
     match settings.columns {
@@ -68,19 +68,20 @@ fn style_of(config: &CompactConfig) -> CellStyle
     }
 }
 
-/// The columns of a stream with so many columns of side padding. Refused for memory.
-pub(crate) fn lay_out<C: CellText>(
+/// So many columns of a stream, with so many columns of side padding. Refused for memory.
+fn lay_out<C: CellText>(
     alloc: Global,
     settings: &Settings,
     config: &CompactConfig,
+    count: usize,
     side: usize,
     rows: &[Vec<C>],
 ) -> Result<Layout, TableError>
-    requires { side ≡ config.now.padding.left.size + config.now.padding.right.size }
+    requires count { count ≡ column_count settings.now (texts_of C.text rows.now) }
+    requires side { side ≡ config.now.padding.left.size + config.now.padding.right.size }
     ensures ok { IfOk result (λ layout. IsLaidOut settings.now config.now (texts_of C.text rows.now) layout) }
     ensures only { IfErr result (λ e. e ≡ Memory) }
 {
-    let count = count_columns(settings, rows);
     let contents = contents_of(alloc, settings, rows, count)?;
     let spanned = SpannedConfig::from_compact(alloc, *config);
     let style = style_of(config);
@@ -98,4 +99,49 @@ pub(crate) fn lay_out<C: CellText>(
         style,
         shared: SharedStyle::new(style, frame.inner),
     })
+}
+
+/// What a stream is laid out as.
+#[derive(Drop)]
+pub(crate) struct Plan {
+    /// Its columns.
+    pub layout: Layout,
+    /// How many columns the whole takes.
+    pub total: usize,
+    ghost whole: { total ≡ layout_total layout },
+    ghost in_range: { layout_total layout < 2 ^ 64 },
+}
+
+/// The columns of left and right padding. Refused with `Range` where they pass the greatest `usize`.
+fn side_of(config: &CompactConfig) -> Result<usize, TableError>
+    ensures { let side = config.now.padding.left.size + config.now.padding.right.size in
+        MatchResult result (λ n. n ≡ side) (λ e. (e ≡ Range) × (2 ^ 64 ≤ side)) }
+{
+    let padding = config.get_padding();
+    match padding.left.size.checked_add(padding.right.size) {
+        Some(side) => Ok(side),
+        None => Err(TableError::Range),
+    }
+}
+
+/// So many columns of a stream, at least one, and the whole that they make. Refused with `Range` where that passes the greatest
+/// `usize`, and for memory.
+pub(crate) fn make_plan<C: CellText>(
+    alloc: Global,
+    settings: &Settings,
+    config: &CompactConfig,
+    count: usize,
+    rows: &[Vec<C>],
+) -> Result<Plan, TableError>
+    requires count { count ≡ column_count settings.now (texts_of C.text rows.now) }
+    requires some { 0 < count }
+    ensures ok { IfOk result (λ plan. IsLaidOut settings.now config.now (texts_of C.text rows.now) plan.layout) }
+    ensures err { IfErr result (λ e. ((e ≡ Range) × (2 ^ 64 ≤ stream_total settings.now config.now (texts_of C.text rows.now))) ⊎ (e ≡ Memory)) }
+{
+    let side = side_of(config)?;
+    let layout = lay_out(alloc, settings, config, count, side, rows)?;
+    match total_width(&layout) {
+        Some(total) => Ok(Plan { layout, total }),
+        None => Err(TableError::Range),
+    }
 }

@@ -6,6 +6,7 @@
 
 mod columns;
 mod ends;
+mod finish;
 mod lay_out;
 mod layout;
 mod print;
@@ -13,5 +14,7 @@ mod reading;
 mod record;
 mod settings;
 mod sniff;
+mod take;
+mod total;
 
 pub use settings::Settings;

@@ -25,7 +25,7 @@ fn one_fewer(left: Option<usize>) -> Option<usize>
 }
 
 /// Whether no further row may be printed.
-fn is_none_left(left: Option<usize>) -> bool
+pub(crate) fn is_none_left(left: Option<usize>) -> bool
     ensures going { result ≡ false → left ≢ Some 0 }
     ensures reached { result ≡ true → left ≡ Some 0 }
 {
@@ -53,7 +53,7 @@ impl<'a> Stream<'a> {
     }
 
     /// The first rows, of which some were read ahead.
-    fn put_kept<C: CellText, S: TextSink>(
+    pub fn put_kept<C: CellText, S: TextSink>(
         &mut self,
         alloc: Global,
         sink: &mut S,
@@ -80,7 +80,7 @@ impl<'a> Stream<'a> {
     }
 
     /// The rows that come, as many as may be printed, each taken as it is printed. Answers whether these are all.
-    fn put_rest<I: Iterator<Item = W>, W: IntoIterator<Item = C>, C: CellText + Drop, S: TextSink>(
+    pub fn put_rest<I: Iterator<Item = W>, W: IntoIterator<Item = C>, C: CellText + Drop, S: TextSink>(
         &mut self,
         alloc: Global,
         sink: &mut S,
