@@ -1,26 +1,13 @@
 -- A stream that is printed to its end, or halts.
-use Rattle.std.proofs.Common.{◌≡◌, ◌⊎◌, ℕ, zero, suc, ◌+◌, ◌-◌, ◌==◌, ◌<◌, ◌≤◌, ◌^◌, ◌||◌, if◌then◌else◌, Bool, true, false, List, [], ◌∷◌, ◌++◌, length, map, max, min, replicate, take, drop, Option, Some, None, MatchOption, Result, Ok, Err, refl, sym, ◌∙◌, ap, subst, arith, append-nil, append_assoc, length-append, inl, inr, ⊎_elim, get_or}
-use Rattle.std.specs.List.{range_with_len, slice_index, slice_index_or}
+use Rattle.std.proofs.Common.{◌≡◌, ℕ, ◌<◌, Bool, List, [], ◌++◌, length, Option, Some, None, Result, Ok, Err, refl, sym, subst, arith, length-append, inl, inr}
 use Rattle.std.specs.Result.{IsErrAnd}
-use Rattle.std.proofs.lemmas.List.{length-map, take_all, take-append-drop}
-use Rattle.tabled_base.specs.Cells.{columns, lengthened}
 use Rattle.tabled_base.specs.declared.error.TableError.{TableError}
-use Rattle.tabled_base.specs.declared.error.TableError.TheVariants.{Memory, Range, Writer}
 use Rattle.tabled_config.specs.declared.compact.CompactConfig.{CompactConfig}
-use Rattle.tabled_config.specs.Spanned.{spanned_of_compact}
-use Rattle.tabled_grid.specs.Picture.{picture, table_text}
-use Rattle.tabled_row.specs.Leading.{LineSends, LineStops}
-use Rattle.tabled_row.specs.Sent.{Sent, Sends, Stops}
-use Rattle.tabled_row.proofs.Leading.{lines-text}
-use Rattle.tabled_row.proofs.Sending.{sends-none}
-use Rattle.tabled_size.specs.Sheet.{Sheet, is_empty}
+use Rattle.tabled_row.specs.Sent.{Sent}
 use Rattle.tabled_stream.specs.declared.layout.Layout.{Layout}
 use Rattle.tabled_stream.specs.declared.settings.Settings.{Settings}
-use Rattle.tabled_stream.specs.Printed.{lines_above, text_above}
 use Rattle.tabled_stream.specs.Progress.{EndsSheet, FinishesMore, Halts, HaltsMore, HaltsWithin, HasPut, HasPutMore, IsLimited, IsPermitted}
-use Rattle.tabled_stream.specs.Streamed.{IsCutRow, IsStreamed, ahead, column_count, content_width, limited, sniffed, stream_height, stream_widths}
-use Rattle.tabled_stream.specs.Streams.{AreEnough, IsTooHighFirst, StreamSends, StreamStops, Streams, stream_total}
-use Rattle.tabled_stream.proofs.Widths.{listed}
+use Rattle.tabled_stream.specs.Streams.{stream_total}
 
 pub err-and : {R E : Type 0} (r : Result R E) (e : E) (Q : E → Type 0) → IsErrAnd r (λ d. d ≡ e) → Q e → IsErrAnd r Q
 err-and (Ok x) e Q i q = absurd i
@@ -44,8 +31,11 @@ module _ {R : Type 0} {layout : Layout} {first begun : Bool} {old new : Sent} (l
       → EndsSheet settings config ahead_rows shown start r new)
       → FinishesMore limit lines total whole more layout first old begun r new
   finishes-ending lim so_far ends settings config ahead_rows shown start a l s w t p =
-      inl (lim, ends settings config ahead_rows (shown ++ more) start (omega (arith, length-append shown more)) w t
-      (so_far settings config ahead_rows shown start a l p))
+      inl (
+        lim,
+        ends settings config ahead_rows (shown ++ more) start (omega (arith, length-append shown more)) w t
+            (so_far settings config ahead_rows shown start a l p),
+      )
 
 pub limited-permitted : (limit : Option ℕ) (count : ℕ) (whole : Bool) → IsLimited limit count whole → IsPermitted limit count
 limited-permitted None count whole h = tt

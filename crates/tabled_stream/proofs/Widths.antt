@@ -1,5 +1,5 @@
 -- Widths that are listed and summed up.
-use Rattle.std.proofs.Common.{◌≡◌, ◌⊎◌, ℕ, zero, suc, ◌+◌, ◌-◌, ◌*◌, ◌<◌, ◌≤◌, ◌^◌, List, [], ◌∷◌, length, map, min, Option, Some, None, MatchOption, refl, sym, ◌∙◌, ap, subst, arith, get_or, zero-add}
+use Rattle.std.proofs.Common.{◌≡◌, ℕ, zero, suc, ◌+◌, ◌-◌, ◌*◌, ◌<◌, ◌≤◌, ◌^◌, List, [], ◌∷◌, length, map, min, Option, Some, None, MatchOption, refl, sym, ◌∙◌, ap, arith, get_or, zero-add}
 use Rattle.std.specs.List.{range_with_len, slice_index}
 use Rattle.std.proofs.lemmas.List.FromFn.{get_or-map-range_with_len}
 use Rattle.tabled_border.specs.declared.frame.Frame.{Frame}
@@ -12,8 +12,8 @@ use Rattle.tabled_size.specs.Totals.{filled_width}
 use Rattle.tabled_stream.specs.declared.layout.Layout.{Layout}
 use Rattle.tabled_stream.specs.declared.settings.Settings.{Settings}
 use Rattle.tabled_stream.specs.Progress.{IsLaidOut}
-use Rattle.tabled_stream.specs.Row.{content_at, layout_total, width_at}
-use Rattle.tabled_stream.specs.Streamed.{column_count, content_width, stream_width, stream_widths}
+use Rattle.tabled_stream.specs.Row.{layout_total, width_at}
+use Rattle.tabled_stream.specs.Streamed.{column_count, stream_width, stream_widths}
 use Rattle.tabled_stream.specs.Streams.{stream_total}
 
 pub listed : (f : ℕ → ℕ) (n k : ℕ) → k < n → slice_index (map f (range_with_len 0 n)) k ≡ f k

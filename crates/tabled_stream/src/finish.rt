@@ -40,7 +40,12 @@ impl<'a> Stream<'a> {
     }
 
     /// The rows that come, as many as may be printed, and what stands below the last row.
-    pub fn put_others<I: Iterator<Item = W>, W: IntoIterator<Item = C>, C: CellText + Drop, S: TextSink>(
+    pub fn put_others<
+        I: Iterator<Item = W>,
+        W: IntoIterator<Item = C>,
+        C: CellText + Drop,
+        S: TextSink,
+    >(
         &mut self,
         alloc: Global,
         sink: &mut S,

@@ -80,7 +80,12 @@ impl<'a> Stream<'a> {
     }
 
     /// The rows that come, as many as may be printed, each taken as it is printed. Answers whether these are all.
-    pub fn put_rest<I: Iterator<Item = W>, W: IntoIterator<Item = C>, C: CellText + Drop, S: TextSink>(
+    pub fn put_rest<
+        I: Iterator<Item = W>,
+        W: IntoIterator<Item = C>,
+        C: CellText + Drop,
+        S: TextSink,
+    >(
         &mut self,
         alloc: Global,
         sink: &mut S,

@@ -51,7 +51,11 @@ pub(crate) fn total_width(layout: &Layout) -> Option<usize>
     ensures { MatchOption result (2 ^ 64 ≤ layout_total layout.now) (λ n. (n ≡ layout_total layout.now) × (layout_total layout.now < 2 ^ 64)) }
 {
     let frame = layout.frame;
-    let left = frame.margin.left.size.checked_add(one_if(frame.left.there))?;
+    let left = frame
+        .margin
+        .left
+        .size
+        .checked_add(one_if(frame.left.there))?;
     let right = one_if(frame.right.there).checked_add(frame.margin.right.size)?;
     let bars = layout.count.saturating_sub(1) * one_if(frame.inner.there);
     let inside = sum_widths(layout)?.checked_add(bars)?;

@@ -1,6 +1,4 @@
 use Rattle.std.proofs.Common.{◌≡◌, ◌≤◌, ◌∙◌, ℕ, ◌+◌, ◌-◌, ◌*◌, MatchOption, min, length, ap, arith, subst, sym}
-use Rattle.tabled_priority.specs.Sums.{sum_below}
-use Rattle.tabled_stream.specs.Row.{width_at}
 use Rattle.tabled_stream.proofs.Widths.{none-of, sum-widths}
 use Rattle.tabled_stream.proofs.total.sum_widths.Goals as goal
 
