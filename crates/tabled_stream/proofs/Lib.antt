@@ -1,0 +1,10 @@
+pub mod TopAndBottom
+pub mod Endings
+pub mod Measures
+pub mod NextPut
+pub mod Parts
+pub mod RowsAfter
+pub mod RowsPut
+pub mod RowsRead
+pub mod Steps
+pub mod Widths

@@ -1,0 +1,6 @@
+pub mod Printed
+pub mod Progress
+pub mod Reading
+pub mod Row
+pub mod Streamed
+pub mod Streams

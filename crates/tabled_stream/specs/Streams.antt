@@ -1,0 +1,107 @@
+-- What a call that prints a stream leaves.
+use Rattle.std.specs.Prelude.{◌≡◌, ℕ, ◌+◌, ◌^◌, ◌<◌, ◌≤◌, ◌⊎◌, Bool, true, List, [], ◌∷◌, ◌++◌, Option, Some, None, Result, Ok, Err, length, max, slice_index}
+use Rattle.tabled_base.specs.declared.error.TableError.{TableError}
+use Rattle.tabled_base.specs.declared.error.TableError.TheVariants.{Memory, Range}
+use Rattle.tabled_config.specs.declared.compact.CompactConfig.{CompactConfig}
+use Rattle.tabled_config.specs.Spanned.{spanned_of_compact}
+use Rattle.tabled_size.specs.Sheet.{Sheet}
+use Rattle.tabled_size.specs.Totals.{filled_width}
+use Rattle.tabled_row.specs.Sent.{Sent, Sends, Stops}
+use Rattle.tabled_grid.specs.Picture.{table_text}
+use Rattle.tabled_stream.specs.declared.settings.Settings.{Settings}
+use Rattle.tabled_stream.specs.Printed.{text_above}
+use Rattle.tabled_stream.specs.Streamed.{IsStreamed, ahead, column_count, limited, sniffed, stream_height, stream_widths}
+
+-- the columns of the whole table
+abbrev pub stream_total : Settings → CompactConfig → List (List (List ℕ)) → ℕ
+stream_total settings config ahead_rows =
+    filled_width (spanned_of_compact config) (column_count settings ahead_rows) (stream_widths settings config ahead_rows)
+
+-- as many rows as are shown at most are there
+abbrev pub reaches : Option ℕ → ℕ → Type 0
+reaches None count = ⊥
+reaches (Some limit) count = limit ≤ count
+
+-- the rows that were taken are all, or further ones would change nothing
+abbrev pub AreEnough : Settings → List (List (List ℕ)) → Bool → Type 0
+AreEnough settings rows whole =
+    (whole ≡ true)
+    ⊎ ((ahead settings ≤ length rows)
+    × (reaches settings.rows (length rows) ⊎ (column_count settings (sniffed settings rows) ≡ 0)))
+
+-- no more rows were taken than are read ahead or shown
+abbrev pub ArePermitted : Settings → List (List (List ℕ)) → Type 0
+ArePermitted settings rows = (limit : ℕ) → settings.rows ≡ Some limit → length rows ≤ max (ahead settings) limit
+
+-- there is a row that is shown, and a column
+pub record IsFilled (settings : Settings) (rows : List (List (List ℕ))) : Type 0 where
+  pub shown : 0 < length (limited settings.rows rows)
+  pub columns : 0 < column_count settings (sniffed settings rows)
+
+-- the table of all rows, of which the heights are in range
+pub record IsWholeStream (settings : Settings) (config : CompactConfig) (rows : List (List (List ℕ))) (t : Sheet) : Type 0 where
+  pub streamed : IsStreamed settings config (sniffed settings rows) (limited settings.rows rows) t
+  pub heights : IsFilled settings rows → (index : ℕ) → index < length (limited settings.rows rows) → slice_index t.heights index < 2 ^ 64
+  pub width : IsFilled settings rows → stream_total settings config (sniffed settings rows) < 2 ^ 64
+
+-- the table of the rows that were begun, of those that are shown: rest follows them
+pub record IsBegun (settings : Settings) (config : CompactConfig) (rows shown rest : List (List (List ℕ))) (t : Sheet) : Type 0 where
+  pub parts : limited settings.rows rows ≡ shown ++ rest
+  pub taken : length rows ≤ max (length (sniffed settings rows)) (length shown + 1)
+  pub streamed : IsStreamed settings config (sniffed settings rows) shown t
+  pub heights : (index : ℕ) → index < length shown → slice_index t.heights index < 2 ^ 64
+  pub columns : 0 < column_count settings (sniffed settings rows)
+  pub width : stream_total settings config (sniffed settings rows) < 2 ^ 64
+
+-- the first of the rows that follow is higher than a number can say
+abbrev pub IsTooHighFirst : Settings → CompactConfig → List (List (List ℕ)) → ℕ → List (List (List ℕ)) → Type 0
+IsTooHighFirst settings config ahead_rows index [] = ⊥
+IsTooHighFirst settings config ahead_rows index (row ∷ rest) = 2 ^ 64 ≤ stream_height settings config ahead_rows index row
+
+-- the lines above a row are out, and then it is refused: it is too high, or memory was wanted
+pub record StopsAtRow (settings : Settings) (config : CompactConfig) (rows : List (List (List ℕ))) (old : Sent) (error : TableError) (new : Sent) : Type 0 where
+  pub shown : List (List (List ℕ))
+  pub rest : List (List (List ℕ))
+  pub sheet : Sheet
+  pub begun : IsBegun settings config rows shown rest sheet
+  pub cause : ((error ≡ Range) × IsTooHighFirst settings config (sniffed settings rows) (length shown) rest) ⊎ (error ≡ Memory)
+  pub sends : Sends old new (text_above sheet (column_count settings (sniffed settings rows)) (length shown))
+
+-- the sink refused in the top margin, or in a row with its horizontal line
+pub record StopsInRows (settings : Settings) (config : CompactConfig) (rows : List (List (List ℕ))) (old : Sent) (error : TableError) (new : Sent) : Type 0 where
+  pub shown : List (List (List ℕ))
+  pub rest : List (List (List ℕ))
+  pub sheet : Sheet
+  pub begun : IsBegun settings config rows shown rest sheet
+  pub stops : Stops old error new (text_above sheet (column_count settings (sniffed settings rows)) (length shown))
+
+-- the sink refused in the text of the whole table
+pub record StopsAtEnd (settings : Settings) (config : CompactConfig) (rows : List (List (List ℕ))) (whole : Bool) (old : Sent) (error : TableError) (new : Sent) : Type 0 where
+  pub enough : AreEnough settings rows whole
+  pub sheet : Sheet
+  pub streamed : IsWholeStream settings config rows sheet
+  pub stops : Stops old error new (table_text sheet)
+
+-- refused before the first byte: the whole is too wide, or memory was wanted
+pub record StopsEarly (settings : Settings) (config : CompactConfig) (rows : List (List (List ℕ))) (old : Sent) (error : TableError) (new : Sent) : Type 0 where
+  pub same : new ≡ old
+  pub cause : ((error ≡ Range) × IsFilled settings rows × (2 ^ 64 ≤ stream_total settings config (sniffed settings rows))) ⊎ (error ≡ Memory)
+
+-- what is printed of the rows that were taken
+pub record StreamSends (settings : Settings) (config : CompactConfig) (rows : List (List (List ℕ))) (whole : Bool) (old new : Sent) : Type 0 where
+  pub enough : AreEnough settings rows whole
+  pub sheet : Sheet
+  pub streamed : IsWholeStream settings config rows sheet
+  pub sends : Sends old new (table_text sheet)
+
+-- why a stream stops
+abbrev pub StreamStops : Settings → CompactConfig → List (List (List ℕ)) → Bool → Sent → TableError → Sent → Type 0
+StreamStops settings config rows whole old error new =
+    StopsEarly settings config rows old error new
+    ⊎ (StopsAtRow settings config rows old error new
+    ⊎ (StopsInRows settings config rows old error new ⊎ StopsAtEnd settings config rows whole old error new))
+
+-- what a call that prints a stream leaves of the rows that were taken, by its answer
+abbrev pub Streams : {T : Type 0} → Settings → CompactConfig → List (List (List ℕ)) → Bool → Sent → Result T TableError → Sent → Type 0
+Streams settings config rows whole old (Ok _) new = StreamSends settings config rows whole old new
+Streams settings config rows whole old (Err error) new = StreamStops settings config rows whole old error new

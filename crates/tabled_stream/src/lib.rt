@@ -1,0 +1,20 @@
+//! A table that is printed row by row as a source gives its rows.
+//!
+//! Only the rows that its columns are measured by are kept; each later row is taken as it is printed. Every cell is cut to the
+//! columns that its column leaves to texts.
+#![tactic(auto)]
+
+mod columns;
+mod ends;
+mod finish;
+mod lay_out;
+mod layout;
+mod print;
+mod reading;
+mod record;
+mod settings;
+mod sniff;
+mod take;
+mod total;
+
+pub use settings::Settings;

@@ -1,0 +1,86 @@
+//! Rows that are taken of a source one by one.
+ghost use Rattle.std.specs.Prelude.{◌≡◌, ◌<◌, ◌≤◌, ◌∷◌, [], false, true, map, length, IfErr, IfOk, MatchOption, Some, None};
+ghost use Rattle.std.specs.Iterator.{size};
+ghost use Rattle.tabled_base.specs.declared.error.TableError.TheVariants.{Memory};
+ghost use Rattle.tabled_stream.specs.Reading.{MayGive, Reads, ReadsTo};
+ghost use Rattle.std.specs.Iterator.{IsFiniteIterable};
+ghost use Rattle.tabled_base.specs.Given.{Given};
+
+use std::alloc::Global;
+use tabled_base::TableError;
+
+/// The cells of a row.
+fn collect_cells<I: IntoIterator<Item = C>, C: Drop>(
+    alloc: Global,
+    cells: I,
+) -> Result<Vec<C>, TableError>
+    requires { IsFiniteIterable I.into_iter_gives I.IntoIter.can_next I.IntoIter.remaining cells }
+    ensures ok { IfOk result (λ row. Given I.into_iter_gives I.IntoIter.next_gives cells row.items) }
+    ensures only { IfErr result (λ e. e ≡ Memory) }
+{
+    let mut row = Vec::new(alloc);
+    for cell in cells {
+        row.push(cell)?;
+    }
+    Ok(row)
+}
+
+/// The cells of the next row, if one comes.
+pub(crate) fn next_cells<I: Iterator<Item = W>, W: IntoIterator<Item = C>, C: Drop>(
+    alloc: Global,
+    rows: &mut I,
+) -> Result<Option<Vec<C>>, TableError>
+    requires { MayGive I.can_next I.next_gives I.remaining W.into_iter_gives W.IntoIter.can_next W.IntoIter.remaining rows.old }
+    ensures ok { IfOk result (λ next. MatchOption next (I.next_gives rows.old None rows.new)
+        (λ row. Reads I.next_gives W.into_iter_gives W.IntoIter.next_gives rows.old (row.items ∷ []) rows.new)) }
+    ensures goes { IfOk result (λ next. MatchOption next (Unit {0})
+        (λ row. MayGive I.can_next I.next_gives I.remaining W.into_iter_gives W.IntoIter.can_next W.IntoIter.remaining rows.new
+        × (size (I.remaining rows.new) < size (I.remaining rows.old)))) }
+    ensures only { IfErr result (λ e. e ≡ Memory) }
+{
+    match rows.next() {
+        Some(row) => Ok(Some(collect_cells(alloc, row)?)),
+        None => Ok(None),
+    }
+}
+
+/// Rows that were taken, and whether these are all.
+#[derive(Drop)]
+pub(crate) struct Taken<C> {
+    /// The cells of each row.
+    pub rows: Vec<Vec<C>>,
+    /// Whether no more rows come.
+    pub whole: bool,
+}
+
+/// The first rows, as many as are wanted, or all where fewer come.
+pub(crate) fn take_rows<I: Iterator<Item = W>, W: IntoIterator<Item = C>, C: Drop>(
+    alloc: Global,
+    rows: &mut I,
+    count: usize,
+) -> Result<Taken<C>, TableError>
+    requires { MayGive I.can_next I.next_gives I.remaining W.into_iter_gives W.IntoIter.can_next W.IntoIter.remaining rows.old }
+    ensures ok { IfOk result (λ taken. ReadsTo I.next_gives W.into_iter_gives W.IntoIter.next_gives rows.old
+        (map (λ row. row.items) taken.rows.items) taken.whole rows.new) }
+    ensures open { IfOk result (λ taken. taken.whole ≡ false → (length taken.rows.items ≡ count)
+        × MayGive I.can_next I.next_gives I.remaining W.into_iter_gives W.IntoIter.can_next W.IntoIter.remaining rows.new) }
+    ensures within { IfOk result (λ taken. length taken.rows.items ≤ count) }
+    ensures only { IfErr result (λ e. e ≡ Memory) }
+{
+    let mut taken = Vec::new(alloc);
+    'rows: while taken.len() < count {
+        match next_cells(alloc, rows)? {
+            Some(cells) => taken.push(cells)?,
+            None => {
+                return Ok(Taken {
+                    rows: taken,
+                    whole: true,
+                });
+            }
+        }
+    }
+    Ok(Taken {
+        rows: taken,
+        whole: false,
+    })
+}
