@@ -6,8 +6,7 @@ use std::alloc::Global;
 use std::test::Fail;
 use tabled_base::{CellText, ExactRecords, IntoRecords, Records, TableError};
 use tabled_views::{
-    BufRecords, CutCell, EmptyRecords, IterRecords, LimitColumns, LimitRows, SkipRows,
-    TruncateContent,
+    CutCell, EmptyRecords, IterRecords, LimitColumns, LimitRows, SkipRows, TruncateContent,
 };
 
 const ROWS: [&[&str]; 3] = [&["a", "b", "c"], &[], &["d", "e"]];
@@ -55,22 +54,6 @@ fn the_first_cells_of_each_row_are_given(rt: HostRuntime) -> Result<(), Fail> {
             walked(rt.alloc(), LimitColumns::new(ROWS, limit)),
             want,
         )?;
-    }
-    Ok(())
-}
-
-#[test]
-fn rows_that_were_read_ahead_are_given_first(rt: HostRuntime) -> Result<(), Fail> {
-    for (count, ahead) in [
-        (0, "0x0"),
-        (1, "1x3 [a][b][c]"),
-        (2, "2x3 [a][b][c] [][][]"),
-        (3, ALL),
-        (usize::MAX, ALL),
-    ] {
-        let records = BufRecords::new(rt.alloc(), ROWS, count)?;
-        assert_text(&rt, walked(rt.alloc(), records.as_slice()), ahead)?;
-        assert_text(&rt, walked(rt.alloc(), records), ALL)?;
     }
     Ok(())
 }
