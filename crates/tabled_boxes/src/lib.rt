@@ -4,6 +4,7 @@
 //! between them, and fill the rectangle that they are given: each place of it belongs to exactly one text or line.
 #![tactic(auto)]
 
+mod copying;
 mod frames;
 mod gaps;
 mod pieces;
