@@ -1,3 +1,4 @@
+pub mod CollectedValues
 pub mod Columns
 pub mod Contains
 pub mod MarginLemmas
@@ -7,3 +8,4 @@ pub mod Plains
 pub mod PoolBlocks
 pub mod PoolLemmas
 pub mod Tiles
+pub mod Totals

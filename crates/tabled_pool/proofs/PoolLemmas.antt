@@ -9,6 +9,7 @@ use Rattle.tabled_row.specs.Plain.{EachLineTakes}
 use Rattle.tabled_boxes.specs.Boxes.{Part, box_of}
 use Rattle.tabled_boxes.proofs.Framing.{tree_framed_tiles, tree_framed_fits}
 use Rattle.tabled_pool.specs.declared.pool_table.PoolTable.{PoolTable}
+use Rattle.tabled_pool.specs.Drawable.{IsDrawable}
 use Rattle.tabled_pool.specs.Drawn.{drawn}
 use Rattle.tabled_pool.specs.Margins.{with_margin}
 use Rattle.tabled_pool.specs.PlainTree.{PlainTree}
@@ -51,9 +52,12 @@ plain_plan t h = record {
   texts = h.texts;
 }
 
+pub pool_drawable : (t : PoolTable) → IsPlainPool t → IsDrawable (plan t)
+pool_drawable t h = plain_drawable (gaps_of t) (plan t) (plain_plan t h)
+
 pub pool_tiles : (t : PoolTable) → IsPlainPool t → Tiled (plan t)
-pool_tiles t h = drawn_tiles (plan t) (plain_drawable (gaps_of t) (plan t) (plain_plan t h))
+pool_tiles t h = drawn_tiles (plan t) (pool_drawable t h)
 
 pub pool_columns : (t : PoolTable) → IsPlainPool t → EachLineTakes (framed_width t) (drawn (plan t))
 unfolding plan
-pool_columns t h = drawn_takes (plan t) (plain_drawable (gaps_of t) (plan t) (plain_plan t h))
+pool_columns t h = drawn_takes (plan t) (pool_drawable t h)

@@ -1,11 +1,12 @@
 -- New pool tables.
-use Rattle.std.specs.Prelude.{◌≡◌, ℕ}
+use Rattle.std.specs.Prelude.{◌≡◌, ℕ, List}
 use Rattle.tabled_config.specs.declared.compact_multiline.CompactMultilineConfig.{CompactMultilineConfig}
 use Rattle.tabled_border.specs.declared.sides.Indent.{Indent}
 use Rattle.tabled_config.specs.Compact.{IsPlainMultiline, no_indent}
 use Rattle.tabled_config.specs.Styles.{ascii}
 use Rattle.tabled_size.specs.declared.pool_table_dimension.DimensionPriority.TheVariants.{List as Each}
 use Rattle.tabled_boxes.specs.declared.tree.TableValue.{TableValue}
+use Rattle.tabled_boxes.specs.Tree.{tree_of, tree_of_rows}
 use Rattle.tabled_pool.specs.declared.pool_table.PoolTable.{PoolTable}
 
 abbrev pub one_column : Indent
@@ -27,3 +28,15 @@ pub record IsNewPool (value : TableValue) (table : PoolTable) : Type 0 where
   pub holds : table.value ≡ value
   pub config : IsNewConfig table.config
   pub dimension : table.dimension ≡ record { width = Each; height = Each }
+
+-- rows of texts below each other, with the settings of a new table
+pub record IsPoolOfRows (rows : List (List (List ℕ))) (table : PoolTable) : Type 0 where
+  pub tree : tree_of table.value ≡ tree_of_rows rows
+  pub config : IsNewConfig table.config
+  pub dimension : table.dimension ≡ record { width = Each; height = Each }
+
+-- the same texts in the same boxes, with the same settings
+pub record IsCopy (table copy : PoolTable) : Type 0 where
+  pub tree : tree_of copy.value ≡ tree_of table.value
+  pub config : copy.config ≡ table.config
+  pub dimension : copy.dimension ≡ table.dimension

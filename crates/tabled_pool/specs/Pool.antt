@@ -103,13 +103,13 @@ pub record IsInRange (t : PoolTable) : Type 0 where
 abbrev pub IsOutOfRange : PoolTable → Type 0
 IsOutOfRange t = (2 ^ 64 ≤ total_width t) ⊎ (2 ^ 64 ≤ total_height t)
 
--- what a call that prints a pool table leaves: on Ok its text was added; it is refused before the first byte where a total
--- passes the range, or for want of memory; else the sink refused, with a beginning of the text added
+-- what a call that prints a pool table leaves: on Ok its text was added; it is refused before the first byte exactly where a
+-- total passes the range, or for want of memory; else the sink refused, with a beginning of the text added
 abbrev pub WritesPool : {T : Type 0} → PoolTable → Sent → Result T TableError → Sent → Type 0
 WritesPool t old (Ok _) new = IsInRange t × Sends old new (pool_text t)
 WritesPool t old (Err e) new =
-    ((e ≡ Memory) × (new ≡ old))
-    ⊎ (((e ≡ Range) × IsOutOfRange t × (new ≡ old)) ⊎ (IsInRange t × Stops old e new (pool_text t)))
+    ((e ≡ Range) × IsOutOfRange t × (new ≡ old))
+    ⊎ (IsInRange t × (((e ≡ Memory) × (new ≡ old)) ⊎ Stops old e new (pool_text t)))
 
 -- the texts are plain, and lines, fills and margins are plain characters of one column
 pub record IsPlainPool (t : PoolTable) : Type 0 where

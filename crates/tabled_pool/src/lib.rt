@@ -5,6 +5,7 @@ mod applying;
 mod block;
 mod draw;
 mod find;
+mod making;
 mod margins;
 mod plan;
 mod pool_table;

@@ -1,5 +1,5 @@
 //! Tables of boxes.
-ghost use Rattle.std.specs.Prelude.{◌≡◌, ◌⊎◌, ◌≤◌, IfErr, IfOk, MatchOption, map, [], ◌++◌, ◌<◌, ◌^◌, ◌+◌, string_bytes};
+ghost use Rattle.std.specs.Prelude.{◌≡◌, ◌⊎◌, ◌≤◌, IfErr, IfOk, MatchOption, length, map, [], ◌++◌, ◌<◌, ◌^◌, ◌+◌, string_bytes};
 ghost use Rattle.tabled_base.specs.declared.error.TableError.TheVariants.{Memory, Range};
 ghost use Rattle.tabled_config.specs.Styles.{ascii};
 ghost use Rattle.tabled_row.specs.Plain.{EachLineTakes};
@@ -23,6 +23,7 @@ ghost use Rattle.tabled_pool.specs.Pool.{
   pool_lines,
   pool_text,
   style_of,
+  total_height,
   total_width,
 };
 ghost use Rattle.tabled_pool.specs.NewPool.{IsNewConfig, IsNewPool};
@@ -31,6 +32,7 @@ ghost use Rattle.tabled_pool.specs.Tiled.{Tiled};
 use crate::margins::put_framed;
 use crate::plan::{Drawing, has_bottom, has_top};
 use std::alloc::Global;
+use std::fmt;
 use tabled_base::TableError;
 use tabled_boxes::{Gaps, Piece, Rectangle, Size, TableValue, own_size, place_tree};
 use tabled_config::{Borders, CellStyle, CompactMultilineConfig, Indent, Sides, Style};
@@ -109,7 +111,8 @@ impl PoolTable {
     /// whole pass the greatest `usize`.
     pub fn to_string(&self) -> Result<String, TableError>
         ensures ok { IfOk result (λ text. string_bytes text ≡ pool_text self.now) }
-        ensures err { IfErr result (λ e. (e ≡ Memory) ⊎ ((e ≡ Range) × IsOutOfRange self.now)) }
+        ensures in_range { IfOk result (λ _. IsInRange self.now) }
+        ensures err { IfErr result (λ e. ((e ≡ Memory) × IsInRange self.now) ⊎ ((e ≡ Range) × IsOutOfRange self.now)) }
     {
         let mut text = String::new(self.value.allocator());
         self.write_to(&mut text)?;
@@ -234,7 +237,24 @@ impl PoolTable {
         ensures printed { WritesPool self.now (S.sent sink.old) result (S.sent sink.new) }
         ensures tiled { IsPlainPool self.now → Tiled (plan self.now) }
         ensures columns { IsPlainPool self.now → EachLineTakes (framed_width self.now) (drawn (plan self.now)) }
+        ensures width { IsPlainPool self.now → EachLineTakes (total_width self.now) (pool_lines self.now) }
+        ensures height { length (pool_lines self.now) ≡ total_height self.now }
     {
         self.write_checked(sink)
+    }
+}
+
+/// The text that `to_string` gives; `fmt::Error` where that is refused, or a writer fails. The formatter's width and
+/// precision aren't read.
+impl fmt::Display for PoolTable {
+    ghost use Rattle.std.specs.Prelude.{Some};
+
+    ghost output = { λ table. Some (pool_text table) };
+
+    fn fmt<W: fmt::Write>(&self, f: &mut fmt::Formatter<W>) -> fmt::Result {
+        match self.to_string() {
+            Ok(text) => f.write_str(&text),
+            Err(_) => Err(fmt::Error),
+        }
     }
 }

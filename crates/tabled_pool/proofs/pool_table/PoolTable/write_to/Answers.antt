@@ -1,4 +1,5 @@
 use Rattle.tabled_pool.proofs.PoolLemmas.{pool_tiles, pool_columns}
+use Rattle.tabled_pool.proofs.Totals.{whole_columns, whole_lines}
 use Rattle.tabled_pool.proofs.pool_table.PoolTable.write_to.Goals as goal
 
 pub returns-clause-tiled : goal.returns-clause-tiled
@@ -6,3 +7,9 @@ returns-clause-tiled g c = λ h. pool_tiles _ h
 
 pub returns-clause-columns : goal.returns-clause-columns
 returns-clause-columns g c = λ h. pool_columns _ h
+
+pub returns-clause-width : goal.returns-clause-width
+returns-clause-width g c = λ h. whole_columns _ h
+
+pub returns-clause-height : goal.returns-clause-height
+returns-clause-height g c = whole_lines _

@@ -1,0 +1,6 @@
+use Rattle.tabled_pool.proofs.CollectedValues.{Collected}
+use Rattle.tabled_pool.proofs.making.collect_rows.Given as goal
+
+abbrev pub invariant-loop-row : goal.invariant-loop-row
+invariant-loop-row g l = Collected g.I.IterColumns.IntoIterator.into_iter_gives
+    g.I.IterColumns.IntoIter.Iterator.next_gives g.I.Cell.CellText.text l.yielded l.rows.items

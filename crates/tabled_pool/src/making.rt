@@ -1,0 +1,80 @@
+//! Tables made of rows, and copies of tables.
+ghost use Rattle.std.specs.Prelude.{◌≡◌, List, IfErr, IfOk, map};
+ghost use Rattle.std.specs.Iterator.{IsFiniteIterable};
+ghost use Rattle.tabled_base.specs.Given.{Given};
+ghost use Rattle.tabled_base.specs.declared.error.TableError.TheVariants.{Memory};
+ghost use Rattle.tabled_boxes.specs.Tree.{across, leaf, tree_of, tree_of_row, trees};
+ghost use Rattle.tabled_pool.specs.NewPool.{IsCopy, IsPoolOfRows};
+
+use crate::pool_table::PoolTable;
+use std::alloc::Global;
+use tabled_base::{CellText, IntoRecords, TableError};
+use tabled_boxes::TableValue;
+
+impl PoolTable {
+    /// A table of rows, each as long as it comes: a column that has for each of them a row of its cells. Without a
+    /// row it is drawn as the empty text. Its settings are those of `from_value`. Refused only for memory.
+    pub fn new<I: IntoRecords>(alloc: Global, records: I) -> Result<PoolTable, TableError>
+    where
+        I::Cell: CellText + Drop,
+        requires { I.ends records }
+        ensures ok { IfOk result (λ table. (cells : List (List I.Cell)) × I.gives records cells
+            × IsPoolOfRows (map (map I.Cell.text) cells) table) }
+        ensures only { IfErr result (λ e. e ≡ Memory) }
+    {
+        let rows = collect_rows(alloc, records)?;
+        Ok(PoolTable::from_value(TableValue::Column(rows)))
+    }
+
+    /// The same table, in memory of its own. The walk recurses as deep as the value goes. Refused only for memory.
+    pub fn clone(&self) -> Result<PoolTable, TableError>
+        ensures ok { IfOk result (λ copy. IsCopy self.now copy) }
+        ensures only { IfErr result (λ e. e ≡ Memory) }
+    {
+        Ok(PoolTable {
+            value: self.value.clone()?,
+            config: self.config,
+            dimension: self.dimension,
+        })
+    }
+}
+
+/// Rows of cells, one for each row that a source gives.
+fn collect_rows<I: IntoRecords>(alloc: Global, records: I) -> Result<Vec<TableValue>, TableError>
+where
+    I::Cell: CellText + Drop,
+    requires { I.ends records }
+    ensures ok { IfOk result (λ rows. (cells : List (List I.Cell)) × I.gives records cells
+        × (map tree_of rows.items ≡ map tree_of_row (map (map I.Cell.text) cells))) }
+    ensures only { IfErr result (λ e. e ≡ Memory) }
+{
+    let mut rows = Vec::new(alloc);
+    for row in records.iter_rows() {
+        let value = row_of(collect_row(alloc, row)?);
+        rows.push(value)?;
+    }
+    Ok(rows)
+}
+
+fn row_of(children: Vec<TableValue>) -> TableValue
+    ensures { tree_of result ≡ across (trees (map tree_of children.items)) }
+{
+    TableValue::Row(children)
+}
+
+/// The texts of cells.
+fn collect_row<I: IntoIterator>(alloc: Global, cells: I) -> Result<Vec<TableValue>, TableError>
+where
+    I::Item: CellText + Drop,
+    requires { IsFiniteIterable I.into_iter_gives I.IntoIter.can_next I.IntoIter.remaining cells }
+    ensures ok { IfOk result (λ row. (items : List I.Item)
+        × Given I.into_iter_gives I.IntoIter.next_gives cells items
+        × (map tree_of row.items ≡ map leaf (map I.Item.text items))) }
+    ensures only { IfErr result (λ e. e ≡ Memory) }
+{
+    let mut row = Vec::new(alloc);
+    for cell in cells {
+        row.push(TableValue::Cell(String::from_str(alloc, cell.text())?))?;
+    }
+    Ok(row)
+}
