@@ -2,4 +2,10 @@
 #![tactic(auto)]
 
 #[cfg(test)]
-mod tests;
+mod deep;
+#[cfg(test)]
+mod pictures;
+#[cfg(test)]
+mod values;
+#[cfg(test)]
+mod writers;
