@@ -1,5 +1,9 @@
 pub mod CollectedRows
+pub mod CutOff
+pub mod Digits
 pub mod EscapedRecords
 pub mod FirstRow
 pub mod Records
+pub mod Stopped
+pub mod TruncatedTable
 pub mod Zipped

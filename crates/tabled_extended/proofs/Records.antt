@@ -1,6 +1,6 @@
 -- Records that are printed one after another.
-use Rattle.std.proofs.Common.{◌≡◌, ◌⊎◌, inl, inr, ℕ, ◌+◌, ◌<◌, ◌≤◌, List, [], ◌∷◌, ◌++◌, Bool, true, false, Ok, Err, Result, length, get_or, sym, ap, subst, ◌∙◌, refl, arith, append-nil}
-use Rattle.std.specs.List.{flat_map, join_with_byte}
+use Rattle.std.proofs.Common.{◌≡◌, inl, inr, ℕ, ◌+◌, ◌<◌, ◌≤◌, List, [], ◌∷◌, ◌++◌, Bool, true, false, Ok, Err, Result, length, get_or, sym, ap, subst, ◌∙◌, refl, arith, append-nil}
+use Rattle.std.specs.List.{flat_map}
 use Rattle.std.proofs.lemmas.Grind.{flat_map-append}
 use Rattle.std.proofs.lemmas.List.{length-append, get_or_append_left, get_or_push}
 use Rattle.std.proofs.lemmas.Bool.{cases_lt}
@@ -11,7 +11,6 @@ use Rattle.std.specs.Prelude.{IsErrAnd}
 use Rattle.std.specs.Io.KnownBytes.{Appends}
 use Rattle.tabled_row.specs.Sent.{IsCause, Sent, Sends, Stops}
 use Rattle.tabled_row.proofs.Leading.{lines-further, lines-none, lines-text, lines-finished}
-use Rattle.tabled_row.proofs.Sending.{stopped-first}
 use Rattle.tabled_extended.specs.PrintedRecords.{IsTooWide, PrintsAll, PrintsRecord, PrintsRecords, PrintsSome, growing}
 use Rattle.tabled_extended.specs.RecordLines.{AreRecordLines, record_lines, text_of, widest, widest_value}
 

@@ -2,3 +2,4 @@ pub mod Escaped
 pub mod PrintedRecords
 pub mod RecordLines
 pub mod Rows
+pub mod Truncated

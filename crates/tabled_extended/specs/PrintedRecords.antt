@@ -1,10 +1,10 @@
 -- What printing a table of records leaves of a sink.
-use Rattle.std.specs.Prelude.{◌≡◌, ◌⊎◌, ℕ, ◌+◌, ◌^◌, ◌<◌, ◌≤◌, true, List, [], Result, Ok, Err, length, slice_index_or, Bool}
+use Rattle.std.specs.Prelude.{◌≡◌, ◌⊎◌, ℕ, ◌+◌, ◌^◌, ◌<◌, ◌≤◌, true, List, Result, Ok, Err, length, Bool}
 use Rattle.tabled_base.specs.declared.error.TableError.{TableError}
 use Rattle.tabled_base.specs.declared.error.TableError.TheVariants.{Memory, Range}
 use Rattle.tabled_row.specs.Leading.{LineSends, LineStops}
 use Rattle.tabled_row.specs.Sent.{Sent, Sends, Stops}
-use Rattle.tabled_extended.specs.RecordLines.{AreRecordLines, record_lines, text_of, widest, widest_value}
+use Rattle.tabled_extended.specs.RecordLines.{AreRecordLines, text_of, widest, widest_value}
 
 -- the same sink, that may be refused memory: a label takes some whatever the sink does
 abbrev pub growing : Sent → Sent

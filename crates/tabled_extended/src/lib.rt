@@ -8,7 +8,9 @@ mod fn_template;
 mod label_fn;
 mod making;
 mod printing;
+mod rooms;
 mod template;
+mod truncating;
 
 pub use extended_table::ExtendedTable;
 pub use fn_template::FnTemplate;

@@ -1,4 +1,4 @@
-use Rattle.std.proofs.Common.{◌++◌, append_assoc, refl}
+use Rattle.std.proofs.Common.{append_assoc, refl}
 use Rattle.tabled_row.proofs.Sending.{further, finished, stopped, stopped-first}
 use Rattle.tabled_row.specs.Fill.{fill}
 use Rattle.tabled_extended.proofs.printing.put_cross.Goals as goal

@@ -1,4 +1,4 @@
-use Rattle.std.proofs.Common.{rules, arith, ◌≡◌, [], get_or}
+use Rattle.std.proofs.Common.{arith, [], get_or}
 use Rattle.std.proofs.lemmas.Grind.{common_steps}
 use Rattle.tabled_base.specs.Cells.{row_texts}
 use Rattle.tabled_extended.specs.RecordLines.{record_lines}

@@ -1,4 +1,4 @@
-use Rattle.std.proofs.Common.{◌≡◌, arith, rules, sym, ap, subst, length}
+use Rattle.std.proofs.Common.{arith, sym}
 use Rattle.std.proofs.lemmas.List.{length-map}
 use Rattle.tabled_extended.proofs.Records.{so_far-none, so_far-more, so_far-all, records-stopped}
 use Rattle.tabled_extended.proofs.printing.put_records.Goals as goal

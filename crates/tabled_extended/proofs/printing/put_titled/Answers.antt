@@ -1,7 +1,5 @@
 use Rattle.std.proofs.Common.{refl, sym}
 use Rattle.tabled_row.proofs.Sending.{finished, stopped-first}
-use Rattle.tabled_extended.specs.RecordLines.{rule_behind}
-use Rattle.tabled_text.specs.Measure.{text_columns}
 use Rattle.tabled_extended.proofs.printing.put_titled.Goals as goal
 
 pub returns-in_err-write_text : goal.returns-in_err-write_text

@@ -1,4 +1,4 @@
-use Rattle.std.proofs.Common.{◌≡◌, ◌<◌, length, get_or, arith, ap, sym, subst, rules}
+use Rattle.std.proofs.Common.{arith, sym}
 use Rattle.tabled_row.proofs.Leading.{lines-further, lines-stopped}
 use Rattle.tabled_extended.specs.RecordLines.{value_line}
 use Rattle.tabled_extended.proofs.Zipped.{zip-next, zip-rest, zip-all}

@@ -1,0 +1,41 @@
+-- Tables that are truncated: a row that has a room, or none, and the records.
+use Rattle.std.proofs.Common.{◌≡◌, ℕ, List, [], ◌∷◌, Option, Some, None, Ok, Err, Result, refl, sym, subst}
+use Rattle.std.specs.Prelude.{OnErr, OnOk}
+use Rattle.std.specs.List.{AllZip}
+use Rattle.tabled_change.specs.CellChanges.{in_room}
+use Rattle.tabled_extended.specs.Truncated.{AreTruncated, IsTruncated}
+use Rattle.tabled_extended.specs.declared.rooms.Rooms.{Rooms}
+
+pub on_err : {T E P Q : Type 0} (r : Result T E) → (P → Q) → OnErr r P → OnErr r Q
+on_err (Ok x) f h = h
+on_err (Err e) f h = f h
+
+pub err_in_some : {T E : Type 0} (r : Result T E) (room : Option ℕ) (n : ℕ) (stops : ℕ → Type 0) → room ≡ Some n → OnErr r (stops n)
+    → OnErr r ((m : ℕ) × (room ≡ Some m) × stops m)
+err_in_some (Ok x) room n stops e h = h
+err_in_some (Err d) room n stops e h = (n, e, h)
+
+pub ok_both : {T E : Type 0} (r : Result T E) (suffix : List ℕ) (rooms : Rooms) (fields : List (List ℕ)) (records : List (List (List ℕ)))
+    (fields' : List (List ℕ)) (records' : List (List (List ℕ))) → AllZip (in_room (IsTruncated suffix) rooms.fields) fields fields'
+    → OnOk r (AllZip (AllZip (IsTruncated suffix rooms.values)) records records') → OnOk r (AreTruncated suffix rooms fields records fields' records')
+ok_both (Ok x) suffix rooms fields records fields' records' f h = record { each_field = f; each_value = h }
+ok_both (Err d) suffix rooms fields records fields' records' f h = h
+
+each_as : (R S : List ℕ → List ℕ → Type 0) → ((x y : List ℕ) → R x y → S x y) → (xs ys : List (List ℕ)) → AllZip R xs ys → AllZip S xs ys
+each_as R S f [] [] h = tt
+each_as R S f [] (y ∷ ys) h = absurd h
+each_as R S f (x ∷ xs) [] h = absurd h
+each_as R S f (x ∷ xs) (y ∷ ys) h = (f x y h.0, each_as R S f xs ys h.1)
+
+each_itself : (R : List ℕ → List ℕ → Type 0) → ((x : List ℕ) → R x x) → (xs : List (List ℕ)) → AllZip R xs xs
+each_itself R f [] = tt
+each_itself R f (x ∷ xs) = (f x, each_itself R f xs)
+
+pub ok_in_some : {T E : Type 0} (r : Result T E) (change : ℕ → List ℕ → List ℕ → Type 0) (room : Option ℕ) (n : ℕ) → room ≡ Some n → (old new : List (List ℕ))
+    → OnOk r (AllZip (change n) old new) → OnOk r (AllZip (in_room change room) old new)
+ok_in_some (Ok x) change room n e old new h =
+    each_as (change n) (in_room change room) (λ x y r. subst (λ (o : Option ℕ). in_room change o x y) (sym e) r) old new h
+ok_in_some (Err d) change room n e old new h = h
+
+pub in_none : (change : ℕ → List ℕ → List ℕ → Type 0) (room : Option ℕ) → room ≡ None → (old : List (List ℕ)) → AllZip (in_room change room) old old
+in_none change room e old = each_itself (in_room change room) (λ x. subst (λ (o : Option ℕ). in_room change o x x) (sym e) refl) old

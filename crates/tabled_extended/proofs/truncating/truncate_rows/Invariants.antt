@@ -1,0 +1,8 @@
+use Rattle.std.specs.List.{AllZip}
+use Rattle.tabled_base.specs.Cells.{row_texts}
+use Rattle.tabled_extended.specs.Truncated.{IsTruncated}
+use Rattle.tabled_extended.proofs.Stopped.{ChangedSoFar}
+use Rattle.tabled_extended.proofs.truncating.truncate_rows.Given as goal
+
+abbrev pub invariant-rows : goal.invariant-rows
+invariant-rows l = ChangedSoFar (AllZip (IsTruncated l.suffix l.room)) l.index (row_texts l.initial.rows.items) (row_texts l.rows.items)

@@ -1,0 +1,108 @@
+-- Tables of records that are truncated, so that their lines take fewer columns. A text is the list of its bytes, a record
+-- the list of its values.
+use Rattle.std.specs.Prelude.{◌≡◌, ◌⊎◌, ℕ, ◌+◌, ◌-◌, ◌<◌, Bool, true, false, ◌||◌, nat_lt, List, [], ◌∷◌, ◌++◌, Option, Some, None, Result, Ok, Err, if◌then◌else◌, chars, decimal, length}
+use Rattle.std.specs.List.{AllZip}
+use Rattle.tabled_base.specs.declared.error.TableError.{TableError}
+use Rattle.tabled_base.specs.declared.error.TableError.TheVariants.{Memory}
+use Rattle.tabled_change.specs.CellChanges.{in_room}
+use Rattle.tabled_change.specs.Truncated.{suffix_columns}
+use Rattle.tabled_text.specs.Cut.{IsCut, IsLongestReached, missing_columns}
+use Rattle.tabled_extended.specs.RecordLines.{widest}
+use Rattle.tabled_extended.specs.declared.rooms.Rooms.{Rooms}
+
+-- ---- the rooms of the texts
+
+-- the columns of the usual header that has the number of the records: 13, and its digits
+abbrev pub least_columns : ℕ → ℕ
+least_columns count = 13 + length (decimal count)
+
+-- values have what fields of f columns, the bar and a suffix of s columns leave
+abbrev pub value_rooms : ℕ → ℕ → ℕ → Option Rooms
+value_rooms f s left = if nat_lt left (f + 3 + s) then None else Some (record { fields = None; values = left - (f + 3 + s) })
+
+-- fields have what the bar and the suffix leave, and values have nothing
+abbrev pub field_rooms : ℕ → ℕ → Option Rooms
+field_rooms s left = if nat_lt left (3 + s) then None else Some (record { fields = Some (left - (3 + s)); values = 0 })
+
+-- the rooms in so many columns, over fields of f columns and a suffix of s: fields stay where they and the bar find room
+-- beside the suffix. None where the usual header doesn't, or the suffix, or the texts
+abbrev pub rooms_in : ℕ → ℕ → ℕ → ℕ → Option Rooms
+rooms_in max count f s =
+    if nat_lt max (least_columns count) || nat_lt max s then None
+    else (if nat_lt (max - s) (f + 3) then field_rooms s (max - s) else value_rooms f s (max - s))
+
+-- ---- one text
+
+-- what stands behind a cut text: the suffix, where something was cut off
+abbrev pub ending : List ℕ → List ℕ → List ℕ
+ending suffix [] = []
+ending suffix (c ∷ off) = suffix
+
+-- a text cut to n columns, to none is emptied, and its ending
+pub record IsTruncated (suffix : List ℕ) (n : ℕ) (text answer : List ℕ) : Type 0 where
+  pub piece : List ℕ
+  pub cut : IsCut n text piece
+  pub answered : answer ≡ piece ++ ending suffix cut.rest
+
+-- something is cut off, and what then stands there isn't empty
+pub record TakesMemory (suffix : List ℕ) (n : ℕ) (text : List ℕ) : Type 0 where
+  pub front : List ℕ
+  pub off : List ℕ
+  pub longest : IsLongestReached n (chars text) front off
+  pub some_off : 0 < length off
+  pub some_left : 0 < length front + (missing_columns n front off + length suffix)
+
+-- a text stays for which memory was refused
+pub record IsRefused (suffix : List ℕ) (n : ℕ) (text answer : List ℕ) : Type 0 where
+  pub takes : TakesMemory suffix n text
+  pub stays : answer ≡ text
+
+-- ---- many texts
+
+-- those before one are changed, with this one it stopped, and those behind it stay
+pub record IsStopped {A : Type 0} (change stop : A → A → Type 0) (old new : List A) : Type 0 where
+  pub before : List A
+  pub changed : List A
+  pub here : A
+  pub left : A
+  pub behind : List A
+  pub each : AllZip change before changed
+  pub stopped : stop here left
+  pub old_list : old ≡ before ++ here ∷ behind
+  pub new_list : new ≡ changed ++ left ∷ behind
+
+-- the values of a record, and the records, up to a text that was refused
+abbrev pub StopsInRecord : List ℕ → ℕ → List (List ℕ) → List (List ℕ) → Type 0
+StopsInRecord suffix n old new = IsStopped (IsTruncated suffix n) (IsRefused suffix n) old new
+
+abbrev pub StopsInRecords : List ℕ → ℕ → List (List (List ℕ)) → List (List (List ℕ)) → Type 0
+StopsInRecords suffix n old new = IsStopped (AllZip (IsTruncated suffix n)) (StopsInRecord suffix n) old new
+
+-- ---- the table
+
+-- fields and values are truncated to their rooms
+pub record AreTruncated (suffix : List ℕ) (rooms : Rooms) (fields : List (List ℕ)) (records : List (List (List ℕ)))
+    (fields' : List (List ℕ)) (records' : List (List (List ℕ))) : Type 0 where
+  pub each_field : AllZip (in_room (IsTruncated suffix) rooms.fields) fields fields'
+  pub each_value : AllZip (AllZip (IsTruncated suffix rooms.values)) records records'
+
+-- memory was refused: at a field, and all records stay, or at a value, below truncated fields
+abbrev pub StopsTruncating : List ℕ → Rooms → List (List ℕ) → List (List (List ℕ)) → List (List ℕ) → List (List (List ℕ)) → Type 0
+StopsTruncating suffix rooms fields records fields' records' =
+    ((n : ℕ) × (rooms.fields ≡ Some n) × StopsInRecord suffix n fields fields' × (records' ≡ records))
+    ⊎ (AllZip (in_room (IsTruncated suffix) rooms.fields) fields fields' × StopsInRecords suffix rooms.values records records')
+
+-- the table has rooms in so many columns, and by these
+pub record InRooms (max : ℕ) (suffix : List ℕ) (fields : List (List ℕ)) (records : List (List (List ℕ))) (leaves : Rooms → Type 0) : Type 0 where
+  pub rooms : Rooms
+  pub found : rooms_in max (length records) (widest fields) (suffix_columns suffix) ≡ Some rooms
+  pub left : leaves rooms
+
+-- what truncating leaves, by its answer: yes, and all texts are truncated; no, and they stay, for want of rooms; refused for
+-- memory alone, and they are truncated up to one
+abbrev pub Truncates : ℕ → List ℕ → List (List ℕ) → List (List (List ℕ)) → Result Bool TableError → List (List ℕ) → List (List (List ℕ)) → Type 0
+Truncates max suffix fields records (Ok true) fields' records' = InRooms max suffix fields records (λ rooms. AreTruncated suffix rooms fields records fields' records')
+Truncates max suffix fields records (Ok false) fields' records' =
+    (rooms_in max (length records) (widest fields) (suffix_columns suffix) ≡ None) × (fields' ≡ fields) × (records' ≡ records)
+Truncates max suffix fields records (Err e) fields' records' =
+    (e ≡ Memory) × InRooms max suffix fields records (λ rooms. StopsTruncating suffix rooms fields records fields' records')

@@ -1,0 +1,142 @@
+//! Texts of records that are truncated.
+ghost use Rattle.std.specs.Prelude.{◌≡◌, ℕ, IfErr, IfOk, MatchOption, OnErr, OnOk, Some, string_bytes};
+ghost use Rattle.std.specs.List.{AllZip};
+ghost use Rattle.tabled_base.specs.Cells.{row_texts};
+ghost use Rattle.tabled_base.specs.declared.error.TableError.TheVariants.{Memory};
+ghost use Rattle.tabled_change.specs.CellChanges.{in_room};
+ghost use Rattle.tabled_extended.specs.Truncated.{AreTruncated, IsRefused, IsTruncated, StopsInRecord, StopsInRecords, StopsTruncating, TakesMemory, Truncates};
+
+use crate::extended_table::ExtendedTable;
+use crate::printing::widest;
+use crate::rooms::{Rooms, rooms_in};
+use std::alloc::{AllocError, Global};
+use tabled_base::{CellText, TableError, Text};
+use tabled_text::cut_str;
+
+/// A text cut to a room, with the suffix behind it; none where nothing was cut off.
+fn truncated(
+    alloc: Global,
+    text: &str,
+    room: usize,
+    suffix: &str,
+) -> Result<Option<String>, AllocError>
+    ensures ok { IfOk result (λ answer. MatchOption answer (IsTruncated suffix.now room text.now text.now)
+        (λ answer. IsTruncated suffix.now room text.now (string_bytes answer))) }
+    ensures err { OnErr result (TakesMemory suffix.now room text.now) }
+{
+    let cut = cut_str(alloc, text, room)?;
+    if *cut == *text {
+        return Ok(None);
+    }
+    let mut answer = String::new(alloc);
+    answer.push_str(&cut)?;
+    answer.push_str(suffix)?;
+    Ok(Some(answer))
+}
+
+/// Truncates a text in place. One of which nothing is cut off stays.
+fn truncate_text(
+    alloc: Global,
+    text: &mut Text<String>,
+    room: usize,
+    suffix: &str,
+) -> Result<(), TableError>
+    ensures ok { OnOk result (IsTruncated suffix.now room text.old text.new) }
+    ensures err { OnErr result (IsRefused suffix.now room text.old text.new) }
+    ensures only { IfErr result (λ e. e ≡ Memory) }
+{
+    if let Some(answer) = truncated(alloc, text.text(), room, suffix)? {
+        *text = Text::new(answer);
+    }
+    Ok(())
+}
+
+/// Truncates the texts of a row, one after another.
+fn truncate_row(
+    alloc: Global,
+    row: &mut Vec<Text<String>>,
+    room: usize,
+    suffix: &str,
+) -> Result<(), TableError>
+    ensures ok { OnOk result (AllZip (IsTruncated suffix.now room) row.old.items row.new.items) }
+    ensures err { OnErr result (StopsInRecord suffix.now room row.old.items row.new.items) }
+    ensures only { IfErr result (λ e. e ≡ Memory) }
+{
+    'texts: for index in 0..row.len() {
+        truncate_text(alloc, &mut row[index], room, suffix)?;
+    }
+    Ok(())
+}
+
+/// Truncates the texts of a row that has a room.
+fn truncate_in_room(
+    alloc: Global,
+    row: &mut Vec<Text<String>>,
+    room: Option<usize>,
+    suffix: &str,
+) -> Result<(), TableError>
+    ensures ok { OnOk result (AllZip (in_room (IsTruncated suffix.now) room) row.old.items row.new.items) }
+    ensures err { OnErr result ((n : ℕ) × (room ≡ Some n) × StopsInRecord suffix.now n row.old.items row.new.items) }
+    ensures only { IfErr result (λ e. e ≡ Memory) }
+{
+    match room {
+        Some(columns) => truncate_row(alloc, row, columns, suffix),
+        None => Ok(()),
+    }
+}
+
+/// Truncates the values of records, one after another.
+fn truncate_rows(
+    alloc: Global,
+    rows: &mut Vec<Vec<Text<String>>>,
+    room: usize,
+    suffix: &str,
+) -> Result<(), TableError>
+    ensures ok { OnOk result (AllZip (AllZip (IsTruncated suffix.now room)) (row_texts rows.old.items) (row_texts rows.new.items)) }
+    ensures err { OnErr result (StopsInRecords suffix.now room (row_texts rows.old.items) (row_texts rows.new.items)) }
+    ensures only { IfErr result (λ e. e ≡ Memory) }
+{
+    'rows: for index in 0..rows.len() {
+        truncate_row(alloc, &mut rows[index], room, suffix)?;
+    }
+    Ok(())
+}
+
+impl<F> ExtendedTable<F> {
+    /// Truncates fields, if they have a room, and values.
+    fn truncate_to(&mut self, rooms: Rooms, suffix: &str) -> Result<(), TableError>
+        ensures ok { OnOk result (AreTruncated suffix.now rooms self.old.fields.items (row_texts self.old.records.items)
+            self.new.fields.items (row_texts self.new.records.items)) }
+        ensures err { OnErr result (StopsTruncating suffix.now rooms self.old.fields.items (row_texts self.old.records.items)
+            self.new.fields.items (row_texts self.new.records.items)) }
+        ensures only { IfErr result (λ e. e ≡ Memory) }
+        ensures template { self.new.template ≡ self.old.template }
+    {
+        let alloc = *self.fields.allocator();
+        truncate_in_room(alloc, &mut self.fields, rooms.fields, suffix)?;
+        truncate_rows(alloc, &mut self.records, rooms.values, suffix)
+    }
+
+    /// Truncates the texts for lines of `max` columns, less those of the suffix, and answers whether it could. Where a bar
+    /// and the widest field find room, and the suffix behind a value, the fields stay and the values are cut to what is
+    /// left. Where the fields themselves don't, they are cut to what a bar and a suffix leave, and the values are emptied.
+    /// The suffix stands behind each text of which something was cut off, also in place of one that was emptied; an empty
+    /// text stays empty. The answer is no, and nothing is changed, where no such room is left, or where 13 and the digits
+    /// of the number of records, as many as a usual header takes, are more than `max`. Columns are display columns; a line
+    /// feed of the suffix counts as one. Refused with `Memory` alone, for a text of which something is cut off: the texts
+    /// before it, fields first, are truncated then, and it and the others stay.
+    pub fn truncate(&mut self, max: usize, suffix: &str) -> Result<bool, TableError>
+        ensures texts { Truncates max suffix.now self.old.fields.items (row_texts self.old.records.items) result
+            self.new.fields.items (row_texts self.new.records.items) }
+        ensures template { self.new.template ≡ self.old.template }
+    {
+        let field = widest(self.fields.as_slice());
+        match rooms_in(max, self.records.len(), field, suffix) {
+            Some(rooms) => {
+                self.truncate_to(rooms, suffix)?;
+                Ok(true)
+            }
+            None => Ok(false),
+        }
+    }
+}
