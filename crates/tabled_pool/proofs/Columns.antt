@@ -1,42 +1,10 @@
 -- Each drawn line takes the columns of the whole.
-use Rattle.std.proofs.Common.{
-  ◌≡◌,
-  ℕ,
-  zero,
-  suc,
-  ◌+◌,
-  ◌-◌,
-  ◌*◌,
-  ◌<◌,
-  ◌≤◌,
-  ◌==◌,
-  Bool,
-  true,
-  false,
-  List,
-  [],
-  ◌∷◌,
-  ◌++◌,
-  Option,
-  Some,
-  None,
-  refl,
-  sym,
-  ◌∙◌,
-  ap,
-  subst,
-  arith,
-  encode_utf8,
-  ⊎_elim,
-  ◌⊎◌,
-  inl,
-  inr,
-}
+use Rattle.std.proofs.Common.{◌≡◌, ℕ, zero, suc, ◌+◌, ◌-◌, ◌<◌, ◌≤◌, [], Option, Some, None, refl, sym, ◌∙◌, ap, subst, append-nil, arith, encode_utf8, ⊎_elim, ◌⊎◌, inl, inr}
 use Rattle.std.specs.List.{flat_map, range_with_len}
 use Rattle.std.proofs.lemmas.Bool.Decides.{nat_tests}
 use Rattle.tabled_text.specs.Measure.{line_columns}
 use Rattle.std.proofs.lemmas.List.FromFn.{length-map-range_with_len, get_or-map-range_with_len}
-use Rattle.tabled_text.specs.Plain.{IsPlainLine, IsPlainColumn}
+use Rattle.tabled_text.specs.Plain.{IsPlainLine}
 use Rattle.tabled_row.specs.Plain.{EachLineTakes}
 use Rattle.tabled_row.proofs.Each.{each-more}
 use Rattle.tabled_text.proofs.PlainLines.{plain_line-nil, plain_line-append, plain_line-as, plain_line-one}
@@ -44,10 +12,12 @@ use Rattle.tabled_boxes.specs.declared.pieces.Rectangle.{Rectangle}
 use Rattle.tabled_boxes.specs.declared.pieces.Kind.{Kind}
 use Rattle.tabled_boxes.specs.declared.pieces.Kind.TheVariants.{Leaf, Bar, Rule}
 use Rattle.tabled_boxes.specs.Boxes.{Part}
-use Rattle.tabled_boxes.specs.Tiling.{within, covering}
+use Rattle.tabled_boxes.specs.Tiling.{within}
+use Rattle.tabled_pool.specs.Around.{within_marks}
 use Rattle.tabled_pool.specs.Owner.{owner}
-use Rattle.tabled_pool.specs.Drawn.{Plan, border_char, leaf_line, part_text, owned_text, place_text, drawn_line, drawn}
+use Rattle.tabled_pool.specs.Drawn.{border_char, border_text, leaf_line, part_text, owned_text, place_text, drawn_line, drawn}
 use Rattle.tabled_pool.specs.Drawable.{whole, IsDrawable}
+use Rattle.tabled_pool.specs.Plan.{Plan}
 use Rattle.tabled_pool.proofs.Owners.{Inside, inside-within, within-inside, within-le, owner-inside, owner-some, owner-unique, counted, is-1}
 
 -- the columns that are out once the places below n are written
@@ -136,15 +106,24 @@ before t d y (suc m) p h v o =
     }))
     (is-1 (within p.place m y))
 
+-- without colours a character stands by itself
+pub border-bare : (t : Plan) (d : IsDrawable t) (k : Kind) (r : Rectangle) (x y : ℕ) → border_text t k r x y ≡ encode_utf8 (border_char t k r x y)
+unfolding border_text
+border-bare t d k r x y =
+    ap (λ a. within_marks a (encode_utf8 (border_char t k r x y))) (d.bare x y) ∙ append-nil (encode_utf8 (border_char t k r x y))
+
+border-one : (t : Plan) (d : IsDrawable t) (k : Kind) (r : Rectangle) (x y : ℕ) → IsPlainLine (border_text t k r x y) 1
+border-one t d k r x y = subst (λ bs. IsPlainLine bs 1) (sym (border-bare t d k r x y)) (plain_line-one _ (d.chars k r x y))
+
 -- what is written at a place, and the columns that are out behind it
 placed-kind : (t : Plan) (d : IsDrawable t) (y n : ℕ) (p : Part) (k : Kind) → p.kind ≡ k → owner t.parts n y ≡ Some p
     → Begins t y n p ⊎ Goes t y n p → (c : ℕ) × (IsPlainLine (part_text t k p n y) c × (ahead t y n + c ≡ ahead_kind k p.place n))
-placed-kind t d y n p Bar e o (inl b) = (1, (plain_line-one _ (d.chars Bar p.place n y), omega (arith, b.out)))
-placed-kind t d y n p Rule e o (inl b) = (1, (plain_line-one _ (d.chars Rule p.place n y), omega (arith, b.out)))
+placed-kind t d y n p Bar e o (inl b) = (1, (border-one t d Bar p.place n y, omega (arith, b.out)))
+placed-kind t d y n p Rule e o (inl b) = (1, (border-one t d Rule p.place n y, omega (arith, b.out)))
 placed-kind t d y n p Bar e o (inr g) = (
   1,
   (
-    plain_line-one _ (d.chars Bar p.place n y),
+    border-one t d Bar p.place n y,
     let f : ahead t y n
         ≡ suc (n - 1) = g.out ∙ ap (λ k. ahead_kind k p.place (n - 1)) e in omega (arith, f, g.started),
   ),
@@ -152,7 +131,7 @@ placed-kind t d y n p Bar e o (inr g) = (
 placed-kind t d y n p Rule e o (inr g) = (
   1,
   (
-    plain_line-one _ (d.chars Rule p.place n y),
+    border-one t d Rule p.place n y,
     let f : ahead t y n
         ≡ suc (n - 1) = g.out ∙ ap (λ k. ahead_kind k p.place (n - 1)) e in omega (arith, f, g.started),
   ),

@@ -1,3 +1,4 @@
+pub mod Bare
 pub mod CollectedValues
 pub mod Columns
 pub mod Contains

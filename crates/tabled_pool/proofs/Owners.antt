@@ -1,41 +1,12 @@
 -- A place that is covered once has one owner.
-use Rattle.std.proofs.Common.{
-  ◌≡◌,
-  ℕ,
-  zero,
-  suc,
-  ◌+◌,
-  ◌*◌,
-  ◌<◌,
-  ◌≤◌,
-  ◌==◌,
-  if◌then◌else◌,
-  Bool,
-  true,
-  false,
-  List,
-  [],
-  ◌∷◌,
-  Option,
-  Some,
-  None,
-  refl,
-  sym,
-  ◌∙◌,
-  ap,
-  subst,
-  arith,
-  cond,
-  ⊎_elim,
-  ◌⊎◌,
-}
+use Rattle.std.proofs.Common.{◌≡◌, ℕ, zero, suc, ◌+◌, ◌*◌, ◌<◌, ◌≤◌, List, [], ◌∷◌, Some, refl, sym, ◌∙◌, subst, arith, ⊎_elim, ◌⊎◌}
 use Rattle.std.proofs.Math.Nat.{mul-zero, zero-mul}
 use Rattle.std.proofs.lemmas.Nat.{mul-le}
 use Rattle.std.proofs.lemmas.Bool.Decides.{nat_tests}
 use Rattle.tabled_boxes.specs.declared.pieces.Rectangle.{Rectangle}
 use Rattle.tabled_boxes.specs.Boxes.{Part}
 use Rattle.tabled_boxes.specs.Tiling.{spans, within, covering}
-use Rattle.tabled_pool.specs.Owner.{contains, owner}
+use Rattle.tabled_pool.specs.Owner.{owner}
 
 pub record Inside (r : Rectangle) (x y : ℕ) : Type 0 where
   pub left : r.x ≤ x

@@ -1,26 +1,5 @@
 -- The columns of the lines of a block.
-use Rattle.std.proofs.Common.{
-  ◌≡◌,
-  ℕ,
-  ◌+◌,
-  ◌-◌,
-  ◌<◌,
-  ◌≤◌,
-  ltb,
-  if◌then◌else◌,
-  Bool,
-  true,
-  false,
-  cond,
-  List,
-  [],
-  length,
-  get_or,
-  sym,
-  subst,
-  arith,
-  ⊎_elim,
-}
+use Rattle.std.proofs.Common.{ℕ, ◌+◌, ◌-◌, ◌<◌, ◌≤◌, ltb, true, false, cond, List, [], length, get_or, append-nil, sym, subst, arith, ⊎_elim}
 use Rattle.std.proofs.lemmas.Bool.{cases_lt}
 use Rattle.std.proofs.lemmas.Option.{slice_get_cases, slice_get-get_or}
 use Rattle.tabled_text.specs.Measure.{lines_of, text_columns, line_columns}
@@ -34,7 +13,10 @@ use Rattle.tabled_row.specs.Block.{before_text, text_room, columns_before, cell_
 use Rattle.tabled_row.specs.Plain.{IsPlainStyle}
 use Rattle.tabled_row.specs.Fill.{fill}
 use Rattle.tabled_row.proofs.Plains.{plain-fill}
-use Rattle.tabled_pool.specs.Block.{lines_above, line_below, pool_block}
+use Rattle.tabled_border.specs.declared.sides.Sides.{Sides}
+use Rattle.tabled_config.specs.Compact.{each_side}
+use Rattle.tabled_pool.specs.Block.{lines_above, line_below, pool_block, text_line, without_sides}
+use Rattle.tabled_pool.specs.Colours.{Mark, coloured, no_mark}
 use Rattle.tabled_pool.proofs.PoolBlocks.{block-above, block-top, block-text, block-past, block-below}
 
 before-le : (a : AlignmentHorizontal) (n : ℕ) → before_text a n ≤ n
@@ -74,34 +56,56 @@ plain-cell_line s w text j p l =
     (plain-fill s.padding.right.fill s.padding.right.size p.style.right)))))
     (omega arith)
 
-plain-below : (s : CellStyle) (w k : ℕ) → IsPlainStyle s → IsPlainLine (line_below s w k) w
+-- a run without a colour
+pub plain-run : {run : List ℕ} {n : ℕ} → IsPlainLine run n → IsPlainLine (coloured no_mark run) n
+plain-run {run = run} {n = n} p = subst (λ bs. IsPlainLine bs n) (sym (append-nil run)) p
+
+abbrev pub bare : Sides Mark
+bare = each_side no_mark
+
+plain-text_line : (s : CellStyle) (w : ℕ) (text : List ℕ) (j : ℕ) → IsPlainBox s w text → j < length (lines_of text)
+    → IsPlainLine (text_line s bare w text (get_or (lines_of text) j [])) w
+plain-text_line s w text j p l =
+    let fits = p.fits in
+    let inner : IsPlainBox (without_sides s) (text_room s w) text = record {
+      style = record { left = plain_column-space; right = plain_column-space; top = p.style.top; bottom = p.style.bottom };
+      plain = p.plain;
+      fits = omega arith;
+    } in
+    plain_line-as
+    (plain_line-append (plain-run (plain-fill s.padding.left.fill s.padding.left.size p.style.left))
+    (plain_line-append (plain-cell_line (without_sides s) (text_room s w) text j inner l)
+    (plain-run (plain-fill s.padding.right.fill s.padding.right.size p.style.right))))
+    (omega arith)
+
+plain-below : (s : CellStyle) (w k : ℕ) → IsPlainStyle s → IsPlainLine (line_below s bare w k) w
 plain-below s w k p =
-    elim (ltb k s.padding.bottom.size) as (λ b. IsPlainLine (cond b (fill s.padding.bottom.fill w) (fill 32 w)) w) [
-      | true ↦ plain-fill s.padding.bottom.fill w p.bottom
+    elim (ltb k s.padding.bottom.size) as (λ b. IsPlainLine (cond b (coloured no_mark (fill s.padding.bottom.fill w)) (fill 32 w)) w) [
+      | true ↦ plain-run (plain-fill s.padding.bottom.fill w p.bottom)
       | false ↦ plain-fill 32 w plain_column-space
     ]
 
 plain-padded : (s : CellStyle) (w h k : ℕ) (text : List ℕ) → IsPlainBox s w text → k < h → lines_above s h text ≤ k
-    → s.padding.top.size ≤ k - lines_above s h text → IsPlainLine (get_or (pool_block s w h text) k []) w
+    → s.padding.top.size ≤ k - lines_above s h text → IsPlainLine (get_or (pool_block s bare w h text) k []) w
 plain-padded s w h k text p n l m =
     let P : List ℕ → Type 0 = λ bs. IsPlainLine bs w in
     let j = k - lines_above s h text - s.padding.top.size in
     ⊎_elim
     (λ x. subst P
-    (sym (block-text s w h text k (get_or (lines_of text) j []) l m (sym (slice_get-get_or (lines_of text) j [] x.1))))
-    (plain-cell_line s w text j p x.1))
+    (sym (block-text s bare w h text k (get_or (lines_of text) j []) l m (sym (slice_get-get_or (lines_of text) j [] x.1))))
+    (plain-text_line s w text j p x.1))
     (λ x. subst P
-    (sym (block-below s w h text k n l m (block-past s w h text k l m (sym x.1))))
+    (sym (block-below s bare w h text k n l m (block-past s bare w h text k l m (sym x.1))))
     (plain-below s w (j - length (lines_of text)) p.style))
     (slice_get_cases (lines_of text) j).1
 
-pub plain-pool_block : (s : CellStyle) (w h k : ℕ) (text : List ℕ) → IsPlainBox s w text → k < h → IsPlainLine (get_or (pool_block s w h text) k []) w
+pub plain-pool_block : (s : CellStyle) (w h k : ℕ) (text : List ℕ) → IsPlainBox s w text → k < h → IsPlainLine (get_or (pool_block s bare w h text) k []) w
 plain-pool_block s w h k text p n =
     let P : List ℕ → Type 0 = λ bs. IsPlainLine bs w in
     ⊎_elim
-    (λ l. subst P (sym (block-above s w h text k l)) (plain-fill 32 w plain_column-space))
+    (λ l. subst P (sym (block-above s bare w h text k l)) (plain-fill 32 w plain_column-space))
     (λ l. ⊎_elim
-    (λ m. subst P (sym (block-top s w h text k l m)) (plain-fill s.padding.top.fill w p.style.top))
+    (λ m. subst P (sym (block-top s bare w h text k l m)) (plain-run (plain-fill s.padding.top.fill w p.style.top)))
     (λ m. plain-padded s w h k text p n l m)
     (cases_lt (k - lines_above s h text) s.padding.top.size))
     (cases_lt k (lines_above s h text))

@@ -1,53 +1,25 @@
 -- A tree of plain texts is drawable.
-use Rattle.std.proofs.Common.{
-  ◌≡◌,
-  ℕ,
-  ◌+◌,
-  ◌-◌,
-  ◌<◌,
-  ◌≤◌,
-  ◌==◌,
-  ltb,
-  cond,
-  if◌then◌else◌,
-  Bool,
-  true,
-  false,
-  ◌&&◌,
-  ◌||◌,
-  List,
-  [],
-  ◌∷◌,
-  Option,
-  Some,
-  None,
-  unwrap_or,
-  refl,
-  sym,
-  ◌∙◌,
-  ap,
-  subst,
-  arith,
-  ⊎_elim,
-  ◌⊎◌,
-}
+use Rattle.std.proofs.Common.{◌≡◌, ℕ, ◌+◌, ◌-◌, ◌==◌, if◌then◌else◌, Bool, true, false, ◌&&◌, ◌||◌, List, [], ◌∷◌, Option, Some, get_or, sym, ◌∙◌, subst, arith, ⊎_elim}
 use Rattle.tabled_border.specs.declared.borders.Borders.{Borders}
-use Rattle.tabled_text.specs.Plain.{IsPlain, IsPlainLine, IsPlainColumn}
-use Rattle.tabled_row.specs.Plain.{IsPlainPiece, IsPlainStyle}
+use Rattle.tabled_text.specs.Plain.{IsPlainLine, IsPlainColumn}
+use Rattle.tabled_row.specs.Plain.{IsPlainPiece}
 use Rattle.tabled_text.proofs.PlainLines.{plain_column-space}
 use Rattle.tabled_border.specs.Frame.{has_right}
 use Rattle.tabled_pool.specs.Frames.{has_bottom}
+use Rattle.tabled_pool.proofs.Bare.{around-bare}
 use Rattle.tabled_pool.proofs.PlainBlocks.{plain-pool_block}
 use Rattle.tabled_boxes.specs.declared.gaps.Gaps.{Gaps}
 use Rattle.tabled_boxes.specs.declared.pieces.Rectangle.{Rectangle}
 use Rattle.tabled_boxes.specs.declared.pieces.Kind.{Kind}
 use Rattle.tabled_boxes.specs.declared.pieces.Kind.TheVariants.{Leaf, Bar, Rule}
 use Rattle.tabled_boxes.specs.Boxes.{Part}
-use Rattle.tabled_boxes.specs.Tiling.{within, covering, HoldsText, FitsLeaf, EachFits}
+use Rattle.tabled_boxes.specs.Tiling.{within, FitsLeaf, EachFits}
 use Rattle.tabled_pool.specs.Owner.{owner, is_border, is_border_before, is_border_above}
-use Rattle.tabled_pool.specs.Drawn.{Plan, junction, main_of, border_char, leaf_line}
-use Rattle.tabled_pool.specs.Drawable.{whole, IsDrawable}
+use Rattle.tabled_pool.specs.Drawn.{junction, main_of, border_char, leaf_line}
+use Rattle.tabled_pool.specs.Drawable.{IsDrawable}
 use Rattle.tabled_pool.specs.PlainTree.{PlainBorders, PlainTree}
+use Rattle.tabled_pool.specs.Block.{pool_block}
+use Rattle.tabled_pool.specs.Plan.{Plan}
 use Rattle.tabled_pool.proofs.Owners.{within-inside, owner-inside, owner-here, owner-behind, is-1}
 
 if-one : (c : Bool) (a b : Option ℕ) → IsPlainPiece a → IsPlainPiece b → IsPlainPiece (if c then a else b)
@@ -100,9 +72,12 @@ unfolding leaf_line
 leaf-measured g t h x y p o e =
     let i = within-inside p.place x y (owner-inside t.parts x y p o) in
     let f = owner-fits g t.parts x y p h.fits o e in
-    plain-pool_block t.style p.place.width p.place.height (y - p.place.y) p.text
+    subst (λ ms. IsPlainLine (get_or (pool_block t.style ms p.place.width p.place.height p.text) (y - p.place.y) []) p.place.width)
+    (sym h.padding_marks)
+    (plain-pool_block t.style p.place.width p.place.height (y - p.place.y) p.text
     (record { style = h.style; plain = h.texts x y p o e; fits = omega (arith, f.wide, h.left, h.right) })
-    (omega (arith, i.top, i.bottom))
+    (omega (arith, i.top, i.bottom)))
 
 pub plain_drawable : (g : Gaps) (t : Plan) → PlainTree g t → IsDrawable t
-plain_drawable g t h = record { once = h.once; chars = char-one t h.borders; leaves = leaf-measured g t h }
+plain_drawable g t h =
+    record { once = h.once; chars = char-one t h.borders; leaves = leaf-measured g t h; bare = around-bare t h.line_marks }

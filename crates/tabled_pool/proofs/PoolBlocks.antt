@@ -1,33 +1,5 @@
 -- The lines of a block, by their index.
-use Rattle.std.proofs.Common.{
-  ◌≡◌,
-  ℕ,
-  ◌+◌,
-  ◌-◌,
-  ◌<◌,
-  ◌≤◌,
-  ltb,
-  if◌then◌else◌,
-  Bool,
-  true,
-  false,
-  List,
-  [],
-  ◌++◌,
-  Some,
-  None,
-  length,
-  map,
-  replicate,
-  get_or,
-  slice_get,
-  refl,
-  sym,
-  ◌∙◌,
-  ap,
-  arith,
-  ⊎_elim,
-}
+use Rattle.std.proofs.Common.{◌≡◌, ℕ, ◌+◌, ◌-◌, ◌<◌, ◌≤◌, ltb, if◌then◌else◌, List, [], ◌++◌, Some, None, length, map, replicate, get_or, slice_get, sym, ◌∙◌, ap, arith, ⊎_elim}
 use Rattle.std.proofs.lemmas.List.{get_or-append_right, get_or_append_left, get_or-map, get_or-replicate, length-map, length-replicate}
 use Rattle.std.proofs.lemmas.Option.{get_or_from_slice_get, slice_get_within, slice_get_cases}
 use Rattle.std.proofs.lemmas.Bool.{cases_lt}
@@ -35,8 +7,10 @@ use Rattle.std.proofs.lemmas.Bool.Decides.{nat_tests}
 use Rattle.tabled_config.specs.declared.spanned.CellStyle.{CellStyle}
 use Rattle.tabled_text.specs.Measure.{lines_of}
 use Rattle.tabled_row.specs.Fill.{fill}
-use Rattle.tabled_row.specs.Block.{cell_line, free_lines, above_text}
-use Rattle.tabled_pool.specs.Block.{lines_above, line_below, pool_block}
+use Rattle.tabled_row.specs.Block.{free_lines}
+use Rattle.tabled_border.specs.declared.sides.Sides.{Sides}
+use Rattle.tabled_pool.specs.Block.{lines_above, line_below, pool_block, text_line}
+use Rattle.tabled_pool.specs.Colours.{Mark, coloured}
 
 past_from_none : {X : Type 0} (xs : List X) (k : ℕ) → None ≡ slice_get xs k → length xs ≤ k
 past_from_none xs k e =
@@ -66,35 +40,35 @@ last_lines x y d p q k l =
     (λ h. behind x d p k (replicate q y) h ∙ get_or-replicate q (k - p) y d (omega arith) ∙ (grind (arith, nat_tests)))
     (cases_lt k p)
 
-pub block-above : (s : CellStyle) (w h : ℕ) (t : List ℕ) (k : ℕ) → k < lines_above s h t → get_or (pool_block s w h t) k [] ≡ fill 32 w
+pub block-above : (s : CellStyle) (ms : Sides Mark) (w h : ℕ) (t : List ℕ) (k : ℕ) → k < lines_above s h t → get_or (pool_block s ms w h t) k [] ≡ fill 32 w
 unfolding pool_block
-block-above s w h t k l = front _ [] _ k _ l
+block-above s ms w h t k l = front _ [] _ k _ l
 
-pub block-top : (s : CellStyle) (w h : ℕ) (t : List ℕ) (k : ℕ) → lines_above s h t ≤ k
-    → k - lines_above s h t < s.padding.top.size → get_or (pool_block s w h t) k [] ≡ fill s.padding.top.fill w
+pub block-top : (s : CellStyle) (ms : Sides Mark) (w h : ℕ) (t : List ℕ) (k : ℕ) → lines_above s h t ≤ k
+    → k - lines_above s h t < s.padding.top.size → get_or (pool_block s ms w h t) k [] ≡ coloured ms.top (fill s.padding.top.fill w)
 unfolding pool_block
-block-top s w h t k l m = behind _ [] _ k _ l ∙ front _ [] _ _ _ m
+block-top s ms w h t k l m = behind _ [] _ k _ l ∙ front _ [] _ _ _ m
 
-padded : (s : CellStyle) (w h : ℕ) (t : List ℕ) (k : ℕ) → lines_above s h t ≤ k → s.padding.top.size ≤ k - lines_above s h t
-    → get_or (pool_block s w h t) k [] ≡ get_or (map (cell_line s w t) (lines_of t) ++
-    (replicate s.padding.bottom.size (fill s.padding.bottom.fill w) ++ replicate
+padded : (s : CellStyle) (ms : Sides Mark) (w h : ℕ) (t : List ℕ) (k : ℕ) → lines_above s h t ≤ k → s.padding.top.size ≤ k - lines_above s h t
+    → get_or (pool_block s ms w h t) k [] ≡ get_or (map (text_line s ms w t) (lines_of t) ++
+    (replicate s.padding.bottom.size (coloured ms.bottom (fill s.padding.bottom.fill w)) ++ replicate
     (free_lines s h t - lines_above s h t) (fill 32 w))) (k - lines_above s h t - s.padding.top.size) []
 unfolding pool_block
-padded s w h t k l m = behind _ [] _ k _ l ∙ behind _ [] _ _ _ m
+padded s ms w h t k l m = behind _ [] _ k _ l ∙ behind _ [] _ _ _ m
 
-pub block-text : (s : CellStyle) (w h : ℕ) (t : List ℕ) (k : ℕ) (line : List ℕ) → lines_above s h t ≤ k → s.padding.top.size ≤ k - lines_above s h t
-    → Some line ≡ slice_get (lines_of t) (k - lines_above s h t - s.padding.top.size) → get_or (pool_block s w h t) k [] ≡ cell_line s w t line
-block-text s w h t k line l m e = padded s w h t k l m ∙ within_text (cell_line s w t) (lines_of t) [] _ _ line e
+pub block-text : (s : CellStyle) (ms : Sides Mark) (w h : ℕ) (t : List ℕ) (k : ℕ) (line : List ℕ) → lines_above s h t ≤ k → s.padding.top.size ≤ k - lines_above s h t
+    → Some line ≡ slice_get (lines_of t) (k - lines_above s h t - s.padding.top.size) → get_or (pool_block s ms w h t) k [] ≡ text_line s ms w t line
+block-text s ms w h t k line l m e = padded s ms w h t k l m ∙ within_text (text_line s ms w t) (lines_of t) [] _ _ line e
 
-pub block-past : (s : CellStyle) (w h : ℕ) (t : List ℕ) (k : ℕ) → lines_above s h t ≤ k → s.padding.top.size ≤ k - lines_above s h t
+pub block-past : (s : CellStyle) (ms : Sides Mark) (w h : ℕ) (t : List ℕ) (k : ℕ) → lines_above s h t ≤ k → s.padding.top.size ≤ k - lines_above s h t
     → None ≡ slice_get (lines_of t) (k - lines_above s h t - s.padding.top.size) → length (lines_of t) ≤ k - lines_above s h t - s.padding.top.size
-block-past s w h t k l m e = past_from_none (lines_of t) _ e
+block-past s ms w h t k l m e = past_from_none (lines_of t) _ e
 
-pub block-below : (s : CellStyle) (w h : ℕ) (t : List ℕ) (k : ℕ) → k < h → lines_above s h t ≤ k → s.padding.top.size ≤ k - lines_above s h t
+pub block-below : (s : CellStyle) (ms : Sides Mark) (w h : ℕ) (t : List ℕ) (k : ℕ) → k < h → lines_above s h t ≤ k → s.padding.top.size ≤ k - lines_above s h t
     → length (lines_of t) ≤ k - lines_above s h t - s.padding.top.size
-    → get_or (pool_block s w h t) k [] ≡ line_below s w (k - lines_above s h t - s.padding.top.size - length (lines_of t))
-block-below s w h t k n l m e =
-    padded s w h t k l m ∙ below_text (cell_line s w t) (lines_of t) [] _ _ e
+    → get_or (pool_block s ms w h t) k [] ≡ line_below s ms w (k - lines_above s h t - s.padding.top.size - length (lines_of t))
+block-below s ms w h t k n l m e =
+    padded s ms w h t k l m ∙ below_text (text_line s ms w t) (lines_of t) [] _ _ e
     ∙ last_lines _ _ [] s.padding.bottom.size (free_lines s h t - lines_above s h t) _
     (let lines = length (lines_of t) in
     let above = lines_above s h t in

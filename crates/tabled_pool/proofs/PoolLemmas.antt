@@ -1,17 +1,19 @@
 -- Pool tables as plans.
-use Rattle.std.proofs.Common.{◌≡◌, ℕ, ◌+◌, ◌≤◌, List, refl, sym, arith}
+use Rattle.std.proofs.Common.{◌≡◌, ℕ, List, refl, arith}
 use Rattle.std.specs.List.{join_with_byte}
 use Rattle.tabled_border.specs.declared.borders.Borders.{Borders}
 use Rattle.tabled_border.specs.declared.sides.Indent.{Indent}
 use Rattle.tabled_border.specs.declared.sides.Sides.{Sides}
 use Rattle.tabled_config.specs.declared.spanned.CellStyle.{CellStyle}
 use Rattle.tabled_row.specs.Plain.{EachLineTakes}
-use Rattle.tabled_boxes.specs.Boxes.{Part, box_of}
+use Rattle.tabled_boxes.specs.Boxes.{Part}
 use Rattle.tabled_boxes.proofs.Framing.{tree_framed_tiles, tree_framed_fits}
 use Rattle.tabled_pool.specs.declared.pool_table.PoolTable.{PoolTable}
 use Rattle.tabled_pool.specs.Drawable.{IsDrawable}
 use Rattle.tabled_pool.specs.Drawn.{drawn}
 use Rattle.tabled_pool.specs.Margins.{with_margin}
+use Rattle.tabled_pool.specs.Colours.{LineMarks, Mark, line_marks_of, marks_of}
+use Rattle.tabled_pool.specs.Plan.{Plan}
 use Rattle.tabled_pool.specs.PlainTree.{PlainTree}
 use Rattle.tabled_pool.specs.Pool.{
   borders_of,
@@ -20,6 +22,7 @@ use Rattle.tabled_pool.specs.Pool.{
   framed_height,
   framed_width,
   gaps_of,
+  margin_marks,
   margin_of,
   plan,
   pool_lines,
@@ -32,11 +35,18 @@ use Rattle.tabled_pool.proofs.Columns.{drawn_takes}
 use Rattle.tabled_pool.proofs.Plains.{plain_drawable}
 use Rattle.tabled_pool.proofs.Tiles.{drawn_tiles}
 
-pub text_of : (t : PoolTable) (ps : List Part) (w h : ℕ) (b : Borders ℕ) (s : CellStyle) (m : Sides Indent)
-    → ps ≡ (plan t).parts → w ≡ framed_width t → h ≡ framed_height t → b ≡ borders_of t → s ≡ style_of t.config → m ≡ margin_of t
-    → pool_text t ≡ join_with_byte 10 (with_margin m w (drawn (record { parts = ps; width = w; height = h; borders = b; style = s })))
+-- a plan with its margin is the text of the table whose it is
+pub text_of : (t : PoolTable) (p : Plan) (m : Sides Indent) (ms : Sides Mark) → p ≡ plan t → m ≡ margin_of t → ms ≡ margin_marks t
+    → pool_text t ≡ join_with_byte 10 (with_margin m ms p.width (drawn p))
 unfolding plan pool_lines pool_text
-text_of t ps w h b s m e1 e2 e3 e4 e5 e6 = rw (e1, e2, e3, e4, e5, e6) refl
+text_of t p m ms e1 e2 e3 = rw (e1, e2, e3) refl
+
+pub plan_is : (t : PoolTable) (ps : List Part) (w h : ℕ) (b : Borders ℕ) (s : CellStyle) (pm : Sides Mark) (lm : LineMarks)
+    → ps ≡ (plan t).parts → w ≡ framed_width t → h ≡ framed_height t → b ≡ borders_of t → s ≡ style_of t.config
+    → pm ≡ marks_of t.config.config.padding_color → lm ≡ line_marks_of t.config.config.borders_color
+    → record { parts = ps; width = w; height = h; borders = b; style = s; padding_marks = pm; line_marks = lm } ≡ plan t
+unfolding plan
+plan_is t ps w h b s pm lm e1 e2 e3 e4 e5 e6 e7 = rw (e1, e2, e3, e4, e5, e6, e7) refl
 
 plain_plan : (t : PoolTable) → IsPlainPool t → PlainTree (gaps_of t) (plan t)
 unfolding plan
@@ -50,6 +60,8 @@ plain_plan t h = record {
   borders = h.borders;
   style = h.style;
   texts = h.texts;
+  padding_marks = h.padding_color;
+  line_marks = h.borders_color;
 }
 
 pub pool_drawable : (t : PoolTable) → IsPlainPool t → IsDrawable (plan t)

@@ -1,48 +1,18 @@
 -- What is drawn tiles its parts.
-use Rattle.std.proofs.Common.{
-  ◌≡◌,
-  ℕ,
-  zero,
-  suc,
-  ◌+◌,
-  ◌-◌,
-  ◌<◌,
-  ◌≤◌,
-  Bool,
-  true,
-  false,
-  List,
-  [],
-  ◌∷◌,
-  ◌++◌,
-  Option,
-  Some,
-  None,
-  refl,
-  sym,
-  ◌∙◌,
-  ap,
-  subst,
-  arith,
-  encode_utf8,
-  ⊎_elim,
-  ◌⊎◌,
-  inl,
-  inr,
-}
+use Rattle.std.proofs.Common.{◌≡◌, ℕ, suc, ◌+◌, ◌-◌, ◌<◌, ◌≤◌, true, List, ◌++◌, Some, refl, ◌∙◌, ap, arith, encode_utf8, ◌⊎◌, inl, inr}
 use Rattle.std.specs.List.{flat_map, range_with_len}
-use Rattle.tabled_text.specs.Plain.{IsPlainLine}
 use Rattle.tabled_row.proofs.Each.{each-rest}
 use Rattle.tabled_boxes.specs.declared.pieces.Kind.{Kind}
 use Rattle.tabled_boxes.specs.declared.pieces.Kind.TheVariants.{Leaf, Bar, Rule}
 use Rattle.tabled_boxes.specs.Boxes.{Part}
-use Rattle.tabled_boxes.specs.Tiling.{within, covering}
+use Rattle.tabled_boxes.specs.Tiling.{within}
 use Rattle.tabled_pool.specs.Owner.{owner, is_line_kind}
-use Rattle.tabled_pool.specs.Drawn.{Plan, border_char, leaf_line, part_text, owned_text, place_text, drawn_line}
+use Rattle.tabled_pool.specs.Drawn.{border_char, leaf_line, part_text, owned_text, place_text, drawn_line}
 use Rattle.tabled_pool.specs.Drawable.{whole, IsDrawable}
 use Rattle.tabled_pool.specs.Tiled.{StandsAt, Tiled}
-use Rattle.tabled_pool.proofs.Owners.{Inside, inside-within, within-inside, within-le, owner-inside, counted}
-use Rattle.tabled_pool.proofs.Columns.{ahead, ahead_kind, whole-inside, unique, Begins, Goes, before, prefix, leaf-begins}
+use Rattle.tabled_pool.specs.Plan.{Plan}
+use Rattle.tabled_pool.proofs.Owners.{inside-within, within-inside, within-le, owner-inside, counted}
+use Rattle.tabled_pool.proofs.Columns.{ahead, ahead_kind, whole-inside, unique, Begins, Goes, before, border-bare, prefix, leaf-begins}
 
 stands : (t : Plan) (d : IsDrawable t) (x y : ℕ) (piece : List ℕ) → x < t.width → y < t.height → ahead t y x ≡ x
     → place_text t y x ≡ piece → StandsAt (drawn_line t y) x piece
@@ -68,10 +38,11 @@ out-border t y x p Bar e l (inr g) = let f : ahead t y x ≡ suc (x - 1) = g.out
 out-border t y x p Rule e l (inr g) = let f : ahead t y x ≡ suc (x - 1) = g.out ∙ ap
     (λ k. ahead_kind k p.place (x - 1)) e in omega (arith, f, g.started)
 
-char-of : (t : Plan) (x y : ℕ) (p : Part) (k : Kind) → is_line_kind k ≡ true → part_text t k p x y ≡ encode_utf8 (border_char t k p.place x y)
-char-of t x y p Leaf l = cc
-char-of t x y p Bar l = refl
-char-of t x y p Rule l = refl
+char-of : (t : Plan) (d : IsDrawable t) (x y : ℕ) (p : Part) (k : Kind) → is_line_kind k ≡ true
+    → part_text t k p x y ≡ encode_utf8 (border_char t k p.place x y)
+char-of t d x y p Leaf l = cc
+char-of t d x y p Bar l = border-bare t d Bar p.place x y
+char-of t d x y p Rule l = border-bare t d Rule p.place x y
 
 begins-leaf : (t : Plan) (y : ℕ) (p : Part) → Begins t y p.place.x p ⊎ Goes t y p.place.x p → ahead t y p.place.x ≡ p.place.x
 begins-leaf t y p (inl b) = b.out
@@ -97,5 +68,5 @@ drawn_tiles t d = record {
   once = λ x y h v. d.once x y ∙ whole-inside t x y h v;
   leaf = λ u v y p o e a b. leaf-stands t d u v y p o e a b;
   border = λ x y p h v o l. stands t d x y _ h v (out-border t y x p p.kind refl l (before t d y x p h v o))
-      (text-of t x y p o ∙ char-of t x y p p.kind l);
+      (text-of t x y p o ∙ char-of t d x y p p.kind l);
 }

@@ -1,51 +1,17 @@
--- The lines of a drawing: at each place the line of a leaf that begins there, or one border character.
-use Rattle.std.specs.Prelude.{
-  ◌≡◌,
-  ℕ,
-  zero,
-  suc,
-  ◌+◌,
-  ◌-◌,
-  ◌<◌,
-  ◌≤◌,
-  ◌==◌,
-  ltb,
-  if◌then◌else◌,
-  Bool,
-  true,
-  false,
-  ◌&&◌,
-  ◌||◌,
-  List,
-  [],
-  ◌∷◌,
-  ◌++◌,
-  map,
-  Option,
-  Some,
-  None,
-  unwrap_or,
-  encode_utf8,
-}
+-- The lines of a drawing: at each place the line of a leaf that begins there, or one border character with its colour.
+use Rattle.std.specs.Prelude.{ℕ, ◌+◌, ◌-◌, ◌==◌, if◌then◌else◌, Bool, true, false, ◌&&◌, ◌||◌, List, [], map, Option, Some, None, unwrap_or, encode_utf8}
 use Rattle.std.specs.List.{range_with_len, flat_map, slice_index_or}
 use Rattle.tabled_border.specs.declared.borders.Borders.{Borders}
-use Rattle.tabled_config.specs.declared.spanned.CellStyle.{CellStyle}
 use Rattle.tabled_pool.specs.Block.{pool_block}
 use Rattle.tabled_boxes.specs.declared.pieces.Rectangle.{Rectangle}
 use Rattle.tabled_boxes.specs.declared.pieces.Kind.{Kind}
 use Rattle.tabled_boxes.specs.declared.pieces.Kind.TheVariants.{Leaf, Bar, Rule}
 use Rattle.tabled_boxes.specs.Boxes.{Part}
 use Rattle.tabled_border.specs.Frame.{has_right}
+use Rattle.tabled_pool.specs.Around.{around_at, within_marks}
 use Rattle.tabled_pool.specs.Frames.{has_bottom}
 use Rattle.tabled_pool.specs.Owner.{owner, is_border, is_border_before, is_border_above}
-
--- parts in a whole of so many columns and lines, and how they look
-pub record Plan : Type 0 where
-  pub parts : List Part
-  pub width : ℕ
-  pub height : ℕ
-  pub borders : Borders ℕ
-  pub style : CellStyle
+use Rattle.tabled_pool.specs.Plan.{Plan}
 
 -- the character where lines meet: arms to the left, right, up, down
 abbrev pub junction : Borders ℕ → Bool → Bool → Bool → Bool → Option ℕ
@@ -76,12 +42,16 @@ border_char t k r x y =
     unwrap_or (if (left || right) && (up || down) then junction t.borders left right up down else main_of t k r) 32
 
 unfoldable pub leaf_line : Plan → Part → ℕ → List ℕ
-leaf_line t p k = slice_index_or (pool_block t.style p.place.width p.place.height p.text) k []
+leaf_line t p k = slice_index_or (pool_block t.style t.padding_marks p.place.width p.place.height p.text) k []
+
+-- a character of a line, between the marks of its colour
+unfoldable pub border_text : Plan → Kind → Rectangle → ℕ → ℕ → List ℕ
+border_text t k r x y = within_marks (around_at t t.parts x y) (encode_utf8 (border_char t k r x y))
 
 abbrev pub part_text : Plan → Kind → Part → ℕ → ℕ → List ℕ
 part_text t Leaf p x y = if p.place.x == x then leaf_line t p (y - p.place.y) else []
-part_text t Bar p x y = encode_utf8 (border_char t Bar p.place x y)
-part_text t Rule p x y = encode_utf8 (border_char t Rule p.place x y)
+part_text t Bar p x y = border_text t Bar p.place x y
+part_text t Rule p x y = border_text t Rule p.place x y
 
 abbrev pub owned_text : Plan → Option Part → ℕ → ℕ → List ℕ
 owned_text t None x y = []

@@ -1,11 +1,14 @@
 pub mod Applied
+pub mod Around
 pub mod Block
+pub mod Colours
 pub mod Drawable
 pub mod Drawn
 pub mod Frames
 pub mod Margins
 pub mod NewPool
 pub mod Owner
+pub mod Plan
 pub mod PlainTree
 pub mod Plans
 pub mod Pool

@@ -1,14 +1,16 @@
 -- Trees of plain texts under plain borders.
-use Rattle.std.specs.Prelude.{◌≡◌, ℕ, Option, Some}
+use Rattle.std.specs.Prelude.{◌≡◌, ℕ, Some}
 use Rattle.tabled_text.specs.Plain.{IsPlain}
 use Rattle.tabled_border.specs.declared.borders.Borders.{Borders}
+use Rattle.tabled_config.specs.Compact.{each_side}
 use Rattle.tabled_row.specs.Plain.{IsPlainPiece, IsPlainStyle}
 use Rattle.tabled_boxes.specs.declared.gaps.Gaps.{Gaps}
 use Rattle.tabled_boxes.specs.declared.pieces.Kind.TheVariants.{Leaf}
 use Rattle.tabled_boxes.specs.Boxes.{Part}
 use Rattle.tabled_boxes.specs.Tiling.{AreTiles, EachFits}
 use Rattle.tabled_pool.specs.Owner.{owner}
-use Rattle.tabled_pool.specs.Drawn.{Plan}
+use Rattle.tabled_pool.specs.Colours.{no_line_marks, no_mark}
+use Rattle.tabled_pool.specs.Plan.{Plan}
 use Rattle.tabled_pool.specs.Drawable.{whole}
 
 -- the characters that lines are drawn with are plain, and take one column; a missing one is a space
@@ -38,3 +40,5 @@ pub record PlainTree (g : Gaps) (t : Plan) : Type 0 where
   pub borders : PlainBorders t.borders
   pub style : IsPlainStyle t.style
   pub texts : (x y : ℕ) (p : Part) → owner t.parts x y ≡ Some p → p.kind ≡ Leaf → IsPlain p.text
+  pub padding_marks : t.padding_marks ≡ each_side no_mark
+  pub line_marks : t.line_marks ≡ no_line_marks

@@ -1,5 +1,5 @@
 -- The text of a pool table, and what a call that prints it leaves.
-use Rattle.std.specs.Prelude.{◌≡◌, ℕ, ◌+◌, ◌^◌, ◌<◌, ◌≤◌, ◌⊎◌, ◌==◌, if◌then◌else◌, List, ◌++◌, map, replicate, Option, Some, Result, Ok, Err}
+use Rattle.std.specs.Prelude.{◌≡◌, ℕ, ◌+◌, ◌^◌, ◌<◌, ◌≤◌, ◌⊎◌, ◌==◌, if◌then◌else◌, ltb, Bool, ◌||◌, List, Some, Result, Ok, Err}
 use Rattle.std.specs.List.{join_with_byte}
 use Rattle.tabled_base.specs.declared.error.TableError.{TableError}
 use Rattle.tabled_base.specs.declared.error.TableError.TheVariants.{Memory, Range}
@@ -17,14 +17,16 @@ use Rattle.tabled_row.specs.Sent.{Sent, Sends, Stops}
 use Rattle.tabled_boxes.specs.declared.gaps.Gaps.{Gaps}
 use Rattle.tabled_boxes.specs.declared.pieces.Kind.TheVariants.{Leaf}
 use Rattle.tabled_boxes.specs.declared.pieces.Rectangle.{Rectangle}
-use Rattle.tabled_boxes.specs.Boxes.{Box, Part, box_of}
+use Rattle.tabled_boxes.specs.Boxes.{Part, box_of}
 use Rattle.tabled_boxes.specs.Tiling.{framed}
 use Rattle.tabled_pool.specs.declared.pool_table.PoolTable.{PoolTable}
-use Rattle.tabled_pool.specs.Drawn.{Plan, drawn}
+use Rattle.tabled_pool.specs.Colours.{Mark, line_marks_of, marks_of, no_line_marks, no_mark}
+use Rattle.tabled_pool.specs.Drawn.{drawn}
 use Rattle.tabled_pool.specs.Frames.{has_bottom, has_top}
 use Rattle.tabled_pool.specs.Margins.{with_margin}
 use Rattle.tabled_pool.specs.Owner.{owner}
 use Rattle.tabled_pool.specs.PlainTree.{PlainBorders}
+use Rattle.tabled_pool.specs.Plan.{Plan}
 
 abbrev pub borders_of : PoolTable → Borders ℕ
 borders_of t = t.config.config.borders
@@ -76,11 +78,20 @@ plan t =
       height = framed_height t;
       borders = borders_of t;
       style = style_of t.config;
+      padding_marks = marks_of t.config.config.padding_color;
+      line_marks = line_marks_of t.config.config.borders_color;
     }
 
 -- the margin; a table of no column has none
 abbrev pub margin_of : PoolTable → Sides Indent
 margin_of t = if framed_width t == 0 then each_side no_indent else t.config.config.margin
+
+-- a margin of no column and no line isn't coloured
+abbrev pub has_margin : Sides Indent → Bool
+has_margin m = ltb 0 m.left.size || (ltb 0 m.right.size || (ltb 0 m.top.size || ltb 0 m.bottom.size))
+
+abbrev pub margin_marks : PoolTable → Sides Mark
+margin_marks t = if has_margin (margin_of t) then marks_of t.config.config.margin_color else each_side no_mark
 
 abbrev pub total_width : PoolTable → ℕ
 total_width t = (margin_of t).left.size + framed_width t + (margin_of t).right.size
@@ -89,7 +100,7 @@ abbrev pub total_height : PoolTable → ℕ
 total_height t = (margin_of t).top.size + framed_height t + (margin_of t).bottom.size
 
 unfoldable pub pool_lines : PoolTable → List (List ℕ)
-pool_lines t = with_margin (margin_of t) (framed_width t) (drawn (plan t))
+pool_lines t = with_margin (margin_of t) (margin_marks t) (framed_width t) (drawn (plan t))
 
 unfoldable pub pool_text : PoolTable → List ℕ
 pool_text t = join_with_byte 10 (pool_lines t)
@@ -111,7 +122,7 @@ WritesPool t old (Err e) new =
     ((e ≡ Range) × IsOutOfRange t × (new ≡ old))
     ⊎ (IsInRange t × (((e ≡ Memory) × (new ≡ old)) ⊎ Stops old e new (pool_text t)))
 
--- the texts are plain, and lines, fills and margins are plain characters of one column
+-- the texts are plain, lines, fills and margins are plain characters of one column, and nothing is coloured
 pub record IsPlainPool (t : PoolTable) : Type 0 where
   pub texts : (x y : ℕ) (p : Part) → owner (plan t).parts x y ≡ Some p → p.kind ≡ Leaf → IsPlain p.text
   pub borders : PlainBorders (borders_of t)
@@ -120,3 +131,6 @@ pub record IsPlainPool (t : PoolTable) : Type 0 where
   pub margin_right : IsPlainColumn t.config.config.margin.right.fill
   pub margin_top : IsPlainColumn t.config.config.margin.top.fill
   pub margin_bottom : IsPlainColumn t.config.config.margin.bottom.fill
+  pub borders_color : line_marks_of t.config.config.borders_color ≡ no_line_marks
+  pub padding_color : marks_of t.config.config.padding_color ≡ each_side no_mark
+  pub margin_color : marks_of t.config.config.margin_color ≡ each_side no_mark

@@ -1,12 +1,12 @@
 -- A text of lines that tiles its parts.
-use Rattle.std.specs.Prelude.{◌≡◌, ℕ, ◌+◌, ◌-◌, ◌<◌, ◌≤◌, true, List, ◌++◌, Option, Some, encode_utf8}
-use Rattle.std.specs.List.{slice_index_or}
+use Rattle.std.specs.Prelude.{◌≡◌, ℕ, ◌+◌, ◌-◌, ◌<◌, ◌≤◌, true, List, ◌++◌, Some, encode_utf8}
 use Rattle.tabled_text.specs.Measure.{line_columns}
 use Rattle.tabled_boxes.specs.declared.pieces.Kind.TheVariants.{Leaf}
 use Rattle.tabled_boxes.specs.Boxes.{Part}
 use Rattle.tabled_boxes.specs.Tiling.{covering}
 use Rattle.tabled_pool.specs.Owner.{owner, is_line_kind}
-use Rattle.tabled_pool.specs.Drawn.{Plan, border_char, leaf_line, drawn_line}
+use Rattle.tabled_pool.specs.Drawn.{border_char, leaf_line, drawn_line}
+use Rattle.tabled_pool.specs.Plan.{Plan}
 
 -- a piece stands in a line behind x columns
 pub record StandsAt (line : List ℕ) (x : ℕ) (piece : List ℕ) : Type 0 where

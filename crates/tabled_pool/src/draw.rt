@@ -1,20 +1,58 @@
 //! The lines of a drawing, place by place.
-ghost use Rattle.std.specs.Prelude.{◌≡◌, ◌^◌, ◌<◌, ◌+◌, ◌-◌, map, [], ◌∷◌};
+ghost use Rattle.std.specs.Prelude.{◌≡◌, ◌^◌, ◌<◌, ◌+◌, ◌-◌, map, [], ◌∷◌, ◌++◌, encode_utf8};
 ghost use Rattle.std.specs.List.{flat_map, range_with_len, join_with_byte};
 ghost use Rattle.tabled_row.specs.Sent.{Sent, Writes};
 ghost use Rattle.tabled_row.specs.Leading.{WritesLines};
 ghost use Rattle.tabled_row.specs.Plain.{EachLineTakes};
-ghost use Rattle.tabled_pool.specs.Drawn.{border_char, leaf_line, place_text, drawn_line, drawn};
+ghost use Rattle.tabled_pool.specs.Around.{within_marks};
+ghost use Rattle.tabled_pool.specs.Drawn.{border_char, border_text, leaf_line, place_text, drawn_line, drawn};
 ghost use Rattle.tabled_pool.specs.Drawable.{IsDrawable};
 ghost use Rattle.tabled_pool.specs.Tiled.{Tiled};
-ghost use Rattle.tabled_pool.specs.Plans.{plan_of};
+ghost use Rattle.tabled_pool.specs.Plans.{around_of, plan_of};
 
+use crate::around::{Marks, around_at};
 use crate::block::put_block_line;
+use crate::drawing::Drawing;
 use crate::find::find;
-use crate::plan::{Drawing, border_char};
+use crate::plan::border_char;
 use tabled_base::TableError;
-use tabled_boxes::Kind;
+use tabled_boxes::{Kind, Rectangle};
 use tabled_row::{CellBlock, Content, TextSink, put_char};
+
+/// A character and the marks around it.
+fn put_marked<S: TextSink>(sink: &mut S, marks: Marks, c: char) -> Result<(), TableError>
+    ensures { Writes (S.sent sink.old) result (S.sent sink.new) (within_marks (around_of marks) (encode_utf8 c)) }
+{
+    sink.write_text(marks.close)?;
+    put_opened(sink, marks, c)
+}
+
+/// A character behind its prefix, and what follows it.
+fn put_opened<S: TextSink>(sink: &mut S, marks: Marks, c: char) -> Result<(), TableError>
+    ensures { Writes (S.sent sink.old) result (S.sent sink.new) (marks.start.now ++ (encode_utf8 c ++ marks.behind.now)) }
+{
+    sink.write_text(marks.start)?;
+    put_char(sink, c)?;
+    sink.write_text(marks.behind)
+}
+
+/// A character of a line, with its colour.
+#[tactic(auto, unfolding(crate::specs::Drawn::border_text))]
+fn put_border<S: TextSink>(
+    sink: &mut S,
+    drawing: &Drawing<'_, '_>,
+    kind: Kind,
+    place: Rectangle,
+    x: usize,
+    y: usize,
+) -> Result<(), TableError>
+    requires across { x < 2 ^ 64 - 1 }
+    requires down { y < 2 ^ 64 - 1 }
+    ensures { Writes (S.sent sink.old) result (S.sent sink.new) (border_text (plan_of drawing.now) kind place x y) }
+{
+    let marks = around_at(drawing, x, y);
+    put_marked(sink, marks, border_char(drawing, kind, place, x, y))
+}
 
 /// What stands at a place: a leaf's line where it begins, one character of a line.
 #[tactic(auto, unfolding(crate::specs::Drawn::place_text, crate::specs::Drawn::leaf_line))]
@@ -43,10 +81,10 @@ fn put_place<S: TextSink>(
                 height: place.height,
                 content: Content::new(piece.text),
             };
-            put_block_line(sink, &cell, y - place.y)
+            put_block_line(sink, &cell, &drawing.padding_colors, y - place.y)
         }
-        Kind::Bar => put_char(sink, border_char(drawing, Kind::Bar, place, x, y)),
-        Kind::Rule => put_char(sink, border_char(drawing, Kind::Rule, place, x, y)),
+        Kind::Bar => put_border(sink, drawing, Kind::Bar, place, x, y),
+        Kind::Rule => put_border(sink, drawing, Kind::Rule, place, x, y),
     }
 }
 

@@ -2,8 +2,11 @@
 #![tactic(auto)]
 
 mod applying;
+mod around;
 mod block;
+mod colors;
 mod draw;
+mod drawing;
 mod find;
 mod making;
 mod margins;

@@ -1,60 +1,93 @@
 //! The lines of a drawing, with a margin around them.
 ghost use Rattle.std.specs.Prelude.{◌≡◌, ◌++◌, [], ◌∷◌, ◌<◌, ◌-◌, ◌^◌, map, replicate};
 ghost use Rattle.std.specs.List.{join_with_byte, range_with_len};
-ghost use Rattle.tabled_row.specs.Fill.{fill};
+ghost use Rattle.tabled_row.specs.Fill.{indent};
 ghost use Rattle.tabled_row.specs.Leading.{WritesLines};
 ghost use Rattle.tabled_row.specs.Sent.{Sent, Writes};
+ghost use Rattle.tabled_pool.specs.Colours.{coloured, mark_of, marks_of};
 ghost use Rattle.tabled_pool.specs.Drawn.{drawn, drawn_line};
-ghost use Rattle.tabled_pool.specs.Margins.{with_margin, within_margin};
+ghost use Rattle.tabled_pool.specs.Margins.{margin_line, with_margin, within_margin};
 ghost use Rattle.tabled_pool.specs.Plans.{plan_of};
 
+use crate::colors::put_colored_fill;
 use crate::draw::put_line;
-use crate::plan::Drawing;
+use crate::drawing::Drawing;
 use tabled_base::TableError;
-use tabled_config::{Indent, Sides};
-use tabled_row::{TextSink, put_break, put_fill};
+use tabled_config::{ANSIStr, Indent, Sides};
+use tabled_row::{TextSink, put_break};
+
+/// A margin, and its colours.
+#[derive(Clone, Copy)]
+pub(crate) struct Margin {
+    pub indent: Sides<Indent>,
+    pub colors: Sides<ANSIStr<'static>>,
+}
+
+impl Margin {
+    /// The left margin of a line.
+    fn put_left<S: TextSink>(&self, sink: &mut S) -> Result<(), TableError>
+        ensures { Writes (S.sent sink.old) result (S.sent sink.new)
+            (coloured (mark_of self.now.colors.left) (indent self.now.indent.left)) }
+    {
+        let left = self.indent.left;
+        put_colored_fill(sink, self.colors.left, left.fill, left.size)
+    }
+
+    /// The right margin of a line.
+    fn put_right<S: TextSink>(&self, sink: &mut S) -> Result<(), TableError>
+        ensures { Writes (S.sent sink.old) result (S.sent sink.new)
+            (coloured (mark_of self.now.colors.right) (indent self.now.indent.right)) }
+    {
+        let right = self.indent.right;
+        put_colored_fill(sink, self.colors.right, right.fill, right.size)
+    }
+}
 
 /// A line of the top or bottom margin, between the side margins.
 fn put_filled_line<S: TextSink>(
     sink: &mut S,
-    margin: &Sides<Indent>,
+    margin: &Margin,
+    color: ANSIStr<'static>,
     c: char,
     width: usize,
 ) -> Result<(), TableError>
-    ensures { Writes (S.sent sink.old) result (S.sent sink.new) (within_margin margin.now (fill c width)) }
+    ensures { Writes (S.sent sink.old) result (S.sent sink.new)
+        (margin_line margin.now.indent (marks_of margin.now.colors) (mark_of color.entry) c width) }
 {
-    put_fill(sink, margin.left.fill, margin.left.size)?;
-    put_fill(sink, c, width)?;
-    put_fill(sink, margin.right.fill, margin.right.size)
+    margin.put_left(sink)?;
+    put_colored_fill(sink, color, c, width)?;
+    margin.put_right(sink)
 }
 
 fn put_led_margin<S: TextSink>(
     sink: &mut S,
     begun: &mut bool,
-    margin: &Sides<Indent>,
+    margin: &Margin,
+    color: ANSIStr<'static>,
     c: char,
     width: usize,
 ) -> Result<(), TableError>
     ensures { WritesLines (S.sent sink.old) begun.old result (S.sent sink.new) begun.new
-        (within_margin margin.now (fill c width) ∷ []) }
+        (margin_line margin.now.indent (marks_of margin.now.colors) (mark_of color.entry) c width ∷ []) }
 {
     put_break(sink, begun)?;
-    put_filled_line(sink, margin, c, width)
+    put_filled_line(sink, margin, color, c, width)
 }
 
 /// The lines of the top or the bottom margin.
 fn put_margin<S: TextSink>(
     sink: &mut S,
     begun: &mut bool,
-    margin: &Sides<Indent>,
+    margin: &Margin,
+    color: ANSIStr<'static>,
     side: Indent,
     width: usize,
 ) -> Result<(), TableError>
     ensures { WritesLines (S.sent sink.old) begun.old result (S.sent sink.new) begun.new
-        (replicate side.size (within_margin margin.now (fill side.fill width))) }
+        (replicate side.size (margin_line margin.now.indent (marks_of margin.now.colors) (mark_of color.entry) side.fill width)) }
 {
     'lines: for _i in 0..side.size {
-        put_led_margin(sink, begun, margin, side.fill, width)?;
+        put_led_margin(sink, begun, margin, color, side.fill, width)?;
     }
     Ok(())
 }
@@ -63,28 +96,28 @@ fn put_margin<S: TextSink>(
 fn put_inner_line<S: TextSink>(
     sink: &mut S,
     drawing: &Drawing<'_, '_>,
-    margin: &Sides<Indent>,
+    margin: &Margin,
     y: usize,
 ) -> Result<(), TableError>
     requires down { y < 2 ^ 64 - 1 }
     ensures { Writes (S.sent sink.old) result (S.sent sink.new)
-        (within_margin margin.now (drawn_line (plan_of drawing.now) y)) }
+        (within_margin margin.now.indent (marks_of margin.now.colors) (drawn_line (plan_of drawing.now) y)) }
 {
-    put_fill(sink, margin.left.fill, margin.left.size)?;
+    margin.put_left(sink)?;
     put_line(sink, drawing, y)?;
-    put_fill(sink, margin.right.fill, margin.right.size)
+    margin.put_right(sink)
 }
 
 fn put_led_line<S: TextSink>(
     sink: &mut S,
     begun: &mut bool,
     drawing: &Drawing<'_, '_>,
-    margin: &Sides<Indent>,
+    margin: &Margin,
     y: usize,
 ) -> Result<(), TableError>
     requires down { y < 2 ^ 64 - 1 }
     ensures { WritesLines (S.sent sink.old) begun.old result (S.sent sink.new) begun.new
-        (within_margin margin.now (drawn_line (plan_of drawing.now) y) ∷ []) }
+        (within_margin margin.now.indent (marks_of margin.now.colors) (drawn_line (plan_of drawing.now) y) ∷ []) }
 {
     put_break(sink, begun)?;
     put_inner_line(sink, drawing, margin, y)
@@ -95,10 +128,11 @@ fn put_inner_lines<S: TextSink>(
     sink: &mut S,
     begun: &mut bool,
     drawing: &Drawing<'_, '_>,
-    margin: &Sides<Indent>,
+    margin: &Margin,
 ) -> Result<(), TableError>
     ensures { WritesLines (S.sent sink.old) begun.old result (S.sent sink.new) begun.new
-        (map (λ y. within_margin margin.now (drawn_line (plan_of drawing.now) y)) (range_with_len 0 drawing.now.height)) }
+        (map (λ y. within_margin margin.now.indent (marks_of margin.now.colors) (drawn_line (plan_of drawing.now) y))
+        (range_with_len 0 drawing.now.height)) }
 {
     'lines: for y in 0..drawing.height {
         put_led_line(sink, begun, drawing, margin, y)?;
@@ -112,24 +146,33 @@ fn put_lines<S: TextSink>(
     sink: &mut S,
     begun: &mut bool,
     drawing: &Drawing<'_, '_>,
-    margin: &Sides<Indent>,
+    margin: &Margin,
 ) -> Result<(), TableError>
     ensures { WritesLines (S.sent sink.old) begun.old result (S.sent sink.new) begun.new
-        (with_margin margin.now drawing.now.width (drawn (plan_of drawing.now))) }
+        (with_margin margin.now.indent (marks_of margin.now.colors) drawing.now.width (drawn (plan_of drawing.now))) }
 {
-    put_margin(sink, begun, margin, margin.top, drawing.width)?;
+    let top = margin.indent.top;
+    let bottom = margin.indent.bottom;
+    put_margin(sink, begun, margin, margin.colors.top, top, drawing.width)?;
     put_inner_lines(sink, begun, drawing, margin)?;
-    put_margin(sink, begun, margin, margin.bottom, drawing.width)
+    put_margin(
+        sink,
+        begun,
+        margin,
+        margin.colors.bottom,
+        bottom,
+        drawing.width,
+    )
 }
 
 /// A drawing with its margin, its lines joined by line feeds.
 pub(crate) fn put_framed<S: TextSink>(
     sink: &mut S,
     drawing: &Drawing<'_, '_>,
-    margin: &Sides<Indent>,
+    margin: &Margin,
 ) -> Result<(), TableError>
-    ensures { Writes (S.sent sink.old) result (S.sent sink.new)
-        (join_with_byte 10 (with_margin margin.now drawing.now.width (drawn (plan_of drawing.now)))) }
+    ensures { Writes (S.sent sink.old) result (S.sent sink.new) (join_with_byte 10
+        (with_margin margin.now.indent (marks_of margin.now.colors) drawing.now.width (drawn (plan_of drawing.now)))) }
 {
     let mut begun = false;
     put_lines(sink, &mut begun, drawing, margin)

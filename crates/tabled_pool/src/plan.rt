@@ -1,4 +1,4 @@
-//! What is drawn, and the characters of its lines.
+//! The characters of lines.
 ghost use Rattle.std.specs.Prelude.{◌≡◌, ◌^◌, ◌<◌, ◌+◌, ◌-◌, ◌==◌, map};
 ghost use Rattle.std.specs.Option.{option_map};
 ghost use Rattle.tabled_boxes.specs.Shown.{shown};
@@ -7,19 +7,10 @@ ghost use Rattle.tabled_pool.specs.Owner.{is_line_kind, is_line, is_border, is_b
 ghost use Rattle.tabled_pool.specs.Drawn.{junction, main_of, border_char};
 ghost use Rattle.tabled_pool.specs.Plans.{plan_of};
 
+use crate::drawing::Drawing;
 use crate::find::find;
 use tabled_boxes::{Kind, Piece, Rectangle};
-use tabled_config::{Borders, CellStyle};
-
-/// Placed pieces, and how they look.
-#[derive(Clone, Copy)]
-pub(crate) struct Drawing<'d, 'a> {
-    pub pieces: &'d [Piece<'a>],
-    pub width: usize,
-    pub height: usize,
-    pub borders: Borders<char>,
-    pub style: CellStyle,
-}
+use tabled_config::Borders;
 
 /// Whether the top line is there: any of its characters is.
 pub(crate) fn has_top(borders: &Borders<char>) -> bool
@@ -41,7 +32,7 @@ pub(crate) fn has_bottom(borders: &Borders<char>) -> bool
         || borders.bottom_right.is_some()
 }
 
-fn is_line_kind(kind: Kind) -> bool
+pub(crate) fn is_line_kind(kind: Kind) -> bool
     ensures { result ≡ is_line_kind kind }
 {
     match kind {
@@ -98,7 +89,7 @@ fn junction(borders: &Borders<char>, left: bool, right: bool, up: bool, down: bo
 }
 
 /// Whether a part ends where the whole does.
-fn ends_at(start: usize, size: usize, whole: usize) -> bool
+pub(crate) fn ends_at(start: usize, size: usize, whole: usize) -> bool
     ensures { result ≡ (start + size == whole) }
 {
     size <= whole && start == whole - size

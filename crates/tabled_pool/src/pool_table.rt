@@ -6,6 +6,7 @@ ghost use Rattle.tabled_row.specs.Plain.{EachLineTakes};
 ghost use Rattle.tabled_row.specs.Sent.{Sent, Writes};
 ghost use Rattle.tabled_boxes.specs.Shown.{shown};
 ghost use Rattle.tabled_priority.specs.Sums.{one_if};
+ghost use Rattle.tabled_pool.specs.Colours.{marks_of};
 ghost use Rattle.tabled_pool.specs.Drawn.{drawn};
 ghost use Rattle.tabled_pool.specs.Pool.{
   IsInRange,
@@ -18,6 +19,8 @@ ghost use Rattle.tabled_pool.specs.Pool.{
   framed_height,
   framed_width,
   gaps_of,
+  has_margin,
+  margin_marks,
   margin_of,
   plan,
   pool_lines,
@@ -29,13 +32,14 @@ ghost use Rattle.tabled_pool.specs.Pool.{
 ghost use Rattle.tabled_pool.specs.NewPool.{IsNewConfig, IsNewPool};
 ghost use Rattle.tabled_pool.specs.Tiled.{Tiled};
 
-use crate::margins::put_framed;
-use crate::plan::{Drawing, has_bottom, has_top};
+use crate::drawing::Drawing;
+use crate::margins::{Margin, put_framed};
+use crate::plan::{has_bottom, has_top};
 use std::alloc::Global;
 use std::fmt;
 use tabled_base::TableError;
 use tabled_boxes::{Gaps, Piece, Rectangle, Size, TableValue, own_size, place_tree};
-use tabled_config::{Borders, CellStyle, CompactMultilineConfig, Indent, Sides, Style};
+use tabled_config::{ANSIStr, Borders, CellStyle, CompactMultilineConfig, Indent, Sides, Style};
 use tabled_row::TextSink;
 use tabled_size::{DimensionPriority, PoolTableDimension};
 
@@ -72,6 +76,12 @@ fn style_of(config: &CompactMultilineConfig) -> CellStyle
         vertical: config.get_alignment_vertical(),
         line_alignment: config.get_formatting().allow_lines_alignment,
     }
+}
+
+fn has_margin(margin: Sides<Indent>) -> bool
+    ensures { result ≡ has_margin margin }
+{
+    margin.left.size > 0 || margin.right.size > 0 || margin.top.size > 0 || margin.bottom.size > 0
 }
 
 /// Ascii borders, one column of padding on the left and right, no margin, texts at the left and the top.
@@ -164,6 +174,18 @@ impl PoolTable {
         }
     }
 
+    /// The colours of the margin; one of no column and no line has none.
+    fn margin_colors(&self, margin: Sides<Indent>) -> Sides<ANSIStr<'static>>
+        requires { margin ≡ margin_of self.now }
+        ensures { marks_of result ≡ margin_marks self.now }
+    {
+        if has_margin(margin) {
+            *self.config.get_margin_color()
+        } else {
+            Sides::filled(ANSIStr::new("", ""))
+        }
+    }
+
     /// The columns and lines within the margin, if the totals are in range.
     fn checked_size(&self) -> Option<Size>
         ensures { MatchOption result (IsOutOfRange self.now) (λ size. (size.width ≡ framed_width self.now)
@@ -213,8 +235,15 @@ impl PoolTable {
             height: size.height,
             borders: *self.config.get_borders(),
             style: style_of(&self.config),
+            padding_colors: *self.config.get_padding_color(),
+            colors: *self.config.get_borders_color(),
         };
-        put_framed(sink, &drawing, &self.margin(size.width))
+        let indent = self.margin(size.width);
+        let margin = Margin {
+            indent,
+            colors: self.margin_colors(indent),
+        };
+        put_framed(sink, &drawing, &margin)
     }
 
     /// Prints the table, if its totals are in range.
@@ -230,7 +259,9 @@ impl PoolTable {
 
     /// Prints the boxes in their frame and margin, line by line. Where lines meet, the character is that of the
     /// borders for the sides on which they go on. A text that is given no column isn't seen, and a table of no column
-    /// has no margin. Colours that are set aren't written. The walk recurses as deep as the value goes. Refused with
+    /// has no margin. Colours take no columns: runs of padding and of a margin stand between the marks of theirs, also
+    /// where they are empty; along the top or bottom line of a text a colour is opened where none is used or another
+    /// one is, and at its end the first one is closed. The walk recurses as deep as the value goes. Refused with
     /// `Range` where the columns or the lines of the whole pass the greatest `usize`, and for memory, both before the
     /// first byte; else for what the sink refuses, and then a beginning went out.
     pub fn write_to<S: TextSink>(&self, sink: &mut S) -> Result<(), TableError>

@@ -1,9 +1,10 @@
-use Rattle.std.proofs.Common.{refl}
-use Rattle.tabled_pool.proofs.PoolLemmas.{text_of}
+use Rattle.std.proofs.Common.{ap}
+use Rattle.tabled_pool.specs.Colours.{line_marks_of, marks_of}
+use Rattle.tabled_pool.proofs.PoolLemmas.{plan_is, text_of}
 use Rattle.tabled_pool.proofs.pool_table.PoolTable.put_pieces.Goals as goal
 
 pub returns : goal.returns
 returns g c =
-    rw (text_of c.args.self.now _ _ _ _ _ _ c.requires.places c.requires.width c.requires.height c.get_borders.ensures
-    c.style_of.ensures c.margin.ensures)
-    c.put_framed.ensures
+    let same = plan_is c.args.self.now _ _ _ _ _ _ _ c.requires.places c.requires.width c.requires.height
+    c.get_borders.ensures c.style_of.ensures (ap marks_of c.get_padding_color.ensures) (ap line_marks_of c.get_borders_color.ensures) in
+    rw (text_of c.args.self.now _ _ _ same c.margin-indent.ensures c.margin_colors.ensures) c.put_framed.ensures
