@@ -2,6 +2,8 @@
 #![tactic(auto)]
 
 #[cfg(test)]
+mod colours;
+#[cfg(test)]
 mod deep;
 #[cfg(test)]
 mod pictures;
