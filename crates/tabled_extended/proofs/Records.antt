@@ -1,17 +1,15 @@
 -- Records that are printed one after another.
-use Rattle.std.proofs.Common.{◌≡◌, inl, inr, ℕ, ◌+◌, ◌<◌, ◌≤◌, List, [], ◌∷◌, ◌++◌, Bool, true, false, Ok, Err, Result, length, get_or, sym, ap, subst, ◌∙◌, refl, arith, append-nil}
+use Rattle.std.proofs.Common.{◌≡◌, ◌⊎◌, inl, inr, ℕ, ◌+◌, ◌<◌, List, [], ◌∷◌, ◌++◌, Bool, false, Ok, Err, Result, length, get_or, sym, ap, subst, ◌∙◌, refl, arith, append-nil}
 use Rattle.std.specs.List.{flat_map}
 use Rattle.std.proofs.lemmas.Grind.{flat_map-append}
 use Rattle.std.proofs.lemmas.List.{length-append, get_or_append_left, get_or_push}
 use Rattle.std.proofs.lemmas.Bool.{cases_lt}
 use Rattle.tabled_base.specs.declared.error.TableError.{TableError}
-use Rattle.tabled_base.specs.declared.error.TableError.TheVariants.{Memory, Writer}
 use Rattle.tabled_row.specs.Leading.{LineSends, LineStops, WritesLines}
 use Rattle.std.specs.Prelude.{IsErrAnd}
-use Rattle.std.specs.Io.KnownBytes.{Appends}
-use Rattle.tabled_row.specs.Sent.{IsCause, Sent, Sends, Stops}
+use Rattle.tabled_row.specs.Sent.{Sent, Sends}
 use Rattle.tabled_row.proofs.Leading.{lines-further, lines-none, lines-text, lines-finished}
-use Rattle.tabled_extended.specs.PrintedRecords.{IsTooWide, PrintsAll, PrintsRecord, PrintsRecords, PrintsSome, growing}
+use Rattle.tabled_extended.specs.PrintedRecords.{IsTooWide, PrintsAll, PrintsRecord, PrintsRecords, EndsBefore, EndsWithin}
 use Rattle.tabled_extended.specs.RecordLines.{AreRecordLines, record_lines, text_of, widest, widest_value}
 
 -- the first records stand
@@ -72,54 +70,32 @@ so_far-all {answers} {fields} {records} {n} {a} {b} {q} h e = record {
   sends = lines-text {T = Unit {0}} a b q (Ok tt) (flat_map (λ lines. lines) h.parts) h.sends;
 }
 
-cause-growing : (e : TableError) (grows : Bool) (m n : ℕ) → IsCause e grows m n → IsCause e true m n
-cause-growing Memory grows m n h = (refl, h.1)
-cause-growing Writer grows m n h = h
-cause-growing _ grows m n h = absurd h
-
-stops-growing : (a b : Sent) (e : TableError) (t : List ℕ) → Stops a e b t → Stops (growing a) e (growing b) t
-stops-growing a b e t h = record {
-  front = h.front;
-  rest = h.rest;
-  whole = h.whole;
-  added = h.added;
-  cause = cause-growing e a.grows a.failures b.failures h.cause;
-}
-
 pub so_far-stopped : {answers : ℕ → List ℕ → Type 0} {fields : List (List ℕ)} {records : List (List (List ℕ))} {n : ℕ} {a b c : Sent} {q : Bool}
     (r : Bool) (e : TableError) → PrintedSoFar answers fields records n a false b q → n < length records
     → PrintsRecord {T = Unit {0}} (answers n) (λ label. record_lines (widest fields) (widest_value records) fields label (get_or records n [])) b q (Err e) c r
-    → PrintsSome answers fields records a e c
+    → EndsBefore answers fields records a e c ⊎ EndsWithin answers fields records a e c
 so_far-stopped {answers} {fields} {records} {n} {a} {b} {c} {q} r e h l (inl w) =
     let s : Sends a b (text_of h.parts) = lines-text {T = Unit {0}} a b q (Ok tt) (flat_map (λ lines. lines) h.parts) h.sends in
-    record {
-      some = omega arith;
+    inl (record {
       parts = h.parts;
       within = omega (arith, h.many);
       lines = h.lines;
-      stops = record {
-        front = text_of h.parts;
-        rest = [];
-        whole = append-nil (text_of h.parts);
-        added = subst (λ (x : Sent). Appends a.bytes x.bytes (text_of h.parts)) (sym w.1) s.added;
-        cause = subst (λ (x : TableError). IsCause x true a.failures c.failures) (sym w.0)
-            (refl, subst (λ (x : Sent). a.failures ≤ x.failures) (sym w.1) s.counted);
-      };
-    }
+      memory = w.0;
+      sends = subst (λ (x : Sent). Sends a x (text_of h.parts)) (sym w.1) s;
+    })
 so_far-stopped {answers} {fields} {records} {n} {a} {b} {c} {q} r e h l (inr w) =
     let last : List (List ℕ) = record_lines (widest fields) (widest_value records) fields w.0 (get_or records n []) in
     let whole : flat_map (λ lines. lines) (h.parts ++ last ∷ []) ≡ flat_map (λ lines. lines) h.parts ++ last =
     flat_map-append (λ lines. lines) h.parts (last ∷ []) ∙ ap (λ u. flat_map (λ lines. lines) h.parts ++ u) (append-nil last) in
     let stops : WritesLines {T = Unit {0}} a false (Err e) c r (flat_map (λ lines. lines) (h.parts ++ last ∷ [])) =
     lines-finished {T = Unit {0}} c r last (flat_map (λ lines. lines) (h.parts ++ last ∷ [])) (Err e) h.sends w.2 whole in
-    record {
-      some = omega arith;
+    inr (record {
       parts = h.parts ++ last ∷ [];
+      some = omega (arith, length-append h.parts (last ∷ []));
       within = omega (arith, h.many, length-append h.parts (last ∷ []));
       lines = parts-more answers fields records h.parts n w.0 h.many h.lines w.1;
-      stops = stops-growing a c e (text_of (h.parts ++ last ∷ []))
-          (lines-text {T = Unit {0}} a c r (Err e) (flat_map (λ lines. lines) (h.parts ++ last ∷ [])) stops);
-    }
+      stops = lines-text {T = Unit {0}} a c r (Err e) (flat_map (λ lines. lines) (h.parts ++ last ∷ [])) stops;
+    })
 
 pub record-printed : (answers : List ℕ → Type 0) (lines : List ℕ → List (List ℕ)) (a b : Sent) (p q : Bool) (r : Result (Unit {0}) TableError)
     (label : List ℕ) (printed : List (List ℕ)) → answers label → WritesLines a p r b q printed → printed ≡ lines label → PrintsRecord answers lines a p r b q

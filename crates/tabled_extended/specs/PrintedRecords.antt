@@ -1,14 +1,10 @@
 -- What printing a table of records leaves of a sink.
-use Rattle.std.specs.Prelude.{◌≡◌, ◌⊎◌, ℕ, ◌+◌, ◌^◌, ◌<◌, ◌≤◌, true, List, Result, Ok, Err, length, Bool}
+use Rattle.std.specs.Prelude.{◌≡◌, ◌⊎◌, ℕ, ◌+◌, ◌^◌, ◌<◌, ◌≤◌, List, Result, Ok, Err, length, Bool}
 use Rattle.tabled_base.specs.declared.error.TableError.{TableError}
 use Rattle.tabled_base.specs.declared.error.TableError.TheVariants.{Memory, Range}
 use Rattle.tabled_row.specs.Leading.{LineSends, LineStops}
 use Rattle.tabled_row.specs.Sent.{Sent, Sends, Stops}
 use Rattle.tabled_extended.specs.RecordLines.{AreRecordLines, text_of, widest, widest_value}
-
--- the same sink, that may be refused memory: a label takes some whatever the sink does
-abbrev pub growing : Sent → Sent
-growing sent = record { bytes = sent.bytes; failures = sent.failures; grows = true }
 
 -- there is a record, and the columns of a field, a bar between spaces and a value pass the greatest `usize`
 pub record IsTooWide (fields : List (List ℕ)) (records : List (List (List ℕ))) : Type 0 where
@@ -22,22 +18,31 @@ pub record PrintsAll (answers : ℕ → List ℕ → Type 0) (fields : List (Lis
   pub lines : AreRecordLines answers fields records parts
   pub sends : Sends old new (text_of parts)
 
--- a beginning of the text was added, up to a refusal with its cause
-pub record PrintsSome (answers : ℕ → List ℕ → Type 0) (fields : List (List ℕ)) (records : List (List (List ℕ)))
+-- a label was refused, for memory: just the records before its own were printed
+pub record EndsBefore (answers : ℕ → List ℕ → Type 0) (fields : List (List ℕ)) (records : List (List (List ℕ)))
     (old : Sent) (error : TableError) (new : Sent) : Type 0 where
-  pub some : 0 < length records
   pub parts : List (List (List ℕ))
+  pub within : length parts < length records
+  pub lines : AreRecordLines answers fields records parts
+  pub memory : error ≡ Memory
+  pub sends : Sends old new (text_of parts)
+
+-- the sink refused, for its own cause: a beginning of some first records was printed
+pub record EndsWithin (answers : ℕ → List ℕ → Type 0) (fields : List (List ℕ)) (records : List (List (List ℕ)))
+    (old : Sent) (error : TableError) (new : Sent) : Type 0 where
+  pub parts : List (List (List ℕ))
+  pub some : 0 < length parts
   pub within : length parts ≤ length records
   pub lines : AreRecordLines answers fields records parts
-  pub stops : Stops (growing old) error (growing new) (text_of parts)
+  pub stops : Stops old error new (text_of parts)
 
--- on Ok the whole text was added; a table that is too wide is refused before the first byte, and any other one only
--- for memory or by the sink
+-- on Ok the whole text was added; a table that is too wide is refused before the first byte, and any other one only where
+-- a label or the sink is
 abbrev pub PrintsRecords : {T : Type 0} → (ℕ → List ℕ → Type 0) → List (List ℕ) → List (List (List ℕ)) → Sent → Result T TableError → Sent → Type 0
 PrintsRecords answers fields records old (Ok _) new = (IsTooWide fields records → ⊥) × PrintsAll answers fields records old new
 PrintsRecords answers fields records old (Err e) new =
     ((e ≡ Range) × IsTooWide fields records × (new ≡ old))
-    ⊎ ((IsTooWide fields records → ⊥) × PrintsSome answers fields records old e new)
+    ⊎ ((IsTooWide fields records → ⊥) × (EndsBefore answers fields records old e new ⊎ EndsWithin answers fields records old e new))
 
 -- ---- for the private functions
 

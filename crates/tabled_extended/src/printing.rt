@@ -247,8 +247,8 @@ impl<F: Template> ExtendedTable<F> {
     /// Prints for each record its header, which has the text that the template answers for its index, and a line for
     /// each field that has a value; a further field or value isn't shown, but counts for the widths. A table without
     /// records has no line. Refused with `Range` where the columns of a field, a bar and a value pass the greatest
-    /// `usize`, before the first byte; for the memory of a label, as its record is reached; and for what the sink
-    /// refuses. In both last cases a beginning went out.
+    /// `usize`, before the first byte; with `Memory` for a label, as its record is reached, with the whole records before it
+    /// printed; and for what the sink refuses, a beginning of the text printed.
     pub fn write_to<S: TextSink>(&self, sink: &mut S) -> Result<(), TableError>
         ensures { PrintsRecords (F.answers self.now.template) self.now.fields.items (row_texts self.now.records.items)
             (S.sent sink.old) result (S.sent sink.new) }
@@ -272,7 +272,7 @@ impl<F: Template> ExtendedTable<F> {
             × (length parts ≡ length (row_texts self.now.records.items))
             × AreRecordLines (F.answers self.now.template) self.now.fields.items (row_texts self.now.records.items) parts
             × (string_bytes text ≡ text_of parts)) }
-        ensures err { IfErr result (λ e. (e ≡ Memory)
+        ensures err { IfErr result (λ e. ((e ≡ Memory) × (0 < length (row_texts self.now.records.items)))
             ⊎ ((e ≡ Range) × IsTooWide self.now.fields.items (row_texts self.now.records.items))) }
     {
         let mut text = String::new(*self.fields.allocator());
