@@ -16,7 +16,7 @@ err-and (Err d) e Q i q = subst Q (sym i) q
 -- printing halts in the top margin
 pub halts-top : {settings : Settings} {config : CompactConfig} {ahead_rows : List (List (List ℕ))} {start new : Sent} {count : ℕ} {e : TableError}
     → HaltsWithin settings config ahead_rows [] start count e new → Halts settings config ahead_rows [] start count e new
-halts-top h = record { shown = []; rest = []; parts = refl; taken = omega arith; halts = inr h }
+halts-top h = record { shown = []; rest = []; parts = refl; halts = inr (refl, h) }
 
 module _ {R : Type 0} {layout : Layout} {first begun : Bool} {old new : Sent} (limit : Option ℕ) (lines total : ℕ) (whole : Bool) (more : List (List (List ℕ))) (r : Result R TableError) where
   pub finishes-halting : (e : TableError) → IsErrAnd r (λ d. d ≡ e) → HaltsMore lines more layout first old begun e new

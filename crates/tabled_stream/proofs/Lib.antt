@@ -1,5 +1,7 @@
 pub mod TopAndBottom
 pub mod Endings
+pub mod Finished
+pub mod FirstRows
 pub mod Measures
 pub mod NextPut
 pub mod Parts
@@ -7,4 +9,5 @@ pub mod RowsAfter
 pub mod RowsPut
 pub mod RowsRead
 pub mod Steps
+pub mod Unshown
 pub mod Widths

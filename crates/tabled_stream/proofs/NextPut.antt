@@ -34,8 +34,7 @@ module _ {settings : Settings} {config : CompactConfig} {ahead_rows shown : List
         shown = shown;
         rest = row ∷ [];
         parts = refl;
-        taken = omega (arith, length-append shown (row ∷ []));
-        halts = inl (record { sheet = p.sheet; in_reach = p.in_reach; begun = begun; sends = subst S (sym same) p.sends; cause = cause });
+        halts = inl (record { sheet = p.sheet; in_reach = p.in_reach; begun = begun; sends = subst S (sym same) p.sends; taken = omega arith; cause = cause });
       }
 
   pub halts-here : (error : TableError) → HasPut settings config ahead_rows shown start layout first old begun → error ≡ Memory
@@ -44,8 +43,7 @@ module _ {settings : Settings} {config : CompactConfig} {ahead_rows shown : List
     shown = shown;
     rest = [];
     parts = sym (append-nil shown);
-    taken = omega arith;
-    halts = inl (record { sheet = p.sheet; in_reach = p.in_reach; begun = begun; sends = p.sends; cause = inr m });
+    halts = inl (record { sheet = p.sheet; in_reach = p.in_reach; begun = begun; sends = p.sends; taken = omega arith; cause = inr m });
   }
 
 pub next-put : {R : Type 0} (r : Result R TableError) (layout : Layout) (first first' begun begun' : Bool) (old new : Sent) (height lines : ℕ) (row : List (List ℕ))
@@ -61,8 +59,7 @@ next-put (Err d) layout first first' begun begun' old new height lines row (inr 
       shown = shown ++ row ∷ [];
       rest = [];
       parts = sym (append-nil (shown ++ row ∷ []));
-      taken = omega arith;
-      halts = inr (put-stopped p q (e ∙ padded-is row lines p h) b);
+      halts = inr (refl, put-stopped p q (e ∙ padded-is row lines p h) b);
     }
 
 pub next-high : {R : Type 0} (r : Result R TableError) (layout : Layout) (first begun : Bool) (old : Sent) (lines : ℕ) (row : List (List ℕ))

@@ -1,3 +1,5 @@
+pub mod Applied
+pub mod NewTable
 pub mod Printed
 pub mod Progress
 pub mod Reading

@@ -1,5 +1,5 @@
 -- How far a stream was printed.
-use Rattle.std.specs.Prelude.{◌≡◌, ℕ, ◌+◌, ◌==◌, ◌^◌, ◌<◌, ◌≤◌, ◌⊎◌, Bool, true, false, List, [], ◌∷◌, ◌++◌, Option, Some, None, Result, Ok, Err, length, slice_index, unwrap_or}
+use Rattle.std.specs.Prelude.{◌≡◌, ◌≢◌, ℕ, ◌+◌, ◌-◌, ◌==◌, ◌^◌, ◌<◌, ◌≤◌, ◌⊎◌, Bool, true, false, List, [], ◌∷◌, ◌++◌, Option, Some, None, Result, Ok, Err, length, slice_index, unwrap_or}
 use Rattle.std.specs.Result.{IsErrAnd}
 use Rattle.tabled_base.specs.declared.error.TableError.{TableError}
 use Rattle.tabled_base.specs.declared.error.TableError.TheVariants.{Memory, Range}
@@ -15,7 +15,7 @@ use Rattle.tabled_stream.specs.declared.layout.Layout.{Layout}
 use Rattle.tabled_stream.specs.declared.settings.Settings.{Settings}
 use Rattle.tabled_stream.specs.Printed.{lines_above}
 use Rattle.tabled_stream.specs.Row.{compact_style, content_at}
-use Rattle.tabled_stream.specs.Streamed.{IsStreamed, column_count, content_height, content_width}
+use Rattle.tabled_stream.specs.Streamed.{IsStreamed, ahead, column_count, content_height, content_width}
 use Rattle.tabled_stream.specs.Streams.{IsTooHighFirst, stream_total}
 
 -- a layout is that of some settings, where some rows were read ahead
@@ -43,13 +43,14 @@ pub record HasPut (settings : Settings) (config : CompactConfig) (ahead_rows sho
   pub is_first : first ≡ (length shown == 0)
   pub sends : LineSends start false now begun (lines_above sheet layout.count (length shown))
 
--- printing halts before a row, which is too high, or memory was refused
+-- printing halts before a row, which is too high, or memory was refused; no other row follows
 pub record HaltsBefore (settings : Settings) (config : CompactConfig) (ahead_rows shown rest : List (List (List ℕ))) (start : Sent)
     (count : ℕ) (error : TableError) (now : Sent) : Type 0 where
   pub sheet : Sheet
   pub in_reach : IsInReach settings config ahead_rows shown sheet
   pub begun : Bool
   pub sends : LineSends start false now begun (lines_above sheet count (length shown))
+  pub taken : length rest ≤ 1
   pub cause : ((error ≡ Range) × IsTooHighFirst settings config ahead_rows (length shown) rest) ⊎ (error ≡ Memory)
 
 -- the sink refused in the top margin or in a row
@@ -65,9 +66,8 @@ pub record Halts (settings : Settings) (config : CompactConfig) (ahead_rows rows
   pub shown : List (List (List ℕ))
   pub rest : List (List (List ℕ))
   pub parts : rows ≡ shown ++ rest
-  pub taken : length rows ≤ length shown + 1
   pub halts : HaltsBefore settings config ahead_rows shown rest start count error now
-      ⊎ HaltsWithin settings config ahead_rows shown start count error now
+      ⊎ ((rest ≡ []) × HaltsWithin settings config ahead_rows shown start count error now)
 
 -- what printing of some rows leaves, by its answer
 abbrev pub PutsRows : {R : Type 0} → Settings → CompactConfig → List (List (List ℕ)) → List (List (List ℕ)) → Sent → Layout → Result R TableError
@@ -96,6 +96,11 @@ HaltsMore lines more layout first old begun error new =
     → length ahead_rows ≤ length shown → lines ≡ unwrap_or settings.height 1 → HasPut settings config ahead_rows shown start layout first old begun
     → Halts settings config ahead_rows (shown ++ more) start layout.count error new
 
+-- how many rows may still be shown after so many
+abbrev pub left_of : Option ℕ → ℕ → Option ℕ
+left_of None count = None
+left_of (Some limit) count = Some (limit - count)
+
 -- rows that were taken are as many as are shown at most, or all there are
 abbrev pub IsLimited : Option ℕ → ℕ → Bool → Type 0
 IsLimited None count whole = whole ≡ true
@@ -105,6 +110,19 @@ IsLimited (Some limit) count whole = (count ≤ limit) × (whole ≡ false → c
 abbrev pub IsPermitted : Option ℕ → ℕ → Type 0
 IsPermitted None count = Unit {0}
 IsPermitted (Some limit) count = count ≤ limit
+
+-- rows that were taken before the first byte: all there are, or those that are read ahead, or where there are none of these, one
+-- that is shown
+pub record AreFirst (settings : Settings) (kept : List (List (List ℕ))) (all : Bool) : Type 0 where
+  pub sniffed : all ≡ false → ahead settings ≤ length kept
+  pub needed : (length kept ≤ ahead settings)
+      ⊎ ((length kept ≤ 1) × (0 < unwrap_or settings.columns 0) × (settings.rows ≢ Some 0))
+  pub none : all ≡ false → length kept ≡ 0 → (unwrap_or settings.columns 0 ≡ 0) ⊎ (settings.rows ≡ Some 0)
+
+-- how many were taken behind them: none where they were all, and no more than may be shown
+pub record AreFurther (limit : Option ℕ) (kept : ℕ) (all : Bool) (more : ℕ) (whole : Bool) : Type 0 where
+  pub permitted : IsPermitted (left_of limit kept) more
+  pub none : all ≡ true → (more ≡ 0) × (whole ≡ true)
 
 -- what printing the end of a table leaves: its whole text, or a beginning of that
 pub record EndsSheet {R : Type 0} (settings : Settings) (config : CompactConfig) (ahead_rows shown : List (List (List ℕ))) (start : Sent)
@@ -121,4 +139,13 @@ FinishesMore limit lines total whole more layout first old begun result new =
     → length ahead_rows ≤ length shown → lines ≡ unwrap_or settings.height 1 → 0 < length shown → 0 < layout.count
     → total ≡ stream_total settings config ahead_rows → HasPut settings config ahead_rows shown start layout first old begun
     → (IsLimited limit (length more) whole × EndsSheet settings config ahead_rows (shown ++ more) start result new)
+    ⊎ IsErrAnd result (λ e. Halts settings config ahead_rows (shown ++ more) start layout.count e new)
+
+-- the same behind the rows that were taken first, where rows may follow behind those that are read ahead alone
+abbrev pub FinishesBehind : {R : Type 0} → Option ℕ → ℕ → ℕ → Bool → List (List (List ℕ)) → Layout → Bool → Sent → Bool → Result R TableError → Sent → Type 0
+FinishesBehind left lines total whole more layout first old begun result new =
+    (settings : Settings) (config : CompactConfig) (ahead_rows shown : List (List (List ℕ))) (start : Sent)
+    → (left ≢ Some 0 → length ahead_rows ≤ length shown) → lines ≡ unwrap_or settings.height 1 → 0 < length shown → 0 < layout.count
+    → total ≡ stream_total settings config ahead_rows → HasPut settings config ahead_rows shown start layout first old begun
+    → (IsLimited left (length more) whole × EndsSheet settings config ahead_rows (shown ++ more) start result new)
     ⊎ IsErrAnd result (λ e. Halts settings config ahead_rows (shown ++ more) start layout.count e new)

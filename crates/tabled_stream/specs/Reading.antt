@@ -1,5 +1,5 @@
 -- What is read of an iterator of rows, of each row its cells.
-use Rattle.std.specs.Prelude.{◌≡◌, Bool, true, false, List}
+use Rattle.std.specs.Prelude.{◌≡◌, Bool, true, false, List, ◌++◌}
 use Rattle.std.specs.List.{All, AllZip}
 use Rattle.std.specs.declared.option.Option.{Option}
 use Rattle.std.specs.declared.option.Option.TheVariants.{None}
@@ -27,3 +27,9 @@ pub record ReadsTo {S W T A : Type 0} (row_steps : S → Option W → S → Type
   pub reads : Reads row_steps cells_become cell_steps from cells reached
   pub ended : whole ≡ true → row_steps reached None to
   pub further : whole ≡ false → reached ≡ to
+
+-- further rows come behind some that were read
+abbrev pub ReadsOn : {S W T A : Type 0} (row_steps : S → Option W → S → Type 0) (cells_become : W → T → Type 0)
+    (cell_steps : T → Option A → T → Type 0) (kept : List (List A)) (all : Bool) (between : S) (more : List (List A)) (whole : Bool) (to : S) → Type 0
+ReadsOn {S} row_steps cells_become cell_steps kept all between more whole to =
+    (from : S) → ReadsTo row_steps cells_become cell_steps from kept all between → ReadsTo row_steps cells_become cell_steps from (kept ++ more) whole to

@@ -1,5 +1,5 @@
 -- What a call that prints a stream leaves.
-use Rattle.std.specs.Prelude.{◌≡◌, ℕ, ◌+◌, ◌^◌, ◌<◌, ◌≤◌, ◌⊎◌, Bool, true, List, [], ◌∷◌, ◌++◌, Option, Some, None, Result, Ok, Err, length, max, slice_index}
+use Rattle.std.specs.Prelude.{◌≡◌, ℕ, ◌+◌, ◌==◌, ◌^◌, ◌<◌, ◌≤◌, ◌⊎◌, if◌then◌else◌, Bool, true, List, [], ◌∷◌, ◌++◌, Option, Some, None, Result, Ok, Err, length, map, max, slice_index}
 use Rattle.tabled_base.specs.declared.error.TableError.{TableError}
 use Rattle.tabled_base.specs.declared.error.TableError.TheVariants.{Memory, Range}
 use Rattle.tabled_config.specs.declared.compact.CompactConfig.{CompactConfig}
@@ -22,6 +22,10 @@ abbrev pub reaches : Option ℕ → ℕ → Type 0
 reaches None count = ⊥
 reaches (Some limit) count = limit ≤ count
 
+-- the rows that were taken are all, or those that are read ahead are among them
+abbrev pub AreSniffed : Settings → List (List (List ℕ)) → Bool → Type 0
+AreSniffed settings rows whole = (whole ≡ true) ⊎ (ahead settings ≤ length rows)
+
 -- the rows that were taken are all, or further ones would change nothing
 abbrev pub AreEnough : Settings → List (List (List ℕ)) → Bool → Type 0
 AreEnough settings rows whole =
@@ -29,9 +33,13 @@ AreEnough settings rows whole =
     ⊎ ((ahead settings ≤ length rows)
     × (reaches settings.rows (length rows) ⊎ (column_count settings (sniffed settings rows) ≡ 0)))
 
--- no more rows were taken than are read ahead or shown
+-- the rows that are shown: none where there is no column
+abbrev pub shown_rows : Settings → List (List (List ℕ)) → List (List (List ℕ))
+shown_rows settings rows = if column_count settings (sniffed settings rows) == 0 then [] else limited settings.rows rows
+
+-- each row that was taken is read ahead or shown
 abbrev pub ArePermitted : Settings → List (List (List ℕ)) → Type 0
-ArePermitted settings rows = (limit : ℕ) → settings.rows ≡ Some limit → length rows ≤ max (ahead settings) limit
+ArePermitted settings rows = length rows ≤ max (ahead settings) (length (shown_rows settings rows))
 
 -- there is a row that is shown, and a column
 pub record IsFilled (settings : Settings) (rows : List (List (List ℕ))) : Type 0 where
@@ -44,10 +52,11 @@ pub record IsWholeStream (settings : Settings) (config : CompactConfig) (rows : 
   pub heights : IsFilled settings rows → (index : ℕ) → index < length (limited settings.rows rows) → slice_index t.heights index < 2 ^ 64
   pub width : IsFilled settings rows → stream_total settings config (sniffed settings rows) < 2 ^ 64
 
--- the table of the rows that were begun, of those that are shown: rest follows them
-pub record IsBegun (settings : Settings) (config : CompactConfig) (rows shown rest : List (List (List ℕ))) (t : Sheet) : Type 0 where
+-- the table of the first of the rows that are shown: rest follows them
+pub record IsBegun (settings : Settings) (config : CompactConfig) (rows : List (List (List ℕ))) (whole : Bool) (shown rest : List (List (List ℕ)))
+    (t : Sheet) : Type 0 where
+  pub read : AreSniffed settings rows whole
   pub parts : limited settings.rows rows ≡ shown ++ rest
-  pub taken : length rows ≤ max (length (sniffed settings rows)) (length shown + 1)
   pub streamed : IsStreamed settings config (sniffed settings rows) shown t
   pub heights : (index : ℕ) → index < length shown → slice_index t.heights index < 2 ^ 64
   pub columns : 0 < column_count settings (sniffed settings rows)
@@ -58,21 +67,25 @@ abbrev pub IsTooHighFirst : Settings → CompactConfig → List (List (List ℕ)
 IsTooHighFirst settings config ahead_rows index [] = ⊥
 IsTooHighFirst settings config ahead_rows index (row ∷ rest) = 2 ^ 64 ≤ stream_height settings config ahead_rows index row
 
--- the lines above a row are out, and then it is refused: it is too high, or memory was wanted
-pub record StopsAtRow (settings : Settings) (config : CompactConfig) (rows : List (List (List ℕ))) (old : Sent) (error : TableError) (new : Sent) : Type 0 where
+-- the lines above a row are out, and then it is refused: it is too high, or memory was wanted. No row behind it was taken, but
+-- those that are read ahead
+pub record StopsAtRow (settings : Settings) (config : CompactConfig) (rows : List (List (List ℕ))) (whole : Bool) (old : Sent) (error : TableError) (new : Sent) : Type 0 where
   pub shown : List (List (List ℕ))
   pub rest : List (List (List ℕ))
   pub sheet : Sheet
-  pub begun : IsBegun settings config rows shown rest sheet
+  pub begun : IsBegun settings config rows whole shown rest sheet
+  pub taken : length rows ≤ max (ahead settings) (length shown + 1)
   pub cause : ((error ≡ Range) × IsTooHighFirst settings config (sniffed settings rows) (length shown) rest) ⊎ (error ≡ Memory)
   pub sends : Sends old new (text_above sheet (column_count settings (sniffed settings rows)) (length shown))
 
--- the sink refused in the top margin, or in a row with its horizontal line
-pub record StopsInRows (settings : Settings) (config : CompactConfig) (rows : List (List (List ℕ))) (old : Sent) (error : TableError) (new : Sent) : Type 0 where
+-- the sink refused in the top margin, or in the last of some rows or its horizontal line. No row behind it was taken, but those
+-- that are read ahead, and the first
+pub record StopsInRows (settings : Settings) (config : CompactConfig) (rows : List (List (List ℕ))) (whole : Bool) (old : Sent) (error : TableError) (new : Sent) : Type 0 where
   pub shown : List (List (List ℕ))
   pub rest : List (List (List ℕ))
   pub sheet : Sheet
-  pub begun : IsBegun settings config rows shown rest sheet
+  pub begun : IsBegun settings config rows whole shown rest sheet
+  pub taken : length rows ≤ max (ahead settings) (max 1 (length shown))
   pub stops : Stops old error new (text_above sheet (column_count settings (sniffed settings rows)) (length shown))
 
 -- the sink refused in the text of the whole table
@@ -83,9 +96,9 @@ pub record StopsAtEnd (settings : Settings) (config : CompactConfig) (rows : Lis
   pub stops : Stops old error new (table_text sheet)
 
 -- refused before the first byte: the whole is too wide, or memory was wanted
-pub record StopsEarly (settings : Settings) (config : CompactConfig) (rows : List (List (List ℕ))) (old : Sent) (error : TableError) (new : Sent) : Type 0 where
+pub record StopsEarly (settings : Settings) (config : CompactConfig) (rows : List (List (List ℕ))) (whole : Bool) (old : Sent) (error : TableError) (new : Sent) : Type 0 where
   pub same : new ≡ old
-  pub cause : ((error ≡ Range) × IsFilled settings rows × (2 ^ 64 ≤ stream_total settings config (sniffed settings rows))) ⊎ (error ≡ Memory)
+  pub cause : ((error ≡ Range) × AreSniffed settings rows whole × IsFilled settings rows × (2 ^ 64 ≤ stream_total settings config (sniffed settings rows))) ⊎ (error ≡ Memory)
 
 -- what is printed of the rows that were taken
 pub record StreamSends (settings : Settings) (config : CompactConfig) (rows : List (List (List ℕ))) (whole : Bool) (old new : Sent) : Type 0 where
@@ -97,11 +110,24 @@ pub record StreamSends (settings : Settings) (config : CompactConfig) (rows : Li
 -- why a stream stops
 abbrev pub StreamStops : Settings → CompactConfig → List (List (List ℕ)) → Bool → Sent → TableError → Sent → Type 0
 StreamStops settings config rows whole old error new =
-    StopsEarly settings config rows old error new
-    ⊎ (StopsAtRow settings config rows old error new
-    ⊎ (StopsInRows settings config rows old error new ⊎ StopsAtEnd settings config rows whole old error new))
+    StopsEarly settings config rows whole old error new
+    ⊎ (StopsAtRow settings config rows whole old error new
+    ⊎ (StopsInRows settings config rows whole old error new ⊎ StopsAtEnd settings config rows whole old error new))
 
 -- what a call that prints a stream leaves of the rows that were taken, by its answer
 abbrev pub Streams : {T : Type 0} → Settings → CompactConfig → List (List (List ℕ)) → Bool → Sent → Result T TableError → Sent → Type 0
 Streams settings config rows whole old (Ok _) new = StreamSends settings config rows whole old new
 Streams settings config rows whole old (Err error) new = StreamStops settings config rows whole old error new
+
+-- the texts of rows that came of a source first, and whether these are all
+abbrev pub Came : {A : Type 0} → (List (List A) → Bool → Type 0) → (A → List ℕ) → List (List (List ℕ)) → Bool → Type 0
+Came {A} begins text rows whole = (cells : List (List A)) × begins cells whole × (rows ≡ map (map text) cells)
+
+-- what a call that prints a source of rows leaves: some rows came first, as many as were needed, and of these it is told
+pub record PrintsStream {T : Type 0} (settings : Settings) (config : CompactConfig) (comes : List (List (List ℕ)) → Bool → Type 0)
+    (old : Sent) (result : Result T TableError) (new : Sent) : Type 0 where
+  pub rows : List (List (List ℕ))
+  pub whole : Bool
+  pub came : comes rows whole
+  pub permitted : ArePermitted settings rows
+  pub streams : Streams settings config rows whole old result new

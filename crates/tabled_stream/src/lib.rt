@@ -4,17 +4,23 @@
 //! columns that its column leaves to texts.
 #![tactic(auto)]
 
+mod applying;
+mod collecting;
 mod columns;
 mod ends;
 mod finish;
 mod lay_out;
 mod layout;
 mod print;
+mod printing;
 mod reading;
 mod record;
 mod settings;
 mod sniff;
+mod table;
 mod take;
 mod total;
+mod whole;
 
 pub use settings::Settings;
+pub use table::IterTable;

@@ -1,17 +1,31 @@
 //! How many rows of a stream are taken, and how many of them are shown.
-ghost use Rattle.std.specs.Prelude.{◌≡◌, ◌-◌, MatchOption, None, Some, max, min};
+ghost use Rattle.std.specs.Prelude.{◌≡◌, ◌<◌, ◌≤◌, ◌==◌, ◌&&◌, ◌⊎◌, ◌≢◌, ℕ, MatchOption, None, Some, false, min, true, unwrap_or};
+ghost use Rattle.tabled_stream.specs.Progress.{left_of};
 ghost use Rattle.tabled_stream.specs.Streamed.{ahead};
 
+use crate::print::is_none_left;
 use crate::settings::{Settings, ahead};
 
-/// How many rows are taken before the first is printed: those that are read ahead, and the first that is shown.
+/// Whether a row may be shown where none is read ahead: there is a column, and rows may be printed.
+fn shows_unread(settings: &Settings) -> bool
+    ensures shown { result ≡ true → (0 < unwrap_or settings.now.columns 0) × (settings.now.rows ≢ Some 0) }
+    ensures none { result ≡ false → (unwrap_or settings.now.columns 0 ≡ 0) ⊎ (settings.now.rows ≡ Some 0) }
+{
+    settings.columns.unwrap_or(0) > 0 && !is_none_left(settings.rows)
+}
+
+/// How many rows are taken before the first byte: those that are read ahead, or else the first that may be shown.
 pub(crate) fn first_rows(settings: &Settings) -> usize
-    ensures shown { MatchOption settings.now.rows (result ≡ max (ahead settings.now) 1) (λ n. result ≡ max (ahead settings.now) (min n 1)) }
+    ensures ahead { ahead settings.now ≤ result }
+    ensures needed { (result ≡ ahead settings.now) ⊎ ((ahead settings.now ≡ 0) × (result ≡ 1)
+        × (0 < unwrap_or settings.now.columns 0) × (settings.now.rows ≢ Some 0)) }
+    ensures none { result ≡ 0 → (unwrap_or settings.now.columns 0 ≡ 0) ⊎ (settings.now.rows ≡ Some 0) }
 {
     let ahead = ahead(settings);
-    match settings.rows {
-        Some(limit) => ahead.max(limit.min(1)),
-        None => ahead.max(1),
+    if ahead == 0 && shows_unread(settings) {
+        1
+    } else {
+        ahead
     }
 }
 
@@ -25,9 +39,9 @@ pub(crate) fn up_to(limit: Option<usize>, count: usize) -> usize
     }
 }
 
-/// How many more may be shown.
+/// How many more may be shown after so many.
 pub(crate) fn fewer(limit: Option<usize>, count: usize) -> Option<usize>
-    ensures { MatchOption limit (result ≡ None) (λ n. result ≡ Some (n - count)) }
+    ensures { result ≡ left_of limit count }
 {
     match limit {
         Some(limit) => Some(limit.saturating_sub(count)),

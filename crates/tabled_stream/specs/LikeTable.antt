@@ -1,0 +1,40 @@
+-- Streams that print the bytes of a `Table`.
+use Rattle.std.specs.Prelude.{◌≡◌, ℕ, ◌<◌, ◌≤◌, Bool, true, List, None, chars, length}
+use Rattle.std.specs.List.{All}
+use Rattle.std.specs.Str.{IsUtf8}
+use Rattle.tabled_text.specs.Measure.{count_of, lines_of, text_columns}
+use Rattle.tabled_base.specs.Cells.{IsRectangular, columns}
+use Rattle.tabled_config.specs.declared.compact.CompactConfig.{CompactConfig}
+use Rattle.tabled_config.specs.Spanned.{spanned_of_compact}
+use Rattle.tabled_row.specs.Sent.{Sent, Sends}
+use Rattle.tabled_grid.specs.Picture.{table_text}
+use Rattle.tabled_size.specs.Sheet.{estimated}
+use Rattle.tabled_stream.specs.declared.settings.Settings.{Settings}
+
+-- a text of one line, whose characters count as many as its columns
+pub record IsExactLine (text : List ℕ) : Type 0 where
+  pub utf8 : IsUtf8 text
+  pub one : length (lines_of text) ≡ 1
+  pub counted : count_of (chars text) ≡ text_columns text
+
+-- some rows make a stream like a table: there is a row and a column, the rows are equally long, each cell is an exact line, all
+-- rows are read ahead, and nothing is given of columns, rows and sizes
+pub record IsLikeTable (settings : Settings) (cells : List (List (List ℕ))) : Type 0 where
+  pub has_row : 0 < length cells
+  pub has_column : 0 < columns cells
+  pub rectangular : IsRectangular cells
+  pub exact : All (All IsExactLine) cells
+  pub sniffed : length cells ≤ settings.sniff
+  pub no_columns : settings.columns ≡ None
+  pub no_rows : settings.rows ≡ None
+  pub no_width : settings.width ≡ None
+  pub no_height : settings.height ≡ None
+
+-- what a call that prints a source of rows whole leaves: some rows came first; where they make it like a table, they are all, and
+-- the text of the table with estimated sizes was added
+pub record PrintsLikeTable (settings : Settings) (config : CompactConfig) (comes : List (List (List ℕ)) → Bool → Type 0)
+    (old new : Sent) : Type 0 where
+  pub rows : List (List (List ℕ))
+  pub whole : Bool
+  pub came : comes rows whole
+  pub alike : IsLikeTable settings rows → (whole ≡ true) × Sends old new (table_text (estimated rows (spanned_of_compact config)))

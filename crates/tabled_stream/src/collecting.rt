@@ -1,0 +1,47 @@
+//! Streamed tables of rows that are collected first.
+ghost use Rattle.std.specs.Prelude.{◌≡◌, IfErr, IfOk, map};
+ghost use Rattle.tabled_base.specs.declared.error.TableError.TheVariants.{Memory};
+ghost use Rattle.tabled_base.specs.RowsGiven.{RowsEnd, RowsGiven};
+ghost use Rattle.tabled_stream.specs.NewTable.{IsNewConfig, new_settings};
+
+use crate::reading::next_cells;
+use crate::table::IterTable;
+use std::alloc::Global;
+use tabled_base::{CellText, IntoRecords, TableError};
+
+/// All rows that a source gives.
+fn collect_rows<R, W>(alloc: Global, rows: R) -> Result<Vec<Vec<W::Item>>, TableError>
+where
+    R: IntoIterator<Item = W>,
+    W: IntoIterator,
+    W::Item: Drop,
+    requires { RowsEnd R.into_iter_gives R.IntoIter.can_next R.IntoIter.next_gives R.IntoIter.remaining
+        W.into_iter_gives W.IntoIter.can_next W.IntoIter.remaining rows }
+    ensures ok { IfOk result (λ kept. RowsGiven R.into_iter_gives R.IntoIter.next_gives W.into_iter_gives W.IntoIter.next_gives rows
+        (map (λ row. row.items) kept.items)) }
+    ensures only { IfErr result (λ e. e ≡ Memory) }
+{
+    let mut rows = rows.into_iter();
+    let mut kept = Vec::new(alloc);
+    'rows: while let Some(cells) = next_cells(alloc, &mut rows)? {
+        kept.push(cells)?;
+    }
+    Ok(kept)
+}
+
+impl<T: CellText + Drop> IterTable<Vec<Vec<T>>> {
+    /// A table of the rows that a source gives, all of which are kept. Refused only for memory.
+    pub fn from_iter<I: IntoRecords<Cell = T>>(
+        alloc: Global,
+        rows: I,
+    ) -> Result<Self, TableError>
+        requires { I.ends rows }
+        ensures records { IfOk result (λ table. I.gives rows (map (λ row. row.items) table.records.items)) }
+        ensures config { IfOk result (λ table. IsNewConfig table.config) }
+        ensures settings { IfOk result (λ table. table.settings ≡ new_settings) }
+        ensures only { IfErr result (λ e. e ≡ Memory) }
+    {
+        let records = collect_rows(alloc, rows.iter_rows())?;
+        Ok(IterTable::new(records))
+    }
+}

@@ -1,0 +1,57 @@
+//! Streamed tables that are printed.
+ghost use Rattle.std.specs.Prelude.{◌≡◌, IfOk, Some, [], string_bytes, false, true};
+ghost use Rattle.tabled_row.specs.Sent.{Sent};
+ghost use Rattle.tabled_stream.specs.Streams.{Came, PrintsStream};
+
+use crate::table::IterTable;
+use crate::whole::print_source;
+use std::alloc::Global;
+use std::io::Write;
+use tabled_base::{CellText, IntoRecords, TableError};
+use tabled_row::{IoSink, TextSink};
+
+impl<I: IntoRecords> IterTable<I>
+where
+    I::Cell: CellText + Drop,
+{
+    /// Prints the table to a sink, its lines joined by line feeds. Nothing is printed where no row is shown or there is no
+    /// column. Refused with `Range` where the columns of the whole pass the greatest `usize`, before the first byte, and where
+    /// the lines of a row do, once the lines above it are out: neither that row's horizontal line nor a line feed before it is.
+    /// Refused at any time for memory and for what the sink refuses. No row is taken but those that are read ahead and those
+    /// that are shown, each of these as it is printed, and the first before the first byte.
+    pub fn fmt<S: TextSink>(self, alloc: Global, sink: &mut S) -> Result<(), TableError>
+        requires { I.ends self.records }
+        ensures { PrintsStream self.settings self.config (Came (I.begins self.records) I.Cell.text) (S.sent sink.old) result (S.sent sink.new) }
+    {
+        let IterTable {
+            records,
+            config,
+            settings,
+        } = self;
+        print_source(alloc, sink, records.iter_rows(), &settings, &config)
+    }
+
+    /// Prints the table to a writer, as `fmt` does to a sink. The writer isn't flushed.
+    pub fn build<W: Write + Drop>(self, alloc: Global, writer: W) -> Result<(), TableError>
+        requires { I.ends self.records }
+        ensures { (new : Sent) × PrintsStream self.settings self.config (Came (I.begins self.records) I.Cell.text)
+            (record { bytes = W.contents writer; failures = 0; grows = false }) result new }
+    {
+        let mut sink = IoSink::new(writer);
+        self.fmt(alloc, &mut sink)
+    }
+
+    /// The text of the table. Refused as `fmt` is.
+    pub fn to_string(self, alloc: Global) -> Result<String, TableError>
+        requires { I.ends self.records }
+        ensures { (new : Sent) × PrintsStream self.settings self.config (Came (I.begins self.records) I.Cell.text)
+            (record { bytes = Some []; failures = 0; grows = true }) result new
+            × IfOk result (λ text. new.bytes ≡ Some (string_bytes text)) }
+    {
+        let mut text = String::new(alloc);
+        match self.fmt(alloc, &mut text) {
+            Ok(()) => Ok(text),
+            Err(error) => Err(error),
+        }
+    }
+}
