@@ -13,7 +13,7 @@ use Rattle.tabled_text.specs.Plain.{IsPlain, is_plain_character}
 use Rattle.tabled_text.proofs.JoinLemmas.{lines_of-join}
 use Rattle.tabled_text.proofs.PlainLemmas.{columns_of-plain, count_of-plain}
 use Rattle.tabled_text.proofs.PlainLines.{plain_line-each, text_columns-plain_line}
-use Rattle.tabled_apart.specs.Lines.{IsLine, is_no_feed}
+use Rattle.tabled_apart.specs.Lines.{is_no_feed}
 use Rattle.tabled_apart.proofs.LineLaws.{line-each}
 use Rattle.tabled_apart.proofs.Within.{lines_of-feedless}
 use Rattle.tabled_stream.specs.LikeTable.{IsExactLine}
@@ -69,8 +69,8 @@ exact-kept n text answer e room cut =
     sym (encodes-chars answer cut.utf8) ∙ ap encode_utf8_all same ∙ encodes-chars text e.utf8
 
 -- a plain line is such
-pub plain-exact : (text : List ℕ) → IsPlain text → length (lines_of text) ≡ 1 → IsExactLine text
-plain-exact text p h =
+pub plain_exact : (text : List ℕ) → IsPlain text → length (lines_of text) ≡ 1 → IsExactLine text
+plain_exact text p h =
     let first : slice_index_or (lines_of text) 0 [] ≡ text = ap (λ ls. slice_index_or ls 0 []) (one-line text h) in
     let L : List ℕ → Type 0 = λ l. (list_all is_plain_character (chars l) ≡ true) × (text_columns l ≡ line_columns l) in
     let plain = plain_line-each text p 0 (omega arith) in

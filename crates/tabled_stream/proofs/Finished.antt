@@ -1,20 +1,19 @@
 -- What a stream leaves, put together of what its parts left.
-use Rattle.std.proofs.Common.{◌≡◌, ◌⊎◌, ℕ, ◌+◌, ◌-◌, ◌==◌, ◌<◌, ◌≤◌, ◌^◌, Bool, true, false, List, [], ◌∷◌, ◌++◌, length, map, max, take, drop, unwrap_or, Option, Some, None, Result, Ok, Err, refl, sym, ◌∙◌, ap, subst, arith, inl, inr, ⊎_elim, append-nil, append_assoc, length-append}
+use Rattle.std.proofs.Common.{◌≡◌, ◌⊎◌, ℕ, ◌<◌, ◌≤◌, ◌^◌, Bool, true, false, List, [], ◌∷◌, ◌++◌, length, max, take, drop, Option, Some, None, Result, Ok, Err, refl, sym, ◌∙◌, ap, subst, arith, inl, inr, ⊎_elim, append-nil, append_assoc, length-append}
 use Rattle.std.specs.List.{slice_index}
 use Rattle.std.specs.Result.{IsErrAnd}
-use Rattle.std.proofs.lemmas.Bool.{cases_lt}
-use Rattle.std.proofs.lemmas.List.{length-take, take-append-drop}
-use Rattle.tabled_base.specs.Cells.{longest}
+use Rattle.std.proofs.lemmas.List.{take-append-drop}
 use Rattle.tabled_base.specs.declared.error.TableError.{TableError}
 use Rattle.tabled_base.specs.declared.error.TableError.TheVariants.{Memory, Range}
 use Rattle.tabled_config.specs.declared.compact.CompactConfig.{CompactConfig}
 use Rattle.tabled_row.specs.Sent.{Sent, Sends, Stops}
 use Rattle.tabled_row.proofs.Leading.{led-joined}
+use Rattle.tabled_stream.specs.declared.layout.Layout.{Layout}
 use Rattle.tabled_stream.specs.declared.settings.Settings.{Settings}
 use Rattle.tabled_stream.specs.Printed.{lines_above}
-use Rattle.tabled_stream.specs.Progress.{AreFirst, AreFurther, EndsSheet, Halts, HaltsBefore, HaltsWithin, IsLimited, left_of}
+use Rattle.tabled_stream.specs.Progress.{AreFirst, AreFurther, EndsSheet, Halts, HaltsBefore, HaltsWithin, IsLaidOut, IsLimited, left_of}
 use Rattle.tabled_stream.specs.Streamed.{IsStreamed, ahead, column_count, limited, sniffed}
-use Rattle.tabled_stream.specs.Streams.{AreEnough, AreSniffed, IsBegun, IsTooHighFirst, IsWholeStream, StreamStops, Streams, reaches, stream_total}
+use Rattle.tabled_stream.specs.Streams.{AreEnough, AreSniffed, IsTooHighFirst, IsWholeStream, StreamStops, Streams, reaches, stream_total}
 use Rattle.tabled_stream.proofs.FirstRows.{few-first, few-more, limited-more, read-more}
 
 high-more : (settings : Settings) (config : CompactConfig) (ahead_rows : List (List (List ℕ))) (index : ℕ) (rest others : List (List (List ℕ)))
@@ -87,11 +86,11 @@ reached : (limit : Option ℕ) (kept more : List (List (List ℕ))) → IsLimite
 reached None kept more h = let never = h in absurd (cc)
 reached (Some n) kept more h = let l = h.1 refl in omega (arith, length-append kept more)
 
-enough-by : {settings : Settings} {kept more : List (List (List ℕ))} (whole : Bool) → AreSniffed settings (kept ++ more) whole
+enough-by : (settings : Settings) (kept more : List (List (List ℕ))) (whole : Bool) → AreSniffed settings (kept ++ more) whole
     → IsLimited (left_of settings.rows (length kept)) (length more) whole → AreEnough settings (kept ++ more) whole
-enough-by true s l = inl refl
-enough-by false (inl never) l = absurd (cc)
-enough-by {settings} {kept} {more} false (inr h) l = inr (h, inl (reached settings.rows kept more l))
+enough-by settings kept more true s l = inl refl
+enough-by settings kept more false (inl never) l = absurd (cc)
+enough-by settings kept more false (inr h) l = inr (h, inl (reached settings.rows kept more l))
 
 whole-stream : {settings : Settings} {config : CompactConfig} {rows some : List (List (List ℕ))} {old new : Sent} {R : Type 0} {r : Result R TableError}
     → limited settings.rows rows ≡ some → stream_total settings config (sniffed settings rows) < 2 ^ 64
@@ -106,11 +105,11 @@ whole-stream {settings} {config} {rows} {some} p w h =
     }
 
 -- the end was printed, or refused there
-ended : {R : Type 0} {settings : Settings} {config : CompactConfig} {rows some : List (List (List ℕ))} {whole : Bool} {old new : Sent} (r : Result R TableError)
+ended : {R : Type 0} {settings : Settings} {config : CompactConfig} (rows : List (List (List ℕ))) {some : List (List (List ℕ))} {whole : Bool} {old new : Sent} (r : Result R TableError)
     → AreEnough settings rows whole → limited settings.rows rows ≡ some → stream_total settings config (sniffed settings rows) < 2 ^ 64
     → EndsSheet settings config (sniffed settings rows) some old r new → Streams settings config rows whole old r new
-ended (Ok x) enough p w h = record { enough = enough; sheet = h.sheet; streamed = whole-stream p w h; sends = h.writes }
-ended (Err e) enough p w h = inr (inr (inr (record { enough = enough; sheet = h.sheet; streamed = whole-stream p w h; stops = h.writes })))
+ended rows (Ok x) enough p w h = record { enough = enough; sheet = h.sheet; streamed = whole-stream p w h; sends = h.writes }
+ended rows (Err e) enough p w h = inr (inr (inr (record { enough = enough; sheet = h.sheet; streamed = whole-stream p w h; stops = h.writes })))
 
 sniffed-first : {settings : Settings} {kept : List (List (List ℕ))} (all : Bool) → AreFirst settings kept all → AreSniffed settings kept all
 sniffed-first true f = inl refl
@@ -128,21 +127,76 @@ module _ {settings : Settings} {config : CompactConfig} {kept : List (List (List
       (omega arith) (sniffed-first all f) c w h
 
   -- it went on behind them
-  pub finished : {R : Type 0} (r : Result R TableError) {more : List (List (List ℕ))} {whole : Bool} → AreFurther settings.rows (length kept) all (length more) whole
+  pub finished : {R : Type 0} (r : Result R TableError) (more : List (List (List ℕ))) (whole : Bool) → AreFurther settings.rows (length kept) all (length more) whole
       → (IsLimited (left_of settings.rows (length kept)) (length more) whole
       × EndsSheet settings config (sniffed settings kept) (limited settings.rows kept ++ more) old r new)
       ⊎ IsErrAnd r (λ e. Halts settings config (sniffed settings kept) (limited settings.rows kept ++ more) old (column_count settings (sniffed settings kept)) e new)
       → Streams settings config (kept ++ more) whole old r new
-  finished r {more} {whole} g (inl h) =
-      let read = read-more f g in
+  finished r more whole g (inl h) =
+      let read = read-more f more whole g in
       let W : List (List (List ℕ)) → Type 0 = λ a. stream_total settings config a < 2 ^ 64 in
       let E : List (List (List ℕ)) → Type 0 = λ a. EndsSheet settings config a (limited settings.rows kept ++ more) old r new in
-      ended r (enough-by whole read.1 h.0) (limited-more settings.rows kept more g.permitted) (subst W (sym read.0) w) (subst E (sym read.0) h.1)
-  finished (Ok x) g (inr h) = absurd h
-  finished (Err e) {more} {whole} g (inr h) =
-      let read = read-more f g in
+      ended (kept ++ more) r (enough-by settings kept more whole read.1 h.0) (limited-more settings.rows kept more g.permitted) (subst W (sym read.0) w) (subst E (sym read.0) h.1)
+  finished (Ok x) more whole g (inr h) = absurd h
+  finished (Err e) more whole g (inr h) =
+      let read = read-more f more whole g in
       let W : List (List (List ℕ)) → Type 0 = λ a. stream_total settings config a < 2 ^ 64 in
       let C : List (List (List ℕ)) → Type 0 = λ a. 0 < column_count settings a in
       let H : List (List (List ℕ)) → Type 0 = λ a. Halts settings config a (limited settings.rows kept ++ more) old (column_count settings a) e new in
       halted (limited settings.rows kept ++ more) [] (limited-more settings.rows kept more g.permitted ∙ sym (append-nil (limited settings.rows kept ++ more)))
-      (few-more f g) read.1 (subst C (sym read.0) c) (subst W (sym read.0) w) (subst H (sym read.0) h)
+      (few-more f more whole g) read.1 (subst C (sym read.0) c) (subst W (sym read.0) w) (subst H (sym read.0) h)
+
+-- ---- for the functions that print: what they know is told of vectors and of a layout
+
+module _ {settings : Settings} {config : CompactConfig} (kept : List (List (List ℕ))) {layout : Layout} {total : ℕ}
+    (l : IsLaidOut settings config (sniffed settings kept) layout) (some : 0 < layout.count)
+    (t : total ≡ stream_total settings config (sniffed settings kept)) (b : total < 2 ^ 64) where
+  in-range : stream_total settings config (sniffed settings kept) < 2 ^ 64
+  in-range = subst (λ n. n < 2 ^ 64) t b
+
+  some-columns : 0 < column_count settings (sniffed settings kept)
+  some-columns = subst (λ n. 0 < n) l.count some
+
+module _ {settings : Settings} {config : CompactConfig} {kept : List (List (List ℕ))} {all : Bool} {layout : Layout} {old new : Sent} {total : ℕ}
+    (f : AreFirst settings kept all) (l : IsLaidOut settings config (sniffed settings kept) layout) (some : 0 < layout.count)
+    (t : total ≡ stream_total settings config (sniffed settings kept)) (b : total < 2 ^ 64) where
+  pub put-halted : {R : Type 0} (r : Result R TableError) (e : TableError) (shown : List (List (List ℕ))) → shown ≡ limited settings.rows kept
+      → IsErrAnd r (λ d. d ≡ e) → (n : ℕ) × Halts settings config (sniffed settings kept) (take n shown) old layout.count e new
+      → Streams settings config (kept ++ []) all old r new
+  put-halted r e shown s i h =
+      let H : ℕ → List (List (List ℕ)) → Type 0 = λ k rows. Halts settings config (sniffed settings kept) (take h.0 rows) old k e new in
+      let P : List (List (List ℕ)) → Type 0 = λ rows. Streams settings config rows all old r new in
+      let laid = subst (λ rows. H (column_count settings (sniffed settings kept)) rows) s (subst (λ k. H k shown) l.count h.1) in
+      subst P (sym (append-nil kept)) (err-streams r e i (halted-first f (some-columns kept l some t b) (in-range kept l some t b) h.0 laid))
+
+  pub put-finished : {R : Type 0} (r : Result R TableError) (more : List (List (List ℕ))) (whole : Bool) (items count : ℕ) → items ≡ length kept → count ≡ length more
+      → AreFurther settings.rows items all count whole
+      → (IsLimited (left_of settings.rows items) (length more) whole
+      × EndsSheet settings config (sniffed settings kept) (limited settings.rows kept ++ more) old r new)
+      ⊎ IsErrAnd r (λ e. Halts settings config (sniffed settings kept) (limited settings.rows kept ++ more) old layout.count e new)
+      → Streams settings config (kept ++ more) whole old r new
+  put-finished r more whole items count i n g h =
+      let F : ℕ → ℕ → Type 0 = λ k m. AreFurther settings.rows k all m whole in
+      let Q : ℕ → ℕ → Type 0 = λ k c.
+      (IsLimited (left_of settings.rows k) (length more) whole
+      × EndsSheet settings config (sniffed settings kept) (limited settings.rows kept ++ more) old r new)
+      ⊎ IsErrAnd r (λ e. Halts settings config (sniffed settings kept) (limited settings.rows kept ++ more) old c e new) in
+      finished f (some-columns kept l some t b) (in-range kept l some t b) r more whole (subst (λ m. F (length kept) m) n (subst (λ k. F k count) i g))
+      (subst (λ c. Q (length kept) c) l.count (subst (λ k. Q k layout.count) i h))
+
+-- nothing was printed, since the whole is too wide or memory was refused
+pub unplanned : {R : Type 0} {settings : Settings} (config : CompactConfig) {kept : List (List (List ℕ))} {all : Bool} (old : Sent) (r : Result R TableError) (e : TableError)
+    → AreFirst settings kept all → 0 < column_count settings (sniffed settings kept) → 0 < length (limited settings.rows kept) → IsErrAnd r (λ d. d ≡ e)
+    → ((e ≡ Range) × (2 ^ 64 ≤ stream_total settings config (sniffed settings kept))) ⊎ (e ≡ Memory)
+    → Streams settings config (kept ++ []) all old r old
+unplanned {settings = settings} config {kept} {all} old r e f c s i h =
+    let P : List (List (List ℕ)) → Type 0 = λ rows. Streams settings config rows all old r old in
+    subst P (sym (append-nil kept)) (err-streams r e i (inl (record {
+      same = refl;
+      cause = ⊎_elim (λ w. inl (w.0, sniffed-first all f, record { shown = s; columns = c }, w.1)) (λ m. inr m) h;
+    })))
+
+-- nothing was read
+pub unread : {R : Type 0} (settings : Settings) (config : CompactConfig) (old : Sent) (r : Result R TableError) (e : TableError) → IsErrAnd r (λ d. d ≡ e)
+    → e ≡ Memory → Streams settings config [] false old r old
+unread settings config old r e i m = err-streams r e i (inl (record { same = refl; cause = inr m }))

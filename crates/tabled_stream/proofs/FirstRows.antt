@@ -1,21 +1,12 @@
 -- A whole stream: the rows that were taken first, those that came behind them, and what of them was printed.
-use Rattle.std.proofs.Common.{◌≡◌, ◌⊎◌, ℕ, zero, suc, ◌+◌, ◌-◌, ◌==◌, ◌<◌, ◌≤◌, ◌^◌, Bool, true, false, if◌then◌else◌, List, [], ◌∷◌, ◌++◌, length, map, max, min, take, unwrap_or, Option, Some, None, Result, Ok, Err, refl, sym, ◌∙◌, ap, subst, arith, inl, inr, ⊎_elim, append-nil, append_assoc, length-append}
-use Rattle.std.specs.List.{join_with_byte}
-use Rattle.std.specs.Result.{IsErrAnd}
+use Rattle.std.proofs.Common.{◌≡◌, ◌⊎◌, ℕ, zero, suc, ◌-◌, ◌<◌, ◌≤◌, Bool, true, false, if◌then◌else◌, List, [], ◌∷◌, ◌++◌, length, max, take, unwrap_or, Option, Some, None, refl, sym, ◌∙◌, ap, subst, arith, inl, inr, ⊎_elim, append-nil, length-append}
 use Rattle.std.proofs.lemmas.Bool.{cases_lt}
 use Rattle.std.proofs.lemmas.List.{length-take, take-append-le, take_all}
 use Rattle.tabled_base.specs.Cells.{longest}
-use Rattle.tabled_base.specs.declared.error.TableError.{TableError}
-use Rattle.tabled_base.specs.declared.error.TableError.TheVariants.{Memory, Range}
-use Rattle.tabled_config.specs.declared.compact.CompactConfig.{CompactConfig}
-use Rattle.tabled_row.specs.Sent.{Sent, Sends, Stops}
-use Rattle.tabled_row.proofs.Leading.{led-joined}
-use Rattle.tabled_row.proofs.Sending.{sends-along}
 use Rattle.tabled_stream.specs.declared.settings.Settings.{Settings}
-use Rattle.tabled_stream.specs.Printed.{lines_above, text_above}
-use Rattle.tabled_stream.specs.Progress.{AreFirst, AreFurther, EndsSheet, Halts, HaltsBefore, HaltsWithin, IsLimited, IsPermitted, left_of}
-use Rattle.tabled_stream.specs.Streamed.{ahead, column_count, limited, sniffed, stream_height}
-use Rattle.tabled_stream.specs.Streams.{AreEnough, ArePermitted, AreSniffed, IsTooHighFirst, StreamSends, StreamStops, Streams, reaches, shown_rows, stream_total}
+use Rattle.tabled_stream.specs.Progress.{AreFirst, AreFurther, IsPermitted, left_of}
+use Rattle.tabled_stream.specs.Streamed.{ahead, column_count, limited, sniffed}
+use Rattle.tabled_stream.specs.Streams.{ArePermitted, AreSniffed, shown_rows}
 use Rattle.tabled_stream.proofs.Parts.{not-zero}
 
 -- ---- further rows behind the first ones
@@ -73,11 +64,11 @@ shown-some : (settings : Settings) (rows : List (List (List ℕ))) → 0 < colum
     → shown_rows settings rows ≡ limited settings.rows rows
 shown-some settings rows c = ap (λ b. if b then [] else limited settings.rows rows) (not-zero (column_count settings (sniffed settings rows)) c)
 
-read-by : {settings : Settings} {kept more : List (List (List ℕ))} {whole : Bool} (all : Bool) → AreFirst settings kept all
+read-by : (settings : Settings) (kept more : List (List (List ℕ))) (whole all : Bool) → AreFirst settings kept all
     → AreFurther settings.rows (length kept) all (length more) whole
     → (sniffed settings (kept ++ more) ≡ sniffed settings kept) × AreSniffed settings (kept ++ more) whole
-read-by {settings} {kept} {more} true f g = (sniffed-more settings kept more (inr (g.none refl).0), inl (g.none refl).1)
-read-by {settings} {kept} {more} false f g =
+read-by settings kept more whole true f g = (sniffed-more settings kept more (inr (g.none refl).0), inl (g.none refl).1)
+read-by settings kept more whole false f g =
     let l = f.sniffed refl in (sniffed-more settings kept more (inl l), inr (omega (arith, length-append kept more)))
 
 module _ {settings : Settings} {kept : List (List (List ℕ))} {all : Bool} (f : AreFirst settings kept all) where
@@ -92,10 +83,10 @@ module _ {settings : Settings} {kept : List (List (List ℕ))} {all : Bool} (f :
   pub few-first : length kept ≤ max (ahead settings) 1
   few-first = ⊎_elim (λ (l : length kept ≤ ahead settings). omega arith) (λ h. let l = h.0 in omega arith) f.needed
 
-  module _ {more : List (List (List ℕ))} {whole : Bool} (g : AreFurther settings.rows (length kept) all (length more) whole) where
+  module _ (more : List (List (List ℕ))) (whole : Bool) (g : AreFurther settings.rows (length kept) all (length more) whole) where
     -- the rows that are read ahead stay, and are all among those that were taken first
     pub read-more : (sniffed settings (kept ++ more) ≡ sniffed settings kept) × AreSniffed settings (kept ++ more) whole
-    read-more = read-by all f g
+    read-more = read-by settings kept more whole all f g
 
     pub permitted-more : 0 < column_count settings (sniffed settings kept) → ArePermitted settings (kept ++ more)
     permitted-more c =
@@ -120,3 +111,6 @@ module _ {settings : Settings} {kept : List (List (List ℕ))} {all : Bool} (f :
         ⊎_elim (λ (m : 0 < length more).
         let whole = all-limited settings.rows kept more g.permitted m in omega arith)
         (λ (m : length more ≤ 0). let few = few-first in omega arith) (cases_lt 0 (length more))
+
+pub none-permitted : (settings : Settings) → ArePermitted settings []
+none-permitted settings = omega arith

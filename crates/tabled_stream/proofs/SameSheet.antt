@@ -1,20 +1,24 @@
 -- A streamed table that is like a `Table` is the table with estimated sizes.
-use Rattle.std.proofs.Common.{◌≡◌, ℕ, zero, suc, ◌+◌, ◌-◌, ◌<◌, ◌≤◌, ◌||◌, Bool, true, false, not, nat_lt, if◌then◌else◌, List, [], ◌∷◌, ◌++◌, is_some, unwrap_or, length, map, max, min, take, replicate, Option, Some, None, refl, sym, ◌∙◌, ap, subst, arith, append-nil, get_or, All}
+use Rattle.std.proofs.Common.{◌≡◌, ℕ, zero, suc, ◌+◌, ◌-◌, ◌<◌, ◌≤◌, ◌&&◌, ◌||◌, Bool, true, false, not, nat_lt, if◌then◌else◌, List, [], ◌++◌, is_some, unwrap_or, length, map, max, take, replicate, Result, Ok, Err, OnOk, inl, inr, refl, sym, ◌∙◌, ap, subst, arith, append-nil, get_or}
 use Rattle.std.specs.List.{range_with_len, slice_index}
 use Rattle.std.proofs.lemmas.Bool.Decides.{nat_tests}
-use Rattle.std.proofs.lemmas.List.{ext_get_or, length-map, take_all}
+use Rattle.std.proofs.lemmas.List.{ext_get_or, take_all}
 use Rattle.std.proofs.lemmas.List.FromFn.{get_or-map-range_with_len, length-map-range_with_len}
 use Rattle.tabled_text.specs.Measure.{greatest, lines_of, text_columns}
-use Rattle.tabled_base.specs.Cells.{IsRectangular, cell_at, columns, lengthened, longest}
+use Rattle.tabled_base.specs.declared.error.TableError.{TableError}
+use Rattle.tabled_base.specs.Cells.{columns, longest}
 use Rattle.tabled_config.specs.declared.compact.CompactConfig.{CompactConfig}
 use Rattle.tabled_config.specs.declared.spanned.SpannedConfig.{SpannedConfig}
 use Rattle.tabled_config.specs.Settings.{style_at}
 use Rattle.tabled_config.specs.Spanned.{spanned_of_compact}
-use Rattle.tabled_size.specs.Estimates.{column_width, estimated_heights, estimated_widths, needed_height, needed_width, row_height}
+use Rattle.tabled_size.specs.Estimates.{column_width, estimated_heights, estimated_widths, needed_height, row_height}
 use Rattle.tabled_size.specs.Sheet.{Sheet, estimated}
 use Rattle.tabled_size.proofs.Greatest.{greatest_below, greatest_ge, greatest_more, mapped_same}
 use Rattle.tabled_stream.specs.declared.settings.Settings.{Settings}
-use Rattle.tabled_stream.specs.LikeTable.{IsExactLine, IsLikeTable}
+use Rattle.tabled_stream.specs.LikeTable.{IsExactLine, IsLikeTable, PrintsLikeTable}
+use Rattle.tabled_stream.specs.Streams.{AreEnough, PrintsStream, reaches}
+use Rattle.tabled_grid.specs.Picture.{table_text}
+use Rattle.tabled_row.specs.Sent.{Sent, Sends}
 use Rattle.tabled_stream.specs.Streamed.{IsCutRow, IsStreamed, column_count, content_width, limited, sniffed, stream_height, stream_width, stream_widths, tallest, widest}
 use Rattle.tabled_stream.proofs.ExactLines.{exact-kept}
 use Rattle.tabled_stream.proofs.Measures.{greatest-next}
@@ -69,8 +73,8 @@ module _ {settings : Settings} {rows : List (List (List ℕ))} (a : IsLikeTable 
   cell-exact : (index column : ℕ) → index < length rows → column < columns rows → IsExactLine (get_or (get_or rows index []) column [])
   cell-exact index column b c = a.exact index [] b column [] (let l = row-long index b in omega arith)
 
-  by-place : {f : List (List ℕ) → ℕ} → greatest_below (λ k. f (get_or rows k [])) (length rows) ≡ greatest (map f rows)
-  by-place {f} = greatest-listed f rows [] (length rows) (omega arith) ∙ ap (λ l. greatest (map f l)) (take_all (length rows) rows (omega arith))
+  by-place : (f : List (List ℕ) → ℕ) → greatest_below (λ k. f (get_or rows k [])) (length rows) ≡ greatest (map f rows)
+  by-place f = greatest-listed f rows [] (length rows) (omega arith) ∙ ap (λ l. greatest (map f l)) (take_all (length rows) rows (omega arith))
 
   -- as many rows as one more than these
   fewer-rows : length rows - 1 + 1 ≡ length rows
@@ -78,7 +82,7 @@ module _ {settings : Settings} {rows : List (List (List ℕ))} (a : IsLikeTable 
 
   longest-columns : longest rows ≡ columns rows
   longest-columns =
-      sym (by-place {length}) ∙ ap (greatest_below (λ k. length (get_or rows k []))) (sym fewer-rows)
+      sym (by-place length) ∙ ap (greatest_below (λ k. length (get_or rows k []))) (sym fewer-rows)
       ∙ greatest-same (λ k. length (get_or rows k [])) (columns rows) (length rows - 1) (λ k b. row-long k (let e = fewer-rows in omega arith))
 
   counted-columns : column_count settings rows ≡ columns rows
@@ -91,7 +95,7 @@ module _ {settings : Settings} {rows : List (List (List ℕ))} (a : IsLikeTable 
   cell-room index column b =
       let f : List (List ℕ) → ℕ = λ row. text_columns (get_or row column []) in
       let within = greatest_ge (λ k. f (get_or rows k [])) (length rows) index b in
-      let place = by-place {f} in
+      let place = by-place f in
       let width = measured-width column in
       omega arith
 
@@ -117,7 +121,7 @@ module _ {settings : Settings} {rows : List (List (List ℕ))} (a : IsLikeTable 
         let f : List (List ℕ) → ℕ = λ row. text_columns (get_or row column []) in
         let g : ℕ → ℕ = λ k. f (get_or rows k []) in
         let width = measured-width column in
-        let place = by-place {f} in
+        let place = by-place f in
         let whole : greatest_below (λ k. g k + (config.padding.left.size + config.padding.right.size)) (length rows) ≡ greatest_below g (length rows) + (config.padding.left.size + config.padding.right.size) =
         ap (greatest_below (λ k. g k + (config.padding.left.size + config.padding.right.size))) (sym fewer-rows)
         ∙ greatest-added g (config.padding.left.size + config.padding.right.size) (length rows - 1)
@@ -167,7 +171,7 @@ module _ {settings : Settings} {rows : List (List (List ℕ))} (a : IsLikeTable 
     heights-same heights long each =
         let H = row_height rows (spanned_of_compact config) in
         ext_get_or 0 heights (map H (range_with_len 0 (length rows))) (long ∙ sym (length-map-range_with_len H 0 (length rows)))
-        (λ k l. each k (omega arith) ∙ height-same k (omega arith) ∙ sym (get_or-map-range_with_len H 0 (length rows) k k 0 (omega arith) refl))
+        (λ k l. each k (omega arith) ∙ height-same k (omega arith) ∙ sym (get_or-map-range_with_len H 0 (length rows) k k 0 (omega arith) (omega arith)))
 
     same-sheet : (t : Sheet) → IsStreamed settings config rows rows t → t ≡ estimated rows (spanned_of_compact config)
     same-sheet t s =
@@ -178,7 +182,32 @@ module _ {settings : Settings} {rows : List (List (List ℕ))} (a : IsLikeTable 
         ∙ ap (λ w. F rows (spanned_of_compact config) w t.heights) (s.widths ∙ widths-same)
         ∙ ap (λ h. F rows (spanned_of_compact config) (estimated_widths rows (spanned_of_compact config)) h) (heights-same t.heights s.as_high s.heights)
 
-    pub like-table : (t : Sheet) → IsStreamed settings config (sniffed settings rows) (limited settings.rows rows) t → t ≡ estimated rows (spanned_of_compact config)
-    like-table t s =
+    pub like_table : (t : Sheet) → IsStreamed settings config (sniffed settings rows) (limited settings.rows rows) t → t ≡ estimated rows (spanned_of_compact config)
+    like_table t s =
         let P : List (List (List ℕ)) → List (List (List ℕ)) → Type 0 = λ x y. IsStreamed settings config x y t in
         same-sheet t (subst (λ x. P x rows) all-sniffed (subst (λ y. P (sniffed settings rows) y) all-shown s))
+
+-- ---- what was printed
+
+module _ {settings : Settings} {rows : List (List (List ℕ))} (a : IsLikeTable settings rows) where
+  all-came : (whole : Bool) → AreEnough settings rows whole → whole ≡ true
+  all-came whole (inl h) = h
+  all-came whole (inr (l, inl h)) = absurd (subst (λ limit. reaches limit (length rows)) a.no_rows h)
+  all-came whole (inr (l, inr h)) =
+      let count = ap (column_count settings) (all-sniffed a) ∙ counted-columns a in
+      let some = a.has_column in
+      absurd (omega arith)
+
+pub like_printed : {R : Type 0} {settings : Settings} {config : CompactConfig} {comes : List (List (List ℕ)) → Bool → Type 0} {old new : Sent}
+    (r : Result R TableError) → PrintsStream settings config comes old r new → OnOk r (PrintsLikeTable settings config comes old new)
+like_printed (Err e) p = tt
+like_printed {config = config} {old = old} {new} (Ok x) p =
+    let s = p.streams in
+    record {
+      rows = p.rows;
+      whole = p.whole;
+      came = p.came;
+      alike = λ a.
+          let P : Sheet → Type 0 = λ t. Sends old new (table_text t) in
+          (all-came a p.whole s.enough, subst P (like_table a config s.sheet s.streamed.streamed) s.sends);
+    }

@@ -1,5 +1,5 @@
 -- A stream of which nothing is shown.
-use Rattle.std.proofs.Common.{◌≡◌, ◌⊎◌, ℕ, zero, suc, ◌+◌, ◌-◌, ◌==◌, ◌<◌, ◌≤◌, ◌^◌, ◌||◌, Bool, true, false, if◌then◌else◌, List, [], ◌∷◌, ◌++◌, length, map, min, take, unwrap_or, Option, Some, None, refl, sym, ◌∙◌, ap, subst, arith, inl, inr, ⊎_elim, get_or}
+use Rattle.std.proofs.Common.{◌≡◌, ◌⊎◌, ℕ, zero, suc, ◌==◌, ◌<◌, ◌≤◌, ◌||◌, Bool, true, false, if◌then◌else◌, List, [], ◌∷◌, length, map, take, unwrap_or, Option, Some, None, refl, sym, ◌∙◌, ap, subst, arith, inl, inr, ⊎_elim, get_or}
 use Rattle.std.specs.List.{join_with_byte, range_with_len}
 use Rattle.std.proofs.lemmas.Bool.{cases_lt}
 use Rattle.std.proofs.lemmas.List.{get_or-map, length-map, length-take}
@@ -7,10 +7,11 @@ use Rattle.std.proofs.lemmas.List.FromFn.{get_or-map-range_with_len, length-map-
 use Rattle.tabled_base.specs.Cells.{columns, longest}
 use Rattle.tabled_config.specs.declared.compact.CompactConfig.{CompactConfig}
 use Rattle.tabled_config.specs.Spanned.{spanned_of_compact}
-use Rattle.tabled_grid.specs.Picture.{picture, table_text}
-use Rattle.tabled_row.specs.Sent.{Sent, Sends}
+use Rattle.tabled_grid.specs.Picture.{filled_picture, picture}
+use Rattle.tabled_size.specs.Totals.{filled_width}
+use Rattle.tabled_row.specs.Sent.{Sent}
 use Rattle.tabled_row.proofs.Sending.{sends-along, sends-none}
-use Rattle.tabled_size.specs.Sheet.{Sheet, is_empty}
+use Rattle.tabled_size.specs.Sheet.{Sheet}
 use Rattle.tabled_stream.specs.declared.settings.Settings.{Settings}
 use Rattle.tabled_stream.specs.Progress.{AreFirst}
 use Rattle.tabled_stream.specs.Streamed.{IsCutRow, IsStreamed, ahead, column_count, content_width, limited, sniffed, stream_height, stream_widths}
@@ -44,13 +45,19 @@ blank-streamed settings config ahead_rows rows none =
       settings_of = refl;
       widths = refl;
       as_high = length-map-range_with_len (λ k. stream_height settings config ahead_rows k (get_or rows k [])) 0 (length rows);
-      heights = λ k b. get_or-map-range_with_len (λ k. stream_height settings config ahead_rows k (get_or rows k [])) 0 (length rows) k k 0 b refl;
+      heights = λ k b. get_or-map-range_with_len (λ k. stream_height settings config ahead_rows k (get_or rows k [])) 0 (length rows) k k 0 b (omega arith);
     }
+
+or-true : (b : Bool) → (b || true) ≡ true
+or-true true = refl
+or-true false = refl
 
 blank-empty : (settings : Settings) (config : CompactConfig) (ahead_rows rows : List (List (List ℕ))) → picture (blank settings config ahead_rows rows) ≡ []
 unfolding picture blank
 blank-empty settings config ahead_rows [] = refl
-blank-empty settings config ahead_rows (row ∷ rows) = refl
+blank-empty settings config ahead_rows (row ∷ rows) =
+    let t = blank settings config ahead_rows (row ∷ rows) in
+    ap (λ b. if b then [] else filled_picture t (filled_width t.config (columns t.cells) t.widths)) (or-true (length t.cells == 0))
 
 longest-none : (n : ℕ) → longest (take n []) ≡ 0
 longest-none zero = refl

@@ -1,4 +1,5 @@
 pub mod Applied
+pub mod LikeTable
 pub mod NewTable
 pub mod Printed
 pub mod Progress

@@ -9,6 +9,7 @@ mod collecting;
 mod columns;
 mod ends;
 mod finish;
+pub mod laws;
 mod lay_out;
 mod layout;
 mod print;

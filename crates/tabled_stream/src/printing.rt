@@ -1,6 +1,7 @@
 //! Streamed tables that are printed.
-ghost use Rattle.std.specs.Prelude.{◌≡◌, IfOk, Some, [], string_bytes, false, true};
+ghost use Rattle.std.specs.Prelude.{◌≡◌, IfOk, OnOk, Some, [], string_bytes, false, true};
 ghost use Rattle.tabled_row.specs.Sent.{Sent};
+ghost use Rattle.tabled_stream.specs.LikeTable.{PrintsLikeTable};
 ghost use Rattle.tabled_stream.specs.Streams.{Came, PrintsStream};
 
 use crate::table::IterTable;
@@ -21,7 +22,9 @@ where
     /// that are shown, each of these as it is printed, and the first before the first byte.
     pub fn fmt<S: TextSink>(self, alloc: Global, sink: &mut S) -> Result<(), TableError>
         requires { I.ends self.records }
-        ensures { PrintsStream self.settings self.config (Came (I.begins self.records) I.Cell.text) (S.sent sink.old) result (S.sent sink.new) }
+        ensures printed { PrintsStream self.settings self.config (Came (I.begins self.records) I.Cell.text) (S.sent sink.old) result (S.sent sink.new) }
+        ensures alike { OnOk result (PrintsLikeTable self.settings self.config (Came (I.begins self.records) I.Cell.text)
+            (S.sent sink.old) (S.sent sink.new)) }
     {
         let IterTable {
             records,

@@ -3,13 +3,14 @@ ghost use Rattle.std.specs.Prelude.{◌≡◌, ◌<◌, ◌≤◌, ◌^◌, ◌+
 ghost use Rattle.tabled_base.specs.Cells.{texts_of};
 ghost use Rattle.tabled_base.specs.RowsGiven.{RowsBegin, RowsEnd};
 ghost use Rattle.tabled_config.specs.declared.compact.CompactConfig.{CompactConfig};
-ghost use Rattle.tabled_stream.specs.Progress.{AreFirst, AreFurther, FinishesMore, IsLaidOut, left_of};
+ghost use Rattle.tabled_stream.specs.Progress.{AreFirst, AreFurther, FinishesBehind, IsLaidOut, left_of};
 ghost use Rattle.tabled_stream.specs.Reading.{MayGive, ReadsOn, ReadsTo};
 ghost use Rattle.tabled_stream.specs.Streamed.{limited, sniffed};
 ghost use Rattle.tabled_stream.specs.Streams.{ArePermitted, Came, PrintsStream, Streams, stream_total};
 
 use crate::columns::LentColumns;
 use crate::lay_out::{count_columns, make_plan};
+use crate::print::is_none_left;
 use crate::reading::{Taken, take_rows};
 use crate::record::Stream;
 use crate::settings::{Settings, ahead};
@@ -41,24 +42,19 @@ impl<'a> Stream<'a> {
         ensures { (more : List (List C)) × (whole : Bool) × (to : I)
             × AreFurther settings.now.rows (length taken.now.rows.items) taken.now.whole (length more) whole
             × ReadsOn I.next_gives W.into_iter_gives W.IntoIter.next_gives (map (λ row. row.items) taken.now.rows.items) taken.now.whole rows.old more whole to
-            × FinishesMore (left_of settings.now.rows (length taken.now.rows.items)) (unwrap_or settings.now.height 1) total whole (map (map C.text) more)
+            × FinishesBehind (left_of settings.now.rows (length taken.now.rows.items)) (unwrap_or settings.now.height 1) total whole (map (map C.text) more)
             self.old.lines.columns.layout.now self.old.first (S.sent sink.old) self.old.lines.begun result (S.sent sink.new) }
     {
-        if taken.whole {
+        let left = fewer(settings.rows, taken.rows.len());
+        if taken.whole || is_none_left(left) {
             return self.put_bottom(sink, total);
         }
-        let left = fewer(settings.rows, taken.rows.len());
         let lines = settings.height.unwrap_or(1);
         self.put_others(alloc, sink, rows, left, lines, total)
     }
 
     /// The rows that were taken first, as many as are shown, and what stands behind them.
-    fn put_all<
-        I: Iterator<Item = W>,
-        W: IntoIterator<Item = C>,
-        C: CellText + Drop,
-        S: TextSink,
-    >(
+    fn put_all<I: Iterator<Item = W>, W: IntoIterator<Item = C>, C: CellText + Drop, S: TextSink>(
         &mut self,
         alloc: Global,
         sink: &mut S,
@@ -91,12 +87,7 @@ impl<'a> Stream<'a> {
 }
 
 /// The stream whose first rows were taken. Nothing is printed, and no row taken, where there is no column or no row is shown.
-fn print_taken<
-    I: Iterator<Item = W>,
-    W: IntoIterator<Item = C>,
-    C: CellText + Drop,
-    S: TextSink,
->(
+fn print_taken<I: Iterator<Item = W>, W: IntoIterator<Item = C>, C: CellText + Drop, S: TextSink>(
     alloc: Global,
     sink: &mut S,
     rows: &mut I,
@@ -126,12 +117,7 @@ fn print_taken<
 }
 
 /// The stream that an iterator gives.
-fn print_stream<
-    I: Iterator<Item = W>,
-    W: IntoIterator<Item = C>,
-    C: CellText + Drop,
-    S: TextSink,
->(
+fn print_stream<I: Iterator<Item = W>, W: IntoIterator<Item = C>, C: CellText + Drop, S: TextSink>(
     alloc: Global,
     sink: &mut S,
     rows: &mut I,

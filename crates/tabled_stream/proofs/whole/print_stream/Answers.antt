@@ -1,0 +1,40 @@
+use Rattle.std.proofs.Common.{◌≡◌, ◌∙◌, ◌++◌, ℕ, List, [], false, map, sym, ap, subst}
+use Rattle.std.proofs.lemmas.List.{map-append}
+use Rattle.tabled_base.specs.Cells.{texts_of}
+use Rattle.tabled_stream.specs.Streams.{ArePermitted, Streams}
+use Rattle.tabled_stream.proofs.Finished.{unread}
+use Rattle.tabled_stream.proofs.FirstRows.{none-permitted}
+use Rattle.tabled_stream.proofs.RowsRead.{reads-none, reads-open}
+use Rattle.tabled_stream.proofs.Slices.{given-texts}
+use Rattle.tabled_stream.proofs.whole.print_stream.Goals as goal
+
+pub returns-in_err-taken : goal.returns-in_err-taken
+returns-in_err-taken g c = (
+  [],
+  false,
+  c.args.rows.now,
+  reads-open (reads-none c.args.rows.now),
+  none-permitted c.args.settings.now,
+  unread c.args.settings.now c.args.config.now (g.S.TextSink.sent c.args.sink.now) c.from_residual.result c.in_err-taken.field-0.0
+      c.from_residual.ensures.1 c.in_err-taken.ensures.only,
+)
+
+pub returns : goal.returns
+returns g c =
+    let settings = c.args.settings.now in
+    let text = g.C.CellText.text in
+    let taken = c.in_ok-taken.taken in
+    let o = c.print_taken.ensures in
+    let items = map (λ row. row.items) taken.rows.items in
+    let texts : map (map text) (items ++ o.0) ≡ texts_of text taken.rows.items ++ map (map text) o.0 =
+    map-append (map text) items o.0 ∙ ap (λ rows. rows ++ map (map text) o.0) (given-texts text taken.rows.items) in
+    let P : List (List (List ℕ)) → Type 0 = ArePermitted settings in
+    let Q : List (List (List ℕ)) → Type 0 = λ rows.
+    Streams settings c.args.config.now rows o.1 (g.S.TextSink.sent c.args.sink.now) c.print_taken.result (g.S.TextSink.sent c.print_taken.new.sink) in (
+      items ++ o.0,
+      o.1,
+      o.2,
+      o.3 c.args.rows.now c.in_ok-taken.ensures.ok,
+      subst P (sym texts) o.4,
+      subst Q (sym texts) o.5,
+    )
