@@ -3,15 +3,31 @@
 ghost use Rattle.std.specs.Prelude.{◌≡◌, ◌==◌, ◌^◌, ◌<◌, ◌+◌, ◌-◌, map, [], true, false};
 ghost use Rattle.std.specs.Option.{option_map};
 ghost use Rattle.tabled_boxes.specs.Shown.{shown};
-ghost use Rattle.tabled_pool.specs.Around.{across, alone, around_at, around_part, around_text, begun, beside, ended, is_last_column, is_last_row, main_around, right_around, spot, used_after, used_main, written_corner};
-ghost use Rattle.tabled_pool.specs.Colours.{mark_of};
+ghost use Rattle.tabled_pool.specs.Around.{
+  across,
+  alone,
+  around_at,
+  around_part,
+  around_text,
+  begun,
+  beside,
+  ended,
+  is_last_column,
+  is_last_row,
+  main_around,
+  right_around,
+  spot,
+  used_after,
+  written_corner,
+};
+ghost use Rattle.tabled_pool.specs.Colours.{line_marks_of, mark_of, no_line_marks};
 ghost use Rattle.tabled_pool.specs.Plans.{around_of, plan_of};
 
 use crate::colors::is_same;
 use crate::drawing::Drawing;
 use crate::plan::{ends_at, has_bottom, has_top, is_line_kind};
 use tabled_boxes::{Piece, Rectangle};
-use tabled_config::ANSIStr;
+use tabled_config::{ANSIStr, Borders};
 
 /// Where a place stands by a run of places.
 #[derive(Clone, Copy, Debug, PartialEq, Eq)]
@@ -265,12 +281,29 @@ fn around_piece(drawing: &Drawing<'_, '_>, piece: &Piece<'_>, x: usize, y: usize
     around_text(drawing, piece.place, x, y)
 }
 
+/// Whether a line has a colour.
+fn is_colored(colors: &Borders<ANSIStr<'static>>) -> bool
+    ensures { result ≡ false → line_marks_of colors.now ≡ no_line_marks }
+{
+    colors.top_left.is_some()
+        || colors.top.is_some()
+        || colors.top_right.is_some()
+        || colors.bottom_left.is_some()
+        || colors.bottom.is_some()
+        || colors.bottom_right.is_some()
+        || colors.left.is_some()
+        || colors.right.is_some()
+}
+
 /// What the text that draws a place puts around its character.
 pub(crate) fn around_at(drawing: &Drawing<'_, '_>, x: usize, y: usize) -> Marks
     requires across { x < 2 ^ 64 - 1 }
     requires down { y < 2 ^ 64 - 1 }
     ensures { around_of result ≡ around_at (plan_of drawing.now) (map shown drawing.now.pieces.now) x y }
 {
+    if !is_colored(&drawing.colors) {
+        return NOTHING;
+    }
     for piece in drawing.pieces {
         if let Some(marks) = around_piece(drawing, piece, x, y) {
             return marks;

@@ -261,9 +261,10 @@ impl PoolTable {
     /// borders for the sides on which they go on. A text that is given no column isn't seen, and a table of no column
     /// has no margin. Colours take no columns: runs of padding and of a margin stand between the marks of theirs, also
     /// where they are empty; along the top or bottom line of a text a colour is opened where none is used or another
-    /// one is, and at its end the first one is closed. The walk recurses as deep as the value goes. Refused with
-    /// `Range` where the columns or the lines of the whole pass the greatest `usize`, and for memory, both before the
-    /// first byte; else for what the sink refuses, and then a beginning went out.
+    /// one is, and at the end of the line the first one is closed. The walk recurses as deep as the value goes: 8 MiB
+    /// of stack held 20,000 levels, and not 50,000. Refused with `Range` where the columns or the lines of the whole
+    /// pass the greatest `usize`, and for memory, both before the first byte; else for what the sink refuses, and then
+    /// a beginning went out.
     pub fn write_to<S: TextSink>(&self, sink: &mut S) -> Result<(), TableError>
         ensures printed { WritesPool self.now (S.sent sink.old) result (S.sent sink.new) }
         ensures tiled { IsPlainPool self.now → Tiled (plan self.now) }
