@@ -33,8 +33,13 @@ pub mod laws {
     };
 }
 
-/// The tables.
+/// The tables: one that keeps its rows, one that is printed as its rows come, one of single lines in no memory, one that shows
+/// records line by line, and one of boxes in boxes.
 pub mod tables {
+    pub use tabled_compact::CompactTable;
+    pub use tabled_extended::{ExtendedTable, FnTemplate, LabelFn, RecordTemplate, Template};
+    pub use tabled_pool::{PoolTable, TableValue};
+    pub use tabled_stream::IterTable;
     pub use tabled_table::Table;
 }
 
@@ -103,6 +108,7 @@ pub mod settings {
 
 /// Lower layers, by the crate's names.
 pub mod grid {
+    pub use tabled_compact::{Window, print_compact};
     pub use tabled_grid::{is_apart_config, is_plain_config, is_plain_records, print_grid};
 
     /// Marks that colour a text.
@@ -134,6 +140,14 @@ pub mod grid {
             CellText, ExactRecords, IntoRecords, LentRows, PeekableRecords, Records, RecordsMut,
             Text, VecRecords,
         };
+        pub use tabled_views::{EmptyRecords, IterRecords};
+
+        /// Views of records, which are taken row by row.
+        pub mod into_records {
+            pub use tabled_views::{
+                BufRecords, CutCell, LimitColumns, LimitRows, SkipRows, TruncateContent,
+            };
+        }
 
         /// Records that own their rows.
         pub mod vec_records {
