@@ -6,15 +6,14 @@ usage: options.py [FOLDER]
 A small program is written into FOLDER (else a temporary folder) beside copies of the crates, built with `rt run`, and
 run on the first tenth and third of the rows of each file, and on all of them. Each table is narrowed to half of its
 total width and widened to twice of it, made half and twice as high, its texts are made 8 columns wide, lists of sizes
-are stored, and padding and a margin are set; the greatest columns and rows shrink first, and the least grow first. The
-copies that are changed are made beforehand.
-Printed are medians of the rounds: milliseconds, and nanoseconds a byte of the texts, which stay the same where a call
-is linear in them.
+are stored, and padding and a margin are set. The greatest columns shrink first, and the least grow first; rows change one
+after the other, and by their heights too, where there are at most 10,000. The copies that are changed are made beforehand.
+Printed are the shortest times of the rounds: milliseconds, and nanoseconds a byte of the texts, which stay the same where
+a call is linear in them.
 """
 
 import collections
 import pathlib
-import statistics
 import subprocess
 import sys
 import tempfile
@@ -41,7 +40,10 @@ use tabled::settings::peaker::Priority;
 use tabled::settings::{Height, Margin, Padding, TableOption, Width};
 use tabled::{Table, TableError};
 
-const ROUNDS: usize = 5;
+const ROUNDS: usize = 3;
+
+// The time in which rows grow and shrink is quadratic in their number.
+const MOST_ROWS: usize = 10_000;
 
 fn table_of(alloc: Global, text: &str) -> Result<Table, TableError> {
     let mut builder = Builder::new(alloc);
@@ -85,10 +87,17 @@ fn widen(rt: &HostRuntime, table: &Table, width: usize) -> Result<(), anyhow::Er
 fn raise(rt: &HostRuntime, table: &Table, height: usize) -> Result<(), anyhow::Error>
     requires { height * 2 < 2 ^ 64 }
 {
+    measure(rt, "higher", table, Height::increase(height * 2))?;
+    measure(rt, "lower", table, Height::limit(height / 2))
+}
+
+fn level(rt: &HostRuntime, table: &Table, height: usize) -> Result<(), anyhow::Error>
+    requires { height * 2 < 2 ^ 64 }
+{
     let higher = Height::increase(height * 2);
-    measure(rt, "higher", table, higher.priority(Priority::min(true)))?;
+    measure(rt, "higher,least", table, higher.priority(Priority::min(true)))?;
     let lower = Height::limit(height / 2);
-    measure(rt, "lower", table, lower.priority(Priority::max(true)))
+    measure(rt, "lower,greatest", table, lower.priority(Priority::max(true)))
 }
 
 fn store(rt: &HostRuntime, alloc: Global, table: &Table) -> Result<(), anyhow::Error> {
@@ -115,7 +124,10 @@ fn main(rt: HostRuntime) -> Result<(), anyhow::Error> {
     for _round in 0..ROUNDS {
         narrow(&rt, &table, width / 2)?;
         widen(&rt, &table, width * 2)?;
-        raise(&rt, &table, height)?;
+        if table.count_rows() <= MOST_ROWS {
+            raise(&rt, &table, height)?;
+            level(&rt, &table, height)?;
+        }
         store(&rt, alloc, &table)?;
         surround(&rt, &table)?;
     }
@@ -131,13 +143,13 @@ def part(data, divisor):
 
 
 def times(program, data):
-    """The median time of each call in nanoseconds."""
+    """The shortest time of each call in nanoseconds."""
     run = subprocess.run([program], input=data, capture_output=True, check=True)
     found = collections.defaultdict(list)
     for row in run.stdout.decode().splitlines():
         name, time = row.split()
         found[name].append(int(time))
-    return {name: statistics.median(all_times) for name, all_times in found.items()}
+    return {name: min(all_times) for name, all_times in found.items()}
 
 
 def main():
@@ -145,13 +157,13 @@ def main():
     with tempfile.TemporaryDirectory() as data_folder:
         subprocess.run([sys.executable, here / "generate.py", data_folder], check=True)
         with building.program(__doc__, "option_times", building.TABLED, {"src/main.rt": PROGRAM}) as program:
-            print(f"{'file':10} {'bytes':>10} {'call':12} {'ms':>8} {'ns a byte':>9}")
+            print(f"{'file':10} {'bytes':>10} {'call':14} {'ms':>8} {'ns a byte':>9}")
             for file in FILES:
                 data = (pathlib.Path(data_folder) / file).read_bytes()
                 for divisor in PARTS:
                     rows = part(data, divisor)
                     for name, time in times(program, rows).items():
-                        print(f"{file:10} {len(rows):10,} {name:12} {time / 1e6:8.2f} {time / len(rows):9.2f}")
+                        print(f"{file:10} {len(rows):10,} {name:14} {time / 1e6:8.2f} {time / len(rows):9.2f}")
 
 
 main()
