@@ -6,4 +6,6 @@ mod named;
 #[cfg(test)]
 mod pictures;
 #[cfg(test)]
+mod truncation;
+#[cfg(test)]
 mod writers;

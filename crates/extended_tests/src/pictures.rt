@@ -1,7 +1,7 @@
 //! Whole pictures.
 
 use crate::named::{C, Language, Plain, Quoted};
-use std::alloc::Global;
+use std::alloc::{AllocError, Global};
 use std::process::Abort;
 use std::test::Fail;
 use tabled_base::TableError;
@@ -25,7 +25,7 @@ designed_by   | Graydon Hoare et al
 invented_year | 2010";
 
 // Stops a test where a text isn't the wanted one; one that is refused ends it.
-fn assert_text(
+pub(crate) fn assert_text(
     rt: &impl Abort,
     text: Result<String, TableError>,
     wanted: &str,
@@ -94,6 +94,40 @@ fn a_function_answers_the_headers(rt: HostRuntime) -> Result<(), Fail> {
     let table = both(alloc, "v", "")?;
     let text = under(table, |index: usize| format!(in alloc; "r{index}"));
     assert_text(&rt, text, "-r0--\nk | v\n-r1--\nk | ")
+}
+
+// What printing under headers that a function answers leaves in a text.
+fn left_under<G: LabelFn + Drop>(
+    alloc: Global,
+    table: ExtendedTable,
+    g: G,
+) -> (Result<(), TableError>, String)
+    requires { G.callable g }
+{
+    let mut text = String::new(alloc);
+    let answer = table.template(FnTemplate::new(g)).write_to(&mut text);
+    (answer, text)
+}
+
+#[test]
+fn a_refused_label_leaves_the_records_before_its_own(rt: HostRuntime) -> Result<(), Fail> {
+    let alloc = rt.alloc();
+    for (first, wanted) in [
+        (0, ""),
+        (1, "-r0--\nk | v"),
+        (2, "-r0--\nk | v\n-r1--\nk | w"),
+    ] {
+        let table = both(alloc, "v", "w")?;
+        let (answer, text) = left_under(alloc, table, |index: usize| {
+            if index < first {
+                format!(in alloc; "r{index}")
+            } else {
+                Err(AllocError)
+            }
+        });
+        assert_eq!(rt; (answer.is_ok(), text.as_str()), (first == 2, wanted));
+    }
+    Ok(())
 }
 
 #[test]
