@@ -207,6 +207,7 @@ like_printed {config = config} {old = old} {new} (Ok x) p =
       rows = p.rows;
       whole = p.whole;
       came = p.came;
+      enough = s.enough;
       alike = λ a.
           let P : Sheet → Type 0 = λ t. Sends old new (table_text t) in
           (all-came a p.whole s.enough, subst P (like_table a config s.sheet s.streamed.streamed) s.sends);

@@ -10,6 +10,7 @@ use Rattle.tabled_row.specs.Sent.{Sent, Sends}
 use Rattle.tabled_grid.specs.Picture.{table_text}
 use Rattle.tabled_size.specs.Sheet.{estimated}
 use Rattle.tabled_stream.specs.declared.settings.Settings.{Settings}
+use Rattle.tabled_stream.specs.Streams.{AreEnough}
 
 -- a text of one line, whose characters count as many as its columns
 pub record IsExactLine (text : List ℕ) : Type 0 where
@@ -30,11 +31,12 @@ pub record IsLikeTable (settings : Settings) (cells : List (List (List ℕ))) : 
   pub no_width : settings.width ≡ None
   pub no_height : settings.height ≡ None
 
--- what a call that prints a source of rows whole leaves: some rows came first; where they make it like a table, they are all, and
--- the text of the table with estimated sizes was added
+-- what a call that prints a source of rows whole leaves: some rows came first, as many as were needed; where they make it like a
+-- table, they are all, and the text of the table with estimated sizes was added
 pub record PrintsLikeTable (settings : Settings) (config : CompactConfig) (comes : List (List (List ℕ)) → Bool → Type 0)
     (old new : Sent) : Type 0 where
   pub rows : List (List (List ℕ))
   pub whole : Bool
   pub came : comes rows whole
+  pub enough : AreEnough settings rows whole
   pub alike : IsLikeTable settings rows → (whole ≡ true) × Sends old new (table_text (estimated rows (spanned_of_compact config)))
