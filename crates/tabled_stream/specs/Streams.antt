@@ -69,7 +69,8 @@ IsTooHighFirst settings config ahead_rows index (row ∷ rest) = 2 ^ 64 ≤ stre
 
 -- the lines above a row are out, and then it is refused: it is too high, or memory was wanted. No row behind it was taken, but
 -- those that are read ahead
-pub record StopsAtRow (settings : Settings) (config : CompactConfig) (rows : List (List (List ℕ))) (whole : Bool) (old : Sent) (error : TableError) (new : Sent) : Type 0 where
+pub record StopsAtRow (settings : Settings) (config : CompactConfig) (rows : List (List (List ℕ))) (whole : Bool)
+    (old : Sent) (error : TableError) (new : Sent) : Type 0 where
   pub shown : List (List (List ℕ))
   pub rest : List (List (List ℕ))
   pub sheet : Sheet
@@ -80,7 +81,8 @@ pub record StopsAtRow (settings : Settings) (config : CompactConfig) (rows : Lis
 
 -- the sink refused in the top margin, or in the last of some rows or its horizontal line. No row behind it was taken, but those
 -- that are read ahead, and the first
-pub record StopsInRows (settings : Settings) (config : CompactConfig) (rows : List (List (List ℕ))) (whole : Bool) (old : Sent) (error : TableError) (new : Sent) : Type 0 where
+pub record StopsInRows (settings : Settings) (config : CompactConfig) (rows : List (List (List ℕ))) (whole : Bool)
+    (old : Sent) (error : TableError) (new : Sent) : Type 0 where
   pub shown : List (List (List ℕ))
   pub rest : List (List (List ℕ))
   pub sheet : Sheet
@@ -89,16 +91,19 @@ pub record StopsInRows (settings : Settings) (config : CompactConfig) (rows : Li
   pub stops : Stops old error new (text_above sheet (column_count settings (sniffed settings rows)) (length shown))
 
 -- the sink refused in the text of the whole table
-pub record StopsAtEnd (settings : Settings) (config : CompactConfig) (rows : List (List (List ℕ))) (whole : Bool) (old : Sent) (error : TableError) (new : Sent) : Type 0 where
+pub record StopsAtEnd (settings : Settings) (config : CompactConfig) (rows : List (List (List ℕ))) (whole : Bool)
+    (old : Sent) (error : TableError) (new : Sent) : Type 0 where
   pub enough : AreEnough settings rows whole
   pub sheet : Sheet
   pub streamed : IsWholeStream settings config rows sheet
   pub stops : Stops old error new (table_text sheet)
 
 -- refused before the first byte: the whole is too wide, or memory was wanted
-pub record StopsEarly (settings : Settings) (config : CompactConfig) (rows : List (List (List ℕ))) (whole : Bool) (old : Sent) (error : TableError) (new : Sent) : Type 0 where
+pub record StopsEarly (settings : Settings) (config : CompactConfig) (rows : List (List (List ℕ))) (whole : Bool)
+    (old : Sent) (error : TableError) (new : Sent) : Type 0 where
   pub same : new ≡ old
-  pub cause : ((error ≡ Range) × AreSniffed settings rows whole × IsFilled settings rows × (2 ^ 64 ≤ stream_total settings config (sniffed settings rows))) ⊎ (error ≡ Memory)
+  pub cause : ((error ≡ Range) × AreSniffed settings rows whole × IsFilled settings rows
+      × (2 ^ 64 ≤ stream_total settings config (sniffed settings rows))) ⊎ (error ≡ Memory)
 
 -- what is printed of the rows that were taken
 pub record StreamSends (settings : Settings) (config : CompactConfig) (rows : List (List (List ℕ))) (whole : Bool) (old new : Sent) : Type 0 where

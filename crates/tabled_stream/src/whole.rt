@@ -74,7 +74,8 @@ impl<'a> Stream<'a> {
         ensures { (more : List (List C)) × (whole : Bool) × (to : I)
             × AreFurther settings.now.rows (length taken.now.rows.items) taken.now.whole (length more) whole
             × ReadsOn I.next_gives W.into_iter_gives W.IntoIter.next_gives (map (λ row. row.items) taken.now.rows.items) taken.now.whole rows.old more whole to
-            × ((config : CompactConfig) → IsLaidOut settings.now config (sniffed settings.now (texts_of C.text taken.now.rows.items)) self.old.lines.columns.layout.now
+            × ((config : CompactConfig)
+            → IsLaidOut settings.now config (sniffed settings.now (texts_of C.text taken.now.rows.items)) self.old.lines.columns.layout.now
             → total ≡ stream_total settings.now config (sniffed settings.now (texts_of C.text taken.now.rows.items))
             → Streams settings.now config (texts_of C.text taken.now.rows.items ++ map (map C.text) more) whole (S.sent sink.old) result (S.sent sink.new)) }
     {
