@@ -8,6 +8,8 @@ mod deep;
 #[cfg(test)]
 mod pictures;
 #[cfg(test)]
+mod refusals;
+#[cfg(test)]
 mod values;
 #[cfg(test)]
 mod writers;
