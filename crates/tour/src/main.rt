@@ -4,6 +4,7 @@
 mod made;
 mod narrow;
 mod refused;
+mod streamed;
 
 use anyhow::Result;
 
@@ -13,6 +14,7 @@ fn main(rt: HostRuntime) -> Result<()> {
     println!(rt; "{}\n", made::from_text(alloc)?)?;
     let table = made::from_csv(alloc, made::CITIES)?;
     println!(rt; "{}\n", narrow::dressed(table)?)?;
+    println!(rt; "{}\n", streamed::as_they_come(alloc)?)?;
     println!(rt; "{}", refused::told(alloc)?)?;
     println!(rt; "{:?}", refused::columns())?;
     Ok(())
