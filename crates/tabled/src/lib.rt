@@ -26,6 +26,7 @@ pub mod laws {
     pub use tabled_grid::laws::pictures;
     pub use tabled_row::laws::rows_of_any_text;
     pub use tabled_set::laws::truncated_texts;
+    pub use tabled_stream::laws::streams_like_tables;
     pub use tabled_table::laws::new_tables;
     pub use tabled_text::laws::{
         breakings, cut_texts, joined_lines, plain_characters, plain_columns, plain_line_width,
