@@ -3,6 +3,7 @@ pub mod CollectedValues
 pub mod Columns
 pub mod Contains
 pub mod MarginLemmas
+pub mod NearLines
 pub mod Owners
 pub mod PlainBlocks
 pub mod Plains

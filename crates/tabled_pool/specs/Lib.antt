@@ -6,6 +6,7 @@ pub mod Drawable
 pub mod Drawn
 pub mod Frames
 pub mod Margins
+pub mod Near
 pub mod NewPool
 pub mod Owner
 pub mod Plan

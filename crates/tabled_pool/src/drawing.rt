@@ -1,5 +1,6 @@
 //! Placed pieces, and how they look.
 
+use std::alloc::Global;
 use tabled_boxes::Piece;
 use tabled_config::{ANSIStr, Borders, CellStyle, Sides};
 
@@ -15,4 +16,6 @@ pub(crate) struct Drawing<'d, 'a> {
     pub padding_colors: Sides<ANSIStr<'static>>,
     /// The colours of the lines.
     pub colors: Borders<ANSIStr<'static>>,
+    /// What the pieces near a line are gathered in.
+    pub alloc: Global,
 }

@@ -10,6 +10,7 @@ mod drawing;
 mod find;
 mod making;
 mod margins;
+mod near;
 mod plan;
 mod pool_table;
 

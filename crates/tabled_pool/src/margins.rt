@@ -12,7 +12,9 @@ ghost use Rattle.tabled_pool.specs.Plans.{plan_of};
 use crate::colors::put_colored_fill;
 use crate::draw::put_line;
 use crate::drawing::Drawing;
+use crate::near::gather;
 use tabled_base::TableError;
+use tabled_boxes::Piece;
 use tabled_config::{ANSIStr, Indent, Sides};
 use tabled_row::{TextSink, put_break};
 
@@ -123,6 +125,29 @@ fn put_led_line<S: TextSink>(
     put_inner_line(sink, drawing, margin, y)
 }
 
+/// A line of a drawing, between the side margins, by the pieces near it if there is memory for them.
+fn put_near_line<'a, S: TextSink>(
+    sink: &mut S,
+    begun: &mut bool,
+    drawing: &Drawing<'_, 'a>,
+    margin: &Margin,
+    near: &mut Vec<Piece<'a>>,
+    y: usize,
+) -> Result<(), TableError>
+    requires down { y < 2 ^ 64 - 1 }
+    ensures { WritesLines (S.sent sink.old) begun.old result (S.sent sink.new) begun.new
+        (within_margin margin.now.indent (marks_of margin.now.colors) (drawn_line (plan_of drawing.now) y) ∷ []) }
+{
+    if !gather(near, drawing.pieces, y) {
+        return put_led_line(sink, begun, drawing, margin, y);
+    }
+    let close = Drawing {
+        pieces: near.as_slice(),
+        ..*drawing
+    };
+    put_led_line(sink, begun, &close, margin, y)
+}
+
 /// The lines of a drawing, between the side margins.
 fn put_inner_lines<S: TextSink>(
     sink: &mut S,
@@ -134,8 +159,9 @@ fn put_inner_lines<S: TextSink>(
         (map (λ y. within_margin margin.now.indent (marks_of margin.now.colors) (drawn_line (plan_of drawing.now) y))
         (range_with_len 0 drawing.now.height)) }
 {
+    let mut near = Vec::new(drawing.alloc);
     'lines: for y in 0..drawing.height {
-        put_led_line(sink, begun, drawing, margin, y)?;
+        put_near_line(sink, begun, drawing, margin, &mut near, y)?;
     }
     Ok(())
 }

@@ -237,6 +237,7 @@ impl PoolTable {
             style: style_of(&self.config),
             padding_colors: *self.config.get_padding_color(),
             colors: *self.config.get_borders_color(),
+            alloc: self.value.allocator(),
         };
         let indent = self.margin(size.width);
         let margin = Margin {
@@ -262,9 +263,10 @@ impl PoolTable {
     /// has no margin. Colours take no columns: runs of padding and of a margin stand between the marks of theirs, also
     /// where they are empty; along the top or bottom line of a text a colour is opened where none is used or another
     /// one is, and at the end of the line the first one is closed. The walk recurses as deep as the value goes: 8 MiB
-    /// of stack held 20,000 levels, and not 50,000. Refused with `Range` where the columns or the lines of the whole
-    /// pass the greatest `usize`, and for memory, both before the first byte; else for what the sink refuses, and then
-    /// a beginning went out.
+    /// of stack held 20,000 levels, and not 50,000. All texts and lines are looked through once for each line, and at
+    /// each of its places those near it; where there is no memory to gather these, all again. Refused with `Range`
+    /// where the columns or the lines of the whole pass the greatest `usize`, and for memory, both before the first
+    /// byte; else for what the sink refuses, and then a beginning went out.
     pub fn write_to<S: TextSink>(&self, sink: &mut S) -> Result<(), TableError>
         ensures printed { WritesPool self.now (S.sent sink.old) result (S.sent sink.new) }
         ensures tiled { IsPlainPool self.now → Tiled (plan self.now) }

@@ -1,0 +1,16 @@
+-- The parts that a line of a drawing is drawn by.
+use Rattle.std.specs.Prelude.{ℕ, ◌+◌, leb, ◌&&◌, if◌then◌else◌, Bool, List, [], ◌∷◌}
+use Rattle.tabled_boxes.specs.declared.pieces.Rectangle.{Rectangle}
+use Rattle.tabled_boxes.specs.Boxes.{Part}
+use Rattle.tabled_pool.specs.Plan.{Plan}
+
+-- whether a rectangle has a place on a line, above it or below it
+abbrev pub is_near : ℕ → Rectangle → Bool
+is_near y r = leb r.y (y + 1) && leb y (r.y + r.height)
+
+abbrev pub near_parts : ℕ → List Part → List Part
+near_parts y [] = []
+near_parts y (p ∷ ps) = if is_near y p.place then p ∷ near_parts y ps else near_parts y ps
+
+abbrev pub near_plan : ℕ → Plan → Plan
+near_plan y t = record t { parts = near_parts y t.parts }

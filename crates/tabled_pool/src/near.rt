@@ -1,0 +1,28 @@
+//! The pieces that a line of a drawing is drawn by: most others are far from it.
+ghost use Rattle.std.specs.Prelude.{◌≡◌, ◌^◌, ◌<◌, ◌-◌, true, map};
+ghost use Rattle.tabled_boxes.specs.Shown.{shown};
+ghost use Rattle.tabled_pool.specs.Near.{is_near, near_parts};
+
+use tabled_boxes::{Piece, Rectangle};
+
+/// Whether a rectangle has a place on a line, above it or below it.
+fn is_near(place: Rectangle, y: usize) -> bool
+    requires { y < 2 ^ 64 - 1 }
+    ensures { result ≡ is_near y place }
+{
+    place.y <= y + 1 && y.saturating_sub(place.y) <= place.height
+}
+
+/// Gathers the pieces near a line, if there is memory for them.
+pub(crate) fn gather<'a>(near: &mut Vec<Piece<'a>>, pieces: &[Piece<'a>], y: usize) -> bool
+    requires { y < 2 ^ 64 - 1 }
+    ensures { result ≡ true → map shown near.new.items ≡ near_parts y (map shown pieces.now) }
+{
+    near.clear();
+    for piece in pieces {
+        if is_near(piece.place, y) && near.push(*piece).is_err() {
+            return false;
+        }
+    }
+    true
+}
