@@ -1,0 +1,9 @@
+//! Streamed tables as users print them.
+#![tactic(auto)]
+
+#[cfg(test)]
+mod pictures;
+#[cfg(test)]
+mod reading;
+#[cfg(test)]
+mod refusals;
