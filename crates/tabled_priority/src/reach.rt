@@ -13,32 +13,53 @@ pub(crate) struct Reached {
     pub(crate) rest: usize,
 }
 
-/// A level, if it is higher than the base and takes less than is wanted, else the base.
-fn better_base(
+/// A level up to which less is taken than is wanted, and one up to which enough is.
+#[derive(Clone, Copy)]
+struct Bracket {
+    base: usize,
+    ceiling: usize,
+}
+
+/// The bracket with a level in place of its base or its ceiling, if the level is between these.
+fn narrowed(
     kind: Schedule,
     mins: &[usize],
     values: &[usize],
     wanted: usize,
-    base: usize,
+    bracket: Bracket,
     level: usize,
     steps: &mut Steps,
-) -> usize
-    requires { total_amount (first_level kind values.now mins.now) (last_level kind values.now mins.now) (length values.now) base < wanted }
-    ensures higher { base ≤ result }
-    ensures below { total_amount (first_level kind values.now mins.now) (last_level kind values.now mins.now) (length values.now) result < wanted }
-    ensures tried { result < level → wanted ≤ total_amount (first_level kind values.now mins.now)
+) -> Bracket
+    requires base { total_amount (first_level kind values.now mins.now) (last_level kind values.now mins.now) (length values.now) bracket.base < wanted }
+    requires ceiling { wanted ≤ total_amount (first_level kind values.now mins.now) (last_level kind values.now mins.now)
+        (length values.now) bracket.ceiling }
+    ensures higher { bracket.base ≤ result.base }
+    ensures below { total_amount (first_level kind values.now mins.now) (last_level kind values.now mins.now) (length values.now) result.base < wanted }
+    ensures enough { wanted ≤ total_amount (first_level kind values.now mins.now) (last_level kind values.now mins.now)
+        (length values.now) result.ceiling }
+    ensures tried { result.base < level → wanted ≤ total_amount (first_level kind values.now mins.now)
         (last_level kind values.now mins.now) (length values.now) level }
     ensures fewest { steps.old.count ≤ steps.new.count }
     ensures most { steps.new.count ≤ counted steps.old.count (length values.now) }
 {
-    if level > base && total_amount(kind, mins, values, level, steps) < wanted {
-        level
+    if level <= bracket.base || level >= bracket.ceiling {
+        return bracket;
+    }
+    if total_amount(kind, mins, values, level, steps) < wanted {
+        Bracket {
+            base: level,
+            ceiling: bracket.ceiling,
+        }
     } else {
-        base
+        Bracket {
+            base: bracket.base,
+            ceiling: level,
+        }
     }
 }
 
-/// The highest of the levels at which columns start and end that takes less than is wanted, or 0.
+/// The highest of the levels at which columns start and end that takes less than is wanted, or 0. Only levels between those that
+/// are known to take too little and enough are tried, so that equal ones are tried once.
 fn find_base(
     kind: Schedule,
     mins: &[usize],
@@ -46,18 +67,23 @@ fn find_base(
     wanted: usize,
     steps: &mut Steps,
 ) -> usize
-    requires { 0 < wanted }
+    requires some { 0 < wanted }
+    requires enough { wanted ≤ total_amount (first_level kind values.now mins.now) (last_level kind values.now mins.now)
+        (length values.now) usize.MAX }
     ensures base { IsBase (first_level kind values.now mins.now) (last_level kind values.now mins.now) (length values.now) wanted result }
     ensures fewest { steps.old.count ≤ steps.new.count }
     ensures most { steps.new.count ≤ counted steps.old.count (length values.now * (2 * length values.now + 1)) }
 {
-    let mut base = 0;
+    let mut bracket = Bracket {
+        base: 0,
+        ceiling: usize::MAX,
+    };
     for place in 0..values.len() {
         let ramp = visit_ramp(kind, mins, values, place, steps);
-        base = better_base(kind, mins, values, wanted, base, ramp.from, steps);
-        base = better_base(kind, mins, values, wanted, base, ramp.to, steps);
+        bracket = narrowed(kind, mins, values, wanted, bracket, ramp.from, steps);
+        bracket = narrowed(kind, mins, values, wanted, bracket, ramp.to, steps);
     }
-    base
+    bracket.base
 }
 
 /// From the base on each open column takes one a level, until less than one for each is left.
