@@ -30,7 +30,7 @@ pub struct CellStyle {
 /// The settings of a table. For each cell the latest setting that covers it holds, and a setting for
 /// the whole table forgets all others. A horizontal line that was set by its index stands in place of
 /// the borders' line there. Two are equal where the same was set in the same order.
-#[derive(Debug, Drop, PartialEq, Eq)]
+#[derive(Debug, PartialEq, Eq)]
 pub struct SpannedConfig {
     /// The characters of the frame.
     pub borders: Borders<char>,
@@ -43,6 +43,23 @@ pub struct SpannedConfig {
     trim_horizontal: EntityMap<bool>,
     trim_vertical: EntityMap<bool>,
     lines: Lines,
+}
+
+/// One call lets all settings go, so that whoever lets them go needn't prove it of each.
+impl Drop for SpannedConfig {
+    fn drop(self) {
+        let SpannedConfig {
+            borders: _,
+            margin: _,
+            padding: _,
+            alignment_horizontal: _,
+            alignment_vertical: _,
+            line_alignment: _,
+            trim_horizontal: _,
+            trim_vertical: _,
+            lines: _,
+        } = self;
+    }
 }
 
 impl SpannedConfig {

@@ -11,7 +11,7 @@ use tabled_base::Entity;
 /// One setting of a table. The latest one that covers a cell holds there.
 ///
 /// A cell's setting is found by three look-ups among the entities that were set.
-#[derive(Debug, Drop)]
+#[derive(Debug)]
 pub struct EntityMap<T> {
     // What was set for the whole table.
     whole: T,
@@ -19,6 +19,17 @@ pub struct EntityMap<T> {
     changes: Vec<(Entity, T)>,
     // Where the latest change for each part stands.
     places: Places,
+}
+
+/// One call lets a setting go with all its changes, so that whoever lets it go needn't prove it of each part.
+impl<T: Drop> Drop for EntityMap<T> {
+    fn drop(self) {
+        let EntityMap {
+            whole: _,
+            changes: _,
+            places: _,
+        } = self;
+    }
 }
 
 impl<T> Model for EntityMap<T> {
