@@ -5,6 +5,7 @@
 mod builder;
 mod error;
 mod into_records;
+mod lent_cells;
 mod lent_rows;
 mod objects;
 mod options;
@@ -18,6 +19,7 @@ mod vec_records;
 pub use builder::Builder;
 pub use error::TableError;
 pub use into_records::IntoRecords;
+pub use lent_cells::lend_cells;
 pub use lent_rows::LentRows;
 pub use objects::{Cell, Columns, Object, Rows};
 pub use options::{CellOption, TableOption};

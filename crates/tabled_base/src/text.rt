@@ -38,6 +38,19 @@ impl<S: AsStr> Text<S> {
             lines,
         }
     }
+
+    /// A text whose columns and lines are known.
+    pub(crate) fn measured(text: S, columns: usize, lines: usize) -> Self
+        requires columns { columns ≡ text_columns (S.text text) }
+        requires lines { lines ≡ length (lines_of (S.text text)) }
+        ensures { result ≡ S.text text }
+    {
+        Text {
+            text,
+            columns,
+            lines,
+        }
+    }
 }
 
 impl<S: AsStr> CellText for Text<S> {

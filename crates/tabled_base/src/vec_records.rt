@@ -1,6 +1,6 @@
 //! Records in vectors.
 ghost use Rattle.std.specs.Prelude.{◌≡◌, ℕ, List, IfErr, IfOk, map, ⊤};
-ghost use Rattle.tabled_base.specs.Cells.{IsRectangular, columns, row_texts, texts_of};
+ghost use Rattle.tabled_base.specs.Cells.{IsInside, IsRectangular, columns, row_texts, texts_of, with_cell};
 ghost use Rattle.tabled_base.specs.declared.error.TableError.TheVariants.{Memory};
 
 use crate::error::TableError;
@@ -8,6 +8,7 @@ use crate::position::Position;
 use crate::records::{CellText, ExactRecords, PeekableRecords, Records, RecordsMut};
 use crate::text::Text;
 use std::alloc::Global;
+use std::convert::AsStr;
 use std::marker::Model;
 
 /// Rows of equal length.
@@ -44,6 +45,17 @@ impl<T: CellText> VecRecords<T> {
         ensures rectangular { IsRectangular (texts_of T.text result.items) }
     {
         self.rows
+    }
+}
+
+impl<S: AsStr + Drop> VecRecords<Text<S>> {
+    /// Gives a cell another text.
+    pub(crate) fn put(&mut self, at: Position, text: Text<S>)
+        requires { IsInside self.old at.row at.column }
+        ensures { self.new ≡ with_cell self.old at.row at.column text }
+    {
+        let row = &mut self.rows[at.row];
+        row[at.column] = text;
     }
 }
 
@@ -123,8 +135,7 @@ impl<T: CellText> PeekableRecords for VecRecords<T> {
 
 impl RecordsMut for VecRecords<Text<String>> {
     fn set(&mut self, at: Position, text: String) -> Result<(), TableError> {
-        let row = &mut self.rows[at.row];
-        row[at.column] = Text::new(text);
+        self.put(at, Text::new(text));
         Ok(())
     }
 

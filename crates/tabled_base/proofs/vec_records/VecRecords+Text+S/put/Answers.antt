@@ -3,26 +3,25 @@ use Rattle.std.proofs.lemmas.List.{length-map}
 use Rattle.tabled_base.specs.Cells.{IsRectangular, texts_of, with_cell}
 use Rattle.tabled_base.proofs.ChangedCells.{texts_after, with_cell-rectangular}
 use Rattle.tabled_base.proofs.RowLemmas.{column_inside, row_inside}
-use Rattle.tabled_base.proofs.vec_records.VecRecordsTextStringRecordsMut.set.Goals as goal
+use Rattle.tabled_base.proofs.vec_records.VecRecords+Text+S.put.Goals as goal
 
 pub index_mut-requires : goal.index_mut-requires
-index_mut-requires c = column_inside (λ t. t) c.self.inside.rows.items c.args.self.now _ _ c.index_mut-row.result.now
+index_mut-requires g c = column_inside (λ t. t) c.self.inside.rows.items c.args.self.now _ _ c.index_mut-row.result.now
     c.self.view_is c.self.invariant c.requires c.index_mut-row.ensures.value
 
 pub invariant_of-self : goal.invariant_of-self
-invariant_of-self c =
+invariant_of-self g c =
     let rows = c.self.inside.rows.items in
     let at = c.args.at in
     let there = row_inside (λ t. t) rows c.args.self.now at.row at.column c.self.view_is c.requires in
     let there_too : at.row < length (texts_of (λ t. t) rows) = rw length-map there in
-    subst IsRectangular (sym (texts_after (λ t. t) rows at.row at.column c.index_mut-row.result.now c.new.result there c.index_mut-row.ensures.value))
-    (with_cell-rectangular (texts_of (λ t. t) rows) at.row at.column c.new.result there_too c.self.invariant)
+    subst IsRectangular (sym (texts_after (λ t. t) rows at.row at.column c.index_mut-row.result.now c.args.text there c.index_mut-row.ensures.value))
+    (with_cell-rectangular (texts_of (λ t. t) rows) at.row at.column c.args.text there_too c.self.invariant)
 
-pub returns-clause-ok : goal.returns-clause-ok
-returns-clause-ok c =
+pub returns : goal.returns
+returns g c =
     let rows = c.self.inside.rows.items in
     let at = c.args.at in
     let there = row_inside (λ t. t) rows c.args.self.now at.row at.column c.self.view_is c.requires in
-    texts_after (λ t. t) rows at.row at.column c.index_mut-row.result.now c.new.result there c.index_mut-row.ensures.value
-    ∙ ap (λ cells. with_cell cells at.row at.column c.new.result) c.self.view_is
-    ∙ ap (with_cell c.args.self.now at.row at.column) c.new.ensures
+    texts_after (λ t. t) rows at.row at.column c.index_mut-row.result.now c.args.text there c.index_mut-row.ensures.value
+    ∙ ap (λ cells. with_cell cells at.row at.column c.args.text) c.self.view_is
