@@ -39,6 +39,13 @@ impl<T: CellText> VecRecords<T> {
         *self.rows.allocator()
     }
 
+    /// The rows, lent.
+    pub fn as_rows(&self) -> &[Vec<T>]
+        ensures { texts_of T.text result.now ≡ self.now }
+    {
+        self.rows.as_slice()
+    }
+
     /// The rows, which are equally long.
     pub(crate) fn into_rows(self) -> Vec<Vec<T>>
         ensures rows { texts_of T.text result.items ≡ self }
