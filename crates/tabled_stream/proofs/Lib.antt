@@ -1,3 +1,4 @@
+pub mod CutExists
 pub mod Endings
 pub mod ExactLines
 pub mod Finished
@@ -13,6 +14,8 @@ pub mod SameSheet
 pub mod Slices
 pub mod Sources
 pub mod Steps
+pub mod StreamedTexts
 pub mod TopAndBottom
 pub mod Unshown
+pub mod WholeTexts
 pub mod Widths
