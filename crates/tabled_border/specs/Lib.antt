@@ -1,2 +1,3 @@
 pub mod Frame
+pub mod Junction
 pub mod Lines

@@ -91,6 +91,29 @@ impl<T> Borders<T> {
     }
 }
 
+impl<T: Copy> Borders<T> {
+    ghost use Rattle.tabled_border.specs.Junction.{junction};
+
+    /// What stands where lines meet, if it is set: by the sides on which a line goes on. Where only one does, or
+    /// where they make one straight line, no lines meet, and there is none.
+    pub fn junction(&self, left: bool, right: bool, up: bool, down: bool) -> Option<T>
+        ensures { result ≡ junction self.now left right up down }
+    {
+        match (left, right, up, down) {
+            (false, true, false, true) => self.top_left,
+            (true, false, false, true) => self.top_right,
+            (false, true, true, false) => self.bottom_left,
+            (true, false, true, false) => self.bottom_right,
+            (true, true, false, true) => self.top_intersection,
+            (true, true, true, false) => self.bottom_intersection,
+            (false, true, true, true) => self.left_intersection,
+            (true, false, true, true) => self.right_intersection,
+            (true, true, true, true) => self.intersection,
+            _ => None,
+        }
+    }
+}
+
 impl Borders<char> {
     ghost use Rattle.tabled_border.specs.Frame.{border_at, has_inner, has_left, has_right};
 

@@ -15,7 +15,8 @@ use Rattle.tabled_boxes.specs.declared.pieces.Kind.TheVariants.{Leaf, Bar, Rule}
 use Rattle.tabled_boxes.specs.Boxes.{Part}
 use Rattle.tabled_boxes.specs.Tiling.{within, FitsLeaf, EachFits}
 use Rattle.tabled_pool.specs.Owner.{owner, is_border, is_border_before, is_border_above}
-use Rattle.tabled_pool.specs.Drawn.{junction, main_of, border_char, leaf_line}
+use Rattle.tabled_border.specs.Junction.{junction}
+use Rattle.tabled_pool.specs.Drawn.{main_of, border_char, leaf_line}
 use Rattle.tabled_pool.specs.Drawable.{IsDrawable}
 use Rattle.tabled_pool.specs.PlainTree.{PlainBorders, PlainTree}
 use Rattle.tabled_pool.specs.Block.{pool_block}

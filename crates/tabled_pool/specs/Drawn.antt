@@ -1,5 +1,5 @@
 -- The lines of a drawing: at each place the line of a leaf that begins there, or one border character with its colour.
-use Rattle.std.specs.Prelude.{ℕ, ◌+◌, ◌-◌, ◌==◌, if◌then◌else◌, Bool, true, false, ◌&&◌, ◌||◌, List, [], map, Option, Some, None, unwrap_or, encode_utf8}
+use Rattle.std.specs.Prelude.{ℕ, ◌+◌, ◌-◌, ◌==◌, if◌then◌else◌, Bool, ◌&&◌, ◌||◌, List, [], map, Option, Some, None, unwrap_or, encode_utf8}
 use Rattle.std.specs.List.{range_with_len, flat_map, slice_index_or}
 use Rattle.tabled_border.specs.declared.borders.Borders.{Borders}
 use Rattle.tabled_pool.specs.Block.{pool_block}
@@ -8,23 +8,11 @@ use Rattle.tabled_boxes.specs.declared.pieces.Kind.{Kind}
 use Rattle.tabled_boxes.specs.declared.pieces.Kind.TheVariants.{Leaf, Bar, Rule}
 use Rattle.tabled_boxes.specs.Boxes.{Part}
 use Rattle.tabled_border.specs.Frame.{has_right}
+use Rattle.tabled_border.specs.Junction.{junction}
 use Rattle.tabled_pool.specs.Around.{around_at, within_marks}
 use Rattle.tabled_pool.specs.Frames.{has_bottom}
 use Rattle.tabled_pool.specs.Owner.{owner, is_border, is_border_before, is_border_above}
 use Rattle.tabled_pool.specs.Plan.{Plan}
-
--- the character where lines meet: arms to the left, right, up, down
-abbrev pub junction : Borders ℕ → Bool → Bool → Bool → Bool → Option ℕ
-junction b false true false true = b.top_left
-junction b true false false true = b.top_right
-junction b false true true false = b.bottom_left
-junction b true false true false = b.bottom_right
-junction b true true false true = b.top_intersection
-junction b true true true false = b.bottom_intersection
-junction b false true true true = b.left_intersection
-junction b true false true true = b.right_intersection
-junction b true true true true = b.intersection
-junction b _ _ _ _ = None
 
 -- the character of a line where no line meets it: the right line and the bottom line have their own
 abbrev pub main_of : Plan → Kind → Rectangle → Option ℕ

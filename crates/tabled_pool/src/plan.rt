@@ -4,7 +4,7 @@ ghost use Rattle.std.specs.Option.{option_map};
 ghost use Rattle.tabled_boxes.specs.Shown.{shown};
 ghost use Rattle.tabled_pool.specs.Frames.{has_bottom, has_top};
 ghost use Rattle.tabled_pool.specs.Owner.{is_line_kind, is_line, is_border, is_border_before, is_border_above};
-ghost use Rattle.tabled_pool.specs.Drawn.{junction, main_of, border_char};
+ghost use Rattle.tabled_pool.specs.Drawn.{main_of, border_char};
 ghost use Rattle.tabled_pool.specs.Plans.{plan_of};
 
 use crate::drawing::Drawing;
@@ -70,24 +70,6 @@ fn is_border_above(pieces: &[Piece<'_>], x: usize, y: usize) -> bool
     is_border(pieces, x, y - 1)
 }
 
-/// The character where lines meet.
-fn junction(borders: &Borders<char>, left: bool, right: bool, up: bool, down: bool) -> Option<char>
-    ensures { result ≡ junction borders.now left right up down }
-{
-    match (left, right, up, down) {
-        (false, true, false, true) => borders.top_left,
-        (true, false, false, true) => borders.top_right,
-        (false, true, true, false) => borders.bottom_left,
-        (true, false, true, false) => borders.bottom_right,
-        (true, true, false, true) => borders.top_intersection,
-        (true, true, true, false) => borders.bottom_intersection,
-        (false, true, true, true) => borders.left_intersection,
-        (true, false, true, true) => borders.right_intersection,
-        (true, true, true, true) => borders.intersection,
-        _ => None,
-    }
-}
-
 /// Whether a part ends where the whole does.
 pub(crate) fn ends_at(start: usize, size: usize, whole: usize) -> bool
     ensures { result ≡ (start + size == whole) }
@@ -137,7 +119,7 @@ pub(crate) fn border_char(
     let up = is_border_above(pieces, x, y);
     let down = is_border(pieces, x, y + 1);
     let found = if (left || right) && (up || down) {
-        junction(&drawing.borders, left, right, up, down)
+        drawing.borders.junction(left, right, up, down)
     } else {
         main_of(drawing, kind, place)
     };
