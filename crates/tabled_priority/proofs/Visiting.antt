@@ -63,7 +63,7 @@ IsBounded-turns old new before after (suc n) rest t r same e =
 
 -- a whole pass, and passes for the levels, the span and the shares
 pub IsBounded-passes : (old new : List ℕ) (before first after : ℕ) → first ≡ counted before (length old) → first ≤ after
-    → after ≤ counted first (length old * (2 * length old + 1) + 6 * length old) → IsBounded old new before after
+    → after ≤ counted first (length old * (4 * length old + 1) + 6 * length old) → IsBounded old new before after
 IsBounded-passes old new before first after a b c =
     let le = changed-le old new in
-    IsBounded-from old new before after (length old + (length old * (2 * length old + 1) + 6 * length old)) (omega arith) (omega arith) (omega arith)
+    IsBounded-from old new before after (length old + (length old * (4 * length old + 1) + 6 * length old)) (omega arith) (omega arith) (omega arith)

@@ -58,8 +58,40 @@ fn narrowed(
     }
 }
 
+/// The bracket with a level in place of its base or its ceiling, if the level is between these, once it was halved. So whatever
+/// levels are asked for, only 64 of them are tried.
+fn halved(
+    kind: Schedule,
+    mins: &[usize],
+    values: &[usize],
+    wanted: usize,
+    bracket: Bracket,
+    level: usize,
+    steps: &mut Steps,
+) -> Bracket
+    requires base { total_amount (first_level kind values.now mins.now) (last_level kind values.now mins.now) (length values.now) bracket.base < wanted }
+    requires ceiling { wanted ≤ total_amount (first_level kind values.now mins.now) (last_level kind values.now mins.now)
+        (length values.now) bracket.ceiling }
+    ensures higher { bracket.base ≤ result.base }
+    ensures below { total_amount (first_level kind values.now mins.now) (last_level kind values.now mins.now) (length values.now) result.base < wanted }
+    ensures enough { wanted ≤ total_amount (first_level kind values.now mins.now) (last_level kind values.now mins.now)
+        (length values.now) result.ceiling }
+    ensures tried { result.base < level → wanted ≤ total_amount (first_level kind values.now mins.now)
+        (last_level kind values.now mins.now) (length values.now) level }
+    ensures fewest { steps.old.count ≤ steps.new.count }
+    ensures most { steps.new.count ≤ counted steps.old.count (2 * length values.now) }
+{
+    if level <= bracket.base || level >= bracket.ceiling {
+        return narrowed(kind, mins, values, wanted, bracket, level, steps);
+    }
+    let middle = bracket.base + (bracket.ceiling - bracket.base) / 2;
+    let half = narrowed(kind, mins, values, wanted, bracket, middle, steps);
+    narrowed(kind, mins, values, wanted, half, level, steps)
+}
+
 /// The highest of the levels at which columns start and end that takes less than is wanted, or 0. Only levels between those that
-/// are known to take too little and enough are tried, so that equal ones are tried once.
+/// are known to take too little and enough are tried, so that equal ones are tried once, and each of these levels is halved
+/// towards first, so that many different ones are tried no more than 64 times.
 fn find_base(
     kind: Schedule,
     mins: &[usize],
@@ -72,7 +104,7 @@ fn find_base(
         (length values.now) usize.MAX }
     ensures base { IsBase (first_level kind values.now mins.now) (last_level kind values.now mins.now) (length values.now) wanted result }
     ensures fewest { steps.old.count ≤ steps.new.count }
-    ensures most { steps.new.count ≤ counted steps.old.count (length values.now * (2 * length values.now + 1)) }
+    ensures most { steps.new.count ≤ counted steps.old.count (length values.now * (4 * length values.now + 1)) }
 {
     let mut bracket = Bracket {
         base: 0,
@@ -80,8 +112,8 @@ fn find_base(
     };
     for place in 0..values.len() {
         let ramp = visit_ramp(kind, mins, values, place, steps);
-        bracket = narrowed(kind, mins, values, wanted, bracket, ramp.from, steps);
-        bracket = narrowed(kind, mins, values, wanted, bracket, ramp.to, steps);
+        bracket = halved(kind, mins, values, wanted, bracket, ramp.from, steps);
+        bracket = halved(kind, mins, values, wanted, bracket, ramp.to, steps);
     }
     bracket.base
 }
@@ -101,7 +133,7 @@ pub(crate) fn reach(
         (length values.now) wanted result.level result.rest }
     ensures below { result.level < usize.MAX }
     ensures fewest { steps.old.count ≤ steps.new.count }
-    ensures most { steps.new.count ≤ counted steps.old.count (length values.now * (2 * length values.now + 1) + 2 * length values.now) }
+    ensures most { steps.new.count ≤ counted steps.old.count (length values.now * (4 * length values.now + 1) + 2 * length values.now) }
 {
     let base = find_base(kind, mins, values, wanted, steps);
     let open = count_open(kind, mins, values, values.len(), base, steps);

@@ -14,5 +14,5 @@ invariant-loop-place l = record {
       → l.wanted ≤ total_amount (first_level l.kind l.values l.mins) (last_level l.kind l.values l.mins) (length l.values)
       (last_level l.kind l.values l.mins i);
   fewest : l.fn.steps.count ≤ l.steps.count;
-  most : l.steps.count ≤ counted l.fn.steps.count (l.place * (2 * length l.values + 1));
+  most : l.steps.count ≤ counted l.fn.steps.count (l.place * (4 * length l.values + 1));
 }
