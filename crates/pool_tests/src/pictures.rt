@@ -168,3 +168,32 @@ fn a_total_past_the_range_is_refused(rt: HostRuntime) -> Result<(), Fail> {
     assert!(rt; matches!(table.to_string(), Err(TableError::Range)));
     Ok(())
 }
+
+const ANY_TEXTS: &str = "\
+┌─┬──┐
+│e\u{301}│👨\u{200D}👩│
+├─┴┬─┤
+│#\u{FE0F}│b│
+└──┴─┘";
+
+#[test]
+fn texts_of_any_characters_stand_straight(rt: HostRuntime) -> Result<(), Fail> {
+    let rows = [["e\u{301}", "👨\u{200D}👩"], ["#\u{FE0F}", "b"]];
+    let mut table = PoolTable::new(rt.alloc(), rows)?;
+    table.with(Style::modern())?.with(Padding::zero())?;
+    assert!(rt; table.is_apart());
+    assert_eq!(rt; table.to_string()?.as_str(), ANY_TEXTS);
+    Ok(())
+}
+
+#[test]
+fn settings_keep_texts_apart_or_do_not(rt: HostRuntime) -> Result<(), Fail> {
+    let mut table = PoolTable::from_value(cell(rt.alloc(), "a")?);
+    table.with(Style::empty())?;
+    assert!(rt; table.is_apart());
+    table.with(Padding::zero())?;
+    assert!(rt; !table.is_apart());
+    table.with(Padding::new(1, 0, 0, 0).fill('#', ' ', ' ', ' '))?;
+    assert!(rt; !table.is_apart());
+    Ok(())
+}

@@ -1,7 +1,13 @@
+pub mod Ahead
+pub mod ApartBlocks
+pub mod Aparts
 pub mod Bare
+pub mod BehindLines
+pub mod Characters
 pub mod CollectedValues
 pub mod Columns
 pub mod Contains
+pub mod Drawable
 pub mod MarginLemmas
 pub mod NearLines
 pub mod Owners
@@ -9,5 +15,7 @@ pub mod PlainBlocks
 pub mod Plains
 pub mod PoolBlocks
 pub mod PoolLemmas
+pub mod StraightPools
 pub mod Tiles
 pub mod Totals
+pub mod TreeTexts

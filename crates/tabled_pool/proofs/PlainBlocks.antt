@@ -24,7 +24,7 @@ before-le horizontal.Left n = omega arith
 before-le horizontal.Center n = omega arith
 before-le horizontal.Right n = omega arith
 
-columns_before-fits : (s : CellStyle) (room : ℕ) (text line : List ℕ) → line_columns line ≤ text_columns text
+pub columns_before-fits : (s : CellStyle) (room : ℕ) (text line : List ℕ) → line_columns line ≤ text_columns text
     → text_columns text ≤ room → columns_before s room text line + line_columns line ≤ room
 columns_before-fits s room text line l m =
     elim s.line_alignment as (λ b. before_text s.horizontal (room - (cond b (line_columns line) (text_columns text))) + line_columns line ≤ room) [

@@ -1,5 +1,5 @@
 -- What is drawn tiles its parts.
-use Rattle.std.proofs.Common.{◌≡◌, ℕ, suc, ◌+◌, ◌-◌, ◌<◌, ◌≤◌, true, List, ◌++◌, Some, refl, ◌∙◌, ap, arith, encode_utf8, ◌⊎◌, inl, inr}
+use Rattle.std.proofs.Common.{◌≡◌, ℕ, ◌+◌, ◌-◌, ◌<◌, ◌≤◌, true, List, ◌++◌, Some, refl, ◌∙◌, ap, arith, encode_utf8, ◌⊎◌, inl, inr}
 use Rattle.std.specs.List.{flat_map, range_with_len}
 use Rattle.tabled_row.proofs.Each.{each-rest}
 use Rattle.tabled_boxes.specs.declared.pieces.Kind.{Kind}
@@ -8,37 +8,30 @@ use Rattle.tabled_boxes.specs.Boxes.{Part}
 use Rattle.tabled_boxes.specs.Tiling.{within}
 use Rattle.tabled_pool.specs.Owner.{owner, is_line_kind}
 use Rattle.tabled_pool.specs.Drawn.{border_char, leaf_line, part_text, owned_text, place_text, drawn_line}
-use Rattle.tabled_pool.specs.Drawable.{whole, IsDrawable}
+use Rattle.tabled_pool.specs.Whole.{whole}
 use Rattle.tabled_pool.specs.Tiled.{StandsAt, Tiled}
 use Rattle.tabled_pool.specs.Plan.{Plan}
 use Rattle.tabled_pool.proofs.Owners.{inside-within, within-inside, within-le, owner-inside, counted}
-use Rattle.tabled_pool.proofs.Columns.{ahead, ahead_kind, whole-inside, unique, Begins, Goes, before, border-bare, prefix, leaf-begins}
+use Rattle.tabled_pool.proofs.Ahead.{ahead, whole-inside, unique, Begins, Goes, before, leaf-begins, out-line}
+use Rattle.tabled_pool.proofs.Columns.{border-bare, out, prefix}
+use Rattle.tabled_pool.proofs.Drawable.{IsDrawable}
 
-stands : (t : Plan) (d : IsDrawable t) (x y : ℕ) (piece : List ℕ) → x < t.width → y < t.height → ahead t y x ≡ x
+stands : {Out : ℕ → ℕ → List ℕ → ℕ → Type 0} (t : Plan) (d : IsDrawable t Out) (x y : ℕ) (piece : List ℕ) → x < t.width → y < t.height → ahead t y x ≡ x
     → place_text t y x ≡ piece → StandsAt (drawn_line t y) x piece
 unfolding drawn_line
-stands t d x y piece h v out e = record {
+stands t d x y piece h v e0 e = record {
   front = flat_map (place_text t y) (range_with_len 0 x);
   rest = flat_map (place_text t y) (range_with_len (x + 1) (t.width - x - 1));
   whole = each-rest (place_text t y) x t.width h ∙ ap
       (λ u. flat_map (place_text t y) (range_with_len 0 x) ++ (u ++ flat_map (place_text t y) (range_with_len (x + 1) (t.width - x - 1)))) e;
-  columns = (prefix t d y x (omega arith) v).columns ∙ out;
+  columns = d.columns y x (out t y x) (ahead t y x) (prefix t d y x (omega arith) v) ∙ e0;
 }
 
 text-of : (t : Plan) (x y : ℕ) (p : Part) → owner t.parts x y ≡ Some p → place_text t y x ≡ part_text t p.kind p x y
 unfolding place_text
 text-of t x y p o = ap (λ z. owned_text t z x y) o
 
-out-border : (t : Plan) (y x : ℕ) (p : Part) (k : Kind) → p.kind ≡ k → is_line_kind k ≡ true → Begins t y x p ⊎ Goes t y x p → ahead t y x ≡ x
-out-border t y x p Leaf e l b = cc
-out-border t y x p Bar e l (inl b) = b.out
-out-border t y x p Rule e l (inl b) = b.out
-out-border t y x p Bar e l (inr g) = let f : ahead t y x ≡ suc (x - 1) = g.out ∙ ap
-    (λ k. ahead_kind k p.place (x - 1)) e in omega (arith, f, g.started)
-out-border t y x p Rule e l (inr g) = let f : ahead t y x ≡ suc (x - 1) = g.out ∙ ap
-    (λ k. ahead_kind k p.place (x - 1)) e in omega (arith, f, g.started)
-
-char-of : (t : Plan) (d : IsDrawable t) (x y : ℕ) (p : Part) (k : Kind) → is_line_kind k ≡ true
+char-of : {Out : ℕ → ℕ → List ℕ → ℕ → Type 0} (t : Plan) (d : IsDrawable t Out) (x y : ℕ) (p : Part) (k : Kind) → is_line_kind k ≡ true
     → part_text t k p x y ≡ encode_utf8 (border_char t k p.place x y)
 char-of t d x y p Leaf l = cc
 char-of t d x y p Bar l = border-bare t d Bar p.place x y
@@ -48,25 +41,25 @@ begins-leaf : (t : Plan) (y : ℕ) (p : Part) → Begins t y p.place.x p ⊎ Goe
 begins-leaf t y p (inl b) = b.out
 begins-leaf t y p (inr g) = absurd (omega (arith, g.started))
 
-leaf-stands : (t : Plan) (d : IsDrawable t) (u v y : ℕ) (p : Part) → owner t.parts u v ≡ Some p → p.kind ≡ Leaf
+leaf-stands : {Out : ℕ → ℕ → List ℕ → ℕ → Type 0} (t : Plan) (d : IsDrawable t Out) (u v y : ℕ) (p : Part) → owner t.parts u v ≡ Some p → p.kind ≡ Leaf
     → p.place.y ≤ y → y < p.place.y + p.place.height → StandsAt (drawn_line t y) p.place.x (leaf_line t p (y - p.place.y))
 leaf-stands t d u v y p o e a b =
     let i = within-inside p.place u v (owner-inside t.parts u v p o) in
     let w : within p.place p.place.x y ≡ 1 = inside-within p.place p.place.x y
     (record { left = omega arith; right = omega (arith, i.left, i.right); top = a; bottom = b }) in
-    let here = unique t d u v p.place.x y p o w in
+    let here = unique t d.once u v p.place.x y p o w in
     let c = counted t.parts u v p.place.x y p o w in
     let inner = within-inside (whole t) p.place.x y (omega (arith, c, d.once p.place.x y, within-le (whole t) p.place.x y)) in
     let wide : p.place.x < t.width = omega (arith, inner.right) in
     let tall : y < t.height = omega (arith, inner.bottom) in
     stands t d p.place.x y (leaf_line t p (y - p.place.y)) wide tall
-    (begins-leaf t y p (before t d y p.place.x p wide tall here))
+    (begins-leaf t y p (before t d.once y p.place.x p wide tall here))
     (text-of t p.place.x y p here ∙ ap (λ k. part_text t k p p.place.x y) e ∙ leaf-begins t p p.place.x y refl)
 
-pub drawn_tiles : (t : Plan) → IsDrawable t → Tiled t
+pub drawn_tiles : {Out : ℕ → ℕ → List ℕ → ℕ → Type 0} (t : Plan) → IsDrawable t Out → Tiled t
 drawn_tiles t d = record {
   once = λ x y h v. d.once x y ∙ whole-inside t x y h v;
   leaf = λ u v y p o e a b. leaf-stands t d u v y p o e a b;
-  border = λ x y p h v o l. stands t d x y _ h v (out-border t y x p p.kind refl l (before t d y x p h v o))
+  border = λ x y p h v o l. stands t d x y _ h v (out-line t y x p p.kind refl l (before t d.once y x p h v o))
       (text-of t x y p o ∙ char-of t d x y p p.kind l);
 }

@@ -1,8 +1,9 @@
+pub mod Apart
 pub mod Applied
 pub mod Around
 pub mod Block
+pub mod Characters
 pub mod Colours
-pub mod Drawable
 pub mod Drawn
 pub mod Frames
 pub mod Margins
@@ -14,3 +15,4 @@ pub mod PlainTree
 pub mod Plans
 pub mod Pool
 pub mod Tiled
+pub mod Whole

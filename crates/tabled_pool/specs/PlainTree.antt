@@ -1,33 +1,17 @@
 -- Trees of plain texts under plain borders.
 use Rattle.std.specs.Prelude.{◌≡◌, ℕ, Some}
-use Rattle.tabled_text.specs.Plain.{IsPlain}
-use Rattle.tabled_border.specs.declared.borders.Borders.{Borders}
+use Rattle.tabled_text.specs.Plain.{IsPlain, IsPlainColumn}
 use Rattle.tabled_config.specs.Compact.{each_side}
-use Rattle.tabled_row.specs.Plain.{IsPlainPiece, IsPlainStyle}
+use Rattle.tabled_row.specs.Plain.{IsPlainStyle}
 use Rattle.tabled_boxes.specs.declared.gaps.Gaps.{Gaps}
 use Rattle.tabled_boxes.specs.declared.pieces.Kind.TheVariants.{Leaf}
 use Rattle.tabled_boxes.specs.Boxes.{Part}
 use Rattle.tabled_boxes.specs.Tiling.{AreTiles, EachFits}
 use Rattle.tabled_pool.specs.Owner.{owner}
+use Rattle.tabled_pool.specs.Characters.{EachCharacter}
 use Rattle.tabled_pool.specs.Colours.{no_line_marks, no_mark}
 use Rattle.tabled_pool.specs.Plan.{Plan}
-use Rattle.tabled_pool.specs.Drawable.{whole}
-
--- the characters that lines are drawn with are plain, and take one column; a missing one is a space
-pub record PlainBorders (b : Borders ℕ) : Type 0 where
-  pub top : IsPlainPiece b.top
-  pub bottom : IsPlainPiece b.bottom
-  pub left : IsPlainPiece b.left
-  pub right : IsPlainPiece b.right
-  pub top_left : IsPlainPiece b.top_left
-  pub top_right : IsPlainPiece b.top_right
-  pub bottom_left : IsPlainPiece b.bottom_left
-  pub bottom_right : IsPlainPiece b.bottom_right
-  pub top_intersection : IsPlainPiece b.top_intersection
-  pub bottom_intersection : IsPlainPiece b.bottom_intersection
-  pub left_intersection : IsPlainPiece b.left_intersection
-  pub right_intersection : IsPlainPiece b.right_intersection
-  pub intersection : IsPlainPiece b.intersection
+use Rattle.tabled_pool.specs.Whole.{whole}
 
 -- parts that tile the whole, with room for their plain texts
 pub record PlainTree (g : Gaps) (t : Plan) : Type 0 where
@@ -37,7 +21,7 @@ pub record PlainTree (g : Gaps) (t : Plan) : Type 0 where
   pub right : g.padding.right ≡ t.style.padding.right.size
   pub top : g.padding.top ≡ t.style.padding.top.size
   pub bottom : g.padding.bottom ≡ t.style.padding.bottom.size
-  pub borders : PlainBorders t.borders
+  pub borders : EachCharacter IsPlainColumn t.borders
   pub style : IsPlainStyle t.style
   pub texts : (x y : ℕ) (p : Part) → owner t.parts x y ≡ Some p → p.kind ≡ Leaf → IsPlain p.text
   pub padding_marks : t.padding_marks ≡ each_side no_mark

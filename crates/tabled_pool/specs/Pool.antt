@@ -20,12 +20,12 @@ use Rattle.tabled_boxes.specs.declared.pieces.Rectangle.{Rectangle}
 use Rattle.tabled_boxes.specs.Boxes.{Part, box_of}
 use Rattle.tabled_boxes.specs.Tiling.{framed}
 use Rattle.tabled_pool.specs.declared.pool_table.PoolTable.{PoolTable}
+use Rattle.tabled_pool.specs.Characters.{EachCharacter}
 use Rattle.tabled_pool.specs.Colours.{Mark, line_marks_of, marks_of, no_line_marks, no_mark}
 use Rattle.tabled_pool.specs.Drawn.{drawn}
 use Rattle.tabled_pool.specs.Frames.{has_bottom, has_top}
 use Rattle.tabled_pool.specs.Margins.{with_margin}
 use Rattle.tabled_pool.specs.Owner.{owner}
-use Rattle.tabled_pool.specs.PlainTree.{PlainBorders}
 use Rattle.tabled_pool.specs.Plan.{Plan}
 
 abbrev pub borders_of : PoolTable → Borders ℕ
@@ -125,7 +125,7 @@ WritesPool t old (Err e) new =
 -- the texts are plain, lines, fills and margins are plain characters of one column, and nothing is coloured
 pub record IsPlainPool (t : PoolTable) : Type 0 where
   pub texts : (x y : ℕ) (p : Part) → owner (plan t).parts x y ≡ Some p → p.kind ≡ Leaf → IsPlain p.text
-  pub borders : PlainBorders (borders_of t)
+  pub borders : EachCharacter IsPlainColumn (borders_of t)
   pub style : IsPlainStyle (style_of t.config)
   pub margin_left : IsPlainColumn t.config.config.margin.left.fill
   pub margin_right : IsPlainColumn t.config.config.margin.right.fill

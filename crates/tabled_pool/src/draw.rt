@@ -6,7 +6,6 @@ ghost use Rattle.tabled_row.specs.Leading.{WritesLines};
 ghost use Rattle.tabled_row.specs.Plain.{EachLineTakes};
 ghost use Rattle.tabled_pool.specs.Around.{within_marks};
 ghost use Rattle.tabled_pool.specs.Drawn.{border_char, border_text, leaf_line, place_text, drawn_line, drawn};
-ghost use Rattle.tabled_pool.specs.Drawable.{IsDrawable};
 ghost use Rattle.tabled_pool.specs.Tiled.{Tiled};
 ghost use Rattle.tabled_pool.specs.Plans.{around_of, plan_of};
 

@@ -1,6 +1,7 @@
 //! Tables whose boxes stand in one another.
 #![tactic(auto)]
 
+mod apart;
 mod applying;
 mod around;
 mod block;

@@ -6,11 +6,11 @@ ghost use Rattle.tabled_row.specs.Plain.{EachLineTakes};
 ghost use Rattle.tabled_row.specs.Sent.{Sent, Writes};
 ghost use Rattle.tabled_boxes.specs.Shown.{shown};
 ghost use Rattle.tabled_priority.specs.Sums.{one_if};
+ghost use Rattle.tabled_pool.specs.Apart.{IsStraightPool};
 ghost use Rattle.tabled_pool.specs.Colours.{marks_of};
 ghost use Rattle.tabled_pool.specs.Drawn.{drawn};
 ghost use Rattle.tabled_pool.specs.Pool.{
   IsInRange,
-  IsPlainPool,
   IsOutOfRange,
   WritesPool,
   borders_of,
@@ -67,7 +67,7 @@ fn frame_of(borders: &Borders<char>) -> Sides<usize>
     }
 }
 
-fn style_of(config: &CompactMultilineConfig) -> CellStyle
+pub(crate) fn style_of(config: &CompactMultilineConfig) -> CellStyle
     ensures { result ≡ style_of config.now }
 {
     CellStyle {
@@ -97,6 +97,9 @@ fn new_config() -> CompactMultilineConfig
 }
 
 /// A table whose rows needn't have as many cells as one another, and whose boxes hold texts, rows or columns.
+///
+/// How deep its value may be is bounded by the machine's stack, since printing, copying, comparing and dropping walk it
+/// level by level: 8 MiB held 20,000 levels when they were tried, and not 50,000. A deeper one ends the process.
 #[derive(Debug, Drop, PartialEq, Eq, PartialOrd, Ord)]
 pub struct PoolTable {
     pub(crate) value: TableValue,
@@ -269,9 +272,9 @@ impl PoolTable {
     /// byte; else for what the sink refuses, and then a beginning went out.
     pub fn write_to<S: TextSink>(&self, sink: &mut S) -> Result<(), TableError>
         ensures printed { WritesPool self.now (S.sent sink.old) result (S.sent sink.new) }
-        ensures tiled { IsPlainPool self.now → Tiled (plan self.now) }
-        ensures columns { IsPlainPool self.now → EachLineTakes (framed_width self.now) (drawn (plan self.now)) }
-        ensures width { IsPlainPool self.now → EachLineTakes (total_width self.now) (pool_lines self.now) }
+        ensures tiled { IsStraightPool self.now → Tiled (plan self.now) }
+        ensures columns { IsStraightPool self.now → EachLineTakes (framed_width self.now) (drawn (plan self.now)) }
+        ensures width { IsStraightPool self.now → EachLineTakes (total_width self.now) (pool_lines self.now) }
         ensures height { length (pool_lines self.now) ≡ total_height self.now }
     {
         self.write_checked(sink)

@@ -1,5 +1,5 @@
-use Rattle.tabled_pool.proofs.PoolLemmas.{pool_tiles, pool_columns}
-use Rattle.tabled_pool.proofs.Totals.{whole_columns, whole_lines}
+use Rattle.tabled_pool.proofs.StraightPools.{pool_columns, pool_tiles, whole_columns}
+use Rattle.tabled_pool.proofs.Totals.{whole_lines}
 use Rattle.tabled_pool.proofs.pool_table.PoolTable.write_to.Goals as goal
 
 pub returns-clause-tiled : goal.returns-clause-tiled

@@ -1,0 +1,127 @@
+-- Trees of any texts that settings keep apart are drawable.
+use Rattle.std.proofs.Common.{◌≡◌, ℕ, suc, ◌+◌, ◌-◌, ◌<◌, true, List, [], ◌++◌, Some, get_or, sym, ap, ◌∙◌, subst, arith}
+use Rattle.std.specs.Str.{IsUtf8}
+use Rattle.tabled_apart.specs.Lines.{IsLine, IsSeparatorColumn}
+use Rattle.tabled_apart.proofs.LineLaws.{frame-one, line-frame}
+use Rattle.tabled_apart.proofs.Ends.{begins-frame, closes-append, closes-frame, closes-framed, frame-nil, line-begins, line-closes, line-nil, opens-begins, Closes}
+use Rattle.tabled_config.specs.Compact.{each_side}
+use Rattle.tabled_row.specs.Apart.{IsApartStyle}
+use Rattle.tabled_row.proofs.Joined.{IsClosedLine}
+use Rattle.tabled_boxes.specs.declared.gaps.Gaps.{Gaps}
+use Rattle.tabled_boxes.specs.declared.pieces.Kind.{Kind}
+use Rattle.tabled_boxes.specs.declared.pieces.Kind.TheVariants.{Leaf, Bar, Rule}
+use Rattle.tabled_boxes.specs.declared.pieces.Rectangle.{Rectangle}
+use Rattle.tabled_boxes.specs.Boxes.{Part}
+use Rattle.tabled_boxes.specs.Tiling.{AreTiles, EachFits}
+use Rattle.tabled_pool.specs.Block.{pool_block}
+use Rattle.tabled_pool.specs.Characters.{EachCharacter}
+use Rattle.tabled_pool.specs.Colours.{no_line_marks, no_mark}
+use Rattle.tabled_pool.specs.Drawn.{border_char, leaf_line}
+use Rattle.tabled_pool.specs.Owner.{owner, is_border_before, is_line, is_line_kind}
+use Rattle.tabled_pool.specs.Plan.{Plan}
+use Rattle.tabled_pool.specs.Whole.{whole}
+use Rattle.tabled_pool.proofs.ApartBlocks.{held-block, separator-space, IsBlockLine}
+use Rattle.tabled_pool.proofs.Bare.{around-bare}
+use Rattle.tabled_pool.proofs.Characters.{char-kind}
+use Rattle.tabled_pool.proofs.Drawable.{IsDrawable}
+use Rattle.tabled_pool.proofs.Owners.{within-inside, owner-inside}
+use Rattle.tabled_pool.proofs.Plains.{owner-fits}
+
+-- parts that tile the whole, with room for their texts, under separators
+pub record ApartTree (g : Gaps) (t : Plan) : Type 0 where
+  pub once : AreTiles t.parts (whole t)
+  pub fits : EachFits g t.parts
+  pub left : g.padding.left ≡ t.style.padding.left.size
+  pub right : g.padding.right ≡ t.style.padding.right.size
+  pub top : g.padding.top ≡ t.style.padding.top.size
+  pub bottom : g.padding.bottom ≡ t.style.padding.bottom.size
+  pub borders : EachCharacter IsSeparatorColumn t.borders
+  pub style : IsApartStyle t.style
+  pub texts : (x y : ℕ) (p : Part) → owner t.parts x y ≡ Some p → IsUtf8 p.text
+  pub padding_marks : t.padding_marks ≡ each_side no_mark
+  pub line_marks : t.line_marks ≡ no_line_marks
+
+char : (g : Gaps) (t : Plan) → ApartTree g t → (k : Kind) (r : Rectangle) (x y : ℕ) → IsSeparatorColumn (border_char t k r x y)
+char g t h k r x y = char-kind IsSeparatorColumn t separator-space h.borders k r x y
+
+leaf-held : (g : Gaps) (t : Plan) → ApartTree g t → (x y : ℕ) (p : Part) → owner t.parts x y ≡ Some p → p.kind ≡ Leaf
+    → IsBlockLine t.style p.place.width (leaf_line t p (y - p.place.y))
+unfolding leaf_line
+leaf-held g t h x y p o e =
+    let i = within-inside p.place x y (owner-inside t.parts x y p o) in
+    let f = owner-fits g t.parts x y p h.fits o e in
+    subst (λ ms. IsBlockLine t.style p.place.width (get_or (pool_block t.style ms p.place.width p.place.height p.text) (y - p.place.y) []))
+    (sym h.padding_marks)
+    (held-block t.style p.place.width p.place.height (y - p.place.y) p.text
+    (record { style = h.style; utf8 = h.texts x y p o; fits = omega (arith, f.wide, h.left, h.right) })
+    (omega (arith, i.top, i.bottom)))
+
+-- ---- with left padding each text begins apart
+
+abbrev pub LineOut : ℕ → ℕ → List ℕ → ℕ → Type 0
+LineOut y x out n = IsLine out n
+
+pub left_drawable : (g : Gaps) (t : Plan) → ApartTree g t → 0 < t.style.padding.left.size → IsDrawable t LineOut
+left_drawable g t h z = record {
+  once = h.once;
+  bare = around-bare t h.line_marks;
+  columns = λ y x out n l. l.columns;
+  none = λ y. line-nil;
+  border = λ y x k p out n o l.
+      let f = frame-one (border_char t k p.place x y) (char g t h k p.place x y) in line-begins l (line-frame f) (begins-frame f);
+  leaf = λ y x p out n o e s l. let b = leaf-held g t h x y p o e in line-begins l b.line (opens-begins (b.opens z));
+  goes = λ y x p out n o e l. l;
+}
+
+-- ---- with right padding each ends apart
+
+abbrev pub ClosedOut : ℕ → ℕ → List ℕ → ℕ → Type 0
+ClosedOut y x out n = IsClosedLine out n
+
+closed : {out piece : List ℕ} {m n : ℕ} → IsClosedLine out m → IsLine piece n → Closes piece → IsClosedLine (out ++ piece) (m + n)
+closed p l c = record { line = line-closes p.line l p.closes; closes = closes-append p.line p.closes c }
+
+pub right_drawable : (g : Gaps) (t : Plan) → ApartTree g t → 0 < t.style.padding.right.size → IsDrawable t ClosedOut
+right_drawable g t h z = record {
+  once = h.once;
+  bare = around-bare t h.line_marks;
+  columns = λ y x out n l. l.line.columns;
+  none = λ y. record { line = line-nil; closes = closes-frame frame-nil };
+  border = λ y x k p out n o l.
+      let f = frame-one (border_char t k p.place x y) (char g t h k p.place x y) in closed l (line-frame f) (closes-frame f);
+  leaf = λ y x p out n o e s l. let b = leaf-held g t h x y p o e in closed l b.line (b.closes z);
+  goes = λ y x p out n o e l. l;
+}
+
+-- ---- else a line stands before each
+
+-- behind a place of a line, what is out ends apart
+pub record BarOut (t : Plan) (y x : ℕ) (out : List ℕ) (n : ℕ) : Type 0 where
+  pub line : IsLine out n
+  pub closes : is_border_before t.parts x y ≡ true → Closes out
+
+behind-leaf : (t : Plan) (y x : ℕ) (p : Part) (out : List ℕ) → owner t.parts x y ≡ Some p → p.kind ≡ Leaf
+    → is_border_before t.parts (suc x) y ≡ true → Closes out
+behind-leaf t y x p out o e z = by-kind p.kind e (sym (ap is_line o) ∙ z)
+  where
+    by-kind : (k : Kind) → k ≡ Leaf → is_line_kind k ≡ true → Closes out
+    by-kind Leaf e z = cc
+    by-kind Bar e z = cc
+    by-kind Rule e z = cc
+
+pub bar_drawable : (g : Gaps) (t : Plan) → ApartTree g t
+    → ((x y : ℕ) (p : Part) → owner t.parts x y ≡ Some p → p.kind ≡ Leaf → p.place.x ≡ x → is_border_before t.parts x y ≡ true)
+    → IsDrawable t (BarOut t)
+bar_drawable g t h behind = record {
+  once = h.once;
+  bare = around-bare t h.line_marks;
+  columns = λ y x out n l. l.line.columns;
+  none = λ y. record { line = line-nil; closes = λ _. closes-frame frame-nil };
+  border = λ y x k p out n o l.
+      let f = frame-one (border_char t k p.place x y) (char g t h k p.place x y) in
+      record { line = line-begins l.line (line-frame f) (begins-frame f); closes = λ _. closes-framed l.line f (omega arith) };
+  leaf = λ y x p out n o e s l.
+      let b = leaf-held g t h x y p o e in
+      record { line = line-closes l.line b.line (l.closes (behind x y p o e s)); closes = behind-leaf t y x p _ o e };
+  goes = λ y x p out n o e l. record { line = l.line; closes = behind-leaf t y x p out o e };
+}

@@ -1,0 +1,242 @@
+-- Each text of a framed tree stands behind a line, where one stands between boxes side by side and at the left.
+use Rattle.std.proofs.Common.{◌≡◌, ℕ, zero, suc, ◌+◌, ◌-◌, ◌≤◌, true, List, [], ◌∷◌, ◌++◌, Option, Some, None, map, length, refl, sym, ap, ◌∙◌, subst, arith, ⊎_elim, ◌⊎◌, inl, inr, string_bytes}
+use Rattle.tabled_border.specs.declared.sides.Sides.{Sides}
+use Rattle.tabled_boxes.specs.declared.gaps.Gaps.{Gaps}
+use Rattle.tabled_boxes.specs.declared.pieces.Rectangle.{Rectangle}
+use Rattle.tabled_boxes.specs.declared.pieces.Kind.TheVariants.{Leaf, Bar, Rule}
+use Rattle.tabled_boxes.specs.declared.tree.TableValue.{TableValue}
+use Rattle.tabled_boxes.specs.declared.tree.TableValue.TheOpen.{Row, Column, Cell}
+use Rattle.tabled_boxes.specs.declared.tree.TableValue.TheFolds.{fold-roll-TableValue, ind-TableValue, map-TableValue}
+use Rattle.tabled_boxes.specs.declared.tree.TableValue.TheViews.{roll-TableValue}
+use Rattle.tabled_boxes.specs.Boxes.{
+  Part,
+  Box,
+  part_of,
+  share,
+  left_part,
+  right_part,
+  top_part,
+  bottom_part,
+  row_width,
+  row_height,
+  first_width,
+  row_parts,
+  column_width,
+  column_height,
+  first_height,
+  column_parts,
+  leaf_box,
+  row_box,
+  column_box,
+  box_step,
+  box_of,
+}
+use Rattle.tabled_boxes.specs.Tiling.{framed, within, covering, Tiles}
+use Rattle.tabled_boxes.proofs.Framing.{tree_framed_tiles}
+use Rattle.tabled_boxes.proofs.Tiling.{covering-append, row_box-tiles, column_box-tiles, share_within, tree-tiles, AllTile}
+use Rattle.tabled_pool.specs.Owner.{owner, is_border_before, is_line, is_line_kind}
+use Rattle.tabled_pool.proofs.Owners.{inside-within, within-inside, within-le, owner-inside, owner-here, owner-behind, counted, is-1}
+
+-- ---- the owner of a place in two lists of parts
+
+owner-first : (ps qs : List Part) (x y : ℕ) (p : Part) → owner ps x y ≡ Some p → owner (ps ++ qs) x y ≡ Some p
+owner-first [] qs x y p h = cc
+owner-first (q ∷ ps) qs x y p h = ⊎_elim
+    (λ w. owner-here q (ps ++ qs) x y w ∙ (sym (owner-here q ps x y w) ∙ h))
+    (λ w. owner-behind q (ps ++ qs) x y w ∙ owner-first ps qs x y p (sym (owner-behind q ps x y w) ∙ h))
+    (is-1 (within q.place x y))
+
+owner-either : (ps qs : List Part) (x y : ℕ) (p : Part) → owner (ps ++ qs) x y ≡ Some p → (owner ps x y ≡ Some p) ⊎ (owner qs x y ≡ Some p)
+owner-either [] qs x y p h = inr h
+owner-either (q ∷ ps) qs x y p h = ⊎_elim
+    (λ w. inl (owner-here q ps x y w ∙ (sym (owner-here q (ps ++ qs) x y w) ∙ h)))
+    (λ w. ⊎_elim
+    (λ a. inl (owner-behind q ps x y w ∙ a))
+    (λ b. inr b)
+    (owner-either ps qs x y p (sym (owner-behind q (ps ++ qs) x y w) ∙ h)))
+    (is-1 (within q.place x y))
+
+-- where a place is covered once, its owner in the second list owns it
+owner-last : (ps qs : List Part) (x y : ℕ) (p : Part) → covering (ps ++ qs) x y ≤ 1 → owner qs x y ≡ Some p → owner (ps ++ qs) x y ≡ Some p
+owner-last [] qs x y p c h = h
+owner-last (q ∷ ps) qs x y p c h =
+    let one = counted qs x y x y p h (owner-inside qs x y p h) in
+    let out : within q.place x y ≡ 1 → ⊥ = λ w. omega (arith, one, covering-append ps qs x y) in
+    owner-behind q (ps ++ qs) x y out ∙ owner-last ps qs x y p (omega (arith, c)) h
+
+-- ---- boxes
+
+-- a text that begins at x begins at the left edge of its box, or a line stands before it
+abbrev IsBehind : List Part → ℕ → ℕ → ℕ → Type 0
+IsBehind ps left x y = (x ≡ left) ⊎ (is_border_before ps x y ≡ true)
+
+record TextsBehind (b : Box) : Type 0 where
+  pub behind : (r : Rectangle) (x y : ℕ) (p : Part) → b.width ≤ r.width → b.height ≤ r.height → owner (b.parts r) x y ≡ Some p
+      → p.kind ≡ Leaf → p.place.x ≡ x → IsBehind (b.parts r) r.x x y
+
+line-some : (o : Option Part) → is_line o ≡ true → (p : Part) × (o ≡ Some p)
+line-some None h = cc
+line-some (Some p) h = (p, refl)
+
+-- a place of a line in the first list, and in the second
+before-first : (ps qs : List Part) (x y : ℕ) → is_border_before ps x y ≡ true → is_border_before (ps ++ qs) x y ≡ true
+before-first ps qs zero y h = h
+before-first ps qs (suc x) y h =
+    let q = line-some (owner ps x y) h in
+    ap is_line (owner-first ps qs x y q.0 q.1) ∙ (sym (ap is_line q.1) ∙ h)
+
+before-last : (ps qs : List Part) (x y : ℕ) → ((v : ℕ) → covering (ps ++ qs) v y ≤ 1) → is_border_before qs x y ≡ true
+    → is_border_before (ps ++ qs) x y ≡ true
+before-last ps qs zero y c h = h
+before-last ps qs (suc x) y c h =
+    let q = line-some (owner qs x y) h in
+    ap is_line (owner-last ps qs x y q.0 (c x) q.1) ∙ (sym (ap is_line q.1) ∙ h)
+
+-- a line at the place before x
+before-here : (ps qs : List Part) (q : Part) (x y m : ℕ) → x ≡ suc m → covering (ps ++ q ∷ qs) m y ≤ 1 → within q.place m y ≡ 1 → is_line_kind q.kind ≡ true
+    → is_border_before (ps ++ q ∷ qs) x y ≡ true
+before-here ps qs q x y m e c w l =
+    subst (λ v. is_border_before (ps ++ q ∷ qs) v y ≡ true) (sym e)
+    (ap is_line (owner-last ps (q ∷ qs) m y q c (owner-here q qs m y w)) ∙ l)
+
+no-leaf : (q : Part) (qs : List Part) (x y : ℕ) (p : Part) → is_line_kind q.kind ≡ true → owner (q ∷ qs) x y ≡ Some p → p.kind ≡ Leaf
+    → owner qs x y ≡ Some p
+no-leaf q qs x y p l o k = ⊎_elim
+    (λ w. let e : q ≡ p = cc (owner-here q qs x y w) in cc (sym l ∙ (ap (λ z. is_line_kind z.kind) e ∙ ap is_line_kind k)))
+    (λ w. sym (owner-behind q qs x y w) ∙ o)
+    (is-1 (within q.place x y))
+
+-- ---- rows and columns
+
+abbrev AllBehind : List Box → Type 0
+AllBehind [] = Unit {0}
+AllBehind (b ∷ bs) = TextsBehind b × AllBehind bs
+
+-- what the parts cover once, those behind the first ones cover at most once
+at-most : (ps qs : List Part) (q : Part) (r : Rectangle) (x y : ℕ) → covering (ps ++ q ∷ qs) x y ≡ within r x y
+    → (covering (ps ++ q ∷ qs) x y ≤ 1) × (covering (q ∷ qs) x y ≤ 1)
+at-most ps qs q r x y e =
+    let le = within-le r x y in
+    (omega (arith, e, le), omega (arith, e, le, covering-append ps (q ∷ qs) x y))
+
+row-behind : (g : Gaps) → g.bar ≡ 1 → (b : Box) (bs : List Box) → TextsBehind b → AllBehind bs → Tiles b → AllTile bs → (r : Rectangle) (x y : ℕ) (p : Part)
+    → row_width g b bs ≤ r.width → row_height b bs ≤ r.height → owner (row_parts g b bs r) x y ≡ Some p → p.kind ≡ Leaf → p.place.x ≡ x
+    → IsBehind (row_parts g b bs r) r.x x y
+row-behind g e b [] t ts u us r x y p w h o k s = t.behind r x y p w h o k s
+row-behind g e b (c ∷ bs) t (t2, ts) u (u2, us) r x y p w h o k s =
+    let n = first_width g b (c ∷ bs) r.width in
+    let share_fits : share g.across (r.width - row_width g b (c ∷ bs)) (length (c ∷ bs) + 1) ≤ r.width - row_width g b (c ∷ bs)
+    = share_within g.across _ _ (omega arith) in
+    let rest = right_part n r in
+    let last = right_part g.bar rest in
+    let ps = b.parts (left_part n r) in
+    let bar = part_of Bar (left_part g.bar rest) [] in
+    let qs = row_parts g c bs last in
+    let once : (v : ℕ) → (covering (ps ++ bar ∷ qs) v y ≤ 1) × (covering (bar ∷ qs) v y ≤ 1) = λ v. at-most ps qs bar r v y ((row_box-tiles g (b ∷ (c ∷ bs)) (u, (u2, us))).once r v y w h) in
+    ⊎_elim
+    (λ a. ⊎_elim (λ i. inl i) (λ i. inr (before-first ps (bar ∷ qs) x y i)) (t.behind (left_part n r) x y p (omega arith) (omega arith) a k s))
+    (λ a.
+    let z = no-leaf bar qs x y p refl a k in
+    let some = counted qs x y x y p z (owner-inside qs x y p z) in
+    let covers = (row_box-tiles g (c ∷ bs) (u2, us)).once last x y (omega arith) (omega arith) in
+    let i = within-inside last x y (omega (arith, some, covers, within-le last x y)) in
+    ⊎_elim
+    (λ j. inr (before-here ps qs bar x y (r.x + n) (omega (arith, j, e)) (once (r.x + n)).0
+    (inside-within bar.place (r.x + n) y (record { left = omega arith; right = omega (arith, e); top = i.top; bottom = i.bottom })) refl))
+    (λ j. inr (before-last ps (bar ∷ qs) x y (λ v. (once v).0) (before-last (bar ∷ []) qs x y (λ v. (once v).1) j)))
+    (row-behind g e c bs t2 ts u2 us last x y p (omega arith) (omega arith) z k s))
+    (owner-either ps (bar ∷ qs) x y p o)
+
+column-behind : (g : Gaps) (b : Box) (bs : List Box) → TextsBehind b → AllBehind bs → Tiles b → AllTile bs → (r : Rectangle) (x y : ℕ) (p : Part)
+    → column_width b bs ≤ r.width → column_height g b bs ≤ r.height → owner (column_parts g b bs r) x y ≡ Some p → p.kind ≡ Leaf → p.place.x ≡ x
+    → IsBehind (column_parts g b bs r) r.x x y
+column-behind g b [] t ts u us r x y p w h o k s = t.behind r x y p w h o k s
+column-behind g b (c ∷ bs) t (t2, ts) u (u2, us) r x y p w h o k s =
+    let n = first_height g b (c ∷ bs) r.height in
+    let share_fits : share g.down (r.height - column_height g b (c ∷ bs)) (length (c ∷ bs) + 1) ≤ r.height - column_height g b (c ∷ bs)
+    = share_within g.down _ _ (omega arith) in
+    let rest = bottom_part n r in
+    let last = bottom_part g.rule rest in
+    let ps = b.parts (top_part n r) in
+    let rule = part_of Rule (top_part g.rule rest) [] in
+    let qs = column_parts g c bs last in
+    let once : (v : ℕ) → (covering (ps ++ rule ∷ qs) v y ≤ 1) × (covering (rule ∷ qs) v y ≤ 1) = λ v. at-most ps qs rule r v y ((column_box-tiles g (b ∷ (c ∷ bs)) (u, (u2, us))).once r v y w h) in
+    ⊎_elim
+    (λ a. ⊎_elim (λ i. inl i) (λ i. inr (before-first ps (rule ∷ qs) x y i)) (t.behind (top_part n r) x y p (omega arith) (omega arith) a k s))
+    (λ a.
+    let z = no-leaf rule qs x y p refl a k in
+    ⊎_elim
+    (λ j. inl j)
+    (λ j. inr (before-last ps (rule ∷ qs) x y (λ v. (once v).0) (before-last (rule ∷ []) qs x y (λ v. (once v).1) j)))
+    (column-behind g c bs t2 ts u2 us last x y p (omega arith) (omega arith) z k s))
+    (owner-either ps (rule ∷ qs) x y p o)
+
+leaf-behind : (g : Gaps) (text : List ℕ) → TextsBehind (leaf_box g text)
+leaf-behind g text = record {
+  behind = λ r x y p w h o k s. ⊎_elim
+      (λ i. let e : part_of Leaf r text ≡ p = cc (owner-here (part_of Leaf r text) [] x y i) in inl (sym s ∙ sym (ap (λ z. z.place.x) e)))
+      (λ i. cc (owner-behind (part_of Leaf r text) [] x y i))
+      (is-1 (within r x y));
+}
+
+row_box-behind : (g : Gaps) → g.bar ≡ 1 → (bs : List Box) → AllBehind bs → AllTile bs → TextsBehind (row_box g bs)
+row_box-behind g e [] ts us = leaf-behind g []
+row_box-behind g e (b ∷ bs) (t, ts) (u, us) = record { behind = λ r x y p w h o k s. row-behind g e b bs t ts u us r x y p w h o k s }
+
+column_box-behind : (g : Gaps) (bs : List Box) → AllBehind bs → AllTile bs → TextsBehind (column_box g bs)
+column_box-behind g [] ts us = leaf-behind g []
+column_box-behind g (b ∷ bs) (t, ts) (u, us) = record { behind = λ r x y p w h o k s. column-behind g b bs t ts u us r x y p w h o k s }
+
+-- ---- trees
+
+abbrev Holds : Gaps → TableValue → Type 0
+Holds g t = TextsBehind (box_of g t)
+
+all-behind : (g : Gaps) (es : List ((t : TableValue) × Holds g t)) → AllBehind (map (box_of g) (map (λ e. e.0) es))
+all-behind g [] = tt
+all-behind g (e ∷ es) = (e.1, all-behind g es)
+
+all-tile : (g : Gaps) (es : List ((t : TableValue) × Holds g t)) → AllTile (map (box_of g) (map (λ e. e.0) es))
+all-tile g [] = tt
+all-tile g (e ∷ es) = (tree-tiles g e.0, all-tile g es)
+
+tree-behind : (g : Gaps) → g.bar ≡ 1 → (t : TableValue) → TextsBehind (box_of g t)
+tree-behind g e = ind-TableValue (Holds g) (λ x y is.
+    subst (λ z. TextsBehind (box_of g (roll-TableValue z))) is
+    (subst TextsBehind (sym (fold-roll-TableValue Box (box_step g) (map-TableValue _ TableValue (λ e. e.0) y)))
+    (elim y as (λ v. TextsBehind (box_step g (map-TableValue _ Box (box_of g) (map-TableValue _ TableValue (λ e. e.0) v)))) [
+      | Cell s ↦ leaf-behind g (string_bytes s)
+      | Row v ↦ row_box-behind g e _ (all-behind g v.items) (all-tile g v.items)
+      | Column v ↦ column_box-behind g _ (all-behind g v.items) (all-tile g v.items)
+    ])))
+
+-- a tree in its frame: a line stands before each text
+pub framed-behind : (g : Gaps) → g.bar ≡ 1 → (t : TableValue) (e : Sides ℕ) (w : Rectangle) → e.left ≡ 1
+    → e.left + (box_of g t).width + e.right ≤ w.width → e.top + (box_of g t).height + e.bottom ≤ w.height
+    → (x y : ℕ) (p : Part) → owner (framed e (box_of g t) w) x y ≡ Some p → p.kind ≡ Leaf → p.place.x ≡ x
+    → is_border_before (framed e (box_of g t) w) x y ≡ true
+unfolding framed
+framed-behind g f t e w l h v x y p o k s =
+    let b = box_of g t in
+    let rest = right_part e.left w in
+    let middle = left_part (rest.width - e.right) rest in
+    let below = bottom_part e.top middle in
+    let left = part_of Bar (left_part e.left w) [] in
+    let right = part_of Bar (right_part (rest.width - e.right) rest) [] in
+    let top = part_of Rule (top_part e.top middle) [] in
+    let bottom = part_of Rule (bottom_part (below.height - e.bottom) below) [] in
+    let inner = top_part (below.height - e.bottom) below in
+    let ls = right ∷ (top ∷ (bottom ∷ [])) in
+    let qs = b.parts inner in
+    let all = left ∷ (ls ++ qs) in
+    let once : (u : ℕ) → covering all u y ≡ within w u y = λ u. tree_framed_tiles g t e w h v u y in
+    let i = within-inside w x y (omega (arith, counted all x y x y p o (owner-inside all x y p o), once x, within-le w x y)) in
+    let o1 = no-leaf left (ls ++ qs) x y p refl o k in
+    let o2 = no-leaf right (top ∷ (bottom ∷ qs)) x y p refl o1 k in
+    let o3 = no-leaf top (bottom ∷ qs) x y p refl o2 k in
+    let o4 = no-leaf bottom qs x y p refl o3 k in
+    ⊎_elim
+    (λ j. before-here [] (ls ++ qs) left x y w.x (omega (arith, j, l)) (omega (arith, once w.x, within-le w w.x y))
+    (inside-within left.place w.x y (record { left = omega arith; right = omega (arith, l); top = i.top; bottom = i.bottom })) refl)
+    (λ j. before-last (left ∷ ls) qs x y (λ u. omega (arith, once u, within-le w u y)) j)
+    ((tree-behind g f t).behind inner x y p (omega arith) (omega arith) o4 k s)

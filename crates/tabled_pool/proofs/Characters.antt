@@ -1,0 +1,57 @@
+-- The characters of lines are all of a kind if those of the borders are.
+use Rattle.std.proofs.Common.{ℕ, ◌+◌, ◌==◌, if◌then◌else◌, Bool, true, false, ◌&&◌, ◌||◌, Option, unwrap_or}
+use Rattle.tabled_border.specs.declared.borders.Borders.{Borders}
+use Rattle.tabled_border.specs.Frame.{has_right}
+use Rattle.tabled_border.specs.Junction.{junction}
+use Rattle.tabled_boxes.specs.declared.pieces.Rectangle.{Rectangle}
+use Rattle.tabled_boxes.specs.declared.pieces.Kind.{Kind}
+use Rattle.tabled_boxes.specs.declared.pieces.Kind.TheVariants.{Leaf, Bar, Rule}
+use Rattle.tabled_pool.specs.Characters.{EachCharacter}
+use Rattle.tabled_pool.specs.Drawn.{main_of, border_char}
+use Rattle.tabled_pool.specs.Frames.{has_bottom}
+use Rattle.tabled_pool.specs.Owner.{is_border, is_border_before, is_border_above}
+use Rattle.tabled_pool.specs.Plan.{Plan}
+
+-- a missing character is a space
+abbrev Of : (ℕ → Type 0) → Option ℕ → Type 0
+Of IsKind c = IsKind (unwrap_or c 32)
+
+if-kind : (IsKind : ℕ → Type 0) (c : Bool) (a b : Option ℕ) → Of IsKind a → Of IsKind b → Of IsKind (if c then a else b)
+if-kind IsKind true a b h i = h
+if-kind IsKind false a b h i = i
+
+junction-kind : (IsKind : ℕ → Type 0) (b : Borders ℕ) → IsKind 32 → EachCharacter IsKind b → (l r u d : Bool) → Of IsKind (junction b l r u d)
+junction-kind IsKind b s h false true false true = h.corners.top_left
+junction-kind IsKind b s h true false false true = h.corners.top_right
+junction-kind IsKind b s h false true true false = h.corners.bottom_left
+junction-kind IsKind b s h true false true false = h.corners.bottom_right
+junction-kind IsKind b s h true true false true = h.intersections.top
+junction-kind IsKind b s h true true true false = h.intersections.bottom
+junction-kind IsKind b s h false true true true = h.intersections.left
+junction-kind IsKind b s h true false true true = h.intersections.right
+junction-kind IsKind b s h true true true true = h.intersections.inner
+junction-kind IsKind b s h false false false false = s
+junction-kind IsKind b s h false false false true = s
+junction-kind IsKind b s h false false true false = s
+junction-kind IsKind b s h false false true true = s
+junction-kind IsKind b s h false true false false = s
+junction-kind IsKind b s h true false false false = s
+junction-kind IsKind b s h true true false false = s
+
+main-kind : (IsKind : ℕ → Type 0) (t : Plan) → IsKind 32 → EachCharacter IsKind t.borders → (k : Kind) (r : Rectangle) → Of IsKind (main_of t k r)
+main-kind IsKind t s h Leaf r = s
+main-kind IsKind t s h Bar r =
+    if-kind IsKind (has_right t.borders && (r.x + r.width == t.width)) t.borders.right t.borders.left h.lines.right h.lines.left
+main-kind IsKind t s h Rule r =
+    if-kind IsKind (has_bottom t.borders && (r.y + r.height == t.height)) t.borders.bottom t.borders.top h.lines.bottom h.lines.top
+
+pub char-kind : (IsKind : ℕ → Type 0) (t : Plan) → IsKind 32 → EachCharacter IsKind t.borders → (k : Kind) (r : Rectangle) (x y : ℕ)
+    → IsKind (border_char t k r x y)
+unfolding border_char
+char-kind IsKind t s h k r x y =
+    let left = is_border_before t.parts x y in
+    let right = is_border t.parts (x + 1) y in
+    let up = is_border_above t.parts x y in
+    let down = is_border t.parts x (y + 1) in
+    if-kind IsKind ((left || right) && (up || down)) (junction t.borders left right up down) (main_of t k r)
+    (junction-kind IsKind t.borders s h left right up down) (main-kind IsKind t s h k r)

@@ -1,0 +1,224 @@
+-- The lines of straight pool tables: they tile the tree, and take the columns of the whole.
+use Rattle.std.proofs.Common.{◌≡◌, ℕ, ◌+◌, ◌<◌, ◌==◌, true, false, cond, List, ⊎_elim, ◌⊎◌, inl, inr, refl, sym, ap, subst, arith}
+use Rattle.std.specs.List.{All}
+use Rattle.std.proofs.lemmas.List.Elements.{All-append, All-map, All-replicate}
+use Rattle.std.proofs.lemmas.List.FromFn.{length-map-range_with_len, get_or-map-range_with_len}
+use Rattle.tabled_text.specs.Measure.{line_columns}
+use Rattle.tabled_text.specs.Plain.{IsPlainLine, IsPlainColumn}
+use Rattle.tabled_text.proofs.PlainLines.{plain_line-append, plain_line-as, plain_column-space}
+use Rattle.tabled_apart.specs.Lines.{IsLine}
+use Rattle.tabled_apart.proofs.LineLaws.{line-frame, line-framed}
+use Rattle.tabled_border.specs.declared.sides.Indent.{Indent}
+use Rattle.tabled_border.specs.declared.sides.Sides.{Sides}
+use Rattle.tabled_border.specs.Frame.{has_left}
+use Rattle.tabled_config.specs.Compact.{each_side, no_indent}
+use Rattle.tabled_priority.specs.Sums.{one_if}
+use Rattle.tabled_row.specs.Plain.{EachLineTakes}
+use Rattle.tabled_row.proofs.Plains.{plain-fill}
+use Rattle.tabled_boxes.proofs.Framing.{tree_framed_tiles, tree_framed_fits}
+use Rattle.tabled_pool.specs.declared.pool_table.PoolTable.{PoolTable}
+use Rattle.tabled_pool.specs.Apart.{IsApartMargin, IsApartPool, IsStraightPool}
+use Rattle.tabled_pool.specs.Colours.{marks_of, no_mark}
+use Rattle.tabled_pool.specs.Drawn.{drawn, drawn_line}
+use Rattle.tabled_pool.specs.Margins.{margin_line, within_margin, with_margin}
+use Rattle.tabled_pool.specs.PlainTree.{PlainTree}
+use Rattle.tabled_pool.specs.Plan.{Plan}
+use Rattle.tabled_pool.specs.Pool.{
+  borders_of,
+  frame_of,
+  frame_place,
+  framed_width,
+  gaps_of,
+  has_margin,
+  margin_marks,
+  margin_of,
+  plan,
+  pool_lines,
+  total_width,
+  IsPlainPool,
+}
+use Rattle.tabled_pool.specs.Tiled.{Tiled}
+use Rattle.tabled_pool.proofs.ApartBlocks.{frame-fill, frame-run, separator-space}
+use Rattle.tabled_pool.proofs.Aparts.{bar_drawable, left_drawable, right_drawable, ApartTree}
+use Rattle.tabled_pool.proofs.BehindLines.{framed-behind}
+use Rattle.tabled_pool.proofs.Columns.{drawn_takes, line-measured}
+use Rattle.tabled_pool.proofs.Drawable.{IsDrawable}
+use Rattle.tabled_pool.proofs.PlainBlocks.{bare, plain-run}
+use Rattle.tabled_pool.proofs.Plains.{plain_drawable, PlainOut}
+use Rattle.tabled_pool.proofs.Tiles.{drawn_tiles}
+use Rattle.tabled_pool.proofs.TreeTexts.{framed-texts, owner-text}
+
+-- ---- the trees of such tables
+
+plain_plan : (t : PoolTable) → IsPlainPool t → PlainTree (gaps_of t) (plan t)
+unfolding plan
+plain_plan t h = record {
+  once = tree_framed_tiles (gaps_of t) t.value (frame_of (borders_of t)) (frame_place t) (omega arith) (omega arith);
+  fits = tree_framed_fits (gaps_of t) t.value (frame_of (borders_of t)) (frame_place t) (omega arith) (omega arith);
+  left = refl;
+  right = refl;
+  top = refl;
+  bottom = refl;
+  borders = h.borders;
+  style = h.style;
+  texts = h.texts;
+  padding_marks = h.padding_color;
+  line_marks = h.borders_color;
+}
+
+apart_plan : (t : PoolTable) → IsApartPool t → ApartTree (gaps_of t) (plan t)
+unfolding plan
+apart_plan t h = record {
+  once = tree_framed_tiles (gaps_of t) t.value (frame_of (borders_of t)) (frame_place t) (omega arith) (omega arith);
+  fits = tree_framed_fits (gaps_of t) t.value (frame_of (borders_of t)) (frame_place t) (omega arith) (omega arith);
+  left = refl;
+  right = refl;
+  top = refl;
+  bottom = refl;
+  borders = h.borders;
+  style = h.style;
+  texts = λ x y p o. owner-text _ x y p (framed-texts (gaps_of t) t.value (frame_of (borders_of t)) (frame_place t)) o;
+  padding_marks = h.uncoloured.padding;
+  line_marks = h.uncoloured.borders;
+}
+
+-- the lines of a drawing are put together piece by piece, and each of them is a line
+record AreDrawn (t : Plan) : Type 0 where
+  tiled : Tiled t
+  takes : EachLineTakes t.width (drawn t)
+  lines : (y : ℕ) → y < t.height → IsLine (drawn_line t y) t.width
+
+drawn-by : {Out : ℕ → ℕ → List ℕ → ℕ → Type 0} (t : Plan) → IsDrawable t Out → ((y x : ℕ) (out : List ℕ) (n : ℕ) → Out y x out n → IsLine out n)
+    → AreDrawn t
+drawn-by t d line = record {
+  tiled = drawn_tiles t d;
+  takes = drawn_takes t d;
+  lines = λ y v. line y t.width (drawn_line t y) t.width (line-measured t d y v);
+}
+
+bar-is-1 : (t : PoolTable) → has_left (borders_of t) ≡ true → one_if (has_left (borders_of t)) ≡ 1
+bar-is-1 t h = ap one_if h
+
+bar_drawn : (t : PoolTable) → IsApartPool t → has_left (borders_of t) ≡ true → AreDrawn (plan t)
+unfolding plan
+bar_drawn t h l =
+    drawn-by _ (bar_drawable (gaps_of t) _ (apart_plan t h)
+    (λ x y p o k s. framed-behind (gaps_of t) (bar-is-1 t l) t.value (frame_of (borders_of t)) (frame_place t) (bar-is-1 t l)
+    (omega arith) (omega arith) x y p o k s))
+    (λ y x out n l. l.line)
+
+padded_drawn : (t : PoolTable) → IsApartPool t → (0 < (plan t).style.padding.left.size) ⊎ (0 < (plan t).style.padding.right.size) → AreDrawn (plan t)
+padded_drawn t h (inl z) = drawn-by (plan t) (left_drawable (gaps_of t) (plan t) (apart_plan t h) z) (λ y x out n l. l)
+padded_drawn t h (inr z) = drawn-by (plan t) (right_drawable (gaps_of t) (plan t) (apart_plan t h) z) (λ y x out n l. l.line)
+
+apart_drawn : (t : PoolTable) → IsApartPool t → AreDrawn (plan t)
+unfolding plan
+apart_drawn t h = ⊎_elim (bar_drawn t h) (padded_drawn t h) h.gap
+
+plain-drawable : (t : PoolTable) → IsPlainPool t → IsDrawable (plan t) PlainOut
+plain-drawable t h = plain_drawable (gaps_of t) (plan t) (plain_plan t h)
+
+pub pool_tiles : (t : PoolTable) → IsStraightPool t → Tiled (plan t)
+pool_tiles t (inl h) = (apart_drawn t h).tiled
+pool_tiles t (inr h) = drawn_tiles (plan t) (plain-drawable t h)
+
+plan-width : (t : PoolTable) → (plan t).width ≡ framed_width t
+unfolding plan
+plan-width t = refl
+
+pub pool_columns : (t : PoolTable) → IsStraightPool t → EachLineTakes (framed_width t) (drawn (plan t))
+pool_columns t (inl h) = subst (λ w. EachLineTakes w (drawn (plan t))) (plan-width t) (apart_drawn t h).takes
+pool_columns t (inr h) = subst (λ w. EachLineTakes w (drawn (plan t))) (plan-width t) (drawn_takes (plan t) (plain-drawable t h))
+
+-- ---- margins
+
+-- each of some lines with the margin around it takes n columns
+margin-takes : (m : Sides Indent) (w n : ℕ) (lines : List (List ℕ)) → line_columns (margin_line m bare no_mark m.top.fill w) ≡ n
+    → line_columns (margin_line m bare no_mark m.bottom.fill w) ≡ n → All (λ l. line_columns (within_margin m bare l) ≡ n) lines
+    → EachLineTakes n (with_margin m bare w lines)
+margin-takes m w n lines top bottom each =
+    let P : List ℕ → Type 0 = λ l. line_columns l ≡ n in
+    All-append P _ _ (All-replicate P m.top.size _ top)
+    (All-append P _ _ (All-map P (within_margin m bare) lines each) (All-replicate P m.bottom.size _ bottom))
+
+drawn-each : (t : Plan) (P : List ℕ → Type 0) → ((y : ℕ) → y < t.height → P (drawn_line t y)) → All P (drawn t)
+unfolding drawn
+drawn-each t P each k line l =
+    let h : k < t.height = subst (λ n. k < n) (length-map-range_with_len (drawn_line t) 0 t.height) l in
+    let e = get_or-map-range_with_len (drawn_line t) 0 t.height k k line h (omega arith) in
+    subst P (sym e) (each k h)
+
+bare-margin : (t : PoolTable) → marks_of t.config.config.margin_color ≡ each_side no_mark → margin_marks t ≡ bare
+bare-margin t h =
+    elim (has_margin (margin_of t)) as (λ b. cond b (marks_of t.config.config.margin_color) (each_side no_mark) ≡ bare) [
+      | true ↦ h
+      | false ↦ refl
+    ]
+
+-- ---- plain margins
+
+record PlainMargin (m : Sides Indent) : Type 0 where
+  left : IsPlainColumn m.left.fill
+  right : IsPlainColumn m.right.fill
+  top : IsPlainColumn m.top.fill
+  bottom : IsPlainColumn m.bottom.fill
+
+plain-within : (m : Sides Indent) (w : ℕ) (line : List ℕ) → PlainMargin m → IsPlainLine line w
+    → line_columns (within_margin m bare line) ≡ m.left.size + w + m.right.size
+plain-within m w line p l =
+    (plain_line-as
+    (plain_line-append (plain-run (plain-fill m.left.fill m.left.size p.left))
+    (plain_line-append l (plain-run (plain-fill m.right.fill m.right.size p.right))))
+    (omega arith)).columns
+
+plain-margin : (t : PoolTable) → IsPlainPool t → PlainMargin (margin_of t)
+plain-margin t h =
+    elim (framed_width t == 0) as (λ b. PlainMargin (cond b (each_side no_indent) t.config.config.margin)) [
+      | true ↦ record { left = plain_column-space; right = plain_column-space; top = plain_column-space; bottom = plain_column-space }
+      | false ↦ record { left = h.margin_left; right = h.margin_right; top = h.margin_top; bottom = h.margin_bottom }
+    ]
+
+plain-columns : (t : PoolTable) (m : Sides Indent) → IsPlainPool t → PlainMargin m
+    → EachLineTakes (m.left.size + framed_width t + m.right.size) (with_margin m bare (framed_width t) (drawn (plan t)))
+plain-columns t m h p =
+    let w = framed_width t in
+    margin-takes m w _ (drawn (plan t))
+    (plain-within m w _ p (plain-run (plain-fill m.top.fill w p.top))) (plain-within m w _ p (plain-run (plain-fill m.bottom.fill w p.bottom)))
+    (drawn-each (plan t) (λ x. line_columns (within_margin m bare x) ≡ m.left.size + framed_width t + m.right.size)
+    (λ y v. plain-within m w _ p (subst (IsPlainLine (drawn_line (plan t) y)) (plan-width t) (line-measured (plan t) (plain-drawable t h) y v))))
+
+-- ---- margins of separators
+
+apart-within : (m : Sides Indent) (w : ℕ) (line : List ℕ) → IsApartMargin m → IsLine line w
+    → line_columns (within_margin m bare line) ≡ m.left.size + w + m.right.size
+apart-within m w line p l =
+    let framed = line-framed (frame-run (frame-fill m.left.fill m.left.size p.left)) l (frame-run (frame-fill m.right.fill m.right.size p.right)) in
+    omega (arith, framed.columns)
+
+apart-margin : (t : PoolTable) → IsApartPool t → IsApartMargin (margin_of t)
+apart-margin t h =
+    elim (framed_width t == 0) as (λ b. IsApartMargin (cond b (each_side no_indent) t.config.config.margin)) [
+      | true ↦ record { left = separator-space; right = separator-space; top = separator-space; bottom = separator-space }
+      | false ↦ h.margin
+    ]
+
+apart-columns : (t : PoolTable) (m : Sides Indent) → IsApartPool t → IsApartMargin m
+    → EachLineTakes (m.left.size + framed_width t + m.right.size) (with_margin m bare (framed_width t) (drawn (plan t)))
+apart-columns t m h p =
+    let w = framed_width t in
+    margin-takes m w _ (drawn (plan t))
+    (apart-within m w _ p (line-frame (frame-run (frame-fill m.top.fill w p.top))))
+    (apart-within m w _ p (line-frame (frame-run (frame-fill m.bottom.fill w p.bottom))))
+    (drawn-each (plan t) (λ x. line_columns (within_margin m bare x) ≡ m.left.size + framed_width t + m.right.size)
+    (λ y v. apart-within m w _ p (subst (IsLine (drawn_line (plan t) y)) (plan-width t) ((apart_drawn t h).lines y v))))
+
+-- ---- the columns of the whole
+
+marked : (t : PoolTable) → marks_of t.config.config.margin_color ≡ each_side no_mark
+    → EachLineTakes (total_width t) (with_margin (margin_of t) bare (framed_width t) (drawn (plan t))) → EachLineTakes (total_width t) (pool_lines t)
+unfolding pool_lines
+marked t e h = subst (λ ms. EachLineTakes (total_width t) (with_margin (margin_of t) ms (framed_width t) (drawn (plan t)))) (sym (bare-margin t e)) h
+
+pub whole_columns : (t : PoolTable) → IsStraightPool t → EachLineTakes (total_width t) (pool_lines t)
+whole_columns t (inl h) = marked t h.uncoloured.margin (apart-columns t (margin_of t) h (apart-margin t h))
+whole_columns t (inr h) = marked t h.margin_color (plain-columns t (margin_of t) h (plain-margin t h))
