@@ -10,14 +10,14 @@ import tempfile
 TOP = pathlib.Path(__file__).resolve().parent.parent
 
 
-def standing_on(crate):
-    """The crate and all of the repository's that it stands on, lowest first."""
+def standing_on(*crates):
+    """The crates and all of the repository's that they stand on, lowest first."""
     below = {}
     for line in (TOP / "crates.txt").read_text().splitlines():
         if ":" in line:
             name, _, named = line.partition(":")
             below[name] = named.split()
-    wanted, open_ones = set(), [crate]
+    wanted, open_ones = set(), list(crates)
     while open_ones:
         name = open_ones.pop()
         if name in below and name not in wanted:
@@ -30,11 +30,11 @@ def standing_on(crate):
 TABLED = standing_on("tabled")
 
 
-def build(folder, name, crates, files):
-    """Builds the program in a folder. It may use the last of the crates; the files lie in its crate."""
+def build(folder, name, crates, files, used):
+    """Builds the program in a folder. It may use some of the crates; the files lie in its crate."""
     lines = (TOP / "crates.txt").read_text().splitlines()
     wanted = [line for line in lines if line.split(":")[0] in crates]
-    (folder / "crates.txt").write_text("\n".join([*wanted, f"{name}: {crates[-1]} anyhow"]) + "\n")
+    (folder / "crates.txt").write_text("\n".join([*wanted, f"{name}: {' '.join(used)} anyhow"]) + "\n")
     shutil.copy(TOP / "HANDLES", folder)
     for crate in crates:
         shutil.copytree(TOP / "crates" / crate, folder / "crates" / crate, dirs_exist_ok=True)
@@ -49,12 +49,13 @@ def build(folder, name, crates, files):
 
 
 @contextlib.contextmanager
-def program(usage, name, crates, files):
-    """The built program, in the folder that the script was given or else in a temporary one."""
+def program(usage, name, crates, files, used=()):
+    """The built program, in the folder that the script was given or else in a temporary one. It uses the last of the crates, or
+    those that are named."""
     given = sys.argv[1:]
     if given and given[0].startswith("-"):
         sys.exit(usage)
     with tempfile.TemporaryDirectory() as temporary:
         folder = pathlib.Path(given[0] if given else temporary)
         folder.mkdir(parents=True, exist_ok=True)
-        yield build(folder, name, crates, files)
+        yield build(folder, name, crates, files, used or crates[-1:])

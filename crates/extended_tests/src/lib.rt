@@ -6,6 +6,8 @@ mod named;
 #[cfg(test)]
 mod pictures;
 #[cfg(test)]
+mod refusals;
+#[cfg(test)]
 mod truncation;
 #[cfg(test)]
 mod writers;

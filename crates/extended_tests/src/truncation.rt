@@ -9,7 +9,7 @@ use tabled_base::TableError;
 use tabled_extended::ExtendedTable;
 
 /// Three languages.
-fn languages(alloc: Global) -> Result<ExtendedTable, TableError> {
+pub(crate) fn languages(alloc: Global) -> Result<ExtendedTable, TableError> {
     let rust = Language {
         name: "Rust",
         designer: "Graydon Hoare",
@@ -23,7 +23,7 @@ fn languages(alloc: Global) -> Result<ExtendedTable, TableError> {
     ExtendedTable::new(alloc, [C, rust, go])
 }
 
-const SHORT_VALUES: &str = "\
+pub(crate) const SHORT_VALUES: &str = "\
 -[ RECORD 0 ]-+---
 name          | ..
 designed_by   | ..
@@ -69,6 +69,13 @@ fn assert_truncated(
 fn values_are_cut_behind_fields_that_find_room(rt: HostRuntime) -> Result<(), Fail> {
     let table = languages(rt.alloc())?;
     assert_truncated(&rt, table, 20, "..", (true, SHORT_VALUES))
+}
+
+#[test]
+fn three_records_have_no_room_in_nineteen_columns(rt: HostRuntime) -> Result<(), Fail> {
+    let mut table = languages(rt.alloc())?;
+    assert_eq!(rt; table.truncate(19, "..")?, false);
+    Ok(())
 }
 
 #[test]

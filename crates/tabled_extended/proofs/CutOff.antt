@@ -1,5 +1,30 @@
 -- Whether something was cut off a text.
-use Rattle.std.proofs.Common.{◌≡◌, ℕ, ◌+◌, ◌-◌, ◌<◌, ◌≤◌, List, [], ◌∷◌, ◌++◌, length, take, replicate, zero, suc, chars, refl, sym, ap, subst, ◌∙◌, append_assoc, max, arith}
+use Rattle.std.proofs.Common.{
+  ◌≡◌,
+  ℕ,
+  ◌+◌,
+  ◌-◌,
+  ◌<◌,
+  ◌≤◌,
+  List,
+  [],
+  ◌∷◌,
+  ◌++◌,
+  length,
+  take,
+  replicate,
+  zero,
+  suc,
+  chars,
+  refl,
+  sym,
+  ap,
+  subst,
+  ◌∙◌,
+  append_assoc,
+  max,
+  arith,
+}
 use Rattle.std.specs.Prelude.{Result, Ok, Err, IsErr, OnErr}
 use Rattle.std.specs.Str.{IsUtf8}
 use Rattle.std.proofs.lemmas.List.{append-nil, append_cancel_left, length-append, length-replicate, length_push, nil_from_length, take_at}
@@ -65,7 +90,8 @@ ending-off suffix [] h = absurd (omega (arith, h))
 ending-off suffix (c ∷ off) h = refl
 
 -- the text stays of which nothing was cut off
-pub truncated_whole : (suffix : List ℕ) (n : ℕ) (text piece : List ℕ) → char_count 0xFFFD ≡ 1 → (cut : IsCut n text piece) → piece ≡ text → IsTruncated suffix n text text
+pub truncated_whole : (suffix : List ℕ) (n : ℕ) (text piece : List ℕ) → char_count 0xFFFD ≡ 1 → (cut : IsCut n text piece) → piece ≡ text
+    → IsTruncated suffix n text text
 truncated_whole suffix n text piece one cut e = record {
   piece = piece;
   cut = cut;

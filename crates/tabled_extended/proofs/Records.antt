@@ -1,5 +1,31 @@
 -- Records that are printed one after another.
-use Rattle.std.proofs.Common.{◌≡◌, ◌⊎◌, inl, inr, ℕ, ◌+◌, ◌<◌, List, [], ◌∷◌, ◌++◌, Bool, false, Ok, Err, Result, length, get_or, sym, ap, subst, ◌∙◌, refl, arith, append-nil}
+use Rattle.std.proofs.Common.{
+  ◌≡◌,
+  ◌⊎◌,
+  inl,
+  inr,
+  ℕ,
+  ◌+◌,
+  ◌<◌,
+  List,
+  [],
+  ◌∷◌,
+  ◌++◌,
+  Bool,
+  false,
+  Ok,
+  Err,
+  Result,
+  length,
+  get_or,
+  sym,
+  ap,
+  subst,
+  ◌∙◌,
+  refl,
+  arith,
+  append-nil,
+}
 use Rattle.std.specs.List.{flat_map}
 use Rattle.std.proofs.lemmas.Grind.{flat_map-append}
 use Rattle.std.proofs.lemmas.List.{length-append, get_or_append_left, get_or_push}
@@ -43,7 +69,8 @@ parts-more answers fields records parts n label m h a =
                 (let same : index ≡ n = omega (arith, length-append parts (last ∷ [])) in (
                   label,
                   subst (λ k. answers k label) (sym same) a,
-                  get_or_push parts last [] index (omega arith) ∙ ap (λ k. record_lines (widest fields) (widest_value records) fields label (get_or records k [])) (sym same),
+                  get_or_push parts last [] index (omega arith) ∙ ap
+                      (λ k. record_lines (widest fields) (widest_value records) fields label (get_or records k [])) (sym same),
                 ))
           ];
     }
@@ -58,7 +85,8 @@ so_far-more {answers} {fields} {records} {n} label h g k =
       parts = h.parts ++ last ∷ [];
       many = omega (arith, h.many, length-append h.parts (last ∷ []));
       lines = parts-more answers fields records h.parts n label h.many h.lines g;
-      sends = lines-further h.sends k (flat_map-append (λ lines. lines) h.parts (last ∷ []) ∙ ap (λ u. flat_map (λ lines. lines) h.parts ++ u) (append-nil last));
+      sends = lines-further h.sends k (flat_map-append (λ lines. lines) h.parts (last ∷ []) ∙ ap (λ u. flat_map (λ lines. lines) h.parts ++ u)
+          (append-nil last));
     }
 
 pub so_far-all : {answers : ℕ → List ℕ → Type 0} {fields : List (List ℕ)} {records : List (List (List ℕ))} {n : ℕ} {a b : Sent} {q : Bool}
@@ -111,11 +139,13 @@ pub records-stopped : {answers : ℕ → List ℕ → Type 0} {fields : List (Li
 records-stopped r (Ok x) e f v ef ev h l w k i = absurd i
 records-stopped {answers} {fields} {records} {n} {a} {b} {c} {q} r (Err d) e f v ef ev h l w k i =
     let k₁ = subst (λ (x : ℕ). PrintsRecord {T = Unit {0}} (answers n) (λ label. record_lines x v fields label (get_or records n [])) b q (Err e) c r) ef k in
-    let k₂ = subst (λ (x : ℕ). PrintsRecord {T = Unit {0}} (answers n) (λ label. record_lines (widest fields) x fields label (get_or records n [])) b q (Err e) c r) ev k₁ in
+    let k₂ = subst (λ (x : ℕ). PrintsRecord {T = Unit {0}} (answers n)
+    (λ label. record_lines (widest fields) x fields label (get_or records n [])) b q (Err e) c r) ev k₁ in
     inr (
       w,
       so_far-stopped r d h l
-          (subst (λ (x : TableError). PrintsRecord {T = Unit {0}} (answers n) (λ label. record_lines (widest fields) (widest_value records) fields label (get_or records n [])) b q (Err x) c r) (sym i) k₂),
+          (subst (λ (x : TableError). PrintsRecord {T = Unit {0}} (answers n)
+          (λ label. record_lines (widest fields) (widest_value records) fields label (get_or records n [])) b q (Err x) c r) (sym i) k₂),
     )
 
 -- a table without records prints nothing

@@ -82,7 +82,8 @@ no_rest : {A : Type 0} (changed behind : List A) (count : ℕ) → length change
 no_rest changed [] count m e = refl
 no_rest changed (x ∷ behind) count m e = absurd (omega (arith, length-append changed (x ∷ behind), m, e))
 
-pub so_far-all : {A : Type 0} (change : A → A → Type 0) (count : ℕ) (old new : List A) → ChangedSoFar change count old new → length new ≡ count → AllZip change old new
+pub so_far-all : {A : Type 0} (change : A → A → Type 0) (count : ℕ) (old new : List A) → ChangedSoFar change count old new → length new ≡ count
+    → AllZip change old new
 so_far-all change count old new h e =
     let none : h.behind ≡ [] = no_rest h.changed h.behind count h.many (ap length (sym h.new_list) ∙ e) in
     let was : old ≡ h.before = h.old_list ∙ ap (λ b. h.before ++ b) none ∙ append-nil h.before in

@@ -4,7 +4,8 @@ use Rattle.std.specs.List.{zip}
 use Rattle.std.proofs.lemmas.List.{take_all, take_more, map-append, take-append-drop}
 use Rattle.std.proofs.lemmas.Slice.Zip.{length-zip, get_or-zip}
 
-pub zip-next : (f : List ℕ × List ℕ → List ℕ) (ks vs : List (List ℕ)) (i : ℕ) (k v : List ℕ) → i < length ks → i < length vs → k ≡ get_or ks i k → v ≡ get_or vs i v
+pub zip-next : (f : List ℕ × List ℕ → List ℕ) (ks vs : List (List ℕ)) (i : ℕ) (k v : List ℕ) → i < length ks → i < length vs → k ≡ get_or ks i k
+    → v ≡ get_or vs i v
     → map f (take (i + 1) (zip ks vs)) ≡ map f (take i (zip ks vs)) ++ (f (k, v) ∷ [])
 zip-next f ks vs i k v h j e g =
     let within : i < length (zip ks vs) = omega (arith, length-zip ks vs) in
@@ -13,7 +14,8 @@ zip-next f ks vs i k v h j e g =
     ∙ map-append f (take i (zip ks vs)) (get_or (zip ks vs) i (k, v) ∷ [])
     ∙ ap (λ (p : List ℕ × List ℕ). map f (take i (zip ks vs)) ++ (f p ∷ [])) pair
 
-pub zip-rest : (f : List ℕ × List ℕ → List ℕ) (ks vs : List (List ℕ)) (i : ℕ) (k v : List ℕ) → i < length ks → i < length vs → k ≡ get_or ks i k → v ≡ get_or vs i v
+pub zip-rest : (f : List ℕ × List ℕ → List ℕ) (ks vs : List (List ℕ)) (i : ℕ) (k v : List ℕ) → i < length ks → i < length vs → k ≡ get_or ks i k
+    → v ≡ get_or vs i v
     → map f (zip ks vs) ≡ map f (take i (zip ks vs)) ++ ((f (k, v) ∷ []) ++ map f (drop (i + 1) (zip ks vs)))
 zip-rest f ks vs i k v h j e g =
     ap (map f) (sym (take-append-drop (i + 1) (zip ks vs)))

@@ -1,6 +1,32 @@
 -- Tables of records that are truncated, so that their lines take fewer columns. A text is the list of its bytes, a record
 -- the list of its values.
-use Rattle.std.specs.Prelude.{◌≡◌, ◌⊎◌, ℕ, ◌+◌, ◌-◌, ◌<◌, Bool, true, false, ◌||◌, nat_lt, List, [], ◌∷◌, ◌++◌, Option, Some, None, Result, Ok, Err, if◌then◌else◌, chars, decimal, length}
+use Rattle.std.specs.Prelude.{
+  ◌≡◌,
+  ◌⊎◌,
+  ℕ,
+  ◌+◌,
+  ◌-◌,
+  ◌<◌,
+  Bool,
+  true,
+  false,
+  ◌||◌,
+  nat_lt,
+  List,
+  [],
+  ◌∷◌,
+  ◌++◌,
+  Option,
+  Some,
+  None,
+  Result,
+  Ok,
+  Err,
+  if◌then◌else◌,
+  chars,
+  decimal,
+  length,
+}
 use Rattle.std.specs.List.{AllZip}
 use Rattle.tabled_base.specs.declared.error.TableError.{TableError}
 use Rattle.tabled_base.specs.declared.error.TableError.TheVariants.{Memory}
@@ -101,7 +127,8 @@ pub record InRooms (max : ℕ) (suffix : List ℕ) (fields : List (List ℕ)) (r
 -- what truncating leaves, by its answer: yes, and all texts are truncated; no, and they stay, for want of rooms; refused for
 -- memory alone, and they are truncated up to one
 abbrev pub Truncates : ℕ → List ℕ → List (List ℕ) → List (List (List ℕ)) → Result Bool TableError → List (List ℕ) → List (List (List ℕ)) → Type 0
-Truncates max suffix fields records (Ok true) fields' records' = InRooms max suffix fields records (λ rooms. AreTruncated suffix rooms fields records fields' records')
+Truncates max suffix fields records (Ok true) fields' records' = InRooms max suffix fields records
+    (λ rooms. AreTruncated suffix rooms fields records fields' records')
 Truncates max suffix fields records (Ok false) fields' records' =
     (rooms_in max (length records) (widest fields) (suffix_columns suffix) ≡ None) × (fields' ≡ fields) × (records' ≡ records)
 Truncates max suffix fields records (Err e) fields' records' =

@@ -35,7 +35,8 @@ whole-inside t x y h i = inside-within (whole t) x y (record { left = omega arit
 pub owned : (t : Plan) (d : AreTiles t.parts (whole t)) (x y : ℕ) → x < t.width → y < t.height → (p : Part) × (owner t.parts x y ≡ Some p)
 owned t d x y h i = owner-some t.parts x y (omega (arith, d x y, whole-inside t x y h i))
 
-pub unique : (t : Plan) (d : AreTiles t.parts (whole t)) (x y u v : ℕ) (p : Part) → owner t.parts x y ≡ Some p → within p.place u v ≡ 1 → owner t.parts u v ≡ Some p
+pub unique : (t : Plan) (d : AreTiles t.parts (whole t)) (x y u v : ℕ) (p : Part) → owner t.parts x y ≡ Some p → within p.place u v ≡ 1
+    → owner t.parts u v ≡ Some p
 unique t d x y u v p h i = owner-unique t.parts x y u v p h i (omega (arith, d u v, within-le (whole t) u v))
 
 pub record Begins (t : Plan) (y n : ℕ) (p : Part) : Type 0 where

@@ -3,7 +3,18 @@ use Rattle.std.proofs.Common.{◌≡◌, ℕ, suc, ◌+◌, ◌-◌, ◌<◌, tr
 use Rattle.std.specs.Str.{IsUtf8}
 use Rattle.tabled_apart.specs.Lines.{IsLine, IsSeparatorColumn}
 use Rattle.tabled_apart.proofs.LineLaws.{frame-one, line-frame}
-use Rattle.tabled_apart.proofs.Ends.{begins-frame, closes-append, closes-frame, closes-framed, frame-nil, line-begins, line-closes, line-nil, opens-begins, Closes}
+use Rattle.tabled_apart.proofs.Ends.{
+  begins-frame,
+  closes-append,
+  closes-frame,
+  closes-framed,
+  frame-nil,
+  line-begins,
+  line-closes,
+  line-nil,
+  opens-begins,
+  Closes,
+}
 use Rattle.tabled_config.specs.Compact.{each_side}
 use Rattle.tabled_row.specs.Apart.{IsApartStyle}
 use Rattle.tabled_row.proofs.Joined.{IsClosedLine}

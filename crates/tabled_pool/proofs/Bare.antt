@@ -5,7 +5,22 @@ use Rattle.tabled_boxes.specs.declared.pieces.Rectangle.{Rectangle}
 use Rattle.tabled_boxes.specs.Boxes.{Part}
 use Rattle.tabled_pool.specs.declared.around.Spot.{Spot}
 use Rattle.tabled_pool.specs.declared.around.Spot.TheVariants.{Before, Inside, Behind, Outside}
-use Rattle.tabled_pool.specs.Around.{Around, across, around_at, around_part, around_text, begun, beside, ended, is_last_column, is_last_row, nothing_around, right_around, spot, used_after}
+use Rattle.tabled_pool.specs.Around.{
+  Around,
+  across,
+  around_at,
+  around_part,
+  around_text,
+  begun,
+  beside,
+  ended,
+  is_last_column,
+  is_last_row,
+  nothing_around,
+  right_around,
+  spot,
+  used_after,
+}
 use Rattle.tabled_pool.specs.Colours.{Mark, no_line_marks}
 use Rattle.tabled_pool.specs.Frames.{has_top}
 use Rattle.tabled_pool.specs.Owner.{is_line_kind}

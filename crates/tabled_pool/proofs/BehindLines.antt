@@ -1,5 +1,34 @@
 -- Each text of a framed tree stands behind a line, where one stands between boxes side by side and at the left.
-use Rattle.std.proofs.Common.{◌≡◌, ℕ, zero, suc, ◌+◌, ◌-◌, ◌≤◌, true, List, [], ◌∷◌, ◌++◌, Option, Some, None, map, length, refl, sym, ap, ◌∙◌, subst, arith, ⊎_elim, ◌⊎◌, inl, inr, string_bytes}
+use Rattle.std.proofs.Common.{
+  ◌≡◌,
+  ℕ,
+  zero,
+  suc,
+  ◌+◌,
+  ◌-◌,
+  ◌≤◌,
+  true,
+  List,
+  [],
+  ◌∷◌,
+  ◌++◌,
+  Option,
+  Some,
+  None,
+  map,
+  length,
+  refl,
+  sym,
+  ap,
+  ◌∙◌,
+  subst,
+  arith,
+  ⊎_elim,
+  ◌⊎◌,
+  inl,
+  inr,
+  string_bytes,
+}
 use Rattle.tabled_border.specs.declared.sides.Sides.{Sides}
 use Rattle.tabled_boxes.specs.declared.gaps.Gaps.{Gaps}
 use Rattle.tabled_boxes.specs.declared.pieces.Rectangle.{Rectangle}
@@ -132,7 +161,8 @@ row-behind g e b (c ∷ bs) t (t2, ts) u (u2, us) r x y p w h o k s =
     let ps = b.parts (left_part n r) in
     let bar = part_of Bar (left_part g.bar rest) [] in
     let qs = row_parts g c bs last in
-    let once : (v : ℕ) → (covering (ps ++ bar ∷ qs) v y ≤ 1) × (covering (bar ∷ qs) v y ≤ 1) = λ v. at-most ps qs bar r v y ((row_box-tiles g (b ∷ (c ∷ bs)) (u, (u2, us))).once r v y w h) in
+    let once : (v : ℕ) → (covering (ps ++ bar ∷ qs) v y ≤ 1) × (covering (bar ∷ qs) v y ≤ 1) = λ v. at-most ps qs bar r v y
+    ((row_box-tiles g (b ∷ (c ∷ bs)) (u, (u2, us))).once r v y w h) in
     ⊎_elim
     (λ a. ⊎_elim (λ i. inl i) (λ i. inr (before-first ps (bar ∷ qs) x y i)) (t.behind (left_part n r) x y p (omega arith) (omega arith) a k s))
     (λ a.
@@ -160,7 +190,8 @@ column-behind g b (c ∷ bs) t (t2, ts) u (u2, us) r x y p w h o k s =
     let ps = b.parts (top_part n r) in
     let rule = part_of Rule (top_part g.rule rest) [] in
     let qs = column_parts g c bs last in
-    let once : (v : ℕ) → (covering (ps ++ rule ∷ qs) v y ≤ 1) × (covering (rule ∷ qs) v y ≤ 1) = λ v. at-most ps qs rule r v y ((column_box-tiles g (b ∷ (c ∷ bs)) (u, (u2, us))).once r v y w h) in
+    let once : (v : ℕ) → (covering (ps ++ rule ∷ qs) v y ≤ 1) × (covering (rule ∷ qs) v y ≤ 1) = λ v. at-most ps qs rule r v y
+    ((column_box-tiles g (b ∷ (c ∷ bs)) (u, (u2, us))).once r v y w h) in
     ⊎_elim
     (λ a. ⊎_elim (λ i. inl i) (λ i. inr (before-first ps (rule ∷ qs) x y i)) (t.behind (top_part n r) x y p (omega arith) (omega arith) a k s))
     (λ a.

@@ -1,5 +1,29 @@
 -- A line is drawn by the parts near it.
-use Rattle.std.proofs.Common.{◌≡◌, ℕ, zero, suc, ◌+◌, ◌<◌, ◌≤◌, cond, Bool, true, false, List, [], ◌∷◌, Option, Some, None, unwrap_or, refl, sym, ◌∙◌, ap, arith}
+use Rattle.std.proofs.Common.{
+  ◌≡◌,
+  ℕ,
+  zero,
+  suc,
+  ◌+◌,
+  ◌<◌,
+  ◌≤◌,
+  cond,
+  Bool,
+  true,
+  false,
+  List,
+  [],
+  ◌∷◌,
+  Option,
+  Some,
+  None,
+  unwrap_or,
+  refl,
+  sym,
+  ◌∙◌,
+  ap,
+  arith,
+}
 use Rattle.std.specs.List.{flat_map, range_with_len}
 use Rattle.std.proofs.lemmas.Bool.Decides.{nat_tests}
 use Rattle.tabled_boxes.specs.declared.pieces.Rectangle.{Rectangle}

@@ -1,5 +1,29 @@
 -- The lines of a block, by their index.
-use Rattle.std.proofs.Common.{◌≡◌, ℕ, ◌+◌, ◌-◌, ◌<◌, ◌≤◌, ltb, if◌then◌else◌, List, [], ◌++◌, Some, None, length, map, replicate, get_or, slice_get, sym, ◌∙◌, ap, arith, ⊎_elim}
+use Rattle.std.proofs.Common.{
+  ◌≡◌,
+  ℕ,
+  ◌+◌,
+  ◌-◌,
+  ◌<◌,
+  ◌≤◌,
+  ltb,
+  if◌then◌else◌,
+  List,
+  [],
+  ◌++◌,
+  Some,
+  None,
+  length,
+  map,
+  replicate,
+  get_or,
+  slice_get,
+  sym,
+  ◌∙◌,
+  ap,
+  arith,
+  ⊎_elim,
+}
 use Rattle.std.proofs.lemmas.List.{get_or-append_right, get_or_append_left, get_or-map, get_or-replicate, length-map, length-replicate}
 use Rattle.std.proofs.lemmas.Option.{get_or_from_slice_get, slice_get_within, slice_get_cases}
 use Rattle.std.proofs.lemmas.Bool.{cases_lt}
@@ -56,7 +80,8 @@ padded : (s : CellStyle) (ms : Sides Mark) (w h : ℕ) (t : List ℕ) (k : ℕ) 
 unfolding pool_block
 padded s ms w h t k l m = behind _ [] _ k _ l ∙ behind _ [] _ _ _ m
 
-pub block-text : (s : CellStyle) (ms : Sides Mark) (w h : ℕ) (t : List ℕ) (k : ℕ) (line : List ℕ) → lines_above s h t ≤ k → s.padding.top.size ≤ k - lines_above s h t
+pub block-text : (s : CellStyle) (ms : Sides Mark) (w h : ℕ) (t : List ℕ) (k : ℕ) (line : List ℕ) → lines_above s h t ≤ k
+    → s.padding.top.size ≤ k - lines_above s h t
     → Some line ≡ slice_get (lines_of t) (k - lines_above s h t - s.padding.top.size) → get_or (pool_block s ms w h t) k [] ≡ text_line s ms w t line
 block-text s ms w h t k line l m e = padded s ms w h t k l m ∙ within_text (text_line s ms w t) (lines_of t) [] _ _ line e
 

@@ -4,7 +4,8 @@ use Rattle.tabled_extended.proofs.truncating.truncate_in_room.Goals as goal
 
 pub returns-in-Some-clause-ok : goal.returns-in-Some-clause-ok
 returns-in-Some-clause-ok c =
-    ok_in_some _ (IsTruncated c.args.suffix.now) c.args.room c.in-Some.columns c.in-Some.is c.args.row.now.items c.truncate_row.new.row.items c.truncate_row.ensures.ok
+    ok_in_some _ (IsTruncated c.args.suffix.now) c.args.room c.in-Some.columns c.in-Some.is
+    c.args.row.now.items c.truncate_row.new.row.items c.truncate_row.ensures.ok
 
 pub returns-in-Some-clause-err : goal.returns-in-Some-clause-err
 returns-in-Some-clause-err c =

@@ -33,7 +33,8 @@ returns-in_err-truncate_row-clause-err c =
     let many = row_texts-long rows in
     let was = row_texts-long c.args.rows.now.items in
     let there : c.rows.index < length new = omega (arith, long, was) in
-    let stop = so_far-stopped change (StopsInRecord c.args.suffix.now c.args.room) c.rows.index old new _ c.index_mut.result.now.items c.truncate_row.new.row.items
+    let stop = so_far-stopped change
+    (StopsInRecord c.args.suffix.now c.args.room) c.rows.index old new _ c.index_mut.result.now.items c.truncate_row.new.row.items
     c.rows.invariant there (row_texts-read rows c.rows.index c.index_mut.result.now (omega (arith, there, many)) c.index_mut.ensures.value)
     c.in_err-truncate_row.ensures.err (row_texts-set rows c.rows.index c.truncate_row.new.row) in
     err-with _ stop c.from_residual.ensures.0

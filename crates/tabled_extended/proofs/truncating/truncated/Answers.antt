@@ -19,7 +19,8 @@ pub returns-in_err-push_str-clause-err : goal.returns-in_err-push_str-clause-err
 returns-in_err-push_str-clause-err c =
     let piece = cow_str_bytes c.in_ok-cut.cut in
     let other : piece ≡ c.args.text.now → ⊥ =
-    λ e. false≢true (sym c.if-eq.false ∙ (slice_eq-Decides unsigned_Decides c.deref.result.now c.args.text.now c.eq.result c.eq.ensures).1 (c.deref.ensures.value ∙ e)) in
+    λ e. false≢true (sym c.if-eq.false ∙ (slice_eq-Decides unsigned_Decides c.deref.result.now c.args.text.now c.eq.result c.eq.ensures).1
+    (c.deref.ensures.value ∙ e)) in
     let some : 0 < length piece + length c.args.suffix.now =
     (let full = c.in_err-push_str.ensures.full in omega (arith, full, c.deref-2.ensures.len, c.new-answer.ensures.len)) in
     err-with _ (takes-left c.args.suffix.now c.args.room c.args.text.now piece c.utf8.text c.in_ok-cut.ensures.cut other some)
@@ -29,7 +30,8 @@ pub returns-in_err-push_str-2-clause-err : goal.returns-in_err-push_str-2-clause
 returns-in_err-push_str-2-clause-err c =
     let piece = cow_str_bytes c.in_ok-cut.cut in
     let other : piece ≡ c.args.text.now → ⊥ =
-    λ e. false≢true (sym c.if-eq.false ∙ (slice_eq-Decides unsigned_Decides c.deref.result.now c.args.text.now c.eq.result c.eq.ensures).1 (c.deref.ensures.value ∙ e)) in
+    λ e. false≢true (sym c.if-eq.false ∙ (slice_eq-Decides unsigned_Decides c.deref.result.now c.args.text.now c.eq.result c.eq.ensures).1
+    (c.deref.ensures.value ∙ e)) in
     let some : 0 < length piece + length c.args.suffix.now =
     (let full = c.in_err-push_str-2.ensures.full in
     let first = c.in_ok-push_str.ensures.len in omega (arith, full, first, c.deref-2.ensures.len, c.new-answer.ensures.len)) in
@@ -40,7 +42,8 @@ pub returns-clause-ok : goal.returns-clause-ok
 returns-clause-ok c =
     let piece = cow_str_bytes c.in_ok-cut.cut in
     let other : piece ≡ c.args.text.now → ⊥ =
-    λ e. false≢true (sym c.if-eq.false ∙ (slice_eq-Decides unsigned_Decides c.deref.result.now c.args.text.now c.eq.result c.eq.ensures).1 (c.deref.ensures.value ∙ e)) in
+    λ e. false≢true (sym c.if-eq.false ∙ (slice_eq-Decides unsigned_Decides c.deref.result.now c.args.text.now c.eq.result c.eq.ensures).1
+    (c.deref.ensures.value ∙ e)) in
     let first = c.in_ok-push_str.ensures.bytes ∙ ap (λ l. l ++ c.deref-2.result.now) c.new-answer.ensures.bytes ∙ c.deref-2.ensures.value in
     truncated_off c.args.suffix.now c.args.room c.args.text.now piece (string_bytes c.push_str-2.new.self) c.utf8.text c.in_ok-cut.ensures.cut other
     (c.in_ok-push_str-2.ensures.bytes ∙ ap (λ l. l ++ c.args.suffix.now) first)

@@ -9,7 +9,8 @@ use Rattle.tabled_pool.proofs.margins.put_inner_lines.Goals as goal
 pub returns-in_err-put_near_line : goal.returns-in_err-put_near_line
 returns-in_err-put_near_line g c =
     lines-stopped _ _ _ _ _ c.lines.invariant c.in_err-put_near_line.ensures c.from_residual.ensures.1
-    (map-rest (λ y. within_margin c.args.margin.now.indent (marks_of c.args.margin.now.colors) (drawn_line (plan_of c.args.drawing.now) y)) _ _ c.lines-test.true)
+    (map-rest (λ y. within_margin c.args.margin.now.indent (marks_of c.args.margin.now.colors)
+    (drawn_line (plan_of c.args.drawing.now) y)) _ _ c.lines-test.true)
 
 pub lines-preserved : goal.lines-preserved
 lines-preserved g c =
