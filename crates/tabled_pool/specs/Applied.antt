@@ -17,3 +17,9 @@ pub record IsApplied (changes : NoRecords → CompactMultilineConfig → PoolTab
 pub record WasOutOfRange (out_of_range : NoRecords → CompactMultilineConfig → PoolTableDimension → Type 0) (old : PoolTable) : Type 0 where
   pub before : NoRecords
   pub passed : out_of_range before old.config old.dimension
+
+-- the option was refused: it would leave some table, of the same texts
+pub record WasRefused (refuses : NoRecords → CompactMultilineConfig → PoolTableDimension → NoRecords
+    → CompactMultilineConfig → PoolTableDimension → Type 0) (old : PoolTable) : Type 0 where
+  pub left : PoolTable
+  pub refused : IsApplied refuses old left

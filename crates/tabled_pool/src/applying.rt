@@ -1,7 +1,7 @@
 //! Options of pool tables.
 ghost use Rattle.std.specs.Prelude.{◌≡◌, ◌⊎◌, IfErr, IfOk, OnOk};
 ghost use Rattle.tabled_base.specs.declared.error.TableError.TheVariants.{Memory, Range};
-ghost use Rattle.tabled_pool.specs.Applied.{IsApplied, WasOutOfRange};
+ghost use Rattle.tabled_pool.specs.Applied.{IsApplied, WasOutOfRange, WasRefused};
 
 use crate::pool_table::PoolTable;
 use tabled_base::{Entity, TableError, TableOption};
@@ -50,14 +50,15 @@ impl PoolTable {
         }
     }
 
-    /// Applies an option to the settings, and gives the table back. Refused for memory, and with `Range` where a
-    /// sum or product of the option passes the greatest `usize`. `apply` tells what a refusal leaves.
+    /// Applies an option to the settings, and gives the table back. Refused only as the option is: for memory, and with
+    /// `Range` where a sum or product of the option passes the greatest `usize`. `apply` tells what a refusal leaves.
     pub fn with<O: TableOption<NoRecords, CompactMultilineConfig, PoolTableDimension>>(
         &mut self,
         option: O,
     ) -> Result<&mut Self, TableError>
         ensures same_reference { IfOk result (λ table. table.ghost_name ≡ self.entry.ghost_name) }
         ensures ok { IfOk result (λ table. IsApplied (O.changes option) self.old table.now) }
+        ensures refused { IfErr result (λ e. WasRefused (O.refuses option e) self.old) }
         ensures only { IfErr result (λ e. (e ≡ Memory) ⊎ (e ≡ Range)) }
         ensures range { IfErr result (λ e. e ≡ Range → WasOutOfRange (O.out_of_range option) self.old) }
     {
