@@ -99,7 +99,7 @@ fn new_config() -> CompactMultilineConfig
 /// A table whose rows needn't have as many cells as one another, and whose boxes hold texts, rows or columns.
 ///
 /// How deep its value may be is bounded by the machine's stack, since printing, copying, comparing and dropping walk it
-/// level by level: 8 MiB held 20,000 levels when they were tried, and not 50,000. A deeper one ends the process.
+/// level by level: 8 MiB held 20,000 levels when they were tried, and not 30,000. A deeper one ends the process.
 #[derive(Debug, Drop, PartialEq, Eq, PartialOrd, Ord)]
 pub struct PoolTable {
     pub(crate) value: TableValue,
@@ -266,7 +266,7 @@ impl PoolTable {
     /// has no margin. Colours take no columns: runs of padding and of a margin stand between the marks of theirs, also
     /// where they are empty; along the top or bottom line of a text a colour is opened where none is used or another
     /// one is, and at the end of the line the first one is closed. The walk recurses as deep as the value goes: 8 MiB
-    /// of stack held 20,000 levels, and not 50,000. All texts and lines are looked through once for each line, and at
+    /// of stack held 20,000 levels, and not 30,000. All texts and lines are looked through once for each line, and at
     /// each of its places those near it; where there is no memory to gather these, all again. Refused with `Range`
     /// where the columns or the lines of the whole pass the greatest `usize`, and for memory, both before the first
     /// byte; else for what the sink refuses, and then a beginning went out.
