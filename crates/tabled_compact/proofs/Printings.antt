@@ -6,7 +6,7 @@ use Rattle.tabled_base.specs.declared.error.TableError.{TableError}
 use Rattle.tabled_row.specs.Sent.{Sent, Sends, Stops, Writes}
 use Rattle.tabled_row.proofs.Sending.{sends-along, sends-none}
 use Rattle.tabled_compact.specs.CompactCells.{CompactSheet}
-use Rattle.tabled_compact.specs.CompactLines.{compact_lines, compact_text}
+use Rattle.tabled_compact.specs.CompactLines.{compact_lines, compact_text, rows_text}
 use Rattle.tabled_compact.specs.Printed.{IsPrintable, IsPrinted, IsRefused, PrintsCompact}
 use Rattle.tabled_compact.specs.RowsPut.{PutsTable}
 use Rattle.tabled_compact.specs.Shown.{AreWanted, IsSpent, has_rows, in_window, shown, spanned, wanted}
@@ -60,8 +60,8 @@ all-wanted n w h = rw (has-columns n h) refl
 -- the table was put
 pub prints-table : {T : Type 0} (t : CompactSheet) (w : Window) (comes : List (List (List ℕ)) → Bool → Type 0) (a b : Sent) (r : Result T TableError)
     (rows : List (List (List ℕ))) (whole : Bool) → PutsTable t w a r b rows whole → (t.count ≡ 0 → ⊥) → IsPrintable t → comes rows whole
-    → comes rows false → PrintsCompact t w comes a r b
-prints-table t w comes a b (Ok x) rows whole put some fine came begun =
+    → PrintsCompact t w comes a r b
+prints-table t w comes a b (Ok x) rows whole put some fine came =
     let e = all-shown t.count w rows some in
     let o = all-wanted t.count w some in
     let P : Option ℕ → Type 0 = λ k. IfSome k (λ most. length rows ≤ most) in
@@ -75,17 +75,23 @@ prints-table t w comes a b (Ok x) rows whole put some fine came begun =
       printable = inr fine;
       sends = sends-along a b (compact_text t (in_window w rows)) (compact_text t (shown t.count w rows)) put.text (ap (compact_text t) (sym e));
     }
-prints-table t w comes a b (Err d) rows whole put some fine came begun =
+prints-table t w comes a b (Err d) rows whole put some fine came =
     let e = all-shown t.count w rows some in
     let o = all-wanted t.count w some in
     let P : Option ℕ → Type 0 = λ k. IfSome k (λ most. length rows ≤ most) in
-    let R : List (List (List ℕ)) → Type 0 = λ rs. Stops a d b (compact_text t rs) in
+    let Q : Option ℕ → Type 0 = λ k. (whole ≡ true) ⊎ (k ≡ Some (length rows)) in
+    let R : List (List (List ℕ)) → Type 0 = λ rs. Stops a d b (rows_text t rs) in
+    let S : List (List (List ℕ)) → Type 0 = λ rs. Stops a d b (compact_text t rs) in
     record {
       rows = rows;
-      came = begun;
+      whole = whole;
+      came = came;
       taken = subst P (sym o) put.taken;
       filled = ap has_rows e ∙ put.filled;
-      ends = inr (record { printable = fine; stops = subst R (sym e) put.text });
+      ends = inr (record {
+        printable = fine;
+        stops = ⊎_elim (λ s. inl (subst R (sym e) s)) (λ s. inr (subst Q (sym o) s.0, subst S (sym e) s.1)) put.text;
+      });
     }
 
 -- the table can't be printed
@@ -116,6 +122,7 @@ prints-refused t w comes a error (Err d) rows whole found some still cause came 
     let first = found.0 in
     record {
       rows = rows;
+      whole = false;
       came = begun;
       taken = subst P (sym o) (window-wanted w (length rows) still (omega (arith, first)));
       filled = ap has_rows e ∙ window-one w rows still found.0;
@@ -136,7 +143,8 @@ prints-as t w comes comes' a b (Ok x) so p = record {
 }
 prints-as t w comes comes' a b (Err e) so p = record {
   rows = p.rows;
-  came = so p.rows false p.came;
+  whole = p.whole;
+  came = so p.rows p.whole p.came;
   taken = p.taken;
   filled = p.filled;
   ends = p.ends;

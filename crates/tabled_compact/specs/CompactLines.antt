@@ -47,6 +47,10 @@ unfoldable pub rows_lines : CompactSheet → List (List (List ℕ)) → List (Li
 rows_lines t [] = []
 rows_lines t (row ∷ rows) = row_part t false row ++ flat_map (row_part t true) rows
 
+-- their text
+abbrev pub rows_text : CompactSheet → List (List (List ℕ)) → List ℕ
+rows_text t rows = join_with_byte 10 (rows_lines t rows)
+
 -- the lines of a table with these rows; without a row there are none
 unfoldable pub compact_lines : CompactSheet → List (List (List ℕ)) → List (List ℕ)
 compact_lines t [] = []

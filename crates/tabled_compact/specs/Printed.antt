@@ -1,10 +1,10 @@
 -- Which compact tables are printed, why others are refused, and what a call that prints leaves.
-use Rattle.std.specs.Prelude.{◌≡◌, ◌^◌, ◌<◌, ◌≤◌, ◌+◌, ◌⊎◌, ℕ, Bool, false, true, List, [], length, Result, Ok, Err}
+use Rattle.std.specs.Prelude.{◌≡◌, ◌^◌, ◌<◌, ◌≤◌, ◌+◌, ◌⊎◌, ℕ, Bool, true, List, [], length, Result, Ok, Err}
 use Rattle.tabled_base.specs.declared.error.TableError.{TableError}
 use Rattle.tabled_base.specs.declared.error.TableError.TheVariants.{Range, ShortWidths}
 use Rattle.tabled_row.specs.Sent.{Sent, Sends, Stops}
 use Rattle.tabled_compact.specs.CompactCells.{CompactSheet}
-use Rattle.tabled_compact.specs.CompactLines.{compact_text, compact_width}
+use Rattle.tabled_compact.specs.CompactLines.{compact_text, compact_width, rows_text}
 use Rattle.tabled_compact.specs.Shown.{AreEnough, AreWanted, has_rows, shown}
 use Rattle.tabled_compact.specs.declared.window.Window.{Window}
 
@@ -36,18 +36,21 @@ pub record IsRefusedEarly (t : CompactSheet) (w : Window) (rows : List (List (Li
   pub cause : IsRefused t error
   pub same : new ≡ old
 
--- the table can be printed, and the sink refused, with a beginning of the text of the rows that came added
-pub record IsStopped (t : CompactSheet) (w : Window) (rows : List (List (List ℕ))) (old : Sent) (error : TableError) (new : Sent) : Type 0 where
+-- the table can be printed, and the sink refused: a beginning was added of the lines of the rows that came; or of the text of the
+-- whole, where the source has no more rows or no more are wanted
+pub record IsStopped (t : CompactSheet) (w : Window) (rows : List (List (List ℕ))) (whole : Bool) (old : Sent) (error : TableError) (new : Sent) : Type 0 where
   pub printable : IsPrintable t
-  pub stops : Stops old error new (compact_text t (shown t.count w rows))
+  pub stops : Stops old error new (rows_text t (shown t.count w rows))
+      ⊎ (AreEnough t.count w rows whole × Stops old error new (compact_text t (shown t.count w rows)))
 
 -- on Err: a row is shown, and either of these
 pub record IsEnded (t : CompactSheet) (w : Window) (comes : List (List (List ℕ)) → Bool → Type 0) (old : Sent) (error : TableError) (new : Sent) : Type 0 where
   pub rows : List (List (List ℕ))
-  pub came : comes rows false
+  pub whole : Bool
+  pub came : comes rows whole
   pub taken : AreWanted t.count w rows
   pub filled : has_rows (shown t.count w rows) ≡ true
-  pub ends : IsRefusedEarly t w rows old error new ⊎ IsStopped t w rows old error new
+  pub ends : IsRefusedEarly t w rows old error new ⊎ IsStopped t w rows whole old error new
 
 -- what a call that prints a compact table leaves
 abbrev pub PrintsCompact : {T : Type 0} → CompactSheet → Window → (List (List (List ℕ)) → Bool → Type 0) → Sent → Result T TableError → Sent → Type 0

@@ -49,8 +49,7 @@ returns-in-Some g c =
     let table = rw (c.new-in-Some.ensures.columns, c.new-in-Some.ensures.window, ok) at put.3 in
     prints-table t c.args.window _ _ _ c.put_table.result (map (map text) put.0) put.1 table
     (λ e. omega (arith, some, e))
-    (record { sized = c.in-Ok.ensures.sized; in_range = subst P ok fits })
-    (put.0, put.2, refl) (put.0, some-begin _ _ _ _ _ put.0 put.1 put.2, refl)
+    (record { sized = c.in-Ok.ensures.sized; in_range = subst P ok fits }) (put.0, put.2, refl)
 
 pub returns-in-None : goal.returns-in-None
 returns-in-None g c =
