@@ -1,13 +1,13 @@
 #!/usr/bin/env python3
-"""Counts the steps and times the calls of the five priorities over 10, 100 and 1,000 columns.
+"""Counts the steps and times the calls of the five priorities over 10 to 10,000 columns.
 
 usage: priorities.py [FOLDER]
 
 A small program is written into FOLDER (else a temporary folder) beside copies of the crates, built with
 `rt run`, and its rows are printed: steps and median microseconds of shrinking and growing by 1, a million,
-10^12 and 10^15. A step is one visit of one column. Where the bodies are direct, both are flat in the amount.
+10^12 and 10^15. A step is one visit of one column.
 
-Sizes are random numbers of all magnitudes up to 10^15, minimums are 1.
+Sizes are random numbers of all magnitudes up to 10^15, hardly two of them equal; minimums are 1.
 """
 
 import collections
@@ -16,7 +16,7 @@ import subprocess
 
 import building
 
-CRATES = ("tabled_text", "tabled_base", "tabled_config", "tabled_size")
+CRATES = building.standing_on("tabled_priority")
 
 PROGRAM = """\
 //! Counts the steps and times the calls of the priorities.
@@ -25,7 +25,7 @@ ghost use Rattle.std.specs.Prelude.{◌≡◌, ◌+◌, ◌<◌, ◌^◌, IfOk, 
 
 use std::alloc::{AllocError, Global};
 use std::time::Instant;
-use tabled_size::{Peaker, Priority, Steps};
+use tabled_priority::{Peaker, Priority, Steps};
 
 const ROUNDS: usize = 5;
 
@@ -50,7 +50,8 @@ fn sizes(alloc: Global, count: usize) -> Result<Vec<usize>, AllocError>
     for place in 0..count {
         state = state.wrapping_mul(6364136223846793005).wrapping_add(1442695040888963407);
         let magnitude = state / 4294967296 % 50;
-        list[place] = 1 + 1_000_000_000_000_000 / (magnitude + 1) / (magnitude + 1) / (magnitude + 1);
+        let size = 1_000_000_000_000_000 / (magnitude + 1) / (magnitude + 1) / (magnitude + 1);
+        list[place] = 1 + size + state / 65536 % 1_000_000;
     }
     Ok(list)
 }
@@ -89,7 +90,7 @@ fn measure<P: Peaker + Copy>(
 }
 
 fn main(rt: HostRuntime) -> Result<(), anyhow::Error> {
-    for count in [10, 100, 1000] {
+    for count in [10, 100, 1000, 10_000] {
         for by in [1, 1_000_000, 1_000_000_000_000, 1_000_000_000_000_000] {
             measure(&rt, "none", Priority::none(), count, by)?;
             measure(&rt, "min", Priority::min(true), count, by)?;
@@ -137,12 +138,13 @@ def main():
     for row in run.stdout.decode().splitlines():
         name, call, count, by, visits, time, _moved = row.split()
         found[name, call, int(count), int(by)].append((int(visits), int(time)))
-    print(f"{'priority':14} {'columns':>7} {'amount':>18} {'steps':>9} {'of 8(c+1)(c+1)':>15} {'us':>9}")
+    print(f"{'priority':14} {'columns':>7} {'amount':>18} {'steps':>9} {'a column':>8} {'of 8(c+1)(c+1)':>15} {'us':>9}")
     for (name, call, count, by), rounds in sorted(found.items()):
         visits = rounds[0][0]
         bound = 8 * (count + 1) * (count + 1)
         time = statistics.median(time for _visits, time in rounds)
-        print(f"{name + ' ' + call:14} {count:7} {by:18,} {visits:9,} {visits / bound:15.2f} {time / 1000:9.1f}")
+        row = f"{name + ' ' + call:14} {count:7} {by:18,} {visits:9,} {visits / count:8.1f}"
+        print(f"{row} {visits / bound:15.2f} {time / 1000:9.1f}")
 
 
 main()

@@ -1,12 +1,12 @@
 -- A place that stays the named one loses or gains many at once.
-use Rattle.std.proofs.Common.{◌≡◌, ℕ, ◌+◌, ◌-◌, ◌<◌, ◌≤◌, Bool, List, slice_set, sym, ap, ◌∙◌, subst, arith, zero, suc}
+use Rattle.std.proofs.Common.{◌≡◌, ℕ, ◌+◌, ◌-◌, ◌<◌, ◌≤◌, List, slice_set, sym, ap, ◌∙◌, subst, arith, zero, suc}
 use Rattle.std.proofs.lemmas.List.{set-set, set-get_or}
 use Rattle.tabled_priority.specs.Permitted.{at, spare}
 use Rattle.tabled_priority.specs.Permitted.{lowered}
 use Rattle.tabled_priority.specs.Laws.Permitted.{IsLowered-lowered}
-use Rattle.tabled_priority.specs.Shrunk.{IsLeftShrunk, IsRightShrunk, IsMinShrunk}
-use Rattle.tabled_priority.specs.Laws.Shrunk.{IsLeftShrunk-step, IsRightShrunk-step, IsMinShrunk-step, before-le, before-lt}
-use Rattle.tabled_priority.specs.Peak.{IsLeftmost, IsRightmost, IsLeast}
+use Rattle.tabled_priority.specs.Shrunk.{IsLeftShrunk, IsRightShrunk}
+use Rattle.tabled_priority.specs.Laws.Shrunk.{IsLeftShrunk-step, IsRightShrunk-step}
+use Rattle.tabled_priority.specs.Peak.{IsLeftmost, IsRightmost}
 
 abbrev pub less : List ℕ → ℕ → ℕ → List ℕ
 less xs i d = slice_set xs i (at xs i - d)
@@ -47,19 +47,6 @@ rightmost_stays mins i xs n h =
     let here = l.here in
     record { above = omega arith; last = λ j lt. let e = l.there j (λ q. omega arith) in let f = n.last j lt in omega arith }
 
-least_stays : (right : Bool) (mins : List ℕ) (i : ℕ) (xs : List ℕ) → IsLeast right xs mins i → at mins i + 1 < at xs i
-    → IsLeast right (lowered xs i) mins i
-least_stays right mins i xs n h =
-    let l = IsLowered-lowered xs i (at mins i) n.above in
-    let here = l.here in
-    record {
-      above = omega arith;
-      first = λ j ne above.
-          let e = l.there j ne in
-          let le = before-le right (at xs i) (at xs j) i j (n.first j ne (omega arith)) in
-          before-lt right (at (lowered xs i) i) (at (lowered xs i) j) i j (omega arith);
-    }
-
 pub left_at_once : (mins : List ℕ) (i d : ℕ) (xs : List ℕ) (by : ℕ) (new : List ℕ) → IsLeftmost xs mins i
     → d ≤ spare xs mins i → IsLeftShrunk (less xs i d) mins by new → IsLeftShrunk xs mins (by + d) new
 left_at_once mins i d xs by new named fits rest =
@@ -71,9 +58,3 @@ pub right_at_once : (mins : List ℕ) (i d : ℕ) (xs : List ℕ) (by : ℕ) (ne
 right_at_once mins i d xs by new named fits rest =
     lowered_at_once (λ ys k. IsRightShrunk ys mins k new) (λ ys. IsRightmost ys mins i) mins i
     (λ ys k n _ r. IsRightShrunk-step ys mins i k new n r) (rightmost_stays mins i) d xs by named fits rest
-
-pub min_at_once : (right : Bool) (mins : List ℕ) (i d : ℕ) (xs : List ℕ) (by : ℕ) (new : List ℕ)
-    → IsLeast right xs mins i → d ≤ spare xs mins i → IsMinShrunk right (less xs i d) mins by new → IsMinShrunk right xs mins (by + d) new
-min_at_once right mins i d xs by new named fits rest =
-    lowered_at_once (λ ys k. IsMinShrunk right ys mins k new) (λ ys. IsLeast right ys mins i) mins i
-    (λ ys k n _ r. IsMinShrunk-step right ys mins i k new n r) (least_stays right mins i) d xs by named fits rest

@@ -2,12 +2,12 @@ pub mod AtOnce
 pub mod BestPlace
 pub mod Between
 pub mod Gains
+pub mod Givers
 pub mod Leveled
 pub mod Optimal
 pub mod Ramps
 pub mod Shares
 pub mod Spans
-pub mod Spares
 pub mod Sums
 pub mod Underway
 pub mod Visiting

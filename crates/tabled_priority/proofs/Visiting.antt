@@ -1,7 +1,6 @@
 -- Counts of visits.
-use Rattle.std.proofs.Common.{◌≡◌, ℕ, ◌+◌, ◌*◌, ◌≤◌, List, [], ◌∷◌, length, refl, sym, subst, arith, zero, suc}
+use Rattle.std.proofs.Common.{◌≡◌, ℕ, ◌+◌, ◌*◌, ◌≤◌, List, [], ◌∷◌, length, refl, arith, zero, suc}
 use Rattle.std.proofs.Math.ListN.{set}
-use Rattle.std.proofs.Math.Nat.{mul-le-mul_right, suc-mul}
 use Rattle.tabled_priority.specs.Visits.{changed, counted, IsBounded}
 
 pub changed-self : (xs : List ℕ) → changed xs xs ≡ 0
@@ -47,21 +46,7 @@ pub IsBounded-whole : (old new : List ℕ) (before after n : ℕ) → length old
     → n ≤ length old → IsBounded old new before after
 IsBounded-whole old new before after n a b c = IsBounded-pass old new before after (let z = changed-le old new in omega arith) (omega arith)
 
--- some turns of a pass and a visit, and another pass at most; without a turn nothing changed
-pub IsBounded-turns : (old new : List ℕ) (before after turns rest : ℕ) → turns ≤ length old → rest ≤ length old
-    → (turns ≡ 0 → new ≡ old) → after ≡ counted before (turns * (length old + 1) + rest) → IsBounded old new before after
-IsBounded-turns old new before after zero rest t r same e =
-    let z = changed-self old in
-    let n : changed old new ≡ 0 = subst (λ ys. changed old ys ≡ 0) (sym (same refl)) z in
-    IsBounded-from old new before after (0 * (length old + 1) + rest) (omega arith) (omega arith) (let s = square-le (length old) in omega arith)
-IsBounded-turns old new before after (suc n) rest t r same e =
-    let le = changed-le old new in
-    let m : suc n * length old ≤ length old * length old = mul-le-mul_right (length old) t in
-    let p = suc-mul n (length old) in
-    let q = suc-mul n (length old + 1) in
-    IsBounded-from old new before after (suc n * (length old + 1) + rest) (omega arith) (omega arith) (omega arith)
-
--- a whole pass, and passes for the levels, the span and the shares
+-- a whole pass, and passes for the levels or sizes that are tried, the span and the shares
 pub IsBounded-passes : (old new : List ℕ) (before first after : ℕ) → first ≡ counted before (length old) → first ≤ after
     → after ≤ counted first (length old * (4 * length old + 1) + 6 * length old) → IsBounded old new before after
 IsBounded-passes old new before first after a b c =

@@ -6,5 +6,6 @@ pub mod Peak
 pub mod Permitted
 pub mod Schedule
 pub mod Shrunk
+pub mod Spares
 pub mod Sums
 pub mod Visits

@@ -14,7 +14,9 @@ mod priority;
 mod reach;
 mod right;
 mod schedule;
+mod search;
 mod span;
+mod spares;
 mod spread;
 mod steps;
 

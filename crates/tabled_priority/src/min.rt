@@ -17,6 +17,7 @@ use crate::peaker::{Peaker, TakesAll};
 use crate::reach::reach;
 use crate::schedule::{Schedule, total_amount};
 use crate::span::side_span;
+use crate::spares::{Spares, last_giver, take};
 use crate::spread::raise;
 use crate::steps::Steps;
 
@@ -93,20 +94,13 @@ impl Peaker for PriorityMin {
         ensures steps { steps.old.count ≤ steps.new.count }
         ensures visits { IsBounded values.old values.new steps.old.count steps.new.count }
     {
-        let mut left = by;
-        for _turn in 0..values.len() {
-            if left == 0 {
-                break;
-            }
-            let Some(place) = least(self.right, mins, values, steps) else {
-                break;
-            };
-            let column = visit(mins, values, place, steps);
-            let taken = column.spare().min(left);
-            values[place] = column.value - taken;
-            left -= taken;
+        let wanted = by.min(total_amount(Schedule::Rounds, mins, values, usize::MAX, steps));
+        if wanted == 0 {
+            return 0;
         }
-        by - left
+        let giver = last_giver(&Spares { mins, values }, self.right, wanted, steps);
+        take(self.right, mins, values, giver, steps);
+        wanted
     }
 
     fn grow(&mut self, values: &mut [usize], by: usize, steps: &mut Steps) -> usize

@@ -4,6 +4,7 @@ ghost use Rattle.tabled_priority.specs.Schedule.{total_amount, first_level, last
 ghost use Rattle.tabled_priority.specs.Visits.{counted};
 
 use crate::schedule::{Schedule, count_open, total_amount, visit_ramp};
+use crate::search::{Bracket, Levels, halved};
 use crate::steps::Steps;
 
 /// The highest level up to which less is taken than is wanted, and the rest that is wanted.
@@ -13,85 +14,27 @@ pub(crate) struct Reached {
     pub(crate) rest: usize,
 }
 
-/// A level up to which less is taken than is wanted, and one up to which enough is.
+/// Columns that take one a level, each from a level of its own to another.
 #[derive(Clone, Copy)]
-struct Bracket {
-    base: usize,
-    ceiling: usize,
+struct Ramps<'a> {
+    kind: Schedule,
+    mins: &'a [usize],
+    values: &'a [usize],
 }
 
-/// The bracket with a level in place of its base or its ceiling, if the level is between these.
-fn narrowed(
-    kind: Schedule,
-    mins: &[usize],
-    values: &[usize],
-    wanted: usize,
-    bracket: Bracket,
-    level: usize,
-    steps: &mut Steps,
-) -> Bracket
-    requires base { total_amount (first_level kind values.now mins.now) (last_level kind values.now mins.now) (length values.now) bracket.base < wanted }
-    requires ceiling { wanted ≤ total_amount (first_level kind values.now mins.now) (last_level kind values.now mins.now)
-        (length values.now) bracket.ceiling }
-    ensures higher { bracket.base ≤ result.base }
-    ensures below { total_amount (first_level kind values.now mins.now) (last_level kind values.now mins.now) (length values.now) result.base < wanted }
-    ensures enough { wanted ≤ total_amount (first_level kind values.now mins.now) (last_level kind values.now mins.now)
-        (length values.now) result.ceiling }
-    ensures tried { result.base < level → wanted ≤ total_amount (first_level kind values.now mins.now)
-        (last_level kind values.now mins.now) (length values.now) level }
-    ensures fewest { steps.old.count ≤ steps.new.count }
-    ensures most { steps.new.count ≤ counted steps.old.count (length values.now) }
-{
-    if level <= bracket.base || level >= bracket.ceiling {
-        return bracket;
-    }
-    if total_amount(kind, mins, values, level, steps) < wanted {
-        Bracket {
-            base: level,
-            ceiling: bracket.ceiling,
-        }
-    } else {
-        Bracket {
-            base: bracket.base,
-            ceiling: level,
-        }
-    }
-}
+impl Levels for Ramps<'_> {
+    ghost total = { λ s level. total_amount (first_level s.kind s.values.now s.mins.now) (last_level s.kind s.values.now s.mins.now)
+        (length s.values.now) level };
 
-/// The bracket with a level in place of its base or its ceiling, if the level is between these, once it was halved. So whatever
-/// levels are asked for, only 64 of them are tried.
-fn halved(
-    kind: Schedule,
-    mins: &[usize],
-    values: &[usize],
-    wanted: usize,
-    bracket: Bracket,
-    level: usize,
-    steps: &mut Steps,
-) -> Bracket
-    requires base { total_amount (first_level kind values.now mins.now) (last_level kind values.now mins.now) (length values.now) bracket.base < wanted }
-    requires ceiling { wanted ≤ total_amount (first_level kind values.now mins.now) (last_level kind values.now mins.now)
-        (length values.now) bracket.ceiling }
-    ensures higher { bracket.base ≤ result.base }
-    ensures below { total_amount (first_level kind values.now mins.now) (last_level kind values.now mins.now) (length values.now) result.base < wanted }
-    ensures enough { wanted ≤ total_amount (first_level kind values.now mins.now) (last_level kind values.now mins.now)
-        (length values.now) result.ceiling }
-    ensures tried { result.base < level → wanted ≤ total_amount (first_level kind values.now mins.now)
-        (last_level kind values.now mins.now) (length values.now) level }
-    ensures fewest { steps.old.count ≤ steps.new.count }
-    ensures most { steps.new.count ≤ counted steps.old.count (2 * length values.now) }
-{
-    if level <= bracket.base || level >= bracket.ceiling {
-        return narrowed(kind, mins, values, wanted, bracket, level, steps);
+    ghost columns = { λ s. length s.values.now };
+
+    fn total(&self, level: usize, steps: &mut Steps) -> usize {
+        total_amount(self.kind, self.mins, self.values, level, steps)
     }
-    let middle = bracket.base + (bracket.ceiling - bracket.base) / 2;
-    let half = narrowed(kind, mins, values, wanted, bracket, middle, steps);
-    narrowed(kind, mins, values, wanted, half, level, steps)
 }
 
 /// The highest of the levels at which columns start and end that takes less than is wanted, or 0. Only levels between those that
-/// are known to take too little and enough are tried, so that equal ones are tried once, and each of these levels is halved
-/// towards first, so that many different ones are tried no more than 64 times.
+/// are known to take too little and enough are tried.
 fn find_base(
     kind: Schedule,
     mins: &[usize],
@@ -106,14 +49,15 @@ fn find_base(
     ensures fewest { steps.old.count ≤ steps.new.count }
     ensures most { steps.new.count ≤ counted steps.old.count (length values.now * (4 * length values.now + 1)) }
 {
+    let ramps = Ramps { kind, mins, values };
     let mut bracket = Bracket {
         base: 0,
         ceiling: usize::MAX,
     };
     for place in 0..values.len() {
         let ramp = visit_ramp(kind, mins, values, place, steps);
-        bracket = halved(kind, mins, values, wanted, bracket, ramp.from, steps);
-        bracket = halved(kind, mins, values, wanted, bracket, ramp.to, steps);
+        bracket = halved(&ramps, wanted, bracket, ramp.from, steps);
+        bracket = halved(&ramps, wanted, bracket, ramp.to, steps);
     }
     bracket.base
 }

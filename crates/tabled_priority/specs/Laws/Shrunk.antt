@@ -248,7 +248,7 @@ taken-step xs mins i by h = let s = spare_total-lowered xs mins i h in omega ari
 abbrev pub before : Bool → ℕ → ℕ → ℕ → ℕ → Bool
 before right x y i j = nat_lt x y || ((x == y) && (if right then nat_lt j i else nat_lt i j))
 
-before-asym : (right : Bool) (x y i j : ℕ) → before right x y i j ≡ true → before right y x j i ≡ true → ⊥
+pub before-asym : (right : Bool) (x y i j : ℕ) → before right x y i j ≡ true → before right y x j i ≡ true → ⊥
 before-asym true x y i j a b = grind (arith, nat_tests)
 before-asym false x y i j a b = grind (arith, nat_tests)
 
@@ -259,7 +259,7 @@ before-le false x y i j a = grind (arith, nat_tests)
 pub before-lt : (right : Bool) (x y i j : ℕ) → x < y → before right x y i j ≡ true
 before-lt right x y i j h = ap (λ b. b || ((x == y) && (if right then nat_lt j i else nat_lt i j))) (lt-ltb x y h)
 
-before-irrefl : (right : Bool) (x i : ℕ) → before right x x i i ≡ true → ⊥
+pub before-irrefl : (right : Bool) (x i : ℕ) → before right x x i i ≡ true → ⊥
 before-irrefl right x i h = before-asym right x x i i h h
 
 pub IsMinShrunk-none : (right : Bool) (xs mins : List ℕ) → IsMinShrunk right xs mins 0 xs

@@ -1,6 +1,6 @@
 use Rattle.std.proofs.Common.{arith, length}
 use Rattle.tabled_priority.specs.Schedule.{first_level, last_level}
-use Rattle.tabled_priority.proofs.Ramps.{total_amount-zero}
+use Rattle.tabled_priority.proofs.Ramps.{total_amount-le, total_amount-zero}
 use Rattle.tabled_priority.proofs.reach.find_base.Goals as goal
 
 pub loop-place-init : goal.loop-place-init
@@ -8,3 +8,19 @@ loop-place-init c =
     let z = total_amount-zero (first_level c.args.kind c.args.values.now c.args.mins.now)
     (last_level c.args.kind c.args.values.now c.args.mins.now) (length c.args.values.now) in
     record { below = omega arith; enough = c.requires.enough; starts = λ i h. absurd (omega arith); ends = λ i h. absurd (omega arith); fewest = omega arith; most = omega arith }
+
+-- each level above the base is the ceiling, or above it, so it takes enough
+pub returns-clause-base : goal.returns-clause-base
+returns-clause-base c =
+    let from = first_level c.args.kind c.args.values.now c.args.mins.now in
+    let to = last_level c.args.kind c.args.values.now c.args.mins.now in
+    let n = length c.args.values.now in
+    let ceiling = c.loop-place.bracket.ceiling in
+    let enough = c.loop-place.invariant.enough in
+    record {
+      below = c.loop-place.invariant.below;
+      starts = λ i inside above.
+          let le = total_amount-le from to n ceiling (from i) (c.loop-place.invariant.starts i (omega arith) above) in omega arith;
+      ends = λ i inside above.
+          let le = total_amount-le from to n ceiling (to i) (c.loop-place.invariant.ends i (omega arith) above) in omega arith;
+    }

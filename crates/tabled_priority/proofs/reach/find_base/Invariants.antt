@@ -7,12 +7,8 @@ abbrev pub invariant-loop-place : goal.invariant-loop-place
 invariant-loop-place l = record {
   below : total_amount (first_level l.kind l.values l.mins) (last_level l.kind l.values l.mins) (length l.values) l.bracket.base < l.wanted;
   enough : l.wanted ≤ total_amount (first_level l.kind l.values l.mins) (last_level l.kind l.values l.mins) (length l.values) l.bracket.ceiling;
-  starts : (i : ℕ) → i < l.place → l.bracket.base < first_level l.kind l.values l.mins i
-      → l.wanted ≤ total_amount (first_level l.kind l.values l.mins) (last_level l.kind l.values l.mins) (length l.values)
-      (first_level l.kind l.values l.mins i);
-  ends : (i : ℕ) → i < l.place → l.bracket.base < last_level l.kind l.values l.mins i
-      → l.wanted ≤ total_amount (first_level l.kind l.values l.mins) (last_level l.kind l.values l.mins) (length l.values)
-      (last_level l.kind l.values l.mins i);
+  starts : (i : ℕ) → i < l.place → l.bracket.base < first_level l.kind l.values l.mins i → l.bracket.ceiling ≤ first_level l.kind l.values l.mins i;
+  ends : (i : ℕ) → i < l.place → l.bracket.base < last_level l.kind l.values l.mins i → l.bracket.ceiling ≤ last_level l.kind l.values l.mins i;
   fewest : l.fn.steps.count ≤ l.steps.count;
   most : l.steps.count ≤ counted l.fn.steps.count (l.place * (4 * length l.values + 1));
 }
