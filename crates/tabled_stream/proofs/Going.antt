@@ -6,9 +6,10 @@ use Rattle.tabled_row.specs.Sent.{Sent}
 use Rattle.tabled_stream.specs.declared.layout.Layout.{Layout}
 use Rattle.tabled_stream.specs.declared.settings.Settings.{Settings}
 use Rattle.tabled_stream.specs.Progress.{AreFurther, EndsSheet, FinishesBehind, FinishesMore, HasPut, IsLimited, IsPermitted, left_of}
-use Rattle.tabled_stream.specs.Reading.{Reads, ReadsOn, ReadsTo}
+use Rattle.tabled_views.specs.Reading.{Reads, ReadsTo}
+use Rattle.tabled_stream.specs.Reading.{ReadsOn}
 use Rattle.tabled_stream.specs.Streams.{stream_total}
-use Rattle.tabled_stream.proofs.RowsRead.{reads-both}
+use Rattle.tabled_views.proofs.RowsRead.{reads-both}
 
 none-permitted : (left : Option ℕ) → IsPermitted left 0
 none-permitted None = tt

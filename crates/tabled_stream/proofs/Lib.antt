@@ -9,7 +9,6 @@ pub mod NextPut
 pub mod Parts
 pub mod RowsAfter
 pub mod RowsPut
-pub mod RowsRead
 pub mod SameSheet
 pub mod Slices
 pub mod Sources

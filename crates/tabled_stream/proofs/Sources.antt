@@ -4,7 +4,7 @@ use Rattle.std.specs.declared.option.Option.{Option}
 use Rattle.std.specs.Iterator.{Count}
 use Rattle.tabled_base.specs.Laws.{whole_rows}
 use Rattle.tabled_base.specs.RowsGiven.{RowsBegin, RowsEnd, RowsGiven}
-use Rattle.tabled_stream.specs.Reading.{MayGive, ReadsTo}
+use Rattle.tabled_views.specs.Reading.{MayGive, ReadsTo}
 
 module _ {V S W T : Type 0} {rows_become : V → S → Type 0} {can_row : S → Type 0} {row_steps : S → Option W → S → Type 0} {rows_left : S → Count}
     {cells_become : W → T → Type 0} {can_cell : T → Type 0} {cells_left : T → Count} where

@@ -3,12 +3,12 @@ ghost use Rattle.std.specs.Prelude.{◌≡◌, IfErr, IfOk, map, true};
 ghost use Rattle.tabled_base.specs.declared.error.TableError.TheVariants.{Memory};
 ghost use Rattle.tabled_base.specs.RowsGiven.{RowsEnd, RowsGiven};
 ghost use Rattle.tabled_stream.specs.NewTable.{IsNewConfig, new_settings};
-ghost use Rattle.tabled_stream.specs.Reading.{MayGive, ReadsTo};
+ghost use Rattle.tabled_views.specs.Reading.{MayGive, ReadsTo};
 
-use crate::reading::next_cells;
 use crate::table::IterTable;
 use std::alloc::Global;
 use tabled_base::{CellText, IntoRecords, TableError};
+use tabled_views::reading::next_cells;
 
 /// All rows that come.
 fn collect_rows<I: Iterator<Item = W>, W: IntoIterator<Item = C>, C: Drop>(

@@ -4,7 +4,7 @@ ghost use Rattle.tabled_base.specs.Cells.{texts_of};
 ghost use Rattle.tabled_config.specs.declared.compact.CompactConfig.{CompactConfig};
 ghost use Rattle.tabled_row.specs.Sent.{Sent};
 ghost use Rattle.tabled_stream.specs.Progress.{FinishesMore, Halts, HasPut, IsLaidOut, IsPermitted};
-ghost use Rattle.tabled_stream.specs.Reading.{MayGive, ReadsTo};
+ghost use Rattle.tabled_views.specs.Reading.{MayGive, ReadsTo};
 ghost use Rattle.tabled_stream.specs.Streams.{stream_total};
 
 use crate::record::Stream;

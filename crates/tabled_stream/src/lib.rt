@@ -14,7 +14,6 @@ mod lay_out;
 mod layout;
 mod print;
 mod printing;
-mod reading;
 mod record;
 mod settings;
 mod sniff;

@@ -4,15 +4,15 @@ ghost use Rattle.tabled_base.specs.Cells.{texts_of};
 ghost use Rattle.tabled_config.specs.declared.compact.CompactConfig.{CompactConfig};
 ghost use Rattle.tabled_row.specs.Sent.{Sent};
 ghost use Rattle.tabled_stream.specs.Progress.{Halts, HaltsMore, HasPut, HasPutMore, IsLimited, IsPermitted, PutsNext, PutsRows};
-ghost use Rattle.tabled_stream.specs.Reading.{MayGive, Reads, ReadsTo};
+ghost use Rattle.tabled_views.specs.Reading.{MayGive, Reads, ReadsTo};
 
-use crate::reading::next_cells;
 use crate::record::Stream;
 use crate::settings::Settings;
 use crate::sniff::content_height;
 use std::alloc::Global;
 use tabled_base::{CellText, TableError};
 use tabled_row::TextSink;
+use tabled_views::reading::next_cells;
 
 /// One row fewer that may be printed.
 fn one_fewer(left: Option<usize>) -> Option<usize>

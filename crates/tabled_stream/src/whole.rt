@@ -4,14 +4,14 @@ ghost use Rattle.tabled_base.specs.Cells.{texts_of};
 ghost use Rattle.tabled_base.specs.RowsGiven.{RowsBegin, RowsEnd};
 ghost use Rattle.tabled_config.specs.declared.compact.CompactConfig.{CompactConfig};
 ghost use Rattle.tabled_stream.specs.Progress.{AreFirst, AreFurther, FinishesBehind, IsLaidOut, left_of};
-ghost use Rattle.tabled_stream.specs.Reading.{MayGive, ReadsOn, ReadsTo};
+ghost use Rattle.tabled_views.specs.Reading.{MayGive, ReadsTo};
+ghost use Rattle.tabled_stream.specs.Reading.{ReadsOn};
 ghost use Rattle.tabled_stream.specs.Streamed.{limited, sniffed};
 ghost use Rattle.tabled_stream.specs.Streams.{ArePermitted, Came, PrintsStream, Streams, stream_total};
 
 use crate::columns::LentColumns;
 use crate::lay_out::{count_columns, make_plan};
 use crate::print::is_none_left;
-use crate::reading::{Taken, take_rows};
 use crate::record::Stream;
 use crate::settings::{Settings, ahead};
 use crate::take::{fewer, first_rows, up_to};
@@ -19,6 +19,7 @@ use std::alloc::Global;
 use tabled_base::{CellText, TableError};
 use tabled_config::CompactConfig;
 use tabled_row::TextSink;
+use tabled_views::reading::{Taken, take_rows};
 
 impl<'a> Stream<'a> {
     /// What stands behind the rows that were taken first: those that come, unless these were all, and what stands below the

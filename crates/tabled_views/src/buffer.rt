@@ -3,7 +3,7 @@ ghost use Rattle.std.specs.Prelude.{◌≡◌, ◌<◌, ◌≤◌, List, Bool, l
 ghost use Rattle.tabled_base.specs.declared.error.TableError.TheVariants.{Memory};
 ghost use Rattle.tabled_views.specs.Buffered.{BufBegin, MayGiveLater, buf_cell_steps, buf_steps, can_cell, cells_ahead, cells_left, rows_left};
 
-use crate::read_ahead::take_rows;
+use crate::reading::take_rows;
 use std::alloc::Global;
 use std::vec;
 use tabled_base::{IntoRecords, TableError};

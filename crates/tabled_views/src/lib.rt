@@ -7,7 +7,7 @@ mod empty;
 mod iter_records;
 mod limit_columns;
 mod limit_rows;
-mod read_ahead;
+pub mod reading;
 mod skip_rows;
 mod truncate;
 mod walk;

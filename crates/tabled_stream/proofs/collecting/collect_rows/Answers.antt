@@ -1,5 +1,5 @@
 use Rattle.std.proofs.lemmas.List.{map-append}
-use Rattle.tabled_stream.proofs.RowsRead.{reads-both}
+use Rattle.tabled_views.proofs.RowsRead.{reads-both}
 use Rattle.tabled_stream.proofs.collecting.collect_rows.Goals as goal
 
 pub rows-preserved : goal.rows-preserved

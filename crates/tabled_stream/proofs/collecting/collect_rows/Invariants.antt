@@ -1,6 +1,6 @@
 use Rattle.std.proofs.Common.{map}
 use Rattle.std.specs.Iterator.{size}
-use Rattle.tabled_stream.specs.Reading.{MayGive, Reads}
+use Rattle.tabled_views.specs.Reading.{MayGive, Reads}
 use Rattle.tabled_stream.proofs.collecting.collect_rows.Given as goal
 
 abbrev pub invariant-rows : goal.invariant-rows

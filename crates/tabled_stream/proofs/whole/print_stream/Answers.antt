@@ -4,7 +4,7 @@ use Rattle.tabled_base.specs.Cells.{texts_of}
 use Rattle.tabled_stream.specs.Streams.{ArePermitted, Streams}
 use Rattle.tabled_stream.proofs.Finished.{unread}
 use Rattle.tabled_stream.proofs.FirstRows.{none-permitted}
-use Rattle.tabled_stream.proofs.RowsRead.{reads-none, reads-open}
+use Rattle.tabled_views.proofs.RowsRead.{reads-none, reads-open}
 use Rattle.tabled_stream.proofs.Slices.{given-texts}
 use Rattle.tabled_stream.proofs.whole.print_stream.Goals as goal
 

@@ -2,7 +2,7 @@ use Rattle.std.proofs.Common.{◌≡◌, length, map, false, sym, subst}
 use Rattle.std.proofs.lemmas.List.{length-map}
 use Rattle.tabled_stream.specs.Progress.{IsLimited}
 use Rattle.tabled_stream.proofs.Endings.{finishes-halting, finishes-ending, limited-permitted}
-use Rattle.tabled_stream.proofs.RowsRead.{reads-open}
+use Rattle.tabled_views.proofs.RowsRead.{reads-open}
 use Rattle.tabled_stream.proofs.record.Stream.put_others.Goals as goal
 
 pub returns-in_err-put_rest : goal.returns-in_err-put_rest

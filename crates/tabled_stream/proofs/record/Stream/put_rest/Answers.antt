@@ -1,6 +1,6 @@
 use Rattle.std.proofs.Common.{◌≡◌, ◌+◌, ◌++◌, ◌∷◌, [], length, map, refl, sym, ap, ◌∙◌, arith, length-append}
 use Rattle.std.proofs.lemmas.List.{map-append}
-use Rattle.tabled_stream.proofs.RowsRead.{reads-both, reads-none}
+use Rattle.tabled_views.proofs.RowsRead.{reads-both, reads-none}
 use Rattle.tabled_stream.proofs.RowsAfter.{err-as, left-first, left-next, left-permitted, more-halts, more-next, more-none, more-refused, permitted-next}
 use Rattle.tabled_stream.proofs.record.Stream.put_rest.Goals as goal
 

@@ -1,7 +1,7 @@
 use Rattle.std.proofs.Common.{◌≡◌, ◌-◌, ◌≤◌, List, length, map, MatchOption, Some, None}
 use Rattle.std.specs.Iterator.{size}
 use Rattle.tabled_stream.specs.Progress.{HasPutMore}
-use Rattle.tabled_stream.specs.Reading.{MayGive, Reads}
+use Rattle.tabled_views.specs.Reading.{MayGive, Reads}
 use Rattle.tabled_stream.proofs.record.Stream.put_rest.Given as goal
 
 abbrev pub invariant-rows : goal.invariant-rows

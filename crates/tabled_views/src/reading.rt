@@ -25,8 +25,8 @@ fn collect_cells<I: IntoIterator<Item = C>, C: Drop>(
     Ok(row)
 }
 
-/// The cells of the next row, if one comes.
-fn next_cells<I: Iterator<Item = W>, W: IntoIterator<Item = C>, C: Drop>(
+/// The cells of the next row, if one comes. Refused only for memory.
+pub fn next_cells<I: Iterator<Item = W>, W: IntoIterator<Item = C>, C: Drop>(
     alloc: Global,
     rows: &mut I,
 ) -> Result<Option<Vec<C>>, TableError>
@@ -46,15 +46,15 @@ fn next_cells<I: Iterator<Item = W>, W: IntoIterator<Item = C>, C: Drop>(
 
 /// Rows that were read, and whether these are all.
 #[derive(Drop)]
-pub(crate) struct Taken<C> {
+pub struct Taken<C> {
     /// The cells of each row.
     pub rows: Vec<Vec<C>>,
     /// Whether no more rows come.
     pub whole: bool,
 }
 
-/// The first rows, as many as are wanted, or all where fewer come.
-pub(crate) fn take_rows<I: Iterator<Item = W>, W: IntoIterator<Item = C>, C: Drop>(
+/// The first rows, as many as are wanted, or all where fewer come. Refused only for memory, and not where none is wanted.
+pub fn take_rows<I: Iterator<Item = W>, W: IntoIterator<Item = C>, C: Drop>(
     alloc: Global,
     rows: &mut I,
     count: usize,

@@ -1,7 +1,7 @@
 use Rattle.std.proofs.Common.{[], ◌∷◌, length, ap, arith, length-append}
 use Rattle.std.proofs.lemmas.List.{map-append}
-use Rattle.tabled_stream.proofs.RowsRead.{reads-both}
-use Rattle.tabled_stream.proofs.reading.take_rows.Goals as goal
+use Rattle.tabled_views.proofs.RowsRead.{reads-both}
+use Rattle.tabled_views.proofs.reading.take_rows.Goals as goal
 
 pub rows-preserved : goal.rows-preserved
 rows-preserved g c =

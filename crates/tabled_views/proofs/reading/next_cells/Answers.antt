@@ -1,5 +1,5 @@
-use Rattle.tabled_stream.proofs.RowsRead.{may-cells, may-step, reads-one}
-use Rattle.tabled_stream.proofs.reading.next_cells.Goals as goal
+use Rattle.tabled_views.proofs.RowsRead.{may-cells, may-step, reads-one}
+use Rattle.tabled_views.proofs.reading.next_cells.Goals as goal
 
 pub collect_cells-requires : goal.collect_cells-requires
 collect_cells-requires g c = may-cells c.requires c.in-Some.ensures.steps

@@ -1,6 +1,6 @@
 use Rattle.std.proofs.Common.{◌-◌, ◌≤◌, length, map}
 use Rattle.tabled_views.specs.Reading.{MayGive, Reads}
-use Rattle.tabled_views.proofs.read_ahead.take_rows.Given as goal
+use Rattle.tabled_views.proofs.reading.take_rows.Given as goal
 
 abbrev pub invariant-rows : goal.invariant-rows
 invariant-rows g l = record {
