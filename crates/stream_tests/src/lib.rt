@@ -2,6 +2,8 @@
 #![tactic(auto)]
 
 #[cfg(test)]
+mod growths;
+#[cfg(test)]
 mod pictures;
 #[cfg(test)]
 mod reading;

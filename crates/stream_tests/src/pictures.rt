@@ -66,12 +66,14 @@ const ONE_COLUMN: &str = "\
 +---+";
 
 const STYLED: &str = "\
-+++++++++
-  ┌─┬─┐##
-  │a│ │##
-  ├─┼─┤##
-  │b│c│##
-  └─┴─┘##";
++++++++++++
+  ┌─┬───┐##
+  │a│   │##
+  ├─┼───┤##
+  │b│  c│##
+  ├─┼───┤##
+  │c│ddd│##
+  └─┴───┘##";
 
 fn two() -> [[&'static str; 2]; 2] {
     [["First", "row"], ["Second", "row"]]
@@ -215,7 +217,7 @@ fn options_set_the_configuration(rt: HostRuntime) -> Result<(), Fail> {
             Indent::new(1, '+'),
             Indent::zero(),
         ));
-    let mut table = IterTable::new([["a", ""], ["b", "c"]]);
+    let mut table = IterTable::new([["a", ""], ["b", "c"], ["c", "ddd"]]);
     table.with(config)?.with(Style::modern())?;
     let text = table.to_string(rt.alloc())?;
     assert_eq!(rt; text.as_str(), STYLED);
