@@ -25,7 +25,8 @@ pub rows_lines-more : (t : CompactSheet) (rows : List (List (List ℕ))) (row : 
 rows_lines-more t rows row zero = one-more t rows row
 rows_lines-more t rows row (suc k) = rw (not-zero k) (ap (rows_lines t) (append-nil rows) ∙ sym (append-nil (rows_lines t rows)))
 
-pub has_rows-more : {A : Type 0} (rows : List A) (row : A) (k : ℕ) → has_rows (rows ++ (if k == 0 then row ∷ [] else [])) ≡ (if k == 0 then true else has_rows rows)
+pub has_rows-more : {A : Type 0} (rows : List A) (row : A) (k : ℕ)
+    → has_rows (rows ++ (if k == 0 then row ∷ [] else [])) ≡ (if k == 0 then true else has_rows rows)
 has_rows-more [] row zero = refl
 has_rows-more [] row (suc k) = rw (not-zero k) refl
 has_rows-more (x ∷ rows) row zero = refl

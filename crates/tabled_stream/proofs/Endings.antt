@@ -18,7 +18,8 @@ pub halts-top : {settings : Settings} {config : CompactConfig} {ahead_rows : Lis
     → HaltsWithin settings config ahead_rows [] start count e new → Halts settings config ahead_rows [] start count e new
 halts-top h = record { shown = []; rest = []; parts = refl; halts = inr (refl, h) }
 
-module _ {R : Type 0} {layout : Layout} {first begun : Bool} {old new : Sent} (limit : Option ℕ) (lines total : ℕ) (whole : Bool) (more : List (List (List ℕ))) (r : Result R TableError) where
+module _ {R : Type 0} {layout : Layout} {first begun : Bool} {old new : Sent} (limit : Option ℕ) (lines total : ℕ) (whole : Bool)
+    (more : List (List (List ℕ))) (r : Result R TableError) where
   pub finishes-halting : (e : TableError) → IsErrAnd r (λ d. d ≡ e) → HaltsMore lines more layout first old begun e new
       → FinishesMore limit lines total whole more layout first old begun r new
   finishes-halting e i halts settings config ahead_rows shown start a l s w t p =

@@ -1,5 +1,6 @@
 -- What a stream leaves, put together of what its parts left.
-use Rattle.std.proofs.Common.{◌≡◌, ◌⊎◌, ℕ, ◌<◌, ◌≤◌, ◌^◌, Bool, true, false, List, [], ◌∷◌, ◌++◌, length, max, take, drop, Option, Some, None, Result, Ok, Err, refl, sym, ◌∙◌, ap, subst, arith, inl, inr, ⊎_elim, append-nil, append_assoc, length-append}
+use Rattle.std.proofs.Common.{◌≡◌, ◌⊎◌, ℕ, ◌<◌, ◌≤◌, ◌^◌, Bool, true, false, List, [], ◌∷◌, ◌++◌, length, max, take, drop, Option, Some, None, Result}
+use Rattle.std.proofs.Common.{Ok, Err, refl, sym, ◌∙◌, ap, subst, arith, inl, inr, ⊎_elim, append-nil, append_assoc, length-append}
 use Rattle.std.specs.List.{slice_index}
 use Rattle.std.specs.Result.{IsErrAnd}
 use Rattle.std.proofs.lemmas.List.{take-append-drop}
@@ -82,7 +83,8 @@ err-streams (Ok x) e i h = absurd i
 err-streams {settings = settings} {config} {rows} {whole} {old} {new} (Err d) e i h =
     let P : TableError → Type 0 = λ d. StreamStops settings config rows whole old d new in subst P (sym i) h
 
-reached : (limit : Option ℕ) (kept more : List (List (List ℕ))) → IsLimited (left_of limit (length kept)) (length more) false → reaches limit (length (kept ++ more))
+reached : (limit : Option ℕ) (kept more : List (List (List ℕ))) → IsLimited (left_of limit (length kept)) (length more) false
+    → reaches limit (length (kept ++ more))
 reached None kept more h = let never = h in absurd (cc)
 reached (Some n) kept more h = let l = h.1 refl in omega (arith, length-append kept more)
 
@@ -105,7 +107,8 @@ whole-stream {settings} {config} {rows} {some} p w h =
     }
 
 -- the end was printed, or refused there
-ended : {R : Type 0} {settings : Settings} {config : CompactConfig} (rows : List (List (List ℕ))) {some : List (List (List ℕ))} {whole : Bool} {old new : Sent} (r : Result R TableError)
+ended : {R : Type 0} {settings : Settings} {config : CompactConfig}
+    (rows : List (List (List ℕ))) {some : List (List (List ℕ))} {whole : Bool} {old new : Sent} (r : Result R TableError)
     → AreEnough settings rows whole → limited settings.rows rows ≡ some → stream_total settings config (sniffed settings rows) < 2 ^ 64
     → EndsSheet settings config (sniffed settings rows) some old r new → Streams settings config rows whole old r new
 ended rows (Ok x) enough p w h = record { enough = enough; sheet = h.sheet; streamed = whole-stream p w h; sends = h.writes }
@@ -127,16 +130,19 @@ module _ {settings : Settings} {config : CompactConfig} {kept : List (List (List
       (omega arith) (sniffed-first all f) c w h
 
   -- it went on behind them
-  pub finished : {R : Type 0} (r : Result R TableError) (more : List (List (List ℕ))) (whole : Bool) → AreFurther settings.rows (length kept) all (length more) whole
+  pub finished : {R : Type 0} (r : Result R TableError) (more : List (List (List ℕ))) (whole : Bool)
+      → AreFurther settings.rows (length kept) all (length more) whole
       → (IsLimited (left_of settings.rows (length kept)) (length more) whole
       × EndsSheet settings config (sniffed settings kept) (limited settings.rows kept ++ more) old r new)
-      ⊎ IsErrAnd r (λ e. Halts settings config (sniffed settings kept) (limited settings.rows kept ++ more) old (column_count settings (sniffed settings kept)) e new)
+      ⊎ IsErrAnd r (λ e. Halts settings config (sniffed settings kept) (limited settings.rows kept ++ more) old
+      (column_count settings (sniffed settings kept)) e new)
       → Streams settings config (kept ++ more) whole old r new
   finished r more whole g (inl h) =
       let read = read-more f more whole g in
       let W : List (List (List ℕ)) → Type 0 = λ a. stream_total settings config a < 2 ^ 64 in
       let E : List (List (List ℕ)) → Type 0 = λ a. EndsSheet settings config a (limited settings.rows kept ++ more) old r new in
-      ended (kept ++ more) r (enough-by settings kept more whole read.1 h.0) (limited-more settings.rows kept more g.permitted) (subst W (sym read.0) w) (subst E (sym read.0) h.1)
+      ended (kept ++ more) r (enough-by settings kept more whole read.1 h.0) (limited-more settings.rows kept more g.permitted)
+      (subst W (sym read.0) w) (subst E (sym read.0) h.1)
   finished (Ok x) more whole g (inr h) = absurd h
   finished (Err e) more whole g (inr h) =
       let read = read-more f more whole g in
@@ -169,7 +175,8 @@ module _ {settings : Settings} {config : CompactConfig} {kept : List (List (List
       let laid = subst (λ rows. H (column_count settings (sniffed settings kept)) rows) s (subst (λ k. H k shown) l.count h.1) in
       subst P (sym (append-nil kept)) (err-streams r e i (halted-first f (some-columns kept l some t b) (in-range kept l some t b) h.0 laid))
 
-  pub put-finished : {R : Type 0} (r : Result R TableError) (more : List (List (List ℕ))) (whole : Bool) (items count : ℕ) → items ≡ length kept → count ≡ length more
+  pub put-finished : {R : Type 0} (r : Result R TableError) (more : List (List (List ℕ))) (whole : Bool) (items count : ℕ) → items ≡ length kept
+      → count ≡ length more
       → AreFurther settings.rows items all count whole
       → (IsLimited (left_of settings.rows items) (length more) whole
       × EndsSheet settings config (sniffed settings kept) (limited settings.rows kept ++ more) old r new)
@@ -185,7 +192,8 @@ module _ {settings : Settings} {config : CompactConfig} {kept : List (List (List
       (subst (λ c. Q (length kept) c) l.count (subst (λ k. Q k layout.count) i h))
 
 -- nothing was printed, since the whole is too wide or memory was refused
-pub unplanned : {R : Type 0} {settings : Settings} (config : CompactConfig) {kept : List (List (List ℕ))} {all : Bool} (old : Sent) (r : Result R TableError) (e : TableError)
+pub unplanned : {R : Type 0} {settings : Settings} (config : CompactConfig) {kept : List (List (List ℕ))} {all : Bool} (old : Sent)
+    (r : Result R TableError) (e : TableError)
     → AreFirst settings kept all → 0 < column_count settings (sniffed settings kept) → 0 < length (limited settings.rows kept) → IsErrAnd r (λ d. d ≡ e)
     → ((e ≡ Range) × (2 ^ 64 ≤ stream_total settings config (sniffed settings kept))) ⊎ (e ≡ Memory)
     → Streams settings config (kept ++ []) all old r old

@@ -1,5 +1,6 @@
 -- What is measured of rows, cell by cell and row by row.
-use Rattle.std.proofs.Common.{◌≡◌, ℕ, zero, suc, ◌+◌, ◌<◌, ◌≤◌, List, [], ◌∷◌, ◌++◌, length, map, max, min, take, refl, sym, ◌∙◌, ap, arith, get_or, ◌≢◌, below_more, ⊎_elim}
+use Rattle.std.proofs.Common.{◌≡◌, ℕ, zero, suc, ◌+◌, ◌<◌, ◌≤◌, List, [], ◌∷◌, ◌++◌, length, map, max, min, take, refl, sym, ◌∙◌, ap, arith, get_or}
+use Rattle.std.proofs.Common.{◌≢◌, below_more, ⊎_elim}
 use Rattle.std.proofs.lemmas.Bool.{cases_lt}
 use Rattle.std.proofs.lemmas.List.{get_or-map, length-map, map-append, take_more}
 use Rattle.std.specs.declared.alloc.Global.{Global}
@@ -30,7 +31,8 @@ take-min (suc n) (x ∷ xs) =
 
 -- a row further: what its cells' texts are
 module _ {T : Type 0} (text : T → List ℕ) where
-  pub row-at : (rows : List (Vec T Global)) (k : ℕ) (row : Vec T Global) → k < length rows → row ≡ get_or rows k row → get_or (texts_of text rows) k [] ≡ map text row.items
+  pub row-at : (rows : List (Vec T Global)) (k : ℕ) (row : Vec T Global) → k < length rows → row ≡ get_or rows k row
+      → get_or (texts_of text rows) k [] ≡ map text row.items
   row-at rows k row h e = get_or-map (λ r. map text r.items) rows k row [] h ∙ ap (λ r. map text r.items) (sym e)
 
   pub longest-next : (rows : List (Vec T Global)) (k columns : ℕ) (row : Vec T Global) → k < length rows → row ≡ get_or rows k row

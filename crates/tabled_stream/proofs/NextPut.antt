@@ -1,5 +1,6 @@
 -- The next row of a stream is printed, or refused.
-use Rattle.std.proofs.Common.{◌≡◌, ◌⊎◌, ℕ, ◌+◌, ◌<◌, ◌≤◌, ◌^◌, Bool, false, List, [], ◌∷◌, ◌++◌, length, Result, Ok, Err, OnOk, refl, sym, ◌∙◌, ap, subst, arith, append-nil, inl, inr}
+use Rattle.std.proofs.Common.{◌≡◌, ◌⊎◌, ℕ, ◌+◌, ◌<◌, ◌≤◌, ◌^◌, Bool, false, List, [], ◌∷◌, ◌++◌, length, Result, Ok, Err, OnOk, refl, sym, ◌∙◌, ap}
+use Rattle.std.proofs.Common.{subst, arith, append-nil, inl, inr}
 use Rattle.tabled_base.specs.declared.error.TableError.{TableError}
 use Rattle.tabled_base.specs.declared.error.TableError.TheVariants.{Memory, Range}
 use Rattle.tabled_config.specs.declared.compact.CompactConfig.{CompactConfig}
@@ -16,7 +17,8 @@ use Rattle.tabled_stream.proofs.Steps.{put-more, put-stopped}
 abbrev pub padded : Layout → ℕ → ℕ
 padded layout lines = lines + (layout.style.padding.top.size + layout.style.padding.bottom.size)
 
-module _ {settings : Settings} {config : CompactConfig} {ahead_rows shown : List (List (List ℕ))} {layout : Layout} {start old : Sent} {first begun : Bool} where
+module _ {settings : Settings} {config : CompactConfig} {ahead_rows shown : List (List (List ℕ))} {layout : Layout} {start old : Sent}
+    {first begun : Bool} where
   -- the height of the next row
   padded-is : (row : List (List ℕ)) (lines : ℕ) → HasPut settings config ahead_rows shown start layout first old begun
       → lines ≡ content_height settings ahead_rows (length shown) row → padded layout lines ≡ stream_height settings config ahead_rows (length shown) row
@@ -46,7 +48,8 @@ module _ {settings : Settings} {config : CompactConfig} {ahead_rows shown : List
     halts = inl (record { sheet = p.sheet; in_reach = p.in_reach; begun = begun; sends = p.sends; taken = omega arith; cause = inr m });
   }
 
-pub next-put : {R : Type 0} (r : Result R TableError) (layout : Layout) (first first' begun begun' : Bool) (old new : Sent) (height lines : ℕ) (row : List (List ℕ))
+pub next-put : {R : Type 0} (r : Result R TableError) (layout : Layout) (first first' begun begun' : Bool) (old new : Sent) (height lines : ℕ)
+    (row : List (List ℕ))
     → Puts layout (rule_of layout first) height row old begun r new begun' → OnOk r (first' ≡ false) → height ≡ padded layout lines → height < 2 ^ 64
     → PutsNext lines row layout first old begun r first' new begun'
 next-put (Ok x) layout first first' begun begun' old new height lines row q f e b settings config ahead_rows shown start p h =

@@ -1,5 +1,6 @@
 -- The rows of a streamed table, as they are laid out.
-use Rattle.std.proofs.Common.{◌≡◌, ℕ, zero, suc, ◌+◌, ◌==◌, ◌<◌, true, false, if◌then◌else◌, List, [], ◌∷◌, ◌++◌, length, map, max, Option, refl, sym, ◌∙◌, ap, arith, get_or}
+use Rattle.std.proofs.Common.{◌≡◌, ℕ, zero, suc, ◌+◌, ◌==◌, ◌<◌, true, false, if◌then◌else◌, List, [], ◌∷◌, ◌++◌, length, map, max, Option, refl, sym}
+use Rattle.std.proofs.Common.{◌∙◌, ap, arith, get_or}
 use Rattle.std.specs.List.{flat_map, range_with_len, slice_index, slice_index_or}
 use Rattle.std.proofs.lemmas.Bool.Decides.{nat_tests}
 use Rattle.tabled_base.specs.Cells.{cell_at, columns}
@@ -64,7 +65,8 @@ style-everywhere config row = refl
 part-of : ColumnSheet → Option HorizontalLine → ℕ → (ℕ → List ℕ) → (ℕ → CellStyle) → List (List ℕ)
 part-of sheet line height text style = rule_if sheet line ++ row_lines (record { columns = sheet; height = height; text = text; style = style })
 
-part-is : (t : Sheet) (k : ℕ) → row_part t k ≡ part-of (columns_of t) (rule_at t.config (length t.cells) k) (slice_index t.heights k) (cell_at t.cells k) (style_at t.config k)
+part-is : (t : Sheet) (k : ℕ)
+    → row_part t k ≡ part-of (columns_of t) (rule_at t.config (length t.cells) k) (slice_index t.heights k) (cell_at t.cells k) (style_at t.config k)
 unfolding row_part rule part-of
 part-is t k = refl
 
@@ -77,7 +79,8 @@ widths-laid {settings} {config} {ahead_rows} {layout} l =
 
 module _ {settings : Settings} {config : CompactConfig} {ahead_rows rows : List (List (List ℕ))} {layout : Layout} {t : Sheet} where
   -- the columns of a table with a row
-  pub columns-laid : IsLaidOut settings config ahead_rows layout → IsStreamed settings config ahead_rows rows t → 0 < length rows → columns_of t ≡ layout_columns layout
+  pub columns-laid : IsLaidOut settings config ahead_rows layout → IsStreamed settings config ahead_rows rows t → 0 < length rows
+      → columns_of t ≡ layout_columns layout
   columns-laid l s h =
       let wide : columns t.cells ≡ layout.count =
       columns-first t.cells

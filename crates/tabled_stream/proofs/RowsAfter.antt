@@ -1,5 +1,7 @@
 -- Rows that are printed one after another.
-use Rattle.std.proofs.Common.{◌≡◌, ℕ, ◌+◌, ◌-◌, ◌<◌, ◌≤◌, ◌||◌, Bool, true, false, not, nat_lt, if◌then◌else◌, List, [], ◌∷◌, ◌++◌, is_some, unwrap_or, length, take, Option, Some, None, Result, Ok, Err, IfErr, MatchOption, MatchResult, ⊎_elim, append-nil, refl, sym, ◌∙◌, ap, subst, arith, get_or, append_assoc, length-append}
+use Rattle.std.proofs.Common.{◌≡◌, ℕ, ◌+◌, ◌-◌, ◌<◌, ◌≤◌, ◌||◌, Bool, true, false, not, nat_lt, if◌then◌else◌, List, [], ◌∷◌, ◌++◌, is_some}
+use Rattle.std.proofs.Common.{unwrap_or, length, take, Option, Some, None, Result, Ok, Err, IfErr, MatchOption, MatchResult, ⊎_elim, append-nil, refl}
+use Rattle.std.proofs.Common.{sym, ◌∙◌, ap, subst, arith, get_or, append_assoc, length-append}
 use Rattle.std.specs.Result.{IsErrAnd}
 use Rattle.std.proofs.lemmas.Bool.{cases_lt}
 use Rattle.std.proofs.lemmas.Bool.Decides.{nat_tests}
@@ -30,7 +32,8 @@ kept-next {settings = settings} {config} {ahead_rows} {start} texts k lines row 
     let lines_are : lines ≡ content_height settings ahead_rows (length (take k texts)) row =
     l ∙ ap (λ b. unwrap_or settings.height (if is_some settings.width || not b then 1 else tallest layout.count row)) a
     ∙ ap (λ n. unwrap_or settings.height (if is_some settings.width || not (nat_lt n (length ahead_rows)) then 1 else tallest layout.count row)) (sym many)
-    ∙ ap (λ n. unwrap_or settings.height (if is_some settings.width || not (nat_lt (length (take k texts)) (length ahead_rows)) then 1 else tallest n row)) p.laid.count in
+    ∙ ap (λ n. unwrap_or settings.height
+    (if is_some settings.width || not (nat_lt (length (take k texts)) (length ahead_rows)) then 1 else tallest n row)) p.laid.count in
     let P : List (List (List ℕ)) → Type 0 = λ rows. PutsRows settings config ahead_rows rows start layout r first' new begun' in
     subst P (sym whole) (next settings config ahead_rows (take k texts) start p lines_are)
 
@@ -59,7 +62,8 @@ module _ {layout : Layout} {lines : ℕ} {more : List (List (List ℕ))} {first 
       (next settings config ahead_rows (shown ++ more) start (so_far settings config ahead_rows shown start a l p)
       (later-height settings ahead_rows (length (shown ++ more)) lines row (omega (arith, length-append shown more)) l))
 
-  pub more-halts : (row : List (List ℕ)) (first'' begun'' : Bool) (new : Sent) (error : TableError) → HasPutMore lines more layout first old begun first' mid begun'
+  pub more-halts : (row : List (List ℕ)) (first'' begun'' : Bool) (new : Sent) (error : TableError)
+      → HasPutMore lines more layout first old begun first' mid begun'
       → PutsNext {R = Unit {0}} lines row layout first' mid begun' (Err error) first'' new begun''
       → HaltsMore lines (more ++ row ∷ []) layout first old begun error new
   more-halts row first'' begun'' new error so_far next settings config ahead_rows shown start a l p =
@@ -111,8 +115,11 @@ gone left next e h = let P : Option ℕ → Type 0 = λ o. MatchOption o (next �
 pub left-next : (limit left next : Option ℕ) (count more : ℕ) → IsLeft limit left count → (left ≡ Some 0 → ⊥)
     → MatchOption left (next ≡ None) (λ n. next ≡ Some (n - 1)) → more ≡ count + 1 → IsLeft limit next more
 left-next None left next count more h going f m = gone left next h f
-left-next (Some n) left next count more h going f m =
-    (fewer left next (n - count) h.0 f ∙ ap Some (let e : n - count - 1 ≡ n - more = omega arith in e), (let w = below-limit left n count h.0 h.1 going in omega arith))
+left-next (Some n) left next count more h going f m = (
+  fewer left next (n - count) h.0 f
+      ∙ ap Some (let e : n - count - 1 ≡ n - more = omega arith in e),
+  (let w = below-limit left n count h.0 h.1 going in omega arith),
+)
 
 pub left-reached : (limit left : Option ℕ) (count : ℕ) → IsLeft limit left count → left ≡ Some 0 → IsLimited limit count false
 left-reached None left count h e = let never = h in absurd (cc)

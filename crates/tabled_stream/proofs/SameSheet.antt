@@ -1,5 +1,7 @@
 -- A streamed table that is like a `Table` is the table with estimated sizes.
-use Rattle.std.proofs.Common.{◌≡◌, ℕ, zero, suc, ◌+◌, ◌-◌, ◌<◌, ◌≤◌, ◌&&◌, ◌||◌, Bool, true, false, not, nat_lt, if◌then◌else◌, List, [], ◌++◌, is_some, unwrap_or, length, map, max, take, replicate, Result, Ok, Err, OnOk, inl, inr, refl, sym, ◌∙◌, ap, subst, arith, append-nil, get_or}
+use Rattle.std.proofs.Common.{◌≡◌, ℕ, zero, suc, ◌+◌, ◌-◌, ◌<◌, ◌≤◌, ◌&&◌, ◌||◌, Bool, true, false, not, nat_lt, if◌then◌else◌, List, [], ◌++◌}
+use Rattle.std.proofs.Common.{is_some, unwrap_or, length, map, max, take, replicate, Result, Ok, Err, OnOk, inl, inr, refl, sym, ◌∙◌, ap, subst}
+use Rattle.std.proofs.Common.{arith, append-nil, get_or}
 use Rattle.std.specs.List.{range_with_len, slice_index}
 use Rattle.std.proofs.lemmas.Bool.Decides.{nat_tests}
 use Rattle.std.proofs.lemmas.List.{ext_get_or, take_all}
@@ -19,14 +21,16 @@ use Rattle.tabled_stream.specs.LikeTable.{IsExactLine, IsLikeTable, PrintsLikeTa
 use Rattle.tabled_stream.specs.Streams.{AreEnough, PrintsStream, reaches}
 use Rattle.tabled_grid.specs.Picture.{table_text}
 use Rattle.tabled_row.specs.Sent.{Sent, Sends}
-use Rattle.tabled_stream.specs.Streamed.{IsCutRow, IsStreamed, column_count, content_width, limited, sniffed, stream_height, stream_width, stream_widths, tallest, widest}
+use Rattle.tabled_stream.specs.Streamed.{IsCutRow, IsStreamed, column_count, content_width, limited, sniffed, stream_height, stream_width}
+use Rattle.tabled_stream.specs.Streamed.{stream_widths, tallest, widest}
 use Rattle.tabled_stream.proofs.ExactLines.{exact-kept}
 use Rattle.tabled_stream.proofs.Measures.{greatest-next}
 
 -- ---- lists
 
 -- the greatest of what a function makes of a list, by its places
-greatest-listed : {A : Type 0} (f : A → ℕ) (xs : List A) (d : A) (n : ℕ) → n ≤ length xs → greatest_below (λ k. f (get_or xs k d)) n ≡ greatest (map f (take n xs))
+greatest-listed : {A : Type 0} (f : A → ℕ) (xs : List A) (d : A) (n : ℕ) → n ≤ length xs
+    → greatest_below (λ k. f (get_or xs k d)) n ≡ greatest (map f (take n xs))
 greatest-listed f xs d zero h = refl
 greatest-listed f xs d (suc n) h =
     let e : suc n ≡ n + 1 = omega arith in
@@ -40,7 +44,8 @@ greatest-added f s zero = greatest_more (λ k. f k + s) zero ∙ (let e = greate
 greatest-added f s (suc n) =
     let e : suc n ≡ n + 1 = omega arith in
     let F : ℕ → ℕ = λ k. f k + s in
-    let before : greatest_below F (suc n) ≡ greatest_below f (suc n) + s = ap (greatest_below F) e ∙ greatest-added f s n ∙ ap (λ m. greatest_below f m + s) (sym e) in
+    let before : greatest_below F (suc n) ≡ greatest_below f (suc n) + s = ap (greatest_below F) e ∙ greatest-added f s n
+    ∙ ap (λ m. greatest_below f m + s) (sym e) in
     let here = greatest_more F (suc n) in
     let there = greatest_more f (suc n) in
     omega arith
@@ -109,7 +114,8 @@ module _ {settings : Settings} {rows : List (List (List ℕ))} (a : IsLikeTable 
       let many = c.as_many in
       let same : c.cut ≡ row =
       ext_get_or [] c.cut row (omega arith)
-      (λ k l. exact-kept (content_width settings rows k) (get_or row k []) (get_or c.cut k []) (cell-exact index k b (omega arith)) (cell-room index k b) (c.each k l)) in
+      (λ k l. exact-kept (content_width settings rows k) (get_or row k []) (get_or c.cut k []) (cell-exact index k b (omega arith))
+      (cell-room index k b) (c.each k l)) in
       let none : column_count settings rows - length c.cut ≡ 0 = omega arith in
       c.whole ∙ ap (λ n. c.cut ++ replicate n []) none ∙ append-nil c.cut ∙ same
 
@@ -122,11 +128,13 @@ module _ {settings : Settings} {rows : List (List (List ℕ))} (a : IsLikeTable 
         let g : ℕ → ℕ = λ k. f (get_or rows k []) in
         let width = measured-width column in
         let place = by-place f in
-        let whole : greatest_below (λ k. g k + (config.padding.left.size + config.padding.right.size)) (length rows) ≡ greatest_below g (length rows) + (config.padding.left.size + config.padding.right.size) =
+        let whole : greatest_below (λ k. g k + (config.padding.left.size + config.padding.right.size)) (length rows)
+        ≡ greatest_below g (length rows) + (config.padding.left.size + config.padding.right.size) =
         ap (greatest_below (λ k. g k + (config.padding.left.size + config.padding.right.size))) (sym fewer-rows)
         ∙ greatest-added g (config.padding.left.size + config.padding.right.size) (length rows - 1)
         ∙ ap (λ n. greatest_below g n + (config.padding.left.size + config.padding.right.size)) fewer-rows in
-        (let e : content_width settings rows column + (config.padding.left.size + config.padding.right.size) ≡ greatest_below g (length rows) + (config.padding.left.size + config.padding.right.size) = omega arith in e)
+        (let e : content_width settings rows column + (config.padding.left.size + config.padding.right.size)
+        ≡ greatest_below g (length rows) + (config.padding.left.size + config.padding.right.size) = omega arith in e)
         ∙ sym whole in
         ap (λ n. map (stream_width settings config rows) (range_with_len 0 n)) counted-columns
         ∙ mapped_same (stream_width settings config rows) (column_width rows (spanned_of_compact config)) (columns rows) (λ k _. each k)
@@ -143,7 +151,8 @@ module _ {settings : Settings} {rows : List (List (List ℕ))} (a : IsLikeTable 
         let one : greatest_below (λ k. f (get_or row k [])) (columns rows - 1 + 1) ≡ 1 =
         greatest-same (λ k. f (get_or row k [])) 1 (columns rows - 1) (λ k l. (cell-exact index k b (omega arith)).one) in
         let n : columns rows - 1 + 1 ≡ columns rows = omega arith in
-        ap (λ m. max 1 (greatest (map f (take m row)))) counted-columns ∙ ap (λ m. max 1 m) (sym listed ∙ ap (greatest_below (λ k. f (get_or row k []))) (sym n) ∙ one)
+        ap (λ m. max 1 (greatest (map f (take m row)))) counted-columns
+        ∙ ap (λ m. max 1 m) (sym listed ∙ ap (greatest_below (λ k. f (get_or row k []))) (sym n) ∙ one)
 
     height-same : (index : ℕ) → index < length rows
         → stream_height settings config rows index (get_or rows index []) ≡ row_height rows (spanned_of_compact config) index
@@ -176,13 +185,15 @@ module _ {settings : Settings} {rows : List (List (List ℕ))} (a : IsLikeTable 
     same-sheet : (t : Sheet) → IsStreamed settings config rows rows t → t ≡ estimated rows (spanned_of_compact config)
     same-sheet t s =
         let cells : t.cells ≡ rows =
-        ext_get_or [] t.cells rows s.as_many (λ k l. row-kept k (get_or t.cells k []) (let m = s.as_many in omega arith) (s.cells k (let m = s.as_many in omega arith))) in
+        ext_get_or [] t.cells rows s.as_many
+        (λ k l. row-kept k (get_or t.cells k []) (let m = s.as_many in omega arith) (s.cells k (let m = s.as_many in omega arith))) in
         let F : List (List (List ℕ)) → SpannedConfig → List ℕ → List ℕ → Sheet = λ c g w h. record { cells = c; config = g; widths = w; heights = h } in
         ap (λ c. F c t.config t.widths t.heights) cells ∙ ap (λ g. F rows g t.widths t.heights) s.settings_of
         ∙ ap (λ w. F rows (spanned_of_compact config) w t.heights) (s.widths ∙ widths-same)
         ∙ ap (λ h. F rows (spanned_of_compact config) (estimated_widths rows (spanned_of_compact config)) h) (heights-same t.heights s.as_high s.heights)
 
-    pub like_table : (t : Sheet) → IsStreamed settings config (sniffed settings rows) (limited settings.rows rows) t → t ≡ estimated rows (spanned_of_compact config)
+    pub like_table : (t : Sheet) → IsStreamed settings config (sniffed settings rows) (limited settings.rows rows) t
+        → t ≡ estimated rows (spanned_of_compact config)
     like_table t s =
         let P : List (List (List ℕ)) → List (List (List ℕ)) → Type 0 = λ x y. IsStreamed settings config x y t in
         same-sheet t (subst (λ x. P x rows) all-sniffed (subst (λ y. P (sniffed settings rows) y) all-shown s))

@@ -1,5 +1,6 @@
 -- A table that is printed, one row further.
-use Rattle.std.proofs.Common.{◌≡◌, ℕ, ◌+◌, ◌==◌, ◌<◌, ◌^◌, Bool, false, List, [], ◌∷◌, ◌++◌, length, min, replicate, Err, refl, sym, ◌∙◌, ap, subst, arith, get_or, append_assoc, length-append}
+use Rattle.std.proofs.Common.{◌≡◌, ℕ, ◌+◌, ◌==◌, ◌<◌, ◌^◌, Bool, false, List, [], ◌∷◌, ◌++◌, length, min, replicate, Err, refl, sym, ◌∙◌, ap, subst}
+use Rattle.std.proofs.Common.{arith, get_or, append_assoc, length-append}
 use Rattle.std.specs.List.{flat_map, range_with_len, slice_index}
 use Rattle.tabled_text.specs.Cut.{IsCut}
 use Rattle.tabled_base.specs.Cells.{lengthened}

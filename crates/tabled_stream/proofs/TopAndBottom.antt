@@ -1,5 +1,6 @@
 -- The ends of a table that is printed row by row.
-use Rattle.std.proofs.Common.{◌≡◌, ℕ, ◌==◌, ◌<◌, ◌||◌, if◌then◌else◌, Bool, true, false, List, [], ◌++◌, length, replicate, Result, Ok, Err, MatchResult, refl, sym, ◌∙◌, ap, subst, arith, append-nil, append_assoc}
+use Rattle.std.proofs.Common.{◌≡◌, ℕ, ◌==◌, ◌<◌, ◌||◌, if◌then◌else◌, Bool, true, false, List, [], ◌++◌, length, replicate, Result, Ok, Err}
+use Rattle.std.proofs.Common.{MatchResult, refl, sym, ◌∙◌, ap, subst, arith, append-nil, append_assoc}
 use Rattle.std.specs.List.{flat_map, range_with_len}
 use Rattle.std.specs.Result.{IsErrAnd}
 use Rattle.tabled_base.specs.Cells.{columns}
@@ -101,14 +102,16 @@ module _ {settings : Settings} {config : CompactConfig} {ahead_rows : List (List
       let R = flat_map (row_part t) (range_with_len 0 (length shown)) in
       ap (λ b. if b then [] else filled_picture t (filled_width t.config (columns t.cells) t.widths)) filled
       ∙ ap (λ n. filled_picture t (filled_width t.config n t.widths)) count
-      ∙ ap (λ n. T ++ (flat_map (row_part t) (range_with_len 0 n) ++ (rule_if (columns_of t) (rule_at t.config (length t.cells) (length t.cells)) ++ B (frame t.config) W))) some
+      ∙ ap (λ n. T ++ (flat_map (row_part t)
+      (range_with_len 0 n) ++ (rule_if (columns_of t) (rule_at t.config (length t.cells) (length t.cells)) ++ B (frame t.config) W))) some
       ∙ ap (λ c. T ++ (R ++ (rule_if c (rule_at t.config (length t.cells) (length t.cells)) ++ B (frame t.config) W))) sheet
       ∙ ap (λ c. T ++ (R ++ (rule_if (layout_columns layout) c ++ B (frame t.config) W))) below
       ∙ ap (λ f. T ++ (R ++ (rule_if (layout_columns layout) layout.bottom ++ B f W))) around
       ∙ ap (λ n. T ++ (R ++ (rule_if (layout_columns layout) layout.bottom ++ B layout.frame n))) total
       ∙ sym (append_assoc T R (rule_if (layout_columns layout) layout.bottom ++ B layout.frame whole))
 
-  pub bottom-put : {Q : Type 0} {shown : List (List (List ℕ))} {first begun between : Bool} {start old mid new : Sent} (after : Bool) (r : Result Q TableError) (whole : ℕ)
+  pub bottom-put : {Q : Type 0} {shown : List (List (List ℕ))} {first begun between : Bool} {start old mid new : Sent} (after : Bool)
+      (r : Result Q TableError) (whole : ℕ)
       → HasPut settings config ahead_rows shown start layout first old begun → 0 < length shown → 0 < layout.count
       → whole ≡ stream_total settings config ahead_rows → LineSends old begun mid between (rule_if (layout_columns layout) layout.bottom)
       → WritesLines mid between r new after (replicate layout.frame.margin.bottom.size (fill layout.frame.margin.bottom.fill whole))
@@ -119,11 +122,13 @@ module _ {settings : Settings} {config : CompactConfig} {ahead_rows : List (List
         sheet = p.sheet;
         in_reach = p.in_reach;
         writes = lines-text start new after r (picture p.sheet)
-            (lines-finished new after _ (picture p.sheet) r (lines-further p.sends k refl) m (eq ∙ sym (append_assoc (lines_above p.sheet layout.count (length shown)) (rule_if (layout_columns layout) layout.bottom)
+            (lines-finished new after _ (picture p.sheet) r (lines-further p.sends k refl) m
+            (eq ∙ sym (append_assoc (lines_above p.sheet layout.count (length shown)) (rule_if (layout_columns layout) layout.bottom)
             (replicate layout.frame.margin.bottom.size (fill layout.frame.margin.bottom.fill whole)))));
       }
 
-  pub bottom-stopped : {Q : Type 0} {shown : List (List (List ℕ))} {first begun : Bool} {start old new : Sent} (r : Result Q TableError) (error : TableError) (whole : ℕ)
+  pub bottom-stopped : {Q : Type 0} {shown : List (List (List ℕ))} {first begun : Bool} {start old new : Sent} (r : Result Q TableError)
+      (error : TableError) (whole : ℕ)
       → HasPut settings config ahead_rows shown start layout first old begun → 0 < length shown → 0 < layout.count
       → whole ≡ stream_total settings config ahead_rows → LineStops old begun error new (rule_if (layout_columns layout) layout.bottom)
       → IsErrAnd r (λ d. d ≡ error) → EndsSheet settings config ahead_rows shown start r new

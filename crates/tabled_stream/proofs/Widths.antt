@@ -1,5 +1,6 @@
 -- Widths that are listed and summed up.
-use Rattle.std.proofs.Common.{◌≡◌, ℕ, zero, suc, ◌+◌, ◌-◌, ◌*◌, ◌<◌, ◌≤◌, ◌^◌, List, [], ◌∷◌, length, map, min, Option, Some, None, MatchOption, refl, sym, ◌∙◌, ap, arith, get_or, zero-add}
+use Rattle.std.proofs.Common.{◌≡◌, ℕ, zero, suc, ◌+◌, ◌-◌, ◌*◌, ◌<◌, ◌≤◌, ◌^◌, List, [], ◌∷◌, length, map, min, Option, Some, None, MatchOption, refl}
+use Rattle.std.proofs.Common.{sym, ◌∙◌, ap, arith, get_or, zero-add}
 use Rattle.std.specs.List.{range_with_len, slice_index}
 use Rattle.std.proofs.lemmas.List.FromFn.{get_or-map-range_with_len}
 use Rattle.tabled_border.specs.declared.frame.Frame.{Frame}
@@ -46,7 +47,8 @@ pub sum-widths : (layout : Layout) (known more : ℕ) → known ≡ min layout.c
     → sum_below (width_at layout) layout.count ≡ sum_below (width_at layout) known + more * (layout.rest + layout.side)
 sum-widths layout known zero k m =
     let e : layout.count ≡ known = omega arith in
-    ap (sum_below (width_at layout)) e ∙ (let z : sum_below (width_at layout) known ≡ sum_below (width_at layout) known + 0 * (layout.rest + layout.side) = omega arith in z)
+    ap (sum_below (width_at layout)) e
+    ∙ (let z : sum_below (width_at layout) known ≡ sum_below (width_at layout) known + 0 * (layout.rest + layout.side) = omega arith in z)
 sum-widths layout known (suc more) k m =
     let e : layout.count ≡ known + suc more = omega arith in
     ap (sum_below (width_at layout)) e
@@ -67,7 +69,8 @@ module _ {settings : Settings} {config : CompactConfig} {ahead_rows : List (List
   pub total-laid : {layout : Layout} → IsLaidOut settings config ahead_rows layout → layout_total layout ≡ stream_total settings config ahead_rows
   unfolding layout_total filled_width
   total-laid {layout} l =
-      let same : sum_below (width_at layout) layout.count ≡ sum_below (slice_index (stream_widths settings config ahead_rows)) (column_count settings ahead_rows) =
+      let same : sum_below (width_at layout) layout.count
+      ≡ sum_below (slice_index (stream_widths settings config ahead_rows)) (column_count settings ahead_rows) =
       sum-each (width_at layout) (stream_width settings config ahead_rows) layout.count
       (λ k h. let e = l.contents k h in let s = l.side in omega arith)
       ∙ ap (sum_below (stream_width settings config ahead_rows)) l.count
@@ -77,7 +80,8 @@ module _ {settings : Settings} {config : CompactConfig} {ahead_rows : List (List
       (f.margin.left.size + one_if f.left.there) + ((s + (n - 1) * one_if f.inner.there) + (one_if f.right.there + f.margin.right.size)) in
       ap (λ f. F f layout.count (sum_below (width_at layout) layout.count)) l.around
       ∙ ap (λ s. F (frame (spanned_of_compact config)) layout.count s) same
-      ∙ ap (λ n. F (frame (spanned_of_compact config)) n (sum_below (slice_index (stream_widths settings config ahead_rows)) (column_count settings ahead_rows))) l.count
+      ∙ ap (λ n. F (frame (spanned_of_compact config)) n
+      (sum_below (slice_index (stream_widths settings config ahead_rows)) (column_count settings ahead_rows))) l.count
 
 -- the whole is no narrower than the side padding of a column
 pub side-in-total : (settings : Settings) (config : CompactConfig) (ahead_rows : List (List (List ℕ))) → 0 < column_count settings ahead_rows

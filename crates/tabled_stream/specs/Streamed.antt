@@ -1,5 +1,6 @@
 -- The table that is streamed: how many of its rows are read ahead, its columns, its rows, and their sizes.
-use Rattle.std.specs.Prelude.{◌≡◌, ℕ, ◌+◌, ◌<◌, ◌&&◌, ◌||◌, nat_lt, not, if◌then◌else◌, List, [], Option, Some, None, is_some, unwrap_or, length, map, max, min, take}
+use Rattle.std.specs.Prelude.{◌≡◌, ℕ, ◌+◌, ◌<◌, ◌&&◌, ◌||◌, nat_lt, not, if◌then◌else◌, List, [], Option, Some, None, is_some, unwrap_or, length, map}
+use Rattle.std.specs.Prelude.{max, min, take}
 use Rattle.std.specs.List.{range_with_len, slice_index, slice_index_or}
 use Rattle.tabled_text.specs.Cut.{IsCut}
 use Rattle.tabled_text.specs.Measure.{greatest, lines_of, text_columns}

@@ -1,5 +1,6 @@
 //! What is measured of the rows that are read ahead.
-ghost use Rattle.std.specs.Prelude.{◌≡◌, ◌+◌, ◌<◌, ◌≤◌, ◌≢◌, ◌||◌, ℕ, [], IfErr, IfOk, OnErr, OnOk, if◌then◌else◌, is_some, length, map, max, nat_lt, not, unwrap_or};
+ghost use Rattle.std.specs.Prelude.{◌≡◌, ◌+◌, ◌<◌, ◌≤◌, ◌≢◌, ◌||◌, ℕ, [], IfErr, IfOk, OnErr, OnOk, if◌then◌else◌, is_some, length, map, max, nat_lt};
+ghost use Rattle.std.specs.Prelude.{not, unwrap_or};
 ghost use Rattle.std.specs.List.{slice_index, slice_index_or};
 ghost use Rattle.tabled_base.specs.Cells.{longest, texts_of};
 ghost use Rattle.tabled_base.specs.declared.error.TableError.TheVariants.{Memory};

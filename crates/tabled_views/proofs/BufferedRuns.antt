@@ -1,5 +1,6 @@
 -- Records of which some rows were read ahead.
-use Rattle.std.proofs.Common.{◌≡◌, ℕ, ◌+◌, ◌<◌, Bool, true, false, List, [], ◌∷◌, ◌++◌, Option, None, Some, length, map, refl, sym, ap, subst, ◌∙◌, arith, append-nil}
+use Rattle.std.proofs.Common.{◌≡◌, ℕ, ◌+◌, ◌<◌, Bool, true, false, List, [], ◌∷◌, ◌++◌, Option, None, Some, length, map, refl, sym, ap, subst, ◌∙◌}
+use Rattle.std.proofs.Common.{arith, append-nil}
 use Rattle.std.specs.Prelude.{MatchOption, ⊤}
 use Rattle.std.specs.List.{All, AllZip}
 use Rattle.std.specs.Iterator.{Count, Drains, HoldsAlong, IsFinite, IsFiniteIterable, Yields}
@@ -129,12 +130,14 @@ module _ {S W T A : Type 0} (steps : S → Option W → S → Type 0) (becomes :
   kept_cells : (c : IntoIter A Global) (items : List A) → into_iter_len c ≡ length (into_iter_items c) → Gave (Kept c) items → items ≡ into_iter_items c
   kept_cells c items n g =
       let d = g.drained in
-      kept_run cell_steps c d.1.0 d.0 items n (subst (λ k. Yields (buf_cell_steps cell_steps) k items d.1.0) (same_cells (Kept c) g.iterator g.made) d.1.1) d.1.2
+      kept_run cell_steps c d.1.0 d.0 items n
+      (subst (λ k. Yields (buf_cell_steps cell_steps) k items d.1.0) (same_cells (Kept c) g.iterator g.made) d.1.1) d.1.2
 
   later_cells : (c : T) (items : List A) → Gave (Later c) items → Drains cell_steps c items
   later_cells c items g =
       let d = g.drained in
-      later_run cell_steps c d.1.0 d.0 items (subst (λ k. Yields (buf_cell_steps cell_steps) k items d.1.0) (same_cells (Later c) g.iterator g.made) d.1.1) d.1.2
+      later_run cell_steps c d.1.0 d.0 items
+      (subst (λ k. Yields (buf_cell_steps cell_steps) k items d.1.0) (same_cells (Later c) g.iterator g.made) d.1.1) d.1.2
 
   none_later : (rows : Option S) → ReadsLater steps becomes cell_steps rows [] false
   none_later None = refl
@@ -270,6 +273,8 @@ module _ {S W T A : Type 0} (steps : S → Option W → S → Type 0) (becomes :
       rows
   buf_end {can_row = can_row} {row_left = row_left} rows rows_same same may =
       record {
-        all = λ it b. subst (λ s. MatchOption s.later ⊤ can_row × IsFinite (rows_left row_left s)) (sym (same it b)) (may_start can_row row_left rows.kept rows.later may);
-        each = λ it b xs t y. ended_rows rows t xs (may_hold can_row row_left rows.later may) (subst (λ s. Yields (buf_steps steps becomes) s xs t) (same it b) y);
+        all = λ it b. subst (λ s. MatchOption s.later ⊤ can_row × IsFinite (rows_left row_left s)) (sym (same it b))
+            (may_start can_row row_left rows.kept rows.later may);
+        each = λ it b xs t y. ended_rows rows t xs (may_hold can_row row_left rows.later may)
+            (subst (λ s. Yields (buf_steps steps becomes) s xs t) (same it b) y);
       }

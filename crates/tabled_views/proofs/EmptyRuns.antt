@@ -20,15 +20,19 @@ given_by {items = items} v all given road =
     items_from_drains items (d.1.0, d.1.1, λ _. (d.0, d.1.2)) (road given.iterator given.made)
 
 given_cells : {same : EmptyCells → EmptyCells → Type 0} (row : EmptyCells) (items : List (Bor (List ℕ)))
-    → ((it : EmptyCells) → same row it → it ≡ row) → Given same (YieldsFirstBy (λ (cell : Bor (List ℕ)). cell.now) cells_left) row items → map (λ (cell : Bor (List ℕ)). cell.now) items ≡ cells_left row
+    → ((it : EmptyCells) → same row it → it ≡ row) → Given same (YieldsFirstBy (λ (cell : Bor (List ℕ)). cell.now) cells_left) row items
+    → map (λ (cell : Bor (List ℕ)). cell.now) items ≡ cells_left row
 given_cells row items made given =
     given_by (λ (cell : Bor (List ℕ)). cell.now) (cells_left row) given
-    (λ it b. subst (λ v. YieldsList (YieldsFirstBy (λ (cell : Bor (List ℕ)). cell.now) cells_left) (λ (cell : Bor (List ℕ)). cell.now) it (cells_left v)) (made it b)
-    (YieldsList-from_shown (YieldsFirstBy (λ (cell : Bor (List ℕ)). cell.now) cells_left) (λ (cell : Bor (List ℕ)). cell.now) cells_left (λ s t h. ap length h.0) (λ s x t h. h) it))
+    (λ it b. subst (λ v. YieldsList (YieldsFirstBy (λ (cell : Bor (List ℕ)). cell.now) cells_left) (λ (cell : Bor (List ℕ)). cell.now) it
+    (cells_left v)) (made it b)
+    (YieldsList-from_shown (YieldsFirstBy (λ (cell : Bor (List ℕ)). cell.now) cells_left) (λ (cell : Bor (List ℕ)). cell.now) cells_left
+    (λ s t h. ap length h.0) (λ s x t h. h) it))
 
 all_given : {same : EmptyCells → EmptyCells → Type 0} → ((row it : EmptyCells) → same row it → it ≡ row)
     → (rows : List EmptyCells) (cells : List (List (Bor (List ℕ))))
-    → AllZip (Given same (YieldsFirstBy (λ (cell : Bor (List ℕ)). cell.now) cells_left)) rows cells → map (map (λ (cell : Bor (List ℕ)). cell.now)) cells ≡ map cells_left rows
+    → AllZip (Given same (YieldsFirstBy (λ (cell : Bor (List ℕ)). cell.now) cells_left)) rows cells
+    → map (map (λ (cell : Bor (List ℕ)). cell.now)) cells ≡ map cells_left rows
 all_given made [] [] h = refl
 all_given made [] (c ∷ cs) h = absurd h
 all_given made (r ∷ rs) [] h = absurd h

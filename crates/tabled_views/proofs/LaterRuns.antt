@@ -1,5 +1,6 @@
 -- Rows behind those that were passed over.
-use Rattle.std.proofs.Common.{◌≡◌, ℕ, ◌+◌, ◌≤◌, ◌<◌, Bool, true, false, List, [], ◌∷◌, ◌++◌, Option, None, Some, length, drop, refl, sym, ap, subst, ◌∙◌, arith, zero, suc}
+use Rattle.std.proofs.Common.{◌≡◌, ℕ, ◌+◌, ◌≤◌, ◌<◌, Bool, true, false, List, [], ◌∷◌, ◌++◌, Option, None, Some, length, drop, refl, sym, ap, subst}
+use Rattle.std.proofs.Common.{◌∙◌, arith, zero, suc}
 use Rattle.std.specs.List.{All, AllZip}
 use Rattle.std.specs.Iterator.{Count, HoldsAlong, IsFinite, IsFiniteIterable, Yields, YieldsThen}
 use Rattle.tabled_base.specs.Given.{Given}
@@ -59,7 +60,16 @@ module _ {S W T A : Type 0} (steps : S → Option W → S → Type 0) (cells_bec
     later_begin rows reached [] [] false made y each ended =
         record {
           all = [];
-          given = record { lists = []; iterator = rows.rows; made = made; reached = rows.rows; yielded = refl; each = tt; ended = λ f. absurd (let no : false ≡ true = f in cc) };
+          given = record {
+            lists = [];
+            iterator = rows.rows;
+            made = made;
+            reached = rows.rows;
+            yielded = refl;
+            each = tt;
+            ended = λ f. absurd
+                (let no : false ≡ true = f in cc);
+          };
           changed = drop-all rows.left [] (omega arith);
         }
     later_begin rows reached [] [] true made y each ended =

@@ -84,7 +84,14 @@ module _ {S W T A : Type 0} (can_row : S → Type 0) (steps : S → Option W →
   pub none_left : {s t : LaterRows S} {u : S} (r : Option W) → r ≡ None → Passing s t → steps t.rows r u
       → SkipsRows steps cells_become cell_steps s None (record { rows = u; left = t.left })
   none_left {s = s} {t = t} {u = u} r e p step =
-      record { lists = p.lists; cells = p.cells; yielded = (t.rows, p.yielded, subst (λ o. steps t.rows o u) e step); each = p.each; count = p.count; done = tt }
+      record {
+        lists = p.lists;
+        cells = p.cells;
+        yielded = (t.rows, p.yielded, subst (λ o. steps t.rows o u) e step);
+        each = p.each;
+        count = p.count;
+        done = tt;
+      }
 
   pub passed_goes : {s t : LaterRows S} {u : S} (n : ℕ) (r : Option W) → Passing s t → steps t.rows r u → MakesProgress can_row rows_left t.rows r u
       → MakesProgress (λ v. May v.rows) (λ v. rows_left v.rows) s r (record { rows = u; left = n })

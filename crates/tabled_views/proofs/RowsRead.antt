@@ -22,7 +22,8 @@ module _ {S W T A : Type 0} {steps : S → Option W → S → Type 0} {becomes :
   pub reads-one : {a b : S} {w : W} {items : List A} → steps a (Some w) b → Given becomes cell_steps w items → Reads steps becomes cell_steps a (items ∷ []) b
   reads-one {a} {b} {w} {items} s given = record { lists = w ∷ []; yielded = (b, s, refl); each = (given, tt) }
 
-  pub reads-both : {a b c : S} {xs ys : List (List A)} → Reads steps becomes cell_steps a xs b → Reads steps becomes cell_steps b ys c → Reads steps becomes cell_steps a (xs ++ ys) c
+  pub reads-both : {a b c : S} {xs ys : List (List A)} → Reads steps becomes cell_steps a xs b → Reads steps becomes cell_steps b ys c
+      → Reads steps becomes cell_steps a (xs ++ ys) c
   reads-both {a} {b} {c} {xs} {ys} p q = record {
     lists = p.lists ++ q.lists;
     yielded = Yields-both steps p.lists q.lists a b c p.yielded q.yielded;
@@ -40,7 +41,8 @@ module _ {S W T : Type 0} {can : S → Type 0} {steps : S → Option W → S →
   pub may-cells : {a b : S} {w : W} → MayGive can steps left becomes can_cell cells_left a → steps a (Some w) b → IsFiniteIterable becomes can_cell cells_left w
   may-cells {a} {b} {w} m s = All-head (IsFiniteIterable becomes can_cell cells_left) w [] (m.each (w ∷ []) b (b, s, refl))
 
-  pub may-step : {a b : S} {w : W} → MayGive can steps left becomes can_cell cells_left a → steps a (Some w) b → can b → IsFinite (left b) → MayGive can steps left becomes can_cell cells_left b
+  pub may-step : {a b : S} {w : W} → MayGive can steps left becomes can_cell cells_left a → steps a (Some w) b → can b → IsFinite (left b)
+      → MayGive can steps left becomes can_cell cells_left b
   may-step {a} {b} {w} m s c f = record {
     can = c;
     ends = f;

@@ -91,7 +91,8 @@ module _ {N S P W X : Type 0} (inner : N → S) (setting : N → P) (steps : S �
         (one.0 ∷ more.0, (one.1, more.1), ap (λ r. r ∷ cs) one.2 ∙ ap (λ r. change one.0 ∷ r) more.2)
 
     -- so are the rows that come first
-    pub made_begin : {V : Type 0} {rows_become : V → S → Type 0} {source : V} {cells : List (List B)} {whole : Bool} (rows : N) (rows_same : N → N → Type 0) → ((it : N) → rows_same rows it → it ≡ rows)
+    pub made_begin : {V : Type 0} {rows_become : V → S → Type 0} {source : V} {cells : List (List B)} {whole : Bool} (rows : N)
+        (rows_same : N → N → Type 0) → ((it : N) → rows_same rows it → it ≡ rows)
         → rows_become source (inner rows)
         → ((row : W) (x : X) (items : List B) → makes (setting rows) row x → Given becomes made_cell_steps x items
         → (all : List A) × Given cells_become cell_steps row all × (items ≡ change all))

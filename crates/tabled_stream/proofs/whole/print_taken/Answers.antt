@@ -28,7 +28,8 @@ returns-then-count-eq0 g c =
     let none : (column_count settings (sniffed settings kept) ≡ 0) ⊎ (length (limited settings.rows kept) ≡ 0) =
     elim c.then-count-eq0.branch [
       | then-count-eq0-via-then-count-eq0 w ↦ inl (sym count ∙ w.if-count-eq0.true)
-      | then-count-eq0-via-else-count-eq0+then-up_to-eq0 w ↦ inr (shown-long text items settings.rows w.up_to.result (rw value at w.up_to.ensures) ∙ w.if-up_to-eq0.true)
+      | then-count-eq0-via-else-count-eq0+then-up_to-eq0 w ↦ inr
+          (shown-long text items settings.rows w.up_to.result (rw value at w.up_to.ensures) ∙ w.if-up_to-eq0.true)
     ] in
     let sent = g.S.TextSink.sent c.args.sink.now in
     let P : List (List (List ℕ)) → Type 0 = ArePermitted settings in

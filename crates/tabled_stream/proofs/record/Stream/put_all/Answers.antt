@@ -17,7 +17,8 @@ returns-in_err-put_first g c =
     let items = taken.rows.items in
     let kept = texts_of text items in
     let value = c.as_slice-kept.ensures.value in
-    let first = c.min-ahead.ensures ∙ ap (λ n. min n (length c.as_slice-kept.result.now)) c.ahead.ensures ∙ ap (λ rows. min (ahead settings) (length rows)) value in
+    let first = c.min-ahead.ensures ∙ ap (λ n. min n (length c.as_slice-kept.result.now)) c.ahead.ensures
+    ∙ ap (λ rows. min (ahead settings) (length rows)) value in
     let shown = shown-texts text items settings.rows c.up_to.result (take c.up_to.result c.as_slice-kept.result.now) (rw value at c.up_to.ensures)
     (ap (take c.up_to.result) value) in (
       [],
@@ -39,7 +40,8 @@ returns g c =
     let items = taken.rows.items in
     let kept = texts_of text items in
     let value = c.as_slice-kept.ensures.value in
-    let first = c.min-ahead.ensures ∙ ap (λ n. min n (length c.as_slice-kept.result.now)) c.ahead.ensures ∙ ap (λ rows. min (ahead settings) (length rows)) value in
+    let first = c.min-ahead.ensures ∙ ap (λ n. min n (length c.as_slice-kept.result.now)) c.ahead.ensures
+    ∙ ap (λ rows. min (ahead settings) (length rows)) value in
     let shown = shown-texts text items settings.rows c.up_to.result (take c.up_to.result c.as_slice-kept.result.now) (rw value at c.up_to.ensures)
     (ap (take c.up_to.result) value) in
     let b = c.put_behind.ensures in

@@ -19,7 +19,8 @@ returns-in_err-put_next-clause-printed g c =
     ∙ ap (map g.C.CellText.text) (sym c.as_slice-cells.ensures.value) in
     match-err c.from_residual.result c.in_err-put_next.field-0.0 _ _ c.from_residual.ensures.1 (
       k + 1,
-      kept-next {R = Unit {0}} texts k c.content_height-lines.result (map g.C.CellText.text c.as_slice-cells.result.now) (nat_lt k c.args.ahead) layout stream.first
+      kept-next {R = Unit {0}} texts k c.content_height-lines.result (map g.C.CellText.text c.as_slice-cells.result.now)
+          (nat_lt k c.args.ahead) layout stream.first
           c.put_next.new.self.first stream.lines.begun c.put_next.new.self.lines.begun (g.S.TextSink.sent c.rows.sink) (g.S.TextSink.sent c.put_next.new.sink)
           (Err c.in_err-put_next.field-0.0) within at
           (rw c.rows.invariant.same at c.content_height-lines.ensures) (ap (nat_lt k) (sym e)) (c.rows.invariant.puts config ahead_rows start e p)

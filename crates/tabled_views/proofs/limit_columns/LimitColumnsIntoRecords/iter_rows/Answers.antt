@@ -12,7 +12,9 @@ returns-clause-ends g c ends =
     let cells = g.R.IterColumns in
     made_end (λ s. s.rows) (λ s. s.limit) g.R.IterRows.IntoIter.Iterator.next_gives
     (λ limit row x. cells.IntoIterator.into_iter_gives row x.cells × (x.left ≡ limit)) c.iter_rows.result _ _ (λ it e. e) c.into_iter.ensures.into_iter_gives
-    (λ row x made can it same. subst (λ s. (cells.IntoIter.Iterator.can_next s.cells × IsFinite (cells.IntoIter.Iterator.remaining s.cells)) × IsFinite (cells.IntoIter.Iterator.remaining s.cells)) (sym same)
+    (λ row x made can it same. subst
+    (λ s. (cells.IntoIter.Iterator.can_next s.cells × IsFinite (cells.IntoIter.Iterator.remaining s.cells))
+    × IsFinite (cells.IntoIter.Iterator.remaining s.cells)) (sym same)
     (can x.cells made.0, (can x.cells made.0).1))
     (c.iter_rows.ensures.ends ends)
 
@@ -22,7 +24,8 @@ returns-clause-gives g c cells given =
     let steps = columns.IntoIter.Iterator.next_gives in
     changed_of (λ all begun. c.iter_rows.ensures.gives all (whole_rows begun))
     (made_begin (λ s. s.rows) (λ s. s.limit) g.R.IterRows.IntoIter.Iterator.next_gives
-    (λ limit row x. columns.IntoIterator.into_iter_gives row x.cells × (x.left ≡ limit)) (take c.args.self.limit) _ _ (λ it e. e) c.into_iter.ensures.into_iter_gives
+    (λ limit row x. columns.IntoIterator.into_iter_gives row x.cells × (x.left ≡ limit)) (take c.args.self.limit) _ _
+    (λ it e. e) c.into_iter.ensures.into_iter_gives
     (λ row x items made cells.
     let d = first_drained steps x items (subst (λ s. Drains (first_cells_steps steps) s items) cells.made cells.drained) in
     (d.0, record { iterator = x.cells; made = made.0; drained = d.1 }, d.2 ∙ ap (λ n. take n d.0) made.1)) (given_whole given))
@@ -33,7 +36,8 @@ returns-clause-begins g c cells whole begun =
     let steps = columns.IntoIter.Iterator.next_gives in
     changed_of (λ all. c.iter_rows.ensures.begins all whole)
     (made_begin (λ s. s.rows) (λ s. s.limit) g.R.IterRows.IntoIter.Iterator.next_gives
-    (λ limit row x. columns.IntoIterator.into_iter_gives row x.cells × (x.left ≡ limit)) (take c.args.self.limit) _ _ (λ it e. e) c.into_iter.ensures.into_iter_gives
+    (λ limit row x. columns.IntoIterator.into_iter_gives row x.cells × (x.left ≡ limit)) (take c.args.self.limit) _ _
+    (λ it e. e) c.into_iter.ensures.into_iter_gives
     (λ row x items made cells.
     let d = first_drained steps x items (subst (λ s. Drains (first_cells_steps steps) s items) cells.made cells.drained) in
     (d.0, record { iterator = x.cells; made = made.0; drained = d.1 }, d.2 ∙ ap (λ n. take n d.0) made.1)) begun)

@@ -6,7 +6,8 @@ pub loop-self-init : goal.loop-self-init
 loop-self-init g c = none_passed _ _ _ _ _ _ _ c.args.self.now c.requires
 
 pub walk-requires : goal.walk-requires
-walk-requires g c = (may_more _ _ _ _ _ g.I.Item.IntoIter.Iterator.next_gives _ c.in_ok-row.row c.in_ok-row.was c.loop-self.invariant.may c.next.ensures.steps c.next.ensures.goes).0
+walk-requires g c = (may_more _ _ _ _ _ g.I.Item.IntoIter.Iterator.next_gives _ c.in_ok-row.row c.in_ok-row.was c.loop-self.invariant.may
+    c.next.ensures.steps c.next.ensures.goes).0
 
 pub loop-self-preserved : goal.loop-self-preserved
 loop-self-preserved g c =

@@ -11,8 +11,10 @@ pub returns-clause-ends : goal.returns-clause-ends
 returns-clause-ends g c ends =
     let cells = g.R.IterColumns in
     made_end (λ s. s.rows) (λ s. s.widths.now) g.R.IterRows.IntoIter.Iterator.next_gives
-    (λ widths row x. cells.IntoIterator.into_iter_gives row x.cells × (x.widths.now ≡ widths)) c.iter_rows.result _ _ (λ it e. e) c.into_iter.ensures.into_iter_gives
-    (λ row x made can it same. subst (λ s. cells.IntoIter.Iterator.can_next s.cells × IsFinite (cells.IntoIter.Iterator.remaining s.cells)) (sym same) (can x.cells made.0))
+    (λ widths row x. cells.IntoIterator.into_iter_gives row x.cells × (x.widths.now ≡ widths)) c.iter_rows.result _ _
+    (λ it e. e) c.into_iter.ensures.into_iter_gives
+    (λ row x made can it same. subst (λ s. cells.IntoIter.Iterator.can_next s.cells × IsFinite (cells.IntoIter.Iterator.remaining s.cells)) (sym same)
+    (can x.cells made.0))
     (c.iter_rows.ensures.ends ends)
 
 pub returns-clause-gives : goal.returns-clause-gives
