@@ -7,7 +7,7 @@ A small program is written into FOLDER (else a temporary folder) beside copies o
 run on the first tenth and third of the rows of each file, and on all of them. Each table is narrowed to half of its
 total width and widened to twice of it, made half and twice as high, its texts are made 8 columns wide, lists of sizes
 are stored, and padding and a margin are set. The greatest columns shrink first, and the least grow first; rows change one
-after the other, and by their heights too, where there are at most 10,000. The copies that are changed are made beforehand.
+after the other, and by their heights too. The copies that are changed are made beforehand.
 Printed are the shortest times of the rounds: milliseconds, and nanoseconds a byte of the texts, which stay the same where
 a call is linear in them.
 """
@@ -41,9 +41,6 @@ use tabled::settings::{Height, Margin, Padding, TableOption, Width};
 use tabled::{Table, TableError};
 
 const ROUNDS: usize = 3;
-
-// The time in which rows grow and shrink is quadratic in their number.
-const MOST_ROWS: usize = 10_000;
 
 fn table_of(alloc: Global, text: &str) -> Result<Table, TableError> {
     let mut builder = Builder::new(alloc);
@@ -124,10 +121,8 @@ fn main(rt: HostRuntime) -> Result<(), anyhow::Error> {
     for _round in 0..ROUNDS {
         narrow(&rt, &table, width / 2)?;
         widen(&rt, &table, width * 2)?;
-        if table.count_rows() <= MOST_ROWS {
-            raise(&rt, &table, height)?;
-            level(&rt, &table, height)?;
-        }
+        raise(&rt, &table, height)?;
+        level(&rt, &table, height)?;
         store(&rt, alloc, &table)?;
         surround(&rt, &table)?;
     }

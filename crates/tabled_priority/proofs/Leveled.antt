@@ -37,14 +37,16 @@ use Rattle.tabled_priority.specs.Schedule.{first_level, last_level, is_open, sha
 
 -- ---- the greatest first
 -- a column with a share of depths stands at the ceiling, or at its limits
-cut_here : (m v y new : ℕ) → v ≤ greatest_usize → m ≤ greatest_usize → y ≤ greatest_usize → new + (min y (greatest_usize - m) - (greatest_usize - v)) ≡ v → new ≡ max (min v m) (min v (greatest_usize - y))
+cut_here : (m v y new : ℕ) → v ≤ greatest_usize → m ≤ greatest_usize → y ≤ greatest_usize
+    → new + (min y (greatest_usize - m) - (greatest_usize - v)) ≡ v → new ≡ max (min v m) (min v (greatest_usize - y))
 cut_here m v y new a b c e = omega arith
 
 ceiling_right : (level first last n i : ℕ) → level < greatest_usize → last + 1 ≡ n → first ≤ last → i < n
     → greatest_usize - (level + one_if (is_met first last i)) ≡ ceiling true (greatest_usize - level - 1) first i
 ceiling_right level first last n i a b c d = grind (arith, nat_tests)
 
-ceiling_left : (level last i : ℕ) → level < greatest_usize → greatest_usize - (level + one_if (is_met 0 last i)) ≡ ceiling false (greatest_usize - level - 1) (last + 1) i
+ceiling_left : (level last i : ℕ) → level < greatest_usize
+    → greatest_usize - (level + one_if (is_met 0 last i)) ≡ ceiling false (greatest_usize - level - 1) (last + 1) i
 ceiling_left level last i a = grind (arith, nat_tests)
 
 one_if-le : (b : Bool) → one_if b ≤ 1

@@ -7,7 +7,15 @@ pub loop-place-init : goal.loop-place-init
 loop-place-init c =
     let z = total_amount-zero (first_level c.args.kind c.args.values.now c.args.mins.now)
     (last_level c.args.kind c.args.values.now c.args.mins.now) (length c.args.values.now) in
-    record { below = omega arith; enough = c.requires.enough; starts = λ i h. absurd (omega arith); ends = λ i h. absurd (omega arith); fewest = omega arith; most = omega arith }
+    record {
+      below = omega arith;
+      enough = c.requires.enough;
+      starts = λ i h. absurd (omega arith);
+      ends = λ i h. absurd
+          (omega arith);
+      fewest = omega arith;
+      most = omega arith;
+    }
 
 -- each level above the base is the ceiling, or above it, so it takes enough
 pub returns-clause-base : goal.returns-clause-base
