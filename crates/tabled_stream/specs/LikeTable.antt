@@ -18,6 +18,18 @@ pub record IsExactLine (text : List ℕ) : Type 0 where
   pub one : length (lines_of text) ≡ 1
   pub counted : count_of (chars text) ≡ text_columns text
 
+-- some rows are measured whole: there is a row and a column, the rows are equally long, all are read ahead, and nothing is given
+-- of columns, rows and sizes
+pub record AreMeasured (settings : Settings) (cells : List (List (List ℕ))) : Type 0 where
+  pub has_row : 0 < length cells
+  pub has_column : 0 < columns cells
+  pub rectangular : IsRectangular cells
+  pub sniffed : length cells ≤ settings.sniff
+  pub no_columns : settings.columns ≡ None
+  pub no_rows : settings.rows ≡ None
+  pub no_width : settings.width ≡ None
+  pub no_height : settings.height ≡ None
+
 -- some rows make a stream like a table: there is a row and a column, the rows are equally long, each cell is an exact line, all
 -- rows are read ahead, and nothing is given of columns, rows and sizes
 pub record IsLikeTable (settings : Settings) (cells : List (List (List ℕ))) : Type 0 where

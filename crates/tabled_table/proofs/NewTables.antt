@@ -156,15 +156,14 @@ high_enough : (rows : ℕ) (heights : List ℕ) → 1 ≤ sum_below (part_height
 unfolding filled_height
 high_enough rows heights h = rw (rule_new rows rows) (omega arith)
 
--- a new table that isn't empty has at least its first and its last line
-pub new_height : (cells : List (List (List ℕ))) → is_empty cells ≡ false → 0 < length cells → 2 ≤ total_height (new_sheet cells)
-new_height cells filled h =
-    let rows = length cells in
-    let heights = estimated_heights cells new_config in
-    let f = part_height new_config rows heights in
+-- a table under the settings of a new one that isn't empty has at least its first and its last line
+pub sheet_height : (t : Sheet) → t.config ≡ new_config → is_empty t.cells ≡ false → 0 < length t.cells → 2 ≤ total_height t
+sheet_height t e filled h =
+    let rows = length t.cells in
+    let f = part_height new_config rows t.heights in
     let first : sum_below f 0 + f 0 ≤ sum_below f rows = sum_step f 0 rows h in
-    let one : 1 ≤ f 0 = part_ge rows heights 0 in
-    rw filled (high_enough rows heights (omega arith))
+    let one : 1 ≤ f 0 = part_ge rows t.heights 0 in
+    rw filled (subst (λ c. 2 ≤ filled_height c rows t.heights) (sym e) (high_enough rows t.heights (omega arith)))
 
 abbrev built : List (List (List ℕ)) → SpannedConfig → Option (List ℕ) → Option (List ℕ) → Sheet
 built cells config widths heights = record {
