@@ -1,4 +1,13 @@
 pub mod Blocks
+pub mod FittedTables
+pub mod Narrowings
+pub mod Noting
+pub mod Orders
+pub mod Outputs
+pub mod PlannedTables
 pub mod Reading
 pub mod Since
+pub mod Spelling
+pub mod StreamedTables
+pub mod TextLines
 pub mod TextTables

@@ -1,35 +1,43 @@
 -- Tables of texts: whether they are empty, and what is printed of them.
-use Rattle.std.proofs.Common.{◌≡◌, ℕ, ◌<◌, ◌≤◌, ◌==◌, cond, true, false, List, [], ◌∷◌, ◌++◌, length, map, refl, sym, ap, arith, length-append}
+use Rattle.std.proofs.Common.{◌≡◌, ℕ, ◌<◌, ◌≤◌, ◌==◌, cond, true, false, List, [], ◌∷◌, ◌++◌, length, map, nat_le, refl, sym, ap, ◌∙◌, subst, arith, length-append, ⊎_elim}
 use Rattle.std.specs.List.{join_with_byte}
 use Rattle.std.specs.Str.{IsUtf8}
+use Rattle.std.proofs.lemmas.Bool.{MatchBool-at_true, MatchBool-at_false, cases_Bool}
 use Rattle.std.proofs.lemmas.Bool.Decides.{nat_tests}
 use Rattle.std.proofs.lemmas.List.{length-map}
 use Rattle.std.proofs.lemmas.List.Splits.{length-slice_split}
+use Rattle.tabled_text.specs.Cut.{IsCut}
 use Rattle.tabled_text.specs.Measure.{lines_of}
 use Rattle.tabled_base.specs.Cells.{IsRectangular, lengthened}
 use Rattle.tabled_base.specs.TextRows.{cells_of, most_cells, row_lines, text_rows, without_last_feed}
 use Rattle.tabled_base.proofs.Lengthening.{length-lengthened}
 use Rattle.tabled_base.proofs.Splitting.{rows-rectangular}
 use Rattle.tabled_base.proofs.TextCells.{text_cells}
-use Rattle.tabled_size.specs.Sheet.{is_empty}
-use Rattle.tabled_size.specs.Totals.{total_height, total_width}
-use Rattle.tabled_grid.specs.Picture.{picture}
-use Rattle.tabled_row.specs.Plain.{EachLineTakes}
+use Rattle.tabled_change.specs.CellChanges.{AreChanged, if_wider, truncating, wrapping}
+use Rattle.tabled_change.specs.declared.suffix.SuffixLimit.TheVariants.{Cut}
+use Rattle.tabled_resize.specs.BestNarrowing.{text_room}
+use Rattle.tabled_resize.specs.Narrowed.{for_room}
+use Rattle.tabled_resize.proofs.ExactTotals.{changed_empty}
+use Rattle.tabled_size.specs.Sheet.{Sheet, is_empty}
+use Rattle.tabled_size.specs.TextCells.{AreTexts}
+use Rattle.tabled_size.specs.Totals.{total_width}
+use Rattle.tabled_grid.specs.Picture.{picture, table_text}
+use Rattle.tabled_table.specs.NewConfig.{new_config}
 use Rattle.tabled_table.specs.TableSheet.{new_sheet}
-use Rattle.tabled_table.proofs.NewTables.{new_height, new_lines, new_texts}
-use Rattle.tabled.specs.Output.{output_text, printed}
+use Rattle.tabled_table.proofs.NewTables.{sheet_height}
+use Rattle.tabled_table.proofs.Sheets.{sheet_lines}
+use Rattle.tabled.specs.Output.{with_feed}
+use Rattle.tabled.specs.Planned.{Cells, FitsInto, IsNarrowedTo, IsPlanned, OrderShrinks}
+use Rattle.tabled.specs.declared.plan.Plan.{Plan}
+use Rattle.tabled.specs.declared.plan.Plan.TheVariants.{Buffered, Streamed, Wrapped, Shortened}
 
-text_rectangular : (text : List ℕ) → IsRectangular (text_rows text)
+pub text_rectangular : (text : List ℕ) → IsRectangular (text_rows text)
 unfolding text_rows
 text_rectangular text = rows-rectangular (row_lines text)
 
--- the lines of the table of a text are equally wide
-pub text_columns : (text : List ℕ) → IsUtf8 text → EachLineTakes (total_width (new_sheet (text_rows text))) (picture (new_sheet (text_rows text)))
-text_columns text u = new_texts (text_rows text) (text_rectangular text) (text_cells text u)
-
--- and as many as its total height says
-pub text_lines : (text : List ℕ) → length (picture (new_sheet (text_rows text))) ≡ total_height (new_sheet (text_rows text))
-text_lines text = new_lines (text_rows text)
+-- the cells of a text are texts
+pub texts_of_text : (text : List ℕ) → IsUtf8 text → AreTexts (text_rows text)
+texts_of_text text u = text_cells text u
 
 -- ---- empty or not
 
@@ -63,35 +71,70 @@ text_empty text h =
     ap (λ lines. is_empty (map (λ line. lengthened (most_cells lines) (cells_of line)) lines))
     (let e : row_lines text ≡ [] = ap (λ t. cond t [] (lines_of (without_last_feed text))) (sym h) in e)
 
+-- ---- the table of a plan has the rows of the text, under the settings of a new table
+
+pub record HasRows (cells : Cells) (t : Sheet) : Type 0 where
+  pub empty : is_empty t.cells ≡ is_empty cells
+  pub rows : length t.cells ≡ length cells
+  pub config : t.config ≡ new_config
+
+rows_changed : (change : ℕ → ℕ → List ℕ → List ℕ → Type 0) (cells : Cells) (t : Sheet) → AreChanged (λ row column. true) change cells t.cells → t.config ≡ new_config → HasRows cells t
+rows_changed change cells t h e = record { empty = changed_empty (λ row column. true) change cells t.cells h; rows = h.rows; config = e }
+
+rows_new : (cells : Cells) (t : Sheet) → t ≡ new_sheet cells → HasRows cells t
+rows_new cells t e = subst (HasRows cells) (sym e) (record { empty = refl; rows = refl; config = refl })
+
+rows_fitted : (shrinks : List ℕ → List ℕ → ℕ → List ℕ → Type 0) (change : ℕ → List ℕ → List ℕ → Type 0) (n : ℕ) (cells : Cells) (t : Sheet)
+    → FitsInto shrinks change n (new_sheet cells) t → HasRows cells t
+rows_fitted shrinks change n cells t h =
+    let old = new_sheet cells in
+    let small = IsNarrowedTo shrinks change n old t in
+    ⊎_elim (λ y. rows_new cells t (MatchBool-at_true (t ≡ old) small y h))
+    (λ no.
+    let s : small = MatchBool-at_false (t ≡ old) small no h in
+    rows_changed (for_room change old t.widths) cells t s.cells s.config)
+    (cases_Bool (nat_le (total_width old) n))
+
+planned_rows : (plan : Plan) (cells : Cells) (t : Sheet) → IsPlanned plan cells t → HasRows cells t
+planned_rows Buffered cells t h = rows_new cells t h
+planned_rows Streamed cells t h = rows_changed (λ row column. IsCut (text_room (new_sheet cells) row column)) cells t h.cells h.config
+planned_rows (Wrapped n words order) cells t h = rows_fitted (OrderShrinks order) (wrapping words) n cells t h
+planned_rows (Shortened n order) cells t h = rows_fitted (OrderShrinks order) (if_wider (truncating [] Cut false)) n cells t h
+
 -- ---- the line feed behind the table
 
-nothing_printed : (text : List ℕ) → true ≡ (length text == 0) → printed text ≡ []
+nothing_printed : (t : Sheet) → is_empty t.cells ≡ true → table_text t ≡ []
 unfolding picture
-nothing_printed text h = rw (text_empty text h) refl
+nothing_printed t h = rw h refl
 
 longer : (lines : List (List ℕ)) → 2 ≤ length lines → 0 < length (join_with_byte 10 lines)
 longer [] h = absurd (omega arith)
 longer (a ∷ []) h = absurd (omega arith)
 longer (a ∷ b ∷ lines) h = omega (arith, length-append a (10 ∷ join_with_byte 10 (b ∷ lines)))
 
-something_printed : (text : List ℕ) → false ≡ (length text == 0) → 0 < length (printed text)
-something_printed text h =
-    let cells = text_rows text in
-    let high = new_height cells (text_filled text h) (some_rows text h) in
-    longer (picture (new_sheet cells)) (omega (arith, high, new_lines cells))
+something_printed : (t : Sheet) → t.config ≡ new_config → is_empty t.cells ≡ false → 0 < length t.cells → 0 < length (table_text t)
+something_printed t e filled h = longer (picture t) (omega (arith, sheet_height t e filled h, sheet_lines t))
 
-pub feed_none : (text : List ℕ) → true ≡ (length text == 0) → output_text text ≡ printed text
-unfolding output_text
-feed_none text h = let e = nothing_printed text h in rw e refl
+-- the empty text prints nothing behind its table, which is nothing too
+pub feed_none : (plan : Plan) (text : List ℕ) (t : Sheet) → true ≡ (length text == 0) → IsPlanned plan (text_rows text) t → table_text t ≡ with_feed (table_text t)
+unfolding with_feed
+feed_none plan text t h p =
+    let rows = planned_rows plan (text_rows text) t p in
+    let none = nothing_printed t (rows.empty ∙ text_empty text h) in
+    rw none refl
 
-pub feed_some : (text : List ℕ) → false ≡ (length text == 0) → output_text text ≡ printed text ++ 10 ∷ []
-unfolding output_text
-feed_some text h =
-    let some : 0 < length (printed text) = something_printed text h in
-    let test : (length (printed text) == 0) ≡ false = grind (arith, nat_tests) in
-    ap (λ t. printed text ++ cond t [] (10 ∷ [])) test
+-- the table of another text is followed by a line feed
+pub feed_some : (plan : Plan) (text : List ℕ) (t : Sheet) → false ≡ (length text == 0) → IsPlanned plan (text_rows text) t
+    → with_feed (table_text t) ≡ table_text t ++ 10 ∷ []
+unfolding with_feed
+feed_some plan text t h p =
+    let rows = planned_rows plan (text_rows text) t p in
+    let many : 0 < length t.cells = let some = some_rows text h in let same = rows.rows in omega arith in
+    let some : 0 < length (table_text t) = something_printed t rows.config (rows.empty ∙ text_filled text h) many in
+    let test : (length (table_text t) == 0) ≡ false = grind (arith, nat_tests) in
+    ap (λ b. table_text t ++ cond b [] (10 ∷ [])) test
 
 -- the output goes on behind the table
-pub feed_whole : (text : List ℕ) → (more : List ℕ) × (printed text ++ more ≡ output_text text)
-unfolding output_text
+pub feed_whole : (text : List ℕ) → (more : List ℕ) × (text ++ more ≡ with_feed text)
+unfolding with_feed
 feed_whole text = (_, refl)

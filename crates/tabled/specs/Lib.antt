@@ -1,4 +1,10 @@
 pub mod BlockSent
 pub mod Faults
+pub mod Headline
+pub mod Narrowing
+pub mod Noted
 pub mod Output
+pub mod Planned
+pub mod Rendered
 pub mod Runs
+pub mod Words

@@ -1,17 +1,23 @@
 -- What the program prints.
-use Rattle.std.specs.Prelude.{◌≡◌, ℕ, ◌==◌, if◌then◌else◌, List, [], ◌∷◌, ◌++◌, length, Option, Result, Ok, Err}
+use Rattle.std.specs.Prelude.{◌≡◌, ◌⊎◌, ℕ, ◌==◌, if◌then◌else◌, List, [], ◌∷◌, ◌++◌, length, Option, Result, Ok, Err, MatchResult}
 use Rattle.std.specs.Io.KnownBytes.{Appends}
 use Rattle.tabled_base.specs.TextRows.{text_rows}
 use Rattle.tabled_grid.specs.Picture.{table_text}
-use Rattle.tabled_table.specs.TableSheet.{new_sheet}
+use Rattle.tabled_size.specs.Sheet.{Sheet}
+use Rattle.tabled.specs.declared.plan.Plan.{Plan}
+use Rattle.tabled.specs.Headline.{IsBestPlanned}
+use Rattle.tabled.specs.Planned.{IsPlanned}
 
--- the table of a text
-abbrev pub printed : List ℕ → List ℕ
-printed text = table_text (new_sheet (text_rows text))
+-- a text, and a line feed unless it is empty
+unfoldable pub with_feed : List ℕ → List ℕ
+with_feed text = text ++ (if length text == 0 then [] else 10 ∷ [])
 
--- the table of a text, and a line feed unless that is empty
-unfoldable pub output_text : List ℕ → List ℕ
-output_text text = printed text ++ (if length (printed text) == 0 then [] else 10 ∷ [])
+-- the output of a text: the table that a plan makes of its rows, as good as can be, and a line feed unless that is empty
+pub record IsOutput (plan : Plan) (text output : List ℕ) : Type 0 where
+  pub table : Sheet
+  pub planned : IsPlanned plan (text_rows text) table
+  pub best : IsBestPlanned plan (text_rows text) table
+  pub whole : output ≡ with_feed (table_text table)
 
 -- known bytes grow by a beginning of a text
 pub record Begins (old new : Option (List ℕ)) (text : List ℕ) : Type 0 where
@@ -24,3 +30,10 @@ pub record Begins (old new : Option (List ℕ)) (text : List ℕ) : Type 0 where
 abbrev pub Puts : {T E : Type 0} → Option (List ℕ) → Result T E → Option (List ℕ) → List ℕ → Type 0
 Puts old (Ok _) new text = Appends old new text
 Puts old (Err _) new text = Begins old new text
+
+-- known bytes grow by the output of a text on Ok, and else by a beginning of it, which is none where it is refused before
+-- the first byte
+pub record PutsOutput {T E : Type 0} (plan : Plan) (text : List ℕ) (old : Option (List ℕ)) (result : Result T E) (new : Option (List ℕ)) : Type 0 where
+  pub output : List ℕ
+  pub is_output : MatchResult result (λ _. IsOutput plan text output) (λ _. (output ≡ []) ⊎ IsOutput plan text output)
+  pub puts : Puts old result new output

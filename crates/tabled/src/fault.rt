@@ -9,7 +9,7 @@ use thiserror::Error;
 #[derive(Debug, Drop, Error)]
 pub(crate) enum Fault {
     /// The words aren't the program's.
-    #[error("usage: tabprint")]
+    #[error("usage: tabprint [--wrap N | --cut N] [--priority none|min|max|left|right] [--words] [--stream]")]
     Usage,
     /// Reading failed, or what was read is no UTF-8.
     #[error("Input")]

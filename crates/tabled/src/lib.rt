@@ -6,13 +6,16 @@ mod block_sink;
 mod fault;
 mod held;
 mod input;
+mod narrowing;
 mod plan;
 mod program;
 mod rendering;
+mod streaming;
 #[cfg(test)]
 mod tests;
+mod words;
 
-pub use plan::Plan;
+pub use plan::{Order, Plan};
 pub use program::run;
 pub use rendering::render;
 pub use tabled_base::{TableError, Text};
@@ -26,7 +29,9 @@ pub mod laws {
     pub use tabled_grid::laws::pictures;
     pub use tabled_row::laws::rows_of_any_text;
     pub use tabled_set::laws::truncated_texts;
-    pub use tabled_stream::laws::streams_like_tables;
+    pub use tabled_stream::laws::{
+        streams_go_on, streams_hold, streams_like_tables, texts_can_be_cut,
+    };
     pub use tabled_table::laws::new_tables;
     pub use tabled_text::laws::{
         breakings, cut_texts, joined_lines, plain_characters, plain_columns, plain_line_width,

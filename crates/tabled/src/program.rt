@@ -1,9 +1,11 @@
 //! The program over any reader and writers.
-ghost use Rattle.std.specs.Prelude.{◌≡◌, ◌≢◌, ◌≤◌, ◌↔◌, ◌⊎◌, [], length, IfErr, IfOk, IfSome, IsErrOf, OnErr, OnOk, string_bytes};
+ghost use Rattle.std.specs.Prelude.{◌≡◌, ◌≤◌, ◌↔◌, ◌⊎◌, IfSome, IsErrOf, OnErr, OnOk, map, string_bytes};
 ghost use Rattle.tabled.specs.declared.fault.Fault.TheVariants.{Usage};
+ghost use Rattle.tabled.specs.declared.plan.Plan.{Plan};
 ghost use Rattle.tabled.specs.BlockSent.{Advances, block_sent};
-ghost use Rattle.tabled.specs.Output.{Puts, output_text};
-ghost use Rattle.tabled.specs.Runs.{HasBegun, HasPrinted, HasRead};
+ghost use Rattle.tabled.specs.Output.{PutsOutput};
+ghost use Rattle.tabled.specs.Runs.{HasBegun, HasPrinted};
+ghost use Rattle.tabled.specs.Words.{SpellsPlan};
 
 use crate::block_sink::{BlockSink, Blocked, Since, Start};
 use crate::fault::Fault;
@@ -11,17 +13,23 @@ use crate::held::Held;
 use crate::input::read_text;
 use crate::plan::Plan;
 use crate::rendering::render;
+use crate::words::plan_of;
 use std::alloc::Global;
 use std::io::{Read, Write};
 use std::marker::{Brand, PhantomData};
 use tabled_base::TableError;
 use tabled_grid::TextSink;
 
-/// The table of a text, and a line feed behind it unless it is empty.
-fn put_output<S: TextSink>(alloc: Global, text: &str, sink: &mut S) -> Result<(), TableError>
-    ensures { Puts (S.sent sink.old).bytes result (S.sent sink.new).bytes (output_text text.now) }
+/// The table that a plan makes of a text, and a line feed behind it unless it is empty.
+fn put_output<S: TextSink>(
+    alloc: Global,
+    text: &str,
+    plan: Plan,
+    sink: &mut S,
+) -> Result<(), TableError>
+    ensures { PutsOutput plan text.now (S.sent sink.old).bytes result (S.sent sink.new).bytes }
 {
-    render(alloc, text, Plan::Buffered, sink)?;
+    render(alloc, text, plan, sink)?;
     if text.is_empty() {
         return Ok(());
     }
@@ -32,29 +40,35 @@ fn put_output<S: TextSink>(alloc: Global, text: &str, sink: &mut S) -> Result<()
 fn put_blocked<S: Blocked, B: Start>(
     alloc: Global,
     text: &String,
+    plan: Plan,
     sink: S,
 ) -> (Result<(), TableError>, S)
     requires name { (S.block sink).name ≡ B.name }
     requires held { IfSome (S.block sink).contents (λ held. held ≡ B.held) }
-    ensures put { Puts (block_sent (S.block sink)).bytes result.0 (block_sent (S.block result.1)).bytes
-        (output_text (string_bytes text.now)) }
+    ensures put { PutsOutput plan (string_bytes text.now) (block_sent (S.block sink)).bytes result.0
+        (block_sent (S.block result.1)).bytes }
     ensures advanced { IfSome (S.block sink).contents (λ _. Advances (S.block sink) (S.block result.1)) }
 {
     let mut since: Since<S, B> = Since {
         sink,
         start: PhantomData,
     };
-    let result = put_output(alloc, text.as_str(), &mut since);
+    let result = put_output(alloc, text.as_str(), plan, &mut since);
     (result, since.sink)
 }
 
 /// The same to a writer, which has taken all of it on `Ok`, and else a beginning.
-fn put_through<O: Write>(alloc: Global, text: &String, out: &mut O) -> Result<(), TableError>
-    ensures { Puts (O.contents out.old) result (O.contents out.new) (output_text (string_bytes text.now)) }
+fn put_through<O: Write>(
+    alloc: Global,
+    text: &String,
+    plan: Plan,
+    out: &mut O,
+) -> Result<(), TableError>
+    ensures { PutsOutput plan (string_bytes text.now) (O.contents out.old) result (O.contents out.new) }
 {
     let mut held = Held::new(alloc)?;
     let sink = BlockSink::new(out, &mut held);
-    let (result, mut sink) = put_blocked::<BlockSink<'_, O>, Brand>(alloc, text, sink);
+    let (result, mut sink) = put_blocked::<BlockSink<'_, O>, Brand>(alloc, text, plan, sink);
     let result = match result {
         Ok(()) => sink.finish(),
         Err(error) => Err(error),
@@ -72,18 +86,20 @@ fn attempt<I: Read, O: Write>(
     input: &mut I,
     out: &mut O,
 ) -> Result<(), Fault>
-    ensures usage { IsErrOf result Fault.Usage ↔ (length words.now ≢ 0) }
-    ensures unread { length words.now ≢ 0 → (input.new ≡ input.old) × (out.new ≡ out.old) }
-    ensures printed { OnOk result (HasPrinted (I.remaining input.old) (I.remaining input.new)
-        (O.contents out.old) (O.contents out.new)) }
-    ensures begun { OnErr result ((out.new ≡ out.old) ⊎ HasBegun (I.remaining input.old) (I.remaining input.new)
-        (O.contents out.old) (O.contents out.new)) }
+    ensures usage { IsErrOf result Fault.Usage ↔ ((plan : Plan) → ¬ SpellsPlan (map string_bytes words.now) plan) }
+    ensures unread { ((plan : Plan) → ¬ SpellsPlan (map string_bytes words.now) plan)
+        → (input.new ≡ input.old) × (out.new ≡ out.old) }
+    ensures printed { OnOk result ((plan : Plan) × SpellsPlan (map string_bytes words.now) plan
+        × HasPrinted plan (I.remaining input.old) (I.remaining input.new) (O.contents out.old) (O.contents out.new)) }
+    ensures begun { OnErr result ((out.new ≡ out.old)
+        ⊎ ((plan : Plan) × SpellsPlan (map string_bytes words.now) plan
+        × HasBegun plan (I.remaining input.old) (I.remaining input.new) (O.contents out.old) (O.contents out.new))) }
 {
-    if !words.is_empty() {
+    let Some(plan) = plan_of(words) else {
         return Err(Fault::Usage);
-    }
+    };
     let text = read_text(alloc, input)?;
-    put_through(alloc, &text, out)?;
+    put_through(alloc, &text, plan, out)?;
     Ok(())
 }
 
@@ -108,8 +124,9 @@ pub(crate) fn report<E: Write>(fault: &Fault, err: &mut E) -> u8
 
 /// The program: prints the table of tab-separated rows, and a line feed behind it unless it is empty.
 ///
-/// `words` are the program's arguments without its name; none is known so far. `out` gets the table in
-/// blocks, `err` one line where the run fails: the usage, or the word of the refusal, or `Input` where
+/// `words` are the program's arguments without its name: `--wrap N` and `--cut N` narrow a wider table to N columns, by
+/// wrapping or by cutting its texts, `--priority` and `none`, `min`, `max`, `left` or `right` says which columns shrink first,
+/// `--words` keeps words whole, `--stream` prints row by row. `out` gets the table in blocks, `err` one line where the run fails: the usage, or the word of the refusal, or `Input` where
 /// reading failed or the input is no UTF-8. Answers the status: 0, 1 for a refusal, 2 for wrong words,
 /// which end the run before anything is read. The whole input is read and judged before a byte is
 /// written; a failed write to `err` changes nothing.
@@ -121,12 +138,13 @@ pub fn run<I: Read, O: Write, E: Write>(
     err: &mut E,
 ) -> u8
     ensures range { result ≤ 2 }
-    ensures usage { result ≡ 2 ↔ (length words.now ≢ 0) }
+    ensures usage { result ≡ 2 ↔ ((plan : Plan) → ¬ SpellsPlan (map string_bytes words.now) plan) }
     ensures unread { result ≡ 2 → (input.new ≡ input.old) × (out.new ≡ out.old) }
-    ensures printed { result ≡ 0 → HasPrinted (I.remaining input.old) (I.remaining input.new)
-        (O.contents out.old) (O.contents out.new) }
-    ensures begun { result ≡ 1 → (out.new ≡ out.old) ⊎ HasBegun (I.remaining input.old) (I.remaining input.new)
-        (O.contents out.old) (O.contents out.new) }
+    ensures printed { result ≡ 0 → (plan : Plan) × SpellsPlan (map string_bytes words.now) plan
+        × HasPrinted plan (I.remaining input.old) (I.remaining input.new) (O.contents out.old) (O.contents out.new) }
+    ensures begun { result ≡ 1 → (out.new ≡ out.old)
+        ⊎ ((plan : Plan) × SpellsPlan (map string_bytes words.now) plan
+        × HasBegun plan (I.remaining input.old) (I.remaining input.new) (O.contents out.old) (O.contents out.new)) }
     ensures silent { result ≡ 0 → err.new ≡ err.old }
 {
     match attempt(alloc, words, input, out) {

@@ -1,51 +1,73 @@
 //! The table of a text.
-ghost use Rattle.std.specs.Prelude.{◌≡◌, ◌⊎◌, IfErr, length, true};
+ghost use Rattle.std.specs.Prelude.{◌≡◌, ◌⊎◌, IfErr, false, length};
+ghost use Rattle.std.specs.List.{All};
+ghost use Rattle.tabled_text.specs.Measure.{lines_of};
+ghost use Rattle.tabled_size.specs.Sheet.{is_empty};
 ghost use Rattle.tabled_base.specs.declared.error.TableError.TheVariants.{Memory, Range, Writer};
 ghost use Rattle.tabled_base.specs.TextRows.{text_rows};
-ghost use Rattle.tabled_size.specs.Totals.{total_height, total_width};
-ghost use Rattle.tabled_grid.specs.Picture.{picture};
-ghost use Rattle.tabled_row.specs.Plain.{EachLineTakes};
-ghost use Rattle.tabled_grid.specs.Printed.{Prints};
+ghost use Rattle.tabled_base.specs.Cells.{IsRectangular};
 ghost use Rattle.tabled_row.specs.Sent.{Sent};
-ghost use Rattle.tabled_table.specs.TableSheet.{new_sheet};
+ghost use Rattle.tabled_size.specs.TextCells.{AreTexts};
+ghost use Rattle.tabled.specs.Rendered.{IsRendered};
 
+use crate::narrowing::{put_shortened, put_wrapped};
 use crate::plan::Plan;
+use crate::streaming::put_streamed;
 use std::alloc::Global;
-use tabled_base::{TableError, text_rows};
+use tabled_base::{PeekableRecords, TableError, lend_cells, text_rows};
 use tabled_grid::{TextSink, print_estimated};
 use tabled_table::new_config;
 
-/// Prints the table of a text that is measured whole.
-fn put_buffered<S: TextSink>(alloc: Global, text: &str, sink: &mut S) -> Result<(), TableError>
-    ensures printed { Prints true (new_sheet (text_rows text.now)) (S.sent sink.old) result (S.sent sink.new) }
-    ensures only { IfErr result (λ e. (e ≡ Memory) ⊎ ((e ≡ Range) ⊎ (e ≡ Writer))) }
+/// Prints the table that a plan makes of records of single lines.
+fn put_rows<R: PeekableRecords, S: TextSink>(
+    alloc: Global,
+    rows: &R,
+    plan: Plan,
+    sink: &mut S,
+) -> Result<(), TableError>
+    requires filled { is_empty (R.cells rows.now) ≡ false }
+    requires texts { AreTexts (R.cells rows.now) }
+    requires lines { All (All (λ cell. length (lines_of cell) ≡ 1)) (R.cells rows.now) }
+    requires rectangular { IsRectangular (R.cells rows.now) }
+    ensures { IsRendered plan (R.cells rows.now) (S.sent sink.old) result (S.sent sink.new) }
 {
-    if text.is_empty() {
-        return Ok(());
+    match plan {
+        Plan::Buffered => print_estimated(alloc, sink, rows, &new_config(alloc)),
+        Plan::Streamed => put_streamed(alloc, sink, &lend_cells(alloc, rows)?),
+        Plan::Wrapped {
+            target,
+            words,
+            order,
+        } => put_wrapped(
+            alloc,
+            sink,
+            &mut lend_cells(alloc, rows)?,
+            target,
+            words,
+            order,
+        ),
+        Plan::Shortened { target, order } => {
+            put_shortened(alloc, sink, &mut lend_cells(alloc, rows)?, target, order)
+        }
     }
-    let records = text_rows(alloc, text)?;
-    print_estimated(alloc, sink, &records, &new_config(alloc))
 }
 
-/// Prints the table of a text: a row a line (a last line feed ends the last row, and the empty text has
-/// none), a cell between tabs, short rows lengthened with empty cells. No cell is copied. Refused for memory,
-/// with `Range` before the first byte where a total passes the greatest `usize`, and for what the sink
-/// refuses; then a beginning went out. Each line takes the same columns, whatever the cells are.
-#[tactic(auto, using(crate::proofs::TextTables::text_columns, crate::proofs::TextTables::text_lines))]
+/// Prints the table that a plan makes of a text: a row a line (a last line feed ends the last row, and the empty text has
+/// none), a cell between tabs, short rows lengthened with empty cells. No text is copied but those that are wrapped or cut.
+/// Refused for memory, with `Range` before the first byte where a total passes the greatest `usize`, and for what the sink
+/// refuses; then a beginning went out. Whatever the cells are, each line takes the same columns.
 pub fn render<S: TextSink>(
     alloc: Global,
     text: &str,
     plan: Plan,
     sink: &mut S,
 ) -> Result<(), TableError>
-    ensures printed { Prints true (new_sheet (text_rows text.now)) (S.sent sink.old) result (S.sent sink.new) }
+    ensures rendered { IsRendered plan (text_rows text.now) (S.sent sink.old) result (S.sent sink.new) }
     ensures only { IfErr result (λ e. (e ≡ Memory) ⊎ ((e ≡ Range) ⊎ (e ≡ Writer))) }
-    ensures columns { EachLineTakes (total_width (new_sheet (text_rows text.now)))
-        (picture (new_sheet (text_rows text.now))) }
-    ensures lines { length (picture (new_sheet (text_rows text.now)))
-        ≡ total_height (new_sheet (text_rows text.now)) }
 {
-    match plan {
-        Plan::Buffered => put_buffered(alloc, text, sink),
+    if text.is_empty() {
+        return Ok(());
     }
+    let rows = text_rows(alloc, text)?;
+    put_rows(alloc, &rows, plan, sink)
 }

@@ -1,0 +1,182 @@
+-- What is noted of settings is which of them are given.
+use Rattle.std.proofs.Common.{◌≡◌, ◌≢◌, ◌↔◌, ◌⊎◌, ℕ, true, List, [], ◌∷◌, ◌++◌, Option, Some, None, IfNone, IfSome, is_some, get_or, length, refl, sym, ◌∙◌, ap, subst, inl, inr, arith}
+use Rattle.std.specs.List.{Contains}
+use Rattle.std.proofs.lemmas.List.Elements.{Contains-get_or, Contains-push, Contains-push_cases, Contains-append_left}
+use Rattle.std.proofs.lemmas.Option.{none-some}
+use Rattle.std.proofs.lemmas.List.Quantifiers.{all_pairs_push}
+use Rattle.std.proofs.lemmas.List.{get_or_append_left, length-append}
+use Rattle.std.proofs.Math.Seq.{get_or-append_seam}
+use Rattle.tabled.specs.declared.plan.Order.{Order}
+use Rattle.tabled.specs.declared.plan.Plan.{Plan}
+use Rattle.tabled.specs.declared.plan.Plan.TheVariants.{Buffered, Streamed, Wrapped, Shortened}
+use Rattle.tabled.specs.declared.words.Setting.{Setting}
+use Rattle.tabled.specs.declared.words.Setting.TheVariants.{Wrap, Cut, Priority, Words, Stream}
+use Rattle.tabled.specs.declared.words.Settings.{Settings}
+use Rattle.tabled.specs.Noted.{Adds, Notes, NotesAll, NotesName, NotesWords}
+use Rattle.tabled.specs.Words.{Begins, GoTogether, IsCutting, IsOnce, IsOrder, IsWrapping, Makes, Spells, SpellsPlan, name_of}
+use Rattle.tabled.proofs.Spelling.{SpellsBefore, begins_with_one, spells_all, spells_more, spells_one, spells_rest}
+
+-- the value that is there
+there : {X : Type 0} (found : Option X) → is_some found ≡ true → (x : X) × (found ≡ Some x)
+there None h = absurd cc
+there (Some x) h = (x, refl)
+
+-- a setting is noted by its name where one with another value is
+pub notes_wrap : (noted : Settings) (setting : Setting) (target : ℕ) → setting ≡ Wrap target → is_some noted.wrap ≡ true → NotesName noted setting
+notes_wrap noted setting target is found = let (old, e) = there noted.wrap found in (Wrap old, e, ap name_of (sym is))
+
+pub notes_cut : (noted : Settings) (setting : Setting) (target : ℕ) → setting ≡ Cut target → is_some noted.cut ≡ true → NotesName noted setting
+notes_cut noted setting target is found = let (old, e) = there noted.cut found in (Cut old, e, ap name_of (sym is))
+
+pub notes_priority : (noted : Settings) (setting : Setting) (order : Order) → setting ≡ Priority order → is_some noted.order ≡ true
+    → NotesName noted setting
+notes_priority noted setting order is found = let (old, e) = there noted.order found in (Priority old, e, ap name_of (sym is))
+
+-- no setting begins no words
+nothing_begins : (rest behind : List (List ℕ)) (setting : Setting) → rest ≡ [] → ¬ Begins rest setting behind
+nothing_begins rest behind setting e (values, begins, own) = cc
+
+-- the words up to the rest spell settings of different names, which are noted
+pub record ReadsTo (words : List (List ℕ)) (noted : Settings) (rest : List (List ℕ)) : Type 0 where
+  pub settings : List Setting
+  pub spelled : SpellsBefore words settings rest
+  pub once : IsOnce settings
+  pub noted_all : NotesAll noted settings
+
+-- a setting that begins the rest, of a name that wasn't noted, is read too
+pub reads_more : (words : List (List ℕ)) (noted new : Settings) (rest left : List (List ℕ)) (setting : Setting)
+    → ReadsTo words noted rest → Begins rest setting left → Adds noted setting new → ReadsTo words new left
+reads_more words noted new rest left setting read begins adds = record {
+  settings = read.settings ++ setting ∷ [];
+  spelled = spells_more words read.settings rest setting left read.spelled begins;
+  once = all_pairs_push (λ one other. name_of one ≢ name_of other) read.settings setting read.once
+      (λ k d h e. adds.fresh (get_or read.settings k d, (read.noted_all _).1 (Contains-get_or read.settings k d h), e));
+  noted_all = λ other. (
+    λ h. elim ((adds.noted other).0 h) [
+      | inl old ↦ Contains-append_left read.settings (setting ∷ []) other ((read.noted_all other).0 old)
+      | inr same ↦ subst (Contains (read.settings ++ setting ∷ [])) (sym same) (Contains-push read.settings setting)
+    ],
+    λ h. (adds.noted other).1 (elim (Contains-push_cases read.settings setting other h) [
+      | inl old ↦ inl ((read.noted_all other).1 old)
+      | inr same ↦ inr (sym same)
+    ]),
+  );
+}
+
+-- where no setting begins the rest, no settings are spelled
+pub reads_no_more : (words : List (List ℕ)) (noted : Settings) (rest : List (List ℕ)) → ReadsTo words noted rest → rest ≢ []
+    → ((setting : Setting) (left : List (List ℕ)) → ¬ Begins rest setting left) → (all : List Setting) → ¬ Spells words all
+reads_no_more words noted rest read more none all spelled =
+    let (left, e, others) = spells_rest words read.settings rest all read.spelled spelled in
+    nothing left others
+  where
+    nothing : (left : List Setting) → ¬ Spells rest left
+    nothing [] h = more h
+    nothing (setting ∷ left) (others, begins, h) = none setting others begins
+
+-- where nothing is left, all words were read
+pub reads_all : (words : List (List ℕ)) (noted : Settings) (rest : List (List ℕ)) → ReadsTo words noted rest → rest ≡ [] → NotesWords words noted
+reads_all words noted rest read none = record {
+  settings = read.settings;
+  spelled = spells_all words read.settings (subst (SpellsBefore words read.settings) none read.spelled);
+  once = read.once;
+  noted_all = read.noted_all;
+}
+
+-- a name that settings have stands twice where another setting of that name follows
+twice : (settings left : List Setting) (other setting : Setting) → Contains settings other → name_of other ≡ name_of setting
+    → ¬ IsOnce (settings ++ setting ∷ left)
+twice settings left other setting (k, within, at) name once =
+    once k (length settings) other within (simp length-append (omega arith))
+    (ap name_of (get_or_append_left settings (setting ∷ left) other k within ∙ at) ∙ name
+    ∙ ap name_of (sym (get_or-append_seam settings setting left other)))
+
+-- where the next name was noted, it stands twice in what is spelled
+pub reads_twice : (words : List (List ℕ)) (noted : Settings) (rest behind : List (List ℕ)) (setting : Setting)
+    → ReadsTo words noted rest → Begins rest setting behind → NotesName noted setting → (all : List Setting) → Spells words all → ¬ IsOnce all
+reads_twice words noted rest behind setting read begins (other, old, name) all spelled once =
+    let (left, e, others) = spells_rest words read.settings rest all read.spelled spelled in
+    stands_twice left others (subst IsOnce e once)
+  where
+    stands_twice : (left : List Setting) → Spells rest left → ¬ IsOnce (read.settings ++ left)
+    stands_twice [] h = absurd (nothing_begins rest behind setting h begins)
+    stands_twice (next ∷ left) (others, begun, h) =
+        twice read.settings left other next ((read.noted_all other).0 old)
+        (name ∙ ap name_of (begins_with_one rest setting next behind others begins begun).0)
+
+-- What is told of settings by which are given is the same where the same are given.
+module _ (P Q : Setting → Type 0) (same : (setting : Setting) → P setting ↔ Q setting) where
+  wraps : IsWrapping P → IsWrapping Q
+  wraps (target, h) = (target, (same (Wrap target)).0 h)
+
+  cuts : IsCutting P → IsCutting Q
+  cuts (target, h) = (target, (same (Cut target)).0 h)
+
+  limits : IsWrapping P ⊎ IsCutting P → IsWrapping Q ⊎ IsCutting Q
+  limits (inl h) = inl (wraps h)
+  limits (inr h) = inr (cuts h)
+
+  unwraps : IsWrapping Q → IsWrapping P
+  unwraps (target, h) = (target, (same (Wrap target)).1 h)
+
+  uncuts : IsCutting Q → IsCutting P
+  uncuts (target, h) = (target, (same (Cut target)).1 h)
+
+  unlimits : IsWrapping Q ⊎ IsCutting Q → IsWrapping P ⊎ IsCutting P
+  unlimits (inl h) = inl (unwraps h)
+  unlimits (inr h) = inr (uncuts h)
+
+  together_same : GoTogether P → GoTogether Q
+  together_same go = record {
+    one_target = λ h. go.one_target (unwraps h.0, uncuts h.1);
+    words_to_wrap = λ h. wraps (go.words_to_wrap ((same Words).1 h));
+    order_for_target = λ h. limits (go.order_for_target (h.0, (same (Priority h.0)).1 h.1));
+    stream_alone = λ h limit. go.stream_alone ((same Stream).1 h) (unlimits limit);
+  }
+
+  order_same : (order : Order) → IsOrder P order → IsOrder Q order
+  order_same order (inl h) = inl ((same (Priority order)).0 h)
+  order_same order (inr h) = inr (λ h'. h.0 (h'.0, (same (Priority h'.0)).1 h'.1), h.1)
+
+  makes_same : (plan : Plan) → Makes P plan → Makes Q plan
+  makes_same Buffered h = (λ w. h.0 (unwraps w), λ c. h.1 (uncuts c), λ s. h.2 ((same Stream).1 s))
+  makes_same Streamed h = (same Stream).0 h
+  makes_same (Wrapped target words order) h = (
+    (same (Wrap target)).0 h.0,
+    (λ w. (same Words).0 (h.1.0 w), λ w. h.1.1 ((same Words).1 w)),
+    order_same order h.2,
+  )
+  makes_same (Shortened target order) h = ((same (Cut target)).0 h.0, order_same order h.1)
+
+-- the plan of the noted settings is the one that the words spell
+pub notes_plan : (words : List (List ℕ)) (noted : Settings) → NotesWords words noted → (plan : Plan)
+    → (GoTogether (Notes noted) × Makes (Notes noted) plan) ↔ SpellsPlan words plan
+notes_plan words noted h plan = (
+  λ made. record {
+    settings = h.settings;
+    spelled = h.spelled;
+    once = h.once;
+    together = together_same (Notes noted) (Contains h.settings) h.noted_all made.0;
+    made = makes_same (Notes noted) (Contains h.settings) h.noted_all plan made.1;
+  },
+  λ spells.
+      let e = spells_one words h.settings spells.settings h.spelled spells.spelled in
+      let back : (setting : Setting) → Contains spells.settings setting ↔ Notes noted setting =
+      let Same : List Setting → Type 0 = λ settings. (setting : Setting) → Contains settings setting ↔ Notes noted setting in
+      subst Same (sym e) (λ setting. ((h.noted_all setting).1, (h.noted_all setting).0)) in (
+        together_same (Contains spells.settings) (Notes noted) back spells.together,
+        makes_same (Contains spells.settings) (Notes noted) back plan spells.made,
+      ),
+)
+
+-- no plan is spelled where none was found
+pub none_spelled : (words : List (List ℕ)) (found : Option Plan) → ((plan : Plan) → (found ≡ Some plan) ↔ SpellsPlan words plan)
+    → IfNone found ((plan : Plan) → ¬ SpellsPlan words plan)
+none_spelled words None same = λ plan spelled. let e : None ≡ Some plan = (same plan).1 spelled in none-some plan e
+none_spelled words (Some plan) same = tt
+
+-- the plan that was found is spelled
+pub some_spelled : (words : List (List ℕ)) (found : Option Plan) → ((plan : Plan) → (found ≡ Some plan) ↔ SpellsPlan words plan)
+    → IfSome found (SpellsPlan words)
+some_spelled words None same = tt
+some_spelled words (Some plan) same = (same plan).0 refl

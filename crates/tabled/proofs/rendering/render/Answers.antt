@@ -1,0 +1,40 @@
+use Rattle.std.proofs.Common.{◌≡◌, ◌∙◌, ℕ, List, length, All, Ok, ap, refl, subst, sym}
+use Rattle.tabled_base.specs.Cells.{IsRectangular}
+use Rattle.tabled_base.specs.TextRows.{text_rows}
+use Rattle.tabled_size.specs.Sheet.{is_empty}
+use Rattle.tabled_size.specs.TextCells.{AreTexts}
+use Rattle.tabled_text.specs.Measure.{lines_of}
+use Rattle.tabled.specs.Planned.{Cells}
+use Rattle.tabled.specs.Rendered.{IsRendered}
+use Rattle.tabled.proofs.PlannedTables.{only_rendered, rendered_empty}
+use Rattle.tabled.proofs.TextLines.{one_line_each}
+use Rattle.tabled.proofs.TextTables.{text_empty, text_filled, text_rectangular, texts_of_text}
+use Rattle.tabled.proofs.rendering.render.Goals as goal
+
+pub returns-then-is_empty-clause-rendered : goal.returns-then-is_empty-clause-rendered
+returns-then-is_empty-clause-rendered g c =
+    let text = c.args.text.now in
+    let done : Unit {0} = tt in
+    rendered_empty (text_rows text) (text_empty text c.if-is_empty.ensures) c.args.plan (g.S.TextSink.sent c.args.sink.now) (Ok done) (text_rectangular text)
+    (texts_of_text text c.utf8.text) refl
+
+pub put_rows-requires-clause-filled : goal.put_rows-requires-clause-filled
+put_rows-requires-clause-filled g c = ap is_empty c.in_ok-rows.ensures.ok ∙ text_filled c.args.text.now c.if-is_empty.ensures
+
+pub put_rows-requires-clause-texts : goal.put_rows-requires-clause-texts
+put_rows-requires-clause-texts g c = subst AreTexts (sym c.in_ok-rows.ensures.ok) (texts_of_text c.args.text.now c.utf8.text)
+
+pub put_rows-requires-clause-lines : goal.put_rows-requires-clause-lines
+put_rows-requires-clause-lines g c =
+    subst (All (All (λ (cell : List ℕ). length (lines_of cell) ≡ 1))) (sym c.in_ok-rows.ensures.ok) (one_line_each c.args.text.now)
+
+pub put_rows-requires-clause-rectangular : goal.put_rows-requires-clause-rectangular
+put_rows-requires-clause-rectangular g c = subst IsRectangular (sym c.in_ok-rows.ensures.ok) (text_rectangular c.args.text.now)
+
+pub returns-clause-rendered : goal.returns-clause-rendered
+returns-clause-rendered g c =
+    subst (λ (cells : Cells). IsRendered c.args.plan cells (g.S.TextSink.sent c.args.sink.now) c.put_rows.result (g.S.TextSink.sent c.put_rows.new.sink))
+    c.in_ok-rows.ensures.ok c.put_rows.ensures
+
+pub returns-clause-only : goal.returns-clause-only
+returns-clause-only g c = only_rendered c.args.plan c.in_ok-rows.rows _ c.put_rows.result _ c.put_rows.ensures

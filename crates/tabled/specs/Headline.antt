@@ -1,0 +1,70 @@
+-- What holds of the table that a plan makes of the cells of a text, each sentence by a name of its own.
+use Rattle.std.specs.Prelude.{◌≡◌, ◌<◌, ℕ, Bool, false, ⊤, length}
+use Rattle.std.specs.List.{All}
+use Rattle.tabled_grid.specs.Picture.{picture}
+use Rattle.tabled_resize.specs.BestNarrowing.{HasLeastWidth, IsBestCut, IsBestWrapped}
+use Rattle.tabled_resize.specs.ExactTotal.{HasExactTotal}
+use Rattle.tabled_row.specs.Plain.{EachLineTakes}
+use Rattle.tabled_size.specs.Sheet.{Sheet}
+use Rattle.tabled_size.specs.Totals.{total_height, total_width}
+use Rattle.tabled_stream.specs.LikeTable.{IsExactLine}
+use Rattle.tabled_table.specs.TableSheet.{new_sheet}
+use Rattle.tabled.specs.declared.plan.Order.{Order}
+use Rattle.tabled.specs.declared.plan.Order.TheVariants.{Round, Least, Greatest, Leftmost, Rightmost}
+use Rattle.tabled.specs.declared.plan.Plan.{Plan}
+use Rattle.tabled.specs.declared.plan.Plan.TheVariants.{Buffered, Streamed, Wrapped, Shortened}
+use Rattle.tabled.specs.Planned.{Cells}
+
+-- a wider table that is wrapped or shortened to n takes n columns, or those of the empty table where these are more, and
+-- its columns hold its cells
+abbrev pub HasWantedTotal : Plan → Sheet → Sheet → Type 0
+HasWantedTotal Buffered old new = ⊤
+HasWantedTotal Streamed old new = ⊤
+HasWantedTotal (Wrapped n words order) old new = n < total_width old → HasExactTotal n old new
+HasWantedTotal (Shortened n order) old new = n < total_width old → HasExactTotal n old new
+
+-- where the greatest columns shrink first, no permitted widths of the same sum have a lesser greatest one
+abbrev pub IsLeastBy : Order → Sheet → Sheet → Type 0
+IsLeastBy Round old new = ⊤
+IsLeastBy Least old new = ⊤
+IsLeastBy Greatest old new = HasLeastWidth old new
+IsLeastBy Leftmost old new = ⊤
+IsLeastBy Rightmost old new = ⊤
+
+abbrev pub HasLeastGreatestWidth : Plan → Sheet → Sheet → Type 0
+HasLeastGreatestWidth Buffered old new = ⊤
+HasLeastGreatestWidth Streamed old new = ⊤
+HasLeastGreatestWidth (Wrapped n words order) old new = n < total_width old → IsLeastBy order old new
+HasLeastGreatestWidth (Shortened n order) old new = n < total_width old → IsLeastBy order old new
+
+-- a wrapped cell has the fewest lines of all breakings for its room, and without the breaks put in it is the old text
+abbrev pub HasFewestBreaks : Plan → Sheet → Sheet → Type 0
+HasFewestBreaks Buffered old new = ⊤
+HasFewestBreaks Streamed old new = ⊤
+HasFewestBreaks (Wrapped n words order) old new = n < total_width old → IsBestWrapped words old new
+HasFewestBreaks (Shortened n order) old new = ⊤
+
+-- a cut cell of one line, whose characters count as its columns, is the longest beginning that fits
+abbrev pub HasLongestBeginnings : Plan → Sheet → Sheet → Type 0
+HasLongestBeginnings Buffered old new = ⊤
+HasLongestBeginnings Streamed old new = ⊤
+HasLongestBeginnings (Wrapped n words order) old new = ⊤
+HasLongestBeginnings (Shortened n order) old new = n < total_width old → IsBestCut false old new
+
+-- streamed cells that are lines whose characters count as their columns give the table that is measured whole
+abbrev pub IsAsBuffered : Plan → Sheet → Sheet → Type 0
+IsAsBuffered Buffered old new = ⊤
+IsAsBuffered Streamed old new = All (All IsExactLine) old.cells → new ≡ old
+IsAsBuffered (Wrapped n words order) old new = ⊤
+IsAsBuffered (Shortened n order) old new = ⊤
+
+-- all of it: each line takes the total width, whatever the texts are, there are as many as the total height says, and
+-- the table is as good as its plan asks
+pub record IsBestPlanned (plan : Plan) (cells : Cells) (t : Sheet) : Type 0 where
+  pub edges : EachLineTakes (total_width t) (picture t)
+  pub lines : length (picture t) ≡ total_height t
+  pub total : HasWantedTotal plan (new_sheet cells) t
+  pub least : HasLeastGreatestWidth plan (new_sheet cells) t
+  pub fewest : HasFewestBreaks plan (new_sheet cells) t
+  pub longest : HasLongestBeginnings plan (new_sheet cells) t
+  pub alike : IsAsBuffered plan (new_sheet cells) t

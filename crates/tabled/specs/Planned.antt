@@ -1,0 +1,55 @@
+-- The table that a plan makes of the cells of a text.
+use Rattle.std.specs.Prelude.{◌≡◌, ℕ, ◌-◌, true, false, List, [], MatchBool, nat_le}
+use Rattle.tabled_change.specs.CellChanges.{AreChanged, if_wider, truncating, wrapping}
+use Rattle.tabled_change.specs.declared.suffix.SuffixLimit.TheVariants.{Cut}
+use Rattle.tabled_priority.specs.Shrunk.{IsLeftShrunk, IsMaxShrunk, IsMinShrunk, IsRightShrunk, IsRoundShrunk}
+use Rattle.tabled_resize.specs.BestNarrowing.{text_room}
+use Rattle.tabled_resize.specs.Minimums.{minimums}
+use Rattle.tabled_resize.specs.Narrowed.{for_room}
+use Rattle.tabled_size.specs.Estimates.{estimated_heights, estimated_widths}
+use Rattle.tabled_size.specs.Sheet.{Sheet}
+use Rattle.tabled_size.specs.Totals.{total_width}
+use Rattle.tabled_table.specs.TableSheet.{new_sheet}
+use Rattle.tabled_text.specs.Cut.{IsCut}
+use Rattle.tabled.specs.declared.plan.Order.{Order}
+use Rattle.tabled.specs.declared.plan.Order.TheVariants.{Round, Least, Greatest, Leftmost, Rightmost}
+use Rattle.tabled.specs.declared.plan.Plan.{Plan}
+use Rattle.tabled.specs.declared.plan.Plan.TheVariants.{Buffered, Streamed, Wrapped, Shortened}
+
+-- the texts of a table, row by row
+abbrev pub Cells : Type 0
+Cells = List (List (List ℕ))
+
+-- what becomes of widths that shrink in an order, by so much in all and under some minimums
+abbrev pub OrderShrinks : Order → List ℕ → List ℕ → ℕ → List ℕ → Type 0
+OrderShrinks Round old mins by new = (kept : ℕ) × IsRoundShrunk 0 old mins by new kept
+OrderShrinks Least old mins by new = IsMinShrunk true old mins by new
+OrderShrinks Greatest old mins by new = IsMaxShrunk true old mins by new
+OrderShrinks Leftmost old mins by new = IsLeftShrunk old mins by new
+OrderShrinks Rightmost old mins by new = IsRightShrunk old mins by new
+
+-- a table narrowed to n: its widths shrink by what the total has above n, each cell is changed for the room that its
+-- column leaves it, and the rows are as high as the new texts ask for
+pub record IsNarrowedTo (shrinks : List ℕ → List ℕ → ℕ → List ℕ → Type 0) (change : ℕ → List ℕ → List ℕ → Type 0) (n : ℕ) (old new : Sheet) : Type 0 where
+  pub config : new.config ≡ old.config
+  pub widths : shrinks old.widths (minimums old.cells old.config) (total_width old - n) new.widths
+  pub cells : AreChanged (λ row column. true) (for_room change old new.widths) old.cells new.cells
+  pub heights : new.heights ≡ estimated_heights new.cells new.config
+
+-- one of at most n columns stays as it is
+abbrev pub FitsInto : (List ℕ → List ℕ → ℕ → List ℕ → Type 0) → (ℕ → List ℕ → List ℕ → Type 0) → ℕ → Sheet → Sheet → Type 0
+FitsInto shrinks change n old new = MatchBool (nat_le (total_width old) n) (new ≡ old) (IsNarrowedTo shrinks change n old new)
+
+-- a streamed table has the sizes of the new one, and each cell is cut to the room that its column leaves it
+pub record IsStreamedFrom (old new : Sheet) : Type 0 where
+  pub config : new.config ≡ old.config
+  pub widths : new.widths ≡ old.widths
+  pub cells : AreChanged (λ row column. true) (λ row column. IsCut (text_room old row column)) old.cells new.cells
+  pub heights : new.heights ≡ old.heights
+
+-- the table that a plan makes of some cells: the new one, and with some columns to keep to, the new one fitted into them
+abbrev pub IsPlanned : Plan → Cells → Sheet → Type 0
+IsPlanned Buffered cells t = t ≡ new_sheet cells
+IsPlanned Streamed cells t = IsStreamedFrom (new_sheet cells) t
+IsPlanned (Wrapped n words order) cells t = FitsInto (OrderShrinks order) (wrapping words) n (new_sheet cells) t
+IsPlanned (Shortened n order) cells t = FitsInto (OrderShrinks order) (if_wider (truncating [] Cut false)) n (new_sheet cells) t

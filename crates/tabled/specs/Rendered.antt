@@ -1,0 +1,57 @@
+-- What is left of a sink by a call that prints the table of a plan.
+use Rattle.std.specs.Prelude.{◌≡◌, ◌⊎◌, ◌++◌, List, ℕ, Result, Ok, Err}
+use Rattle.std.specs.Io.KnownBytes.{Appends}
+use Rattle.tabled_base.specs.declared.error.TableError.{TableError}
+use Rattle.tabled_base.specs.declared.error.TableError.TheVariants.{Memory, Range}
+use Rattle.tabled_grid.specs.Picture.{table_text}
+use Rattle.tabled_grid.specs.Printed.{IsOutOfRange}
+use Rattle.tabled_row.specs.Sent.{IsCause, Sends, Sent}
+use Rattle.tabled_size.specs.Sheet.{Sheet}
+use Rattle.tabled_table.specs.TableSheet.{new_sheet}
+use Rattle.tabled.specs.declared.plan.Plan.{Plan}
+use Rattle.tabled.specs.declared.plan.Plan.TheVariants.{Streamed}
+use Rattle.tabled.specs.Headline.{IsBestPlanned}
+use Rattle.tabled.specs.Planned.{Cells, IsPlanned}
+
+-- ---- a table that is known by what it is planned to be, and what holds of it then
+
+-- its text was added
+pub record SendsTable (planned best : Sheet → Type 0) (old new : Sent) : Type 0 where
+  pub table : Sheet
+  pub is_planned : planned table
+  pub is_best : best table
+  pub sends : Sends old new (table_text table)
+
+-- a beginning of its text was added, up to what the sink refused, or to a place where the call halts by itself
+pub record BreaksOff (planned best : Sheet → Type 0) (halts : TableError → Type 0) (old : Sent) (error : TableError) (new : Sent) : Type 0 where
+  pub table : Sheet
+  pub is_planned : planned table
+  pub is_best : best table
+  pub front : List ℕ
+  pub rest : List ℕ
+  pub whole : front ++ rest ≡ table_text table
+  pub added : Appends old.bytes new.bytes front
+  pub cause : IsCause error old.grows old.failures new.failures ⊎ halts error
+
+-- a total of the new table, or of the one that is planned, passes the greatest `usize`
+abbrev pub PassesRange : (Sheet → Type 0) → Cells → Type 0
+PassesRange planned cells = IsOutOfRange (new_sheet cells) ⊎ ((t : Sheet) × planned t × IsOutOfRange t)
+
+-- by the answer: all of the text was added; or it is refused, before the first byte for memory or a total out of range, or
+-- in the middle
+abbrev pub PrintsPlanned : {T : Type 0} → (Sheet → Type 0) → (Sheet → Type 0) → (TableError → Type 0) → Cells → Sent → Result T TableError → Sent → Type 0
+PrintsPlanned planned best halts cells old (Ok _) new = SendsTable planned best old new
+PrintsPlanned planned best halts cells old (Err error) new =
+    ((error ≡ Memory) × (new ≡ old))
+    ⊎ (((error ≡ Range) × (new ≡ old) × PassesRange planned cells) ⊎ BreaksOff planned best halts old error new)
+
+-- ---- the table of a plan
+
+-- printing halts in the middle only of a streamed table, at a cell that it was refused memory for
+abbrev pub Halts : Plan → TableError → Type 0
+Halts plan error = (plan ≡ Streamed) × (error ≡ Memory)
+
+-- what rendering some cells under a plan leaves: the table that the plan makes of them, which is as good as can be, was printed
+abbrev pub IsRendered : {T : Type 0} → Plan → Cells → Sent → Result T TableError → Sent → Type 0
+IsRendered plan cells old result new =
+    PrintsPlanned (IsPlanned plan cells) (IsBestPlanned plan cells) (Halts plan) cells old result new
