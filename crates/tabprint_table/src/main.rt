@@ -1,16 +1,9 @@
-//! Prints what `tabprint` prints without words. Its stored run shows a table, that of `tabprint` a wrong word.
+//! The program `tabprint` again: its stored run has no words.
 #![tactic(auto)]
 
 use std::process::ExitCode;
-use tabled::run;
+use tabprint_main::start;
 
 fn main(rt: HostRuntime) -> ExitCode {
-    let status = run(
-        rt.alloc(),
-        &[],
-        &mut rt.stdin(),
-        &mut rt.stdout(),
-        &mut rt.stderr(),
-    );
-    ExitCode::from(status)
+    ExitCode::from(start(&rt))
 }

@@ -1,0 +1,42 @@
+//! What the `main` of `tabprint` does, which its stored runs share: it reads the words of the command line, and runs the
+//! program over the standard streams.
+#![tactic(auto)]
+
+use std::{env, io};
+use tabled::run;
+
+/// Runs the program, and answers its status: that of `run`, or 1 with a word on standard error where the words of the command
+/// line can't be had.
+pub fn start(rt: &HostRuntime) -> u8 {
+    let words = match arguments(rt) {
+        Ok(words) => words,
+        Err(error) => {
+            let _ = eprintln!(rt; "{}", fault_word(&error));
+            return 1;
+        }
+    };
+    run(
+        rt.alloc(),
+        words.as_slice(),
+        &mut rt.stdin(),
+        &mut rt.stdout(),
+        &mut rt.stderr(),
+    )
+}
+
+/// The line for words that couldn't be had: memory was refused, or one is no UTF-8.
+fn fault_word(error: &io::Error) -> &'static str {
+    match error.kind() {
+        io::ErrorKind::OutOfMemory => "Memory",
+        _ => "Input",
+    }
+}
+
+/// The words behind the program's name.
+fn arguments(rt: &HostRuntime) -> io::Result<Vec<String>> {
+    let mut words = Vec::new(rt.alloc());
+    for word in env::args(rt)?.skip(1) {
+        words.push(word)?;
+    }
+    Ok(words)
+}
