@@ -1,0 +1,53 @@
+//! Prints comma-separated values from standard input as a table, once all of them are read and judged.
+#![tactic(auto)]
+
+mod reading;
+mod words;
+
+use anyhow::Result;
+use reading::{Rows, read_rows};
+use std::env;
+use std::process::ExitCode;
+use tabled::grid::config::{AlignmentHorizontal, Entity};
+use tabled::settings::peaker::Priority;
+use tabled::settings::{Style, Width};
+use tabled::{Table, TableError};
+use words::{command, style_of, terminal_width};
+
+fn main(rt: HostRuntime) -> Result<ExitCode> {
+    let alloc = rt.alloc();
+    let words: Vec<String> = env::args(&rt)?.collect(alloc)?;
+    let matches = match command(alloc)?.try_get_matches_from(words.as_slice()) {
+        Ok(matches) => matches,
+        Err(error) => {
+            error.print(&rt)?;
+            return Ok(ExitCode::from(error.exit_code() as u8));
+        }
+    };
+    let style = style_of(matches.get_str("style"));
+    let width = matches.get_one::<usize>("width");
+    let width = width.or_else(|| terminal_width(&rt));
+    let text = dressed(read_rows(alloc, rt.stdin())?, style, width)?;
+    if !text.is_empty() {
+        println!(rt; "{text}")?;
+    }
+    Ok(ExitCode::SUCCESS)
+}
+
+/// The table of rows: numbers at the right, and at most so many columns a line, where the widest columns give way first and words
+/// are kept.
+fn dressed(rows: Rows, style: Style, width: Option<usize>) -> Result<String, TableError> {
+    let mut table = Table::from(rows.builder);
+    table.apply(style)?;
+    for (column, is_number) in rows.are_numbers.into_iter().enumerate() {
+        if is_number {
+            let config = table.get_config_mut().as_mut();
+            config.set_alignment_horizontal(Entity::Column(column), AlignmentHorizontal::Right)?;
+        }
+    }
+    if let Some(width) = width {
+        let narrow = Width::wrap(width).keep_words(true);
+        table.apply(narrow.priority(Priority::max(true)))?;
+    }
+    table.to_string()
+}
