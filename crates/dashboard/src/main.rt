@@ -1,0 +1,78 @@
+//! Draws readings as a dashboard of a given width, once all of them are read: a headline above panels side by side, and in each panel
+//! its readings one below the other.
+#![tactic(auto)]
+
+use anyhow::{Context, Result, bail, ensure};
+use indexmap::IndexMap;
+use std::alloc::Global;
+use std::{env, io};
+use tabled::TableError;
+use tabled::grid::util::string::{cut_str, text_width, wrap_text};
+use tabled::settings::Style;
+use tabled::tables::{PoolTable, TableValue};
+
+fn main(rt: HostRuntime) -> Result<()> {
+    let alloc = rt.alloc();
+    let width = width_of(&rt)?;
+    let text = io::read_to_string(alloc, rt.stdin()).context("reading the input")?;
+    let mut lines = (1..=u64::MAX).zip(text.lines());
+    let headline = lines.next().map_or("", |first| first.1);
+    let mut panels = IndexMap::new(alloc);
+    for (number, line) in lines {
+        let Some((panel, reading)) = line.split_once('\t') else {
+            bail!("line {number} has no panel and reading");
+        };
+        let readings = panels.entry(panel)?.or_insert(Vec::new(alloc));
+        readings.push(reading.replace(alloc, '\t', "\n")?)?;
+    }
+    let Some(share) = width.saturating_sub(1).checked_div(panels.len()) else {
+        bail!("there is no reading");
+    };
+    // Each panel has a line on its left, and padding.
+    let room = share.saturating_sub(3);
+    ensure!(room > 0, "{width} columns are too few for the panels");
+    let mut beside = Vec::new(alloc);
+    for (panel, readings) in panels {
+        beside.push(panel_of(alloc, panel, readings, room)?)?;
+    }
+    let parts = [
+        filled(alloc, headline, width.saturating_sub(4))?,
+        TableValue::Row(beside),
+    ];
+    let mut table = PoolTable::from_value(TableValue::Column(Vec::from_array(alloc, parts)?));
+    table.apply(Style::modern())?;
+    println!(rt; "{}", table.to_string()?)?;
+    Ok(())
+}
+
+fn width_of(rt: &HostRuntime) -> Result<usize> {
+    let Some(word) = env::args(rt)?.nth(1) else {
+        bail!("the first word is a number of columns");
+    };
+    word.parse::<usize>()
+        .context(format_args!("{word} is no number of columns"))
+}
+
+/// A name above readings, each wrapped to so many columns.
+fn panel_of(
+    alloc: Global,
+    name: &str,
+    readings: Vec<String>,
+    room: usize,
+) -> Result<TableValue, TableError> {
+    let mut parts = Vec::new(alloc);
+    parts.push(TableValue::Cell(wrap_text(alloc, name, room, true)?))?;
+    for reading in readings {
+        parts.push(TableValue::Cell(wrap_text(alloc, &reading, room, true)?))?;
+    }
+    Ok(TableValue::Column(parts))
+}
+
+/// A text in just so many columns, so that the table is as wide as is asked for.
+fn filled(alloc: Global, text: &str, room: usize) -> Result<TableValue, TableError> {
+    let mut line = cut_str(alloc, text, room)?.into_owned(alloc)?;
+    for _column in text_width(&line)..room {
+        line.push(' ')?;
+    }
+    Ok(TableValue::Cell(line))
+}
