@@ -1,0 +1,26 @@
+//! Prints tab-separated rows as `psql` prints the answer of a query, once all of them are read.
+#![tactic(auto)]
+
+use anyhow::{Context, Result};
+use std::io;
+use tabled::Table;
+use tabled::builder::Builder;
+use tabled::settings::Style;
+
+fn main(rt: HostRuntime) -> Result<()> {
+    let alloc = rt.alloc();
+    let text = io::read_to_string(alloc, rt.stdin()).context("reading the input")?;
+    let mut builder = Builder::new(alloc);
+    for line in text.lines() {
+        builder.add_record(line.split('\t'))?;
+    }
+    let mut table = Table::from(builder);
+    table.apply(Style::psql())?;
+    println!(rt; "{}", table.to_string()?)?;
+    match table.count_rows() {
+        0 | 1 => println!(rt; "(0 rows)")?,
+        2 => println!(rt; "(1 row)")?,
+        rows => println!(rt; "({} rows)", rows - 1)?,
+    }
+    Ok(())
+}
