@@ -1,10 +1,32 @@
 -- The cells of a text, one behind another.
 use Rattle.std.proofs.Common.{◌≡◌, ℕ, zero, suc, ◌+◌, ◌<◌, List, [], ◌∷◌, ◌++◌, length, max, get_or, refl, sym, ap, subst, ◌∙◌, arith}
 use Rattle.std.specs.List.{slice_range}
+use Rattle.std.proofs.lemmas.List.{get_or-map, length-map, map-append}
 use Rattle.tabled_text.specs.Measure.{greatest}
-use Rattle.tabled_base.specs.LentRows.{AreLent, ArePlaced, IsLent, begin, behind, texts_from}
+use Rattle.tabled_base.specs.LentRows.{AreLent, ArePlaced, IsLent, begin, behind, cells_in, rows_in, texts_from}
 use Rattle.tabled_base.specs.declared.lent_rows.LentCell.{LentCell}
 use Rattle.tabled_base.specs.declared.lent_rows.RowRange.{RowRange}
+
+-- cells and rows that are kept in pairs
+pub cells-count : (pairs : List (ℕ × ℕ)) → length (cells_in pairs) ≡ length pairs
+cells-count pairs = length-map pairs (λ pair. record { end = pair.0; columns = pair.1 })
+
+pub cells-more : (pairs : List (ℕ × ℕ)) (cell : LentCell) → cells_in (pairs ++ (cell.end, cell.columns) ∷ []) ≡ cells_in pairs ++ cell ∷ []
+cells-more pairs cell = map-append (λ pair. record { end = pair.0; columns = pair.1 }) pairs ((cell.end, cell.columns) ∷ [])
+
+pub cell-in : (pairs : List (ℕ × ℕ)) (i : ℕ) (p : ℕ × ℕ) (d : LentCell) → i < length pairs
+    → get_or (cells_in pairs) i d ≡ record { end = (get_or pairs i p).0; columns = (get_or pairs i p).1 }
+cell-in pairs i p d l = get_or-map (λ pair. record { end = pair.0; columns = pair.1 }) pairs i p d l
+
+pub rows-count : (pairs : List (ℕ × ℕ)) → length (rows_in pairs) ≡ length pairs
+rows-count pairs = length-map pairs (λ pair. record { start = pair.0; count = pair.1 })
+
+pub rows-more : (pairs : List (ℕ × ℕ)) (row : RowRange) → rows_in (pairs ++ (row.start, row.count) ∷ []) ≡ rows_in pairs ++ row ∷ []
+rows-more pairs row = map-append (λ pair. record { start = pair.0; count = pair.1 }) pairs ((row.start, row.count) ∷ [])
+
+pub row-in : (pairs : List (ℕ × ℕ)) (i : ℕ) (p : ℕ × ℕ) (d : RowRange) → i < length pairs
+    → get_or (rows_in pairs) i d ≡ record { start = (get_or pairs i p).0; count = (get_or pairs i p).1 }
+row-in pairs i p d l = get_or-map (λ pair. record { start = pair.0; count = pair.1 }) pairs i p d l
 
 pub length-texts : (text : List ℕ) (start : ℕ) (cells : List LentCell) → length (texts_from text start cells) ≡ length cells
 length-texts text start [] = refl

@@ -1,7 +1,7 @@
 -- Rows whose cells stand in one list.
-use Rattle.std.proofs.Common.{◌≡◌, ℕ, ◌+◌, ◌-◌, ◌<◌, ◌≤◌, List, [], ◌∷◌, ◌++◌, length, map, take, drop, replicate, get_or, refl, sym, ap, ◌∙◌, arith, All}
+use Rattle.std.proofs.Common.{◌≡◌, ℕ, zero, suc, ◌+◌, ◌-◌, ◌<◌, ◌≤◌, List, [], ◌∷◌, ◌++◌, length, map, take, drop, replicate, get_or, refl, sym, ap, ◌∙◌, arith, All}
 use Rattle.std.proofs.Math.Seq.{take-length}
-use Rattle.std.proofs.lemmas.List.{drop-append-le, get_or-drop, get_or-map, get_or-take, get_or_append_left, length-drop, length-take, take-append-le}
+use Rattle.std.proofs.lemmas.List.{drop-append-le, get_or-drop, get_or-map, get_or-take, get_or-append_right, get_or_append_left, length-drop, length-take, take-append-le}
 use Rattle.std.proofs.lemmas.List.Elements.{All-head, All-tail, All-cons, All-nil, All-append, All-map}
 use Rattle.std.proofs.lemmas.Simd.{map-map}
 use Rattle.tabled_text.specs.Measure.{greatest}
@@ -102,3 +102,18 @@ cell-spread cells n rows row column d h r c =
     (ap (λ cs. get_or cs column []) (get_or-map (λ span. lengthened n (part cells span)) rows row d [] r)
     ∙ get_or_append_left (part cells span) (replicate (n - length (part cells span)) []) [] column (omega (arith, c, size))
     ∙ get_or-take span.count (drop span.start cells) column [] c ∙ get_or-drop span.start cells column [])
+
+-- a cell that only lengthens its row is empty
+pub cell-lengthened : (cells : List (List ℕ)) (n : ℕ) (rows : List RowRange) (row column : ℕ) (d : RowRange) → ArePlaced (length cells) n rows
+    → row < length rows → (get_or rows row d).count ≤ column → get_or (get_or (spread cells n rows) row []) column [] ≡ []
+cell-lengthened cells n rows row column d h r c =
+    let span = get_or rows row d in
+    let count = n - length (part cells span) in
+    ap (λ cs. get_or cs column []) (get_or-map (λ span. lengthened n (part cells span)) rows row d [] r)
+    ∙ get_or-append_right (part cells span) (replicate count []) span.count column [] (length-part cells span n (h row d r)) c
+    ∙ none count (column - span.count)
+  where
+    none : (k i : ℕ) → get_or {A = List ℕ} (replicate k []) i [] ≡ []
+    none zero i = refl
+    none (suc k) zero = refl
+    none (suc k) (suc i) = none k i

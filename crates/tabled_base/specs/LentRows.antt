@@ -16,6 +16,13 @@ HasNo byte text = All (λ b. (b == byte) ≡ false) text
 abbrev pub IsPrintable : List ℕ → Type 0
 IsPrintable text = list_all (is_in_range 0x20 0x7E) text ≡ true
 
+-- cells and rows as they are kept, in pairs of numbers
+abbrev pub cells_in : List (ℕ × ℕ) → List LentCell
+cells_in pairs = map (λ pair. record { end = pair.0; columns = pair.1 }) pairs
+
+abbrev pub rows_in : List (ℕ × ℕ) → List RowRange
+rows_in pairs = map (λ pair. record { start = pair.0; count = pair.1 }) pairs
+
 -- the texts of cells, the first of which begins at a place, each other one a byte behind the end of the one before
 abbrev pub texts_from : List ℕ → ℕ → List LentCell → List (List ℕ)
 texts_from text start [] = []

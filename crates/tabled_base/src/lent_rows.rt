@@ -1,8 +1,9 @@
 //! The rows of a text, whose cells lend it.
 ghost use Rattle.std.specs.Prelude.{◌≡◌, ◌<◌, ◌^◌, ℕ, List, length, slice_index_or, MatchOption, []};
 ghost use Rattle.tabled_base.specs.Cells.{IsInside, cell_at};
-ghost use Rattle.tabled_base.specs.LentRows.{AreLent, ArePlaced, IsCounted, begin, spread, texts_from};
+ghost use Rattle.tabled_base.specs.LentRows.{AreLent, ArePlaced, IsCounted, begin, cells_in, rows_in, spread, texts_from};
 
+use crate::pairs::Pairs;
 use crate::position::Position;
 use crate::records::{ExactRecords, PeekableRecords};
 use std::marker::Model;
@@ -43,8 +44,10 @@ impl RowRange {
 #[derive(Debug, Drop)]
 pub struct LentRows<'a> {
     text: &'a str,
-    cells: Vec<LentCell>,
-    rows: Vec<RowRange>,
+    // Where each cell ends, and its columns.
+    cells: Pairs,
+    // Where the cells of each row stand, and how many they are.
+    rows: Pairs,
     // How many cells the longest row has.
     columns: usize,
 }
@@ -52,23 +55,18 @@ pub struct LentRows<'a> {
 impl<'a> Model for LentRows<'a> {
     ghost Value = { List (List (List ℕ)) };
 
-    ghost view = { λ r. spread (texts_from r.text.now 0 r.cells.items) r.columns r.rows.items };
+    ghost view = { λ r. spread (texts_from r.text.now 0 (cells_in r.cells)) r.columns (rows_in r.rows) };
 
-    ghost invariant = { λ r. AreLent r.text.now 0 r.cells.items
-        × ArePlaced (length r.cells.items) r.columns r.rows.items };
+    ghost invariant = { λ r. AreLent r.text.now 0 (cells_in r.cells)
+        × ArePlaced (length r.cells) r.columns (rows_in r.rows) };
 }
 
 impl<'a> LentRows<'a> {
     /// Rows of the cells of a text, none longer than so many columns.
-    pub(crate) fn new(
-        text: &'a str,
-        cells: Vec<LentCell>,
-        rows: Vec<RowRange>,
-        columns: usize,
-    ) -> LentRows<'a>
-        requires lent { AreLent text.now 0 cells.items }
-        requires placed { ArePlaced (length cells.items) columns rows.items }
-        ensures { result ≡ spread (texts_from text.now 0 cells.items) columns rows.items }
+    pub(crate) fn new(text: &'a str, cells: Pairs, rows: Pairs, columns: usize) -> LentRows<'a>
+        requires lent { AreLent text.now 0 (cells_in cells) }
+        requires placed { ArePlaced (length cells) columns (rows_in rows) }
+        ensures { result ≡ spread (texts_from text.now 0 (cells_in cells)) columns (rows_in rows) }
     {
         LentRows {
             text,
@@ -84,33 +82,34 @@ impl<'a> LentRows<'a> {
         ensures { MatchOption result (cell_at self.now at.row at.column ≡ [])
             (λ cell. IsCounted (cell_at self.now at.row at.column) cell.0.now cell.1) }
     {
-        let span = self.rows[at.row];
-        if at.column >= span.count {
+        let (start, count) = self.rows.at(at.row);
+        if at.column >= count {
             return None;
         }
-        let place = span.start + at.column;
-        Some(counted(self.text, self.cells.as_slice(), place))
+        // A number says how many cells there are, so the place of each is in range.
+        let _count = self.cells.len();
+        Some(counted(self.text, &self.cells, start + at.column))
     }
 }
 
 /// The text and the columns of one of a text's cells.
-fn counted<'a>(text: &'a str, cells: &[LentCell], place: usize) -> (&'a str, usize)
-    requires lent { AreLent text.now 0 cells.now }
+fn counted<'a>(text: &'a str, cells: &Pairs, place: usize) -> (&'a str, usize)
+    requires lent { AreLent text.now 0 (cells_in cells.now) }
     requires inside { place < length cells.now }
-    ensures { IsCounted (slice_index_or (texts_from text.now 0 cells.now) place []) result.0.now result.1 }
+    ensures { IsCounted (slice_index_or (texts_from text.now 0 (cells_in cells.now)) place []) result.0.now result.1 }
 {
-    let cell = cells[place];
-    (&text[start_of(cells, place)..cell.end], cell.columns)
+    let (end, columns) = cells.at(place);
+    (&text[start_of(cells, place)..end], columns)
 }
 
 /// Where a cell begins, which is a byte behind the end of the one before it.
-fn start_of(cells: &[LentCell], place: usize) -> usize
+fn start_of(cells: &Pairs, place: usize) -> usize
     requires inside { place < length cells.now }
-    requires fits { begin 0 cells.now place < 2 ^ 64 }
-    ensures { result ≡ begin 0 cells.now place }
+    requires fits { begin 0 (cells_in cells.now) place < 2 ^ 64 }
+    ensures { result ≡ begin 0 (cells_in cells.now) place }
 {
     match place.checked_sub(1) {
-        Some(before) => cells[before].end + 1,
+        Some(before) => cells.at(before).0 + 1,
         None => 0,
     }
 }
@@ -123,7 +122,7 @@ impl<'a> ExactRecords for LentRows<'a> {
     }
 
     fn count_columns(&self) -> usize {
-        if self.rows.is_empty() {
+        if self.rows.len() == 0 {
             0
         } else {
             self.columns

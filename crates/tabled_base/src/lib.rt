@@ -9,6 +9,7 @@ mod lent_cells;
 mod lent_rows;
 mod objects;
 mod options;
+mod pairs;
 mod position;
 mod records;
 mod segment;

@@ -3,13 +3,14 @@ ghost use Rattle.std.specs.Prelude.{◌≡◌, ◌≤◌, IfErr, IfOk, map, true
 ghost use Rattle.std.specs.List.{slice_range};
 ghost use Rattle.std.specs.Str.{IsCharBoundary};
 ghost use Rattle.tabled_base.specs.Cells.{lengthened};
-ghost use Rattle.tabled_base.specs.LentRows.{HasNo, IsLent, IsPrintable};
+ghost use Rattle.tabled_base.specs.LentRows.{HasNo, IsLent, IsPrintable, rows_in};
 ghost use Rattle.tabled_base.specs.TextRows.{cells_of, most_cells, text_rows, without_last_feed};
 ghost use Rattle.tabled_base.specs.declared.error.TableError.TheVariants.{Memory};
 ghost use Rattle.tabled_text.specs.Measure.{greatest, lines_of};
 
 use crate::error::TableError;
 use crate::lent_rows::{LentCell, LentRows, RowRange};
+use crate::pairs::Pairs;
 use std::alloc::Global;
 use tabled_text::line_width;
 
@@ -21,7 +22,7 @@ pub fn text_rows(alloc: Global, text: &str) -> Result<LentRows<'_>, TableError>
     ensures only { IfErr result (λ e. e ≡ Memory) }
 {
     if text.is_empty() {
-        return Ok(LentRows::new(text, Vec::new(alloc), Vec::new(alloc), 0));
+        return Ok(LentRows::new(text, Pairs::new(alloc), Pairs::new(alloc), 0));
     }
     split_rows(alloc, without_last_feed(text))
 }
@@ -45,8 +46,8 @@ fn split_rows(alloc: Global, text: &str) -> Result<LentRows<'_>, TableError>
     ensures only { IfErr result (λ e. e ≡ Memory) }
 {
     let bytes = text.as_bytes();
-    let mut cells = Vec::new(alloc);
-    let mut rows = Vec::new(alloc);
+    let mut cells = Pairs::new(alloc);
+    let mut rows = Pairs::new(alloc);
     let mut start: usize = 0;
     let mut first: usize = 0;
     // Whether the cell is printable ASCII so far.
@@ -60,18 +61,22 @@ fn split_rows(alloc: Global, text: &str) -> Result<LentRows<'_>, TableError>
             printable = false;
             continue;
         }
-        cells.push(measured(text, start, at, printable))?;
+        let cell = measured(text, start, at, printable);
+        cells.push((cell.end, cell.columns))?;
         start = at + 1;
         printable = true;
         if byte == b'\t' {
             continue;
         }
-        rows.push(RowRange::between(first, cells.len()))?;
+        let row = RowRange::between(first, cells.len());
+        rows.push((row.start, row.count))?;
         first = cells.len();
     }
-    cells.push(measured(text, start, bytes.len(), printable))?;
-    rows.push(RowRange::between(first, cells.len()))?;
-    let columns = most_columns(rows.as_slice());
+    let cell = measured(text, start, bytes.len(), printable);
+    cells.push((cell.end, cell.columns))?;
+    let row = RowRange::between(first, cells.len());
+    rows.push((row.start, row.count))?;
+    let columns = most_columns(&rows);
     Ok(LentRows::new(text, cells, rows, columns))
 }
 
@@ -94,12 +99,12 @@ fn measured(text: &str, start: usize, end: usize, printable: bool) -> LentCell
 }
 
 /// How many cells the longest of some rows has.
-fn most_columns(rows: &[RowRange]) -> usize
-    ensures { result ≡ greatest (map (λ row. row.count) rows.now) }
+fn most_columns(rows: &Pairs) -> usize
+    ensures { result ≡ greatest (map (λ row. row.count) (rows_in rows.now)) }
 {
     let mut most: usize = 0;
-    'rows: for row in rows {
-        most = most.max(row.count);
+    'rows: for row in 0..rows.len() {
+        most = most.max(rows.at(row).1);
     }
     most
 }

@@ -4,16 +4,16 @@ use Rattle.std.proofs.lemmas.Bool.Decides.{nat_tests}
 use Rattle.std.proofs.lemmas.Simd.{map-map}
 use Rattle.tabled_text.specs.Measure.{greatest, lines_of}
 use Rattle.tabled_base.specs.Cells.{lengthened}
-use Rattle.tabled_base.specs.LentRows.{ArePlaced, IsLent, part, texts_from}
+use Rattle.tabled_base.specs.LentRows.{AreLent, ArePlaced, IsLent, cells_in, part, rows_in, texts_from}
 use Rattle.tabled_base.specs.TextRows.{cells_of, most_cells}
 use Rattle.tabled_base.proofs.Cutting.{IsWithin, cut-feed, cut-tab, cut-start, inside-next, printable-more, printable-none, rows-cut, within-end, within-more, within-none, within-printable}
-use Rattle.tabled_base.proofs.LentCells.{length-texts, lent-more}
+use Rattle.tabled_base.proofs.LentCells.{cells-count, cells-more, length-texts, lent-more, rows-more}
 use Rattle.tabled_base.proofs.Spans.{AreInside, counts-parts, placed-all, spread-all}
 use Rattle.tabled_base.proofs.split.split_rows.Goals as goal
 
 pub bytes-init : goal.bytes-init
 bytes-init c =
-    rw (c.new-cells.ensures.items, c.new-rows.ensures.items)
+    rw (c.new-cells.ensures, c.new-rows.ensures)
     (record { cut = cut-start c.args.text.now c.utf8.text; within = within-none c.args.text.now 0; printable = λ _. printable-none c.args.text.now 0 })
 
 pub bytes-preserved-then-byte-ne10 : goal.bytes-preserved-then-byte-ne10
@@ -40,25 +40,25 @@ bytes-preserved-then-matches c =
       printable = λ e. printable-more text c.bytes.start c.bytes.at was.within.ordered inside (was.printable e) own;
     }
 
-pub measured-requires-clause-ordered : goal.measured-requires-clause-ordered
-measured-requires-clause-ordered c = c.bytes.invariant.within.ordered
+pub measured-cell-requires-clause-ordered : goal.measured-cell-requires-clause-ordered
+measured-cell-requires-clause-ordered c = c.bytes.invariant.within.ordered
 
-pub measured-requires-clause-begins : goal.measured-requires-clause-begins
-measured-requires-clause-begins c = c.bytes.invariant.cut.begins
+pub measured-cell-requires-clause-begins : goal.measured-cell-requires-clause-begins
+measured-cell-requires-clause-begins c = c.bytes.invariant.cut.begins
 
-pub measured-requires-clause-line : goal.measured-requires-clause-line
-measured-requires-clause-line c = c.bytes.invariant.within.feeds
+pub measured-cell-requires-clause-line : goal.measured-cell-requires-clause-line
+measured-cell-requires-clause-line c = c.bytes.invariant.within.feeds
 
-pub measured-requires-2-clause-ordered : goal.measured-requires-2-clause-ordered
-measured-requires-2-clause-ordered c =
+pub measured-cell-requires-2-clause-ordered : goal.measured-cell-requires-2-clause-ordered
+measured-cell-requires-2-clause-ordered c =
     (within-end c.args.text.now c.as_bytes-bytes.result.now c.bytes.start c.bytes.at c.bytes.auto.at-end
     c.bytes-test.false c.bytes.invariant.within).ordered
 
-pub measured-requires-2-clause-begins : goal.measured-requires-2-clause-begins
-measured-requires-2-clause-begins c = c.bytes.invariant.cut.begins
+pub measured-cell-requires-2-clause-begins : goal.measured-cell-requires-2-clause-begins
+measured-cell-requires-2-clause-begins c = c.bytes.invariant.cut.begins
 
-pub measured-requires-2-clause-line : goal.measured-requires-2-clause-line
-measured-requires-2-clause-line c =
+pub measured-cell-requires-2-clause-line : goal.measured-cell-requires-2-clause-line
+measured-cell-requires-2-clause-line c =
     (within-end c.args.text.now c.as_bytes-bytes.result.now c.bytes.start c.bytes.at c.bytes.auto.at-end
     c.bytes-test.false c.bytes.invariant.within).feeds
 
@@ -69,89 +69,95 @@ bytes-preserved-then-byte-eq9 c =
     let same = c.as_bytes-bytes.ensures.value in
     let inside : c.bytes.at < length text = subst (λ t. c.bytes.at < length t) same c.bytes-test.true in
     let tab : get_or text c.bytes.at 0 ≡ 9 = subst (λ t. get_or t c.bytes.at 0 ≡ 9) same c.if-byte-eq9.true in
+    let pushed = ap cells_in c.in_ok-push.ensures.ok ∙ cells-more c.bytes.cells c.measured-cell.result in
     record {
       cut =
-          rw c.in_ok-push.ensures.items
-          (cut-tab text c.bytes.cells.items c.bytes.rows.items c.bytes.start c.bytes.first c.bytes.at c.measured.result c.utf8.text was.cut
-          was.within inside tab c.measured.ensures.lent c.measured.ensures.end);
+          rw pushed
+          (cut-tab text (cells_in c.bytes.cells) (rows_in c.bytes.rows) c.bytes.start c.bytes.first c.bytes.at c.measured-cell.result c.utf8.text was.cut
+          was.within inside tab c.measured-cell.ensures.lent c.measured-cell.ensures.end);
       within = within-none text (c.bytes.at + 1);
       printable = λ _. printable-none text (c.bytes.at + 1);
     }
 
-pub between-requires : goal.between-requires
-between-requires c =
+pub between-row-requires : goal.between-row-requires
+between-row-requires c =
     let reached = c.bytes.invariant.cut.reached in
-    let more = length-append c.bytes.cells.items (c.measured.result ∷ []) in
-    omega (arith, reached, c.len.ensures, c.push.new.self.ok.0, ap length c.in_ok-push.ensures.items, more)
+    let more = length-append c.bytes.cells ((c.measured-cell.result.end, c.measured-cell.result.columns) ∷ []) in
+    omega (arith, reached, cells-count c.bytes.cells, c.len.ensures, ap length c.in_ok-push.ensures.ok, more)
 
 pub bytes-preserved : goal.bytes-preserved
 bytes-preserved c =
     let was = c.bytes.invariant in
     let text = c.args.text.now in
     let same = c.as_bytes-bytes.ensures.value in
-    let cells = c.bytes.cells.items ++ c.measured.result ∷ [] in
-    let pushed : c.push.new.self.items ≡ cells = c.in_ok-push.ensures.items in
+    let cells = cells_in c.bytes.cells ++ c.measured-cell.result ∷ [] in
+    let pushed : cells_in c.push.new.self ≡ cells = ap cells_in c.in_ok-push.ensures.ok ∙ cells-more c.bytes.cells c.measured-cell.result in
     let inside : c.bytes.at < length text = subst (λ t. c.bytes.at < length t) same c.bytes-test.true in
     let feed : get_or text c.bytes.at 0 ≡ 10 = subst (λ t. get_or t c.bytes.at 0 ≡ 10) same (omega (arith, c.else-byte-ne9.either, c.if-byte-eq9.false)) in
-    let count : c.len.result ≡ length cells = omega (arith, c.len.ensures, c.push.new.self.ok.0, ap length pushed) in
-    let last : c.len-first.result ≡ length cells = omega (arith, c.len-first.ensures, c.push.new.self.ok.0, ap length pushed) in
-    let end : c.between.result.start + c.between.result.count ≡ length cells = c.between.ensures.count ∙ count in
+    let count : c.len.result ≡ length cells = c.len.ensures ∙ sym (cells-count c.push.new.self) ∙ ap length pushed in
+    let last : c.len-first.result ≡ length cells = c.len-first.ensures ∙ sym (cells-count c.push.new.self) ∙ ap length pushed in
+    let end : c.between-row.result.start + c.between-row.result.count ≡ length cells = c.between-row.ensures.count ∙ count in
     record {
       cut =
-          rw (pushed, c.in_ok-push-2.ensures.items, last)
-          (cut-feed text c.bytes.cells.items c.bytes.rows.items c.bytes.start c.bytes.first c.bytes.at c.measured.result c.between.result
-          c.utf8.text was.cut was.within inside feed c.measured.ensures.lent c.measured.ensures.end c.between.ensures.start end);
+          rw (pushed, ap rows_in c.in_ok-push-2.ensures.ok ∙ rows-more c.bytes.rows c.between-row.result, last)
+          (cut-feed text (cells_in c.bytes.cells) (rows_in c.bytes.rows) c.bytes.start c.bytes.first c.bytes.at c.measured-cell.result c.between-row.result
+          c.utf8.text was.cut was.within inside feed c.measured-cell.ensures.lent c.measured-cell.ensures.end c.between-row.ensures.start end);
       within = within-none text (c.bytes.at + 1);
       printable = λ _. printable-none text (c.bytes.at + 1);
     }
 
-pub between-requires-2 : goal.between-requires-2
-between-requires-2 c =
+pub between-row-requires-2 : goal.between-row-requires-2
+between-row-requires-2 c =
     let reached = c.bytes.invariant.cut.reached in
-    let more = length-append c.bytes.cells.items (c.measured-2.result ∷ []) in
-    omega (arith, reached, c.len-2.ensures, c.push-2.new.self.ok.0, ap length c.in_ok-push-3.ensures.items, more)
+    let more = length-append c.bytes.cells ((c.measured-cell-2.result.end, c.measured-cell-2.result.columns) ∷ []) in
+    omega (arith, reached, cells-count c.bytes.cells, c.len-2.ensures, ap length c.in_ok-push-3.ensures.ok, more)
 
 pub new-requires-clause-lent : goal.new-requires-clause-lent
 new-requires-clause-lent c =
     let cut = c.bytes.invariant.cut in
-    rw c.in_ok-push-3.ensures.items
-    (lent-more c.args.text.now 0 c.bytes.cells.items c.measured-2.result cut.lent
-    (subst (λ n. IsLent c.args.text.now n c.measured-2.result) cut.starts c.measured-2.ensures.lent))
+    let pushed = ap cells_in c.in_ok-push-3.ensures.ok ∙ cells-more c.bytes.cells c.measured-cell-2.result in
+    subst (AreLent c.args.text.now 0) (sym pushed)
+    (lent-more c.args.text.now 0 (cells_in c.bytes.cells) c.measured-cell-2.result cut.lent
+    (subst (λ n. IsLent c.args.text.now n c.measured-cell-2.result) cut.starts c.measured-cell-2.ensures.lent))
 
 pub new-requires-clause-placed : goal.new-requires-clause-placed
 new-requires-clause-placed c =
-    let cells = c.bytes.cells.items ++ c.measured-2.result ∷ [] in
-    let pushed = c.in_ok-push-3.ensures.items in
-    let end : c.between-2.result.start + c.between-2.result.count ≡ length cells =
-    omega (arith, c.between-2.ensures.count, c.len-2.ensures, c.push-2.new.self.ok.0, ap length pushed) in
-    let inside : AreInside (length c.push-2.new.self.items) c.push-3.new.self.items =
-    rw (pushed, c.in_ok-push-4.ensures.items)
-    (inside-next c.bytes.cells.items c.bytes.rows.items c.measured-2.result c.between-2.result c.bytes.invariant.cut.placed end) in
-    let counted = c.most_columns-columns.ensures ∙ ap (λ rows. greatest (map (λ row. row.count) rows)) c.as_slice.ensures.value in
-    subst (λ n. ArePlaced (length c.push-2.new.self.items) n c.push-3.new.self.items) (sym counted)
-    (placed-all (length c.push-2.new.self.items) c.push-3.new.self.items inside)
+    let cells = cells_in c.bytes.cells ++ c.measured-cell-2.result ∷ [] in
+    let all = rows_in c.push-3.new.self in
+    let pushed : cells_in c.push-2.new.self ≡ cells = ap cells_in c.in_ok-push-3.ensures.ok ∙ cells-more c.bytes.cells c.measured-cell-2.result in
+    let size : length c.push-2.new.self ≡ length cells = sym (cells-count c.push-2.new.self) ∙ ap length pushed in
+    let end : c.between-row-2.result.start + c.between-row-2.result.count ≡ length cells =
+    omega (arith, c.between-row-2.ensures.count, c.len-2.ensures, size) in
+    let inside : AreInside (length c.push-2.new.self) all =
+    rw (size, ap rows_in c.in_ok-push-4.ensures.ok ∙ rows-more c.bytes.rows c.between-row-2.result)
+    (inside-next (cells_in c.bytes.cells) (rows_in c.bytes.rows) c.measured-cell-2.result c.between-row-2.result c.bytes.invariant.cut.placed end) in
+    subst (λ n. ArePlaced (length c.push-2.new.self) n all) (sym c.most_columns-columns.ensures)
+    (placed-all (length c.push-2.new.self) all inside)
 
 pub returns-clause-ok : goal.returns-clause-ok
 returns-clause-ok c =
     let text = c.args.text.now in
-    let cells = c.bytes.cells.items ++ c.measured-2.result ∷ [] in
-    let rows = c.bytes.rows.items ++ c.between-2.result ∷ [] in
-    let texts = texts_from text 0 c.push-2.new.self.items in
+    let cells = cells_in c.bytes.cells ++ c.measured-cell-2.result ∷ [] in
+    let rows = rows_in c.bytes.rows ++ c.between-row-2.result ∷ [] in
+    let texts = texts_from text 0 (cells_in c.push-2.new.self) in
+    let taken = rows_in c.push-3.new.self in
     let lines = lines_of text in
     let size = ap length c.as_bytes-bytes.ensures.value in
-    let pushed = c.in_ok-push-3.ensures.items in
+    let pushed : cells_in c.push-2.new.self ≡ cells = ap cells_in c.in_ok-push-3.ensures.ok ∙ cells-more c.bytes.cells c.measured-cell-2.result in
+    let put : taken ≡ rows = ap rows_in c.in_ok-push-4.ensures.ok ∙ rows-more c.bytes.rows c.between-row-2.result in
     let within = within-end text c.as_bytes-bytes.result.now c.bytes.start c.bytes.at c.bytes.auto.at-end c.bytes-test.false c.bytes.invariant.within in
-    let end : c.between-2.result.start + c.between-2.result.count ≡ length cells =
-    omega (arith, c.between-2.ensures.count, c.len-2.ensures, c.push-2.new.self.ok.0, ap length pushed) in
-    let cut = rows-cut text c.bytes.cells.items c.bytes.rows.items c.bytes.start c.bytes.first c.measured-2.result c.between-2.result
-    c.bytes.invariant.cut (subst (IsWithin text c.bytes.start) size within) (c.measured-2.ensures.end ∙ size) c.between-2.ensures.start end in
-    let all : map (part texts) c.push-3.new.self.items ≡ map cells_of lines = rw (pushed, c.in_ok-push-4.ensures.items) cut in
-    let there : AreInside (length texts) c.push-3.new.self.items =
-    subst (λ n. AreInside n c.push-3.new.self.items) (sym (length-texts text 0 c.push-2.new.self.items))
-    (rw (pushed, c.in_ok-push-4.ensures.items)
-    (inside-next c.bytes.cells.items c.bytes.rows.items c.measured-2.result c.between-2.result c.bytes.invariant.cut.placed end)) in
+    let count : c.len-2.result ≡ length cells = c.len-2.ensures ∙ sym (cells-count c.push-2.new.self) ∙ ap length pushed in
+    let end : c.between-row-2.result.start + c.between-row-2.result.count ≡ length cells =
+    omega (arith, c.between-row-2.ensures.count, count) in
+    let cut = rows-cut text (cells_in c.bytes.cells) (rows_in c.bytes.rows) c.bytes.start c.bytes.first c.measured-cell-2.result c.between-row-2.result
+    c.bytes.invariant.cut (subst (IsWithin text c.bytes.start) size within) (c.measured-cell-2.ensures.end ∙ size) c.between-row-2.ensures.start end in
+    let all : map (part texts) taken ≡ map cells_of lines = rw (pushed, put) cut in
+    let there : AreInside (length texts) taken =
+    subst (λ n. AreInside n taken) (sym (length-texts text 0 (cells_in c.push-2.new.self)))
+    (rw (pushed, put)
+    (inside-next (cells_in c.bytes.cells) (rows_in c.bytes.rows) c.measured-cell-2.result c.between-row-2.result c.bytes.invariant.cut.placed end)) in
     let most : c.most_columns-columns.result ≡ most_cells lines =
-    c.most_columns-columns.ensures ∙ ap (λ rows. greatest (map (λ row. row.count) rows)) c.as_slice.ensures.value
-    ∙ ap greatest (counts-parts texts c.push-3.new.self.items there ∙ ap (map length) all ∙ map-map length cells_of lines) in
-    c.new.ensures ∙ spread-all texts c.most_columns-columns.result c.push-3.new.self.items lines all
+    c.most_columns-columns.ensures
+    ∙ ap greatest (counts-parts texts taken there ∙ ap (map length) all ∙ map-map length cells_of lines) in
+    c.new.ensures ∙ spread-all texts c.most_columns-columns.result taken lines all
     ∙ ap (λ n. map (λ line. lengthened n (cells_of line)) lines) most

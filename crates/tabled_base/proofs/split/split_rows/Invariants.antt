@@ -1,12 +1,12 @@
 use Rattle.std.proofs.Common.{◌≡◌, true}
 use Rattle.std.specs.List.{slice_range}
-use Rattle.tabled_base.specs.LentRows.{IsPrintable}
+use Rattle.tabled_base.specs.LentRows.{IsPrintable, cells_in, rows_in}
 use Rattle.tabled_base.proofs.Cutting.{IsCut, IsWithin}
 use Rattle.tabled_base.proofs.split.split_rows.Given as goal
 
 abbrev pub invariant-bytes : goal.invariant-bytes
 invariant-bytes l = record {
-  cut : IsCut l.text l.cells.items l.rows.items l.start l.first;
+  cut : IsCut l.text (cells_in l.cells) (rows_in l.rows) l.start l.first;
   within : IsWithin l.text l.start l.at;
   printable : l.printable ≡ true → IsPrintable (slice_range l.text l.start l.at);
 }
