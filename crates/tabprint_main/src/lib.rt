@@ -2,12 +2,16 @@
 //! program over the standard streams.
 #![tactic(auto)]
 
+ghost use Rattle.std.specs.Prelude.{◌≤◌};
+
 use std::{env, io};
 use tabled::run;
 
 /// Runs the program, and answers its status: that of `run`, or 1 with a word on standard error where the words of the command
 /// line can't be had.
-pub fn start(rt: &HostRuntime) -> u8 {
+pub fn start(rt: &HostRuntime) -> u8
+    ensures { result ≤ 2 }
+{
     let words = match arguments(rt) {
         Ok(words) => words,
         Err(error) => {
