@@ -14,7 +14,8 @@ use Rattle.tabled_resize.specs.Growing.{IsGrownBy}
 
 -- a table of fewer than n columns: the widths that stand grow by what is wanting and are stored, and so are the
 -- heights that stand
-pub record IsWidened {P : Type 0} (grows : P → List ℕ → ℕ → List ℕ → P → Type 0) (priority : P) (n : ℕ) (cells : List (List (List ℕ))) (config : SpannedConfig) (old new : CompleteDimension) : Type 0 where
+pub record IsWidened {P : Type 0} (grows : P → List ℕ → ℕ → List ℕ → P → Type 0) (priority : P) (n : ℕ) (cells : List (List (List ℕ)))
+    (config : SpannedConfig) (old new : CompleteDimension) : Type 0 where
   pub widths : List ℕ
   pub grown : IsGrownBy grows priority (standing cells config old).widths (n - total_width (standing cells config old)) widths
   pub stored : widths_of new ≡ Some widths
@@ -22,7 +23,8 @@ pub record IsWidened {P : Type 0} (grows : P → List ℕ → ℕ → List ℕ �
 
 -- what is left of the sizes where a table is to be n columns wide at least: all as they were of an empty table, filled
 -- in where it is so wide already, and else widened
-abbrev pub IncreasesWidth : {P : Type 0} → (P → List ℕ → ℕ → List ℕ → P → Type 0) → P → ℕ → List (List (List ℕ)) → SpannedConfig → CompleteDimension → CompleteDimension → Type 0
+abbrev pub IncreasesWidth : {P : Type 0} → (P → List ℕ → ℕ → List ℕ → P → Type 0) → P → ℕ → List (List (List ℕ)) → SpannedConfig → CompleteDimension
+    → CompleteDimension → Type 0
 IncreasesWidth grows priority n cells config old new =
     MatchBool (is_empty cells) (new ≡ old)
     (MatchBool (nat_le n (total_width (standing cells config old))) (IsFilledIn old cells config new)
@@ -36,7 +38,8 @@ WidthOutOfRange measure_out_of_range cells config sizes =
 -- ---- the height, for which stored heights don't count
 
 -- a table of fewer than n lines: the estimated heights grow by what is wanting and are stored, and the widths stay
-pub record IsHeightened {P : Type 0} (grows : P → List ℕ → ℕ → List ℕ → P → Type 0) (priority : P) (n : ℕ) (cells : List (List (List ℕ))) (config : SpannedConfig) (old new : CompleteDimension) : Type 0 where
+pub record IsHeightened {P : Type 0} (grows : P → List ℕ → ℕ → List ℕ → P → Type 0) (priority : P) (n : ℕ) (cells : List (List (List ℕ)))
+    (config : SpannedConfig) (old new : CompleteDimension) : Type 0 where
   pub heights : List ℕ
   pub grown : IsGrownBy grows priority (estimated_heights cells config) (n - total_height (estimated cells config)) heights
   pub stored : heights_of new ≡ Some heights
@@ -44,7 +47,8 @@ pub record IsHeightened {P : Type 0} (grows : P → List ℕ → ℕ → List �
 
 -- what is left of the sizes where a table is to be n lines high at least: all as they were of an empty table and of one
 -- that is so high already
-abbrev pub IncreasesHeight : {P : Type 0} → (P → List ℕ → ℕ → List ℕ → P → Type 0) → P → ℕ → List (List (List ℕ)) → SpannedConfig → CompleteDimension → CompleteDimension → Type 0
+abbrev pub IncreasesHeight : {P : Type 0} → (P → List ℕ → ℕ → List ℕ → P → Type 0) → P → ℕ → List (List (List ℕ)) → SpannedConfig → CompleteDimension
+    → CompleteDimension → Type 0
 IncreasesHeight grows priority n cells config old new =
     MatchBool (is_empty cells) (new ≡ old)
     (MatchBool (nat_le n (total_height (estimated cells config))) (new ≡ old)

@@ -21,7 +21,8 @@ for_height heights row column = if_taken Higher limiting (at heights row)
 
 -- a table of more than n lines: the estimated heights shrink by what is too much, with no minimums, and are stored, the
 -- cells are limited to their rows' heights, and the widths stay
-pub record IsLowered {P : Type 0} (shrinks : P → List ℕ → List ℕ → ℕ → List ℕ → P → Type 0) (priority : P) (n : ℕ) (cells : List (List (List ℕ))) (config : SpannedConfig) (old : CompleteDimension) (cells' : List (List (List ℕ))) (new : CompleteDimension) : Type 0 where
+pub record IsLowered {P : Type 0} (shrinks : P → List ℕ → List ℕ → ℕ → List ℕ → P → Type 0) (priority : P) (n : ℕ) (cells : List (List (List ℕ)))
+    (config : SpannedConfig) (old : CompleteDimension) (cells' : List (List (List ℕ))) (new : CompleteDimension) : Type 0 where
   pub heights : List ℕ
   pub shrunk : IsShrunkBy shrinks priority (estimated_heights cells config) [] (total_height (estimated cells config) - n) heights
   pub changed : AreChanged (λ row column. true) (for_height heights) cells cells'
@@ -29,7 +30,8 @@ pub record IsLowered {P : Type 0} (shrinks : P → List ℕ → List ℕ → ℕ
   pub widths : widths_of new ≡ widths_of old
 
 -- what is left where a table is to be n lines high at most: all as it was of an empty table and of one of so few lines
-abbrev pub LimitsHeight : {P : Type 0} → (P → List ℕ → List ℕ → ℕ → List ℕ → P → Type 0) → P → ℕ → List (List (List ℕ)) → SpannedConfig → CompleteDimension → List (List (List ℕ)) → CompleteDimension → Type 0
+abbrev pub LimitsHeight : {P : Type 0} → (P → List ℕ → List ℕ → ℕ → List ℕ → P → Type 0) → P → ℕ → List (List (List ℕ)) → SpannedConfig
+    → CompleteDimension → List (List (List ℕ)) → CompleteDimension → Type 0
 LimitsHeight shrinks priority n cells config old cells' new =
     MatchBool (is_empty cells) ((cells' ≡ cells) × (new ≡ old))
     (MatchBool (nat_le (total_height (estimated cells config)) n) ((cells' ≡ cells) × (new ≡ old))
@@ -37,13 +39,15 @@ LimitsHeight shrinks priority n cells config old cells' new =
 
 -- memory was refused at some cell of a table of more than n lines: the cells before it, row by row, are limited, and the
 -- others are the old ones
-pub record IsLoweredBefore {P : Type 0} (shrinks : P → List ℕ → List ℕ → ℕ → List ℕ → P → Type 0) (priority : P) (n : ℕ) (cells : List (List (List ℕ))) (config : SpannedConfig) (cells' : List (List (List ℕ))) : Type 0 where
+pub record IsLoweredBefore {P : Type 0} (shrinks : P → List ℕ → List ℕ → ℕ → List ℕ → P → Type 0) (priority : P) (n : ℕ)
+    (cells : List (List (List ℕ))) (config : SpannedConfig) (cells' : List (List (List ℕ))) : Type 0 where
   pub higher : n < total_height (estimated cells config)
   pub heights : List ℕ
   pub shrunk : IsShrunkBy shrinks priority (estimated_heights cells config) [] (total_height (estimated cells config) - n) heights
   pub changed : AreChangedBefore ByRow (λ row column. true) (for_height heights) cells cells'
 
 -- what a refusal leaves: all cells as they were, or for want of memory some first ones limited
-abbrev pub StopsLimiting : {P : Type 0} → (P → List ℕ → List ℕ → ℕ → List ℕ → P → Type 0) → P → ℕ → TableError → List (List (List ℕ)) → SpannedConfig → List (List (List ℕ)) → Type 0
+abbrev pub StopsLimiting : {P : Type 0} → (P → List ℕ → List ℕ → ℕ → List ℕ → P → Type 0) → P → ℕ → TableError → List (List (List ℕ)) → SpannedConfig
+    → List (List (List ℕ)) → Type 0
 StopsLimiting shrinks priority n error cells config cells' =
     (cells' ≡ cells) ⊎ ((error ≡ Memory) × IsLoweredBefore shrinks priority n cells config cells')

@@ -27,7 +27,8 @@ for_room change t widths = for_width change t.config widths (minimums t.cells t.
 
 -- a table wider than n is narrowed: its widths are shrunk and stored, every cell is changed for its room, and its
 -- heights are to be estimated anew
-pub record IsNarrowed {P : Type 0} (shrinks : P → List ℕ → List ℕ → ℕ → List ℕ → P → Type 0) (priority : P) (change : ℕ → List ℕ → List ℕ → Type 0) (n : ℕ) (t : Sheet) (cells : List (List (List ℕ))) (sizes : CompleteDimension) : Type 0 where
+pub record IsNarrowed {P : Type 0} (shrinks : P → List ℕ → List ℕ → ℕ → List ℕ → P → Type 0) (priority : P) (change : ℕ → List ℕ → List ℕ → Type 0)
+    (n : ℕ) (t : Sheet) (cells : List (List (List ℕ))) (sizes : CompleteDimension) : Type 0 where
   pub widths : List ℕ
   pub shrunk : IsShrunkTo shrinks priority n t widths
   pub changed : AreChanged (λ row column. true) (for_room change t widths) t.cells cells
@@ -36,7 +37,8 @@ pub record IsNarrowed {P : Type 0} (shrinks : P → List ℕ → List ℕ → �
 
 -- what narrowing to n leaves: an empty table as it was, one of a total of at most n with its sizes filled in, and
 -- another narrowed
-abbrev pub Narrows : {P : Type 0} → (P → List ℕ → List ℕ → ℕ → List ℕ → P → Type 0) → P → (ℕ → List ℕ → List ℕ → Type 0) → ℕ → List (List (List ℕ)) → SpannedConfig → CompleteDimension → List (List (List ℕ)) → CompleteDimension → Type 0
+abbrev pub Narrows : {P : Type 0} → (P → List ℕ → List ℕ → ℕ → List ℕ → P → Type 0) → P → (ℕ → List ℕ → List ℕ → Type 0) → ℕ → List (List (List ℕ))
+    → SpannedConfig → CompleteDimension → List (List (List ℕ)) → CompleteDimension → Type 0
 Narrows shrinks priority change n cells config sizes cells' sizes' =
     MatchBool (is_empty cells) ((cells' ≡ cells) × (sizes' ≡ sizes))
     (MatchBool (nat_le (total_width (standing cells config sizes)) n) ((cells' ≡ cells) × IsFilledIn sizes cells config sizes')
@@ -44,14 +46,16 @@ Narrows shrinks priority change n cells config sizes cells' sizes' =
 
 -- memory was refused at some cell of a table wider than n: the cells before it, column by column, are changed, and
 -- the others are the old ones
-pub record IsNarrowedBefore {P : Type 0} (shrinks : P → List ℕ → List ℕ → ℕ → List ℕ → P → Type 0) (priority : P) (change : ℕ → List ℕ → List ℕ → Type 0) (n : ℕ) (t : Sheet) (cells : List (List (List ℕ))) : Type 0 where
+pub record IsNarrowedBefore {P : Type 0} (shrinks : P → List ℕ → List ℕ → ℕ → List ℕ → P → Type 0) (priority : P)
+    (change : ℕ → List ℕ → List ℕ → Type 0) (n : ℕ) (t : Sheet) (cells : List (List (List ℕ))) : Type 0 where
   pub wider : n < total_width t
   pub widths : List ℕ
   pub shrunk : IsShrunkTo shrinks priority n t widths
   pub changed : AreChangedBefore ByColumn (λ row column. true) (for_room change t widths) t.cells cells
 
 -- what a refusal leaves: all cells as they were, or for want of memory some first ones changed
-abbrev pub StopsNarrowing : {P : Type 0} → (P → List ℕ → List ℕ → ℕ → List ℕ → P → Type 0) → P → (ℕ → List ℕ → List ℕ → Type 0) → ℕ → TableError → List (List (List ℕ)) → SpannedConfig → CompleteDimension → List (List (List ℕ)) → Type 0
+abbrev pub StopsNarrowing : {P : Type 0} → (P → List ℕ → List ℕ → ℕ → List ℕ → P → Type 0) → P → (ℕ → List ℕ → List ℕ → Type 0) → ℕ → TableError
+    → List (List (List ℕ)) → SpannedConfig → CompleteDimension → List (List (List ℕ)) → Type 0
 StopsNarrowing shrinks priority change n error cells config sizes cells' =
     (cells' ≡ cells) ⊎ ((error ≡ Memory) × IsNarrowedBefore shrinks priority change n (standing cells config sizes) cells')
 

@@ -6,12 +6,14 @@ use Rattle.tabled_resize.specs.Minimums.{minimums}
 use Rattle.tabled_resize.specs.Narrowed.{IsShrunkTo}
 
 -- a list that the priority may make of another, taking so much of it under some minimums
-pub record IsShrunkBy {P : Type 0} (shrinks : P → List ℕ → List ℕ → ℕ → List ℕ → P → Type 0) (priority : P) (old mins : List ℕ) (by : ℕ) (new : List ℕ) : Type 0 where
+pub record IsShrunkBy {P : Type 0} (shrinks : P → List ℕ → List ℕ → ℕ → List ℕ → P → Type 0) (priority : P) (old mins : List ℕ) (by : ℕ)
+    (new : List ℕ) : Type 0 where
   pub last : P
   pub shrunk : shrinks priority old mins by new last
 
 -- the widths to which a table wider than n shrinks, with the minimums of as many columns
-pub record IsFound {P : Type 0} (shrinks : P → List ℕ → List ℕ → ℕ → List ℕ → P → Type 0) (priority : P) (n : ℕ) (t : Sheet) (widths mins : List ℕ) : Type 0 where
+pub record IsFound {P : Type 0} (shrinks : P → List ℕ → List ℕ → ℕ → List ℕ → P → Type 0) (priority : P) (n : ℕ) (t : Sheet)
+    (widths mins : List ℕ) : Type 0 where
   pub wider : n < total_width t
   pub shrunk : IsShrunkTo shrinks priority n t widths
   pub fits : mins ≡ take (length widths) (minimums t.cells t.config)

@@ -20,13 +20,15 @@ pub record IsWiderThan (n : ℕ) (t : Sheet) : Type 0 where
 
 -- wrapped to n: by a priority that takes all it can, the exact total and the fewest lines, whatever the texts are; by
 -- one that takes the greatest first, the greatest width is the least possible
-pub record WrapsAsPromised {P : Type 0} (shrinks : P → List ℕ → List ℕ → ℕ → List ℕ → P → Type 0) (s : P) (words : Bool) (n : ℕ) (old new : Sheet) : Type 0 where
+pub record WrapsAsPromised {P : Type 0} (shrinks : P → List ℕ → List ℕ → ℕ → List ℕ → P → Type 0) (s : P) (words : Bool) (n : ℕ)
+    (old new : Sheet) : Type 0 where
   pub exact : TakesFrom shrinks s → IsWiderThan n old → AreTexts old.cells → HasExactTotal n old new
   pub best : TakesFrom shrinks s → IsWiderThan n old → IsBestWrapped words old new
   pub least : TakesGreatest shrinks s → IsWiderThan n old → HasLeastWidth old new
 
 -- truncated to n: the same totals, where the suffix is plain; without a suffix the longest beginnings
-pub record TruncatesAsPromised {P : Type 0} (shrinks : P → List ℕ → List ℕ → ℕ → List ℕ → P → Type 0) (s : P) (suffix : List ℕ) (limit : SuffixLimit) (multiline : Bool) (n : ℕ) (old new : Sheet) : Type 0 where
+pub record TruncatesAsPromised {P : Type 0} (shrinks : P → List ℕ → List ℕ → ℕ → List ℕ → P → Type 0) (s : P) (suffix : List ℕ) (limit : SuffixLimit)
+    (multiline : Bool) (n : ℕ) (old new : Sheet) : Type 0 where
   pub exact : TakesFrom shrinks s → IsPlain suffix → IsPlainLimit limit → IsWiderThan n old → AreTexts old.cells → HasExactTotal n old new
   pub best : TakesFrom shrinks s → suffix ≡ [] → IsWiderThan n old → IsBestCut multiline old new
   pub least : TakesGreatest shrinks s → IsWiderThan n old → HasLeastWidth old new
@@ -38,10 +40,13 @@ pub record WidensAsPromised {P : Type 0} (grows : P → List ℕ → ℕ → Lis
   pub holds : Holds old → Holds new
 
 -- heightened to n, by a priority that adds all that is wanted: the total is n
-pub record HeightensAsPromised {P : Type 0} (grows : P → List ℕ → ℕ → List ℕ → P → Type 0) (s : P) (n : ℕ) (cells : List (List (List ℕ))) (config : SpannedConfig) (new : Sheet) : Type 0 where
+pub record HeightensAsPromised {P : Type 0} (grows : P → List ℕ → ℕ → List ℕ → P → Type 0) (s : P) (n : ℕ) (cells : List (List (List ℕ)))
+    (config : SpannedConfig) (new : Sheet) : Type 0 where
   pub exact : AddsTo grows s → is_empty cells ≡ false → total_height (estimated cells config) < n → total_height new ≡ n
 
 -- limited to n, by a priority that takes all it can: the total is n, or what the table takes without its rows where this
 -- is greater
-pub record LimitsAsPromised {P : Type 0} (shrinks : P → List ℕ → List ℕ → ℕ → List ℕ → P → Type 0) (s : P) (n : ℕ) (cells : List (List (List ℕ))) (config : SpannedConfig) (new : Sheet) : Type 0 where
-  pub exact : TakesFrom shrinks s → is_empty cells ≡ false → n < total_height (estimated cells config) → total_height new ≡ max n (frame_height config (length cells))
+pub record LimitsAsPromised {P : Type 0} (shrinks : P → List ℕ → List ℕ → ℕ → List ℕ → P → Type 0) (s : P) (n : ℕ) (cells : List (List (List ℕ)))
+    (config : SpannedConfig) (new : Sheet) : Type 0 where
+  pub exact : TakesFrom shrinks s → is_empty cells ≡ false → n < total_height (estimated cells config)
+      → total_height new ≡ max n (frame_height config (length cells))

@@ -49,9 +49,11 @@ impl<W> CellHeightIncrease<W> {
 /// The entity's cells of fewer lines than the measure get line feeds at their ends, and no other cell changes. Where the
 /// measure is refused, with `Range`, no cell has changed; where memory is, those before some cell have, row by row.
 impl<W: Measurement<Height>, R: RecordsMut> CellOption<R, ColoredConfig> for CellHeightIncrease<W> {
-    ghost changes = { λ s r c e r' c'. ChangesEntity (if_taken Lower lengthening) (W.measures s.height (R.cells r) c.config) e (R.cells r) (R.cells r') × (c' ≡ c) };
+    ghost changes = { λ s r c e r' c'. ChangesEntity (if_taken Lower lengthening)
+        (W.measures s.height (R.cells r) c.config) e (R.cells r) (R.cells r') × (c' ≡ c) };
 
-    ghost refuses = { λ s f r c e r' c'. StopsEntity (if_taken Lower lengthening) (W.measures s.height (R.cells r) c.config) e f (R.cells r) (R.cells r') × (c' ≡ c) };
+    ghost refuses = { λ s f r c e r' c'. StopsEntity (if_taken Lower lengthening)
+        (W.measures s.height (R.cells r) c.config) e f (R.cells r) (R.cells r') × (c' ≡ c) };
 
     ghost out_of_range = { λ s r c e. W.out_of_range s.height (R.cells r) c.config };
 

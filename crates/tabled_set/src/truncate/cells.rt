@@ -13,9 +13,11 @@ use tabled_config::ColoredConfig;
 /// measure is refused, with `Range`, no cell has changed; where memory is, those before some cell have, row by row.
 impl<'a, W: Measurement<Width>, P, R: RecordsMut> CellOption<R, ColoredConfig>
     for Truncate<'a, W, P> {
-    ghost changes = { λ s r c e r' c'. ChangesEntity (if_wider (truncating s.rule.suffix.now s.rule.limit s.rule.multiline)) (W.measures s.width (R.cells r) c.config) e (R.cells r) (R.cells r') × (c' ≡ c) };
+    ghost changes = { λ s r c e r' c'. ChangesEntity (if_wider (truncating s.rule.suffix.now s.rule.limit s.rule.multiline))
+        (W.measures s.width (R.cells r) c.config) e (R.cells r) (R.cells r') × (c' ≡ c) };
 
-    ghost refuses = { λ s f r c e r' c'. StopsEntity (if_wider (truncating s.rule.suffix.now s.rule.limit s.rule.multiline)) (W.measures s.width (R.cells r) c.config) e f (R.cells r) (R.cells r') × (c' ≡ c) };
+    ghost refuses = { λ s f r c e r' c'. StopsEntity (if_wider (truncating s.rule.suffix.now s.rule.limit s.rule.multiline))
+        (W.measures s.width (R.cells r) c.config) e f (R.cells r) (R.cells r') × (c' ≡ c) };
 
     ghost out_of_range = { λ s r c e. W.out_of_range s.width (R.cells r) c.config };
 
