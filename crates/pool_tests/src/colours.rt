@@ -89,3 +89,20 @@ fn runs_of_a_margin_are_coloured_where_there_is_one(rt: HostRuntime) -> Result<(
     assert_eq!(rt; table.to_string()?.as_str(), text);
     Ok(())
 }
+
+#[test]
+fn a_text_beside_one_of_no_column_has_its_colours(rt: HostRuntime) -> Result<(), Fail> {
+    let mut config = bordered(Borders {
+        top_left: Some(ANSIStr::new("A", "a")),
+        top: Some(ANSIStr::new("B", "b")),
+        bottom: Some(ANSIStr::new("C", "c")),
+        left: Some(ANSIStr::new("D", "d")),
+        ..no_colors()
+    });
+    config.set_padding(Sides::filled(Indent::zero()));
+    config.set_padding_color(colored_left());
+    let mut table = PoolTable::from_value(TableValue::Row(cells(rt.alloc(), &["", "x"])?));
+    table.with(config)?;
+    assert_eq!(rt; table.to_string()?.as_str(), "A+aB-+a\nD|dLlx|\n+C-+c");
+    Ok(())
+}

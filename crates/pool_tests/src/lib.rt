@@ -2,6 +2,8 @@
 #![tactic(auto)]
 
 #[cfg(test)]
+mod bare;
+#[cfg(test)]
 mod colours;
 #[cfg(test)]
 mod deep;

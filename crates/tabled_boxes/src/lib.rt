@@ -15,5 +15,6 @@ mod tree;
 pub use frames::place_tree;
 pub use gaps::{Gaps, Size};
 pub use pieces::{Kind, Piece, Rectangle};
-pub use sizes::own_size;
+pub use places::{Cut, cut_column, cut_row};
+pub use sizes::{column_size, own_size, row_size};
 pub use tree::TableValue;

@@ -62,14 +62,20 @@ pub fn place_bar<'a>(
 
 /// A place of some boxes, cut behind the first of them.
 #[derive(Clone, Copy)]
-struct Cut {
-    own: usize,
-    given: Rectangle,
-    line: Rectangle,
-    rest: Rectangle,
+pub struct Cut {
+    /// The first box's own columns, or lines.
+    pub own: usize,
+    /// The place that the first box is given.
+    pub given: Rectangle,
+    /// The place of the line behind it.
+    pub line: Rectangle,
+    /// The place of the other boxes.
+    pub rest: Rectangle,
 }
 
-fn cut_row(child: &TableValue, gaps: &Gaps, left: usize, count: usize, place: Rectangle) -> Cut
+/// Cuts a place of boxes side by side behind the first of them. The boxes are so many, and their own columns with the
+/// lines between them are those that are left.
+pub fn cut_row(child: &TableValue, gaps: &Gaps, left: usize, count: usize, place: Rectangle) -> Cut
     requires some { 0 < count }
     requires own { (box_of gaps.now child.now).width + gaps.now.bar ≤ left }
     requires across { (box_of gaps.now child.now).height ≤ place.height }
@@ -119,7 +125,15 @@ fn cut_row(child: &TableValue, gaps: &Gaps, left: usize, count: usize, place: Re
     }
 }
 
-fn cut_column(child: &TableValue, gaps: &Gaps, left: usize, count: usize, place: Rectangle) -> Cut
+/// Cuts a place of boxes below each other behind the first of them. The boxes are so many, and their own lines with the
+/// lines between them are those that are left.
+pub fn cut_column(
+    child: &TableValue,
+    gaps: &Gaps,
+    left: usize,
+    count: usize,
+    place: Rectangle,
+) -> Cut
     requires some { 0 < count }
     requires own { (box_of gaps.now child.now).height + gaps.now.rule ≤ left }
     requires across { (box_of gaps.now child.now).width ≤ place.width }

@@ -18,6 +18,7 @@ fn leaf_size(text: &str, gaps: &Gaps) -> Option<Size>
     Some(Size { width, height })
 }
 
+/// The own size of boxes side by side, if it is in range.
 #[cycle(sizes)]
 #[tactic(auto, using(crate::proofs::Sums::row_width_more, crate::proofs::Sums::row_height_most, crate::proofs::Sums::column_width_most, crate::proofs::Sums::column_height_more,))]
 pub fn row_size(children: &[TableValue], gaps: &Gaps) -> Option<Size>
@@ -38,6 +39,7 @@ pub fn row_size(children: &[TableValue], gaps: &Gaps) -> Option<Size>
     Some(Size { width, height })
 }
 
+/// The own size of boxes below each other, if it is in range.
 #[cycle(sizes)]
 #[tactic(auto, using(crate::proofs::Sums::row_width_more, crate::proofs::Sums::row_height_most, crate::proofs::Sums::column_width_most, crate::proofs::Sums::column_height_more,))]
 pub fn column_size(children: &[TableValue], gaps: &Gaps) -> Option<Size>

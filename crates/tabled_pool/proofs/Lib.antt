@@ -8,9 +8,11 @@ pub mod CollectedValues
 pub mod Columns
 pub mod Contains
 pub mod Drawable
+pub mod Drawers
 pub mod MarginLemmas
 pub mod NearLines
 pub mod Owners
+pub mod PanelLines
 pub mod PlainBlocks
 pub mod Plains
 pub mod PoolBlocks

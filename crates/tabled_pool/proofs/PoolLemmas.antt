@@ -1,5 +1,5 @@
 -- Pool tables as plans.
-use Rattle.std.proofs.Common.{◌≡◌, ℕ, List, refl}
+use Rattle.std.proofs.Common.{◌≡◌, ℕ, List, true, refl, ap, ◌∙◌}
 use Rattle.std.specs.List.{join_with_byte}
 use Rattle.tabled_border.specs.declared.borders.Borders.{Borders}
 use Rattle.tabled_border.specs.declared.sides.Indent.{Indent}
@@ -11,23 +11,57 @@ use Rattle.tabled_pool.specs.Drawn.{drawn}
 use Rattle.tabled_pool.specs.Margins.{with_margin}
 use Rattle.tabled_pool.specs.Colours.{LineMarks, Mark, line_marks_of, marks_of}
 use Rattle.tabled_pool.specs.Plan.{Plan}
+use Rattle.tabled_pool.specs.Handed.{handed_panel, has_bare}
+use Rattle.tabled_pool.specs.Panels.{Panel}
 use Rattle.tabled_pool.specs.Pool.{
+  HasColumns,
   borders_of,
   framed_height,
   framed_width,
+  gaps_of,
+  margin_around,
   margin_marks,
   margin_of,
+  margined,
+  marks_for,
   plan,
   pool_lines,
   pool_text,
   style_of,
 }
 
+-- the lines of a table whose texts have columns, and of another one
+pub lined : (t : PoolTable) → HasColumns t
+    → pool_lines t ≡ with_margin (margin_of t) (margin_marks t) (framed_width t) (drawn (plan t))
+unfolding pool_lines
+lined t h = rw h refl
+
+pub handed_lines : (t : PoolTable) → has_bare (plan t).parts ≡ true
+    → pool_lines t ≡ margined t (handed_panel (plan t) (gaps_of t) t.value)
+unfolding pool_lines
+handed_lines t h = rw h refl
+
+drawn-text : (t : PoolTable) (p : Plan) (m : Sides Indent) (ms : Sides Mark) → p ≡ plan t → m ≡ margin_of t → ms ≡ margin_marks t
+    → with_margin (margin_of t) (margin_marks t) (framed_width t) (drawn (plan t)) ≡ with_margin m ms p.width (drawn p)
+unfolding plan
+drawn-text t p m ms e1 e2 e3 = rw (e1, e2, e3) refl
+
 -- a plan with its margin is the text of the table whose it is
-pub text_of : (t : PoolTable) (p : Plan) (m : Sides Indent) (ms : Sides Mark) → p ≡ plan t → m ≡ margin_of t → ms ≡ margin_marks t
-    → pool_text t ≡ join_with_byte 10 (with_margin m ms p.width (drawn p))
-unfolding plan pool_lines pool_text
-text_of t p m ms e1 e2 e3 = rw (e1, e2, e3) refl
+pub text_of : (t : PoolTable) (p : Plan) (m : Sides Indent) (ms : Sides Mark) → HasColumns t → p ≡ plan t → m ≡ margin_of t
+    → ms ≡ margin_marks t → pool_text t ≡ join_with_byte 10 (with_margin m ms p.width (drawn p))
+unfolding pool_text
+text_of t p m ms h e1 e2 e3 = ap (join_with_byte 10) (lined t h ∙ drawn-text t p m ms e1 e2 e3)
+
+panel-text : (t : PoolTable) (p q : Panel) (m : Sides Indent) (ms : Sides Mark) → p ≡ q → m ≡ margin_around t p
+    → ms ≡ marks_for t m → margined t q ≡ with_margin m ms p.width p.lines
+panel-text t p q m ms e1 e2 e3 = rw (e3, e2, e1) refl
+
+-- drawn lines with their margin are the text of the table whose they are
+pub handed_text : (t : PoolTable) (p : Panel) (m : Sides Indent) (ms : Sides Mark) → has_bare (plan t).parts ≡ true
+    → p ≡ handed_panel (plan t) (gaps_of t) t.value → m ≡ margin_around t p → ms ≡ marks_for t m
+    → pool_text t ≡ join_with_byte 10 (with_margin m ms p.width p.lines)
+unfolding pool_text
+handed_text t p m ms h e1 e2 e3 = ap (join_with_byte 10) (handed_lines t h ∙ panel-text t p _ m ms e1 e2 e3)
 
 pub plan_is : (t : PoolTable) (ps : List Part) (w h : ℕ) (b : Borders ℕ) (s : CellStyle) (pm : Sides Mark) (lm : LineMarks)
     → ps ≡ (plan t).parts → w ≡ framed_width t → h ≡ framed_height t → b ≡ borders_of t → s ≡ style_of t.config

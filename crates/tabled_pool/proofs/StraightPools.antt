@@ -1,17 +1,17 @@
 -- The lines of straight pool tables: they tile the tree, and take the columns of the whole.
-use Rattle.std.proofs.Common.{◌≡◌, ℕ, ◌+◌, ◌<◌, ◌==◌, true, false, cond, List, ⊎_elim, ◌⊎◌, inl, inr, refl, sym, ap, subst, arith}
+use Rattle.std.proofs.Common.{◌≡◌, ℕ, ◌+◌, ◌<◌, true, false, cond, List, ⊎_elim, ◌⊎◌, inl, inr, refl, sym, ap, subst, arith}
 use Rattle.std.specs.List.{All}
 use Rattle.std.proofs.lemmas.List.Elements.{All-append, All-map, All-replicate}
 use Rattle.std.proofs.lemmas.List.FromFn.{length-map-range_with_len, get_or-map-range_with_len}
 use Rattle.tabled_text.specs.Measure.{line_columns}
 use Rattle.tabled_text.specs.Plain.{IsPlainLine, IsPlainColumn}
-use Rattle.tabled_text.proofs.PlainLines.{plain_line-append, plain_line-as, plain_column-space}
+use Rattle.tabled_text.proofs.PlainLines.{plain_line-append, plain_line-as}
 use Rattle.tabled_apart.specs.Lines.{IsLine}
 use Rattle.tabled_apart.proofs.LineLaws.{line-frame, line-framed}
 use Rattle.tabled_border.specs.declared.sides.Indent.{Indent}
 use Rattle.tabled_border.specs.declared.sides.Sides.{Sides}
 use Rattle.tabled_border.specs.Frame.{has_left}
-use Rattle.tabled_config.specs.Compact.{each_side, no_indent}
+use Rattle.tabled_config.specs.Compact.{each_side}
 use Rattle.tabled_priority.specs.Sums.{one_if}
 use Rattle.tabled_row.specs.Plain.{EachLineTakes}
 use Rattle.tabled_row.proofs.Plains.{plain-fill}
@@ -35,15 +35,17 @@ use Rattle.tabled_pool.specs.Pool.{
   plan,
   pool_lines,
   total_width,
+  HasColumns,
   IsPlainPool,
 }
 use Rattle.tabled_pool.specs.Tiled.{Tiled}
-use Rattle.tabled_pool.proofs.ApartBlocks.{frame-fill, frame-run, separator-space}
+use Rattle.tabled_pool.proofs.ApartBlocks.{frame-fill, frame-run}
 use Rattle.tabled_pool.proofs.Aparts.{bar_drawable, left_drawable, right_drawable, ApartTree}
 use Rattle.tabled_pool.proofs.BehindLines.{framed-behind}
 use Rattle.tabled_pool.proofs.Columns.{drawn_takes, line-measured}
 use Rattle.tabled_pool.proofs.Drawable.{IsDrawable}
 use Rattle.tabled_pool.proofs.PlainBlocks.{bare, plain-run}
+use Rattle.tabled_pool.proofs.PoolLemmas.{lined}
 use Rattle.tabled_pool.proofs.Plains.{plain_drawable, PlainOut}
 use Rattle.tabled_pool.proofs.Tiles.{drawn_tiles}
 use Rattle.tabled_pool.proofs.TreeTexts.{framed-texts, owner-text}
@@ -172,11 +174,7 @@ plain-within m w line p l =
     (omega arith)).columns
 
 plain-margin : (t : PoolTable) → IsPlainPool t → PlainMargin (margin_of t)
-plain-margin t h =
-    elim (framed_width t == 0) as (λ b. PlainMargin (cond b (each_side no_indent) t.config.config.margin)) [
-      | true ↦ record { left = plain_column-space; right = plain_column-space; top = plain_column-space; bottom = plain_column-space }
-      | false ↦ record { left = h.margin_left; right = h.margin_right; top = h.margin_top; bottom = h.margin_bottom }
-    ]
+plain-margin t h = record { left = h.margin_left; right = h.margin_right; top = h.margin_top; bottom = h.margin_bottom }
 
 plain-columns : (t : PoolTable) (m : Sides Indent) → IsPlainPool t → PlainMargin m
     → EachLineTakes (m.left.size + framed_width t + m.right.size) (with_margin m bare (framed_width t) (drawn (plan t)))
@@ -195,13 +193,6 @@ apart-within m w line p l =
     let framed = line-framed (frame-run (frame-fill m.left.fill m.left.size p.left)) l (frame-run (frame-fill m.right.fill m.right.size p.right)) in
     omega (arith, framed.columns)
 
-apart-margin : (t : PoolTable) → IsApartPool t → IsApartMargin (margin_of t)
-apart-margin t h =
-    elim (framed_width t == 0) as (λ b. IsApartMargin (cond b (each_side no_indent) t.config.config.margin)) [
-      | true ↦ record { left = separator-space; right = separator-space; top = separator-space; bottom = separator-space }
-      | false ↦ h.margin
-    ]
-
 apart-columns : (t : PoolTable) (m : Sides Indent) → IsApartPool t → IsApartMargin m
     → EachLineTakes (m.left.size + framed_width t + m.right.size) (with_margin m bare (framed_width t) (drawn (plan t)))
 apart-columns t m h p =
@@ -214,11 +205,12 @@ apart-columns t m h p =
 
 -- ---- the columns of the whole
 
-marked : (t : PoolTable) → marks_of t.config.config.margin_color ≡ each_side no_mark
+marked : (t : PoolTable) → HasColumns t → marks_of t.config.config.margin_color ≡ each_side no_mark
     → EachLineTakes (total_width t) (with_margin (margin_of t) bare (framed_width t) (drawn (plan t))) → EachLineTakes (total_width t) (pool_lines t)
-unfolding pool_lines
-marked t e h = subst (λ ms. EachLineTakes (total_width t) (with_margin (margin_of t) ms (framed_width t) (drawn (plan t)))) (sym (bare-margin t e)) h
+marked t c e h =
+    subst (EachLineTakes (total_width t)) (sym (lined t c))
+    (subst (λ ms. EachLineTakes (total_width t) (with_margin (margin_of t) ms (framed_width t) (drawn (plan t)))) (sym (bare-margin t e)) h)
 
-pub whole_columns : (t : PoolTable) → IsStraightPool t → EachLineTakes (total_width t) (pool_lines t)
-whole_columns t (inl h) = marked t h.uncoloured.margin (apart-columns t (margin_of t) h (apart-margin t h))
-whole_columns t (inr h) = marked t h.margin_color (plain-columns t (margin_of t) h (plain-margin t h))
+pub whole_columns : (t : PoolTable) → HasColumns t → IsStraightPool t → EachLineTakes (total_width t) (pool_lines t)
+whole_columns t c (inl h) = marked t c h.uncoloured.margin (apart-columns t (margin_of t) h h.margin)
+whole_columns t c (inr h) = marked t c h.margin_color (plain-columns t (margin_of t) h (plain-margin t h))

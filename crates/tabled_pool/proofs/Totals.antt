@@ -1,5 +1,5 @@
 -- The lines of a whole pool table.
-use Rattle.std.proofs.Common.{◌≡◌, ℕ, ◌+◌, List, ◌++◌, length, map, replicate, arith}
+use Rattle.std.proofs.Common.{◌≡◌, ℕ, ◌+◌, List, ◌++◌, length, map, replicate, refl, ap, ◌∙◌, arith}
 use Rattle.std.proofs.lemmas.List.{length-append, length-map, length-replicate}
 use Rattle.std.proofs.lemmas.List.FromFn.{length-map-range_with_len}
 use Rattle.tabled_border.specs.declared.sides.Indent.{Indent}
@@ -9,7 +9,8 @@ use Rattle.tabled_pool.specs.Colours.{Mark}
 use Rattle.tabled_pool.specs.Drawn.{drawn, drawn_line}
 use Rattle.tabled_pool.specs.Margins.{margin_line, within_margin, with_margin}
 use Rattle.tabled_pool.specs.Plan.{Plan}
-use Rattle.tabled_pool.specs.Pool.{framed_width, margin_marks, margin_of, plan, pool_lines, total_height}
+use Rattle.tabled_pool.specs.Pool.{HasColumns, framed_height, framed_width, margin_marks, margin_of, plan, pool_lines, total_height}
+use Rattle.tabled_pool.proofs.PoolLemmas.{lined}
 
 drawn-length : (t : Plan) → length (drawn t) ≡ t.height
 unfolding drawn
@@ -30,6 +31,16 @@ margin-length m ms w lines =
       length-replicate m.bottom.size (margin_line m ms ms.bottom m.bottom.fill w),
     )
 
-pub whole_lines : (t : PoolTable) → length (pool_lines t) ≡ total_height t
-unfolding plan pool_lines
-whole_lines t = omega (arith, margin-length (margin_of t) (margin_marks t) (framed_width t) (drawn (plan t)), drawn-length (plan t))
+plan-height : (t : PoolTable) → (plan t).height ≡ framed_height t
+unfolding plan
+plan-height t = refl
+
+pub whole_lines : (t : PoolTable) → HasColumns t → length (pool_lines t) ≡ total_height t
+whole_lines t h =
+    ap length (lined t h)
+    ∙ omega (
+      arith,
+      margin-length (margin_of t) (margin_marks t) (framed_width t) (drawn (plan t)),
+      drawn-length (plan t),
+      plan-height t,
+    )

@@ -6,10 +6,13 @@ pub mod Characters
 pub mod Colours
 pub mod Drawn
 pub mod Frames
+pub mod Handed
+pub mod Handing
 pub mod Margins
 pub mod Near
 pub mod NewPool
 pub mod Owner
+pub mod Panels
 pub mod Plan
 pub mod PlainTree
 pub mod Plans

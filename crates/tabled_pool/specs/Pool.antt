@@ -1,5 +1,5 @@
 -- The text of a pool table, and what a call that prints it leaves.
-use Rattle.std.specs.Prelude.{◌≡◌, ℕ, ◌+◌, ◌^◌, ◌<◌, ◌≤◌, ◌⊎◌, ◌==◌, if◌then◌else◌, ltb, Bool, ◌||◌, List, Some, Result, Ok, Err}
+use Rattle.std.specs.Prelude.{◌≡◌, ℕ, ◌+◌, ◌^◌, ◌<◌, ◌≤◌, ◌⊎◌, ◌==◌, if◌then◌else◌, ltb, Bool, false, ◌&&◌, ◌||◌, List, length, Some, Result, Ok, Err}
 use Rattle.std.specs.List.{join_with_byte}
 use Rattle.tabled_base.specs.declared.error.TableError.{TableError}
 use Rattle.tabled_base.specs.declared.error.TableError.TheVariants.{Memory, Range}
@@ -24,8 +24,10 @@ use Rattle.tabled_pool.specs.Characters.{EachCharacter}
 use Rattle.tabled_pool.specs.Colours.{Mark, line_marks_of, marks_of, no_line_marks, no_mark}
 use Rattle.tabled_pool.specs.Drawn.{drawn}
 use Rattle.tabled_pool.specs.Frames.{has_bottom, has_top}
+use Rattle.tabled_pool.specs.Handed.{handed_panel, has_bare}
 use Rattle.tabled_pool.specs.Margins.{with_margin}
 use Rattle.tabled_pool.specs.Owner.{owner}
+use Rattle.tabled_pool.specs.Panels.{Panel}
 use Rattle.tabled_pool.specs.Plan.{Plan}
 
 abbrev pub borders_of : PoolTable → Borders ℕ
@@ -82,16 +84,18 @@ plan t =
       line_marks = line_marks_of t.config.config.borders_color;
     }
 
--- the margin; a table of no column has none
 abbrev pub margin_of : PoolTable → Sides Indent
-margin_of t = if framed_width t == 0 then each_side no_indent else t.config.config.margin
+margin_of t = t.config.config.margin
 
 -- a margin of no column and no line isn't coloured
 abbrev pub has_margin : Sides Indent → Bool
 has_margin m = ltb 0 m.left.size || (ltb 0 m.right.size || (ltb 0 m.top.size || ltb 0 m.bottom.size))
 
+abbrev pub marks_for : PoolTable → Sides Indent → Sides Mark
+marks_for t m = if has_margin m then marks_of t.config.config.margin_color else each_side no_mark
+
 abbrev pub margin_marks : PoolTable → Sides Mark
-margin_marks t = if has_margin (margin_of t) then marks_of t.config.config.margin_color else each_side no_mark
+margin_marks t = marks_for t (margin_of t)
 
 abbrev pub total_width : PoolTable → ℕ
 total_width t = (margin_of t).left.size + framed_width t + (margin_of t).right.size
@@ -99,8 +103,23 @@ total_width t = (margin_of t).left.size + framed_width t + (margin_of t).right.s
 abbrev pub total_height : PoolTable → ℕ
 total_height t = (margin_of t).top.size + framed_height t + (margin_of t).bottom.size
 
+-- each text is given a column at least
+abbrev pub HasColumns : PoolTable → Type 0
+HasColumns t = has_bare (plan t).parts ≡ false
+
+-- the margin around a panel; the empty text has none
+abbrev pub margin_around : PoolTable → Panel → Sides Indent
+margin_around t p = if p.width == 0 && length p.lines == 1 then each_side no_indent else margin_of t
+
+abbrev pub margined : PoolTable → Panel → List (List ℕ)
+margined t p = with_margin (margin_around t p) (marks_for t (margin_around t p)) p.width p.lines
+
+-- drawn by the lines that meet, or as handed on from box to box where a text is given no column
 unfoldable pub pool_lines : PoolTable → List (List ℕ)
-pool_lines t = with_margin (margin_of t) (margin_marks t) (framed_width t) (drawn (plan t))
+pool_lines t =
+    if has_bare (plan t).parts
+    then margined t (handed_panel (plan t) (gaps_of t) t.value)
+    else with_margin (margin_of t) (margin_marks t) (framed_width t) (drawn (plan t))
 
 unfoldable pub pool_text : PoolTable → List ℕ
 pool_text t = join_with_byte 10 (pool_lines t)

@@ -55,10 +55,10 @@ pub(crate) struct Marks {
 
 /// The colours of the top or the bottom line of a text.
 #[derive(Clone, Copy)]
-struct LineColors {
-    corner: Option<ANSIStr<'static>>,
-    main: Option<ANSIStr<'static>>,
-    right: Option<ANSIStr<'static>>,
+pub(crate) struct LineColors {
+    pub corner: Option<ANSIStr<'static>>,
+    pub main: Option<ANSIStr<'static>>,
+    pub right: Option<ANSIStr<'static>>,
 }
 
 const NOTHING: Marks = Marks {
@@ -89,7 +89,7 @@ fn spot_of(start: usize, size: usize, at: usize) -> Spot
 }
 
 /// The colour that is used behind a part.
-fn used_after(
+pub(crate) fn used_after(
     used: Option<ANSIStr<'static>>,
     color: Option<ANSIStr<'static>>,
 ) -> Option<ANSIStr<'static>>
@@ -102,7 +102,7 @@ fn used_after(
 }
 
 /// What begins a part of a line.
-fn begun(used: Option<ANSIStr<'static>>, color: Option<ANSIStr<'static>>) -> Marks
+pub(crate) fn begun(used: Option<ANSIStr<'static>>, color: Option<ANSIStr<'static>>) -> Marks
     ensures { around_of result ≡ begun (option_map mark_of used.entry) (option_map mark_of color.entry) }
 {
     let Some(color) = color else {
@@ -126,7 +126,7 @@ fn begun(used: Option<ANSIStr<'static>>, color: Option<ANSIStr<'static>>) -> Mar
 }
 
 /// What ends a line.
-fn ended(used: Option<ANSIStr<'static>>) -> &'static str
+pub(crate) fn ended(used: Option<ANSIStr<'static>>) -> &'static str
     ensures { result.now ≡ ended (option_map mark_of used.entry) }
 {
     match used {
@@ -136,7 +136,7 @@ fn ended(used: Option<ANSIStr<'static>>) -> &'static str
 }
 
 /// What stands around one character by itself.
-fn alone(color: Option<ANSIStr<'static>>) -> Marks
+pub(crate) fn alone(color: Option<ANSIStr<'static>>) -> Marks
     ensures { around_of result ≡ alone (option_map mark_of color.entry) }
 {
     match color {

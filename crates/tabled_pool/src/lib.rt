@@ -9,11 +9,17 @@ mod colors;
 mod draw;
 mod drawing;
 mod find;
+mod flags;
+mod handed;
+mod handed_text;
 mod making;
 mod margins;
 mod near;
+mod panel_lines;
+mod panels;
 mod plan;
 mod pool_table;
+mod taking;
 
 pub use applying::NoRecords;
 pub use pool_table::PoolTable;

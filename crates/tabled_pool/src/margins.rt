@@ -27,7 +27,7 @@ pub(crate) struct Margin {
 
 impl Margin {
     /// The left margin of a line.
-    fn put_left<S: TextSink>(&self, sink: &mut S) -> Result<(), TableError>
+    pub(crate) fn put_left<S: TextSink>(&self, sink: &mut S) -> Result<(), TableError>
         ensures { Writes (S.sent sink.old) result (S.sent sink.new)
             (coloured (mark_of self.now.colors.left) (indent self.now.indent.left)) }
     {
@@ -36,7 +36,7 @@ impl Margin {
     }
 
     /// The right margin of a line.
-    fn put_right<S: TextSink>(&self, sink: &mut S) -> Result<(), TableError>
+    pub(crate) fn put_right<S: TextSink>(&self, sink: &mut S) -> Result<(), TableError>
         ensures { Writes (S.sent sink.old) result (S.sent sink.new)
             (coloured (mark_of self.now.colors.right) (indent self.now.indent.right)) }
     {
@@ -77,7 +77,7 @@ fn put_led_margin<S: TextSink>(
 }
 
 /// The lines of the top or the bottom margin.
-fn put_margin<S: TextSink>(
+pub(crate) fn put_margin<S: TextSink>(
     sink: &mut S,
     begun: &mut bool,
     margin: &Margin,

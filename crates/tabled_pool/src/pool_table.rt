@@ -1,5 +1,5 @@
 //! Tables of boxes.
-ghost use Rattle.std.specs.Prelude.{◌≡◌, ◌⊎◌, ◌≤◌, IfErr, IfOk, MatchOption, length, map, [], ◌++◌, ◌<◌, ◌^◌, ◌+◌, string_bytes};
+ghost use Rattle.std.specs.Prelude.{◌≡◌, ◌⊎◌, ◌≤◌, IfErr, IfOk, MatchOption, length, map, [], ◌++◌, ◌<◌, ◌^◌, ◌+◌, string_bytes, true};
 ghost use Rattle.tabled_base.specs.declared.error.TableError.TheVariants.{Memory, Range};
 ghost use Rattle.tabled_config.specs.Styles.{ascii};
 ghost use Rattle.tabled_row.specs.Plain.{EachLineTakes};
@@ -9,7 +9,12 @@ ghost use Rattle.tabled_priority.specs.Sums.{one_if};
 ghost use Rattle.tabled_pool.specs.Apart.{IsStraightPool};
 ghost use Rattle.tabled_pool.specs.Colours.{marks_of};
 ghost use Rattle.tabled_pool.specs.Drawn.{drawn};
+ghost use Rattle.tabled_boxes.specs.Boxes.{box_of};
+ghost use Rattle.tabled_pool.specs.Handed.{handed_panel, has_bare};
+ghost use Rattle.tabled_pool.specs.Panels.{panel_of};
+ghost use Rattle.tabled_pool.specs.Plans.{plan_of};
 ghost use Rattle.tabled_pool.specs.Pool.{
+  HasColumns,
   IsInRange,
   IsOutOfRange,
   WritesPool,
@@ -20,8 +25,8 @@ ghost use Rattle.tabled_pool.specs.Pool.{
   framed_width,
   gaps_of,
   has_margin,
-  margin_marks,
-  margin_of,
+  margin_around,
+  marks_for,
   plan,
   pool_lines,
   pool_text,
@@ -33,7 +38,10 @@ ghost use Rattle.tabled_pool.specs.NewPool.{IsNewConfig, IsNewPool};
 ghost use Rattle.tabled_pool.specs.Tiled.{Tiled};
 
 use crate::drawing::Drawing;
+use crate::handed::{draw_tree, has_bare};
 use crate::margins::{Margin, put_framed};
+use crate::panel_lines::put_panel;
+use crate::panels::DrawnBox;
 use crate::plan::{has_bottom, has_top};
 use std::alloc::Global;
 use std::fmt;
@@ -165,27 +173,25 @@ impl PoolTable {
         Some(Size { width, height })
     }
 
-    /// The margin of a table of so many columns; one of no column has none.
-    fn margin(&self, width: usize) -> Sides<Indent>
-        requires { width ≡ framed_width self.now }
-        ensures { result ≡ margin_of self.now }
-    {
-        if width == 0 {
-            Sides::filled(Indent::zero())
-        } else {
-            *self.config.get_margin()
-        }
-    }
-
-    /// The colours of the margin; one of no column and no line has none.
+    /// The colours of a margin; one of no column and no line has none.
     fn margin_colors(&self, margin: Sides<Indent>) -> Sides<ANSIStr<'static>>
-        requires { margin ≡ margin_of self.now }
-        ensures { marks_of result ≡ margin_marks self.now }
+        ensures { marks_of result ≡ marks_for self.now margin }
     {
         if has_margin(margin) {
             *self.config.get_margin_color()
         } else {
             Sides::filled(ANSIStr::new("", ""))
+        }
+    }
+
+    /// The margin around drawn lines; the empty text has none.
+    fn margin_around(&self, panel: &DrawnBox) -> Sides<Indent>
+        ensures { result ≡ margin_around self.now (panel_of panel.now) }
+    {
+        if panel.width == 0 && panel.lines.len() == 1 {
+            Sides::filled(Indent::zero())
+        } else {
+            *self.config.get_margin()
         }
     }
 
@@ -195,7 +201,7 @@ impl PoolTable {
             × (size.height ≡ framed_height self.now) × IsInRange self.now) }
     {
         let size = self.framed_size()?;
-        let margin = self.margin(size.width);
+        let margin = *self.config.get_margin();
         sum(margin.left.size, size.width, margin.right.size)?;
         sum(margin.top.size, size.height, margin.bottom.size)?;
         Some(size)
@@ -220,19 +226,14 @@ impl PoolTable {
         Ok(pieces)
     }
 
-    /// Prints the drawing of the pieces.
-    fn put_pieces<S: TextSink>(
-        &self,
-        sink: &mut S,
-        pieces: &[Piece<'_>],
-        size: Size,
-    ) -> Result<(), TableError>
+    /// The pieces as they are drawn.
+    fn drawing<'d, 'a>(&self, pieces: &'d [Piece<'a>], size: Size) -> Drawing<'d, 'a>
         requires width { size.width ≡ framed_width self.now }
         requires height { size.height ≡ framed_height self.now }
         requires places { map shown pieces.now ≡ (plan self.now).parts }
-        ensures { Writes (S.sent sink.old) result (S.sent sink.new) (pool_text self.now) }
+        ensures { plan_of result ≡ plan self.now }
     {
-        let drawing = Drawing {
+        Drawing {
             pieces,
             width: size.width,
             height: size.height,
@@ -241,13 +242,53 @@ impl PoolTable {
             padding_colors: *self.config.get_padding_color(),
             colors: *self.config.get_borders_color(),
             alloc: self.value.allocator(),
-        };
-        let indent = self.margin(size.width);
+        }
+    }
+
+    /// Prints the drawing by the lines that meet.
+    fn put_drawing<S: TextSink>(
+        &self,
+        sink: &mut S,
+        drawing: &Drawing<'_, '_>,
+    ) -> Result<(), TableError>
+        requires columns { HasColumns self.now }
+        requires plan { plan_of drawing.now ≡ plan self.now }
+        ensures { Writes (S.sent sink.old) result (S.sent sink.new) (pool_text self.now) }
+    {
+        let indent = *self.config.get_margin();
         let margin = Margin {
             indent,
             colors: self.margin_colors(indent),
         };
-        put_framed(sink, &drawing, &margin)
+        put_framed(sink, drawing, &margin)
+    }
+
+    /// Prints drawn lines.
+    fn put_handed<S: TextSink>(&self, sink: &mut S, panel: &DrawnBox) -> Result<(), TableError>
+        requires bare { has_bare (plan self.now).parts ≡ true }
+        requires panel { panel_of panel.now ≡ handed_panel (plan self.now) (gaps_of self.now) self.now.value }
+        ensures { Writes (S.sent sink.old) result (S.sent sink.new) (pool_text self.now) }
+    {
+        let indent = self.margin_around(panel);
+        let margin = Margin {
+            indent,
+            colors: self.margin_colors(indent),
+        };
+        put_panel(sink, panel, &margin)
+    }
+
+    /// The size of the boxes without the outer lines.
+    fn inner_size(&self, size: Size) -> Size
+        requires width { size.width ≡ framed_width self.now }
+        requires height { size.height ≡ framed_height self.now }
+        ensures width { result.width ≡ (box_of (gaps_of self.now) self.now.value).width }
+        ensures height { result.height ≡ (box_of (gaps_of self.now) self.now.value).height }
+    {
+        let frame = frame_of(self.config.get_borders());
+        Size {
+            width: size.width - frame.left - frame.right,
+            height: size.height - frame.top - frame.bottom,
+        }
     }
 
     /// Prints the table, if its totals are in range.
@@ -258,24 +299,33 @@ impl PoolTable {
             return Err(TableError::Range);
         };
         let pieces = self.pieces(size)?;
-        self.put_pieces(sink, pieces.as_slice(), size)
+        let drawing = self.drawing(pieces.as_slice(), size);
+        if !has_bare(pieces.as_slice()) {
+            return self.put_drawing(sink, &drawing);
+        }
+        let panel = draw_tree(&self.value, &self.gaps(), &drawing, self.inner_size(size))?;
+        self.put_handed(sink, &panel)
     }
 
     /// Prints the boxes in their frame and margin, line by line. Where lines meet, the character is that of the
-    /// borders for the sides on which they go on. A text that is given no column isn't seen, and a table of no column
-    /// has no margin. Colours take no columns: runs of padding and of a margin stand between the marks of theirs, also
+    /// borders for the sides on which they go on. Colours take no columns: runs of padding and of a margin stand between the marks of theirs, also
     /// where they are empty; along the top or bottom line of a text a colour is opened where none is used or another
     /// one is, and at the end of the line the first one is closed. The walk recurses as deep as the value goes: 8 MiB
     /// of stack held 20,000 levels, and not 30,000. All texts and lines are looked through once for each line, and at
-    /// each of its places those near it; where there is no memory to gather these, all again. Refused with `Range`
-    /// where the columns or the lines of the whole pass the greatest `usize`, and for memory, both before the first
-    /// byte; else for what the sink refuses, and then a beginning went out.
+    /// each of its places those near it; where there is no memory to gather these, all again.
+    ///
+    /// Where a text is given no column, all lines are made in memory first: each text draws the line above it and the
+    /// one to its left, a text of no column none, and boxes hand on where their lines meet. The empty text has no margin.
+    ///
+    /// Refused with `Range` where the columns or the lines of the whole, with every line and the margin, pass the
+    /// greatest `usize`, and for memory, both before the first byte; else for what the sink refuses, and then a
+    /// beginning went out.
     pub fn write_to<S: TextSink>(&self, sink: &mut S) -> Result<(), TableError>
         ensures printed { WritesPool self.now (S.sent sink.old) result (S.sent sink.new) }
         ensures tiled { IsStraightPool self.now → Tiled (plan self.now) }
         ensures columns { IsStraightPool self.now → EachLineTakes (framed_width self.now) (drawn (plan self.now)) }
-        ensures width { IsStraightPool self.now → EachLineTakes (total_width self.now) (pool_lines self.now) }
-        ensures height { length (pool_lines self.now) ≡ total_height self.now }
+        ensures width { HasColumns self.now → IsStraightPool self.now → EachLineTakes (total_width self.now) (pool_lines self.now) }
+        ensures height { HasColumns self.now → length (pool_lines self.now) ≡ total_height self.now }
     {
         self.write_checked(sink)
     }

@@ -9,7 +9,7 @@ pub returns-clause-columns : goal.returns-clause-columns
 returns-clause-columns g c = λ h. pool_columns _ h
 
 pub returns-clause-width : goal.returns-clause-width
-returns-clause-width g c = λ h. whole_columns _ h
+returns-clause-width g c = λ k h. whole_columns _ k h
 
 pub returns-clause-height : goal.returns-clause-height
-returns-clause-height g c = whole_lines _
+returns-clause-height g c = λ h. whole_lines _ h
