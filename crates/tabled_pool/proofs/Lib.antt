@@ -12,6 +12,7 @@ pub mod Drawers
 pub mod MarginLemmas
 pub mod NearLines
 pub mod Owners
+pub mod Padded
 pub mod PanelLines
 pub mod PlainBlocks
 pub mod Plains

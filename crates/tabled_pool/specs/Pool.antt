@@ -107,6 +107,10 @@ total_height t = (margin_of t).top.size + framed_height t + (margin_of t).bottom
 abbrev pub HasColumns : PoolTable → Type 0
 HasColumns t = has_bare (plan t).parts ≡ false
 
+-- each text has padding at a side
+abbrev pub IsPadded : PoolTable → Type 0
+IsPadded t = 0 < t.config.config.padding.left.size + t.config.config.padding.right.size
+
 -- the margin around a panel; the empty text has none
 abbrev pub margin_around : PoolTable → Panel → Sides Indent
 margin_around t p = if p.width == 0 && length p.lines == 1 then each_side no_indent else margin_of t

@@ -131,7 +131,7 @@ impl PoolTable {
     /// Whether the settings keep the texts apart, whatever these are: the characters of lines, paddings and margins are
     /// separators of one column (a space, lines, blocks and dots, printable ASCII but `#`, `*` and digits), or missing;
     /// a line or padding stands between texts side by side; and nothing is coloured. Then each printed line takes the
-    /// columns of the whole, and each text stands in its place.
+    /// columns of the whole, and each text stands in its place, if each is given a column.
     pub fn is_apart(&self) -> bool
         ensures { IsTrue result ↔ IsApartPool self.now }
     {

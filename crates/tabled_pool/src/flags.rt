@@ -15,11 +15,11 @@ pub(crate) struct Flags {
     pub first_row: bool,
     /// Nothing stands below it.
     pub last_row: bool,
-    /// A box stands to its left, at the top of a row.
+    /// A box stands to its left, and it is the first of each column that it is in from there on.
     pub leans: bool,
-    /// A box stands above it in a column, and to its left begins the column.
+    /// A box stands above it in a column, at whose left edge it begins.
     pub side: bool,
-    /// A line from above, or from the left, ends at its corner.
+    /// A line between the boxes above, or between those to the left, ends at its upper left corner.
     pub cross: bool,
 }
 

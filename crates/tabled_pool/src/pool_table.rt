@@ -17,6 +17,7 @@ ghost use Rattle.tabled_pool.specs.Pool.{
   HasColumns,
   IsInRange,
   IsOutOfRange,
+  IsPadded,
   WritesPool,
   borders_of,
   frame_of,
@@ -316,12 +317,14 @@ impl PoolTable {
     ///
     /// Where a text is given no column, all lines are made in memory first: each text draws the line above it and the
     /// one to its left, a text of no column none, and boxes hand on where their lines meet. The empty text has no margin.
+    /// Padding at a side gives each text a column.
     ///
     /// Refused with `Range` where the columns or the lines of the whole, with every line and the margin, pass the
     /// greatest `usize`, and for memory, both before the first byte; else for what the sink refuses, and then a
     /// beginning went out.
     pub fn write_to<S: TextSink>(&self, sink: &mut S) -> Result<(), TableError>
         ensures printed { WritesPool self.now (S.sent sink.old) result (S.sent sink.new) }
+        ensures padded { IsPadded self.now → HasColumns self.now }
         ensures tiled { IsStraightPool self.now → Tiled (plan self.now) }
         ensures columns { IsStraightPool self.now → EachLineTakes (framed_width self.now) (drawn (plan self.now)) }
         ensures width { HasColumns self.now → IsStraightPool self.now → EachLineTakes (total_width self.now) (pool_lines self.now) }

@@ -1,6 +1,10 @@
+use Rattle.tabled_pool.proofs.Padded.{padded_columns}
 use Rattle.tabled_pool.proofs.StraightPools.{pool_columns, pool_tiles, whole_columns}
 use Rattle.tabled_pool.proofs.Totals.{whole_lines}
 use Rattle.tabled_pool.proofs.pool_table.PoolTable.write_to.Goals as goal
+
+pub returns-clause-padded : goal.returns-clause-padded
+returns-clause-padded g c = λ h. padded_columns _ h
 
 pub returns-clause-tiled : goal.returns-clause-tiled
 returns-clause-tiled g c = λ h. pool_tiles _ h
