@@ -1,46 +1,34 @@
 -- New tables that an option fitted into some columns, by the sizes that it leaves.
-use Rattle.std.proofs.Common.{◌≡◌, ℕ, ◌-◌, ◌<◌, ◌≤◌, ◌^◌, ◌⊎◌, Bool, true, false, cond, List, [], ◌∷◌, length, take, nat_le, Option, Some, None, unwrap_or, inl, inr, ⊎_elim, refl, sym, ap, ◌∙◌, subst, arith}
+use Rattle.std.proofs.Common.{◌≡◌, ℕ, ◌-◌, ◌<◌, ◌≤◌, ◌^◌, Bool, true, false, cond, List, [], length, take, nat_le, Option, Some, None, unwrap_or, inl, ⊎_elim, refl, sym, ap, ◌∙◌, subst, arith}
 use Rattle.std.specs.Prelude.{MatchBool}
-use Rattle.std.specs.List.{slice_index_or}
 use Rattle.std.proofs.Math.Seq.{take-length}
-use Rattle.std.proofs.lemmas.Bool.{MatchBool-at_true, MatchBool-at_false, cases_Bool, le-leb, leb-false}
-use Rattle.std.proofs.lemmas.List.{get_or_default}
-use Rattle.tabled_base.specs.Cells.{IsRectangular, columns}
+use Rattle.std.proofs.lemmas.Bool.{MatchBool-at_true, MatchBool-at_false, cases_Bool, le-leb}
+use Rattle.tabled_base.specs.Cells.{columns}
 use Rattle.tabled_base.specs.declared.position.Entity.{Entity}
 use Rattle.tabled_change.specs.CellChanges.{AreChanged}
-use Rattle.tabled_grid.specs.ApartSheet.{IsApartConfig}
-use Rattle.tabled_grid.specs.Picture.{picture}
+use Rattle.tabled_config.specs.declared.spanned.SpannedConfig.{SpannedConfig}
 use Rattle.tabled_grid.specs.Printed.{IsOutOfRange}
-use Rattle.tabled_grid.proofs.EstimatedSizes.{holds_estimated, passes_too_high, passes_too_wide, sized_estimated}
+use Rattle.tabled_grid.proofs.EstimatedSizes.{passes_too_high, passes_too_wide}
 use Rattle.tabled_grid.proofs.StandingSizes.{standing_estimated}
-use Rattle.tabled_priority.specs.Permitted.{at}
-use Rattle.tabled_resize.specs.ExactTotal.{HasExactTotal}
 use Rattle.tabled_resize.specs.Minimums.{emptied, minimums}
 use Rattle.tabled_resize.specs.Narrowed.{IsNarrowed, Narrows, NarrowingOutOfRange, for_room}
 use Rattle.tabled_resize.specs.Priorities.{TakesFrom}
 use Rattle.tabled_resize.proofs.Emptied.{emptied-cell, emptied-columns, emptied-rows, minimums-length}
 use Rattle.tabled_resize.proofs.ExactTotals.{new_widths}
-use Rattle.tabled_row.specs.Plain.{EachLineTakes}
 use Rattle.tabled_size.specs.Cleared.{AreCleared}
 use Rattle.tabled_size.specs.Entries.{clears_heights, clears_widths, unless_cleared}
 use Rattle.tabled_size.specs.Estimates.{IsTooWide, estimated_heights, estimated_widths}
 use Rattle.tabled_size.specs.FilledIn.{HasNoEstimate, IsFilledIn}
-use Rattle.tabled_size.specs.Holds.{Holds, IsSized}
-use Rattle.tabled_size.specs.Sheet.{Sheet, is_empty}
+use Rattle.tabled_size.specs.Sheet.{Sheet, estimated, is_empty}
 use Rattle.tabled_size.specs.Standing.{standing, standing_sizes}
 use Rattle.tabled_size.specs.Stored.{heights_of, widths_of}
-use Rattle.tabled_size.specs.TextCells.{AreTexts}
 use Rattle.tabled_size.specs.Totals.{filled_width, total_width}
 use Rattle.tabled_size.specs.declared.complete_dimension.CompleteDimension.{CompleteDimension}
 use Rattle.tabled_size.proofs.Totalling.{heights_length, widths_length}
 use Rattle.tabled_text.specs.Measure.{text_columns}
 use Rattle.tabled_text.proofs.StayLemmas.{StaysWithin-none, text_columns-stays}
-use Rattle.tabled_table.specs.NewConfig.{new_config}
-use Rattle.tabled_table.specs.TableSheet.{new_sheet}
-use Rattle.tabled_table.proofs.NewTables.{new_apart, new_texts}
-use Rattle.tabled_table.proofs.Sheets.{sheet_texts}
 use Rattle.tabled.specs.Narrowing.{IsFitted, ShrinksBy}
-use Rattle.tabled.specs.Planned.{Cells, FitsInto, IsNarrowedTo}
+use Rattle.tabled.specs.Planned.{Cells, IsNarrowedTo}
 
 cleared_none : (b : Bool) → unless_cleared b None ≡ None
 cleared_none true = refl
@@ -48,8 +36,8 @@ cleared_none false = refl
 
 -- ---- the sizes of a table that stays as it is
 
-abbrev sized_by : Cells → List ℕ → List ℕ → Sheet
-sized_by cells widths heights = record { cells = cells; config = new_config; widths = widths; heights = heights }
+abbrev sized_by : Cells → SpannedConfig → List ℕ → List ℕ → Sheet
+sized_by cells config widths heights = record { cells = cells; config = config; widths = widths; heights = heights }
 
 whole_list : (xs : List ℕ) (count : ℕ) → length xs ≡ count → take count xs ≡ xs
 whole_list xs count e = ap (λ k. take k xs) (sym e) ∙ take-length xs
@@ -61,104 +49,104 @@ filled_stands false xs count e = whole_list xs count e
 
 -- ---- what an option leaves
 module _ {P : Type 0} (shrinks : P → List ℕ → List ℕ → ℕ → List ℕ → P → Type 0) (s : P) (change : ℕ → List ℕ → List ℕ → Type 0) (n : ℕ)
-    (cells new : Cells) (none left last : CompleteDimension) (hint : Option Entity) (no_widths : widths_of none ≡ None) (no_heights : heights_of none ≡ None)
-    (hinted : clears_widths hint ≡ false) (narrows : Narrows shrinks s change n cells new_config none new left) (cleared : AreCleared hint left last)
+    (cells new : Cells) (config : SpannedConfig) (none left last : CompleteDimension) (hint : Option Entity) (no_widths : widths_of none ≡ None) (no_heights : heights_of none ≡ None)
+    (hinted : clears_widths hint ≡ false) (narrows : Narrows shrinks s change n cells config none new left) (cleared : AreCleared hint left last)
     (takes : TakesFrom shrinks s) where
-  before_is : standing cells new_config none ≡ new_sheet cells
-  before_is = standing_estimated cells new_config none no_widths no_heights
+  before_is : standing cells config none ≡ estimated cells config
+  before_is = standing_estimated cells config none no_widths no_heights
 
   widths_last : widths_of last ≡ widths_of left
   widths_last = cleared.widths ∙ ap (λ b. unless_cleared b (widths_of left)) hinted
 
   -- nothing was stored
-  unmeasured : new ≡ cells → left ≡ none → standing new new_config last ≡ new_sheet cells
+  unmeasured : new ≡ cells → left ≡ none → standing new config last ≡ estimated cells config
   unmeasured e f =
-      ap (λ c. standing c new_config last) e
-      ∙ standing_estimated cells new_config last (widths_last ∙ ap widths_of f ∙ no_widths)
+      ap (λ c. standing c config last) e
+      ∙ standing_estimated cells config last (widths_last ∙ ap widths_of f ∙ no_widths)
       (cleared.heights ∙ ap (unless_cleared (clears_heights hint)) (ap heights_of f ∙ no_heights) ∙ cleared_none (clears_heights hint))
 
   -- the estimates were stored
-  measured : new ≡ cells → IsFilledIn none cells new_config left → standing new new_config last ≡ new_sheet cells
+  measured : new ≡ cells → IsFilledIn none cells config left → standing new config last ≡ estimated cells config
   measured e f =
-      let wide = estimated_widths cells new_config in
-      let high = estimated_heights cells new_config in
+      let wide = estimated_widths cells config in
+      let high = estimated_heights cells config in
       let widths : standing_sizes (widths_of last) wide (columns cells) ≡ wide =
       ap (λ o. standing_sizes o wide (columns cells)) (widths_last ∙ f.widths ∙ ap (λ o. Some (unwrap_or o wide)) no_widths)
-      ∙ whole_list wide (columns cells) (widths_length cells new_config) in
+      ∙ whole_list wide (columns cells) (widths_length cells config) in
       let heights : standing_sizes (heights_of last) high (length cells) ≡ high =
       ap (λ o. standing_sizes o high (length cells))
       (cleared.heights ∙ ap (unless_cleared (clears_heights hint)) (f.heights ∙ ap (λ o. Some (unwrap_or o high)) no_heights))
-      ∙ filled_stands (clears_heights hint) high (length cells) (heights_length cells new_config) in
-      ap (λ c. standing c new_config last) e
-      ∙ ap (λ w. sized_by cells w (standing_sizes (heights_of last) high (length cells))) widths ∙ ap (λ h. sized_by cells wide h) heights
+      ∙ filled_stands (clears_heights hint) high (length cells) (heights_length cells config) in
+      ap (λ c. standing c config last) e
+      ∙ ap (λ w. sized_by cells config w (standing_sizes (heights_of last) high (length cells))) widths ∙ ap (λ h. sized_by cells config wide h) heights
 
-  narrowed_to : IsNarrowed shrinks s change n (standing cells new_config none) new left
-      → IsNarrowedTo (ShrinksBy shrinks s) change n (new_sheet cells) (standing new new_config last)
+  narrowed_to : IsNarrowed shrinks s change n (standing cells config none) new left
+      → IsNarrowedTo (ShrinksBy shrinks s) change n (estimated cells config) (standing new config last)
   narrowed_to h =
-      let t = standing cells new_config none in
-      let mins = minimums cells new_config in
-      let estimates : t.widths ≡ estimated_widths cells new_config = ap (λ (u : Sheet). u.widths) before_is in
-      let stored : (standing new new_config last).widths ≡ h.widths =
-      new_widths shrinks s change n cells new_config none new left last takes estimates h widths_last in
+      let t = standing cells config none in
+      let mins = minimums cells config in
+      let estimates : t.widths ≡ estimated_widths cells config = ap (λ (u : Sheet). u.widths) before_is in
+      let stored : (standing new config last).widths ≡ h.widths =
+      new_widths shrinks s change n cells config none new left last takes estimates h widths_last in
       let whole : take (length t.widths) mins ≡ mins =
-      whole_list mins (length t.widths) (minimums-length cells new_config ∙ sym (ap length estimates ∙ widths_length cells new_config)) in
+      whole_list mins (length t.widths) (minimums-length cells config ∙ sym (ap length estimates ∙ widths_length cells config)) in
       let by_minimums : shrinks s t.widths mins (total_width t - n) h.widths h.shrunk.last =
       subst (λ m. shrinks s t.widths m (total_width t - n) h.widths h.shrunk.last) whole h.shrunk.shrunk in
-      let shrunk : shrinks s (new_sheet cells).widths mins (total_width (new_sheet cells) - n) h.widths h.shrunk.last =
+      let shrunk : shrinks s (estimated cells config).widths mins (total_width (estimated cells config) - n) h.widths h.shrunk.last =
       subst (λ (u : Sheet). shrinks s u.widths mins (total_width u - n) h.widths h.shrunk.last) before_is by_minimums in
-      let by = total_width (new_sheet cells) - n in
+      let by = total_width (estimated cells config) - n in
       record {
         config = refl;
-        widths = (h.shrunk.last, subst (λ w. shrinks s (new_sheet cells).widths mins by w h.shrunk.last) (sym stored) shrunk);
-        cells = subst (λ w. AreChanged (λ row column. true) (for_room change (new_sheet cells) w) cells new) (sym stored) h.changed;
-        heights = ap (λ o. standing_sizes o (estimated_heights new new_config) (length new))
+        widths = (h.shrunk.last, subst (λ w. shrinks s (estimated cells config).widths mins by w h.shrunk.last) (sym stored) shrunk);
+        cells = subst (λ w. AreChanged (λ row column. true) (for_room change (estimated cells config) w) cells new) (sym stored) h.changed;
+        heights = ap (λ o. standing_sizes o (estimated_heights new config) (length new))
             (cleared.heights ∙ ap (unless_cleared (clears_heights hint)) h.cleared ∙ cleared_none (clears_heights hint));
       }
 
   abbrev Same : Type 0
-  Same = standing new new_config last ≡ new_sheet cells
+  Same = standing new config last ≡ estimated cells config
 
   abbrev Smaller : Type 0
-  Smaller = IsNarrowedTo (ShrinksBy shrinks s) change n (new_sheet cells) (standing new new_config last)
+  Smaller = IsNarrowedTo (ShrinksBy shrinks s) change n (estimated cells config) (standing new config last)
 
   abbrev Filled : Type 0
-  Filled = (new ≡ cells) × IsFilledIn none cells new_config left
+  Filled = (new ≡ cells) × IsFilledIn none cells config left
 
   abbrev Narrowed : Type 0
-  Narrowed = IsNarrowed shrinks s change n (standing cells new_config none) new left
+  Narrowed = IsNarrowed shrinks s change n (standing cells config none) new left
 
-  empty_fits : is_empty cells ≡ true → MatchBool (nat_le (total_width (new_sheet cells)) n) Same Smaller
+  empty_fits : is_empty cells ≡ true → MatchBool (nat_le (total_width (estimated cells config)) n) Same Smaller
   empty_fits e =
-      let stays = MatchBool-at_true ((new ≡ cells) × (left ≡ none)) (MatchBool (nat_le (total_width (standing cells new_config none)) n) Filled Narrowed) e narrows in
-      let zero : total_width (new_sheet cells) ≡ 0 =
-      ap (λ b. cond b 0 (filled_width new_config (columns cells) (estimated_widths cells new_config))) e in
-      let fits : nat_le (total_width (new_sheet cells)) n ≡ true = le-leb (total_width (new_sheet cells)) n (omega arith) in
+      let stays = MatchBool-at_true ((new ≡ cells) × (left ≡ none)) (MatchBool (nat_le (total_width (standing cells config none)) n) Filled Narrowed) e narrows in
+      let zero : total_width (estimated cells config) ≡ 0 =
+      ap (λ b. cond b 0 (filled_width config (columns cells) (estimated_widths cells config))) e in
+      let fits : nat_le (total_width (estimated cells config)) n ≡ true = le-leb (total_width (estimated cells config)) n (omega arith) in
       subst (λ b. MatchBool b Same Smaller) (sym fits) (unmeasured stays.0 stays.1)
 
-  full_fits : is_empty cells ≡ false → MatchBool (nat_le (total_width (new_sheet cells)) n) Same Smaller
+  full_fits : is_empty cells ≡ false → MatchBool (nat_le (total_width (estimated cells config)) n) Same Smaller
   full_fits e =
-      let m = MatchBool-at_false ((new ≡ cells) × (left ≡ none)) (MatchBool (nat_le (total_width (standing cells new_config none)) n) Filled Narrowed) e narrows in
-      let moved : nat_le (total_width (standing cells new_config none)) n ≡ nat_le (total_width (new_sheet cells)) n =
+      let m = MatchBool-at_false ((new ≡ cells) × (left ≡ none)) (MatchBool (nat_le (total_width (standing cells config none)) n) Filled Narrowed) e narrows in
+      let moved : nat_le (total_width (standing cells config none)) n ≡ nat_le (total_width (estimated cells config)) n =
       ap (λ (u : Sheet). nat_le (total_width u) n) before_is in
       ⊎_elim
       (λ y.
       let stays = MatchBool-at_true Filled Narrowed (moved ∙ y) m in
       subst (λ b. MatchBool b Same Smaller) (sym y) (measured stays.0 stays.1))
       (λ no. subst (λ b. MatchBool b Same Smaller) (sym no) (narrowed_to (MatchBool-at_false Filled Narrowed (moved ∙ no) m)))
-      (cases_Bool (nat_le (total_width (new_sheet cells)) n))
+      (cases_Bool (nat_le (total_width (estimated cells config)) n))
 
   -- the table that is printed is the new one, fitted
-  pub fitted : IsFitted shrinks s change n cells (standing new new_config last)
+  pub fitted : IsFitted shrinks s change n (estimated cells config) (standing new config last)
   fitted = ⊎_elim empty_fits full_fits (cases_Bool (is_empty cells))
 
   -- what is told of the sizes that stood is told of the new table
-  pub of_new : (Q : Sheet → Type 0) → Q (standing cells new_config none) → Q (new_sheet cells)
+  pub of_new : (Q : Sheet → Type 0) → Q (standing cells config none) → Q (estimated cells config)
   of_new Q q = subst Q before_is q
 
 -- ---- where a sum passes the range
 
-too_wide_without : (cells : Cells) → IsTooWide (emptied cells) new_config → IsTooWide cells new_config
-too_wide_without cells w = record {
+too_wide_without : (cells : Cells) (config : SpannedConfig) → IsTooWide (emptied cells) config → IsTooWide cells config
+too_wide_without cells config w = record {
   row = w.row;
   column = w.column;
   row_in = subst (λ k. w.row < k) (emptied-rows cells) w.row_in;
@@ -170,19 +158,19 @@ too_wide_without cells w = record {
       omega arith;
 }
 
-pub passes : (n : ℕ) (cells : Cells) (none : CompleteDimension) → widths_of none ≡ None → heights_of none ≡ None
-    → NarrowingOutOfRange ⊥ n cells new_config none → IsOutOfRange (new_sheet cells)
-passes n cells none no_widths no_heights h =
+pub passes : (n : ℕ) (cells : Cells) (config : SpannedConfig) (none : CompleteDimension) → widths_of none ≡ None → heights_of none ≡ None
+    → NarrowingOutOfRange ⊥ n cells config none → IsOutOfRange (estimated cells config)
+passes n cells config none no_widths no_heights h =
     let full = h.0 in
-    let unestimated : HasNoEstimate none cells new_config → IsOutOfRange (new_sheet cells) =
-    λ u. ⊎_elim (λ w. passes_too_wide cells new_config w.1) (λ t. passes_too_high cells new_config t.1) u in
-    let whole : total_width (new_sheet cells) ≡ filled_width new_config (columns cells) (estimated_widths cells new_config) =
-    ap (λ b. cond b 0 (filled_width new_config (columns cells) (estimated_widths cells new_config))) full in
+    let unestimated : HasNoEstimate none cells config → IsOutOfRange (estimated cells config) =
+    λ u. ⊎_elim (λ w. passes_too_wide cells config w.1) (λ t. passes_too_high cells config t.1) u in
+    let whole : total_width (estimated cells config) ≡ filled_width config (columns cells) (estimated_widths cells config) =
+    ap (λ b. cond b 0 (filled_width config (columns cells) (estimated_widths cells config))) full in
     ⊎_elim (λ (no : ⊥). absurd no)
     (λ c. ⊎_elim unestimated
     (λ d. ⊎_elim
     (λ t.
-    let wide : 2 ^ 64 ≤ total_width (new_sheet cells) = subst (λ (u : Sheet). 2 ^ 64 ≤ total_width u) (standing_estimated cells new_config none no_widths no_heights) t in
+    let wide : 2 ^ 64 ≤ total_width (estimated cells config) = subst (λ (u : Sheet). 2 ^ 64 ≤ total_width u) (standing_estimated cells config none no_widths no_heights) t in
     inl (subst (λ k. 2 ^ 64 ≤ k) whole wide))
-    (λ t. passes_too_wide cells new_config (too_wide_without cells t.1)) d) c)
+    (λ t. passes_too_wide cells config (too_wide_without cells config t.1)) d) c)
     h.1

@@ -6,6 +6,7 @@ pub mod Orders
 pub mod Outputs
 pub mod PlannedTables
 pub mod Reading
+pub mod RenderedTables
 pub mod Since
 pub mod Spelling
 pub mod StreamedTables

@@ -1,6 +1,5 @@
 -- Tables that are printed row by row, with all rows read ahead.
-use Rattle.std.proofs.Common.{◌≡◌, ℕ, ◌+◌, ◌-◌, ◌<◌, ◌≤◌, ◌^◌, ◌==◌, ◌||◌, ◌⊎◌, Bool, true, false, List, [], ◌∷◌, ◌++◌, zero, suc, if◌then◌else◌, not, nat_lt, length, map, take, Option, None, Some, Result, Ok, Err, All, inl, inr, ⊎_elim, refl, sym, ap, ◌∙◌, subst, arith, append-nil, append_assoc, length-append}
-use Rattle.std.specs.Prelude.{MatchBool}
+use Rattle.std.proofs.Common.{◌≡◌, ℕ, ◌+◌, ◌<◌, ◌≤◌, ◌^◌, ◌==◌, ◌||◌, ◌⊎◌, Bool, true, false, List, [], ◌∷◌, ◌++◌, zero, suc, if◌then◌else◌, not, nat_lt, length, map, take, Result, Ok, Err, All, inl, inr, ⊎_elim, refl, sym, ap, ◌∙◌, subst, arith, append-nil, append_assoc, length-append}
 use Rattle.std.specs.List.{slice_index_or}
 use Rattle.std.proofs.lemmas.Bool.{cases_lt, cases_Bool}
 use Rattle.std.proofs.lemmas.Bool.Decides.{nat_tests}
@@ -8,37 +7,31 @@ use Rattle.std.proofs.lemmas.List.{get_or_past, nil_from_length}
 use Rattle.std.proofs.lemmas.List.Elements.{All-head, All-tail}
 use Rattle.std.specs.Io.KnownBytes.{Appends}
 use Rattle.std.specs.Str.{IsUtf8}
-use Rattle.tabled_base.specs.Cells.{IsInside, IsRectangular, cell_at, columns}
+use Rattle.tabled_base.specs.Cells.{IsRectangular, cell_at, columns}
 use Rattle.tabled_base.specs.declared.error.TableError.{TableError}
 use Rattle.tabled_base.specs.declared.error.TableError.TheVariants.{Memory, Range}
 use Rattle.tabled_change.specs.CellChanges.{AreChanged}
 use Rattle.tabled_config.specs.Spanned.{spanned_of_compact}
 use Rattle.tabled_config.specs.declared.compact.CompactConfig.{CompactConfig}
-use Rattle.tabled_config.specs.declared.spanned.SpannedConfig.{SpannedConfig}
-use Rattle.tabled_border.specs.declared.sides.Indent.{Indent}
-use Rattle.tabled_border.specs.declared.sides.Sides.{Sides}
 use Rattle.tabled_config.specs.Settings.{style_at}
 use Rattle.tabled_grid.specs.ApartSheet.{IsApartConfig}
-use Rattle.tabled_grid.specs.Picture.{picture, table_text}
-use Rattle.tabled_grid.specs.Printed.{IsOutOfRange}
 use Rattle.tabled_priority.specs.Permitted.{at}
 use Rattle.tabled_resize.specs.BestNarrowing.{text_room}
 use Rattle.tabled_resize.specs.Minimums.{side_padding}
-use Rattle.tabled_row.specs.Sent.{IsCause, Sends, Sent, Stops}
-use Rattle.tabled_row.specs.Plain.{EachLineTakes}
+use Rattle.tabled_row.specs.Sent.{IsCause, Sent}
 use Rattle.tabled_size.specs.Estimates.{column_width, estimated_heights, estimated_widths}
 use Rattle.tabled_size.specs.Sheet.{Sheet, is_empty}
 use Rattle.tabled_size.specs.TextCells.{AreTexts}
-use Rattle.tabled_size.specs.Totals.{filled_width, total_width}
+use Rattle.tabled_size.specs.Totals.{filled_width}
 use Rattle.tabled_size.proofs.Passing.{width_at}
 use Rattle.tabled_stream.specs.GoesOn.{GoesOn}
 use Rattle.tabled_stream.specs.LikeTable.{AreMeasured, IsExactLine, IsLikeTable}
-use Rattle.tabled_stream.specs.NewTable.{IsNewConfig, new_settings, one_beside}
+use Rattle.tabled_stream.specs.NewTable.{IsNewConfig, new_settings}
 use Rattle.tabled_stream.specs.Printed.{text_above}
-use Rattle.tabled_stream.specs.Streamed.{IsCutRow, IsStreamed, column_count, content_width, limited, sniffed, stream_height, stream_widths, tallest}
+use Rattle.tabled_stream.specs.Streamed.{IsStreamed, column_count, content_width, sniffed, stream_height, stream_widths, tallest}
 use Rattle.tabled_stream.specs.Streams.{AreSniffed, IsTooHighFirst, PrintsStream, StreamStops, StopsAtEnd, StopsAtRow, StopsEarly, StopsInRows, Streams, stream_total}
 use Rattle.tabled_stream.specs.declared.settings.Settings.{Settings}
-use Rattle.tabled_stream.proofs.SameSheet.{all-sniffed, counted-columns, height-same, heights-same, like_table, row-cut, width-same, widths-same}
+use Rattle.tabled_stream.proofs.SameSheet.{all-sniffed, counted-columns, heights-same, like_table, row-cut, width-same, widths-same}
 use Rattle.tabled_stream.proofs.StreamedTexts.{streamed_holds, streamed_rectangular, streamed_texts}
 use Rattle.tabled_stream.proofs.TakenRows.{enough_sniffed}
 use Rattle.tabled_stream.proofs.WholeTexts.{goes_on}
@@ -50,8 +43,8 @@ use Rattle.tabled_text.specs.Cut.{IsCut}
 use Rattle.tabled_text.specs.Measure.{greatest, lines_of}
 use Rattle.tabled.specs.declared.plan.Plan.TheVariants.{Streamed}
 use Rattle.tabled.specs.Headline.{IsBestPlanned}
-use Rattle.tabled.specs.Planned.{Cells, IsPlanned, IsStreamedFrom}
-use Rattle.tabled.specs.Rendered.{BreaksOff, Halts, IsRendered, PassesRange, SendsTable}
+use Rattle.tabled.specs.Planned.{Cells, IsPlanned}
+use Rattle.tabled.specs.Rendered.{BreaksOff, Halts, IsRendered, PassesRange}
 
 -- ---- the settings of a new stream are those of a new table
 
@@ -268,7 +261,7 @@ module _ (cells : Cells) (full : is_empty cells ≡ false) (rectangular : IsRect
           omega arith
 
       stopped_early : (error : TableError) (old new : Sent) → StopsEarly (all_ahead cells) c rows whole old error new
-          → ((error ≡ Memory) × (new ≡ old)) ⊎ ((error ≡ Range) × (new ≡ old) × PassesRange (IsPlanned Streamed cells) cells)
+          → ((error ≡ Memory) × (new ≡ old)) ⊎ ((error ≡ Range) × (new ≡ old) × PassesRange (IsPlanned Streamed cells) (new_sheet cells))
       stopped_early error old new h = ⊎_elim
           (λ r.
           let e = all_taken r.1 in

@@ -1,6 +1,8 @@
 -- What holds of the table that a plan makes of the cells of a text, each sentence by a name of its own.
-use Rattle.std.specs.Prelude.{◌≡◌, ◌<◌, ℕ, Bool, false, ⊤, length}
+use Rattle.std.specs.Prelude.{◌≡◌, ◌<◌, ℕ, false, ⊤, length}
 use Rattle.std.specs.List.{All}
+use Rattle.tabled_config.specs.declared.spanned.SpannedConfig.{SpannedConfig}
+use Rattle.tabled_grid.specs.ApartSheet.{IsApartConfig}
 use Rattle.tabled_grid.specs.Picture.{picture}
 use Rattle.tabled_resize.specs.BestNarrowing.{HasLeastWidth, IsBestCut, IsBestWrapped}
 use Rattle.tabled_resize.specs.ExactTotal.{HasExactTotal}
@@ -58,8 +60,22 @@ IsAsBuffered Streamed old new = All (All IsExactLine) old.cells → new ≡ old
 IsAsBuffered (Wrapped n words order) old new = ⊤
 IsAsBuffered (Shortened n order) old new = ⊤
 
--- all of it: each line takes the total width, whatever the texts are, there are as many as the total height says, and
--- the table is as good as its plan asks
+-- settings that keep the texts of cells apart, whatever these are, in tables of any size
+abbrev pub KeepsApart : SpannedConfig → Type 0
+KeepsApart config = (rows count : ℕ) → IsApartConfig config rows count
+
+-- all of it, of a whole table under any settings: where they keep texts apart, each line takes the total width, whatever
+-- the texts are; there are as many as the total height says, and the table is as good as its plan asks
+pub record IsBestOf (plan : Plan) (whole t : Sheet) : Type 0 where
+  pub edges : KeepsApart whole.config → EachLineTakes (total_width t) (picture t)
+  pub lines : length (picture t) ≡ total_height t
+  pub total : HasWantedTotal plan whole t
+  pub least : HasLeastGreatestWidth plan whole t
+  pub fewest : HasFewestBreaks plan whole t
+  pub longest : HasLongestBeginnings plan whole t
+  pub alike : IsAsBuffered plan whole t
+
+-- and of a new table, whose settings do
 pub record IsBestPlanned (plan : Plan) (cells : Cells) (t : Sheet) : Type 0 where
   pub edges : EachLineTakes (total_width t) (picture t)
   pub lines : length (picture t) ≡ total_height t

@@ -6,7 +6,7 @@ use Rattle.tabled_priority.specs.Shrunk.{IsLeftShrunk, IsMaxShrunk, IsMinShrunk,
 use Rattle.tabled_resize.specs.BestNarrowing.{text_room}
 use Rattle.tabled_resize.specs.Minimums.{minimums}
 use Rattle.tabled_resize.specs.Narrowed.{for_room}
-use Rattle.tabled_size.specs.Estimates.{estimated_heights, estimated_widths}
+use Rattle.tabled_size.specs.Estimates.{estimated_heights}
 use Rattle.tabled_size.specs.Sheet.{Sheet}
 use Rattle.tabled_size.specs.Totals.{total_width}
 use Rattle.tabled_table.specs.TableSheet.{new_sheet}
@@ -47,9 +47,20 @@ pub record IsStreamedFrom (old new : Sheet) : Type 0 where
   pub cells : AreChanged (λ row column. true) (λ row column. IsCut (text_room old row column)) old.cells new.cells
   pub heights : new.heights ≡ old.heights
 
--- the table that a plan makes of some cells: the new one, and with some columns to keep to, the new one fitted into them
+-- the table that a plan makes of a whole one: that one, and with some columns to keep to, that one fitted into them
+abbrev pub IsPlannedOf : Plan → Sheet → Sheet → Type 0
+IsPlannedOf Buffered whole t = t ≡ whole
+IsPlannedOf Streamed whole t = IsStreamedFrom whole t
+IsPlannedOf (Wrapped n words order) whole t = FitsInto (OrderShrinks order) (wrapping words) n whole t
+IsPlannedOf (Shortened n order) whole t = FitsInto (OrderShrinks order) (if_wider (truncating [] Cut false)) n whole t
+
+-- and of some cells: of their new table
 abbrev pub IsPlanned : Plan → Cells → Sheet → Type 0
-IsPlanned Buffered cells t = t ≡ new_sheet cells
-IsPlanned Streamed cells t = IsStreamedFrom (new_sheet cells) t
-IsPlanned (Wrapped n words order) cells t = FitsInto (OrderShrinks order) (wrapping words) n (new_sheet cells) t
-IsPlanned (Shortened n order) cells t = FitsInto (OrderShrinks order) (if_wider (truncating [] Cut false)) n (new_sheet cells) t
+IsPlanned plan cells t = IsPlannedOf plan (new_sheet cells) t
+
+-- a plan under which all is measured before it is printed
+abbrev pub measured : Plan → Plan
+measured Buffered = Buffered
+measured Streamed = Buffered
+measured (Wrapped n words order) = Wrapped n words order
+measured (Shortened n order) = Shortened n order

@@ -10,8 +10,8 @@ use Rattle.tabled_size.specs.Sheet.{Sheet}
 use Rattle.tabled_table.specs.TableSheet.{new_sheet}
 use Rattle.tabled.specs.declared.plan.Plan.{Plan}
 use Rattle.tabled.specs.declared.plan.Plan.TheVariants.{Streamed}
-use Rattle.tabled.specs.Headline.{IsBestPlanned}
-use Rattle.tabled.specs.Planned.{Cells, IsPlanned}
+use Rattle.tabled.specs.Headline.{IsBestOf, IsBestPlanned}
+use Rattle.tabled.specs.Planned.{Cells, IsPlanned, IsPlannedOf}
 
 -- ---- a table that is known by what it is planned to be, and what holds of it then
 
@@ -33,17 +33,17 @@ pub record BreaksOff (planned best : Sheet → Type 0) (halts : TableError → T
   pub added : Appends old.bytes new.bytes front
   pub cause : IsCause error old.grows old.failures new.failures ⊎ halts error
 
--- a total of the new table, or of the one that is planned, passes the greatest `usize`
-abbrev pub PassesRange : (Sheet → Type 0) → Cells → Type 0
-PassesRange planned cells = IsOutOfRange (new_sheet cells) ⊎ ((t : Sheet) × planned t × IsOutOfRange t)
+-- a total of the whole table, or of the one that is planned, passes the greatest `usize`
+abbrev pub PassesRange : (Sheet → Type 0) → Sheet → Type 0
+PassesRange planned whole = IsOutOfRange whole ⊎ ((t : Sheet) × planned t × IsOutOfRange t)
 
 -- by the answer: all of the text was added; or it is refused, before the first byte for memory or a total out of range, or
 -- in the middle
-abbrev pub PrintsPlanned : {T : Type 0} → (Sheet → Type 0) → (Sheet → Type 0) → (TableError → Type 0) → Cells → Sent → Result T TableError → Sent → Type 0
-PrintsPlanned planned best halts cells old (Ok _) new = SendsTable planned best old new
-PrintsPlanned planned best halts cells old (Err error) new =
+abbrev pub PrintsPlanned : {T : Type 0} → (Sheet → Type 0) → (Sheet → Type 0) → (TableError → Type 0) → Sheet → Sent → Result T TableError → Sent → Type 0
+PrintsPlanned planned best halts whole old (Ok _) new = SendsTable planned best old new
+PrintsPlanned planned best halts whole old (Err error) new =
     ((error ≡ Memory) × (new ≡ old))
-    ⊎ (((error ≡ Range) × (new ≡ old) × PassesRange planned cells) ⊎ BreaksOff planned best halts old error new)
+    ⊎ (((error ≡ Range) × (new ≡ old) × PassesRange planned whole) ⊎ BreaksOff planned best halts old error new)
 
 -- ---- the table of a plan
 
@@ -54,4 +54,8 @@ Halts plan error = (plan ≡ Streamed) × (error ≡ Memory)
 -- what rendering some cells under a plan leaves: the table that the plan makes of them, which is as good as can be, was printed
 abbrev pub IsRendered : {T : Type 0} → Plan → Cells → Sent → Result T TableError → Sent → Type 0
 IsRendered plan cells old result new =
-    PrintsPlanned (IsPlanned plan cells) (IsBestPlanned plan cells) (Halts plan) cells old result new
+    PrintsPlanned (IsPlanned plan cells) (IsBestPlanned plan cells) (Halts plan) (new_sheet cells) old result new
+
+-- the same of a whole table under any settings, all of which is measured before it is printed
+abbrev pub IsRenderedOf : {T : Type 0} → Plan → Sheet → Sent → Result T TableError → Sent → Type 0
+IsRenderedOf plan whole old result new = PrintsPlanned (IsPlannedOf plan whole) (IsBestOf plan whole) (λ error. ⊥) whole old result new

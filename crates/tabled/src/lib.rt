@@ -17,7 +17,7 @@ mod words;
 
 pub use plan::{Order, Plan};
 pub use program::run;
-pub use rendering::render;
+pub use rendering::{render, render_styled};
 pub use tabled_base::{TableError, Text};
 pub use tabled_grid::{IoSink, TextSink};
 pub use tabled_table::Table;

@@ -1,22 +1,81 @@
 //! The table of a text.
-ghost use Rattle.std.specs.Prelude.{◌≡◌, ◌⊎◌, IfErr, false, length};
+ghost use Rattle.std.specs.Prelude.{◌≡◌, ◌⊎◌, IfErr, IfOk, false, length};
 ghost use Rattle.std.specs.List.{All};
 ghost use Rattle.tabled_text.specs.Measure.{lines_of};
-ghost use Rattle.tabled_size.specs.Sheet.{is_empty};
+ghost use Rattle.tabled_config.specs.Options.{with_style};
+ghost use Rattle.tabled_size.specs.Sheet.{estimated, is_empty};
 ghost use Rattle.tabled_base.specs.declared.error.TableError.TheVariants.{Memory, Range, Writer};
 ghost use Rattle.tabled_base.specs.TextRows.{text_rows};
 ghost use Rattle.tabled_base.specs.Cells.{IsRectangular};
 ghost use Rattle.tabled_row.specs.Sent.{Sent};
 ghost use Rattle.tabled_size.specs.TextCells.{AreTexts};
-ghost use Rattle.tabled.specs.Rendered.{IsRendered};
+ghost use Rattle.tabled_table.specs.NewConfig.{new_config};
+ghost use Rattle.tabled.specs.Planned.{measured};
+ghost use Rattle.tabled.specs.Rendered.{IsRendered, IsRenderedOf};
 
 use crate::narrowing::{put_shortened, put_wrapped};
 use crate::plan::Plan;
 use crate::streaming::put_streamed;
 use std::alloc::Global;
-use tabled_base::{PeekableRecords, TableError, lend_cells, text_rows};
+use tabled_base::{PeekableRecords, TableError, TableOption, lend_cells, text_rows};
+use tabled_config::{ColoredConfig, Style};
 use tabled_grid::{TextSink, print_estimated};
 use tabled_table::new_config;
+
+/// The settings of a new table.
+fn new_settings(alloc: Global) -> ColoredConfig
+    ensures { result.config ≡ new_config }
+{
+    ColoredConfig::new(new_config(alloc))
+}
+
+/// The settings of a new table in a style.
+fn styled_settings(alloc: Global, style: Style) -> Result<ColoredConfig, TableError>
+    ensures ok { IfOk result (λ settings. settings.config ≡ with_style new_config style) }
+    ensures only { IfErr result (λ e. e ≡ Memory) }
+{
+    let mut config = new_settings(alloc);
+    TableOption::change(style, &mut (), &mut config, &mut ())?;
+    Ok(config)
+}
+
+/// Prints the table that a plan makes of records under some settings, once all of it is measured.
+fn put_measured<R: PeekableRecords, S: TextSink>(
+    alloc: Global,
+    rows: &R,
+    config: ColoredConfig,
+    plan: Plan,
+    sink: &mut S,
+) -> Result<(), TableError>
+    requires texts { AreTexts (R.cells rows.now) }
+    requires rectangular { IsRectangular (R.cells rows.now) }
+    ensures { IsRenderedOf (measured plan) (estimated (R.cells rows.now) config.config) (S.sent sink.old) result (S.sent sink.new) }
+{
+    match plan {
+        Plan::Buffered | Plan::Streamed => print_estimated(alloc, sink, rows, config.as_ref()),
+        Plan::Wrapped {
+            target,
+            words,
+            order,
+        } => put_wrapped(
+            alloc,
+            sink,
+            &mut lend_cells(alloc, rows)?,
+            config,
+            target,
+            words,
+            order,
+        ),
+        Plan::Shortened { target, order } => put_shortened(
+            alloc,
+            sink,
+            &mut lend_cells(alloc, rows)?,
+            config,
+            target,
+            order,
+        ),
+    }
+}
 
 /// Prints the table that a plan makes of records of single lines.
 fn put_rows<R: PeekableRecords, S: TextSink>(
@@ -32,23 +91,8 @@ fn put_rows<R: PeekableRecords, S: TextSink>(
     ensures { IsRendered plan (R.cells rows.now) (S.sent sink.old) result (S.sent sink.new) }
 {
     match plan {
-        Plan::Buffered => print_estimated(alloc, sink, rows, &new_config(alloc)),
         Plan::Streamed => put_streamed(alloc, sink, &lend_cells(alloc, rows)?),
-        Plan::Wrapped {
-            target,
-            words,
-            order,
-        } => put_wrapped(
-            alloc,
-            sink,
-            &mut lend_cells(alloc, rows)?,
-            target,
-            words,
-            order,
-        ),
-        Plan::Shortened { target, order } => {
-            put_shortened(alloc, sink, &mut lend_cells(alloc, rows)?, target, order)
-        }
+        _ => put_measured(alloc, rows, new_settings(alloc), plan, sink),
     }
 }
 
@@ -70,4 +114,25 @@ pub fn render<S: TextSink>(
     }
     let rows = text_rows(alloc, text)?;
     put_rows(alloc, &rows, plan, sink)
+}
+
+/// `render` under the frame of a style. All of the table is measured before it is printed, under `Plan::Streamed` too, which
+/// prints what `Plan::Buffered` does. Whatever the cells are, each line takes the same columns where the style keeps them apart.
+pub fn render_styled<S: TextSink>(
+    alloc: Global,
+    text: &str,
+    style: Style,
+    plan: Plan,
+    sink: &mut S,
+) -> Result<(), TableError>
+    ensures rendered { IsRenderedOf (measured plan) (estimated (text_rows text.now) (with_style new_config style))
+        (S.sent sink.old) result (S.sent sink.new) }
+    ensures only { IfErr result (λ e. (e ≡ Memory) ⊎ ((e ≡ Range) ⊎ (e ≡ Writer))) }
+{
+    if text.is_empty() {
+        return Ok(());
+    }
+    let config = styled_settings(alloc, style)?;
+    let rows = text_rows(alloc, text)?;
+    put_measured(alloc, &rows, config, plan, sink)
 }

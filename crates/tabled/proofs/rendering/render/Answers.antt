@@ -6,7 +6,7 @@ use Rattle.tabled_size.specs.TextCells.{AreTexts}
 use Rattle.tabled_text.specs.Measure.{lines_of}
 use Rattle.tabled.specs.Planned.{Cells}
 use Rattle.tabled.specs.Rendered.{IsRendered}
-use Rattle.tabled.proofs.PlannedTables.{only_rendered, rendered_empty}
+use Rattle.tabled.proofs.RenderedTables.{only_rendered, rendered_empty}
 use Rattle.tabled.proofs.TextLines.{one_line_each}
 use Rattle.tabled.proofs.TextTables.{text_empty, text_filled, text_rectangular, texts_of_text}
 use Rattle.tabled.proofs.rendering.render.Goals as goal
@@ -15,7 +15,7 @@ pub returns-then-is_empty-clause-rendered : goal.returns-then-is_empty-clause-re
 returns-then-is_empty-clause-rendered g c =
     let text = c.args.text.now in
     let done : Unit {0} = tt in
-    rendered_empty (text_rows text) (text_empty text c.if-is_empty.ensures) c.args.plan (g.S.TextSink.sent c.args.sink.now) (Ok done) (text_rectangular text)
+    rendered_empty c.args.plan (text_rows text) (text_empty text c.if-is_empty.ensures) (g.S.TextSink.sent c.args.sink.now) (Ok done) (text_rectangular text)
     (texts_of_text text c.utf8.text) refl
 
 pub put_rows-requires-clause-filled : goal.put_rows-requires-clause-filled
