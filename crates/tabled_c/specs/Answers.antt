@@ -1,0 +1,31 @@
+-- What a caller gets: a number, and what is written into the room that it lends.
+use Rattle.std.specs.Prelude.{◌≡◌, ◌⊎◌, ℕ, ℤ, pos, negsuc, List, ◌++◌, length, drop, nat_le, if◌then◌else◌}
+use Rattle.tabled_c.specs.declared.refusal.Refusal.{Refusal}
+use Rattle.tabled_c.specs.declared.refusal.Refusal.TheVariants.{Memory, Range, NoText, NoStyle, NoPlan}
+
+-- -1 to -5
+abbrev pub code_of : Refusal → ℤ
+code_of Memory = negsuc 0
+code_of Range = negsuc 1
+code_of NoText = negsuc 2
+code_of NoStyle = negsuc 3
+code_of NoPlan = negsuc 4
+
+-- a room once a text was put into it: the text, and behind it what stood there; one that is too small stays as it was
+abbrev pub with_text : List ℕ → List ℕ → List ℕ
+with_text text room = if nat_le (length text) (length room) then text ++ drop (length text) room else room
+
+-- the bytes of a text are counted, and the text is put into the room
+pub record IsPut (text old : List ℕ) (answer : ℤ) (new : List ℕ) : Type 0 where
+  pub count : answer ≡ pos (length text)
+  pub room : new ≡ with_text text old
+
+-- by its number it is told why nothing is answered, and the room stays as it was
+pub record IsRefused (refusal : Refusal) (old : List ℕ) (answer : ℤ) (new : List ℕ) : Type 0 where
+  pub code : answer ≡ code_of refusal
+  pub room : new ≡ old
+
+-- a text that was asked for is given, or refused for a cause
+abbrev pub Answers : (List ℕ → Type 0) → (Refusal → Type 0) → List ℕ → ℤ → List ℕ → Type 0
+Answers asked cause old answer new =
+    ((text : List ℕ) × asked text × IsPut text old answer new) ⊎ ((refusal : Refusal) × cause refusal × IsRefused refusal old answer new)

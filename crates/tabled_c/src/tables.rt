@@ -1,0 +1,38 @@
+//! The table of a text, in a style and under a plan that are asked for.
+ghost use Rattle.std.specs.Prelude.{IfErr, IfOk, string_bytes};
+ghost use Rattle.tabled_c.specs.Printed.{IsTable, IsTableCause};
+
+use crate::asked::{plan_of, style_named, style_of};
+use crate::refusal::Refusal;
+use simdutf8::compat::from_utf8;
+use std::alloc::Global;
+use tabled::{TableError, render_styled};
+
+/// The text of the table of a text.
+pub(crate) fn table_of(
+    alloc: Global,
+    text: &[u8],
+    style: &[u8],
+    kind: u32,
+    order: u32,
+    columns: usize,
+) -> Result<String, Refusal>
+    ensures table { IfOk result (λ printed. IsTable text.now style.now kind order columns (string_bytes printed)) }
+    ensures cause { IfErr result (IsTableCause text.now style.now kind order columns) }
+{
+    let Some(name) = style_named(style) else {
+        return Err(Refusal::NoStyle);
+    };
+    let Some(plan) = plan_of(kind, order, columns) else {
+        return Err(Refusal::NoPlan);
+    };
+    let Ok(text) = from_utf8(text) else {
+        return Err(Refusal::NoText);
+    };
+    let mut out = String::new(alloc);
+    match render_styled(alloc, text, style_of(name), plan, &mut out) {
+        Ok(()) => Ok(out),
+        Err(TableError::Range) => Err(Refusal::Range),
+        Err(_) => Err(Refusal::Memory),
+    }
+}
