@@ -7,11 +7,12 @@ mod words;
 use anyhow::Result;
 use reading::{Rows, read_rows};
 use std::env;
+use std::io::{self, BufWriter, Write};
 use std::process::ExitCode;
 use tabled::grid::config::{AlignmentHorizontal, Entity};
 use tabled::settings::peaker::Priority;
 use tabled::settings::{Style, Width};
-use tabled::{Table, TableError};
+use tabled::{IoSink, Table, TableError};
 use words::{command, style_of, terminal_width};
 
 fn main(rt: HostRuntime) -> Result<ExitCode> {
@@ -27,16 +28,25 @@ fn main(rt: HostRuntime) -> Result<ExitCode> {
     let style = style_of(matches.get_str("style"));
     let width = matches.get_one::<usize>("width");
     let width = width.or_else(|| terminal_width(&rt));
-    let text = dressed(read_rows(alloc, rt.stdin())?, style, width)?;
-    if !text.is_empty() {
-        println!(rt; "{text}")?;
-    }
+    let table = dressed(read_rows(alloc, rt.stdin())?, style, width)?;
+    let mut out = BufWriter::new(alloc, io::writer(&rt))?;
+    put_table(&table, &mut out)?;
     Ok(ExitCode::SUCCESS)
+}
+
+/// Prints a table, and a line feed behind it unless it is empty.
+fn put_table<W: Write>(table: &Table, out: &mut W) -> Result<()> {
+    table.write_to(&mut IoSink::new(&mut *out))?;
+    if !table.is_empty() {
+        writeln!(out)?;
+    }
+    out.flush()?;
+    Ok(())
 }
 
 /// The table of rows: numbers at the right, and at most so many columns a line, where the widest columns give way first and words
 /// are kept.
-fn dressed(rows: Rows, style: Style, width: Option<usize>) -> Result<String, TableError> {
+fn dressed(rows: Rows, style: Style, width: Option<usize>) -> Result<Table, TableError> {
     let mut table = Table::from(rows.builder);
     table.apply(style)?;
     for (column, is_number) in rows.are_numbers.into_iter().enumerate() {
@@ -49,5 +59,5 @@ fn dressed(rows: Rows, style: Style, width: Option<usize>) -> Result<String, Tab
         let narrow = Width::wrap(width).keep_words(true);
         table.apply(narrow.priority(Priority::max(true)))?;
     }
-    table.to_string()
+    Ok(table)
 }

@@ -13,17 +13,22 @@ pub struct Rows {
     pub are_numbers: Vec<bool>,
 }
 
+/// Reads all rows, each into the same record. Cells get as much room as the first row has.
 pub fn read_rows<R: Read + Drop>(alloc: Global, input: R) -> Result<Rows> {
     let mut builder = Builder::new(alloc);
     let mut are_numbers = Vec::new(alloc);
-    let mut reader = ReaderBuilder::new();
-    reader.has_headers(false);
-    for record in reader.from_reader(alloc, input).into_records() {
-        let record = match record {
-            Ok(record) => record,
+    let mut record = StringRecord::new(alloc);
+    let mut reader = ReaderBuilder::new()
+        .has_headers(false)
+        .from_reader(alloc, input);
+    for row in 0..u64::MAX {
+        match reader.read_record(&mut record) {
+            Ok(true) => {}
+            Ok(false) => break,
             Err(error) => bail!("{error}"),
-        };
-        if are_numbers.is_empty() {
+        }
+        if row == 0 {
+            builder = Builder::with_capacity(alloc, 0, record.len())?;
             are_numbers = vec![in alloc; true; record.len()]?;
         } else {
             keep_numbers(&mut are_numbers, &record);
