@@ -17,6 +17,7 @@ use Rattle.tabled.specs.Rendered.{IsRenderedOf, PassesRange, SendsTable}
 use Rattle.tabled_c.specs.declared.asked.StyleName.{StyleName}
 use Rattle.tabled_c.specs.Asked.{Asks, style_of}
 use Rattle.tabled_c.specs.Printed.{IsAsked, IsTable, whole_table}
+use Rattle.tabled_c.proofs.Styles.{styles_apart}
 
 -- what is asked for is measured before it is printed
 asked_measured : (plan : Plan) (kind order columns : ℕ) → Asks plan kind order columns → measured plan ≡ plan
@@ -52,6 +53,7 @@ module _ (text style : List ℕ) (kind order columns : ℕ) (name : StyleName) (
         table = h.table;
         is_planned = h.is_planned;
         is_best = h.is_best;
+        edges = h.is_best.edges (styles_apart name);
         is_text = h.sends.added ∙ ap (λ (bytes : List ℕ). bytes ++ table_text h.table) none;
       }
 

@@ -3,10 +3,12 @@ use Rattle.std.specs.Prelude.{◌≡◌, ◌⊎◌, ◌<◌, ◌≤◌, ◌^◌,
 use Rattle.std.specs.Str.{IsUtf8}
 use Rattle.tabled_base.specs.TextRows.{text_rows}
 use Rattle.tabled_config.specs.Options.{with_style}
-use Rattle.tabled_grid.specs.Picture.{table_text}
+use Rattle.tabled_grid.specs.Picture.{picture, table_text}
+use Rattle.tabled_row.specs.Plain.{EachLineTakes}
 use Rattle.tabled_size.specs.Sheet.{Sheet, estimated}
+use Rattle.tabled_size.specs.Totals.{total_width}
 use Rattle.tabled_table.specs.NewConfig.{new_config}
-use Rattle.tabled_text.specs.Cut.{IsCut, NeedsFill}
+use Rattle.tabled_text.specs.Cut.{IsCut}
 use Rattle.tabled_text.specs.Measure.{text_columns}
 use Rattle.tabled_text.specs.Breaking.{HasFewestLines}
 use Rattle.tabled_text.specs.Wrapping.{IsWrapped}
@@ -30,7 +32,8 @@ pub record IsAsked (text style : List ℕ) (kind order columns : ℕ) (name : St
   pub asks : Asks plan kind order columns
   pub utf8 : IsUtf8 text
 
--- the text of the table that the plan makes of the whole one, which is as good as can be
+-- the text of the table that the plan makes of the whole one, which is as good as can be; each of its lines takes the total
+-- width, whatever the texts are
 pub record IsTable (text style : List ℕ) (kind order columns : ℕ) (printed : List ℕ) : Type 0 where
   pub name : StyleName
   pub plan : Plan
@@ -38,6 +41,7 @@ pub record IsTable (text style : List ℕ) (kind order columns : ℕ) (printed :
   pub table : Sheet
   pub is_planned : IsPlannedOf plan (whole_table text name) table
   pub is_best : IsBestOf plan (whole_table text name) table
+  pub edges : EachLineTakes (total_width table) (picture table)
   pub is_text : printed ≡ table_text table
 
 -- why no table is given: no style has the name, no plan the numbers, the bytes are no text, a total passes the greatest `usize`,
