@@ -1,5 +1,5 @@
 -- The texts that a caller asks for, and why they are refused.
-use Rattle.std.specs.Prelude.{◌≡◌, ◌⊎◌, ◌<◌, ◌≤◌, ◌^◌, ℕ, ℤ, pos, Bool, ⊤, List}
+use Rattle.std.specs.Prelude.{◌≡◌, ◌⊎◌, ◌<◌, ◌≤◌, ◌^◌, ℕ, ℤ, pos, Bool, List}
 use Rattle.std.specs.Str.{IsUtf8}
 use Rattle.tabled_base.specs.TextRows.{text_rows}
 use Rattle.tabled_config.specs.Options.{with_style}
@@ -44,10 +44,10 @@ pub record IsTable (text style : List ℕ) (kind order columns : ℕ) (printed :
   pub edges : EachLineTakes (total_width table) (picture table)
   pub is_text : printed ≡ table_text table
 
--- why no table is given: no style has the name, no plan the numbers, the bytes are no text, a total passes the greatest `usize`,
--- or memory was refused
+-- why no table is given: no style has the name, no plan the numbers, the bytes are no text; or what was asked for has a meaning,
+-- and a total passes the greatest `usize`, or memory was refused
 abbrev pub IsTableCause : List ℕ → List ℕ → ℕ → ℕ → ℕ → Refusal → Type 0
-IsTableCause text style kind order columns Memory = ⊤
+IsTableCause text style kind order columns Memory = (name : StyleName) × (plan : Plan) × IsAsked text style kind order columns name plan
 IsTableCause text style kind order columns Range =
     (name : StyleName) × (plan : Plan) × IsAsked text style kind order columns name plan
     × PassesRange (IsPlannedOf plan (whole_table text name)) (whole_table text name)
@@ -55,9 +55,9 @@ IsTableCause text style kind order columns NoText = ¬ IsUtf8 text
 IsTableCause text style kind order columns NoStyle = (name : StyleName) → ¬ (style ≡ style_word name)
 IsTableCause text style kind order columns NoPlan = (plan : Plan) → ¬ Asks plan kind order columns
 
--- why no text is given: the bytes are none, or memory was refused, which is wanted for a cause
+-- why no text is given: the bytes are none; or they are one, and memory was refused, which is wanted for a cause
 abbrev pub IsTextCause : List ℕ → Type 0 → Refusal → Type 0
-IsTextCause text wanted Memory = wanted
+IsTextCause text wanted Memory = IsUtf8 text × wanted
 IsTextCause text wanted Range = ⊥
 IsTextCause text wanted NoText = ¬ IsUtf8 text
 IsTextCause text wanted NoStyle = ⊥
