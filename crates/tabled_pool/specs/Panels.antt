@@ -1,4 +1,4 @@
--- Drawn boxes that are joined: lines of so many columns each.
+-- Drawn boxes that are joined, in a tree with a text of no column: lines of so many columns each.
 use Rattle.std.specs.Prelude.{ℕ, ◌+◌, ◌-◌, max, List, [], ◌∷◌, ◌++◌, length, map, string_bytes}
 use Rattle.std.specs.List.{flat_map, range_with_len, slice_index_or}
 use Rattle.tabled_row.specs.Fill.{fill}

@@ -1,4 +1,4 @@
-//! Drawn lines in memory, with a margin around them.
+//! The lines of a tree with a text of no column, with a margin around them.
 ghost use Rattle.std.specs.Prelude.{◌≡◌, ◌++◌, [], ◌∷◌, map, string_bytes};
 ghost use Rattle.std.specs.List.{join_with_byte};
 ghost use Rattle.tabled_row.specs.Leading.{WritesLines};

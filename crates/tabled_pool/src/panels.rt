@@ -1,4 +1,4 @@
-//! Drawn boxes that are joined.
+//! Drawn boxes that are joined, in a tree with a text of no column.
 ghost use Rattle.std.specs.Prelude.{◌≡◌, ◌≤◌, ◌^◌, ◌++◌, map, IfErr, IfOk, MatchOption, string_bytes};
 ghost use Rattle.std.specs.List.{flat_map};
 ghost use Rattle.tabled_base.specs.declared.error.TableError.TheVariants.{Memory};
