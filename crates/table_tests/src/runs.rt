@@ -2,16 +2,17 @@
 
 use crate::showing::{assert_picture, picture};
 use std::alloc::Global;
+use std::process::Abort;
 use std::test::Fail;
 use tabled::{Order, Plan, TableError, render, run};
 
 const USAGE: &str =
     "usage: tabprint [--wrap N | --cut N] [--priority none|min|max|left|right] [--words] [--stream]\n";
 
-// The words of a command line, parted by spaces.
+// The words of a command line, one space between two; no word is none that is empty.
 fn words_of(alloc: Global, line: &str) -> Result<Vec<String>, Fail> {
     let mut words = Vec::new(alloc);
-    for word in line.split(' ').filter(|word| !word.is_empty()) {
+    for word in line.split(' ') {
         words.push(String::from_str(alloc, word)?)?;
     }
     Ok(words)
@@ -138,18 +139,40 @@ fn words_make_plans(rt: HostRuntime) -> Result<(), Fail> {
     Ok(())
 }
 
-// The first lines of a table whose columns take 6, 7 and 6 columns, narrowed from 23 to 15.
-const FIRST_LINES: [(&str, &str); 6] = [
+// The first lines of a table whose columns take 6, 7 and 6 columns, 23 in all with its lines, and 10 where its cells are empty.
+const FIRST_LINES: [(&str, &str); 25] = [
     ("--wrap 15 --priority left", "+--+---+------+"),
     ("--wrap 15 --priority max", "+----+----+---+"),
     ("--wrap 15 --priority none", "+---+----+----+"),
     ("--wrap 15", "+---+----+----+"),
     ("--wrap 15 --priority min", "+--+-------+--+"),
     ("--wrap 15 --priority right", "+------+---+--+"),
+    ("--words --wrap 15", "+---+----+----+"),
+    ("--priority max --wrap 15", "+----+----+---+"),
+    ("--wrap 15 --priority left --words", "+--+---+------+"),
+    ("--words --priority right --wrap 15", "+------+---+--+"),
+    ("--priority max --words --wrap 15", "+----+----+---+"),
+    ("--cut 15", "+---+----+----+"),
+    ("--cut 15 --priority none", "+---+----+----+"),
+    ("--priority min --cut 15", "+--+-------+--+"),
+    ("--cut 15 --priority max", "+----+----+---+"),
+    ("--priority left --cut 15", "+--+---+------+"),
+    ("--cut 15 --priority right", "+------+---+--+"),
+    ("--cut 0", "+--+--+--+"),
+    ("--wrap 0", "+--+--+--+"),
+    ("--cut 0015", "+---+----+----+"),
+    (
+        "--cut 0000000000000000000000000000000015",
+        "+---+----+----+",
+    ),
+    ("--cut 23", "+------+-------+------+"),
+    ("--cut 18446744073709551615", "+------+-------+------+"),
+    ("--wrap 18446744073709551615", "+------+-------+------+"),
+    ("--stream", "+------+-------+------+"),
 ];
 
 #[test]
-fn each_priority_shrinks_its_columns(rt: HostRuntime) -> Result<(), Fail> {
+fn words_in_any_order_make_their_plan(rt: HostRuntime) -> Result<(), Fail> {
     let input = "&str\t&str\ti32\n1\tHello\t100\n2\tWorld\t1000\n";
     for (line, want) in FIRST_LINES {
         let words = words_of(rt.alloc(), line)?;
@@ -161,25 +184,101 @@ fn each_priority_shrinks_its_columns(rt: HostRuntime) -> Result<(), Fail> {
     Ok(())
 }
 
-const WRONG_WORDS: [&str; 8] = [
-    "--wrap 9 --cut 9",
-    "--priority max",
-    "--words",
+// Words that are unknown, have no value, or one that is no number and no order.
+const UNKNOWN_WORDS: [&str; 37] = [
+    "",
+    "9",
+    "wrap",
+    "--help",
+    "-wrap 9",
+    "--Wrap 9",
+    "--wra 9",
+    "--wraps 9",
+    "--wrap=9",
+    "--stream x",
+    "--wrap 9 9",
+    "--wrap 9  --words",
     "--wrap",
+    "--cut",
+    "--priority",
+    "--words --wrap",
+    "--cut 9 --priority",
     "--wrap x",
-    "--stream --wrap 9",
-    "--unknown",
-    "--wrap 9 --wrap 9",
+    "--wrap ",
+    "--wrap --words",
+    "--wrap +1",
+    "--wrap -1",
+    "--wrap 1_0",
+    "--wrap 0x9",
+    "--wrap 9.",
+    "--cut 9x",
+    "--cut ９",
+    "--cut ٩",
+    "--cut 18446744073709551616",
+    "--wrap 99999999999999999999",
+    "--wrap 00018446744073709551616",
+    "--cut 9 --priority ",
+    "--cut 9 --priority Min",
+    "--cut 9 --priority minimum",
+    "--cut 9 --priority 9",
+    "--cut 9 --priority round",
+    "--priority --cut 9",
 ];
+
+// Settings that stand twice.
+const REPEATED_WORDS: [&str; 10] = [
+    "--wrap 9 --wrap 9",
+    "--wrap 9 --wrap 8",
+    "--wrap 9 --words --wrap 9",
+    "--cut 9 --cut 9",
+    "--cut 9 --priority max --cut 8",
+    "--cut 9 --priority min --priority min",
+    "--priority min --cut 9 --priority none",
+    "--wrap 9 --words --words",
+    "--words --wrap 9 --words",
+    "--stream --stream",
+];
+
+// Settings that do not go together.
+const UNFIT_WORDS: [&str; 16] = [
+    "--wrap 9 --cut 9",
+    "--cut 9 --wrap 9",
+    "--wrap 9 --words --cut 8",
+    "--words",
+    "--cut 9 --words",
+    "--words --cut 9",
+    "--words --stream",
+    "--priority max",
+    "--priority none",
+    "--priority max --words",
+    "--priority max --stream",
+    "--stream --wrap 9",
+    "--wrap 9 --stream",
+    "--cut 9 --stream",
+    "--stream --cut 9 --priority min",
+    "--wrap 9 --words --stream",
+];
+
+// Whether the words of a line end the run with its usage alone. The input, which is no text, isn't read.
+fn assert_usage(rt: &impl Abort, alloc: Global, line: &str) -> Result<(), Fail> {
+    let words = words_of(alloc, line)?;
+    let (status, out, err) = ran(alloc, words.as_slice(), b"\xFF");
+    assert_eq!(rt; status, 2, "at {line}");
+    assert_eq!(rt; str::from_utf8(err.as_slice())?, USAGE);
+    assert!(rt; out.is_empty());
+    Ok(())
+}
 
 #[test]
 fn wrong_words_end_the_run_before_the_input(rt: HostRuntime) -> Result<(), Fail> {
-    for line in WRONG_WORDS {
-        let words = words_of(rt.alloc(), line)?;
-        let (status, out, err) = ran(rt.alloc(), words.as_slice(), b"\xFF");
-        assert_eq!(rt; status, 2, "at {line}");
-        assert_eq!(rt; str::from_utf8(err.as_slice())?, USAGE);
-        assert!(rt; out.is_empty());
+    for line in UNKNOWN_WORDS {
+        assert_usage(&rt, rt.alloc(), line)?;
+    }
+    for line in REPEATED_WORDS {
+        assert_usage(&rt, rt.alloc(), line)?;
+    }
+    for line in UNFIT_WORDS {
+        assert_usage(&rt, rt.alloc(), line)?;
     }
     Ok(())
 }

@@ -11,8 +11,6 @@ mod plan;
 mod program;
 mod rendering;
 mod streaming;
-#[cfg(test)]
-mod tests;
 mod words;
 
 pub use plan::{Order, Plan};
