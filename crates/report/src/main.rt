@@ -4,7 +4,7 @@
 
 mod disk;
 
-use anyhow::{Context, Result, bail};
+use anyhow::{Context, Result, bail, ensure};
 use disk::Disk;
 use std::alloc::Global;
 use std::io;
@@ -21,8 +21,14 @@ const SIZE: usize = 450;
 fn main(rt: HostRuntime) -> Result<()> {
     let alloc = rt.alloc();
     let text = io::read_to_string(alloc, rt.stdin()).context("reading the input")?;
+    let mut lines = text.lines();
+    let Some(header) = lines.next() else {
+        bail!("there is no header");
+    };
+    let rows: Vec<&str> = lines.collect(alloc)?;
+    ensure!(!rows.is_empty(), "there is no row below the header");
     let mut disks = vec![in alloc; Disk::new(alloc, SIZE)]?;
-    let written = put_report(&rt, &text, &mut disks);
+    let written = put_report(&rt, header, &rows, &mut disks);
     for (number, disk) in (1..=u64::MAX).zip(disks) {
         print!(rt;
             "== Disk {number}, {} bytes\n{}",
@@ -33,10 +39,7 @@ fn main(rt: HostRuntime) -> Result<()> {
     written
 }
 
-fn put_report(rt: &HostRuntime, text: &str, disks: &mut Vec<Disk>) -> Result<()> {
-    let mut lines = text.lines();
-    let header = lines.next().unwrap_or("");
-    let rows: Vec<&str> = lines.collect(rt.alloc())?;
+fn put_report(rt: &HostRuntime, header: &str, rows: &[&str], disks: &mut Vec<Disk>) -> Result<()> {
     for (number, rows) in (1..=u64::MAX).zip(rows.chunks(ROWS)) {
         put_page(rt, number, page_of(rt.alloc(), header, rows)?, disks)?;
     }
