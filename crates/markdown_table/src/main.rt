@@ -1,7 +1,7 @@
 //! Prints tab-separated rows as a table of Markdown, once all of them are read.
 #![tactic(auto)]
 
-use anyhow::{Context, Result};
+use anyhow::{Context, Result, ensure};
 use std::io;
 use tabled::Table;
 use tabled::builder::Builder;
@@ -11,11 +11,19 @@ fn main(rt: HostRuntime) -> Result<()> {
     let alloc = rt.alloc();
     let text = io::read_to_string(alloc, rt.stdin()).context("reading the input")?;
     let mut builder = Builder::new(alloc);
-    for line in text.lines() {
+    let mut first = None;
+    for (number, line) in (1..=u64::MAX).zip(text.lines()) {
+        let cells = line.split('\t').count();
+        let fields = *first.get_or_insert(cells);
+        ensure!(
+            cells == fields,
+            "line {number} should have {fields} cells, as the first"
+        );
         // A bar would end the cell.
         let line = line.replace(alloc, '|', "\\|")?;
         builder.add_record(line.split('\t'))?;
     }
+    ensure!(first.is_some(), "there is no line");
     let mut table = Table::from(builder);
     table.apply(Style::markdown())?;
     println!(rt; "{}", table.to_string()?)?;
