@@ -1,0 +1,124 @@
+//! What users of the Rust crate write, as it is written here.
+ghost use Rattle.std.specs.Prelude.{◌∷◌, [], codes, ⊤};
+
+use std::alloc::Global;
+use std::borrow::CowStr;
+use tabled::builder::Builder;
+use tabled::grid::config::{Borders, Position};
+use tabled::grid::records::{ExactRecords, PeekableRecords, RecordsMut};
+use tabled::settings::peaker::Priority;
+use tabled::settings::{Padding, Style, Width};
+use tabled::{IoSink, Table, TableError, Tabled};
+
+/// A language and its year.
+#[derive(Drop)]
+pub struct Language {
+    name: &'static str,
+    year: u16,
+}
+
+impl Tabled for Language {
+    ghost LENGTH = { 2 };
+
+    ghost shows = { λ _ _. ⊤ };
+
+    ghost names = { codes "name" ∷ codes "year" ∷ [] };
+
+    fn length() -> usize {
+        2
+    }
+
+    fn fields(&self, alloc: Global) -> Result<Vec<CowStr<'_>>, TableError> {
+        let mut fields = Vec::new(alloc);
+        fields.push(CowStr::Borrowed(self.name))?;
+        fields.push(CowStr::Owned(format!(in alloc; "{}", self.year)?))?;
+        Ok(fields)
+    }
+
+    fn headers(alloc: Global) -> Result<Vec<CowStr<'static>>, TableError> {
+        let mut names = Vec::new(alloc);
+        names.push(CowStr::Borrowed("name"))?;
+        names.push(CowStr::Borrowed("year"))?;
+        Ok(names)
+    }
+}
+
+/// A table of values.
+pub fn languages(alloc: Global) -> Result<String, TableError> {
+    let languages = [
+        Language {
+            name: "C",
+            year: 1972,
+        },
+        Language {
+            name: "Go",
+            year: 2009,
+        },
+    ];
+    let table = Table::new(alloc, languages)?;
+    table.to_string()
+}
+
+/// The same row by row, under a style.
+pub fn built(alloc: Global) -> Result<String, TableError> {
+    let mut builder = Builder::new(alloc);
+    builder.push_record(["name", "year"])?;
+    builder.push_record(["C", "1972"])?;
+    builder.push_record(["Go", "2009"])?;
+
+    let mut table = Table::from(builder);
+    table.with(Style::psql())?;
+    table.to_string()
+}
+
+/// Rows behind those of values.
+pub fn continued(alloc: Global) -> Result<String, TableError> {
+    let mut builder = Table::builder(alloc, [("C", 1972u16)])?;
+    builder.push_record(["Go", "2009"])?;
+    let table = Table::from(builder);
+    table.to_string()
+}
+
+/// Options, one after the other.
+pub fn dressed(table: &mut Table) -> Result<(), TableError> {
+    table
+        .with(Style::modern())?
+        .with(Padding::new(0, 0, 0, 0))?
+        .with(Width::wrap(14).priority(Priority::max(true)))?;
+    Ok(())
+}
+
+/// Another style.
+pub fn rounded(table: &mut Table) -> Result<(), TableError> {
+    let config = table.get_config_mut().as_mut();
+    config.set_borders(Borders {
+        top_left: Some('╭'),
+        top_right: Some('╮'),
+        bottom_left: Some('╰'),
+        bottom_right: Some('╯'),
+        ..Style::modern().get_borders()
+    });
+    Ok(())
+}
+
+/// A text that is changed by hand. What is stored of sizes is forgotten by `clear`.
+pub fn renamed(table: &mut Table) -> Result<(), TableError> {
+    let place = Position::new(1, 0);
+    let records = table.get_records_mut();
+    if place.row < records.count_rows() && place.column < records.count_columns() {
+        let text = records
+            .get_text(place)
+            .replace(records.allocator(), 'P', "B")?;
+        records.set(place, text)?;
+    }
+    table.get_dimension_mut().clear();
+    Ok(())
+}
+
+/// Through a writer: how many bytes it took.
+pub fn written(alloc: Global) -> Result<String, TableError> {
+    let table = Table::nohead(alloc, [("C", 1972u16), ("Go", 2009u16)])?;
+    let mut bytes: Vec<u8> = Vec::new(alloc);
+    table.write_to(&mut IoSink::new(&mut bytes))?;
+    Ok(format!(in alloc; "{} bytes", bytes.len())?)
+}

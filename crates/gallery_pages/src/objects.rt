@@ -1,0 +1,58 @@
+//! Parts of a table. What an option is to change is named by an object; these get a padding of marks.
+
+use tabled::settings::Padding;
+use tabled::settings::object::{Cell, Columns, Rows, Segment};
+use tabled::{Table, TableError};
+
+fn marks() -> Padding {
+    Padding::new(1, 1, 0, 0).fill('>', '<', ' ', ' ')
+}
+
+/// A row by its index; `Rows::first()` is that of 0.
+pub fn row(table: &mut Table) -> Result<(), TableError> {
+    table.modify(Rows::one(1), marks())?;
+    Ok(())
+}
+
+/// The last row.
+pub fn last_row(table: &mut Table) -> Result<(), TableError> {
+    table.modify(Rows::last(), marks())?;
+    Ok(())
+}
+
+/// A column by its index; `Columns::first()` is that of 0.
+pub fn column(table: &mut Table) -> Result<(), TableError> {
+    table.modify(Columns::one(0), marks())?;
+    Ok(())
+}
+
+/// The last column.
+pub fn last_column(table: &mut Table) -> Result<(), TableError> {
+    table.modify(Columns::last(), marks())?;
+    Ok(())
+}
+
+/// A cell by its row and column. A pair of them is the same.
+pub fn cell(table: &mut Table) -> Result<(), TableError> {
+    table.modify(Cell::new(1, 0), marks())?;
+    table.modify((2, 1), marks())?;
+    Ok(())
+}
+
+/// The whole, as one part.
+pub fn whole(table: &mut Table) -> Result<(), TableError> {
+    table.modify(Segment::all(), marks())?;
+    Ok(())
+}
+
+/// Each cell of ranges of rows and columns.
+pub fn segment(table: &mut Table) -> Result<(), TableError> {
+    table.modify(Segment::new(1.., ..1), marks())?;
+    Ok(())
+}
+
+/// What lies outside isn't named.
+pub fn outside(table: &mut Table) -> Result<(), TableError> {
+    table.modify(Rows::one(7), marks())?;
+    Ok(())
+}

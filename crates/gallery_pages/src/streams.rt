@@ -1,0 +1,62 @@
+//! Printers of rows as they come. `IterTable` reads some rows ahead, measures them, and cuts each cell to its column; `CompactTable`
+//! keeps no row and measures none, so it has to be told its columns and their widths.
+
+use std::alloc::Global;
+use tabled::TableError;
+use tabled::grid::dimension::ConstSize;
+use tabled::settings::Style;
+use tabled::tables::{CompactTable, IterTable};
+
+const CITIES: [[&str; 2]; 3] = [
+    ["Rome", "2746984"],
+    ["Paris", "2103778"],
+    ["Oslo", "717710"],
+];
+
+/// A thousand rows are read ahead.
+pub fn whole(alloc: Global) -> Result<String, TableError> {
+    let table = IterTable::new(CITIES);
+    table.to_string(alloc)
+}
+
+/// One row is.
+pub fn sniffed(alloc: Global) -> Result<String, TableError> {
+    let mut table = IterTable::new(CITIES);
+    table.sniff(1);
+    table.to_string(alloc)
+}
+
+/// A width for the texts of all columns, and a height for all rows.
+pub fn sized(alloc: Global) -> Result<String, TableError> {
+    let mut table = IterTable::new(CITIES);
+    table.width(3).height(2).rows(2);
+    table.to_string(alloc)
+}
+
+/// So many rows and columns, under a style.
+pub fn limited(alloc: Global) -> Result<String, TableError> {
+    let mut table = IterTable::new(CITIES);
+    table.rows(2).columns(1).with(Style::modern())?;
+    table.to_string(alloc)
+}
+
+/// A width for each column.
+pub fn compact(alloc: Global) -> Result<String, TableError> {
+    let table = CompactTable::new(CITIES).columns(2);
+    let table = table.width(ConstSize::List([7, 9]));
+    table.with(Style::modern())?.to_string(alloc)
+}
+
+/// Rows are skipped, and then limited.
+pub fn window(alloc: Global) -> Result<String, TableError> {
+    let table = CompactTable::new(CITIES).columns(2).skip(1).rows(1);
+    let table = table.width(ConstSize::List([7, 9]));
+    table.to_string(alloc)
+}
+
+/// A text wider than its column is whole.
+pub fn overfull(alloc: Global) -> Result<String, TableError> {
+    let table = CompactTable::new(CITIES).columns(2).rows(2);
+    let table = table.width::<0>(ConstSize::Value(6));
+    table.to_string(alloc)
+}
