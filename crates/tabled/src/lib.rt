@@ -1,5 +1,13 @@
 //! Text tables with straight edges: the names of the library under one roof, `render`, which prints
 //! the table of a text, and `run`, the program over any reader and writers.
+//!
+//! ```rust
+//! let rows = [("Ada", 1815), ("Grace", 1906)];
+//! let table = Table::nohead(alloc, rows)?;
+//! table.to_string()
+//! ```
+//!
+//! Each module below says what it is for and has an example of lines that the programs `tour` and `gallery` run.
 #![tactic(auto)]
 
 mod block_sink;
@@ -21,7 +29,17 @@ pub use tabled_grid::{IoSink, TextSink};
 pub use tabled_table::Table;
 pub use tabled_value::Tabled;
 
-/// Facts of texts, options and tables that a caller can rest on: each is the contract of a function that does nothing.
+/// Facts of texts, options and tables that a caller can rest on: each is the contract of a function that does nothing. It is called
+/// where its fact is needed, here that a line takes no more columns than its characters count.
+///
+/// ```rust
+/// pub fn counted(line: &str) -> usize
+///     ensures { result ≤ count_of (chars line.now) }
+/// {
+///     count_is_bound();
+///     line_width(line)
+/// }
+/// ```
 pub mod laws {
     pub use tabled_apart::laws::{count_is_bound, lines_of_any_text, separators, texts_that_fit};
     pub use tabled_grid::laws::pictures;
@@ -39,6 +57,12 @@ pub mod laws {
 
 /// The tables: one that keeps its rows, one that is printed as its rows come, one of single lines in no memory, one that shows
 /// records line by line, and one of boxes in boxes.
+///
+/// ```rust
+/// let mut table = IterTable::new(CITIES);
+/// table.sniff(1);
+/// table.to_string(alloc)
+/// ```
 pub mod tables {
     pub use tabled_compact::CompactTable;
     pub use tabled_extended::{ExtendedTable, FnTemplate, LabelFn, RecordTemplate, Template};
@@ -47,38 +71,81 @@ pub mod tables {
     pub use tabled_table::Table;
 }
 
-/// Places in tables, one after another.
+/// Places in tables, one after another: where batches begin.
+///
+/// ```rust
+/// for begin in LayoutIterator::new(0, 5, 2) {
+///     begins.push(begin)?;
+/// }
+/// ```
 pub mod iter {
     pub use tabled_table::LayoutIterator;
 }
 
-/// Making tables row by row.
+/// Making tables row by row. Short rows are lengthened by empty cells.
+///
+/// ```rust
+/// let mut builder = Builder::new(alloc);
+/// builder.push_record(["name", "year"])?;
+/// builder.push_record(["C", "1972"])?;
+/// builder.push_record(["Go", "2009"])?;
+/// ```
 pub mod builder {
     pub use tabled_base::Builder;
 }
 
-/// What a table can be set by.
+/// What a table can be set by: options of the whole, by `with`, and of a part, by `modify`.
+///
+/// ```rust
+/// table
+///     .with(Style::modern())?
+///     .with(Padding::new(0, 0, 0, 0))?
+///     .with(Width::wrap(14).priority(Priority::max(true)))?;
+/// ```
 pub mod settings {
     pub use tabled_base::{CellOption, TableOption};
     pub use tabled_config::Style;
     pub use tabled_set::{Height, Margin, Padding, Width};
 
-    /// Numbers that are read from a table.
+    /// Numbers that are read from a table, in place of a number of columns or lines.
+    ///
+    /// ```rust
+    /// table.modify(Columns::last(), Width::truncate(Min))?;
+    /// table.modify(Columns::first(), Width::increase(Max).fill_with('.'))?;
+    /// ```
     pub mod measurement {
         pub use tabled_set::{Max, Measurement, Min, Percent};
     }
 
-    /// Parts of a table that are chosen.
+    /// Parts of a table that are chosen: a row, a column, a cell, the whole, or each cell of some rows and columns.
+    ///
+    /// ```rust
+    /// table.modify(Segment::new(1.., ..1), marks())?;
+    /// ```
     pub mod object {
         pub use tabled_base::{Cell, Columns, Object, Rows, Segment};
     }
 
     /// Frames, and the lines that they are made of.
+    ///
+    /// ```rust
+    /// let double = HorizontalLine {
+    ///     main: Some('='),
+    ///     left: Some('#'),
+    ///     intersection: Some('#'),
+    ///     right: Some('#'),
+    /// };
+    /// config.insert_horizontal_line(1, double)
+    /// ```
     pub mod style {
         pub use tabled_config::{HorizontalLine, Style};
     }
 
     /// The orders in which sizes are shrunk and grown, and what is told of the lists that they leave.
+    ///
+    /// ```rust
+    /// table.with(Width::truncate(52).priority(Priority::left()))?;
+    /// ```
     pub mod peaker {
         pub use tabled_size::{
             Peaker, Priority, PriorityLeft, PriorityMax, PriorityMin, PriorityNone, PriorityRight,
@@ -86,12 +153,22 @@ pub mod settings {
         };
     }
 
-    /// How texts are made to fit some columns.
+    /// How texts are made to fit some columns: of a whole table, or of the cells of a part.
+    ///
+    /// ```rust
+    /// let narrow = Width::truncate(12).suffix(" and so on");
+    /// let narrow = narrow.suffix_limit(SuffixLimit::Ignore);
+    /// table.with(narrow.priority(Priority::max(true)))?;
+    /// ```
     pub mod width {
         pub use tabled_set::{Justify, MinWidth, SuffixLimit, Truncate, Width, WidthList, Wrap};
     }
 
-    /// How texts are made to fit some lines.
+    /// How texts are made to fit some lines: of a whole table, or of the cells of a part.
+    ///
+    /// ```rust
+    /// table.with(Height::limit(6).priority(Priority::max(true)))?;
+    /// ```
     pub mod height {
         pub use tabled_set::{
             CellHeightIncrease, CellHeightLimit, Height, HeightList, TableHeightIncrease,
@@ -100,27 +177,50 @@ pub mod settings {
     }
 
     /// Columns and lines kept free around a table.
+    ///
+    /// ```rust
+    /// table.with(Margin::new(2, 2, 1, 1).fill('>', '<', 'v', '^'))?;
+    /// ```
     pub mod margin {
         pub use tabled_set::Margin;
     }
 
     /// Columns and lines kept free around the texts of cells.
+    ///
+    /// ```rust
+    /// table.modify(Columns::one(1), Padding::new(4, 0, 0, 0))?;
+    /// ```
     pub mod padding {
         pub use tabled_set::{Padding, PaddingExpand};
     }
 }
 
-/// Lower layers, by the crate's names.
+/// Lower layers, by the crate's names: records, settings and sizes, of which a picture is printed without a table.
+///
+/// ```rust
+/// let mut text = String::new(alloc);
+/// print_grid(&mut text, &records, &config, &sizes)?;
+/// Ok(text)
+/// ```
 pub mod grid {
     pub use tabled_compact::{Window, print_compact};
     pub use tabled_grid::{is_apart_config, is_plain_config, is_plain_records, print_grid};
 
-    /// Marks that colour a text.
+    /// Marks that colour what they stand around, in a `PoolTable`.
+    ///
+    /// ```rust
+    /// config.set_padding_color(Sides::filled(ANSIStr::new("<b>", "</b>")));
+    /// ```
     pub mod ansi {
         pub use tabled_config::ANSIStr;
     }
 
     /// Places, and what is set for them.
+    ///
+    /// ```rust
+    /// let config = table.get_config_mut().as_mut();
+    /// config.set_alignment_horizontal(Entity::Column(1), AlignmentHorizontal::Right)
+    /// ```
     pub mod config {
         pub use tabled_base::{Entity, Position};
         pub use tabled_config::{
@@ -131,6 +231,11 @@ pub mod grid {
     }
 
     /// What answers the sizes of a table.
+    ///
+    /// ```rust
+    /// let sizes = StaticDimension::new(DimensionValue::Exact(9), DimensionValue::Exact(1));
+    /// let table = CompactTable::with_dimension(records, sizes);
+    /// ```
     pub mod dimension {
         pub use tabled_size::{
             CompleteDimension, ConstDimension, ConstSize, Dimension, DimensionPriority,
@@ -138,7 +243,11 @@ pub mod grid {
         };
     }
 
-    /// Records and their texts.
+    /// Records and their texts: what gives rows, and what keeps them.
+    ///
+    /// ```rust
+    /// let records = IterRecords::new(CITIES, 2, None);
+    /// ```
     pub mod records {
         pub use tabled_base::{
             CellText, ExactRecords, IntoRecords, LentRows, PeekableRecords, Records, RecordsMut,
@@ -147,6 +256,11 @@ pub mod grid {
         pub use tabled_views::{EmptyRecords, IterRecords};
 
         /// Views of records, which are taken row by row.
+        ///
+        /// ```rust
+        /// let rows = LimitRows::new(SkipRows::new(CITIES, 1), 1);
+        /// let table = IterTable::new(LimitColumns::new(rows, 1));
+        /// ```
         pub mod into_records {
             pub use tabled_views::{
                 BufRecords, CutCell, LimitColumns, LimitRows, SkipRows, TruncateContent,
@@ -154,14 +268,28 @@ pub mod grid {
         }
 
         /// Records that own their rows.
+        ///
+        /// ```rust
+        /// let records = Builder::from_iter(alloc, CITIES)?.build();
+        /// let mut names = String::new(alloc);
+        /// for row in records.as_rows() {
+        /// ```
         pub mod vec_records {
             pub use tabled_base::{Text, VecRecords};
         }
     }
 
     /// What texts take.
+    ///
+    /// ```rust
+    /// let columns = [text_width("Paris"), text_width("北京"), text_width("a\nbc")];
+    /// ```
     pub mod util {
         /// Texts that are measured, cut and wrapped.
+        ///
+        /// ```rust
+        /// let beginning = cut_str(alloc, "goes to the next field", 12)?;
+        /// ```
         pub mod string {
             pub use tabled_apart::is_separator_column;
             pub use tabled_text::{
