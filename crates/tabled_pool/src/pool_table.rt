@@ -108,7 +108,8 @@ fn new_config() -> CompactMultilineConfig
 /// A table whose rows needn't have as many cells as one another, and whose boxes hold texts, rows or columns.
 ///
 /// How deep its value may be is bounded by the machine's stack, since printing, copying, comparing and dropping walk it
-/// level by level: 8 MiB held 20,000 levels when they were tried, and not 30,000. A deeper one ends the process.
+/// level by level: 8 MiB held 20,000 levels when they were tried, and not 30,000; with a text of no column, not 2,000. A
+/// deeper one ends the process.
 #[derive(Debug, Drop, PartialEq, Eq, PartialOrd, Ord)]
 pub struct PoolTable {
     pub(crate) value: TableValue,
