@@ -10,5 +10,6 @@ pub mod RenderedTables
 pub mod Since
 pub mod Spelling
 pub mod StreamedTables
+pub mod Telling
 pub mod TextLines
 pub mod TextTables

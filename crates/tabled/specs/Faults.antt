@@ -1,6 +1,9 @@
--- The fault of the program for each refusal.
+-- The fault of the program for each refusal, and the line that tells it. A word and a line are lists of bytes.
+use Rattle.std.specs.Prelude.{ℕ, List, [], ◌∷◌, ◌++◌, Option, codes}
+use Rattle.std.specs.List.{Contains}
 use Rattle.tabled_base.specs.declared.error.TableError.{TableError}
 use Rattle.tabled_base.specs.declared.error.TableError.TheVariants.{Memory, ShortWidths, ShortHeights, Narrow, Range, Writer}
+use Rattle.tabled.specs.Output.{Begins}
 use Rattle.tabled.specs.declared.fault.Fault.{Fault}
 use Rattle.tabled.specs.declared.fault.Fault.TheVariants as fault
 
@@ -12,3 +15,33 @@ fault_of ShortHeights = fault.ShortHeights
 fault_of (Narrow row column) = fault.Narrow
 fault_of Range = fault.Range
 fault_of Writer = fault.Writer
+
+-- what is told where the words aren't the program's
+abbrev pub usage : List ℕ
+usage = codes "usage: tabprint [--wrap N | --cut N] [--priority none|min|max|left|right] [--words] [--stream]"
+
+-- the word of each fault, which is its name, or the usage
+abbrev pub word_of : Fault → List ℕ
+word_of fault.Usage = usage
+word_of fault.Input = codes "Input"
+word_of fault.Memory = codes "Memory"
+word_of fault.ShortWidths = codes "ShortWidths"
+word_of fault.ShortHeights = codes "ShortHeights"
+word_of fault.Narrow = codes "Narrow"
+word_of fault.Range = codes "Range"
+word_of fault.Writer = codes "Writer"
+
+-- the words of the refusals
+abbrev pub refusal_words : List (List ℕ)
+refusal_words =
+    codes "Input" ∷ codes "Memory" ∷ codes "ShortWidths" ∷ codes "ShortHeights" ∷ codes "Narrow" ∷ codes "Range" ∷ codes "Writer" ∷ []
+
+-- a word on a line of its own
+abbrev pub line_of : List ℕ → List ℕ
+line_of word = word ++ 10 ∷ []
+
+-- known bytes grew by a line of one of some words, or by a beginning of it
+pub record IsTold (words : List (List ℕ)) (old new : Option (List ℕ)) : Type 0 where
+  pub word : List ℕ
+  pub is_word : Contains words word
+  pub begun : Begins old new (line_of word)

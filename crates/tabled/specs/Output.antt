@@ -26,6 +26,12 @@ pub record Begins (old new : Option (List ℕ)) (text : List ℕ) : Type 0 where
   pub whole : front ++ rest ≡ text
   pub added : Appends old new front
 
+-- known bytes grow by all of a text but its rest
+pub record Handed (old new : Option (List ℕ)) (text rest : List ℕ) : Type 0 where
+  pub front : List ℕ
+  pub whole : front ++ rest ≡ text
+  pub added : Appends old new front
+
 -- known bytes grow by a text on Ok, and else by a beginning of it
 abbrev pub Puts : {T E : Type 0} → Option (List ℕ) → Result T E → Option (List ℕ) → List ℕ → Type 0
 Puts old (Ok _) new text = Appends old new text

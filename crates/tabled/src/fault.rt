@@ -1,31 +1,44 @@
 //! Why a run of the program failed.
 ghost use Rattle.std.specs.Prelude.{◌≡◌};
-ghost use Rattle.tabled.specs.Faults.{fault_of};
+ghost use Rattle.tabled.specs.Faults.{fault_of, word_of};
 
 use tabled_base::TableError;
 use thiserror::Error;
 
-/// A failure, with the line that tells it.
+/// A failure, with the word that tells it.
 #[derive(Debug, Drop, Error)]
+#[error("{}", self.word())]
 pub(crate) enum Fault {
     /// The words aren't the program's.
-    #[error("usage: tabprint [--wrap N | --cut N] [--priority none|min|max|left|right] [--words] [--stream]")]
     Usage,
     /// Reading failed, or what was read is no UTF-8.
-    #[error("Input")]
     Input,
-    #[error("Memory")]
     Memory,
-    #[error("ShortWidths")]
     ShortWidths,
-    #[error("ShortHeights")]
     ShortHeights,
-    #[error("Narrow")]
     Narrow,
-    #[error("Range")]
     Range,
-    #[error("Writer")]
     Writer,
+}
+
+impl Fault {
+    /// The word, or the usage.
+    pub fn word(&self) -> &'static str
+        ensures { result.now ≡ word_of self.now }
+    {
+        match self {
+            Fault::Usage => {
+                "usage: tabprint [--wrap N | --cut N] [--priority none|min|max|left|right] [--words] [--stream]"
+            }
+            Fault::Input => "Input",
+            Fault::Memory => "Memory",
+            Fault::ShortWidths => "ShortWidths",
+            Fault::ShortHeights => "ShortHeights",
+            Fault::Narrow => "Narrow",
+            Fault::Range => "Range",
+            Fault::Writer => "Writer",
+        }
+    }
 }
 
 impl From<TableError> for Fault {

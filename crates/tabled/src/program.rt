@@ -1,9 +1,10 @@
 //! The program over any reader and writers.
-ghost use Rattle.std.specs.Prelude.{◌≡◌, ◌≤◌, ◌↔◌, ◌⊎◌, IfSome, IsErrOf, OnErr, OnOk, map, string_bytes};
+ghost use Rattle.std.specs.Prelude.{◌≡◌, ◌≤◌, ◌↔◌, ◌⊎◌, [], ◌∷◌, IfSome, IsErrOf, OnErr, OnOk, map, string_bytes};
 ghost use Rattle.tabled.specs.declared.fault.Fault.TheVariants.{Usage};
 ghost use Rattle.tabled.specs.declared.plan.Plan.{Plan};
 ghost use Rattle.tabled.specs.BlockSent.{Advances, block_sent};
-ghost use Rattle.tabled.specs.Output.{PutsOutput};
+ghost use Rattle.tabled.specs.Faults.{IsTold, line_of, refusal_words, usage, word_of};
+ghost use Rattle.tabled.specs.Output.{Begins, Puts, PutsOutput};
 ghost use Rattle.tabled.specs.Runs.{HasBegun, HasPrinted};
 ghost use Rattle.tabled.specs.Words.{SpellsPlan};
 
@@ -113,12 +114,35 @@ fn status(fault: &Fault) -> u8
     }
 }
 
+/// Hands a text to a writer, without a second try.
+fn put_text<W: Write>(text: &str, writer: &mut W) -> Result<(), TableError>
+    ensures { Puts (W.contents writer.old) result (W.contents writer.new) text.now }
+{
+    let mut rest = text.as_bytes();
+    'taken: while !rest.is_empty() {
+        match writer.write(rest) {
+            Ok(n) if n > 0 => rest = rest.split_at(n).1,
+            _ => return Err(TableError::Writer),
+        }
+    }
+    Ok(())
+}
+
+/// The same with a line feed behind it.
+fn put_line<W: Write>(word: &str, writer: &mut W) -> Result<(), TableError>
+    ensures { Puts (W.contents writer.old) result (W.contents writer.new) (line_of word.now) }
+{
+    put_text(word, writer)?;
+    put_text("\n", writer)
+}
+
 /// Tells a failure on a line of its own, and answers its status.
 pub(crate) fn report<E: Write>(fault: &Fault, err: &mut E) -> u8
     ensures usage { result ≡ 2 ↔ (fault.now ≡ Fault.Usage) }
     ensures range { (1 ≤ result) × (result ≤ 2) }
+    ensures told { Begins (E.contents err.old) (E.contents err.new) (line_of (word_of fault.now)) }
 {
-    let _ = writeln!(err, "{fault}");
+    let _ = put_line(fault.word(), err);
     status(fault)
 }
 
@@ -146,6 +170,8 @@ pub fn run<I: Read, O: Write, E: Write>(
         ⊎ ((plan : Plan) × SpellsPlan (map string_bytes words.now) plan
         × HasBegun plan (I.remaining input.old) (I.remaining input.new) (O.contents out.old) (O.contents out.new)) }
     ensures silent { result ≡ 0 → err.new ≡ err.old }
+    ensures told { result ≡ 1 → IsTold refusal_words (E.contents err.old) (E.contents err.new) }
+    ensures shown { result ≡ 2 → IsTold (usage ∷ []) (E.contents err.old) (E.contents err.new) }
 {
     match attempt(alloc, words, input, out) {
         Ok(()) => 0,

@@ -1,0 +1,75 @@
+-- Lines that a writer is handed.
+use Rattle.std.proofs.Common.{◌≡◌, ◌≢◌, ℕ, List, [], ◌∷◌, ◌++◌, take, drop, length, Option, Result, Ok, Err, refl, sym, ap, subst, ◌∙◌, append-nil, append_assoc, take-append-drop, arith}
+use Rattle.std.specs.Io.KnownBytes.{Appends, Keeps}
+use Rattle.std.specs.List.{Contains}
+use Rattle.tabled_row.proofs.Sending.{Appends-nil, Appends-then, Keeps-same}
+use Rattle.tabled.specs.Faults.{IsTold, line_of, refusal_words, usage, word_of}
+use Rattle.tabled.specs.Output.{Begins, Handed, Puts}
+use Rattle.tabled.specs.declared.fault.Fault.{Fault}
+use Rattle.tabled.specs.declared.fault.Fault.TheVariants as fault
+
+pub handed_none : (a : Option (List ℕ)) (text : List ℕ) → Handed a a text text
+handed_none a text = record { front = []; whole = refl; added = Appends-nil a a (Keeps-same a) }
+
+pub handed_more : (a b c : Option (List ℕ)) (text rest next : List ℕ) (n : ℕ) → Handed a b text rest → Appends b c (take n rest) → next ≡ drop n rest
+    → Handed a c text next
+handed_more a b c text rest next n h took e = record {
+  front = h.front ++ take n rest;
+  whole = append_assoc h.front (take n rest) next ∙ ap (λ u. h.front ++ (take n rest ++ u)) e ∙ ap (λ u. h.front ++ u) (take-append-drop n rest) ∙ h.whole;
+  added = Appends-then a b c h.front (take n rest) h.added took;
+}
+
+pub handed_all : (a b : Option (List ℕ)) (text rest : List ℕ) → Handed a b text rest → length rest ≡ 0 → Appends a b text
+handed_all a b text [] h e = subst (Appends a b) (sym (append-nil h.front) ∙ h.whole) h.added
+handed_all a b text (x ∷ rest) h e = absurd (omega arith)
+
+-- a writer that took nothing more
+pub handed_part : (a b c : Option (List ℕ)) (text rest : List ℕ) → Handed a b text rest → Keeps b c → Begins a c text
+handed_part a b c text rest h keeps = record {
+  front = h.front;
+  rest = rest;
+  whole = h.whole;
+  added = subst (Appends a c) (append-nil h.front) (Appends-then a b c h.front [] h.added (Appends-nil b c keeps));
+}
+
+-- a beginning of a text is one of a longer text
+pub begins_longer : (a b : Option (List ℕ)) (text more : List ℕ) → Begins a b text → Begins a b (text ++ more)
+begins_longer a b text more h = record {
+  front = h.front;
+  rest = h.rest ++ more;
+  whole = sym (append_assoc h.front h.rest more) ∙ ap (λ u. u ++ more) h.whole;
+  added = h.added;
+}
+
+-- a text, and then another one
+pub puts_then : {T E : Type 0} (a b c : Option (List ℕ)) (r : Result T E) (text more : List ℕ) → Appends a b text → Puts b r c more
+    → Puts a r c (text ++ more)
+puts_then a b c (Ok x) text more p q = Appends-then a b c text more p q
+puts_then a b c (Err e) text more p q = record {
+  front = text ++ q.front;
+  rest = q.rest;
+  whole = append_assoc text q.front q.rest ∙ ap (λ u. text ++ u) q.whole;
+  added = Appends-then a b c text q.front p q.added;
+}
+
+-- all of a text is a beginning of it
+pub puts_begins : {T E : Type 0} (a b : Option (List ℕ)) (r : Result T E) (text : List ℕ) → Puts a r b text → Begins a b text
+puts_begins a b (Ok x) text h = record { front = text; rest = []; whole = append-nil text; added = h }
+puts_begins a b (Err e) text h = h
+
+-- the word of a fault that isn't of the words is one of the refusals'
+refusal_word : (f : Fault) → f ≢ fault.Usage → Contains refusal_words (word_of f)
+refusal_word fault.Usage h = absurd (h refl)
+refusal_word fault.Input h = (0, omega arith, refl)
+refusal_word fault.Memory h = (1, omega arith, refl)
+refusal_word fault.ShortWidths h = (2, omega arith, refl)
+refusal_word fault.ShortHeights h = (3, omega arith, refl)
+refusal_word fault.Narrow h = (4, omega arith, refl)
+refusal_word fault.Range h = (5, omega arith, refl)
+refusal_word fault.Writer h = (6, omega arith, refl)
+
+pub told_refusal : (f : Fault) (a b : Option (List ℕ)) → f ≢ fault.Usage → Begins a b (line_of (word_of f)) → IsTold refusal_words a b
+told_refusal f a b other h = record { word = word_of f; is_word = refusal_word f other; begun = h }
+
+pub told_usage : (f : Fault) (a b : Option (List ℕ)) → f ≡ fault.Usage → Begins a b (line_of (word_of f)) → IsTold (usage ∷ []) a b
+told_usage f a b is h = record { word = usage; is_word = (0, omega arith, refl); begun = subst (λ x. Begins a b (line_of (word_of x))) is h }
