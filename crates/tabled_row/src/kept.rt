@@ -22,7 +22,7 @@ pub(crate) struct KeptLine {
 }
 
 impl KeptLine {
-    /// No line so far. Where memory may be taken, a line of any length is kept, and else one of 4 KiB at most.
+    /// No line so far. Where memory may be taken, a line of 1 MiB at most is kept, and else one of 4 KiB.
     pub fn new(memory: Option<Global>) -> KeptLine
         ensures { result.line ≡ None }
     {

@@ -10,6 +10,10 @@ use tabled_base::TableError;
 /// The bytes that a room in no memory takes.
 const ROOM: usize = 4096;
 
+/// The most bytes that a room in memory takes. A longer line isn't worth its memory, of which there may not be enough for a line
+/// of a table that is as wide as a number can be.
+const MOST: usize = 1_048_576;
+
 /// A room of fixed size as a sink. A text that doesn't fit is refused for memory.
 #[derive(Drop)]
 pub(crate) struct FixedRoom {
@@ -63,7 +67,7 @@ impl TextSink for FixedRoom {
     }
 }
 
-/// A room as a sink: memory that grows where that may be taken, and else 4 KiB without memory.
+/// A room as a sink: memory that grows up to 1 MiB where that may be taken, and else 4 KiB without memory.
 #[derive(Drop)]
 pub(crate) enum Room {
     /// In no memory.
@@ -114,6 +118,9 @@ impl TextSink for Room {
     fn write_text(&mut self, text: &str) -> Result<(), TableError> {
         match self {
             Room::Fixed(room) => room.write_text(text),
+            Room::Grown(grown) if text.len() > MOST.saturating_sub(grown.len()) => {
+                Err(TableError::Memory)
+            }
             Room::Grown(grown) => grown.write_text(text),
         }
     }

@@ -50,10 +50,12 @@ pub(crate) fn put_copies<S: Sink>(out: &mut S, c: char, n: usize) -> Result<(), 
     Ok(())
 }
 
-/// Appends n copies of a character to a text. Refused for memory.
+/// Appends n copies of a character to a text. Refused for memory, which is asked for before the first copy, so that more copies
+/// than memory can hold are refused at once.
 pub fn push_copies(text: &mut String, c: char, n: usize) -> Result<(), AllocError>
     ensures { OnOk result (string_bytes text.new ≡ string_bytes text.old ++ encode_utf8_all (replicate n c)) }
 {
+    text.reserve(n.saturating_mul(c.len_utf8()))?;
     put_copies(text, c, n)
 }
 
