@@ -1,14 +1,16 @@
 #!/usr/bin/env python3
 """Times programs that print tab-separated files as tables, in interleaved rounds.
 
-usage: compare.py [--rounds N] [--baseline PROGRAM] [--with NAME=COMMAND ..] PROGRAM FOLDER
+usage: compare.py [--rounds N] [--baseline PROGRAM] [--plans] [--with NAME=COMMAND ..] PROGRAM FOLDER
 
 PROGRAM is the built `tabprint`, FOLDER holds the files of generate.py. Each program reads a file on
 standard input; its output goes to the null device. Printed are, for each file, the shortest and the
 median of the processor time (user and system) and the median of the peak memory, and the first and the
 last of them as multiples of the baseline's, a program written by hand for this one job, or of PROGRAM's
 where none is given; then whether the bars hold: at least five times as fast as `column`, at most the
-bytes of the input, 48 bytes a cell and 16 MB of memory, and the shares of the baseline below.
+bytes of the input, 48 bytes a cell and 16 MB of memory, and the shares of the baseline below. With
+--plans PROGRAM runs under each of its plans too: wrapped, wrapped with words kept, and cut to half of
+the columns that the table takes by itself, and streamed.
 """
 
 import argparse
@@ -111,6 +113,27 @@ def holds(path, found):
     return all(answers.values())
 
 
+def half_width(program, path):
+    """Half of the columns of a file's table: its first line has a character in each column."""
+    with open(path, "rb") as source:
+        run = subprocess.Popen([program], stdin=source, stdout=subprocess.PIPE, stderr=subprocess.DEVNULL)
+        first = run.stdout.readline().rstrip(b"\n")
+        run.stdout.close()
+        run.wait()
+    return len(first) // 2
+
+
+def plans(program, path):
+    """The program under each plan but the one without words."""
+    half = str(half_width(program, path))
+    return {
+        "wrapped": [program, "--wrap", half],
+        "words kept": [program, "--wrap", half, "--words"],
+        "cut": [program, "--cut", half],
+        "streamed": [program, "--stream"],
+    }
+
+
 def compare(launch, path, programs, rounds):
     found = rounds_of(launch, path, programs, rounds)
     unit = found["baseline" if "baseline" in found else "tabprint"]
@@ -127,6 +150,7 @@ def main():
     parser = argparse.ArgumentParser()
     parser.add_argument("--rounds", type=int, default=9)
     parser.add_argument("--baseline")
+    parser.add_argument("--plans", action="store_true")
     parser.add_argument("--with", action="append", default=[], dest="others")
     parser.add_argument("program")
     parser.add_argument("folder", type=pathlib.Path)
@@ -140,7 +164,10 @@ def main():
     with tempfile.TemporaryDirectory() as folder:
         launch = launcher(pathlib.Path(folder))
         paths = sorted(asked.folder.glob("*.tsv"))
-        held = [compare(launch, path, programs, asked.rounds) for path in paths]
+        held = []
+        for path in paths:
+            planned = plans(asked.program, path) if asked.plans else {}
+            held.append(compare(launch, path, programs | planned, asked.rounds))
     sys.exit(0 if held and all(held) else 1)
 
 

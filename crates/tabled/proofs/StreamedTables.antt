@@ -25,7 +25,8 @@ use Rattle.tabled_size.specs.TextCells.{AreTexts}
 use Rattle.tabled_size.specs.Totals.{filled_width}
 use Rattle.tabled_size.proofs.Passing.{width_at}
 use Rattle.tabled_stream.specs.GoesOn.{GoesOn}
-use Rattle.tabled_stream.specs.LikeTable.{AreMeasured, IsExactLine, IsLikeTable}
+use Rattle.tabled_apart.specs.Exact.{IsExactLine}
+use Rattle.tabled_stream.specs.LikeTable.{AreMeasured, IsLikeTable}
 use Rattle.tabled_stream.specs.NewTable.{IsNewConfig, new_settings}
 use Rattle.tabled_stream.specs.Printed.{text_above}
 use Rattle.tabled_stream.specs.Streamed.{IsStreamed, column_count, content_width, sniffed, stream_height, stream_widths, tallest}

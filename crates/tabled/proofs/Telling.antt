@@ -1,15 +1,12 @@
 -- Lines that a writer is handed.
-use Rattle.std.proofs.Common.{◌≡◌, ◌≢◌, ℕ, List, [], ◌∷◌, ◌++◌, take, drop, length, Option, Result, Ok, Err, refl, sym, ap, subst, ◌∙◌, append-nil, append_assoc, take-append-drop, arith}
+use Rattle.std.proofs.Common.{◌≡◌, ◌≢◌, ℕ, List, [], ◌∷◌, ◌++◌, take, drop, Option, Result, Ok, Err, refl, sym, ap, subst, ◌∙◌, append-nil, append_assoc, take-append-drop, arith}
 use Rattle.std.specs.Io.KnownBytes.{Appends, Keeps}
 use Rattle.std.specs.List.{Contains}
-use Rattle.tabled_row.proofs.Sending.{Appends-nil, Appends-then, Keeps-same}
+use Rattle.tabled_row.proofs.Sending.{Appends-nil, Appends-then}
 use Rattle.tabled.specs.Faults.{IsTold, line_of, refusal_words, usage, word_of}
 use Rattle.tabled.specs.Output.{Begins, Handed, Puts}
 use Rattle.tabled.specs.declared.fault.Fault.{Fault}
 use Rattle.tabled.specs.declared.fault.Fault.TheVariants as fault
-
-pub handed_none : (a : Option (List ℕ)) (text : List ℕ) → Handed a a text text
-handed_none a text = record { front = []; whole = refl; added = Appends-nil a a (Keeps-same a) }
 
 pub handed_more : (a b c : Option (List ℕ)) (text rest next : List ℕ) (n : ℕ) → Handed a b text rest → Appends b c (take n rest) → next ≡ drop n rest
     → Handed a c text next
@@ -18,10 +15,6 @@ handed_more a b c text rest next n h took e = record {
   whole = append_assoc h.front (take n rest) next ∙ ap (λ u. h.front ++ (take n rest ++ u)) e ∙ ap (λ u. h.front ++ u) (take-append-drop n rest) ∙ h.whole;
   added = Appends-then a b c h.front (take n rest) h.added took;
 }
-
-pub handed_all : (a b : Option (List ℕ)) (text rest : List ℕ) → Handed a b text rest → length rest ≡ 0 → Appends a b text
-handed_all a b text [] h e = subst (Appends a b) (sym (append-nil h.front) ∙ h.whole) h.added
-handed_all a b text (x ∷ rest) h e = absurd (omega arith)
 
 -- a writer that took nothing more
 pub handed_part : (a b c : Option (List ℕ)) (text rest : List ℕ) → Handed a b text rest → Keeps b c → Begins a c text

@@ -1,6 +1,7 @@
 -- What holds of the table that a plan makes of the cells of a text, each sentence by a name of its own.
 use Rattle.std.specs.Prelude.{◌≡◌, ◌<◌, ℕ, false, ⊤, length}
 use Rattle.std.specs.List.{All}
+use Rattle.tabled_apart.specs.Exact.{IsExactLine}
 use Rattle.tabled_config.specs.declared.spanned.SpannedConfig.{SpannedConfig}
 use Rattle.tabled_grid.specs.ApartSheet.{IsApartConfig}
 use Rattle.tabled_grid.specs.Picture.{picture}
@@ -9,7 +10,6 @@ use Rattle.tabled_resize.specs.ExactTotal.{HasExactTotal}
 use Rattle.tabled_row.specs.Plain.{EachLineTakes}
 use Rattle.tabled_size.specs.Sheet.{Sheet}
 use Rattle.tabled_size.specs.Totals.{total_height, total_width}
-use Rattle.tabled_stream.specs.LikeTable.{IsExactLine}
 use Rattle.tabled_table.specs.TableSheet.{new_sheet}
 use Rattle.tabled.specs.declared.plan.Order.{Order}
 use Rattle.tabled.specs.declared.plan.Order.TheVariants.{Round, Least, Greatest, Leftmost, Rightmost}
@@ -46,7 +46,8 @@ HasFewestBreaks Streamed old new = ⊤
 HasFewestBreaks (Wrapped n words order) old new = n < total_width old → IsBestWrapped words old new
 HasFewestBreaks (Shortened n order) old new = ⊤
 
--- a cut cell of one line, whose characters count as its columns, is the longest beginning that fits
+-- a cut cell of one line, whose characters count as its columns, is the longest beginning that fits, with U+FFFD in the column
+-- that a cut character leaves
 abbrev pub HasLongestBeginnings : Plan → Sheet → Sheet → Type 0
 HasLongestBeginnings Buffered old new = ⊤
 HasLongestBeginnings Streamed old new = ⊤

@@ -109,22 +109,19 @@ use Rattle.tabled_text.specs.Measure.{char_columns, char_count, columns_of, coun
 -- ---- what a state keeps back
 
 -- the columns that a later step may add beyond the count of its character
-abbrev slack_after : After → ℕ
-slack_after ZwjEmoji = 1
-slack_after IndicatorZwj = 1
-slack_after OddIndicatorsZwj = 1
-slack_after EvenIndicatorsZwj = 3
+abbrev pub slack_after : After → ℕ
+slack_after EvenIndicatorsZwj = 2
 slack_after _ = 0
 
-abbrev flag : Bool → ℕ
+abbrev pub flag : Bool → ℕ
 flag true = 1
 flag false = 0
 
-abbrev slack : State → ℕ
-slack s = slack_after s.after + (flag s.emoji + flag s.quote)
+abbrev pub slack : State → ℕ
+slack s = slack_after s.after + max (flag s.emoji) (flag s.quote)
 
 -- the columns that there are at least, where a step may take one away
-abbrev credit : After → ℕ
+abbrev pub credit : After → ℕ
 credit KhmerLetter = 1
 credit JoinerTifinagh = 1
 credit IndicatorZwj = 1
@@ -132,9 +129,9 @@ credit OddIndicatorsZwj = 1
 credit _ = 0
 
 -- the columns and the slack are at most m
-record Bounded (m : ℕ) (r : Reading) : Type 0 where
-  bound : r.0 + slack r.1 ≤ m
-  covers : credit r.1.after ≤ r.0
+pub record Bounded (m : ℕ) (r : Reading) : Type 0 where
+  pub bound : r.0 + slack r.1 ≤ m
+  pub covers : credit r.1.after ≤ r.0
 
 Bounded-cond : (m : ℕ) (b : Bool) (x y : Reading) → (b ≡ true → Bounded m x) → (b ≡ false → Bounded m y) → Bounded m (cond b x y)
 Bounded-cond m true x y f g = f refl
@@ -142,13 +139,13 @@ Bounded-cond m false x y f g = g refl
 
 -- ---- a character by itself
 
-single-bound : (c : ℕ) → (single false c).0 + slack (single false c).1 ≤ max 1 (single false c).0
+pub single-bound : (c : ℕ) → (single false c).0 + slack (single false c).1 ≤ max 1 (single false c).0
 single-bound c = grind arith
 
 single-credit : (c : ℕ) → credit (single false c).1.after ≡ 0
 single-credit c = grind arith
 
-of_kind-bound : (c : ℕ) (k : Kind) → (of_kind false c k).0 + slack (of_kind false c k).1 ≤ max 1 (of_kind false c k).0
+pub of_kind-bound : (c : ℕ) (k : Kind) → (of_kind false c k).0 + slack (of_kind false c k).1 ≤ max 1 (of_kind false c k).0
 of_kind-bound c kinds.Zero = omega arith
 of_kind-bound c kinds.Narrow = omega arith
 of_kind-bound c kinds.Wide = omega arith
@@ -176,7 +173,7 @@ of_kind-credit c kinds.EmojiModifier = omega arith
 of_kind-credit c kinds.Emoji = omega arith
 of_kind-credit c kinds.Single = omega (arith, single-credit c)
 
-columns-high : (c : ℕ) → nat_le c 0xA0 ≡ false → char_columns c ≡ (alone false c).0
+pub columns-high : (c : ℕ) → nat_le c 0xA0 ≡ false → char_columns c ≡ (alone false c).0
 unfolding char_width
 columns-high c h = grind (arith, nat_tests)
 
@@ -261,11 +258,11 @@ Bounded-joined m n total after (Some (Three, next)) own some le k fair rest =
     let a = fair.0 in let b = fair.1 in record { bound = omega arith; covers = omega arith }
 
 -- a joiner before a state changes neither slack nor credit
-record IsSame (a b : After) : Type 0 where
-  slack : slack_after a ≡ slack_after b
-  credit : credit a ≡ credit b
+pub record IsSame (a b : After) : Type 0 where
+  pub slack : slack_after a ≡ slack_after b
+  pub credit : credit a ≡ credit b
 
-with_joiner-same : (after : After) → IsSame (with_joiner after) after
+pub with_joiner-same : (after : After) → IsSame (with_joiner after) after
 with_joiner-same Nothing = record { slack = refl; credit = refl }
 with_joiner-same LineFeed = record { slack = refl; credit = refl }
 with_joiner-same EmojiModifier = record { slack = refl; credit = refl }
@@ -307,10 +304,10 @@ with_joiner-same KhmerLetter = record { slack = refl; credit = refl }
 
 -- ---- one step
 
-count-some : (c : ℕ) → 1 ≤ char_count c
+pub count-some : (c : ℕ) → 1 ≤ char_count c
 count-some c = omega arith
 
-Bounded-past_selectors : (m c total : ℕ) (after : After) → nat_le c 0xA0 ≡ false → total + slack_after after ≤ m → credit after ≤ total
+pub Bounded-past_selectors : (m c total : ℕ) (after : After) → nat_le c 0xA0 ≡ false → total + slack_after after ≤ m → credit after ≤ total
     → Bounded (m + char_count c) (past_selectors false c total after)
 unfolding past_selectors
 Bounded-past_selectors m c total after h le k =
@@ -322,11 +319,11 @@ Bounded-past_selectors m c total after h le k =
     (Bounded-alone m c total h (omega arith))))
 
 -- what stays of a state under a selector keeps back no more
-record IsLess (s u : State) : Type 0 where
-  after : slack_after s.after ≤ slack_after u.after
-  emoji : flag s.emoji ≤ flag u.emoji
-  quote : flag s.quote ≤ flag u.quote
-  credit : credit s.after ≤ credit u.after
+pub record IsLess (s u : State) : Type 0 where
+  pub after : slack_after s.after ≤ slack_after u.after
+  pub emoji : flag s.emoji ≤ flag u.emoji
+  pub quote : flag s.quote ≤ flag u.quote
+  pub credit : credit s.after ≤ credit u.after
 
 IsLess-self : (s : State) → IsLess s s
 IsLess-self s = record { after = omega arith; emoji = omega arith; quote = omega arith; credit = omega arith }
@@ -335,7 +332,7 @@ IsLess-cond : (b : Bool) (s t u : State) → IsLess s u → IsLess t u → IsLes
 IsLess-cond true s t u f g = f
 IsLess-cond false s t u f g = g
 
-IsLess-kept : (s : State) → IsLess (if_kept s) s
+pub IsLess-kept : (s : State) → IsLess (if_kept s) s
 IsLess-kept s = IsLess-cond (is_kept s.after) s plain s (IsLess-self s)
     (record { after = omega arith; emoji = omega arith; quote = omega arith; credit = omega arith })
 
@@ -351,7 +348,7 @@ Bounded-text : (m n total : ℕ) (s u : State) → IsLess u s → Bounded m (tot
 Bounded-text m n total s u le h =
     let a = le.after in let b = le.emoji in let q = le.quote in let d = le.credit in let e = h.bound in let f = h.covers in record { bound = omega arith; covers = omega arith }
 
-flag-true : (b : Bool) → b ≡ true → flag b ≡ 1
+pub flag-true : (b : Bool) → b ≡ true → flag b ≡ 1
 flag-true b h = ap flag h
 
 Bounded-in_context : (m c total : ℕ) (s : State) → nat_le c 0xA0 ≡ false → Bounded m (total, s) → Bounded (m + char_count c) (in_context false c total s)
@@ -370,7 +367,7 @@ Bounded-in_context m c total s high h =
     (λ y. let q = flag-true s.quote (and_parts s.quote (is_quote c) y).0 in record { bound = omega arith; covers = omega arith })
     (λ _. Bounded-past_selectors m c total s.after high (omega arith) f)))))
 
-Bounded-past_emoji : (m c total : ℕ) (s : State) → Bounded m (total, s) → Bounded (m + char_count c) (past_emoji false c total s)
+pub Bounded-past_emoji : (m c total : ℕ) (s : State) → Bounded m (total, s) → Bounded (m + char_count c) (past_emoji false c total s)
 unfolding past_emoji
 Bounded-past_emoji m c total s h =
     let n = char_count c in
@@ -384,11 +381,11 @@ Bounded-past_emoji m c total s h =
 joined_or_two : (b : Bool) → cond b 0 2 ≤ 2
 joined_or_two b = grind arith
 
-not-false : (b : Bool) → not b ≡ false → b ≡ true
+pub not-false : (b : Bool) → not b ≡ false → b ≡ true
 not-false true h = refl
 not-false false h = cc
 
-Bounded-step : (m c : ℕ) (r : Reading) → Bounded m r → Bounded (m + char_count c) (step false c r)
+pub Bounded-step : (m c : ℕ) (r : Reading) → Bounded m r → Bounded (m + char_count c) (step false c r)
 unfolding step
 Bounded-step m c (total, s) h =
     let n = char_count c in
@@ -402,7 +399,7 @@ Bounded-step m c (total, s) h =
     Bounded-cond (m + n) (is_emoji_variation_base c) _ _ (λ _. record { bound = omega arith; covers = omega arith })
     (λ _. Bounded-past_emoji m c total (record (if_kept s) { emoji = false }) (record { bound = omega arith; covers = omega arith })))
 
-Bounded-read_before : (cs : List ℕ) → Bounded (count_of cs) (read_before false cs (0, plain))
+pub Bounded-read_before : (cs : List ℕ) → Bounded (count_of cs) (read_before false cs (0, plain))
 Bounded-read_before [] = record { bound = omega arith; covers = omega arith }
 Bounded-read_before (c ∷ cs) =
     let e : count_of cs + char_count c ≡ count_of (c ∷ cs) = omega (arith, sum_by-cons char_count c cs) in

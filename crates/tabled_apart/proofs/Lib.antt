@@ -1,9 +1,15 @@
+pub mod Beside
 pub mod CountBound
 pub mod CutBound
 pub mod Ends
+pub mod ExactBeginnings
+pub mod ExactLines
 pub mod FittingLaws
+pub mod Joining
 pub mod LineLaws
 pub mod Missed
+pub mod OwnSteps
+pub mod SameSteps
 pub mod SeparatorLaws
 pub mod SeparatorSteps
 pub mod Within

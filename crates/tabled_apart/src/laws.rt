@@ -1,12 +1,14 @@
 //! Laws of lines, each the contract of a function.
-ghost use Rattle.std.specs.Prelude.{◌≡◌, ◌<◌, ◌≤◌, ℕ, Bool, true, false, List, [], ◌∷◌, ◌++◌, ◌+◌, All, chars, encode_utf8, encode_utf8_all, length, replicate, sum_by};
+ghost use Rattle.std.specs.Prelude.{◌≡◌, ◌<◌, ◌≤◌, ℕ, Bool, true, false, List, [], ◌∷◌, ◌++◌, ◌+◌, All, chars, encode_utf8, encode_utf8_all, length, replicate, sum_by, take};
 ghost use Rattle.std.specs.List.{flat_map, join_with_byte, slice_index_or};
 ghost use Rattle.std.specs.Str.{IsUtf8};
 ghost use Rattle.tabled_text.specs.Cut.{IsCut};
-ghost use Rattle.tabled_text.specs.Measure.{char_columns, columns_of, count_of, line_columns, lines_of};
+ghost use Rattle.tabled_text.specs.Longest.{IsLongestCut};
+ghost use Rattle.tabled_text.specs.Measure.{char_columns, columns_of, count_of, line_columns, lines_of, text_columns};
 ghost use Rattle.tabled_text.specs.Plain.{IsPlain, IsPlainColumn};
 ghost use Rattle.tabled_text.specs.Room.{stays};
 ghost use Rattle.tabled_text.specs.Wrapping.{IsWrapped};
+ghost use Rattle.tabled_apart.specs.Exact.{IsExactLine};
 ghost use Rattle.tabled_apart.specs.Fitting.{FitsIn};
 ghost use Rattle.tabled_apart.specs.Lines.{EndsApart, IsFrame, IsLine, IsSeparatorColumn};
 ghost use Rattle.tabled_apart.specs.Separators.{begins_apart, is_separator, meet};
@@ -25,6 +27,18 @@ pub fn separators()
 /// A line takes no more columns than its characters count.
 pub fn count_is_bound()
     ensures { (line : List ℕ) → columns_of line ≤ count_of line }
+{}
+
+/// Lines whose characters count as many as their columns, as plain ones do: the characters of each beginning do so too. Cut, such
+/// a line is the longest beginning that finds room, filled up, and stays where it finds room itself.
+pub fn exact_lines()
+    ensures plain { (text : List ℕ) → IsPlain text → length (lines_of text) ≡ 1 → IsExactLine text }
+    ensures beginnings { (line : List ℕ) → columns_of line ≡ count_of line
+        → (k : ℕ) → columns_of (take k line) ≡ count_of (take k line) }
+    ensures longest { (n : ℕ) (line answer : List ℕ) → IsExactLine line → IsCut n line answer
+        → IsLongestCut n line answer }
+    ensures kept { (n : ℕ) (line answer : List ℕ) → IsExactLine line → text_columns line ≤ n → IsCut n line answer
+        → answer ≡ line }
 {}
 
 /// Lines of any characters: where they stand apart, their columns add up. So do those of a line between frames, and of

@@ -1,6 +1,6 @@
 -- What is truncated without a suffix is cut.
 use Rattle.std.proofs.Common.{◌≡◌, ◌-◌, ℕ, zero, suc, true, false, List, [], ◌∷◌, ◌++◌, MatchBool, nat_lt, chars, replicate, refl, sym, ap, subst, ◌∙◌, append-nil, arith, ⊎_elim}
-use Rattle.std.specs.List.{AllZip, list_all}
+use Rattle.std.specs.List.{AllZip}
 use Rattle.std.proofs.Math.Dec.{eqb-suc-zero}
 use Rattle.std.proofs.lemmas.Bool.{MatchBool-at_true, MatchBool-at_false, cases_Bool, eq-eqb, ltb-false}
 use Rattle.std.proofs.lemmas.List.Sums.{sum_by-cons}
@@ -8,10 +8,10 @@ use Rattle.std.proofs.lemmas.Str.{IsUtf8-nil, chars-nil}
 use Rattle.tabled_text.specs.Cut.{IsCut, missing_columns}
 use Rattle.tabled_text.specs.Longest.{IsLongestCut}
 use Rattle.tabled_text.specs.Measure.{line_columns, lines_of}
-use Rattle.tabled_text.specs.Plain.{is_plain_character}
-use Rattle.tabled_text.proofs.LongestLemmas.{cut_longest}
 use Rattle.tabled_text.proofs.CutLemmas.{IsReached-nil, longest_at_full}
 use Rattle.tabled_text.proofs.PlainLines.{plain_line-nil}
+use Rattle.tabled_apart.specs.Exact.{IsExactLine}
+use Rattle.tabled_apart.proofs.ExactLines.{exact-longest}
 use Rattle.tabled_change.specs.declared.suffix.SuffixLimit.{SuffixLimit}
 use Rattle.tabled_change.specs.Truncated.{IsCutBefore, IsEnded, IsLimited, IsTruncated, IsUsed, suffix_columns}
 use Rattle.tabled_change.specs.LongestLines.{HasLongestLines}
@@ -59,17 +59,17 @@ IsCut-ended (suc r) limit used left text answer u h =
 pub IsCut-truncated : (room : ℕ) (limit : SuffixLimit) (text answer : List ℕ) → IsTruncated room [] limit false text answer → IsCut room text answer
 IsCut-truncated room limit text answer h = IsCut-ended room limit h.used h.left text answer h.suffix_used h.answered
 
--- a plain line is cut to its longest beginning
-pub longest_truncated : (room : ℕ) (limit : SuffixLimit) (text answer : List ℕ) → list_all is_plain_character (chars text) ≡ true → IsTruncated room [] limit false text answer → IsLongestCut room text answer
-longest_truncated room limit text answer plain h = cut_longest room text answer plain (IsCut-truncated room limit text answer h)
+-- a line whose characters count as its columns is cut to its longest beginning
+pub longest_truncated : (room : ℕ) (limit : SuffixLimit) (text answer : List ℕ) → IsExactLine text → IsTruncated room [] limit false text answer → IsLongestCut room text answer
+longest_truncated room limit text answer exact h = exact-longest room text answer exact (IsCut-truncated room limit text answer h)
 
 module _ (room : ℕ) (limit : SuffixLimit) (used : List ℕ) (left : ℕ) (u : IsUsed room [] limit used left) where
-  longest_each : (lines cuts : List (List ℕ)) → AllZip (IsEnded left used) lines cuts → AllZip (λ line cut. list_all is_plain_character (chars line) ≡ true → IsLongestCut room line cut) lines cuts
+  longest_each : (lines cuts : List (List ℕ)) → AllZip (IsEnded left used) lines cuts → AllZip (λ line cut. IsExactLine line → IsLongestCut room line cut) lines cuts
   longest_each [] [] h = h
   longest_each [] (cut ∷ cuts) h = h
   longest_each (line ∷ lines) [] h = h
   longest_each (line ∷ lines) (cut ∷ cuts) h =
-      (λ plain. cut_longest room line cut plain (IsCut-ended room limit used left line cut u h.0), longest_each lines cuts h.1)
+      (λ exact. exact-longest room line cut exact (IsCut-ended room limit used left line cut u h.0), longest_each lines cuts h.1)
 
 -- so is each line
 pub longest_lines : (room : ℕ) (limit : SuffixLimit) (text answer : List ℕ) → IsTruncated room [] limit true text answer → HasLongestLines room text answer

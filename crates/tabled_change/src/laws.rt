@@ -1,6 +1,6 @@
 //! Laws of truncated texts, each the contract of a function.
-ghost use Rattle.std.specs.Prelude.{◌≡◌, ℕ, Bool, true, false, List, [], chars};
-ghost use Rattle.std.specs.List.{list_all};
+ghost use Rattle.std.specs.Prelude.{ℕ, Bool, true, false, List, []};
+ghost use Rattle.tabled_apart.specs.Exact.{IsExactLine};
 ghost use Rattle.tabled_apart.specs.Fitting.{FitsIn};
 ghost use Rattle.tabled_change.specs.LongestLines.{HasLongestLines};
 ghost use Rattle.tabled_change.specs.PlainEnding.{IsPlainLimit};
@@ -8,12 +8,12 @@ ghost use Rattle.tabled_change.specs.Truncated.{IsTruncated};
 ghost use Rattle.tabled_change.specs.declared.suffix.SuffixLimit.{SuffixLimit};
 ghost use Rattle.tabled_text.specs.Cut.{IsCut};
 ghost use Rattle.tabled_text.specs.Longest.{IsLongestCut};
-ghost use Rattle.tabled_text.specs.Plain.{is_plain_character, IsPlain};
+ghost use Rattle.tabled_text.specs.Plain.{IsPlain};
 ghost use Rattle.tabled_text.specs.Room.{StaysWithin};
 
 /// A truncated text fits in its room, whatever its characters are, if the suffix and the character in its place are plain;
-/// a plain one stays plain. Without a suffix it is the cut text, and of a plain line the longest beginning that finds room, as each line
-/// is where lines are truncated by themselves.
+/// a plain one stays plain. Without a suffix it is the cut text, and of a line whose characters count as its columns the longest beginning that
+/// finds room, as each such line is where lines are truncated by themselves.
 pub fn truncated_texts()
     ensures fits { (room : ℕ) (suffix : List ℕ) (limit : SuffixLimit) (multiline : Bool) (text answer : List ℕ)
         → IsPlain suffix → IsPlainLimit limit
@@ -23,8 +23,7 @@ pub fn truncated_texts()
         → IsTruncated room suffix limit multiline text answer → StaysWithin room answer }
     ensures cut { (room : ℕ) (limit : SuffixLimit) (text answer : List ℕ)
         → IsTruncated room [] limit false text answer → IsCut room text answer }
-    ensures longest { (room : ℕ) (limit : SuffixLimit) (line answer : List ℕ)
-        → list_all is_plain_character (chars line) ≡ true
+    ensures longest { (room : ℕ) (limit : SuffixLimit) (line answer : List ℕ) → IsExactLine line
         → IsTruncated room [] limit false line answer → IsLongestCut room line answer }
     ensures lines { (room : ℕ) (limit : SuffixLimit) (text answer : List ℕ)
         → IsTruncated room [] limit true text answer → HasLongestLines room text answer }

@@ -1,6 +1,6 @@
 -- Tables that were narrowed as well as they can be.
-use Rattle.std.specs.Prelude.{◌≡◌, ◌<◌, ◌-◌, ℕ, Bool, true, false, chars}
-use Rattle.std.specs.List.{list_all}
+use Rattle.std.specs.Prelude.{◌≡◌, ◌<◌, ◌-◌, ℕ, Bool, true, false}
+use Rattle.tabled_apart.specs.Exact.{IsExactLine}
 use Rattle.tabled_base.specs.Cells.{IsInside, cell_at}
 use Rattle.tabled_change.specs.LongestLines.{HasLongestLines}
 use Rattle.tabled_resize.specs.Minimums.{minimums, side_padding}
@@ -11,7 +11,6 @@ use Rattle.tabled_text.specs.Breaking.{EachUnitFits, HasFewestLines}
 use Rattle.tabled_text.specs.Longest.{IsLongestCut}
 use Rattle.tabled_text.specs.Measure.{text_columns}
 use Rattle.tabled_text.specs.OldText.{HasOldText}
-use Rattle.tabled_text.specs.Plain.{is_plain_character}
 
 -- what its column leaves for the text of a cell
 abbrev pub text_room : Sheet → ℕ → ℕ → ℕ
@@ -30,11 +29,12 @@ pub record IsBestWrapped (words : Bool) (old new : Sheet) : Type 0 where
       → EachUnitFits (text_room new row column) words (cell_at old.cells row column)
       → HasOldText (cell_at old.cells row column) (cell_at new.cells row column)
 
--- a truncated table, no suffix put behind the texts: of a cell that was wider than its room a plain line is the longest
--- beginning that fits, and where lines are truncated by themselves, each of them is
+-- a truncated table, no suffix put behind the texts: of a cell that was wider than its room a line whose characters count as
+-- its columns, as those of plain ones do, is the longest beginning that fits, and where lines are truncated by themselves,
+-- each such line is
 pub record IsBestCut (multiline : Bool) (old new : Sheet) : Type 0 where
   pub line : multiline ≡ false → (row column : ℕ) → IsInside old.cells row column
-      → list_all is_plain_character (chars (cell_at old.cells row column)) ≡ true
+      → IsExactLine (cell_at old.cells row column)
       → text_room new row column < text_columns (cell_at old.cells row column)
       → IsLongestCut (text_room new row column) (cell_at old.cells row column) (cell_at new.cells row column)
   pub lines : multiline ≡ true → (row column : ℕ) → IsInside old.cells row column

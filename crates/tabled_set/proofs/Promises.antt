@@ -127,8 +127,8 @@ module _ {P : Type 0} (shrinks : P → List ℕ → List ℕ → ℕ → List �
     longest_of takes bare wide =
         let room = text_room (standing new config last) in
         record {
-          line = λ whole row column inside plain long.
-              longest_truncated (room row column) limit (cell_at cells row column) (cell_at new row column) plain
+          line = λ whole row column inside exact long.
+              longest_truncated (room row column) limit (cell_at cells row column) (cell_at new row column) exact
               (subst (λ b. IsTruncated (room row column) [] limit b (cell_at cells row column) (cell_at new row column)) whole (truncated_of takes bare wide row column inside long));
           lines = λ apart row column inside long.
               longest_lines (room row column) limit (cell_at cells row column) (cell_at new row column)

@@ -1,6 +1,5 @@
 pub mod CutExists
 pub mod Endings
-pub mod ExactLines
 pub mod Finished
 pub mod FirstRows
 pub mod Going

@@ -16,12 +16,13 @@ use Rattle.tabled_size.specs.Estimates.{column_width, estimated_heights, estimat
 use Rattle.tabled_size.specs.Sheet.{Sheet, estimated}
 use Rattle.tabled_size.proofs.Greatest.{greatest_below, greatest_ge, greatest_more, mapped_same}
 use Rattle.tabled_stream.specs.declared.settings.Settings.{Settings}
-use Rattle.tabled_stream.specs.LikeTable.{AreMeasured, IsExactLine, IsLikeTable, PrintsLikeTable}
+use Rattle.tabled_apart.specs.Exact.{IsExactLine}
+use Rattle.tabled_stream.specs.LikeTable.{AreMeasured, IsLikeTable, PrintsLikeTable}
 use Rattle.tabled_stream.specs.Streams.{AreEnough, PrintsStream, reaches}
 use Rattle.tabled_grid.specs.Picture.{table_text}
 use Rattle.tabled_row.specs.Sent.{Sent, Sends}
 use Rattle.tabled_stream.specs.Streamed.{IsCutRow, IsStreamed, column_count, content_width, limited, sniffed, stream_height, stream_width, stream_widths, tallest, widest}
-use Rattle.tabled_stream.proofs.ExactLines.{exact-kept}
+use Rattle.tabled_apart.proofs.ExactLines.{exact-kept}
 use Rattle.tabled_stream.proofs.Measures.{greatest-next}
 
 -- ---- lists

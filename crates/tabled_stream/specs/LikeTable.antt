@@ -1,8 +1,7 @@
 -- Streams that print the bytes of a `Table`.
-use Rattle.std.specs.Prelude.{◌≡◌, ℕ, ◌<◌, ◌≤◌, Bool, true, List, None, chars, length}
+use Rattle.std.specs.Prelude.{◌≡◌, ℕ, ◌<◌, ◌≤◌, Bool, true, List, None, length}
 use Rattle.std.specs.List.{All}
-use Rattle.std.specs.Str.{IsUtf8}
-use Rattle.tabled_text.specs.Measure.{count_of, lines_of, text_columns}
+use Rattle.tabled_apart.specs.Exact.{IsExactLine}
 use Rattle.tabled_base.specs.Cells.{IsRectangular, columns}
 use Rattle.tabled_config.specs.declared.compact.CompactConfig.{CompactConfig}
 use Rattle.tabled_config.specs.Spanned.{spanned_of_compact}
@@ -11,12 +10,6 @@ use Rattle.tabled_grid.specs.Picture.{table_text}
 use Rattle.tabled_size.specs.Sheet.{estimated}
 use Rattle.tabled_stream.specs.declared.settings.Settings.{Settings}
 use Rattle.tabled_stream.specs.Streams.{AreEnough}
-
--- a text of one line, whose characters count as many as its columns
-pub record IsExactLine (text : List ℕ) : Type 0 where
-  pub utf8 : IsUtf8 text
-  pub one : length (lines_of text) ≡ 1
-  pub counted : count_of (chars text) ≡ text_columns text
 
 -- some rows are measured whole: there is a row and a column, the rows are equally long, all are read ahead, and nothing is given
 -- of columns, rows and sizes

@@ -4,6 +4,7 @@ ghost use Rattle.std.specs.Str.{IsUtf8};
 ghost use Rattle.tabled_text.specs.Cut.{IsCut};
 ghost use Rattle.tabled_text.specs.Measure.{lines_of};
 ghost use Rattle.tabled_text.specs.Plain.{IsPlain};
+ghost use Rattle.tabled_apart.specs.Exact.{IsExactLine};
 ghost use Rattle.tabled_base.specs.Cells.{IsRectangular};
 ghost use Rattle.tabled_config.specs.declared.compact.CompactConfig.{CompactConfig};
 ghost use Rattle.tabled_config.specs.Spanned.{spanned_of_compact};
@@ -12,13 +13,13 @@ ghost use Rattle.tabled_size.specs.Sheet.{Sheet, estimated};
 ghost use Rattle.tabled_size.specs.TextCells.{AreTexts};
 ghost use Rattle.tabled_stream.specs.declared.settings.Settings.{Settings};
 ghost use Rattle.tabled_stream.specs.GoesOn.{GoesOn};
-ghost use Rattle.tabled_stream.specs.LikeTable.{IsExactLine, IsLikeTable};
+ghost use Rattle.tabled_stream.specs.LikeTable.{IsLikeTable};
 ghost use Rattle.tabled_stream.specs.Streamed.{IsCutRow, IsStreamed, column_count, limited, sniffed};
 
 /// A stream of equally long rows that are all read ahead, whose cells are lines that count as many as their columns, and of
 /// which nothing is given, is the table with estimated sizes: so it has the bytes of a `Table` of these cells. Plain lines
 /// count as many as their columns.
-#[tactic(auto, using(crate::proofs::ExactLines::plain_exact, crate::proofs::SameSheet::like_table))]
+#[tactic(auto, using(tabled_apart::proofs::ExactLines::plain_exact, crate::proofs::SameSheet::like_table))]
 pub fn streams_like_tables()
     ensures sheet { (settings : Settings) (config : CompactConfig) (rows : List (List (List ℕ))) (t : Sheet) → IsLikeTable settings rows
         → IsStreamed settings config (sniffed settings rows) (limited settings.rows rows) t → t ≡ estimated rows (spanned_of_compact config) }

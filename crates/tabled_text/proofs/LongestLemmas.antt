@@ -35,7 +35,7 @@ use Rattle.std.proofs.lemmas.List.Elements.{All-head, All-cons, All-nil}
 use Rattle.std.proofs.lemmas.List.Sums.{sum_by-cons}
 use Rattle.std.proofs.lemmas.Bool.{and_parts, and_from}
 use Rattle.std.proofs.lemmas.Str.{encodes-chars}
-use Rattle.tabled_text.specs.Measure.{columns_of, count_of, char_count}
+use Rattle.tabled_text.specs.Measure.{columns_of, count_of, char_count, lines_of}
 use Rattle.tabled_text.specs.Plain.{is_plain_character}
 use Rattle.tabled_text.specs.Cut.{last_of, last_line, IsLongestReached, IsCut, missing_columns}
 use Rattle.tabled_text.specs.Longest.{IsLongestFitting, IsLongestCut}
@@ -64,33 +64,37 @@ more-take (suc j) (suc k) (c ∷ cs) l r =
 width-count : (cs : List ℕ) → list_all is_plain_character cs ≡ true → columns_of cs ≡ count_of cs
 width-count cs h = columns_of-plain cs h ∙ sym (count_of-plain cs h)
 
-pub longest_fitting : (n : ℕ) (line front rest : List ℕ) → list_all is_plain_character line ≡ true
-    → IsLongestReached n line front rest → IsLongestFitting n line front
-longest_fitting n line front rest plain s =
+-- where each beginning is a line that takes the columns of its count, the longest that is reached is the longest that finds room
+pub longest_counted : (n : ℕ) (line front rest : List ℕ) → ((k : ℕ) → lines_of (take k line) ≡ take k line ∷ [])
+    → ((k : ℕ) → columns_of (take k line) ≡ count_of (take k line)) → IsLongestReached n line front rest → IsLongestFitting n line front
+longest_counted n line front rest one counted s =
     let begins : front ≡ take (length front) line = sym
     (ap (take (length front)) s.parts ∙ take-append-le (length front) front rest (omega arith) ∙ take-length front) in
-    let plain' : list_all is_plain_character front ≡ true = subst
-    (λ f. list_all is_plain_character f ≡ true) (sym begins) (plain-take (length front) line plain) in
+    let own : lines_of front ≡ front ∷ [] = subst (λ f. lines_of f ≡ f ∷ []) (sym begins) (one (length front)) in
+    let same : columns_of front ≡ count_of front = subst (λ f. columns_of f ≡ count_of f) (sym begins) (counted (length front)) in
     let fits : count_of front ≤ n = All-head (λ l. count_of l ≤ n) front []
-    (subst (All (λ l. count_of l ≤ n)) (one_line front plain') s.reached.fits) in
+    (subst (All (λ l. count_of l ≤ n)) own s.reached.fits) in
     record {
       beginning = begins;
-      fits = let e = width-count front plain' in omega arith;
+      fits = omega arith;
       longest = λ k in_line room.
-          let own = plain-take k line plain in
-          let e = width-count (take k line) own in
+          let e = counted k in
           let len : length (take k line) ≡ min k (length line) = length-take k line in
           s.longest k in_line (record {
-            fits = subst (All (λ l. count_of l ≤ n)) (sym (one_line (take k line) own))
+            fits = subst (All (λ l. count_of l ≤ n)) (sym (one k))
                 (All-cons (λ l. count_of l ≤ n) (take k line) [] (omega arith) (All-nil (λ l. count_of l ≤ n)));
             shorter = λ j less.
                 let inner : take j (take k line) ≡ take j line = take-take j k line (omega arith) in
-                let last : last_line (take j (take k line))
-                ≡ take j line = ap last_line inner ∙ ap last_of (one_line (take j line) (plain-take j line plain)) in
+                let last : last_line (take j (take k line)) ≡ take j line = ap last_line inner ∙ ap last_of (one j) in
                 let m = more-take j k line (omega arith) in_line in
                 subst (λ l. count_of l < n) (sym last) (omega arith);
           });
     }
+
+pub longest_fitting : (n : ℕ) (line front rest : List ℕ) → list_all is_plain_character line ≡ true
+    → IsLongestReached n line front rest → IsLongestFitting n line front
+longest_fitting n line front rest plain =
+    longest_counted n line front rest (λ k. one_line (take k line) (plain-take k line plain)) (λ k. width-count (take k line) (plain-take k line plain))
 
 -- a cut plain line is its longest beginning that finds room, filled up
 pub cut_longest : (n : ℕ) (line answer : List ℕ) → list_all is_plain_character (chars line) ≡ true → IsCut n line answer → IsLongestCut n line answer

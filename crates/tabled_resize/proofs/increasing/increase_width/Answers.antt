@@ -1,5 +1,4 @@
-use Rattle.std.proofs.Common.{◌≡◌, ◌∙◌, MatchOption, Some, arith, inr, refl, sym, subst, ℕ, Option}
-use Rattle.tabled_size.specs.Totals.{filled_width}
+use Rattle.std.proofs.Common.{arith, inr, refl}
 use Rattle.tabled_resize.proofs.GrowingTables.{room-for, wide-already, widened, widths-pass, widths-within}
 use Rattle.tabled_resize.proofs.increasing.increase_width.Goals as goal
 

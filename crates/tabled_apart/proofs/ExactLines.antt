@@ -1,5 +1,6 @@
--- Texts of one line whose characters count as many as its columns: where they find room, they aren't cut.
-use Rattle.std.proofs.Common.{◌≡◌, ℕ, zero, suc, ◌<◌, ◌≤◌, true, List, [], ◌∷◌, ◌++◌, length, take, replicate, chars, refl, sym, ◌∙◌, ap, subst}
+-- Texts of one line whose characters count as many as its columns: where they find room, they aren't cut, and else they are cut to the
+-- longest beginning that does.
+use Rattle.std.proofs.Common.{◌≡◌, ℕ, zero, suc, ◌<◌, ◌≤◌, true, List, [], ◌∷◌, ◌++◌, length, take, map, replicate, chars, refl, sym, ◌∙◌, ap, subst}
 use Rattle.std.proofs.Common.{arith, append-nil, length-append, encode_utf8_all, All}
 use Rattle.std.specs.List.{list_all, slice_index_or}
 use Rattle.std.specs.Str.{IsUtf8}
@@ -9,15 +10,18 @@ use Rattle.std.proofs.lemmas.List.Elements.{All-cons, All-nil}
 use Rattle.std.proofs.lemmas.List.Sums.{sum_by-cons}
 use Rattle.std.proofs.lemmas.Str.{encodes-chars}
 use Rattle.tabled_text.specs.Cut.{IsCut, IsReached, last_line, last_of, missing_columns}
-use Rattle.tabled_text.specs.Measure.{char_count, count_of, line_columns, lines_of, text_columns}
+use Rattle.tabled_text.specs.Longest.{IsLongestCut}
+use Rattle.tabled_text.specs.Measure.{char_count, columns_of, count_of, greatest, line_columns, lines_of, text_columns}
 use Rattle.tabled_text.specs.Plain.{IsPlain, is_plain_character}
 use Rattle.tabled_text.proofs.JoinLemmas.{lines_of-join}
+use Rattle.tabled_text.proofs.LongestLemmas.{longest_counted}
 use Rattle.tabled_text.proofs.PlainLemmas.{columns_of-plain, count_of-plain}
 use Rattle.tabled_text.proofs.PlainLines.{plain_line-each, text_columns-plain_line}
+use Rattle.tabled_apart.specs.Exact.{IsExactLine}
 use Rattle.tabled_apart.specs.Lines.{is_no_feed}
+use Rattle.tabled_apart.proofs.ExactBeginnings.{exact-take}
 use Rattle.tabled_apart.proofs.LineLaws.{line-each}
 use Rattle.tabled_apart.proofs.Within.{lines_of-feedless}
-use Rattle.tabled_stream.specs.LikeTable.{IsExactLine}
 
 -- the line of a text of one line is the text
 one-line : (text : List ℕ) → length (lines_of text) ≡ 1 → lines_of text ≡ text ∷ []
@@ -77,3 +81,24 @@ plain_exact text p h =
     let plain = plain_line-each text p 0 (omega arith) in
     let own = subst L first (plain.characters, text_columns-plain_line plain) in
     record { utf8 = p.utf8; one = h; counted = count_of-plain (chars text) own.0 ∙ sym (columns_of-plain (chars text) own.0) ∙ sym own.1 }
+
+-- the columns of its characters are those of the text
+exact-columns : (text : List ℕ) → IsExactLine text → columns_of (chars text) ≡ count_of (chars text)
+exact-columns text e =
+    let all : text_columns text ≡ greatest (line_columns text ∷ []) = ap (λ ls. greatest (map line_columns ls)) (one-line text e.one) in
+    let counted = e.counted in
+    omega arith
+
+-- cut, such a line is its longest beginning that finds room, filled up
+pub exact-longest : (n : ℕ) (text answer : List ℕ) → IsExactLine text → IsCut n text answer → IsLongestCut n text answer
+exact-longest n text answer e cut =
+    let cs = chars text in
+    let none = feedless text e.utf8 e.one in
+    record {
+      front = cut.front;
+      rest = cut.rest;
+      parts = cut.longest.parts;
+      longest = longest_counted n cs cut.front cut.rest (λ k. lines_of-feedless (take k cs) (feedless-take k cs none))
+          (λ k. exact-take k cs (exact-columns text e)) cut.longest;
+      answered = cut.characters;
+    }
