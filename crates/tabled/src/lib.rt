@@ -41,7 +41,9 @@ pub use tabled_value::Tabled;
 /// }
 /// ```
 pub mod laws {
-    pub use tabled_apart::laws::{count_is_bound, lines_of_any_text, separators, texts_that_fit};
+    pub use tabled_apart::laws::{
+        count_is_bound, exact_lines, lines_of_any_text, separators, texts_that_fit,
+    };
     pub use tabled_grid::laws::pictures;
     pub use tabled_row::laws::rows_of_any_text;
     pub use tabled_set::laws::truncated_texts;
