@@ -44,7 +44,7 @@ fill-drop c zero n rest small = ap (λ j. fill c j ++ rest) (zero-add n)
 fill-drop c (suc k) n rest small =
     ap (λ j. drop (suc k) (fill c j ++ rest)) (suc-add k n) ∙ ap (λ u. drop (suc k) (u ++ rest)) (fill-byte c (k + n) small) ∙ fill-drop c k n rest small
 
-fill-length : (c n : ℕ) → c < 128 → length (fill c n) ≡ n
+pub fill-length : (c n : ℕ) → c < 128 → length (fill c n) ≡ n
 fill-length c zero small = refl
 fill-length c (suc n) small = ap length (fill-byte c n small) ∙ ap suc (fill-length c n small)
 

@@ -14,6 +14,7 @@ use Rattle.tabled_border.specs.Frame.{has_bar}
 use Rattle.tabled_row.specs.Block.{above_text, block, cell_line, fill_above, text_room}
 use Rattle.tabled_row.specs.Fill.{fill}
 use Rattle.tabled_row.specs.Flush.{IsFlush, first_line, flush_cells, flush_step, opening}
+use Rattle.tabled_row.specs.Laid.{laid_text}
 use Rattle.tabled_row.specs.Row.{RowSheet, cell_piece, piece}
 use Rattle.tabled_row.proofs.Bars.{later-bar}
 use Rattle.tabled_row.proofs.Blocks.{block-text}
@@ -71,10 +72,23 @@ opening-end row s column l =
     ap (λ b. cond b (piece (has_bar row.columns.frame column) row.columns.frame.inner.main ++ fill 32 s.padding.left.size) []) no
 
 -- every cell stands so
-record IsFlushRow (row : RowSheet) (s : CellStyle) : Type 0 where
-  flush : IsFlush s
-  shared : (column : ℕ) → column < row.columns.count → row.style column ≡ s
-  height : row.height ≡ 1
+pub record IsFlushRow (row : RowSheet) (s : CellStyle) : Type 0 where
+  pub flush : IsFlush s
+  pub shared : (column : ℕ) → column < row.columns.count → row.style column ≡ s
+  pub height : row.height ≡ 1
+
+-- the block of a cell is one line
+own-flush : (row : RowSheet) (s : CellStyle) (column : ℕ) → IsFlushRow row s → column < row.columns.count
+    → get_or (block (row.style column) (row.columns.width column) row.height (row.text column)) 0 [] ≡ laid_text row s column
+own-flush row s column p l =
+    let w = row.columns.width column in
+    ap (λ st. get_or (block st w row.height (row.text column)) 0 []) (p.shared column l)
+    ∙ ap (λ h. get_or (block s w h (row.text column)) 0 []) p.height ∙ block-flush s w (row.text column) p.flush
+
+pub cell-flush : (row : RowSheet) (s : CellStyle) (column : ℕ) → IsFlushRow row s → column < row.columns.count
+    → cell_piece row 0 column ≡ piece (has_bar row.columns.frame column) row.columns.frame.inner.main ++ laid_text row s column
+unfolding cell_piece
+cell-flush row s column p l = ap (λ u. piece (has_bar row.columns.frame column) row.columns.frame.inner.main ++ u) (own-flush row s column p l)
 
 piece-flush : (row : RowSheet) (s : CellStyle) (column : ℕ) → IsFlushRow row s → column < row.columns.count
     → cell_piece row 0 column ++ opening row.columns s (column + 1) ≡ opening row.columns s column ++ flush_step row s column
@@ -86,11 +100,7 @@ piece-flush row s column p l =
     let line = first_line (row.text column) in
     let right = fill 32 (text_room s (row.columns.width column) - line_columns line + s.padding.right.size) in
     let next = opening row.columns s (column + 1) in
-    let w = row.columns.width column in
-    let own : get_or (block (row.style column) w row.height (row.text column)) 0 [] ≡ left ++ (line ++ right) =
-    ap (λ st. get_or (block st w row.height (row.text column)) 0 []) (p.shared column l)
-    ∙ ap (λ h. get_or (block s w h (row.text column)) 0 []) p.height ∙ block-flush s w (row.text column) p.flush in
-    ap (λ u. (bar ++ u) ++ next) own ∙ regroup bar left line right next ∙ ap (λ u. u ++ (line ++ (right ++ next))) (sym (opening-inside row s column l))
+    ap (λ u. (bar ++ u) ++ next) (own-flush row s column p l) ∙ regroup bar left line right next ∙ ap (λ u. u ++ (line ++ (right ++ next))) (sym (opening-inside row s column l))
   where
     regroup : (a b c d e : List ℕ) → (a ++ (b ++ (c ++ d))) ++ e ≡ (a ++ b) ++ (c ++ (d ++ e))
     regroup a b c d e = simp append_assoc

@@ -6,6 +6,7 @@ pub mod Each
 pub mod Fills
 pub mod Flushing
 pub mod Joined
+pub mod Laying
 pub mod Leading
 pub mod Marking
 pub mod Plains

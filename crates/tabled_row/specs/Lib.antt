@@ -3,6 +3,7 @@ pub mod Block
 pub mod Fill
 pub mod Flush
 pub mod Kept
+pub mod Laid
 pub mod Leading
 pub mod Marks
 pub mod Plain

@@ -43,7 +43,7 @@ fn put_rule_piece<C: Columns, S: TextSink>(
     put_fill(sink, line.main.unwrap_or(' '), columns.width(column))
 }
 
-fn put_rule_pieces<C: Columns, S: TextSink>(
+pub(crate) fn put_rule_pieces<C: Columns, S: TextSink>(
     sink: &mut S,
     columns: &C,
     line: &HorizontalLine,

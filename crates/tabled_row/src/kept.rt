@@ -1,12 +1,13 @@
 //! A horizontal line that is kept as it was laid out. The lines between rows are mostly alike, and one
 //! that is known goes out in one piece.
 ghost use Rattle.std.specs.Prelude.{◌≡◌, Some, None, IfSome, true};
-ghost use Rattle.tabled_row.specs.Kept.{Keeps};
+ghost use Rattle.tabled_row.specs.Kept.{Keeps, KeepsLine};
 ghost use Rattle.tabled_row.specs.Rooms.{room_text};
 ghost use Rattle.tabled_row.specs.Row.{ColumnSheet, rule_line};
 ghost use Rattle.tabled_row.specs.Sent.{Sent, Writes};
 
 use crate::columns::{Columns, put_rule_line};
+use crate::laid::LaidRow;
 use crate::room::Room;
 use crate::text_sink::TextSink;
 use std::alloc::Global;
@@ -54,7 +55,7 @@ impl KeptLine {
     /// Lays a line out.
     fn lay_out<C: Columns>(&mut self, columns: &C, line: &HorizontalLine)
         ensures line { self.new.line ≡ Some line.now }
-        ensures kept { Keeps (C.sheet columns.now) self.new }
+        ensures kept { KeepsLine (C.sheet columns.now) self.new }
     {
         self.room.clear();
         self.whole = put_rule_line(&mut self.room, columns, line).is_ok();
@@ -69,9 +70,9 @@ pub(crate) fn put_kept_line<C: Columns, S: TextSink>(
     line: &HorizontalLine,
     kept: &mut KeptLine,
 ) -> Result<(), TableError>
-    requires known { Keeps (C.sheet columns.now) kept.old }
+    requires known { KeepsLine (C.sheet columns.now) kept.old }
     ensures printed { Writes (S.sent sink.old) result (S.sent sink.new) (rule_line (C.sheet columns.now) line.now) }
-    ensures known { Keeps (C.sheet columns.now) kept.new }
+    ensures known { KeepsLine (C.sheet columns.now) kept.new }
 {
     if !kept.is(line) {
         kept.lay_out(columns, line);
@@ -79,5 +80,27 @@ pub(crate) fn put_kept_line<C: Columns, S: TextSink>(
     match kept.text() {
         Some(text) => sink.write_text(text),
         None => put_rule_line(sink, columns, line),
+    }
+}
+
+/// What is kept for later lines over some columns: a horizontal line, and a blank row where memory may be taken.
+#[derive(Drop)]
+pub(crate) struct Kept {
+    pub rule: KeptLine,
+    pub row: Option<LaidRow>,
+}
+
+impl Kept {
+    /// Nothing so far. In memory a horizontal line of any length is kept, and else one of 4 KiB at most.
+    pub fn new(memory: Option<Global>) -> Kept
+        ensures { (columns : ColumnSheet) → Keeps columns result }
+    {
+        Kept {
+            rule: KeptLine::new(memory),
+            row: match memory {
+                Some(alloc) => Some(LaidRow::new(alloc)),
+                None => None,
+            },
+        }
     }
 }

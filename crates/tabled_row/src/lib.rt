@@ -1,7 +1,7 @@
 //! A row of cells and the horizontal lines between rows, written piece by piece to a sink.
 //!
-//! No line of a row is built as a text, and printing takes no memory unless the caller lends an allocator for the horizontal line
-//! that is kept: each piece goes out as it comes. A row is anything that answers the blocks of its cells, so the rows of a
+//! Printing takes no memory unless the caller lends an allocator for what is kept, a horizontal line and a blank row: else no
+//! line of a row is built, and each piece goes out as it comes. A row is anything that answers the blocks of its cells, so the rows of a
 //! table in memory and those of a stream print by the same calls.
 #![tactic(auto)]
 
@@ -12,6 +12,7 @@ mod edges;
 mod flush;
 mod io_sink;
 mod kept;
+mod laid;
 pub mod laws;
 mod lines;
 mod marks;

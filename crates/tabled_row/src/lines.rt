@@ -8,7 +8,7 @@ ghost use Rattle.tabled_row.specs.Row.{ColumnSheet, RowSheet, row_line, row_line
 ghost use Rattle.tabled_row.specs.Sent.{Sent, Writes};
 
 use crate::columns::Columns;
-use crate::kept::{KeptLine, put_kept_line};
+use crate::kept::{Kept, put_kept_line};
 use crate::marks::Marks;
 use crate::pieces::put_fill;
 use crate::row::{Row, put_row_line};
@@ -103,8 +103,7 @@ pub struct Lines<C: Columns> {
     /// The columns.
     pub columns: C,
     begun: bool,
-    /// The horizontal line that was laid out last.
-    kept: KeptLine,
+    kept: Kept,
 }
 
 impl<C: Columns> Lines<C> {
@@ -117,7 +116,7 @@ impl<C: Columns> Lines<C> {
         Lines {
             columns,
             begun: false,
-            kept: KeptLine::new(memory),
+            kept: Kept::new(memory),
         }
     }
 
@@ -152,7 +151,7 @@ impl<C: Columns> Lines<C> {
         match rule {
             Some(line) => {
                 put_break(sink, &mut self.begun)?;
-                put_kept_line(sink, &self.columns, &line, &mut self.kept)
+                put_kept_line(sink, &self.columns, &line, &mut self.kept.rule)
             }
             None => Ok(()),
         }
@@ -173,6 +172,13 @@ impl<C: Columns> Lines<C> {
         ensures kept { Keeps (C.sheet self.new.columns) self.new.kept }
         ensures clean { AreClean marks.new }
     {
+        if let Some(laid) = &mut self.kept.row
+            && laid.lay(&self.columns, row)
+            && let Some(line) = laid.text()
+        {
+            put_break(sink, &mut self.begun)?;
+            return sink.write_text(line);
+        }
         marks.forget();
         put_row_lines(sink, &mut self.begun, row, marks)
     }

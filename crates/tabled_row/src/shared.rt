@@ -94,6 +94,13 @@ impl SharedStyle {
         }
     }
 
+    /// The style, if texts stand at the left between spaces under it.
+    pub(crate) fn flush(&self) -> Option<&CellStyle>
+        ensures { IfSome result (λ style. (style.now ≡ self.now.style) × IsFlush style.now) }
+    {
+        if self.whole { Some(&self.style) } else { None }
+    }
+
     /// What stands between texts, where it is kept: it is for texts that stand at the left between spaces.
     pub(crate) fn gap(&self) -> Option<Gap<'_>>
         ensures { IfSome result (λ gap. (gap.style.now ≡ self.now.style) × (gap.bar ≡ self.now.bar)) }
