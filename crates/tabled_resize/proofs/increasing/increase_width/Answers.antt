@@ -1,4 +1,5 @@
-use Rattle.std.proofs.Common.{arith, inr, refl}
+use Rattle.std.proofs.Common.{◌≡◌, ◌∙◌, MatchOption, Some, arith, inr, refl, sym, subst, ℕ, Option}
+use Rattle.tabled_size.specs.Totals.{filled_width}
 use Rattle.tabled_resize.proofs.GrowingTables.{room-for, wide-already, widened, widths-pass, widths-within}
 use Rattle.tabled_resize.proofs.increasing.increase_width.Goals as goal
 
