@@ -16,6 +16,20 @@ use tabled_config::{CellStyle, Frame, HorizontalLine, VerticalLine};
 /// After so many rows that could not be laid no more are tried.
 const TRIES: usize = 16;
 
+/// The most columns that a blank row takes, but for its vertical lines. A longer one isn't worth its memory, of which there may
+/// not be enough for a row of a table that is as wide as a number can be.
+const MOST: usize = 65_536;
+
+/// Whether the columns and the margin at their sides are few enough for a blank row. This says what is kept, not what is printed.
+fn is_short<C: Columns>(columns: &C) -> bool {
+    let margin = columns.frame().margin;
+    let mut taken = margin.left.size.saturating_add(margin.right.size);
+    for column in 0..columns.count_columns() {
+        taken = taken.saturating_add(columns.width(column));
+    }
+    taken <= MOST
+}
+
 /// The characters of a blank row: those of a horizontal line of spaces, with the vertical lines where it meets them.
 fn blank_line(frame: &Frame) -> HorizontalLine
     ensures { result ≡ blank_line frame.now }
@@ -157,7 +171,7 @@ impl LaidRow {
         }
     }
 
-    /// Lays the blank row out, unless it is there. Answers whether it is there now.
+    /// Lays the blank row out, unless it is there. Answers whether it is there now; no more is tried where it would be too long.
     fn lay_out<C: Columns>(&mut self, columns: &C) -> bool
         requires known { IsBlank (C.sheet columns.now) self.old }
         ensures known { IsBlank (C.sheet columns.now) self.new }
@@ -165,6 +179,10 @@ impl LaidRow {
     {
         if self.whole {
             return true;
+        }
+        if !is_short(columns) {
+            self.tries = 0;
+            return false;
         }
         self.blank.clear();
         if let Ok(start) = put_blank(&mut self.blank, columns) {
