@@ -19,3 +19,5 @@ mod words;
 pub use fault::Fault;
 pub use judging::told;
 pub use reading::{list_of, text_of};
+pub use settings::set;
+pub use words::Words;

@@ -1,0 +1,190 @@
+//! Calls that make rows and tables, copy and measure them.
+
+use crate::found::{Found, refused_if, whole_if};
+use crate::printers::{PAIRS, PICTURE};
+use std::alloc::Global;
+use tabled::builder::Builder;
+use tabled::tables::{ExtendedTable, PoolTable};
+use tabled::{Table, TableError};
+
+/// The calls, by their names.
+pub const CALLS: &[&str] = &[
+    "push_record",
+    "push_record longer",
+    "new",
+    "with_capacity",
+    "nohead",
+    "kv",
+    "builder",
+    "from_iter",
+    "total_width",
+    "total_height",
+    "clone",
+    "records new",
+    "records from_rows",
+    "records truncate",
+    "boxes new",
+    "boxes clone",
+];
+
+// What a call answers that has no state: the text that it made, or a refusal.
+fn made(answer: Result<String, TableError>, wanted: &str) -> Found {
+    match answer {
+        Ok(text) => whole_if(text.as_str() == wanted),
+        Err(error) => refused_if(error == TableError::Memory),
+    }
+}
+
+fn printed(table: Result<Table, TableError>) -> Result<String, TableError> {
+    table?.to_string()
+}
+
+// A builder is as it was where a record was refused.
+fn push(alloc: Global, record: &[&'static str], wanted: &str) -> Result<Found, TableError> {
+    let mut builder = Builder::new(alloc);
+    builder.push_record(["a", "bb"])?;
+    let answer = builder.push_record(record.iter().copied()).map(|_| ());
+    let picture = Table::from(builder).to_string()?;
+    match answer {
+        Ok(()) => Ok(whole_if(picture.as_str() == wanted)),
+        Err(error) => Ok(refused_if(error == TableError::Memory && picture.as_str() == ONE_ROW)),
+    }
+}
+
+const ONE_ROW: &str = "\
++---+----+
+| a | bb |
++---+----+";
+
+const LONGER: &str = "\
++---+----+---+
+| a | bb |   |
++---+----+---+
+| c | d  | e |
++---+----+---+";
+
+const HEADED: &str = "\
++------+------+
+| &str | &str |
++------+------+
+| a    | bb   |
++------+------+
+| ccc  |      |
++------+------+";
+
+const NAMED: &str = "\
++------+-----+
+| &str | a   |
++------+-----+
+| &str | bb  |
++------+-----+
+| &str | ccc |
++------+-----+
+| &str |     |
++------+-----+";
+
+const TUPLES: [(&str, &str); 2] = [("a", "bb"), ("ccc", "")];
+
+fn table_made(alloc: Global, name: &str) -> Found {
+    match name {
+        "new" => made(printed(Table::new(alloc, TUPLES)), HEADED),
+        "with_capacity" => made(printed(Table::with_capacity(alloc, TUPLES, 3)), HEADED),
+        "nohead" => made(printed(Table::nohead(alloc, TUPLES)), PICTURE),
+        "kv" => made(printed(Table::kv(alloc, TUPLES)), NAMED),
+        "builder" => made(
+            printed(Table::builder(alloc, TUPLES).map(Table::from)),
+            HEADED,
+        ),
+        _ => made(printed(Table::from_iter(alloc, PAIRS)), PICTURE),
+    }
+}
+
+// The new table's total, or the refusal of it; the table is left as it was.
+fn measured(alloc: Global, name: &str) -> Result<Found, TableError> {
+    let table = Table::from_iter(alloc, PAIRS)?;
+    let (answer, wanted) = match name {
+        "total_width" => (table.total_width(), 12),
+        _ => (table.total_height(), 5),
+    };
+    let is_kept = table.get_dimension().is_empty() && table.to_string()?.as_str() == PICTURE;
+    Ok(match answer {
+        Ok(number) => whole_if(is_kept && number == wanted),
+        Err(error) => refused_if(is_kept && error == TableError::Memory),
+    })
+}
+
+fn copied(alloc: Global) -> Result<Found, TableError> {
+    let table = Table::from_iter(alloc, PAIRS)?;
+    match table.clone() {
+        Ok(copy) => Ok(whole_if(copy == table)),
+        Err(error) => Ok(refused_if(
+            error == TableError::Memory && table.to_string()?.as_str() == PICTURE,
+        )),
+    }
+}
+
+const ESCAPED: &str = "\
+-[ RECORD 0 ]-
+&str | a\\n
+-[ RECORD 1 ]-
+&str | b";
+
+const WIDE: [[&str; 2]; 2] = [["a", "bb"], ["cccccccccccc", "dddddddddddd"]];
+
+const UNCUT: &str = "-[ RECORD 0 ]----\na  | cccccccccccc\nbb | dddddddddddd";
+
+const FIRST_CUT: &str = "-[ RECORD 0 ]----\na  | ccccc..\nbb | dddddddddddd";
+
+const BOTH_CUT: &str = "-[ RECORD 0 ]-\na  | ccccc..\nbb | ddddd..";
+
+// Whether a text is the wide record with none of its values cut, the first one, or both.
+fn is_left(text: &str) -> bool {
+    text == UNCUT || text == FIRST_CUT || text == BOTH_CUT
+}
+
+// A refused truncation leaves the texts before the refused one changed, and the others as they were.
+fn truncated(alloc: Global) -> Result<Found, TableError> {
+    let mut table = ExtendedTable::from_rows(alloc, WIDE)?;
+    let answer = table.truncate(14, "..");
+    let text = table.to_string()?;
+    Ok(match answer {
+        Ok(done) => whole_if(done && text.as_str() == BOTH_CUT),
+        Err(error) => refused_if(error == TableError::Memory && is_left(text.as_str())),
+    })
+}
+
+fn shown(table: Result<ExtendedTable, TableError>) -> Result<String, TableError> {
+    table?.to_string()
+}
+
+const BOXES: &str = "\
++---+----+
+| a | bb |
++---+-+--+
+| ccc |  |
++-----+--+";
+
+fn drawn(table: Result<PoolTable, TableError>) -> Result<String, TableError> {
+    table?.to_string()
+}
+
+fn drawn_copy(alloc: Global) -> Result<Found, TableError> {
+    let table = PoolTable::new(alloc, PAIRS)?;
+    Ok(made(drawn(table.clone()), BOXES))
+}
+
+/// What became of a call.
+pub fn called(alloc: Global, name: &str) -> Result<Found, TableError> {
+    match name {
+        "push_record" => push(alloc, &["ccc"], PICTURE),
+        "push_record longer" => push(alloc, &["c", "d", "e"], LONGER),
+        "total_width" | "total_height" => measured(alloc, name),
+        "clone" => copied(alloc),
+        "records new" => Ok(made(shown(ExtendedTable::new(alloc, ["a\n", "b"])), ESCAPED)),
+        "records from_rows" => Ok(made(shown(ExtendedTable::from_rows(alloc, WIDE)), UNCUT)),
+        "records truncate" => truncated(alloc),
+        "boxes new" => Ok(made(drawn(PoolTable::new(alloc, PAIRS)), BOXES)),
+        "boxes clone" => drawn_copy(alloc),
+        _ => Ok(table_made(alloc, name)),
+    }
+}

@@ -1,0 +1,172 @@
+//! Printers, and their pictures of the cells a and bb, and below them ccc and an empty one.
+
+use std::alloc::Global;
+use tabled::grid::config::AlignmentHorizontal;
+use tabled::grid::dimension::ConstSize;
+use tabled::tables::{CompactTable, ExtendedTable, IterTable, PoolTable};
+use tabled::{Order, Plan, Table, TableError, TextSink, render};
+
+/// The cells.
+pub const PAIRS: [[&str; 2]; 2] = [["a", "bb"], ["ccc", ""]];
+
+const INPUT: &str = "a\tbb\nccc\n";
+
+/// How the cells are printed.
+#[derive(Clone, Copy, Debug)]
+pub enum Printer {
+    /// By a new table.
+    Table,
+    /// By a new table with a width of its own.
+    Look,
+    /// By a stream of which all rows are read ahead.
+    Stream,
+    /// By a stream of which one row is read ahead.
+    Rows,
+    /// By a compact table.
+    Compact,
+    /// As boxes.
+    Boxes,
+    /// As records.
+    Records,
+    /// From a text, by the plan of the new table.
+    Buffered,
+    /// By that of a stream.
+    Streamed,
+    /// Wrapped to nine columns.
+    Wrapped,
+    /// Cut to nine columns.
+    Shortened,
+}
+
+/// All of them.
+pub const PRINTERS: &[Printer] = &[
+    Printer::Table,
+    Printer::Look,
+    Printer::Stream,
+    Printer::Rows,
+    Printer::Compact,
+    Printer::Boxes,
+    Printer::Records,
+    Printer::Buffered,
+    Printer::Streamed,
+    Printer::Wrapped,
+    Printer::Shortened,
+];
+
+/// The new table.
+pub const PICTURE: &str = "\
++-----+----+
+| a   | bb |
++-----+----+
+| ccc |    |
++-----+----+";
+
+const LOOK: &str = "\
+**+-----+----+**
+**|  a  | bb |**
+**+-----+----+**
+**| ccc |    |**
+**+-----+----+**";
+
+const ROWS: &str = "\
++---+----+
+| a | bb |
++---+----+
+| c |    |
++---+----+";
+
+const COMPACT: &str = "\
++-----+----+
+| a   | bb |
+|-----+----|
+| ccc |    |
++-----+----+";
+
+const BOXES: &str = "\
++---+----+
+| a | bb |
++---+-+--+
+| ccc |  |
++-----+--+";
+
+const RECORDS: &str = "-[ RECORD 0 ]-\na  | ccc\nbb | ";
+
+const WRAPPED: &str = "\
++---+---+
+| a | b |
+|   | b |
++---+---+
+| c |   |
+| c |   |
+| c |   |
++---+---+";
+
+const SHORTENED: &str = "\
++----+--+
+| a  |  |
++----+--+
+| cc |  |
++----+--+";
+
+/// What is to be printed.
+pub fn picture(printer: Printer) -> &'static str {
+    match printer {
+        Printer::Table | Printer::Stream | Printer::Buffered | Printer::Streamed => PICTURE,
+        Printer::Look => LOOK,
+        Printer::Rows => ROWS,
+        Printer::Compact => COMPACT,
+        Printer::Boxes => BOXES,
+        Printer::Records => RECORDS,
+        Printer::Wrapped => WRAPPED,
+        Printer::Shortened => SHORTENED,
+    }
+}
+
+fn put_look<S: TextSink>(alloc: Global, sink: &mut S) -> Result<(), TableError> {
+    let table = Table::from_iter(alloc, PAIRS)?;
+    table.print_with(sink, Some(16), Some(AlignmentHorizontal::Center), '*')
+}
+
+fn put_rows<S: TextSink>(alloc: Global, sink: &mut S) -> Result<(), TableError> {
+    let mut table = IterTable::new(PAIRS);
+    table.sniff(1);
+    table.fmt(alloc, sink)
+}
+
+fn put_compact<S: TextSink>(sink: &mut S) -> Result<(), TableError> {
+    CompactTable::new(PAIRS)
+        .columns(2)
+        .width(ConstSize::List([5, 4]))
+        .fmt(sink)
+}
+
+fn put_plan<S: TextSink>(alloc: Global, printer: Printer, sink: &mut S) -> Result<(), TableError> {
+    let plan = match printer {
+        Printer::Streamed => Plan::Streamed,
+        Printer::Wrapped => Plan::Wrapped {
+            target: 9,
+            words: false,
+            order: Order::Round,
+        },
+        Printer::Shortened => Plan::Shortened {
+            target: 9,
+            order: Order::Rightmost,
+        },
+        _ => Plan::Buffered,
+    };
+    render(alloc, INPUT, plan, sink)
+}
+
+/// Prints the cells.
+pub fn put<S: TextSink>(alloc: Global, printer: Printer, sink: &mut S) -> Result<(), TableError> {
+    match printer {
+        Printer::Table => Table::from_iter(alloc, PAIRS)?.write_to(sink),
+        Printer::Look => put_look(alloc, sink),
+        Printer::Stream => IterTable::new(PAIRS).fmt(alloc, sink),
+        Printer::Rows => put_rows(alloc, sink),
+        Printer::Compact => put_compact(sink),
+        Printer::Boxes => PoolTable::new(alloc, PAIRS)?.write_to(sink),
+        Printer::Records => ExtendedTable::from_rows(alloc, PAIRS)?.write_to(sink),
+        _ => put_plan(alloc, printer, sink),
+    }
+}

@@ -1,0 +1,62 @@
+//! Calls that take no memory: they succeed while every growth is refused.
+
+use crate::found::{Found, whole_if};
+use crate::printers::{PAIRS, PICTURE};
+use std::alloc::Global;
+use std::io;
+use tabled::builder::Builder;
+use tabled::grid::records::ExactRecords;
+use tabled::grid::util::string::{count_lines, cut_str, is_fullest, is_plain, text_width};
+use tabled::settings::width::Truncate;
+use tabled::{IoSink, Table, TableError};
+
+/// The calls, by what they are about.
+pub const SPARING: &[&str] = &["builders", "stored sizes", "texts"];
+
+// Builders, tables and records that become one another.
+fn turned(alloc: Global) -> Result<Found, TableError> {
+    let mut builder = Builder::new(alloc);
+    builder.push_record(PAIRS[0])?.push_record(PAIRS[1])?;
+    let records = Builder::from(Table::from(builder)).build();
+    let counts = (records.count_rows(), records.count_columns());
+    Ok(whole_if(counts == (2, 2)))
+}
+
+// A table with stored sizes, printed into a room.
+fn stored(alloc: Global) -> Result<Found, TableError> {
+    let mut table = Table::from_iter(alloc, PAIRS)?;
+    let (widths, heights) = (vec![in alloc; 5, 4]?, vec![in alloc; 1, 1]?);
+    table.get_dimension_mut().set_widths(widths);
+    table.get_dimension_mut().set_heights(heights);
+    let totals = (table.total_width(), table.total_height());
+    let mut room = io::Cursor::new([0u8; 128]);
+    let answer = table.write_to(&mut IoSink::new(&mut room));
+    let is_whole = room.get_ref().starts_with(PICTURE.as_bytes());
+    Ok(whole_if(totals == (Ok(12), Ok(5)) && answer == Ok(()) && is_whole))
+}
+
+// Whether texts are cut as they have to be, where no character is filled in.
+fn is_cut(alloc: Global) -> Result<bool, TableError> {
+    let cut = cut_str(alloc, "123\n45", 3)?;
+    let truncated = Truncate::truncate(alloc, "123\n456789", 4)?;
+    Ok(cut.as_str() == "123" && truncated.as_str() == "123\n4567")
+}
+
+// Texts that are cut, measured and tested.
+fn cut(alloc: Global) -> Found {
+    let measures = (text_width("ab\nc"), count_lines("ab\nc"));
+    let is_tested = is_plain("ab") && is_fullest("111 234 1", "111 \n234 \n1", 4, true);
+    match is_cut(alloc) {
+        Ok(is_right) => whole_if(is_right && is_tested && measures == (2, 2)),
+        Err(_) => Found::Refused,
+    }
+}
+
+/// What became of calls that take no memory.
+pub fn spared(alloc: Global, name: &str) -> Result<Found, TableError> {
+    match name {
+        "builders" => turned(alloc),
+        "stored sizes" => stored(alloc),
+        _ => Ok(cut(alloc)),
+    }
+}
