@@ -1,5 +1,5 @@
 //! Sizes that are arrays or single values.
-ghost use Rattle.std.specs.Prelude.{◌≡◌, ◌⊎◌, IfErr, OnErr, OnOk, ◌<◌, Some, is_some, length, true};
+ghost use Rattle.std.specs.Prelude.{◌≡◌, ◌⊎◌, IfErr, OnErr, OnOk, ◌<◌, ◌≤◌, ℕ, Some, is_some, length, true};
 ghost use Rattle.tabled_size.specs.declared.const_dimension.ConstSize.TheVariants.{List as Listed, Value};
 ghost use Rattle.tabled_size.specs.ConstSizes.{size_at};
 ghost use Rattle.tabled_priority.specs.Permitted.{at};
@@ -59,6 +59,16 @@ impl<const N: usize> ConstSize<N> {
             ConstSize::Value(all) => *all,
         }
     }
+
+    /// The place from which on all have the same size, or none.
+    fn alike_from(&self) -> usize
+        ensures { (place : ℕ) → result ≤ place → size_at self.now place ≡ size_at self.now result }
+    {
+        match self {
+            ConstSize::List(list) => list.len(),
+            ConstSize::Value(_) => 0,
+        }
+    }
 }
 
 /// Widths and heights that stay.
@@ -106,6 +116,10 @@ impl<const COLUMNS: usize, const ROWS: usize> Dimension for ConstDimension<COLUM
 
     fn get_height(&self, row: usize) -> usize {
         self.height.get(row)
+    }
+
+    fn alike_from(&self) -> Option<usize> {
+        Some(self.width.alike_from())
     }
 }
 

@@ -1,5 +1,5 @@
 //! What the sizes of a table are answered by.
-ghost use Rattle.std.specs.Prelude.{◌≡◌, ◌⊎◌, ℕ, Option, Some, IfErr, OnOk, OnErr, is_some, true};
+ghost use Rattle.std.specs.Prelude.{◌≡◌, ◌≤◌, ◌⊎◌, ℕ, Option, Some, IfErr, IfSome, OnOk, OnErr, is_some, true};
 ghost use Rattle.tabled_base.specs.declared.error.TableError.TheVariants.{Memory, Range};
 
 use tabled_base::TableError;
@@ -30,6 +30,14 @@ pub trait Dimension {
     fn get_height(&self, row: usize) -> usize
         requires { is_some (height_at self.now row) ≡ true }
         ensures { Some result ≡ height_at self.now row };
+
+    /// A column from which on all are as wide as it, or lack a width as it does, where one is known. So many columns are counted
+    /// at once.
+    fn alike_from(&self) -> Option<usize>
+        ensures { IfSome result (λ from. (column : ℕ) → from ≤ column → width_at self.now column ≡ width_at self.now from) }
+    {
+        None
+    }
 }
 
 /// A dimension that can measure records `R` under a configuration `C`, where it needs to.

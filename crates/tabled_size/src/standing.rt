@@ -1,5 +1,5 @@
 //! The totals of a table with the sizes that stand: those that are stored, and else estimated ones.
-ghost use Rattle.std.specs.Prelude.{◌≡◌, ◌⊎◌, ◌<◌, ◌≤◌, IfErr, None, Ok, OnOk, false, length, true};
+ghost use Rattle.std.specs.Prelude.{◌≡◌, ◌⊎◌, ◌<◌, ◌≤◌, ℕ, IfErr, None, Ok, OnOk, false, length, true};
 ghost use Rattle.tabled_base.specs.Cells.{IsRectangular, columns};
 ghost use Rattle.tabled_base.specs.declared.error.TableError.TheVariants.{Memory, Range, ShortHeights, ShortWidths};
 ghost use Rattle.tabled_size.specs.Estimates.{estimated_heights, estimated_widths};
@@ -26,13 +26,25 @@ pub fn is_empty<R: ExactRecords>(records: &R) -> bool
     records.count_rows() == 0 || columns == 0
 }
 
+/// How many of so many columns are asked for their widths: each other one is as one of these.
+fn count_asked<D: Dimension>(sizes: &D, columns: usize) -> usize
+    ensures within { result ≤ columns }
+    ensures rest { (column : ℕ) → result ≤ column → column < columns
+        → (asked : ℕ) × (asked < result) × (D.width_at sizes.now column ≡ D.width_at sizes.now asked) }
+{
+    match sizes.alike_from() {
+        Some(from) if from < columns => from + 1,
+        _ => columns,
+    }
+}
+
 /// Whether the widths of so many columns are there. Refused with `ShortWidths` where one isn't.
 pub fn check_widths<D: Dimension>(sizes: &D, columns: usize) -> Result<(), TableError>
     ensures ok { OnOk result (columns ≤ length (reached (D.width_at sizes.now) columns)) }
     ensures err { IfErr result (λ e. (e ≡ ShortWidths)
         × (length (reached (D.width_at sizes.now) columns) < columns)) }
 {
-    'columns: for column in 0..columns {
+    'columns: for column in 0..count_asked(sizes, columns) {
         if !sizes.has_width(column) {
             return Err(TableError::ShortWidths);
         }

@@ -1,5 +1,5 @@
 //! Sizes that are given once.
-ghost use Rattle.std.specs.Prelude.{◌≡◌, ◌⊎◌, IfErr, IfOk, OnErr, OnOk, Some, is_some, true};
+ghost use Rattle.std.specs.Prelude.{◌≡◌, ◌≤◌, ◌⊎◌, ℕ, IfErr, IfOk, OnErr, OnOk, Some, is_some, true};
 ghost use Rattle.tabled_base.specs.declared.error.TableError.TheVariants.{Memory, Range};
 ghost use Rattle.tabled_size.specs.Values.{value_at, IsSameValue};
 
@@ -39,6 +39,17 @@ impl DimensionValue {
             DimensionValue::Exact(_) => true,
             DimensionValue::List(sizes) => col < sizes.len(),
             DimensionValue::Partial(_, _) => true,
+        }
+    }
+
+    /// The column or row from which on all have the same size, or none.
+    fn alike_from(&self) -> usize
+        ensures { (place : ℕ) → result ≤ place → value_at self.now place ≡ value_at self.now result }
+    {
+        match self {
+            DimensionValue::Exact(_) => 0,
+            DimensionValue::List(sizes) => sizes.len(),
+            DimensionValue::Partial(sizes, _) => sizes.len(),
         }
     }
 
@@ -113,6 +124,10 @@ impl Dimension for StaticDimension {
 
     fn get_height(&self, row: usize) -> usize {
         self.height.get(row)
+    }
+
+    fn alike_from(&self) -> Option<usize> {
+        Some(self.width.alike_from())
     }
 }
 

@@ -36,6 +36,10 @@ impl Dimension for ZeroDimension {
     fn get_height(&self, _row: usize) -> usize {
         0
     }
+
+    fn alike_from(&self) -> Option<usize> {
+        Some(0)
+    }
 }
 
 impl<R, C> Estimate<R, C> for ZeroDimension {
