@@ -1,12 +1,20 @@
 -- The columns of the vertical lines between columns.
-use Rattle.std.proofs.Common.{◌≡◌, ℕ, zero, suc, ◌+◌, ◌-◌, ◌*◌, ◌==◌, Bool, false, cond, ap, arith}
+use Rattle.std.proofs.Common.{◌≡◌, ℕ, zero, suc, ◌+◌, ◌-◌, ◌*◌, ◌==◌, Bool, false, cond, unwrap_or, [], ◌++◌, refl, ap, ◌∙◌, arith}
 use Rattle.std.proofs.lemmas.Bool.Decides.{nat_tests}
 use Rattle.tabled_border.specs.declared.frame.Frame.{Frame}
 use Rattle.tabled_border.specs.Frame.{has_bar}
+use Rattle.tabled_border.specs.declared.borders.HorizontalLine.{HorizontalLine}
 use Rattle.tabled_priority.specs.Sums.{one_if, sum_below}
+use Rattle.tabled_row.specs.Fill.{fill}
+use Rattle.tabled_row.specs.Row.{ColumnSheet, piece, rule_piece}
 
 pub later-bar : (n : ℕ) (b : Bool) → cond (suc n == 0) false b ≡ b
 later-bar n b = grind (arith, nat_tests)
+
+-- no vertical line stands before a column where there is none between columns
+pub no-bar : (r : Frame) (k : ℕ) → r.inner.there ≡ false → has_bar r k ≡ false
+no-bar r zero h = refl
+no-bar r (suc k) h = later-bar k r.inner.there ∙ h
 
 bar-step : (s u a b n x : ℕ) → s ≡ u + n * x → a ≡ x → s + (a + b) ≡ u + b + (n + 1) * x
 bar-step s u a b n x h e = omega arith
@@ -22,3 +30,10 @@ bar-sum r w (suc (suc n)) =
     (bar-step _ _ (one_if (has_bar r (suc n))) (w (suc n)) n x
     (rw f at (bar-sum r w (suc n)))
     (ap one_if (later-bar n r.inner.there)))
+
+-- a horizontal line takes nothing at a column of no width behind no vertical line
+pub no-piece : (columns : ColumnSheet) (line : HorizontalLine) (k : ℕ) → columns.width k ≡ 0 → has_bar columns.frame k ≡ false → rule_piece columns line k ≡ []
+unfolding rule_piece
+no-piece columns line k w b =
+    ap (λ there. piece there (unwrap_or line.intersection 32) ++ fill (unwrap_or line.main 32) (columns.width k)) b
+    ∙ ap (fill (unwrap_or line.main 32)) w

@@ -1,5 +1,5 @@
 -- Lists that are made index by index, up to an index and from there on.
-use Rattle.std.proofs.Common.{◌≡◌, ℕ, zero, suc, ◌+◌, ◌-◌, ◌<◌, List, [], ◌∷◌, ◌++◌, map, replicate, refl, sym, ◌∙◌, ap, append-nil, zero-add, arith}
+use Rattle.std.proofs.Common.{◌≡◌, ℕ, zero, suc, ◌+◌, ◌-◌, ◌<◌, ◌≤◌, List, [], ◌∷◌, ◌++◌, map, replicate, refl, sym, ◌∙◌, ap, append-nil, zero-add, arith}
 use Rattle.std.specs.List.{flat_map, range_with_len}
 use Rattle.std.proofs.lemmas.List.Concat.{flat_map-append}
 
@@ -27,6 +27,22 @@ each-more f n =
 
 pub each-rest : {A : Type 0} (f : ℕ → List A) (i n : ℕ) → i < n → flat_map f (range_with_len 0 n) ≡ flat_map f (range_with_len 0 i) ++ (f i ++ flat_map f (range_with_len (i + 1) (n - i - 1)))
 each-rest f i n h = ap (flat_map f) (range-at i n h) ∙ flat_map-append f (range_with_len 0 i) (i ∷ range_with_len (i + 1) (n - i - 1))
+
+none-from : {A : Type 0} (f : ℕ → List A) (a n : ℕ) → ((k : ℕ) → a ≤ k → k < a + n → f k ≡ []) → flat_map f (range_with_len a n) ≡ []
+none-from f a zero h = refl
+none-from f a (suc n) h =
+    ap (λ u. u ++ flat_map f (range_with_len (a + 1) n)) (h a (omega arith) (omega arith))
+    ∙ none-from f (a + 1) n (λ k l m. h k (omega arith) (omega arith))
+
+-- the first i of n indices, where nothing stands at the others
+pub each-first : {A : Type 0} (f : ℕ → List A) (i n : ℕ) → i ≤ n → ((k : ℕ) → i ≤ k → k < n → f k ≡ [])
+    → flat_map f (range_with_len 0 n) ≡ flat_map f (range_with_len 0 i)
+each-first f i n h none =
+    let e : n ≡ i + (n - i) = omega arith in
+    ap (λ m. flat_map f (range_with_len 0 m)) e ∙ ap (flat_map f) (range-append 0 i (n - i))
+    ∙ flat_map-append f (range_with_len 0 i) (range_with_len (0 + i) (n - i))
+    ∙ ap (λ u. flat_map f (range_with_len 0 i) ++ u) (none-from f (0 + i) (n - i) (λ k l m. none k (omega arith) (omega arith)))
+    ∙ append-nil (flat_map f (range_with_len 0 i))
 
 map-append : {A B : Type 0} (f : A → B) (xs ys : List A) → map f (xs ++ ys) ≡ map f xs ++ map f ys
 map-append f [] ys = refl

@@ -1,6 +1,7 @@
 //! The columns of a table, and horizontal lines over them.
-ghost use Rattle.std.specs.Prelude.{◌≡◌, ◌<◌};
+ghost use Rattle.std.specs.Prelude.{◌≡◌, ◌<◌, ◌≤◌, ℕ, false};
 ghost use Rattle.std.specs.List.{flat_map, range_with_len};
+ghost use Rattle.tabled_border.specs.Frame.{has_bar};
 ghost use Rattle.tabled_row.specs.Row.{ColumnSheet, rule_line, rule_piece};
 ghost use Rattle.tabled_row.specs.Sent.{Sent, Writes};
 
@@ -27,6 +28,29 @@ pub trait Columns {
     /// What stands around and between the columns.
     fn frame(&self) -> &Frame
         ensures { result.now ≡ (sheet self.now).frame };
+
+    /// A column from which on all are as wide as it, or else the number of columns. So many columns are counted at once.
+    fn alike_from(&self) -> usize
+        ensures { (column : ℕ) → result ≤ column → column < (sheet self.now).count
+            → (sheet self.now).width column ≡ (sheet self.now).width result }
+    {
+        self.count_columns()
+    }
+}
+
+/// How many first columns are drawn: each one behind them has no width, and no vertical line stands before it.
+pub fn count_drawn<C: Columns>(columns: &C) -> usize
+    ensures within { result ≤ (C.sheet columns.now).count }
+    ensures rest { (column : ℕ) → result ≤ column → column < (C.sheet columns.now).count
+        → ((C.sheet columns.now).width column ≡ 0) × (has_bar (C.sheet columns.now).frame column ≡ false) }
+{
+    let count = columns.count_columns();
+    let from = columns.alike_from();
+    if from < count && !columns.frame().inner.there && columns.width(from) == 0 {
+        from
+    } else {
+        count
+    }
 }
 
 fn put_rule_piece<C: Columns, S: TextSink>(
@@ -51,7 +75,7 @@ pub(crate) fn put_rule_pieces<C: Columns, S: TextSink>(
     ensures { Writes (S.sent sink.old) result (S.sent sink.new)
         (flat_map (rule_piece (C.sheet columns.now) line.now) (range_with_len 0 (C.sheet columns.now).count)) }
 {
-    'pieces: for column in 0..columns.count_columns() {
+    'pieces: for column in 0..count_drawn(columns) {
         put_rule_piece(sink, columns, line, column)?;
     }
     Ok(())

@@ -20,8 +20,11 @@ const TRIES: usize = 16;
 /// not be enough for a row of a table that is as wide as a number can be.
 const MOST: usize = 65_536;
 
-/// Whether the columns and the margin at their sides are few enough for a blank row. This says what is kept, not what is printed.
+/// Whether the columns are few enough for a blank row, and what they and the margin at their sides take. This says what is kept, not what is printed.
 fn is_short<C: Columns>(columns: &C) -> bool {
+    if columns.count_columns() > MOST {
+        return false;
+    }
     let margin = columns.frame().margin;
     let mut taken = margin.left.size.saturating_add(margin.right.size);
     for column in 0..columns.count_columns() {

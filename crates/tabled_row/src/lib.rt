@@ -24,7 +24,7 @@ mod shared;
 mod text_sink;
 
 pub use block::CellBlock;
-pub use columns::{Columns, put_rule_line};
+pub use columns::{Columns, count_drawn, put_rule_line};
 pub use content::Content;
 pub use edges::{put_left, put_piece, put_right};
 pub use io_sink::IoSink;

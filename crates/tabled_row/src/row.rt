@@ -1,5 +1,5 @@
 //! A row of cells, a line at a time.
-ghost use Rattle.std.specs.Prelude.{◌≡◌, ◌<◌, ℕ, IfSome, []};
+ghost use Rattle.std.specs.Prelude.{◌≡◌, ◌<◌, ◌≤◌, ℕ, IfSome, []};
 ghost use Rattle.std.specs.List.{flat_map, range_with_len, slice_index_or};
 ghost use Rattle.tabled_row.specs.Marks.{AreKept};
 ghost use Rattle.tabled_row.specs.Row.{RowSheet, cell_block, cell_piece, row_line};
@@ -54,6 +54,12 @@ pub trait Row<'a> {
         ensures width { result.width ≡ (sheet self.now).columns.width column }
         ensures height { result.height ≡ (sheet self.now).height }
         ensures text { result.content.text.now ≡ (sheet self.now).text column };
+
+    /// How many first cells are drawn: nothing stands in a line at each one behind them. So many cells are passed over at once.
+    fn count_drawn(&self) -> usize
+        ensures within { result ≤ (sheet self.now).columns.count }
+        ensures rest { (column index : ℕ) → result ≤ column → column < (sheet self.now).columns.count
+            → cell_piece (sheet self.now) index column ≡ [] };
 }
 
 /// A line of the block of a cell. Where its text has some lines, the next one is marked.
@@ -113,13 +119,13 @@ fn put_each_cell<'a, R: Row<'a>, S: TextSink>(
         (flat_map (cell_piece (R.sheet row.now) index) (range_with_len 0 (R.sheet row.now).columns.count)) }
     ensures marked { AreKept (R.sheet row.now).text marks.new }
 {
-    'cells: for column in 0..row.count_columns() {
+    'cells: for column in 0..row.count_drawn() {
         put_cell(sink, row, marks, column, index)?;
     }
     Ok(())
 }
 
-/// The cells of a line. Where they are of one line and stand alike, they need no blocks.
+/// The cells of a line. Where they are all drawn, of one line, and stand alike, they need no blocks.
 fn put_cells<'a, R: Row<'a>, S: TextSink>(
     sink: &mut S,
     row: &R,
@@ -133,6 +139,7 @@ fn put_cells<'a, R: Row<'a>, S: TextSink>(
     ensures marked { AreKept (R.sheet row.now).text marks.new }
 {
     if row.height() == 1
+        && row.count_drawn() == row.count_columns()
         && let Some(shared) = row.shared_style()
         && let Some(gap) = shared.gap()
     {

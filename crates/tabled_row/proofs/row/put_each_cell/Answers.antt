@@ -1,13 +1,16 @@
-use Rattle.tabled_row.proofs.Sending.{stopped, further}
+use Rattle.std.proofs.Common.{◌≡◌, ◌<◌, ◌≤◌, arith, sym}
+use Rattle.tabled_row.proofs.Sending.{stopped, further, sends-along}
 use Rattle.tabled_row.specs.Row.{cell_piece}
-use Rattle.tabled_row.proofs.Each.{each-more, each-rest}
+use Rattle.tabled_row.proofs.Each.{each-first, each-more, each-rest}
 use Rattle.tabled_row.proofs.row.put_each_cell.Goals as goal
 
 pub returns-in_err-put_cell-clause-printed : goal.returns-in_err-put_cell-clause-printed
 returns-in_err-put_cell-clause-printed g c =
-    let within = rw c.count_columns-column-end.ensures at c.cells-test.true in
+    let row = g.R.Row.sheet c.args.row.now in
+    let drawn = c.count_drawn-column-end.ensures.within in
+    let within : c.cells.column < row.columns.count = omega (arith, drawn, c.cells-test.true) in
     stopped _ _ _ c.cells.invariant.printed c.in_err-put_cell.ensures.printed c.from_residual.ensures.1
-    (each-rest (cell_piece (g.R.Row.sheet c.args.row.now) c.args.index) _ _ within)
+    (each-rest (cell_piece row c.args.index) _ _ within)
 
 pub cells-preserved : goal.cells-preserved
 cells-preserved g c =
@@ -16,3 +19,13 @@ cells-preserved g c =
           (each-more (cell_piece (g.R.Row.sheet c.args.row.now) c.args.index) _);
       marked = c.in_ok-put_cell.ensures.marked;
     }
+
+pub returns-clause-printed : goal.returns-clause-printed
+returns-clause-printed g c =
+    let row = g.R.Row.sheet c.args.row.now in
+    let drawn = c.count_drawn-column-end.ensures in
+    let few = drawn.within in
+    let reached = c.cells.auto.column-end in
+    sends-along _ _ _ _ c.cells.invariant.printed
+    (sym (each-first (cell_piece row c.args.index) c.cells.column row.columns.count (omega (arith, few, reached))
+    (λ k l m. drawn.rest k c.args.index (omega (arith, l)) m)))
