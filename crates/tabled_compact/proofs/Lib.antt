@@ -1,3 +1,4 @@
+pub mod Alike
 pub mod Going
 pub mod Parts
 pub mod Printings

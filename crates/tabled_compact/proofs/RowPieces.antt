@@ -1,12 +1,17 @@
 -- The columns of a row, where its cells come one by one.
 use Rattle.std.proofs.Common.{◌≡◌, ℕ, zero, suc, ◌+◌, ◌-◌, ◌<◌, ◌≤◌, min, nat_lt, true, false, if◌then◌else◌, List, [], ◌∷◌, ◌++◌, length, map}
 use Rattle.std.proofs.Common.{slice_index_or, refl, sym, ◌∙◌, ap, append-nil, append_assoc, arith, ⊎_elim}
-use Rattle.std.specs.List.{flat_map, range_with_len}
+use Rattle.std.specs.List.{flat_map, range_with_len, slice_index}
 use Rattle.std.proofs.lemmas.Bool.{cases_lt}
 use Rattle.std.proofs.lemmas.Bool.Decides.{nat_tests}
 use Rattle.std.proofs.lemmas.List.{get_or_append_left, length-append, length-map, map-append}
 use Rattle.std.proofs.lemmas.List.Concat.{flat_map-append}
-use Rattle.tabled_compact.specs.CompactCells.{CompactSheet, columns_of, compact_piece, compact_row, pieces, row_end, row_start}
+use Rattle.tabled_compact.specs.CompactCells.{CompactSheet, columns_of, compact_cell, compact_piece, compact_row, pieces, row_end, row_start}
+use Rattle.tabled_config.specs.declared.alignment.AlignmentHorizontal.{AlignmentHorizontal}
+use Rattle.tabled_config.specs.declared.alignment.AlignmentHorizontal.TheVariants as horizontal
+use Rattle.tabled_border.specs.Frame.{has_bar}
+use Rattle.tabled_row.specs.Block.{before_text}
+use Rattle.tabled_row.specs.Fill.{fill}
 use Rattle.tabled_row.specs.Row.{left_edge, right_edge}
 use Rattle.tabled_row.proofs.Each.{each-more}
 
@@ -112,6 +117,23 @@ missing-rest t a i n h =
     ap (λ m. flat_map f (range_with_len a m)) e ∙ ap (flat_map f) (range-append a i (suc (n - i - 1)))
     ∙ flat_map-append f (range_with_len a i) ((a + i) ∷ range_with_len (a + i + 1) (n - i - 1))
 
+none-missing : (t : CompactSheet) (a n : ℕ) → ((k : ℕ) → a ≤ k → k < a + n → compact_piece t k [] ≡ []) → pieces t [] (range_with_len a n) ≡ []
+none-missing t a zero h = refl
+none-missing t a (suc n) h =
+    ap (λ u. u ++ pieces t [] (range_with_len (a + 1) n)) (h a (omega arith) (omega arith))
+    ∙ none-missing t (a + 1) n (λ k l m. h k (omega arith) (omega arith))
+
+-- the first of them, where nothing stands in the others
+pub missing-first : (t : CompactSheet) (a i n : ℕ) → i ≤ n → ((k : ℕ) → a + i ≤ k → k < a + n → compact_piece t k [] ≡ [])
+    → pieces t [] (range_with_len a n) ≡ pieces t [] (range_with_len a i)
+missing-first t a i n h none =
+    let f : ℕ → List ℕ = λ j. compact_piece t j [] in
+    let e : n ≡ i + (n - i) = omega arith in
+    ap (λ m. flat_map f (range_with_len a m)) e ∙ ap (flat_map f) (range-append a i (n - i))
+    ∙ flat_map-append f (range_with_len a i) (range_with_len (a + i) (n - i))
+    ∙ ap (λ u. flat_map f (range_with_len a i) ++ u) (none-missing t (a + i) (n - i) (λ k l m. none k (omega arith) (omega arith)))
+    ∙ append-nil (flat_map f (range_with_len a i))
+
 -- a row: what stands before its cells, the columns of those that came, and what stands behind them
 pub row-split : (t : CompactSheet) (row : List (List ℕ)) (n : ℕ) → n ≡ min (length row) t.count
     → compact_row t row ≡ (row_start t ++ pieces t row (range_with_len 0 n)) ++ row_end t n
@@ -142,3 +164,21 @@ given-more t text cells cell k h =
     ∙ more
     ∙ ap (λ n. pieces t row (range_with_len 0 n) ++ (if nat_lt n t.count then compact_piece t n (text cell) else [])) short
     ∙ sym (ap (λ n. pieces t row (range_with_len 0 n) ++ (if nat_lt k t.count then compact_piece t k (text cell) else [])) count)
+
+no-space : (alignment : AlignmentHorizontal) (c : ℕ) → fill 32 (before_text alignment 0) ++ (fill 32 (0 - before_text alignment 0) ++ fill c 0) ≡ []
+no-space horizontal.Left c = refl
+no-space horizontal.Center c = refl
+no-space horizontal.Right c = refl
+
+-- where no column is free, nothing stands around an empty text
+no-spaces : (alignment : AlignmentHorizontal) (c free : ℕ) → free ≡ 0
+    → fill 32 (before_text alignment free) ++ (fill 32 (free - before_text alignment free) ++ fill c 0) ≡ []
+no-spaces alignment c free h =
+    ap (λ n. fill 32 (before_text alignment n) ++ (fill 32 (n - before_text alignment n) ++ fill c 0)) h ∙ no-space alignment c
+
+-- an empty cell without padding takes nothing in a column of no width, behind no vertical line
+pub empty-piece : (t : CompactSheet) (k : ℕ) → t.config.padding.left.size ≡ 0 → t.config.padding.right.size ≡ 0
+    → slice_index t.widths k ≡ 0 → has_bar (columns_of t).frame k ≡ false → compact_piece t k [] ≡ []
+unfolding compact_piece compact_cell
+empty-piece t k left right width bar =
+    rw (bar, left, right, width) (no-spaces t.config.alignment_horizontal t.config.padding.right.fill _ (omega arith))

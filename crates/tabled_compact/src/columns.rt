@@ -72,4 +72,8 @@ impl<'a, D: Dimension> Columns for CompactColumns<'a, D> {
     fn frame(&self) -> &Frame {
         &self.around
     }
+
+    fn alike_from(&self) -> usize {
+        self.dimension.alike_from().unwrap_or(self.count)
+    }
 }

@@ -1,5 +1,5 @@
 //! A row, cell by cell as they come.
-ghost use Rattle.std.specs.Prelude.{◌≡◌, ◌+◌, ◌-◌, ◌≤◌, ◌<◌, List, [], map, min, length, if◌then◌else◌, nat_lt, IfOk, Result};
+ghost use Rattle.std.specs.Prelude.{◌≡◌, ◌+◌, ◌-◌, ◌≤◌, ◌<◌, ℕ, List, [], map, min, length, if◌then◌else◌, nat_lt, IfOk, Result};
 ghost use Rattle.std.specs.Iterator.{IsFiniteIterable};
 ghost use Rattle.std.specs.List.{flat_map, range_with_len};
 ghost use Rattle.tabled_base.specs.Given.{Given};
@@ -10,7 +10,7 @@ ghost use Rattle.tabled_compact.specs.GoesOn.{GoesOn};
 use crate::cell::put_cell;
 use crate::columns::CompactColumns;
 use tabled_base::{CellText, TableError};
-use tabled_row::{Columns, TextSink, put_left, put_right};
+use tabled_row::{Columns, TextSink, count_drawn, put_left, put_right};
 use tabled_size::Dimension;
 
 /// The left edge of a row, unless the sink refused something before.
@@ -73,6 +73,19 @@ where
     Ok(column)
 }
 
+/// How many first columns a row draws cells in: an empty cell in each one behind them takes nothing.
+fn count_drawn_cells<D: Dimension>(columns: &CompactColumns<'_, D>) -> usize
+    ensures within { result ≤ columns.now.count }
+    ensures rest { (column : ℕ) → result ≤ column → column < columns.now.count → compact_piece columns.now column [] ≡ [] }
+{
+    let padding = columns.config().get_padding();
+    if padding.left.size == 0 && padding.right.size == 0 {
+        count_drawn(columns)
+    } else {
+        columns.count_columns()
+    }
+}
+
 /// The cells that a row lacks, from a column on. They are empty.
 fn put_missing<D: Dimension, S: TextSink>(
     sink: &mut S,
@@ -83,7 +96,8 @@ fn put_missing<D: Dimension, S: TextSink>(
     ensures { Writes (S.sent sink.old) result (S.sent sink.new)
         (pieces columns.now [] (range_with_len from (columns.now.count - from))) }
 {
-    'columns: for column in from..columns.count_columns() {
+    let end = count_drawn_cells(columns).max(from);
+    'columns: for column in from..end {
         put_cell(sink, columns, column, &"")?;
     }
     Ok(())

@@ -1,5 +1,5 @@
 //! The columns of a whole line.
-ghost use Rattle.std.specs.Prelude.{◌≡◌, ◌≤◌, ◌<◌, ◌^◌, MatchOption};
+ghost use Rattle.std.specs.Prelude.{◌≡◌, ◌+◌, ◌*◌, ◌≤◌, ◌<◌, ◌^◌, ℕ, MatchOption};
 ghost use Rattle.tabled_priority.specs.Sums.{one_if, sum_below};
 ghost use Rattle.tabled_row.specs.Apart.{line_total};
 ghost use Rattle.tabled_row.specs.Row.{ColumnSheet};
@@ -12,16 +12,51 @@ fn one_if(there: bool) -> usize
     if there { 1 } else { 0 }
 }
 
+/// The widths of so many first columns.
 #[tactic(auto, using(tabled_priority::proofs::Sums::sum_step))]
+fn known_widths<C: Columns>(columns: &C, known: usize) -> Option<usize>
+    requires { known ≤ (C.sheet columns.now).count }
+    ensures { let width = (C.sheet columns.now).width in
+        MatchOption result (2 ^ 64 ≤ sum_below width known) (λ n. n ≡ sum_below width known) }
+{
+    let mut total: usize = 0;
+    'columns: for column in 0..known {
+        total = total.checked_add(columns.width(column))?;
+    }
+    Some(total)
+}
+
+/// What was summed up, and so many times more a number.
+fn add_times(sum: usize, times: usize, each: usize) -> Option<usize>
+    ensures { let whole = sum + times * each in MatchOption result (2 ^ 64 ≤ whole) (λ n. n ≡ whole) }
+{
+    sum.checked_add(times.checked_mul(each)?)
+}
+
+/// The widths of some columns from one on, which are all as wide as it, besides what was summed up.
+fn add_alike<C: Columns>(columns: &C, sum: usize, from: usize) -> Option<usize>
+    requires within { from ≤ (C.sheet columns.now).count }
+    requires summed { sum ≡ sum_below (C.sheet columns.now).width from }
+    requires alike { (column : ℕ) → from ≤ column → column < (C.sheet columns.now).count
+        → (C.sheet columns.now).width column ≡ (C.sheet columns.now).width from }
+    ensures { let sheet = C.sheet columns.now in
+        MatchOption result (2 ^ 64 ≤ sum_below sheet.width sheet.count) (λ n. n ≡ sum_below sheet.width sheet.count) }
+{
+    let times = columns.count_columns() - from;
+    if times == 0 {
+        return Some(sum);
+    }
+    add_times(sum, times, columns.width(from))
+}
+
+/// The widths of all columns. Those that are alike are counted at once.
 fn sum_widths<C: Columns>(columns: &C) -> Option<usize>
     ensures { let sheet = C.sheet columns.now in
         MatchOption result (2 ^ 64 ≤ sum_below sheet.width sheet.count) (λ n. n ≡ sum_below sheet.width sheet.count) }
 {
-    let mut total: usize = 0;
-    'columns: for column in 0..columns.count_columns() {
-        total = total.checked_add(columns.width(column))?;
-    }
-    Some(total)
+    let known = columns.alike_from().min(columns.count_columns());
+    let sum = known_widths(columns, known)?;
+    add_alike(columns, sum, known)
 }
 
 /// The columns of each line: the widths, the vertical lines and the side margins. `None` where they pass the greatest
