@@ -27,6 +27,13 @@ module _ {T : Type 0} where
       ap (said_at whole parts) (e ∙ indexed-latest places parts row column p)
       ∙ said_at-latest whole parts row column (sym (p.found Global))
 
+  -- rows whose cells have the same latest places have the same settings
+  pub alike-found : (whole : T) (places : Places) (parts : List (Entity × T)) (row other column : ℕ) → IsIndexed places parts
+      → latest (found places) row column ≡ latest (found places) other column → first_covering whole parts row column ≡ first_covering whole parts other column
+  alike-found whole places parts row other column p e =
+      sym (said_at-found whole places parts row column (latest (found places) row column) p refl)
+      ∙ said_at-found whole places parts other column (latest (found places) row column) p e
+
 pub item-reversed : {X : Type 0} (items : List X) (i : ℕ) (d : X) → i < length (reverse items) → get_or items i d
     ≡ get_or (reverse items) (length (reverse items) - 1 - i) d
 item-reversed items i d h = ap (λ xs. get_or xs i d) (sym (reverse-reverse items)) ∙ get_or-reverse (reverse items) i d h

@@ -1,5 +1,5 @@
 //! One setting of a table: for the whole of it, for rows, for columns and for cells.
-ghost use Rattle.std.specs.Prelude.{◌≡◌, ℕ, IfOk, IfSome, IsOk, OnErr, OnOk};
+ghost use Rattle.std.specs.Prelude.{◌≡◌, ℕ, IfOk, IfSome, IsOk, OnErr, OnOk, true};
 ghost use Rattle.tabled_entity.specs.Changes.{for_all, setting_at, shared, with_change};
 ghost use Rattle.tabled_entity.specs.Places.{IsPart, IsWhole};
 
@@ -120,6 +120,18 @@ impl<T: Copy> EntityMap<T> {
         } else {
             None
         }
+    }
+
+    /// Whether the cells of two rows are known to have the same values, column by column: where nothing was set for either of the
+    /// rows, nor for a cell.
+    #[inline]
+    pub fn are_alike(&self, row: usize, other: usize) -> bool
+        ensures { result ≡ true → (column : ℕ) → setting_at self.now row column ≡ setting_at self.now other column }
+    {
+        if self.changes.is_empty() {
+            return true;
+        }
+        self.places.are_alike(row, other)
     }
 
     /// The value of a cell.

@@ -1,5 +1,5 @@
 //! Where the latest change for each part of a table stands in the list of changes.
-ghost use Rattle.std.specs.Prelude.{◌≡◌, IfOk, OnErr, OnOk};
+ghost use Rattle.std.specs.Prelude.{◌≡◌, ℕ, IfOk, OnErr, OnOk, true};
 ghost use Rattle.tabled_base.specs.declared.position.Entity.TheVariants.{Cell, Column, Row};
 ghost use Rattle.tabled_entity.specs.Places.{
   HasNone,
@@ -115,5 +115,13 @@ impl Places {
         let of_column = self.columns.get(&column).copied();
         let of_cell = self.cells.get(&(row, column)).copied();
         later(of_row, later(of_column, of_cell))
+    }
+
+    /// Whether the latest places in two rows are known to be the same, column by column: where none is kept for either of the
+    /// rows, nor for a cell.
+    pub fn are_alike(&self, row: usize, other: usize) -> bool
+        ensures { result ≡ true → (column : ℕ) → latest (found self.now) row column ≡ latest (found self.now) other column }
+    {
+        self.cells.is_empty() && self.rows.get(&row).is_none() && self.rows.get(&other).is_none()
     }
 }
