@@ -5,6 +5,8 @@ ghost use Rattle.tabled_entity.specs.Changes.{setting_at, with_change};
 ghost use Rattle.tabled_border.specs.Lines.{line_set, with_line};
 ghost use Rattle.tabled_entity.specs.Places.{IsWhole};
 
+mod alike;
+
 use crate::alignment::{AlignmentHorizontal, AlignmentVertical};
 use crate::compact::CompactConfig;
 use crate::compact_multiline::CompactMultilineConfig;
@@ -89,8 +91,7 @@ impl SpannedConfig {
         }
     }
 
-    /// What a compact configuration says, for all cells, and else what `new` gives. The colours are
-    /// dropped. It takes no memory.
+    /// What a compact configuration says, for all cells, and else what `new` gives. The colours are dropped. It takes no memory.
     pub fn from_compact(alloc: Global, compact: CompactConfig) -> SpannedConfig
         ensures { result ≡ spanned_of_compact compact }
     {
@@ -104,8 +105,7 @@ impl SpannedConfig {
         config
     }
 
-    /// The same for cells of several lines: the vertical alignment and the flags are kept too. It takes
-    /// no memory.
+    /// The same for cells of several lines: the vertical alignment and the flags are kept too. It takes no memory.
     pub fn from_multiline(alloc: Global, multiline: CompactMultilineConfig) -> SpannedConfig
         ensures { result ≡ spanned_of_multiline multiline }
     {
