@@ -77,6 +77,7 @@ impl<'a> LentRows<'a> {
     }
 
     /// The text of a cell and its columns, if it isn't one that only lengthens its row.
+    #[inline(always)]
     fn cell(&self, at: Position) -> Option<(&str, usize)>
         requires { IsInside self.now at.row at.column }
         ensures { MatchOption result (cell_at self.now at.row at.column ≡ [])
@@ -93,6 +94,7 @@ impl<'a> LentRows<'a> {
 }
 
 /// The text and the columns of one of a text's cells.
+#[inline(always)]
 fn counted<'a>(text: &'a str, cells: &Pairs, place: usize) -> (&'a str, usize)
     requires lent { AreLent text.now 0 (cells_in cells.now) }
     requires inside { place < length cells.now }
@@ -103,6 +105,7 @@ fn counted<'a>(text: &'a str, cells: &Pairs, place: usize) -> (&'a str, usize)
 }
 
 /// Where a cell begins, which is a byte behind the end of the one before it.
+#[inline(always)]
 fn start_of(cells: &Pairs, place: usize) -> usize
     requires inside { place < length cells.now }
     requires fits { begin 0 (cells_in cells.now) place < 2 ^ 64 }

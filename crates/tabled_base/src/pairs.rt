@@ -24,6 +24,7 @@ impl Model for Pairs {
 }
 
 /// Two numbers as they fit 32 bits each, if they do.
+#[inline(always)]
 fn small(pair: (usize, usize)) -> Option<(u32, u32)>
     ensures { IfSome result (λ s. s ≡ pair) }
 {
@@ -52,6 +53,7 @@ impl Pairs {
     }
 
     /// The pair at a place.
+    #[inline(always)]
     pub fn at(&self, place: usize) -> (usize, usize)
         requires { place < length self.now }
         ensures { result ≡ slice_index_or self.now place result }
@@ -66,6 +68,7 @@ impl Pairs {
     }
 
     /// Adds a pair.
+    #[inline(always)]
     pub fn push(&mut self, pair: (usize, usize)) -> Result<(), TableError>
         ensures ok { OnOk result (self.new ≡ self.old ++ pair ∷ []) }
         ensures only { IfErr result (λ e. e ≡ Memory) }

@@ -94,6 +94,7 @@ impl<'a, R: PeekableRecords, D: Dimension> Grid<'a, R, D> {
     }
 
     /// The text of a cell, with its measures.
+    #[inline(always)]
     pub fn content(&self, at: Position) -> Content<'a>
         requires { IsInside self.now.cells at.row at.column }
         ensures { result.text.now ≡ cell_at self.now.cells at.row at.column }

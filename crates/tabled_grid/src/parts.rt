@@ -67,6 +67,7 @@ impl<'a, R: PeekableRecords, D: Dimension> Row<'a> for GridRow<'a, R, D> {
         self.grid.width(column)
     }
 
+    #[inline(always)]
     fn content(&self, column: usize) -> Content<'a> {
         self.grid.content(Position {
             row: self.row,

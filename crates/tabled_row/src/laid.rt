@@ -82,6 +82,7 @@ fn bar_length(bar: VerticalLine) -> usize
 }
 
 /// Copies a text over some bytes of its length.
+#[inline(always)]
 fn copy_at(line: &mut [u8], place: usize, text: &str)
     requires { place + length text.now ≤ length line.old }
     ensures { line.new ≡ take place line.old ++ (text.now ++ drop (place + length text.now) line.old) }
@@ -92,6 +93,7 @@ fn copy_at(line: &mut [u8], place: usize, text: &str)
 
 /// Lays the text of a column over blank columns that begin at a place, and answers where they end. Only a text that takes as
 /// many bytes as columns is laid.
+#[inline(always)]
 fn lay_cell<'a, C: Columns, R: Row<'a>>(
     line: &mut [u8],
     place: usize,
