@@ -80,7 +80,7 @@ impl<'a, W: Write> BlockSink<'a, W> {
     }
 
     /// Holds some bytes back, for which the block has to have room.
-    #[inline]
+    #[inline(always)]
     fn hold(&mut self, bytes: &[u8])
         requires room { self.old.held.now.used + length bytes.now ≤ BLOCK }
         ensures written { Sends (block_sent (block W.contents self.old))
@@ -137,7 +137,7 @@ pub(crate) trait Blocked {
 impl<'a, W: Write> Blocked for BlockSink<'a, W> {
     ghost block = { block W.contents };
 
-    #[inline]
+    #[inline(always)]
     fn add_text(&mut self, text: &str) -> Result<(), TableError> {
         if self.held.len() + text.len() <= BLOCK {
             self.hold(text.as_bytes());
@@ -172,7 +172,7 @@ pub(crate) struct Since<S, B> {
 impl<S: Blocked, B: Start> TextSink for Since<S, B> {
     ghost sent = { λ s. sent_since B.name B.held (S.block s.sink) };
 
-    #[inline]
+    #[inline(always)]
     fn write_text(&mut self, text: &str) -> Result<(), TableError> {
         self.sink.add_text(text)
     }

@@ -7,7 +7,7 @@ use std::alloc::{AllocError, Global};
 pub(crate) const BLOCK: usize = 1 << 16;
 
 /// Copies bytes to a place of their length; a single one, the commonest, without a copy of a slice.
-#[inline]
+#[inline(always)]
 fn copy(to: &mut [u8], bytes: &[u8])
     requires { length to.old ≡ length bytes.now }
     ensures { to.new ≡ bytes.now }
@@ -76,7 +76,7 @@ impl Held {
     }
 
     /// Puts bytes behind the others, for which there has to be room.
-    #[inline]
+    #[inline(always)]
     pub fn add(&mut self, bytes: &[u8])
         requires room { self.old.used + length bytes.now ≤ BLOCK }
         ensures added { waiting self.new ≡ waiting self.old ++ bytes.now }
