@@ -1,5 +1,5 @@
 -- Boxes that are drawn one after another, and hand their sizes on.
-use Rattle.std.proofs.Common.{◌≡◌, ℕ, ◌+◌, ◌-◌, ◌<◌, List, [], ◌∷◌, ◌++◌, length, map, drop, get_or, true, false, refl, sym, ap, subst, ◌∙◌, append_assoc, arith}
+use Rattle.std.proofs.Common.{◌≡◌, ℕ, ◌+◌, ◌-◌, ◌<◌, List, [], ◌∷◌, ◌++◌, length, map, drop, get_or, refl, sym, ap, subst, ◌∙◌, append_assoc, arith}
 use Rattle.std.proofs.Math.Seq.{drop-cons}
 use Rattle.std.proofs.Common.{add-one}
 use Rattle.tabled_boxes.specs.declared.gaps.Gaps.{Gaps}
@@ -7,11 +7,9 @@ use Rattle.tabled_boxes.specs.declared.tree.TableValue.{TableValue}
 use Rattle.tabled_boxes.specs.declared.tree.TableValue.TheOpen.{Row, Column, Cell}
 use Rattle.tabled_boxes.specs.declared.tree.TableValue.TheFolds.{fold-roll-TableValue, ind-TableValue, map-TableValue}
 use Rattle.tabled_boxes.specs.declared.tree.TableValue.TheViews.{roll-TableValue}
-use Rattle.tabled_boxes.specs.Boxes.{Box, share, left_part, right_part, top_part, bottom_part, row_box, column_box, box_step, box_of}
+use Rattle.tabled_boxes.specs.Boxes.{Box, share, row_box, column_box, box_step, box_of}
 use Rattle.tabled_boxes.specs.Left.{boxes_left}
 use Rattle.std.proofs.lemmas.List.{length-map}
-use Rattle.tabled_boxes.specs.declared.pieces.Rectangle.{Rectangle}
-use Rattle.tabled_pool.specs.declared.flags.Flags.{Flags}
 use Rattle.tabled_pool.specs.Handed.{
   Children,
   Drawer,
@@ -23,14 +21,14 @@ use Rattle.tabled_pool.specs.Handed.{
   column_drawer,
   drawer,
   drawer_step,
-  first_in_column,
-  first_in_row,
   joined,
-  later_in_column,
-  later_in_row,
   row_children,
   row_drawer,
   taken,
+  to_first_in_column,
+  to_first_in_row,
+  to_later_in_column,
+  to_later_in_row,
 }
 use Rattle.tabled_pool.specs.Panels.{Panel, side_by_side, stacked}
 use Rattle.tabled_pool.specs.Plan.{Plan}
@@ -107,15 +105,6 @@ pub row_draws : (t : Plan) (g : Gaps) (ds : List Drawer) (h : Handed) → 0 < le
 row_draws t g [] h z = absurd (omega arith)
 row_draws t g (d ∷ ds) h z = refl
 
--- what the first of some boxes is handed, and the others
-abbrev pub to_first_in_row : ℕ → Taken → Handed → Handed
-to_first_in_row n tk h =
-    record { place = left_part n h.place; flags = first_in_row h.flags false; above = tk.part; before = h.before }
-
-abbrev pub to_later_in_row : Gaps → ℕ → Taken → Handed → List ℕ → Handed
-to_later_in_row g n tk h before =
-    record { place = right_part g.bar (right_part n h.place); flags = later_in_row h.flags tk.met; above = tk.rest; before = before }
-
 -- some boxes are drawn, and the rest follows
 pub record RowWalk (whole now : Children) (drawn : List Panel) (widths : List ℕ) : Type 0 where
   pub panels : drawn ++ now.panels ≡ whole.panels
@@ -175,26 +164,23 @@ row-share t g front last v width left count e1 e2 =
     rw (drawer-box t g v, left-boxes t g front last, left-count t g front last, e1, e2) refl
 
 -- what a step of a row leaves, by what its calls answered
-pub row_drawn : (t : Plan) (g : Gaps) (front : List TableValue) (last : TableValue) (i : ℕ) (v : TableValue)
-    (place given rest : Rectangle) (flags first later : Flags) (above before : List ℕ) (left count : ℕ) (tk : Taken)
-    (l : HandedOn) (whole : Children) (panels panels' : List Panel) (widths widths' : List ℕ) → i < length front → v ≡ get_or front i v
+pub row_added : (t : Plan) (g : Gaps) (front : List TableValue) (last : TableValue) (i : ℕ) (v : TableValue)
+    (h one after next : Handed) (sizes : List ℕ) (left count : ℕ) (l : HandedOn) (whole : Children)
+    (panels panels' : List Panel) (widths widths' : List ℕ) → i < length front → v ≡ get_or front i v
     → left ≡ (row_box g (boxes_left g (drop i front) last)).width → count ≡ length (boxes_left g (drop i front) last)
-    → given ≡ left_part ((box_of g v).width + share g.across (place.width - left) count) place
-    → rest ≡ right_part g.bar (right_part ((box_of g v).width + share g.across (place.width - left) count) place)
-    → first ≡ first_in_row flags false → later ≡ later_in_row flags tk.met → tk ≡ taken given.width above
-    → l ≡ (drawer t g v).draw (record { place = given; flags = first; above = tk.part; before = before })
-    → panels' ≡ panels ++ (l.panel ∷ []) → widths' ≡ widths ++ l.above
-    → RowWalk whole (row_of g (drawers_left t g (drop i front) last)
-    (record { place = place; flags = flags; above = above; before = before })) panels widths
-    → RowWalk whole (row_of g (drawers_left t g (drop (i + 1) front) last)
-    (record { place = rest; flags = later; above = tk.rest; before = l.before })) panels' widths'
-row_drawn t g front last i v place given rest flags first later above before left count tk l whole panels panels' widths widths' ei ev el ec eg er ef et ek ed ep es w =
-    let h : Handed = record { place = place; flags = flags; above = above; before = before } in
-    let n = (box_of g v).width + share g.across (place.width - left) count in
-    let to : record { place = given; flags = first; above = tk.part; before = before } ≡ to_first_in_row n tk h = rw (eg, ef) refl in
-    rw (ep, es) (row_further g (drawer t g v) _ _ h _ n whole panels widths tk l (drawers_first t g front last i v ei ev)
-    (drawers-some t g (drop (i + 1) front) last) (row-share t g (drop i front) last v place.width left count el ec)
-    (ek ∙ ap (λ (r : Rectangle). taken r.width above) eg) (ed ∙ ap (drawer t g v).draw to) (rw (er, et) refl) w)
+    → (let n = (box_of g v).width + share g.across (h.place.width - left) count in one ≡ to_first_in_row n (taken n h.above) h)
+    → (let n = (box_of g v).width + share g.across (h.place.width - left) count in
+    after ≡ to_later_in_row g n (taken n h.above) h sizes)
+    → l ≡ (drawer t g v).draw one → panels' ≡ panels ++ (l.panel ∷ []) → widths' ≡ widths ++ l.above
+    → next ≡ record after { before = l.before }
+    → RowWalk whole (row_of g (drawers_left t g (drop i front) last) h) panels widths
+    → RowWalk whole (row_of g (drawers_left t g (drop (i + 1) front) last) next) panels' widths'
+row_added t g front last i v h one after next sizes left count l whole panels panels' widths widths' ei ev el ec eo ea ed ep es en w =
+    let n = (box_of g v).width + share g.across (h.place.width - left) count in
+    rw (ep, es) (row_further g (drawer t g v) _ _ h next n whole panels widths (taken n h.above) l
+    (drawers_first t g front last i v ei ev) (drawers-some t g (drop (i + 1) front) last)
+    (row-share t g (drop i front) last v h.place.width left count el ec) refl (ed ∙ ap (drawer t g v).draw eo)
+    (en ∙ ap (λ (u : Handed). record u { before = l.before }) ea) w)
 
 -- ---- columns
 
@@ -206,14 +192,6 @@ pub column_draws : (t : Plan) (g : Gaps) (ds : List Drawer) (h : Handed) → 0 <
     → (column_drawer t g ds).draw h ≡ joined stacked (column_of g ds h)
 column_draws t g [] h z = absurd (omega arith)
 column_draws t g (d ∷ ds) h z = refl
-
-abbrev pub to_first_in_column : ℕ → Taken → Handed → Handed
-to_first_in_column n tk h =
-    record { place = top_part n h.place; flags = first_in_column h.flags false; above = h.above; before = tk.part }
-
-abbrev pub to_later_in_column : Gaps → ℕ → Taken → Handed → List ℕ → Handed
-to_later_in_column g n tk h above =
-    record { place = bottom_part g.rule (bottom_part n h.place); flags = later_in_column h.flags tk.met; above = above; before = tk.rest }
 
 pub record ColumnWalk (whole now : Children) (drawn : List Panel) (heights : List ℕ) : Type 0 where
   pub panels : drawn ++ now.panels ≡ whole.panels
@@ -270,23 +248,20 @@ column-share t g front last v height left count e1 e2 =
     rw (drawer-box t g v, left-boxes t g front last, left-count t g front last, e1, e2) refl
 
 -- what a step of a column leaves, by what its calls answered
-pub column_drawn : (t : Plan) (g : Gaps) (front : List TableValue) (last : TableValue) (i : ℕ) (v : TableValue)
-    (place given rest : Rectangle) (flags first later : Flags) (above before : List ℕ) (left count : ℕ) (tk : Taken)
-    (l : HandedOn) (whole : Children) (panels panels' : List Panel) (heights heights' : List ℕ) → i < length front → v ≡ get_or front i v
+pub column_added : (t : Plan) (g : Gaps) (front : List TableValue) (last : TableValue) (i : ℕ) (v : TableValue)
+    (h one after next : Handed) (sizes : List ℕ) (left count : ℕ) (l : HandedOn) (whole : Children)
+    (panels panels' : List Panel) (heights heights' : List ℕ) → i < length front → v ≡ get_or front i v
     → left ≡ (column_box g (boxes_left g (drop i front) last)).height → count ≡ length (boxes_left g (drop i front) last)
-    → given ≡ top_part ((box_of g v).height + share g.down (place.height - left) count) place
-    → rest ≡ bottom_part g.rule (bottom_part ((box_of g v).height + share g.down (place.height - left) count) place)
-    → first ≡ first_in_column flags false → later ≡ later_in_column flags tk.met → tk ≡ taken given.height before
-    → l ≡ (drawer t g v).draw (record { place = given; flags = first; above = above; before = tk.part })
-    → panels' ≡ panels ++ (l.panel ∷ []) → heights' ≡ heights ++ l.before
-    → ColumnWalk whole (column_of g (drawers_left t g (drop i front) last)
-    (record { place = place; flags = flags; above = above; before = before })) panels heights
-    → ColumnWalk whole (column_of g (drawers_left t g (drop (i + 1) front) last)
-    (record { place = rest; flags = later; above = l.above; before = tk.rest })) panels' heights'
-column_drawn t g front last i v place given rest flags first later above before left count tk l whole panels panels' heights heights' ei ev el ec eg er ef et ek ed ep es w =
-    let h : Handed = record { place = place; flags = flags; above = above; before = before } in
-    let n = (box_of g v).height + share g.down (place.height - left) count in
-    let to : record { place = given; flags = first; above = above; before = tk.part } ≡ to_first_in_column n tk h = rw (eg, ef) refl in
-    rw (ep, es) (column_further g (drawer t g v) _ _ h _ n whole panels heights tk l (drawers_first t g front last i v ei ev)
-    (drawers-some t g (drop (i + 1) front) last) (column-share t g (drop i front) last v place.height left count el ec)
-    (ek ∙ ap (λ (r : Rectangle). taken r.height before) eg) (ed ∙ ap (drawer t g v).draw to) (rw (er, et) refl) w)
+    → (let n = (box_of g v).height + share g.down (h.place.height - left) count in one ≡ to_first_in_column n (taken n h.before) h)
+    → (let n = (box_of g v).height + share g.down (h.place.height - left) count in
+    after ≡ to_later_in_column g n (taken n h.before) h sizes)
+    → l ≡ (drawer t g v).draw one → panels' ≡ panels ++ (l.panel ∷ []) → heights' ≡ heights ++ l.before
+    → next ≡ record after { above = l.above }
+    → ColumnWalk whole (column_of g (drawers_left t g (drop i front) last) h) panels heights
+    → ColumnWalk whole (column_of g (drawers_left t g (drop (i + 1) front) last) next) panels' heights'
+column_added t g front last i v h one after next sizes left count l whole panels panels' heights heights' ei ev el ec eo ea ed ep es en w =
+    let n = (box_of g v).height + share g.down (h.place.height - left) count in
+    rw (ep, es) (column_further g (drawer t g v) _ _ h next n whole panels heights (taken n h.before) l
+    (drawers_first t g front last i v ei ev) (drawers-some t g (drop (i + 1) front) last)
+    (column-share t g (drop i front) last v h.place.height left count el ec) refl (ed ∙ ap (drawer t g v).draw eo)
+    (en ∙ ap (λ (u : Handed). record u { above = l.above }) ea) w)

@@ -1,11 +1,11 @@
 -- A text with padding at a side is given a column.
-use Rattle.std.proofs.Common.{◌≡◌, ℕ, ◌+◌, ◌<◌, ◌==◌, ◌&&◌, false, not, List, [], ◌∷◌, refl, sym, ap, ◌∙◌, arith}
+use Rattle.std.proofs.Common.{◌≡◌, ℕ, ◌+◌, ◌<◌, ◌==◌, ◌&&◌, false, not, List, [], ◌∷◌, refl, arith}
 use Rattle.std.proofs.lemmas.Grind.{common_steps}
 use Rattle.tabled_boxes.specs.declared.gaps.Gaps.{Gaps}
 use Rattle.tabled_boxes.specs.declared.pieces.Kind.{Kind}
 use Rattle.tabled_boxes.specs.declared.pieces.Kind.TheVariants.{Leaf, Bar, Rule}
 use Rattle.tabled_boxes.specs.Boxes.{Part}
-use Rattle.tabled_boxes.specs.Tiling.{EachFits, FitsLeaf}
+use Rattle.tabled_boxes.specs.Tiling.{EachFits}
 use Rattle.tabled_boxes.proofs.Framing.{tree_framed_fits}
 use Rattle.tabled_pool.specs.declared.pool_table.PoolTable.{PoolTable}
 use Rattle.tabled_pool.specs.Handed.{has_bare, is_bare}

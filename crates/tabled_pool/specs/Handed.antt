@@ -186,40 +186,50 @@ first_in_column f last = record f { last_row = f.last_row && last }
 abbrev pub later_in_column : Flags → Bool → Flags
 later_in_column f met = record f { first_row = false; leans = false; side = true; cross = met }
 
+-- what the first of some boxes side by side is handed, the others together, and the last of them
+abbrev pub to_first_in_row : ℕ → Taken → Handed → Handed
+to_first_in_row n t h =
+    record { place = left_part n h.place; flags = first_in_row h.flags false; above = t.part; before = h.before }
+
+abbrev pub to_later_in_row : Gaps → ℕ → Taken → Handed → List ℕ → Handed
+to_later_in_row g n t h before =
+    record { place = right_part g.bar (right_part n h.place); flags = later_in_row h.flags t.met; above = t.rest; before = before }
+
+abbrev pub to_last_in_row : Handed → Handed
+to_last_in_row h = record h { flags = first_in_row h.flags true; above = (taken h.place.width h.above).part }
+
 -- the boxes of a row: each takes its part of the sizes above, and is handed the sizes to its left by the one before
 abbrev pub row_children : Gaps → Drawer → List Drawer → Handed → Children
 row_children g d [] h =
-    let t = taken h.place.width h.above in
-    let l = d.draw (record { place = h.place; flags = first_in_row h.flags true; above = t.part; before = h.before }) in
-    record { panels = l.panel ∷ []; above = l.above; before = l.before }
+    let l = d.draw (to_last_in_row h) in record { panels = l.panel ∷ []; above = l.above; before = l.before }
 row_children g d (e ∷ ds) h =
     let n = first_width g d.box (boxes (e ∷ ds)) h.place.width in
     let t = taken n h.above in
-    let l = d.draw (record { place = left_part n h.place; flags = first_in_row h.flags false; above = t.part; before = h.before }) in
-    let ls = row_children g e ds (record {
-      place = right_part g.bar (right_part n h.place);
-      flags = later_in_row h.flags t.met;
-      above = t.rest;
-      before = l.before;
-    }) in
+    let l = d.draw (to_first_in_row n t h) in
+    let ls = row_children g e ds (to_later_in_row g n t h l.before) in
     record { panels = l.panel ∷ ls.panels; above = l.above ++ ls.above; before = ls.before }
+
+-- what the first of some boxes below each other is handed, the others together, and the last of them
+abbrev pub to_first_in_column : ℕ → Taken → Handed → Handed
+to_first_in_column n t h =
+    record { place = top_part n h.place; flags = first_in_column h.flags false; above = h.above; before = t.part }
+
+abbrev pub to_later_in_column : Gaps → ℕ → Taken → Handed → List ℕ → Handed
+to_later_in_column g n t h above =
+    record { place = bottom_part g.rule (bottom_part n h.place); flags = later_in_column h.flags t.met; above = above; before = t.rest }
+
+abbrev pub to_last_in_column : Handed → Handed
+to_last_in_column h = record h { flags = first_in_column h.flags true; before = (taken h.place.height h.before).part }
 
 -- the boxes of a column: each takes its part of the sizes to the left, and is handed the sizes above by the one above
 abbrev pub column_children : Gaps → Drawer → List Drawer → Handed → Children
 column_children g d [] h =
-    let t = taken h.place.height h.before in
-    let l = d.draw (record { place = h.place; flags = first_in_column h.flags true; above = h.above; before = t.part }) in
-    record { panels = l.panel ∷ []; above = l.above; before = l.before }
+    let l = d.draw (to_last_in_column h) in record { panels = l.panel ∷ []; above = l.above; before = l.before }
 column_children g d (e ∷ ds) h =
     let n = first_height g d.box (boxes (e ∷ ds)) h.place.height in
     let t = taken n h.before in
-    let l = d.draw (record { place = top_part n h.place; flags = first_in_column h.flags false; above = h.above; before = t.part }) in
-    let ls = column_children g e ds (record {
-      place = bottom_part g.rule (bottom_part n h.place);
-      flags = later_in_column h.flags t.met;
-      above = l.above;
-      before = t.rest;
-    }) in
+    let l = d.draw (to_first_in_column n t h) in
+    let ls = column_children g e ds (to_later_in_column g n t h l.above) in
     record { panels = l.panel ∷ ls.panels; above = ls.above; before = l.before ++ ls.before }
 
 abbrev pub joined : (List Panel → Panel) → Children → HandedOn

@@ -12,6 +12,7 @@ mod find;
 mod flags;
 mod handed;
 mod handed_text;
+mod handing;
 mod making;
 mod margins;
 mod near;

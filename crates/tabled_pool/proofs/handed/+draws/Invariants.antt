@@ -3,7 +3,7 @@ use Rattle.tabled_boxes.specs.Boxes.{row_box, column_box}
 use Rattle.tabled_boxes.specs.Left.{boxes_left}
 use Rattle.tabled_boxes.specs.Shown.{Fits}
 use Rattle.tabled_pool.specs.Handed.{drawer}
-use Rattle.tabled_pool.specs.Handing.{handed_of}
+use Rattle.tabled_pool.specs.Handing.{handed_box}
 use Rattle.tabled_pool.specs.Panels.{panel_of}
 use Rattle.tabled_pool.specs.Plans.{plan_of}
 use Rattle.tabled_pool.proofs.Drawers.{ColumnWalk, RowWalk, column_of, drawers_left, row_of}
@@ -14,11 +14,10 @@ invariant-draw_row-loop-child l =
     let t = plan_of l.drawing in
     let bs = boxes_left l.gaps (drop l.child-index l.front) l.last in
     record {
-      walk : RowWalk (row_of l.gaps (map (drawer t l.gaps) l.children) (handed_of l.handed))
+      walk : RowWalk (row_of l.gaps (map (drawer t l.gaps) l.children) (handed_box l.initial.handed))
           (row_of l.gaps (drawers_left t l.gaps (drop l.child-index l.front) l.last)
-          (record { place = l.place; flags = l.flags; above = l.above.items; before = l.before.items }))
-          (map panel_of l.panels.items) l.widths.items;
-      fits : Fits (row_box l.gaps bs) l.place;
+          (handed_box l.handed)) (map panel_of l.drawn.panels.items) l.drawn.sizes.items;
+      fits : Fits (row_box l.gaps bs) l.handed.place;
       counts : l.count ≡ length bs;
       left : l.left ≡ (row_box l.gaps bs).width;
     }
@@ -28,11 +27,10 @@ invariant-draw_column-loop-child l =
     let t = plan_of l.drawing in
     let bs = boxes_left l.gaps (drop l.child-index l.front) l.last in
     record {
-      walk : ColumnWalk (column_of l.gaps (map (drawer t l.gaps) l.children) (handed_of l.handed))
+      walk : ColumnWalk (column_of l.gaps (map (drawer t l.gaps) l.children) (handed_box l.initial.handed))
           (column_of l.gaps (drawers_left t l.gaps (drop l.child-index l.front) l.last)
-          (record { place = l.place; flags = l.flags; above = l.above.items; before = l.before.items }))
-          (map panel_of l.panels.items) l.heights.items;
-      fits : Fits (column_box l.gaps bs) l.place;
+          (handed_box l.handed)) (map panel_of l.drawn.panels.items) l.drawn.sizes.items;
+      fits : Fits (column_box l.gaps bs) l.handed.place;
       counts : l.count ≡ length bs;
       left : l.left ≡ (column_box l.gaps bs).height;
     }

@@ -1,4 +1,4 @@
-use Rattle.std.proofs.Common.{◌++◌, append_assoc, map, refl, replicate, string_bytes, sym}
+use Rattle.std.proofs.Common.{append_assoc, map, refl, replicate, string_bytes, sym}
 use Rattle.tabled_row.proofs.Leading.{lines-further, lines-finished, lines-stopped, lines-stopped-first}
 use Rattle.tabled_pool.specs.Colours.{marks_of}
 use Rattle.tabled_pool.specs.Margins.{margin_line, within_margin}
