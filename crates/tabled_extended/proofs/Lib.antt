@@ -1,5 +1,6 @@
 pub mod CollectedRows
 pub mod CutOff
+pub mod Dashed
 pub mod Digits
 pub mod EscapedRecords
 pub mod FirstRow

@@ -18,11 +18,12 @@ pub record PrintsAll (answers : ℕ → List ℕ → Type 0) (fields : List (Lis
   pub lines : AreRecordLines answers fields records parts
   pub sends : Sends old new (text_of parts)
 
--- a label was refused, for memory: just the records before its own were printed
-pub record EndsBefore (answers : ℕ → List ℕ → Type 0) (fields : List (List ℕ)) (records : List (List (List ℕ)))
+-- a label was refused, for memory, as the template may be: just the records before its own were printed
+pub record EndsBefore (answers : ℕ → List ℕ → Type 0) (refuses : ℕ → Type 0) (fields : List (List ℕ)) (records : List (List (List ℕ)))
     (old : Sent) (error : TableError) (new : Sent) : Type 0 where
   pub parts : List (List (List ℕ))
   pub within : length parts < length records
+  pub refused : refuses (length parts)
   pub lines : AreRecordLines answers fields records parts
   pub memory : error ≡ Memory
   pub sends : Sends old new (text_of parts)
@@ -38,16 +39,16 @@ pub record EndsWithin (answers : ℕ → List ℕ → Type 0) (fields : List (Li
 
 -- on Ok the whole text was added; a table that is too wide is refused before the first byte, and any other one only where
 -- a label or the sink is
-abbrev pub PrintsRecords : {T : Type 0} → (ℕ → List ℕ → Type 0) → List (List ℕ) → List (List (List ℕ)) → Sent → Result T TableError → Sent → Type 0
-PrintsRecords answers fields records old (Ok _) new = (IsTooWide fields records → ⊥) × PrintsAll answers fields records old new
-PrintsRecords answers fields records old (Err e) new =
+abbrev pub PrintsRecords : {T : Type 0} → (ℕ → List ℕ → Type 0) → (ℕ → Type 0) → List (List ℕ) → List (List (List ℕ)) → Sent → Result T TableError → Sent → Type 0
+PrintsRecords answers refuses fields records old (Ok _) new = (IsTooWide fields records → ⊥) × PrintsAll answers fields records old new
+PrintsRecords answers refuses fields records old (Err e) new =
     ((e ≡ Range) × IsTooWide fields records × (new ≡ old))
-    ⊎ ((IsTooWide fields records → ⊥) × (EndsBefore answers fields records old e new ⊎ EndsWithin answers fields records old e new))
+    ⊎ ((IsTooWide fields records → ⊥) × (EndsBefore answers refuses fields records old e new ⊎ EndsWithin answers fields records old e new))
 
 -- ---- for the private functions
 
--- the lines of one record: under some label that the template answers, or nothing where the label was refused
-abbrev pub PrintsRecord : {T : Type 0} → (List ℕ → Type 0) → (List ℕ → List (List ℕ)) → Sent → Bool → Result T TableError → Sent → Bool → Type 0
-PrintsRecord answers lines old begun (Ok _) new begun' = (label : List ℕ) × answers label × LineSends old begun new begun' (lines label)
-PrintsRecord answers lines old begun (Err e) new begun' =
-    ((e ≡ Memory) × (new ≡ old)) ⊎ ((label : List ℕ) × answers label × LineStops old begun e new (lines label))
+-- the lines of one record: under some label that the template answers, or nothing where the label was refused, as it may be
+abbrev pub PrintsRecord : {T : Type 0} → (List ℕ → Type 0) → Type 0 → (List ℕ → List (List ℕ)) → Sent → Bool → Result T TableError → Sent → Bool → Type 0
+PrintsRecord answers refused lines old begun (Ok _) new begun' = (label : List ℕ) × answers label × LineSends old begun new begun' (lines label)
+PrintsRecord answers refused lines old begun (Err e) new begun' =
+    ((e ≡ Memory) × refused × (new ≡ old)) ⊎ ((label : List ℕ) × answers label × LineStops old begun e new (lines label))

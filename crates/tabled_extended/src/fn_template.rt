@@ -1,5 +1,6 @@
 //! A function of a caller's as a template.
-ghost use Rattle.std.specs.Prelude.{◌≡◌, ◌<◌, ◌^◌, ℕ, List, Ok, string_bytes};
+ghost use Rattle.std.specs.Prelude.{◌≡◌, ◌<◌, ◌^◌, ℕ, List, Ok, Err, string_bytes};
+ghost use Rattle.std.specs.declared.alloc.AllocError.{AllocError};
 ghost use Rattle.std.specs.declared.alloc.Global.{Global};
 ghost use Rattle.std.specs.declared.string.String.{String};
 
@@ -36,6 +37,9 @@ impl<G: LabelFn> FnTemplate<G> {
 impl<G: LabelFn> Template for FnTemplate<G> {
     ghost answers = { λ g index text. (answer : String Global) × G.gives g index (Ok answer)
         × (text ≡ string_bytes answer) };
+
+    // Just where the function may refuse.
+    ghost refuses = { λ g index. (error : AllocError) × G.gives g index (Err error) };
 
     fn label(&self, _alloc: Global, index: usize) -> Result<String, TableError> {
         Ok(self.g.text_at(index)?)

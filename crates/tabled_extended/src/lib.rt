@@ -10,6 +10,7 @@ mod making;
 mod printing;
 mod rooms;
 mod template;
+mod titles;
 mod truncating;
 
 pub use extended_table::ExtendedTable;

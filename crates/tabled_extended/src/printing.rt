@@ -12,11 +12,10 @@ ghost use Rattle.tabled_extended.specs.PrintedRecords.{IsTooWide, PrintsRecord, 
 
 use crate::extended_table::ExtendedTable;
 use crate::template::Template;
-use std::alloc::Global;
+use crate::titles::{put_title, title_width};
 use std::fmt;
 use tabled_base::{CellText, TableError, Text};
 use tabled_row::{TextSink, put_break, put_fill};
-use tabled_text::text_width;
 
 /// The columns of the widest field and of the widest value.
 #[derive(Clone, Copy)]
@@ -47,17 +46,6 @@ pub(crate) fn widest_value(records: &[Vec<Text<String>>]) -> usize
     columns
 }
 
-/// The text of a template between dashes.
-fn title(alloc: Global, label: &str) -> Result<String, TableError>
-    ensures text { IfOk result (λ text. string_bytes text ≡ title label.now) }
-    ensures only { IfErr result (λ e. e ≡ Memory) }
-{
-    let mut text = String::from_str(alloc, "-")?;
-    text.push_str(label)?;
-    text.push('-')?;
-    Ok(text)
-}
-
 /// The dashes over a record from the column of the bar on.
 fn put_cross<S: TextSink>(sink: &mut S, before: usize, behind: usize) -> Result<(), TableError>
     ensures { Writes (S.sent sink.old) result (S.sent sink.new)
@@ -85,13 +73,13 @@ fn put_rule<S: TextSink>(sink: &mut S, widths: Widths, columns: usize) -> Result
     }
 }
 
-/// A title and what stands behind it.
-fn put_titled<S: TextSink>(sink: &mut S, widths: Widths, above: &str) -> Result<(), TableError>
+/// The text of a template between dashes, and what stands behind it.
+fn put_titled<S: TextSink>(sink: &mut S, widths: Widths, label: &str) -> Result<(), TableError>
     requires { widths.field + 3 + widths.value < 2 ^ 64 }
-    ensures { Writes (S.sent sink.old) result (S.sent sink.new) (header widths.field widths.value above.now) }
+    ensures { Writes (S.sent sink.old) result (S.sent sink.new) (header widths.field widths.value (title label.now)) }
 {
-    sink.write_text(above)?;
-    put_rule(sink, widths, text_width(above))
+    put_title(sink, label)?;
+    put_rule(sink, widths, title_width(label))
 }
 
 /// The first line of a record.
@@ -99,14 +87,14 @@ fn put_header<S: TextSink>(
     sink: &mut S,
     begun: &mut bool,
     widths: Widths,
-    above: &str,
+    label: &str,
 ) -> Result<(), TableError>
     requires { widths.field + 3 + widths.value < 2 ^ 64 }
     ensures { WritesLines (S.sent sink.old) begun.old result (S.sent sink.new) begun.new
-        (header widths.field widths.value above.now ∷ []) }
+        (header widths.field widths.value (title label.now) ∷ []) }
 {
     put_break(sink, begun)?;
-    put_titled(sink, widths, above)
+    put_titled(sink, widths, label)
 }
 
 /// The columns that are left behind a field.
@@ -177,20 +165,20 @@ fn put_values<S: TextSink>(
     Ok(())
 }
 
-/// The lines of a record under a title.
+/// The lines of a record under a text of the template.
 fn put_lines<S: TextSink>(
     sink: &mut S,
     begun: &mut bool,
     widths: Widths,
     fields: &[Text<String>],
-    above: &str,
+    label: &str,
     values: &[Text<String>],
 ) -> Result<(), TableError>
     requires { widths.field + 3 + widths.value < 2 ^ 64 }
     ensures { WritesLines (S.sent sink.old) begun.old result (S.sent sink.new) begun.new
-        (header widths.field widths.value above.now ∷ map (value_line widths.field) (zip fields.now values.now)) }
+        (record_lines widths.field widths.value fields.now label.now values.now) }
 {
-    put_header(sink, begun, widths, above)?;
+    put_header(sink, begun, widths, label)?;
     put_values(sink, begun, widths.field, fields, values)
 }
 
@@ -212,16 +200,15 @@ fn put_record<F: Template, S: TextSink>(
 ) -> Result<(), TableError>
     requires there { index < length table.now.records.items }
     requires range { widths.field + 3 + widths.value < 2 ^ 64 }
-    ensures { PrintsRecord (F.answers table.now.template index)
+    ensures { PrintsRecord (F.answers table.now.template index) (F.refuses table.now.template index)
         (λ label. record_lines widths.field widths.value table.now.fields.items label
         (slice_index_or (row_texts table.now.records.items) index []))
         (S.sent sink.old) begun.old result (S.sent sink.new) begun.new }
 {
     let alloc = *table.fields.allocator();
     let label = table.template.label(alloc, index)?;
-    let above = title(alloc, &label)?;
     let values = values_at(table.records.as_slice(), index);
-    put_lines(sink, begun, widths, table.fields.as_slice(), &above, values)
+    put_lines(sink, begun, widths, table.fields.as_slice(), &label, values)
 }
 
 /// The lines of all records.
@@ -233,8 +220,8 @@ fn put_records<F: Template, S: TextSink>(
     requires field { widths.field ≡ widest table.now.fields.items }
     requires value { widths.value ≡ widest_value (row_texts table.now.records.items) }
     requires range { widths.field + 3 + widths.value < 2 ^ 64 }
-    ensures { PrintsRecords (F.answers table.now.template) table.now.fields.items (row_texts table.now.records.items)
-        (S.sent sink.old) result (S.sent sink.new) }
+    ensures { PrintsRecords (F.answers table.now.template) (F.refuses table.now.template)
+        table.now.fields.items (row_texts table.now.records.items) (S.sent sink.old) result (S.sent sink.new) }
 {
     let mut begun = false;
     'records: for index in 0..table.records.len() {
@@ -247,11 +234,12 @@ impl<F: Template> ExtendedTable<F> {
     /// Prints for each record its header, which has the text that the template answers for its index, and a line for
     /// each field that has a value; a further field or value isn't shown, but counts for the widths. A table without
     /// records has no line. Refused with `Range` where the columns of a field, a bar and a value pass the greatest
-    /// `usize`, before the first byte; with `Memory` for a label, as its record is reached, with the whole records before it
-    /// printed; and for what the sink refuses, a beginning of the text printed.
+    /// `usize`, before the first byte; with `Memory` for a label that the template may refuse, as its record is reached, with
+    /// the whole records before it printed; and for what the sink refuses, a beginning of the text printed. It takes no memory
+    /// of its own.
     pub fn write_to<S: TextSink>(&self, sink: &mut S) -> Result<(), TableError>
-        ensures { PrintsRecords (F.answers self.now.template) self.now.fields.items (row_texts self.now.records.items)
-            (S.sent sink.old) result (S.sent sink.new) }
+        ensures { PrintsRecords (F.answers self.now.template) (F.refuses self.now.template)
+            self.now.fields.items (row_texts self.now.records.items) (S.sent sink.old) result (S.sent sink.new) }
     {
         if self.records.is_empty() {
             return Ok(());

@@ -9,7 +9,7 @@ pub returns : goal.returns
 returns g c =
     let w = c.args.widths in
     let t = c.args.table.now in
-    record-printed (g.F.Template.answers t.template c.args.index)
+    record-printed (g.F.Template.answers t.template c.args.index) (g.F.Template.refuses t.template c.args.index)
     (λ label. record_lines w.field w.value t.fields.items label (get_or (row_texts t.records.items) c.args.index []))
     (g.S.TextSink.sent c.args.sink.now) (g.S.TextSink.sent c.put_lines.new.sink) c.args.begun.now c.put_lines.new.begun
-    c.put_lines.result _ _ c.in_ok-label.ensures.text c.put_lines.ensures (grind (arith, common_steps, c.in_ok-above.ensures.text))
+    c.put_lines.result _ _ c.in_ok-label.ensures.text c.put_lines.ensures (grind (arith, common_steps))

@@ -13,7 +13,7 @@ records-preserved g c =
 
 pub returns-in_err-put_record : goal.returns-in_err-put_record
 returns-in_err-put_record g c =
-    records-stopped c.put_record.new.begun c.from_residual.result _ c.args.widths.field c.args.widths.value c.requires.field c.requires.value
+    records-stopped (g.F.Template.refuses c.args.table.now.template) c.put_record.new.begun c.from_residual.result _ c.args.widths.field c.args.widths.value c.requires.field c.requires.value
     c.records.invariant (rw length-map (omega arith)) (λ w. absurd (omega (arith, w.past))) c.in_err-put_record.ensures c.from_residual.ensures.1
 
 pub returns : goal.returns
