@@ -81,4 +81,8 @@ impl<'a, R: PeekableRecords, D: Dimension> Row<'a> for GridRow<'a, R, D> {
             column,
         })
     }
+
+    fn count_drawn(&self) -> usize {
+        self.grid.count_columns()
+    }
 }
