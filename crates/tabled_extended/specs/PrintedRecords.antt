@@ -39,7 +39,8 @@ pub record EndsWithin (answers : ℕ → List ℕ → Type 0) (fields : List (Li
 
 -- on Ok the whole text was added; a table that is too wide is refused before the first byte, and any other one only where
 -- a label or the sink is
-abbrev pub PrintsRecords : {T : Type 0} → (ℕ → List ℕ → Type 0) → (ℕ → Type 0) → List (List ℕ) → List (List (List ℕ)) → Sent → Result T TableError → Sent → Type 0
+abbrev pub PrintsRecords : {T : Type 0} → (ℕ → List ℕ → Type 0) → (ℕ → Type 0) → List (List ℕ) → List (List (List ℕ)) → Sent
+    → Result T TableError → Sent → Type 0
 PrintsRecords answers refuses fields records old (Ok _) new = (IsTooWide fields records → ⊥) × PrintsAll answers fields records old new
 PrintsRecords answers refuses fields records old (Err e) new =
     ((e ≡ Range) × IsTooWide fields records × (new ≡ old))
@@ -48,7 +49,8 @@ PrintsRecords answers refuses fields records old (Err e) new =
 -- ---- for the private functions
 
 -- the lines of one record: under some label that the template answers, or nothing where the label was refused, as it may be
-abbrev pub PrintsRecord : {T : Type 0} → (List ℕ → Type 0) → Type 0 → (List ℕ → List (List ℕ)) → Sent → Bool → Result T TableError → Sent → Bool → Type 0
+abbrev pub PrintsRecord : {T : Type 0} → (List ℕ → Type 0) → Type 0 → (List ℕ → List (List ℕ)) → Sent → Bool → Result T TableError → Sent
+    → Bool → Type 0
 PrintsRecord answers refused lines old begun (Ok _) new begun' = (label : List ℕ) × answers label × LineSends old begun new begun' (lines label)
 PrintsRecord answers refused lines old begun (Err e) new begun' =
     ((e ≡ Memory) × refused × (new ≡ old)) ⊎ ((label : List ℕ) × answers label × LineStops old begun e new (lines label))
