@@ -1,4 +1,5 @@
 pub mod CutExists
+pub mod Drawn
 pub mod Endings
 pub mod Finished
 pub mod FirstRows

@@ -37,7 +37,7 @@ sum-same f n (suc k) w h =
     let here = h (n + k) (omega arith) in
     ap (sum_below f) step ∙ (let e : sum_below f (n + k) + f (n + k) ≡ sum_below f n + suc k * w = omega arith in e)
 
-past-list : (xs : List ℕ) (k d : ℕ) → length xs ≤ k → get_or xs k d ≡ d
+pub past-list : (xs : List ℕ) (k d : ℕ) → length xs ≤ k → get_or xs k d ≡ d
 past-list [] k d h = refl
 past-list (x ∷ xs) zero d h = absurd (omega arith)
 past-list (x ∷ xs) (suc k) d h = past-list xs k d (omega arith)

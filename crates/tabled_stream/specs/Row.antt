@@ -23,6 +23,14 @@ content_at layout column = slice_index_or layout.contents.items column layout.re
 abbrev pub width_at : Layout → ℕ → ℕ
 width_at layout column = content_at layout column + layout.side
 
+-- each further column takes nothing where its cell is empty: no width, no padding, and no vertical line before it
+pub record TakesNoMore (layout : Layout) : Type 0 where
+  pub rest : layout.rest ≡ 0
+  pub side : layout.side ≡ 0
+  pub left : layout.style.padding.left.size ≡ 0
+  pub right : layout.style.padding.right.size ≡ 0
+  pub bar : layout.frame.inner.there ≡ false
+
 -- the widths of all columns, the vertical lines that are there, and the side margins
 unfoldable pub layout_total : Layout → ℕ
 layout_total layout =

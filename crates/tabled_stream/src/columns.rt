@@ -28,4 +28,8 @@ impl<'a> Columns for LentColumns<'a> {
     fn frame(&self) -> &Frame {
         &self.layout.frame
     }
+
+    fn alike_from(&self) -> usize {
+        self.layout.contents.len()
+    }
 }

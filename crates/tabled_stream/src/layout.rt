@@ -1,5 +1,5 @@
 //! The columns of a stream, and what is printed around its cells.
-ghost use Rattle.std.specs.Prelude.{◌≡◌, ◌+◌, ◌<◌, ◌≤◌, ◌^◌, if◌then◌else◌, MatchOption};
+ghost use Rattle.std.specs.Prelude.{◌≡◌, ◌+◌, ◌<◌, ◌≤◌, ◌^◌, false, if◌then◌else◌, MatchOption};
 
 use tabled_config::{CellStyle, Frame, HorizontalLine};
 use tabled_row::SharedStyle;
@@ -32,7 +32,7 @@ pub(crate) struct Layout {
 }
 
 impl Layout {
-    ghost use Rattle.tabled_stream.specs.Row.{content_at};
+    ghost use Rattle.tabled_stream.specs.Row.{content_at, TakesNoMore};
 
     /// The columns that a column leaves to texts.
     pub fn content_width(&self, column: usize) -> usize
@@ -43,6 +43,18 @@ impl Layout {
         } else {
             self.rest
         }
+    }
+
+    /// Whether an empty cell takes something in a further column: a width, padding, or the vertical line before it.
+    pub fn takes_more(&self) -> bool
+        ensures { result ≡ false → TakesNoMore self.now }
+    {
+        let padding = self.style.padding;
+        self.rest > 0
+            || self.side > 0
+            || padding.left.size > 0
+            || padding.right.size > 0
+            || self.frame.inner.there
     }
 
     /// The horizontal line above a row, which is the first or not.

@@ -74,6 +74,14 @@ impl<'a> Row<'a> for CutRow<'a> {
             content: self.content(column),
         }
     }
+
+    fn count_drawn(&self) -> usize {
+        if self.layout.takes_more() {
+            return self.layout.count;
+        }
+        let known = self.layout.contents.len().max(self.cells.len());
+        known.min(self.layout.count)
+    }
 }
 
 /// The cells of a row as far as its columns go, each cut to its column and measured.
