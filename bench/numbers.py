@@ -460,21 +460,22 @@ def stream_settings():
             yield {**first, **second}
 
 
-def walks_for_ever(config, count, each):
-    """Columns that take nothing are walked one by one all the same, so that so many of them aren't tried."""
-    return count == MAX and config.total([(each, count)]) <= MAX
-
-
 def streams():
     for config in configs():
         yield f"stream | {config.name()} |  | {stream(config, {})}"
     plain = [Config(), Config(has_borders=False), Config(padding=(0, 0, 0, 0), has_borders=False)]
     sides = [Config(padding=sides) for sides in sides_in_turn()] + [Config(margin=sides) for sides in sides_in_turn()]
     for config, given in itertools.product(plain + sides, stream_settings()):
-        each = given.get("width", 0) + sum(config.padding[:2])
-        if not walks_for_ever(config, given.get("columns", 2), each):
-            shown = "; ".join(f"{name} {word(n)}" for name, n in given.items())
-            yield f"stream | {config.name()} | {shown} | {stream(config, given)}"
+        yield stream_line(config, given)
+    # Columns of no width with vertical lines between them, and columns that take nothing in a margin.
+    margins = [Config(margin=sides, padding=(0, 0, 0, 0), has_borders=False) for sides in sides_in_turn() if any(sides)]
+    for config in [*plain, Config(padding=(0, 0, 0, 0)), *margins]:
+        yield stream_line(config, {"columns": MAX - 2, "width": 0})
+
+
+def stream_line(config, given):
+    shown = "; ".join(f"{name} {word(n)}" for name, n in given.items())
+    return f"stream | {config.name()} | {shown} | {stream(config, given)}"
 
 
 def compact(config, count, width, skip, limit):
@@ -501,9 +502,16 @@ def compacts():
     for config in configs():
         yield compact_line(config, 2, 5, 0, MAX)
     plain = [Config(), Config(has_borders=False), Config(padding=(0, 0, 0, 0))]
-    numbers = itertools.product((0, 1, 2), (0, 1, MAX), (0, 1, MAX), (0, 1, MAX))
+    numbers = itertools.product((0, 1, 2, MAX), (0, 1, MAX), (0, 1, MAX), (0, 1, MAX))
     for config, given in itertools.product(plain, numbers):
         yield compact_line(config, *given)
+    for config in plain:
+        yield compact_line(config, MAX - 2, 0, 0, MAX)
+    # Columns that take nothing: what stands behind them, and around the table, is written all the same.
+    bare = [Config(padding=sides, has_borders=False) for sides in sides_in_turn()]
+    bare += [Config(margin=sides, padding=(0, 0, 0, 0), has_borders=False) for sides in sides_in_turn() if any(sides)]
+    for config, count, width in itertools.product(bare, (2, 1000, MAX), (0, 1)):
+        yield compact_line(config, count, width, 0, MAX)
 
 
 def compact_line(config, *given):
