@@ -1,4 +1,5 @@
 pub mod Blocks
+pub mod Failing
 pub mod FittedTables
 pub mod Narrowings
 pub mod Noting

@@ -1,43 +1,69 @@
 -- The output of a text, and beginnings of it.
-use Rattle.std.proofs.Common.{◌≡◌, ◌⊎◌, ℕ, List, [], ◌∷◌, ◌++◌, Option, Result, Ok, Err, refl, sym, ap, ◌∙◌, subst, append_assoc, inl, inr, ⊎_elim}
+use Rattle.std.proofs.Common.{◌≡◌, ◌⊎◌, ℕ, Bool, List, [], ◌∷◌, ◌++◌, Option, Result, Ok, Err, refl, sym, ap, ◌∙◌, subst, append_assoc, inl, inr, ⊎_elim}
 use Rattle.std.specs.Prelude.{MatchResult}
 use Rattle.std.specs.Result.{IsErrAnd}
 use Rattle.tabled_base.specs.TextRows.{text_rows}
 use Rattle.tabled_base.specs.declared.error.TableError.{TableError}
+use Rattle.tabled_base.specs.declared.error.TableError.TheVariants.{Memory, ShortWidths, ShortHeights, Narrow, Range, Writer}
 use Rattle.tabled_grid.specs.Picture.{table_text}
-use Rattle.tabled_row.specs.Sent.{Sent}
+use Rattle.tabled_row.specs.Sent.{IsCause, Sent, Writes}
 use Rattle.tabled.specs.declared.plan.Plan.{Plan}
 use Rattle.tabled.specs.Headline.{IsBestPlanned}
-use Rattle.tabled.specs.Output.{Begins, IsOutput, Puts, PutsOutput, with_feed}
+use Rattle.tabled.specs.Output.{Begins, IsBegunOn, IsOutput, Overflows, Puts, PutsOutput, with_feed}
 use Rattle.tabled.specs.Planned.{IsPlanned}
 use Rattle.tabled.specs.Rendered.{BreaksOff, Halts, IsRendered, SendsTable}
 use Rattle.tabled.proofs.Since.{begun_none}
 use Rattle.tabled.proofs.TextTables.{feed_whole}
 
--- an output is one whatever the answer is
-pub either_output : {T E : Type 0} (plan : Plan) (text output : List ℕ) (r : Result T E) → IsOutput plan text output
-    → MatchResult r (λ _. IsOutput plan text output) (λ _. (output ≡ []) ⊎ IsOutput plan text output)
-either_output plan text output (Ok x) h = h
-either_output plan text output (Err e) h = inr h
+-- in the middle of an output, memory is refused or the writer fails
+uncaused : {A : Type 0} (plan : Plan) (e : TableError) → (e ≡ Memory → ⊥) → (⊥ ⊎ Halts plan e) → A
+uncaused plan e other c = absurd (⊎_elim (λ n. n) (λ k. other k.1) c)
+
+pub begun_on : (plan : Plan) (text output : List ℕ) (e : TableError) (grows : Bool) (a b : ℕ) → (IsCause e grows a b ⊎ Halts plan e) → IsOutput plan text output
+    → IsBegunOn plan text output e
+begun_on plan text output Memory grows a b c h = inr h
+begun_on plan text output ShortWidths grows a b c h = uncaused plan ShortWidths (λ m. let bad : ⊥ = cc in bad) c
+begun_on plan text output ShortHeights grows a b c h = uncaused plan ShortHeights (λ m. let bad : ⊥ = cc in bad) c
+begun_on plan text output (Narrow row column) grows a b c h = uncaused plan (Narrow row column) (λ m. let bad : ⊥ = cc in bad) c
+begun_on plan text output Range grows a b c h = uncaused plan Range (λ m. let bad : ⊥ = cc in bad) c
+begun_on plan text output Writer grows a b c h = h
+
+-- an output of which the last piece was written, or refused
+pub either_output : {T : Type 0} (plan : Plan) (text output piece : List ℕ) (old : Sent) (r : Result T TableError) (new : Sent) → Writes old r new piece
+    → IsOutput plan text output → MatchResult r (λ _. IsOutput plan text output) (IsBegunOn plan text output)
+either_output plan text output piece old (Ok x) new w h = h
+either_output plan text output piece old (Err e) new w h = begun_on plan text output e old.grows old.failures new.failures (inl w.cause) h
 
 pub output_of : (plan : Plan) (text : List ℕ) (old new : Sent) → (s : SendsTable (IsPlanned plan (text_rows text)) (IsBestPlanned plan (text_rows text)) old new)
     → IsOutput plan text (with_feed (table_text s.table))
 output_of plan text old new s = record { table = s.table; planned = s.is_planned; best = s.is_best; whole = refl }
 
--- nothing was put
-pub output_none : {T E : Type 0} (plan : Plan) (text : List ℕ) (bytes : Option (List ℕ)) (e : E) (r : Result T E) → IsErrAnd r (λ d. d ≡ e) → PutsOutput plan text bytes r bytes
-output_none plan text bytes e (Ok x) i = absurd i
-output_none plan text bytes e (Err d) i = record { output = []; is_output = inl refl; puts = begun_none bytes [] }
+-- nothing was put, since memory was refused
+pub output_none : {T : Type 0} (plan : Plan) (text : List ℕ) (bytes : Option (List ℕ)) (e : TableError) (r : Result T TableError) → IsErrAnd r (λ d. d ≡ e)
+    → e ≡ Memory → PutsOutput plan text bytes r bytes
+output_none plan text bytes e (Ok x) i m = absurd i
+output_none plan text bytes e (Err d) i m =
+    record { output = []; is_output = subst (IsBegunOn plan text []) (sym (i ∙ m)) (inl refl); puts = begun_none bytes [] }
+
+-- or since a total passes the range
+output_over : {T : Type 0} (plan : Plan) (text : List ℕ) (bytes : Option (List ℕ)) (e : TableError) (r : Result T TableError) → IsErrAnd r (λ d. d ≡ e)
+    → e ≡ Range → Overflows plan text → PutsOutput plan text bytes r bytes
+output_over plan text bytes e (Ok x) i m o = absurd i
+output_over plan text bytes e (Err d) i m o =
+    record { output = []; is_output = subst (IsBegunOn plan text []) (sym (i ∙ m)) (refl, o); puts = begun_none bytes [] }
 
 -- a beginning of the table is one of the output
-output_begun : {T E : Type 0} (plan : Plan) (text : List ℕ) (old new : Sent) (e : TableError) (d : E) (r : Result T E) → IsErrAnd r (λ x. x ≡ d)
+output_begun : {T : Type 0} (plan : Plan) (text : List ℕ) (old new : Sent) (e : TableError) (r : Result T TableError) → IsErrAnd r (λ d. d ≡ e)
     → BreaksOff (IsPlanned plan (text_rows text)) (IsBestPlanned plan (text_rows text)) (Halts plan) old e new → PutsOutput plan text old.bytes r new.bytes
-output_begun plan text old new e d (Ok x) i b = absurd i
-output_begun plan text old new e d (Err x) i b =
+output_begun plan text old new e (Ok x) i b = absurd i
+output_begun plan text old new e (Err d) i b =
     let (more, whole) = feed_whole (table_text b.table) in
+    let all = with_feed (table_text b.table) in
     record {
-      output = with_feed (table_text b.table);
-      is_output = inr (record { table = b.table; planned = b.is_planned; best = b.is_best; whole = refl });
+      output = all;
+      is_output = subst (IsBegunOn plan text all) (sym i)
+          (begun_on plan text all e old.grows old.failures new.failures b.cause
+          (record { table = b.table; planned = b.is_planned; best = b.is_best; whole = refl }));
       puts = record {
         front = b.front;
         rest = b.rest ++ more;
@@ -51,6 +77,6 @@ pub output_refused : {T : Type 0} (R : Type 0) (plan : Plan) (text : List ℕ) (
     → IsRendered {T = R} plan (text_rows text) old (Err e) new → PutsOutput plan text old.bytes r new.bytes
 output_refused R plan text old new e r i h =
     let P : Sent → Type 0 = λ s. PutsOutput plan text old.bytes r s.bytes in
-    ⊎_elim (λ m. subst P (sym m.1) (output_none plan text old.bytes e r i))
-    (λ k. ⊎_elim (λ q. subst P (sym q.1) (output_none plan text old.bytes e r i)) (λ b. output_begun plan text old new e e r i b) k)
+    ⊎_elim (λ m. subst P (sym m.1) (output_none plan text old.bytes e r i m.0))
+    (λ k. ⊎_elim (λ q. subst P (sym q.1) (output_over plan text old.bytes e r i q.0 q.2)) (λ b. output_begun plan text old new e r i b) k)
     h

@@ -1,12 +1,8 @@
 -- Lines that a writer is handed.
-use Rattle.std.proofs.Common.{◌≡◌, ◌≢◌, ℕ, List, [], ◌∷◌, ◌++◌, take, drop, Option, Result, Ok, Err, refl, sym, ap, subst, ◌∙◌, append-nil, append_assoc, take-append-drop, arith}
+use Rattle.std.proofs.Common.{◌≡◌, ℕ, List, [], ◌∷◌, ◌++◌, take, drop, Option, Result, Ok, Err, refl, sym, ap, subst, ◌∙◌, append-nil, append_assoc, take-append-drop}
 use Rattle.std.specs.Io.KnownBytes.{Appends, Keeps}
-use Rattle.std.specs.List.{Contains}
 use Rattle.tabled_row.proofs.Sending.{Appends-nil, Appends-then}
-use Rattle.tabled.specs.Faults.{IsTold, line_of, refusal_words, usage, word_of}
 use Rattle.tabled.specs.Output.{Begins, Handed, Puts}
-use Rattle.tabled.specs.declared.fault.Fault.{Fault}
-use Rattle.tabled.specs.declared.fault.Fault.TheVariants as fault
 
 pub handed_more : (a b c : Option (List ℕ)) (text rest next : List ℕ) (n : ℕ) → Handed a b text rest → Appends b c (take n rest) → next ≡ drop n rest
     → Handed a c text next
@@ -49,20 +45,3 @@ puts_then a b c (Err e) text more p q = record {
 pub puts_begins : {T E : Type 0} (a b : Option (List ℕ)) (r : Result T E) (text : List ℕ) → Puts a r b text → Begins a b text
 puts_begins a b (Ok x) text h = record { front = text; rest = []; whole = append-nil text; added = h }
 puts_begins a b (Err e) text h = h
-
--- the word of a fault that isn't of the words is one of the refusals'
-refusal_word : (f : Fault) → f ≢ fault.Usage → Contains refusal_words (word_of f)
-refusal_word fault.Usage h = absurd (h refl)
-refusal_word fault.Input h = (0, omega arith, refl)
-refusal_word fault.Memory h = (1, omega arith, refl)
-refusal_word fault.ShortWidths h = (2, omega arith, refl)
-refusal_word fault.ShortHeights h = (3, omega arith, refl)
-refusal_word fault.Narrow h = (4, omega arith, refl)
-refusal_word fault.Range h = (5, omega arith, refl)
-refusal_word fault.Writer h = (6, omega arith, refl)
-
-pub told_refusal : (f : Fault) (a b : Option (List ℕ)) → f ≢ fault.Usage → Begins a b (line_of (word_of f)) → IsTold refusal_words a b
-told_refusal f a b other h = record { word = word_of f; is_word = refusal_word f other; begun = h }
-
-pub told_usage : (f : Fault) (a b : Option (List ℕ)) → f ≡ fault.Usage → Begins a b (line_of (word_of f)) → IsTold (usage ∷ []) a b
-told_usage f a b is h = record { word = usage; is_word = (0, omega arith, refl); begun = subst (λ x. Begins a b (line_of (word_of x))) is h }

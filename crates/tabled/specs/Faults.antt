@@ -1,9 +1,7 @@
 -- The fault of the program for each refusal, and the line that tells it. A word and a line are lists of bytes.
-use Rattle.std.specs.Prelude.{ℕ, List, [], ◌∷◌, ◌++◌, Option, codes}
-use Rattle.std.specs.List.{Contains}
+use Rattle.std.specs.Prelude.{ℕ, List, [], ◌∷◌, ◌++◌, codes}
 use Rattle.tabled_base.specs.declared.error.TableError.{TableError}
 use Rattle.tabled_base.specs.declared.error.TableError.TheVariants.{Memory, ShortWidths, ShortHeights, Narrow, Range, Writer}
-use Rattle.tabled.specs.Output.{Begins}
 use Rattle.tabled.specs.declared.fault.Fault.{Fault}
 use Rattle.tabled.specs.declared.fault.Fault.TheVariants as fault
 
@@ -31,17 +29,6 @@ word_of fault.Narrow = codes "Narrow"
 word_of fault.Range = codes "Range"
 word_of fault.Writer = codes "Writer"
 
--- the words of the refusals
-abbrev pub refusal_words : List (List ℕ)
-refusal_words =
-    codes "Input" ∷ codes "Memory" ∷ codes "ShortWidths" ∷ codes "ShortHeights" ∷ codes "Narrow" ∷ codes "Range" ∷ codes "Writer" ∷ []
-
 -- a word on a line of its own
 abbrev pub line_of : List ℕ → List ℕ
 line_of word = word ++ 10 ∷ []
-
--- known bytes grew by a line of one of some words, or by a beginning of it
-pub record IsTold (words : List (List ℕ)) (old new : Option (List ℕ)) : Type 0 where
-  pub word : List ℕ
-  pub is_word : Contains words word
-  pub begun : Begins old new (line_of word)

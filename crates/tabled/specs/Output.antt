@@ -2,11 +2,15 @@
 use Rattle.std.specs.Prelude.{◌≡◌, ◌⊎◌, ℕ, ◌==◌, if◌then◌else◌, List, [], ◌∷◌, ◌++◌, length, Option, Result, Ok, Err, MatchResult}
 use Rattle.std.specs.Io.KnownBytes.{Appends}
 use Rattle.tabled_base.specs.TextRows.{text_rows}
+use Rattle.tabled_base.specs.declared.error.TableError.{TableError}
+use Rattle.tabled_base.specs.declared.error.TableError.TheVariants.{Memory, Range, Writer}
 use Rattle.tabled_grid.specs.Picture.{table_text}
 use Rattle.tabled_size.specs.Sheet.{Sheet}
+use Rattle.tabled_table.specs.TableSheet.{new_sheet}
 use Rattle.tabled.specs.declared.plan.Plan.{Plan}
 use Rattle.tabled.specs.Headline.{IsBestPlanned}
 use Rattle.tabled.specs.Planned.{IsPlanned}
+use Rattle.tabled.specs.Rendered.{PassesRange}
 
 -- a text, and a line feed unless it is empty
 unfoldable pub with_feed : List ℕ → List ℕ
@@ -37,9 +41,20 @@ abbrev pub Puts : {T E : Type 0} → Option (List ℕ) → Result T E → Option
 Puts old (Ok _) new text = Appends old new text
 Puts old (Err _) new text = Begins old new text
 
--- known bytes grow by the output of a text on Ok, and else by a beginning of it, which is none where it is refused before
--- the first byte
-pub record PutsOutput {T E : Type 0} (plan : Plan) (text : List ℕ) (old : Option (List ℕ)) (result : Result T E) (new : Option (List ℕ)) : Type 0 where
+-- a total of the table of a text, or of the one that is planned, passes the greatest `usize`
+abbrev pub Overflows : Plan → List ℕ → Type 0
+Overflows plan text = PassesRange (IsPlanned plan (text_rows text)) (new_sheet (text_rows text))
+
+-- what was begun where the output is refused: nothing where a total passes the range, the output where the writer failed, and one
+-- of both where memory was refused. No other refusal comes
+abbrev pub IsBegunOn : Plan → List ℕ → List ℕ → TableError → Type 0
+IsBegunOn plan text begun Memory = (begun ≡ []) ⊎ IsOutput plan text begun
+IsBegunOn plan text begun Range = (begun ≡ []) × Overflows plan text
+IsBegunOn plan text begun Writer = IsOutput plan text begun
+IsBegunOn plan text begun _ = ⊥
+
+-- known bytes grow by the output of a text on Ok, and else by a beginning of what was begun
+pub record PutsOutput {T : Type 0} (plan : Plan) (text : List ℕ) (old : Option (List ℕ)) (result : Result T TableError) (new : Option (List ℕ)) : Type 0 where
   pub output : List ℕ
-  pub is_output : MatchResult result (λ _. IsOutput plan text output) (λ _. (output ≡ []) ⊎ IsOutput plan text output)
+  pub is_output : MatchResult result (λ _. IsOutput plan text output) (IsBegunOn plan text output)
   pub puts : Puts old result new output

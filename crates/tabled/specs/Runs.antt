@@ -1,8 +1,11 @@
 -- What a run of the program leaves of its reader and its writer.
 use Rattle.std.specs.Prelude.{◌≡◌, ◌⊎◌, ℕ, List, [], Option, IfSome, IsUtf8}
 use Rattle.std.specs.Io.KnownBytes.{Appends, IsAtEnd}
+use Rattle.tabled.specs.declared.fault.Fault.{Fault}
+use Rattle.tabled.specs.declared.fault.Fault.TheVariants.{Input, Memory, Range, Writer}
 use Rattle.tabled.specs.declared.plan.Plan.{Plan}
-use Rattle.tabled.specs.Output.{Begins, IsOutput}
+use Rattle.tabled.specs.Output.{Begins, IsOutput, Overflows}
+use Rattle.tabled.specs.Words.{SpellsPlan}
 
 -- a text is all that a reader had left, and now it has nothing left
 pub record HasRead (old new : Option (List ℕ)) (text : List ℕ) : Type 0 where
@@ -18,10 +21,31 @@ pub record HasPrinted (plan : Plan) (old left held holds : Option (List ℕ)) : 
   pub is_output : IsOutput plan text output
   pub added : Appends held holds output
 
--- all was read, and the writer took a beginning of the output of it, or nothing
+-- all was read, and the writer took a beginning of the output of it
 pub record HasBegun (plan : Plan) (old left held holds : Option (List ℕ)) : Type 0 where
   pub text : List ℕ
   pub input : HasRead old left text
   pub output : List ℕ
-  pub is_output : (output ≡ []) ⊎ IsOutput plan text output
+  pub is_output : IsOutput plan text output
   pub begun : Begins held holds output
+
+-- all was read, a total of its table passes the range, and the writer took nothing
+pub record HasOverflowed (plan : Plan) (old left held holds : Option (List ℕ)) : Type 0 where
+  pub text : List ℕ
+  pub input : HasRead old left text
+  pub overflows : Overflows plan text
+  pub kept : Appends held holds []
+
+-- what a run that failed leaves of its reader and its writer, by the fault: the writer as it was where the input can't be read; what
+-- it held where memory was refused before the first byte, or a total passes the range; and else a beginning of the output more. Nothing else
+-- is a run with good words refused for
+abbrev pub HasFailed : {O : Type 0} → (O → Option (List ℕ)) → List (List ℕ) → Option (List ℕ) → Option (List ℕ) → O → O → Fault → Type 0
+HasFailed contents words old left out now Input = now ≡ out
+HasFailed contents words old left out now Memory =
+    Appends (contents out) (contents now) []
+    ⊎ ((plan : Plan) × SpellsPlan words plan × HasBegun plan old left (contents out) (contents now))
+HasFailed contents words old left out now Range =
+    (plan : Plan) × SpellsPlan words plan × HasOverflowed plan old left (contents out) (contents now)
+HasFailed contents words old left out now Writer =
+    (plan : Plan) × SpellsPlan words plan × HasBegun plan old left (contents out) (contents now)
+HasFailed contents words old left out now _ = ⊥

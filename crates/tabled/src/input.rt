@@ -1,7 +1,7 @@
 //! Reading to the end.
-ghost use Rattle.std.specs.Prelude.{◌≡◌, ◌≢◌, IfErr, IfOk, IfSome, OnOk, string_bytes};
+ghost use Rattle.std.specs.Prelude.{◌≡◌, ◌⊎◌, IfErr, IfOk, IfSome, OnOk, string_bytes};
 ghost use Rattle.std.specs.Io.KnownBytes.{IsAtEnd};
-ghost use Rattle.tabled.specs.declared.fault.Fault.TheVariants.{Usage};
+ghost use Rattle.tabled.specs.declared.fault.Fault.TheVariants.{Input, Memory};
 ghost use Rattle.tabled.specs.Runs.{HasRead};
 
 use crate::fault::Fault;
@@ -19,7 +19,7 @@ const READS: u64 = 1 << 40;
 fn read_all<I: Read>(alloc: Global, input: &mut I) -> Result<Vec<u8>, Fault>
     ensures all { IfOk result (λ bytes. IfSome (I.remaining input.old) (λ all. bytes.items ≡ all)) }
     ensures ended { OnOk result (IsAtEnd (I.remaining input.new)) }
-    ensures read { IfErr result (λ fault. fault ≢ Usage) }
+    ensures failed { IfErr result (λ fault. (fault ≡ Input) ⊎ (fault ≡ Memory)) }
 {
     let mut bytes = Vec::new(alloc);
     let mut block = [0u8; BLOCK];
@@ -40,7 +40,7 @@ fn read_all<I: Read>(alloc: Global, input: &mut I) -> Result<Vec<u8>, Fault>
 /// All that is left of a reader, which has to be UTF-8.
 pub(crate) fn read_text<I: Read>(alloc: Global, input: &mut I) -> Result<String, Fault>
     ensures text { IfOk result (λ text. HasRead (I.remaining input.old) (I.remaining input.new) (string_bytes text)) }
-    ensures read { IfErr result (λ fault. fault ≢ Usage) }
+    ensures failed { IfErr result (λ fault. (fault ≡ Input) ⊎ (fault ≡ Memory)) }
 {
     let bytes = read_all(alloc, input)?;
     if !is_utf8(&bytes) {

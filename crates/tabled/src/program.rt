@@ -1,11 +1,12 @@
 //! The program over any reader and writers.
-ghost use Rattle.std.specs.Prelude.{◌≡◌, ◌≤◌, ◌↔◌, ◌⊎◌, [], ◌∷◌, IfSome, IsErrOf, OnErr, OnOk, map, string_bytes};
+ghost use Rattle.std.specs.Prelude.{◌≡◌, ◌≤◌, ◌↔◌, ◌⊎◌, IfErr, IfSome, IsErrOf, OnOk, map, string_bytes};
+ghost use Rattle.tabled.specs.declared.fault.Fault.{Fault};
 ghost use Rattle.tabled.specs.declared.fault.Fault.TheVariants.{Usage};
 ghost use Rattle.tabled.specs.declared.plan.Plan.{Plan};
 ghost use Rattle.tabled.specs.BlockSent.{Advances, block_sent};
-ghost use Rattle.tabled.specs.Faults.{IsTold, line_of, refusal_words, usage, word_of};
+ghost use Rattle.tabled.specs.Faults.{line_of, usage, word_of};
 ghost use Rattle.tabled.specs.Output.{Begins, Puts, PutsOutput};
-ghost use Rattle.tabled.specs.Runs.{HasBegun, HasPrinted};
+ghost use Rattle.tabled.specs.Runs.{HasFailed, HasPrinted};
 ghost use Rattle.tabled.specs.Words.{SpellsPlan};
 
 use crate::block_sink::{BlockSink, Blocked, Since, Start};
@@ -92,9 +93,8 @@ fn attempt<I: Read, O: Write>(
         → (input.new ≡ input.old) × (out.new ≡ out.old) }
     ensures printed { OnOk result ((plan : Plan) × SpellsPlan (map string_bytes words.now) plan
         × HasPrinted plan (I.remaining input.old) (I.remaining input.new) (O.contents out.old) (O.contents out.new)) }
-    ensures begun { OnErr result ((out.new ≡ out.old)
-        ⊎ ((plan : Plan) × SpellsPlan (map string_bytes words.now) plan
-        × HasBegun plan (I.remaining input.old) (I.remaining input.new) (O.contents out.old) (O.contents out.new))) }
+    ensures failed { IfErr result (λ fault. (fault ≡ Fault.Usage)
+        ⊎ HasFailed O.contents (map string_bytes words.now) (I.remaining input.old) (I.remaining input.new) out.old out.new fault) }
 {
     let Some(plan) = plan_of(words) else {
         return Err(Fault::Usage);
@@ -166,12 +166,11 @@ pub fn run<I: Read, O: Write, E: Write>(
     ensures unread { result ≡ 2 → (input.new ≡ input.old) × (out.new ≡ out.old) }
     ensures printed { result ≡ 0 → (plan : Plan) × SpellsPlan (map string_bytes words.now) plan
         × HasPrinted plan (I.remaining input.old) (I.remaining input.new) (O.contents out.old) (O.contents out.new) }
-    ensures begun { result ≡ 1 → (out.new ≡ out.old)
-        ⊎ ((plan : Plan) × SpellsPlan (map string_bytes words.now) plan
-        × HasBegun plan (I.remaining input.old) (I.remaining input.new) (O.contents out.old) (O.contents out.new)) }
+    ensures failed { result ≡ 1 → (fault : Fault)
+        × HasFailed O.contents (map string_bytes words.now) (I.remaining input.old) (I.remaining input.new) out.old out.new fault
+        × Begins (E.contents err.old) (E.contents err.new) (line_of (word_of fault)) }
     ensures silent { result ≡ 0 → err.new ≡ err.old }
-    ensures told { result ≡ 1 → IsTold refusal_words (E.contents err.old) (E.contents err.new) }
-    ensures shown { result ≡ 2 → IsTold (usage ∷ []) (E.contents err.old) (E.contents err.new) }
+    ensures shown { result ≡ 2 → Begins (E.contents err.old) (E.contents err.new) (line_of usage) }
 {
     match attempt(alloc, words, input, out) {
         Ok(()) => 0,

@@ -25,7 +25,7 @@ returns g c =
     let s = c.in_ok-render.ensures.rendered in
     record {
       output = with_feed (table_text s.table);
-      is_output = either_output c.args.plan c.args.text.now _ c.write_text.result (output_of c.args.plan c.args.text.now _ _ s);
+      is_output = either_output c.args.plan c.args.text.now _ _ _ c.write_text.result _ c.write_text.ensures.written (output_of c.args.plan c.args.text.now _ _ s);
       puts = puts_writes _ _ c.write_text.result _
           (finished _ _ _ _ s.sends c.write_text.ensures.written (feed_some c.args.plan c.args.text.now s.table c.if-is_empty.ensures s.is_planned));
     }

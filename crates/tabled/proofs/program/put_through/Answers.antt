@@ -1,8 +1,8 @@
-use Rattle.std.proofs.Common.{◌≡◌, ◌⊎◌, [], IfSome, OnOk, ap, ◌∙◌, rules, subst, sym}
+use Rattle.std.proofs.Common.{◌≡◌, [], IfSome, OnOk, ap, ◌∙◌, rules, subst, sym}
 use Rattle.std.specs.Prelude.{MatchResult, string_bytes}
 use Rattle.tabled_row.specs.Sent.{Writes}
 use Rattle.tabled.specs.BlockSent.{Advances, block, block_sent, waiting}
-use Rattle.tabled.specs.Output.{IsOutput, Puts, PutsOutput}
+use Rattle.tabled.specs.Output.{IsBegunOn, IsOutput, Puts, PutsOutput}
 use Rattle.tabled.proofs.Outputs.{either_output, output_none}
 use Rattle.tabled.proofs.Since.{ended_begun, ended_put, puts_err, puts_from}
 use Rattle.tabled.proofs.program.put_through.Goals as goal
@@ -26,7 +26,7 @@ returns g c =
           let emptied : OnOk c.match-result.result (d.waiting ≡ []) = rw w.result-is (rw w.sink-is w.finish-result.ensures.emptied) in
           record {
             output = k.output;
-            is_output = either_output c.args.plan text k.output c.match-result.result k.is_output;
+            is_output = either_output c.args.plan text k.output [] _ c.match-result.result _ written k.is_output;
             puts = puts_from _ _ _ c.match-result.result k.output same
                 (ended_put a b d _ c.match-result.result k.output none k.puts c.put_blocked-result.ensures.advanced written advanced emptied
                 (λ n. let m = n ∙ c.new-sink.ensures.same_reference in ap g.O.Write.contents (search rules)));
@@ -37,7 +37,7 @@ returns g c =
           let k = subst (λ r. PutsOutput c.args.plan text (block_sent a).bytes r (block_sent b).bytes) w.in-Err.is h in
           record {
             output = h.output;
-            is_output = subst (λ r. MatchResult r (λ _. IsOutput c.args.plan text h.output) (λ _. (h.output ≡ []) ⊎ IsOutput c.args.plan text h.output))
+            is_output = subst (λ r. MatchResult r (λ _. IsOutput c.args.plan text h.output) (IsBegunOn c.args.plan text h.output))
                 (w.in-Err.is ∙ sym w.result-is) h.is_output;
             puts = puts_from _ _ _ c.match-result.result h.output same
                 (puts_err _ _ c.match-result.result _ h.output w.result-is
