@@ -1,4 +1,4 @@
-use Rattle.std.proofs.Common.{◌≡◌, ◌<◌, ◌≤◌, arith, sym}
+use Rattle.std.proofs.Common.{◌<◌, arith, sym}
 use Rattle.tabled_row.proofs.Sending.{stopped, further, sends-along}
 use Rattle.tabled_row.specs.Row.{rule_piece}
 use Rattle.tabled_row.proofs.Each.{each-first, each-more, each-rest}
