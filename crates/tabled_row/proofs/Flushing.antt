@@ -21,7 +21,7 @@ use Rattle.tabled_row.proofs.Blocks.{block-text}
 use Rattle.tabled_row.proofs.Each.{each-more}
 use Rattle.tabled_row.proofs.Fills.{fill-add}
 
-above-none : (v : AlignmentVertical) (n : ℕ) → n ≡ 0 → above_text v n ≡ 0
+pub above-none : (v : AlignmentVertical) (n : ℕ) → n ≡ 0 → above_text v n ≡ 0
 above-none vertical.Top n h = refl
 above-none vertical.Center n h = rw h refl
 above-none vertical.Bottom n h = h

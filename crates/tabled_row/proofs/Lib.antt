@@ -7,6 +7,7 @@ pub mod Fills
 pub mod Flushing
 pub mod Joined
 pub mod Laying
+pub mod LayingColumns
 pub mod Leading
 pub mod Marking
 pub mod Plains

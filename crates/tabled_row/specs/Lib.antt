@@ -4,6 +4,7 @@ pub mod Fill
 pub mod Flush
 pub mod Kept
 pub mod Laid
+pub mod LaidColumns
 pub mod Leading
 pub mod Marks
 pub mod Plain

@@ -8,6 +8,7 @@ ghost use Rattle.tabled_row.specs.Row.{left_edge, piece, row_line, row_lines};
 
 use crate::columns::{Columns, put_rule_pieces};
 use crate::edges::{put_left, put_right};
+use crate::laid_columns::{lay_by_styles, styles_over};
 use crate::row::Row;
 use std::alloc::Global;
 use tabled_base::TableError;
@@ -75,7 +76,7 @@ fn flush_style<'r, 'a, C: Columns, R: Row<'a>>(columns: &C, row: &'r R) -> Optio
 }
 
 /// The bytes of a vertical line.
-fn bar_length(bar: VerticalLine) -> usize
+pub(crate) fn bar_length(bar: VerticalLine) -> usize
     ensures { result ≡ length (piece bar.there bar.main) }
 {
     if bar.there { bar.main.len_utf8() } else { 0 }
@@ -83,7 +84,7 @@ fn bar_length(bar: VerticalLine) -> usize
 
 /// Copies a text over some bytes of its length.
 #[inline(always)]
-fn copy_at(line: &mut [u8], place: usize, text: &str)
+pub(crate) fn copy_at(line: &mut [u8], place: usize, text: &str)
     requires { place + length text.now ≤ length line.old }
     ensures { line.new ≡ take place line.old ++ (text.now ++ drop (place + length text.now) line.old) }
 {
@@ -198,7 +199,7 @@ impl LaidRow {
     }
 
     /// Lays the texts of a row over the blank one. Answers whether all could be laid.
-    pub fn lay<'a, C: Columns, R: Row<'a>>(&mut self, columns: &C, row: &R) -> bool
+    fn lay<'a, C: Columns, R: Row<'a>>(&mut self, columns: &C, row: &R) -> bool
         requires known { IsBlank (C.sheet columns.now) self.old }
         ensures known { IsBlank (C.sheet columns.now) self.new }
         ensures laid { result ≡ true → row_lines (R.sheet row.now) ≡ self.new.line.items ∷ [] }
@@ -217,6 +218,45 @@ impl LaidRow {
             return false;
         }
         let laid = lay_texts(&mut self.line, self.start, columns, row, style);
+        if !laid {
+            self.tries = self.tries.saturating_sub(1);
+        }
+        laid
+    }
+
+    /// Lays the texts of a row over the blank one, whether they stand alike in all columns or in each by itself. Answers whether all
+    /// could be laid.
+    pub fn lay_row<'a, C: Columns, R: Row<'a>>(&mut self, columns: &C, row: &R) -> bool
+        requires known { IsBlank (C.sheet columns.now) self.old }
+        ensures known { IsBlank (C.sheet columns.now) self.new }
+        ensures laid { result ≡ true → row_lines (R.sheet row.now) ≡ self.new.line.items ∷ [] }
+    {
+        if self.lay(columns, row) {
+            return true;
+        }
+        self.lay_by_column(columns, row)
+    }
+
+    /// Lays the texts of a row over the blank one, by how those of each column stand. Answers whether all could be laid.
+    fn lay_by_column<'a, C: Columns, R: Row<'a>>(&mut self, columns: &C, row: &R) -> bool
+        requires known { IsBlank (C.sheet columns.now) self.old }
+        ensures known { IsBlank (C.sheet columns.now) self.new }
+        ensures laid { result ≡ true → row_lines (R.sheet row.now) ≡ self.new.line.items ∷ [] }
+    {
+        if self.tries == 0 {
+            return false;
+        }
+        let Some(styles) = styles_over(columns, row) else {
+            return false;
+        };
+        if !self.lay_out(columns) {
+            return false;
+        }
+        self.line.clear();
+        if self.line.extend_from_slice(&self.blank).is_err() {
+            return false;
+        }
+        let laid = lay_by_styles(&mut self.line, self.start, columns, row, styles);
         if !laid {
             self.tries = self.tries.saturating_sub(1);
         }

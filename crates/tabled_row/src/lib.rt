@@ -13,6 +13,7 @@ mod flush;
 mod io_sink;
 mod kept;
 mod laid;
+mod laid_columns;
 pub mod laws;
 mod lines;
 mod marks;

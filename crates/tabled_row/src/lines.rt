@@ -173,7 +173,7 @@ impl<C: Columns> Lines<C> {
         ensures clean { AreClean marks.new }
     {
         if let Some(laid) = &mut self.kept.row
-            && laid.lay(&self.columns, row)
+            && laid.lay_row(&self.columns, row)
             && let Some(line) = laid.text()
         {
             put_break(sink, &mut self.begun)?;

@@ -1,5 +1,5 @@
 //! A row of cells, a line at a time.
-ghost use Rattle.std.specs.Prelude.{◌≡◌, ◌<◌, ◌≤◌, ℕ, IfSome, []};
+ghost use Rattle.std.specs.Prelude.{◌≡◌, ◌<◌, ◌≤◌, ℕ, IfSome, [], map};
 ghost use Rattle.std.specs.List.{flat_map, range_with_len, slice_index_or};
 ghost use Rattle.tabled_row.specs.Marks.{AreKept};
 ghost use Rattle.tabled_row.specs.Row.{RowSheet, cell_block, cell_piece, row_line};
@@ -13,7 +13,7 @@ use crate::marks::{Mark, Marks};
 use crate::shared::SharedStyle;
 use crate::text_sink::TextSink;
 use tabled_base::TableError;
-use tabled_config::Frame;
+use tabled_config::{CellStyle, Frame};
 
 /// A row of cells as it is printed: the blocks of the cells, and what stands around and between them.
 pub trait Row<'a> {
@@ -36,6 +36,11 @@ pub trait Row<'a> {
     fn shared_style(&self) -> Option<&SharedStyle>
         ensures { IfSome result (λ shared. ((column : ℕ) → column < (sheet self.now).columns.count
             → (sheet self.now).style column ≡ shared.now.style) × (shared.now.bar ≡ (sheet self.now).columns.frame.inner)) };
+
+    /// How the texts of each column stand, if that is known without looking at the cells.
+    fn column_styles(&self) -> Option<&[CellStyle]>
+        ensures { IfSome result (λ styles. styles.now
+            ≡ map (sheet self.now).style (range_with_len 0 (sheet self.now).columns.count)) };
 
     /// How many text columns a column takes, padding included.
     fn width(&self, column: usize) -> usize
