@@ -6,9 +6,11 @@ use Rattle.tabled_boxes.specs.declared.pieces.Kind.{Kind}
 use Rattle.tabled_boxes.specs.declared.pieces.Kind.TheVariants.{Leaf, Bar, Rule}
 use Rattle.tabled_boxes.specs.Boxes.{Part}
 use Rattle.tabled_boxes.specs.Tiling.{within, AreTiles}
-use Rattle.tabled_pool.specs.Drawn.{leaf_line, part_text}
-use Rattle.tabled_pool.specs.Owner.{is_line_kind, owner}
-use Rattle.tabled_pool.specs.Plan.{Plan}
+use Rattle.tabled_panels.specs.Leaf.{leaf_line}
+use Rattle.tabled_panels.specs.Kinds.{is_line_kind}
+use Rattle.tabled_panels.specs.Plan.{Plan}
+use Rattle.tabled_pool.specs.Drawn.{part_text}
+use Rattle.tabled_pool.specs.Owner.{owner}
 use Rattle.tabled_pool.specs.Whole.{whole}
 use Rattle.tabled_pool.proofs.Owners.{Inside, inside-within, within-inside, within-le, owner-inside, owner-some, owner-unique, counted, is-1}
 

@@ -13,10 +13,10 @@ use Rattle.tabled_config.specs.declared.spanned.CellStyle.{CellStyle}
 use Rattle.tabled_row.specs.Apart.{IsApartStyle}
 use Rattle.tabled_row.specs.Block.{text_room, columns_before, cell_line}
 use Rattle.tabled_row.specs.Fill.{fill}
-use Rattle.tabled_pool.specs.Block.{lines_above, line_below, pool_block, text_line, without_sides}
-use Rattle.tabled_pool.specs.Colours.{coloured, no_mark}
+use Rattle.tabled_panels.specs.Block.{lines_above, line_below, pool_block, text_line, without_sides}
+use Rattle.tabled_panels.specs.Colours.{coloured, no_mark}
+use Rattle.tabled_panels.proofs.PoolBlocks.{block-above, block-top, block-text, block-past, block-below}
 use Rattle.tabled_pool.proofs.PlainBlocks.{bare, columns_before-fits}
-use Rattle.tabled_pool.proofs.PoolBlocks.{block-above, block-top, block-text, block-past, block-below}
 
 pub separator-space : IsSeparatorColumn 32
 separator-space = record { plain = plain_column-space; steady = refl }

@@ -24,12 +24,14 @@ use Rattle.tabled_boxes.specs.declared.pieces.Kind.TheVariants.{Leaf, Bar, Rule}
 use Rattle.tabled_boxes.specs.declared.pieces.Rectangle.{Rectangle}
 use Rattle.tabled_boxes.specs.Boxes.{Part}
 use Rattle.tabled_boxes.specs.Tiling.{AreTiles, EachFits}
-use Rattle.tabled_pool.specs.Block.{pool_block}
+use Rattle.tabled_panels.specs.Block.{pool_block}
+use Rattle.tabled_panels.specs.Colours.{no_line_marks, no_mark}
+use Rattle.tabled_panels.specs.Leaf.{leaf_line}
+use Rattle.tabled_panels.specs.Kinds.{is_line_kind}
+use Rattle.tabled_panels.specs.Plan.{Plan}
 use Rattle.tabled_pool.specs.Characters.{EachCharacter}
-use Rattle.tabled_pool.specs.Colours.{no_line_marks, no_mark}
-use Rattle.tabled_pool.specs.Drawn.{border_char, leaf_line}
-use Rattle.tabled_pool.specs.Owner.{owner, is_border_before, is_line, is_line_kind}
-use Rattle.tabled_pool.specs.Plan.{Plan}
+use Rattle.tabled_pool.specs.Drawn.{border_char}
+use Rattle.tabled_pool.specs.Owner.{owner, is_border_before, is_line}
 use Rattle.tabled_pool.specs.Whole.{whole}
 use Rattle.tabled_pool.proofs.ApartBlocks.{held-block, separator-space, IsBlockLine}
 use Rattle.tabled_pool.proofs.Bare.{around-bare}

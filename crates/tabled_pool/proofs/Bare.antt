@@ -3,28 +3,14 @@ use Rattle.std.proofs.Common.{◌≡◌, ℕ, ◌+◌, ◌==◌, Bool, true, fal
 use Rattle.tabled_border.specs.Frame.{has_left}
 use Rattle.tabled_boxes.specs.declared.pieces.Rectangle.{Rectangle}
 use Rattle.tabled_boxes.specs.Boxes.{Part}
+use Rattle.tabled_panels.specs.Marks.{Around, begun, ended, nothing_around, used_after}
+use Rattle.tabled_panels.specs.Colours.{Mark, no_line_marks}
+use Rattle.tabled_panels.specs.Kinds.{is_line_kind}
+use Rattle.tabled_panels.specs.Plan.{Plan}
 use Rattle.tabled_pool.specs.declared.around.Spot.{Spot}
 use Rattle.tabled_pool.specs.declared.around.Spot.TheVariants.{Before, Inside, Behind, Outside}
-use Rattle.tabled_pool.specs.Around.{
-  Around,
-  across,
-  around_at,
-  around_part,
-  around_text,
-  begun,
-  beside,
-  ended,
-  is_last_column,
-  is_last_row,
-  nothing_around,
-  right_around,
-  spot,
-  used_after,
-}
-use Rattle.tabled_pool.specs.Colours.{Mark, no_line_marks}
+use Rattle.tabled_pool.specs.Around.{across, around_at, around_part, around_text, beside, is_last_column, is_last_row, right_around, spot}
 use Rattle.tabled_pool.specs.Frames.{has_top}
-use Rattle.tabled_pool.specs.Owner.{is_line_kind}
-use Rattle.tabled_pool.specs.Plan.{Plan}
 
 abbrev IsBare : Option Around → Type 0
 IsBare a = unwrap_or a nothing_around ≡ nothing_around

@@ -63,7 +63,8 @@ use Rattle.tabled_boxes.specs.Boxes.{
 use Rattle.tabled_boxes.specs.Tiling.{framed, within, covering, Tiles}
 use Rattle.tabled_boxes.proofs.Framing.{tree_framed_tiles}
 use Rattle.tabled_boxes.proofs.Tiling.{covering-append, row_box-tiles, column_box-tiles, share_within, tree-tiles, AllTile}
-use Rattle.tabled_pool.specs.Owner.{owner, is_border_before, is_line, is_line_kind}
+use Rattle.tabled_panels.specs.Kinds.{is_line_kind}
+use Rattle.tabled_pool.specs.Owner.{owner, is_border_before, is_line}
 use Rattle.tabled_pool.proofs.Owners.{inside-within, within-inside, within-le, owner-inside, owner-here, owner-behind, counted, is-1}
 
 -- ---- the owner of a place in two lists of parts

@@ -6,11 +6,11 @@ use Rattle.tabled_border.specs.Junction.{junction}
 use Rattle.tabled_boxes.specs.declared.pieces.Rectangle.{Rectangle}
 use Rattle.tabled_boxes.specs.declared.pieces.Kind.{Kind}
 use Rattle.tabled_boxes.specs.declared.pieces.Kind.TheVariants.{Leaf, Bar, Rule}
+use Rattle.tabled_panels.specs.Plan.{Plan}
 use Rattle.tabled_pool.specs.Characters.{EachCharacter}
 use Rattle.tabled_pool.specs.Drawn.{main_of, border_char}
 use Rattle.tabled_pool.specs.Frames.{has_bottom}
 use Rattle.tabled_pool.specs.Owner.{is_border, is_border_before, is_border_above}
-use Rattle.tabled_pool.specs.Plan.{Plan}
 
 -- a missing character is a space
 abbrev Of : (ℕ → Type 0) → Option ℕ → Type 0

@@ -9,10 +9,10 @@ use Rattle.tabled_boxes.specs.declared.pieces.Rectangle.{Rectangle}
 use Rattle.tabled_boxes.specs.declared.pieces.Kind.{Kind}
 use Rattle.tabled_boxes.specs.declared.pieces.Kind.TheVariants.{Leaf, Bar, Rule}
 use Rattle.tabled_boxes.specs.Boxes.{Part}
-use Rattle.tabled_pool.specs.Around.{within_marks}
+use Rattle.tabled_panels.specs.Marks.{within_marks}
+use Rattle.tabled_panels.specs.Plan.{Plan}
 use Rattle.tabled_pool.specs.Owner.{owner}
 use Rattle.tabled_pool.specs.Drawn.{border_char, border_text, part_text, owned_text, place_text, drawn_line, drawn}
-use Rattle.tabled_pool.specs.Plan.{Plan}
 use Rattle.tabled_pool.proofs.Ahead.{ahead, ahead_of, ahead_kind, before, ends, leaf-begins, leaf-goes, out-leaf, out-line, owned, Begins, Goes}
 use Rattle.tabled_pool.proofs.Drawable.{IsDrawable}
 

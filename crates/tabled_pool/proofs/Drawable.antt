@@ -5,10 +5,12 @@ use Rattle.tabled_boxes.specs.declared.pieces.Kind.{Kind}
 use Rattle.tabled_boxes.specs.declared.pieces.Kind.TheVariants.{Leaf}
 use Rattle.tabled_boxes.specs.Boxes.{Part}
 use Rattle.tabled_boxes.specs.Tiling.{within, covering}
-use Rattle.tabled_pool.specs.Around.{around_at, nothing_around}
-use Rattle.tabled_pool.specs.Drawn.{border_char, leaf_line}
+use Rattle.tabled_panels.specs.Marks.{nothing_around}
+use Rattle.tabled_panels.specs.Leaf.{leaf_line}
+use Rattle.tabled_panels.specs.Plan.{Plan}
+use Rattle.tabled_pool.specs.Around.{around_at}
+use Rattle.tabled_pool.specs.Drawn.{border_char}
 use Rattle.tabled_pool.specs.Owner.{owner}
-use Rattle.tabled_pool.specs.Plan.{Plan}
 use Rattle.tabled_pool.specs.Whole.{whole}
 
 -- what is known of a text that is out on the line y before the place x, and takes n columns: nothing is out at first,

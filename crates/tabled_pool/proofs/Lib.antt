@@ -8,15 +8,12 @@ pub mod CollectedValues
 pub mod Columns
 pub mod Contains
 pub mod Drawable
-pub mod Drawers
 pub mod MarginLemmas
 pub mod NearLines
 pub mod Owners
 pub mod Padded
-pub mod PanelLines
 pub mod PlainBlocks
 pub mod Plains
-pub mod PoolBlocks
 pub mod PoolLemmas
 pub mod StraightPools
 pub mod Tiles

@@ -31,12 +31,14 @@ use Rattle.tabled_boxes.specs.declared.pieces.Kind.{Kind}
 use Rattle.tabled_boxes.specs.declared.pieces.Kind.TheVariants.{Leaf, Bar, Rule}
 use Rattle.tabled_boxes.specs.Boxes.{Part}
 use Rattle.tabled_boxes.specs.Tiling.{within}
+use Rattle.tabled_panels.specs.Leaf.{leaf_line}
+use Rattle.tabled_panels.specs.Kinds.{is_line_kind}
+use Rattle.tabled_panels.specs.Plan.{Plan}
 use Rattle.tabled_pool.specs.declared.around.Spot.TheVariants.{Outside}
 use Rattle.tabled_pool.specs.Around.{around_at, around_part, around_text, spot}
-use Rattle.tabled_pool.specs.Drawn.{border_char, border_text, drawn_line, leaf_line, owned_text, part_text, place_text}
+use Rattle.tabled_pool.specs.Drawn.{border_char, border_text, drawn_line, owned_text, part_text, place_text}
 use Rattle.tabled_pool.specs.Near.{is_near, near_parts, near_plan}
-use Rattle.tabled_pool.specs.Owner.{contains, owner, is_border, is_border_above, is_border_before, is_line, is_line_kind}
-use Rattle.tabled_pool.specs.Plan.{Plan}
+use Rattle.tabled_pool.specs.Owner.{contains, owner, is_border, is_border_above, is_border_before, is_line}
 use Rattle.tabled_pool.proofs.Owners.{within-inside}
 
 -- what holds a place on the line, above it or below it is near

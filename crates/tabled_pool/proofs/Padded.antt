@@ -7,9 +7,9 @@ use Rattle.tabled_boxes.specs.declared.pieces.Kind.TheVariants.{Leaf, Bar, Rule}
 use Rattle.tabled_boxes.specs.Boxes.{Part}
 use Rattle.tabled_boxes.specs.Tiling.{EachFits}
 use Rattle.tabled_boxes.proofs.Framing.{tree_framed_fits}
+use Rattle.tabled_panels.specs.Handed.{has_bare, is_bare}
+use Rattle.tabled_panels.specs.Kinds.{is_line_kind}
 use Rattle.tabled_pool.specs.declared.pool_table.PoolTable.{PoolTable}
-use Rattle.tabled_pool.specs.Handed.{has_bare, is_bare}
-use Rattle.tabled_pool.specs.Owner.{is_line_kind}
 use Rattle.tabled_pool.specs.Pool.{HasColumns, IsPadded, borders_of, frame_of, frame_place, gaps_of, plan}
 
 not-zero : (n : ℕ) → 0 < n → (n == 0) ≡ false

@@ -15,9 +15,9 @@ use Rattle.tabled_row.specs.Fill.{fill}
 use Rattle.tabled_row.proofs.Plains.{plain-fill}
 use Rattle.tabled_border.specs.declared.sides.Sides.{Sides}
 use Rattle.tabled_config.specs.Compact.{each_side}
-use Rattle.tabled_pool.specs.Block.{lines_above, line_below, pool_block, text_line, without_sides}
-use Rattle.tabled_pool.specs.Colours.{Mark, coloured, no_mark}
-use Rattle.tabled_pool.proofs.PoolBlocks.{block-above, block-top, block-text, block-past, block-below}
+use Rattle.tabled_panels.specs.Block.{lines_above, line_below, pool_block, text_line, without_sides}
+use Rattle.tabled_panels.specs.Colours.{Mark, coloured, no_mark}
+use Rattle.tabled_panels.proofs.PoolBlocks.{block-above, block-top, block-text, block-past, block-below}
 
 before-le : (a : AlignmentHorizontal) (n : ℕ) → before_text a n ≤ n
 before-le horizontal.Left n = omega arith

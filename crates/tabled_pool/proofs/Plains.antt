@@ -6,11 +6,11 @@ use Rattle.tabled_boxes.specs.declared.gaps.Gaps.{Gaps}
 use Rattle.tabled_boxes.specs.declared.pieces.Kind.TheVariants.{Leaf}
 use Rattle.tabled_boxes.specs.Boxes.{Part}
 use Rattle.tabled_boxes.specs.Tiling.{within, FitsLeaf, EachFits}
+use Rattle.tabled_panels.specs.Leaf.{leaf_line}
+use Rattle.tabled_panels.specs.Block.{pool_block}
+use Rattle.tabled_panels.specs.Plan.{Plan}
 use Rattle.tabled_pool.specs.Owner.{owner}
-use Rattle.tabled_pool.specs.Drawn.{leaf_line}
 use Rattle.tabled_pool.specs.PlainTree.{PlainTree}
-use Rattle.tabled_pool.specs.Block.{pool_block}
-use Rattle.tabled_pool.specs.Plan.{Plan}
 use Rattle.tabled_pool.proofs.Bare.{around-bare}
 use Rattle.tabled_pool.proofs.Characters.{char-kind}
 use Rattle.tabled_pool.proofs.Drawable.{IsDrawable}

@@ -16,13 +16,13 @@ use Rattle.tabled_priority.specs.Sums.{one_if}
 use Rattle.tabled_row.specs.Plain.{EachLineTakes}
 use Rattle.tabled_row.proofs.Plains.{plain-fill}
 use Rattle.tabled_boxes.proofs.Framing.{tree_framed_tiles, tree_framed_fits}
+use Rattle.tabled_panels.specs.Colours.{marks_of, no_mark}
+use Rattle.tabled_panels.specs.Margins.{margin_line, within_margin, with_margin}
+use Rattle.tabled_panels.specs.Plan.{Plan}
 use Rattle.tabled_pool.specs.declared.pool_table.PoolTable.{PoolTable}
 use Rattle.tabled_pool.specs.Apart.{IsApartMargin, IsApartPool, IsStraightPool}
-use Rattle.tabled_pool.specs.Colours.{marks_of, no_mark}
 use Rattle.tabled_pool.specs.Drawn.{drawn, drawn_line}
-use Rattle.tabled_pool.specs.Margins.{margin_line, within_margin, with_margin}
 use Rattle.tabled_pool.specs.PlainTree.{PlainTree}
-use Rattle.tabled_pool.specs.Plan.{Plan}
 use Rattle.tabled_pool.specs.Pool.{
   borders_of,
   frame_of,

@@ -6,11 +6,13 @@ use Rattle.tabled_boxes.specs.declared.pieces.Kind.{Kind}
 use Rattle.tabled_boxes.specs.declared.pieces.Kind.TheVariants.{Leaf, Bar, Rule}
 use Rattle.tabled_boxes.specs.Boxes.{Part}
 use Rattle.tabled_boxes.specs.Tiling.{within}
-use Rattle.tabled_pool.specs.Owner.{owner, is_line_kind}
-use Rattle.tabled_pool.specs.Drawn.{border_char, leaf_line, part_text, owned_text, place_text, drawn_line}
+use Rattle.tabled_panels.specs.Kinds.{is_line_kind}
+use Rattle.tabled_panels.specs.Leaf.{leaf_line}
+use Rattle.tabled_panels.specs.Plan.{Plan}
+use Rattle.tabled_pool.specs.Owner.{owner}
+use Rattle.tabled_pool.specs.Drawn.{border_char, part_text, owned_text, place_text, drawn_line}
 use Rattle.tabled_pool.specs.Whole.{whole}
 use Rattle.tabled_pool.specs.Tiled.{StandsAt, Tiled}
-use Rattle.tabled_pool.specs.Plan.{Plan}
 use Rattle.tabled_pool.proofs.Owners.{inside-within, within-inside, within-le, owner-inside, counted}
 use Rattle.tabled_pool.proofs.Ahead.{ahead, whole-inside, unique, Begins, Goes, before, leaf-begins, out-line}
 use Rattle.tabled_pool.proofs.Columns.{border-bare, out, prefix}

@@ -8,9 +8,9 @@ use Rattle.tabled_border.specs.Frame.{has_left}
 use Rattle.tabled_config.specs.Compact.{each_side}
 use Rattle.tabled_config.specs.declared.spanned.CellStyle.{CellStyle}
 use Rattle.tabled_row.specs.Apart.{IsApartStyle}
+use Rattle.tabled_panels.specs.Colours.{line_marks_of, marks_of, no_line_marks, no_mark}
 use Rattle.tabled_pool.specs.declared.pool_table.PoolTable.{PoolTable}
 use Rattle.tabled_pool.specs.Characters.{EachCharacter}
-use Rattle.tabled_pool.specs.Colours.{line_marks_of, marks_of, no_line_marks, no_mark}
 use Rattle.tabled_pool.specs.Pool.{borders_of, style_of, IsPlainPool}
 
 -- between two texts side by side stands a line, or the left or the right padding of each text

@@ -1,50 +1,16 @@
 -- What stands around a character of a line, for its colour. Each text draws the line above it and the one to its left with
 -- their corner; at the right and bottom edge of the whole also those.
-use Rattle.std.specs.Prelude.{ℕ, ◌+◌, ◌==◌, ltb, leb, if◌then◌else◌, Bool, ◌&&◌, List, [], ◌∷◌, ◌++◌, Option, Some, None, unwrap_or}
+use Rattle.std.specs.Prelude.{ℕ, ◌+◌, ◌==◌, ltb, leb, if◌then◌else◌, Bool, ◌&&◌, List, [], ◌∷◌, Option, Some, None, unwrap_or}
 use Rattle.tabled_border.specs.Frame.{has_left, has_right}
 use Rattle.tabled_boxes.specs.declared.pieces.Rectangle.{Rectangle}
 use Rattle.tabled_boxes.specs.Boxes.{Part}
+use Rattle.tabled_panels.specs.Colours.{Mark}
+use Rattle.tabled_panels.specs.Kinds.{is_line_kind}
+use Rattle.tabled_panels.specs.Marks.{Around, alone, begun, ended, nothing_around, used_after}
+use Rattle.tabled_panels.specs.Plan.{Plan}
 use Rattle.tabled_pool.specs.declared.around.Spot.{Spot}
 use Rattle.tabled_pool.specs.declared.around.Spot.TheVariants.{Before, Inside, Behind, Outside}
-use Rattle.tabled_pool.specs.Colours.{Mark, is_same}
 use Rattle.tabled_pool.specs.Frames.{has_bottom, has_top}
-use Rattle.tabled_pool.specs.Owner.{is_line_kind}
-use Rattle.tabled_pool.specs.Plan.{Plan}
-
--- the suffix that ends the colour before, the prefix, and the suffix behind
-pub record Around : Type 0 where
-  pub close : List ℕ
-  pub start : List ℕ
-  pub behind : List ℕ
-
-abbrev pub nothing_around : Around
-nothing_around = record { close = []; start = []; behind = [] }
-
--- a character between what stands around it
-abbrev pub within_marks : Around → List ℕ → List ℕ
-within_marks a c = a.close ++ (a.start ++ (c ++ a.behind))
-
--- the colour that is used behind a part: the first one that came
-abbrev pub used_after : Option Mark → Option Mark → Option Mark
-used_after None mark = mark
-used_after (Some used) mark = Some used
-
--- a part begins: its colour is opened where none is used, or where it is another one, whose suffix goes before
-abbrev pub begun : Option Mark → Option Mark → Around
-begun used None = nothing_around
-begun None (Some mark) = record { close = []; start = mark.prefix; behind = [] }
-begun (Some used) (Some mark) =
-    if is_same used mark then nothing_around else record { close = used.suffix; start = mark.prefix; behind = [] }
-
--- the end of a line
-abbrev pub ended : Option Mark → List ℕ
-ended None = []
-ended (Some used) = used.suffix
-
--- one character by itself
-abbrev pub alone : Option Mark → Around
-alone None = nothing_around
-alone (Some mark) = record { close = []; start = mark.prefix; behind = mark.suffix }
 
 -- where a place stands by a run of places
 abbrev pub spot : ℕ → ℕ → ℕ → Spot

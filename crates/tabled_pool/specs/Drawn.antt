@@ -1,17 +1,18 @@
 -- The lines of a drawing: at each place the line of a leaf that begins there, or one border character with its colour.
 use Rattle.std.specs.Prelude.{ℕ, ◌+◌, ◌-◌, ◌==◌, if◌then◌else◌, ◌&&◌, ◌||◌, List, [], map, Option, Some, None, unwrap_or, encode_utf8}
-use Rattle.std.specs.List.{range_with_len, flat_map, slice_index_or}
-use Rattle.tabled_pool.specs.Block.{pool_block}
+use Rattle.std.specs.List.{range_with_len, flat_map}
 use Rattle.tabled_boxes.specs.declared.pieces.Rectangle.{Rectangle}
 use Rattle.tabled_boxes.specs.declared.pieces.Kind.{Kind}
 use Rattle.tabled_boxes.specs.declared.pieces.Kind.TheVariants.{Leaf, Bar, Rule}
 use Rattle.tabled_boxes.specs.Boxes.{Part}
 use Rattle.tabled_border.specs.Frame.{has_right}
 use Rattle.tabled_border.specs.Junction.{junction}
-use Rattle.tabled_pool.specs.Around.{around_at, within_marks}
+use Rattle.tabled_panels.specs.Leaf.{leaf_line}
+use Rattle.tabled_panels.specs.Marks.{within_marks}
+use Rattle.tabled_panels.specs.Plan.{Plan}
+use Rattle.tabled_pool.specs.Around.{around_at}
 use Rattle.tabled_pool.specs.Frames.{has_bottom}
 use Rattle.tabled_pool.specs.Owner.{owner, is_border, is_border_before, is_border_above}
-use Rattle.tabled_pool.specs.Plan.{Plan}
 
 -- the character of a line where no line meets it: the right line and the bottom line have their own
 abbrev pub main_of : Plan → Kind → Rectangle → Option ℕ
@@ -27,9 +28,6 @@ border_char t k r x y =
     let up = is_border_above t.parts x y in
     let down = is_border t.parts x (y + 1) in
     unwrap_or (if (left || right) && (up || down) then junction t.borders left right up down else main_of t k r) 32
-
-unfoldable pub leaf_line : Plan → Part → ℕ → List ℕ
-leaf_line t p k = slice_index_or (pool_block t.style t.padding_marks p.place.width p.place.height p.text) k []
 
 -- a character of a line, between the marks of its colour
 unfoldable pub border_text : Plan → Kind → Rectangle → ℕ → ℕ → List ℕ

@@ -1,10 +1,9 @@
 -- Whose a place is.
-use Rattle.std.specs.Prelude.{ℕ, zero, suc, ◌==◌, if◌then◌else◌, Bool, true, false, List, [], ◌∷◌, Option, Some, None}
+use Rattle.std.specs.Prelude.{ℕ, zero, suc, ◌==◌, if◌then◌else◌, Bool, false, List, [], ◌∷◌, Option, Some, None}
 use Rattle.tabled_boxes.specs.declared.pieces.Rectangle.{Rectangle}
-use Rattle.tabled_boxes.specs.declared.pieces.Kind.{Kind}
-use Rattle.tabled_boxes.specs.declared.pieces.Kind.TheVariants.{Leaf, Bar, Rule}
 use Rattle.tabled_boxes.specs.Boxes.{Part}
 use Rattle.tabled_boxes.specs.Tiling.{within}
+use Rattle.tabled_panels.specs.Kinds.{is_line_kind}
 
 abbrev pub contains : Rectangle → ℕ → ℕ → Bool
 contains r x y = within r x y == 1
@@ -13,11 +12,6 @@ contains r x y = within r x y == 1
 abbrev pub owner : List Part → ℕ → ℕ → Option Part
 owner [] x y = None
 owner (p ∷ ps) x y = if contains p.place x y then Some p else owner ps x y
-
-abbrev pub is_line_kind : Kind → Bool
-is_line_kind Leaf = false
-is_line_kind Bar = true
-is_line_kind Rule = true
 
 abbrev pub is_line : Option Part → Bool
 is_line None = false

@@ -7,10 +7,10 @@ use Rattle.tabled_boxes.specs.declared.gaps.Gaps.{Gaps}
 use Rattle.tabled_boxes.specs.declared.pieces.Kind.TheVariants.{Leaf}
 use Rattle.tabled_boxes.specs.Boxes.{Part}
 use Rattle.tabled_boxes.specs.Tiling.{AreTiles, EachFits}
+use Rattle.tabled_panels.specs.Colours.{no_line_marks, no_mark}
+use Rattle.tabled_panels.specs.Plan.{Plan}
 use Rattle.tabled_pool.specs.Owner.{owner}
 use Rattle.tabled_pool.specs.Characters.{EachCharacter}
-use Rattle.tabled_pool.specs.Colours.{no_line_marks, no_mark}
-use Rattle.tabled_pool.specs.Plan.{Plan}
 use Rattle.tabled_pool.specs.Whole.{whole}
 
 -- parts that tile the whole, with room for their plain texts

@@ -19,16 +19,16 @@ use Rattle.tabled_boxes.specs.declared.pieces.Kind.TheVariants.{Leaf}
 use Rattle.tabled_boxes.specs.declared.pieces.Rectangle.{Rectangle}
 use Rattle.tabled_boxes.specs.Boxes.{Part, box_of}
 use Rattle.tabled_boxes.specs.Tiling.{framed}
+use Rattle.tabled_panels.specs.Colours.{Mark, line_marks_of, marks_of, no_line_marks, no_mark}
+use Rattle.tabled_panels.specs.Handed.{handed_panel, has_bare}
+use Rattle.tabled_panels.specs.Margins.{with_margin}
+use Rattle.tabled_panels.specs.Panels.{Panel}
+use Rattle.tabled_panels.specs.Plan.{Plan}
 use Rattle.tabled_pool.specs.declared.pool_table.PoolTable.{PoolTable}
 use Rattle.tabled_pool.specs.Characters.{EachCharacter}
-use Rattle.tabled_pool.specs.Colours.{Mark, line_marks_of, marks_of, no_line_marks, no_mark}
 use Rattle.tabled_pool.specs.Drawn.{drawn}
 use Rattle.tabled_pool.specs.Frames.{has_bottom, has_top}
-use Rattle.tabled_pool.specs.Handed.{handed_panel, has_bare}
-use Rattle.tabled_pool.specs.Margins.{with_margin}
 use Rattle.tabled_pool.specs.Owner.{owner}
-use Rattle.tabled_pool.specs.Panels.{Panel}
-use Rattle.tabled_pool.specs.Plan.{Plan}
 
 abbrev pub borders_of : PoolTable → Borders ℕ
 borders_of t = t.config.config.borders

@@ -4,9 +4,11 @@ use Rattle.tabled_text.specs.Measure.{line_columns}
 use Rattle.tabled_boxes.specs.declared.pieces.Kind.TheVariants.{Leaf}
 use Rattle.tabled_boxes.specs.Boxes.{Part}
 use Rattle.tabled_boxes.specs.Tiling.{covering}
-use Rattle.tabled_pool.specs.Owner.{owner, is_line_kind}
-use Rattle.tabled_pool.specs.Drawn.{border_char, leaf_line, drawn_line}
-use Rattle.tabled_pool.specs.Plan.{Plan}
+use Rattle.tabled_panels.specs.Kinds.{is_line_kind}
+use Rattle.tabled_panels.specs.Leaf.{leaf_line}
+use Rattle.tabled_panels.specs.Plan.{Plan}
+use Rattle.tabled_pool.specs.Owner.{owner}
+use Rattle.tabled_pool.specs.Drawn.{border_char, drawn_line}
 
 -- a piece stands in a line behind x columns
 pub record StandsAt (line : List ℕ) (x : ℕ) (piece : List ℕ) : Type 0 where

@@ -3,9 +3,9 @@ ghost use Rattle.std.specs.Prelude.{◌≡◌, ◌↔◌, [], IsTrue, unwrap_or}
 ghost use Rattle.tabled_apart.specs.Lines.{IsSeparatorColumn};
 ghost use Rattle.tabled_config.specs.Compact.{each_side};
 ghost use Rattle.tabled_row.specs.Apart.{IsApartStyle};
+ghost use Rattle.tabled_panels.specs.Colours.{line_marks_of, marks_of, no_line_marks, no_mark};
 ghost use Rattle.tabled_pool.specs.Apart.{HasGap, IsApartMargin, IsApartPool, IsUncoloured};
 ghost use Rattle.tabled_pool.specs.Characters.{EachCharacter, EachCorner, EachIntersection, EachLine};
-ghost use Rattle.tabled_pool.specs.Colours.{line_marks_of, marks_of, no_line_marks, no_mark};
 ghost use Rattle.tabled_pool.specs.Pool.{borders_of, style_of};
 
 use crate::pool_table::{PoolTable, style_of};

@@ -3,31 +3,27 @@
 ghost use Rattle.std.specs.Prelude.{◌≡◌, ◌==◌, ◌^◌, ◌<◌, ◌+◌, ◌-◌, map, [], true, false};
 ghost use Rattle.std.specs.Option.{option_map};
 ghost use Rattle.tabled_boxes.specs.Shown.{shown};
+ghost use Rattle.tabled_panels.specs.Colours.{line_marks_of, mark_of, no_line_marks};
+ghost use Rattle.tabled_panels.specs.Marks.{alone, begun, ended, used_after};
+ghost use Rattle.tabled_panels.specs.Plans.{around_of, plan_of};
 ghost use Rattle.tabled_pool.specs.Around.{
   across,
-  alone,
   around_at,
   around_part,
   around_text,
-  begun,
   beside,
-  ended,
   is_last_column,
   is_last_row,
   main_around,
   right_around,
   spot,
-  used_after,
   written_corner,
 };
-ghost use Rattle.tabled_pool.specs.Colours.{line_marks_of, mark_of, no_line_marks};
-ghost use Rattle.tabled_pool.specs.Plans.{around_of, plan_of};
 
-use crate::colors::is_same;
-use crate::drawing::Drawing;
-use crate::plan::{ends_at, has_bottom, has_top, is_line_kind};
+use crate::plan::{ends_at, has_bottom, has_top};
 use tabled_boxes::{Piece, Rectangle};
 use tabled_config::{ANSIStr, Borders};
+use tabled_panels::{Drawing, LineColors, Marks, alone, begun, ended, is_line_kind, used_after};
 
 /// Where a place stands by a run of places.
 #[derive(Clone, Copy, Debug, PartialEq, Eq)]
@@ -41,31 +37,6 @@ pub(crate) enum Spot {
     /// Any other.
     Outside,
 }
-
-/// What is written around a character.
-#[derive(Clone, Copy)]
-pub(crate) struct Marks {
-    /// The suffix that ends the colour before.
-    pub close: &'static str,
-    /// The prefix.
-    pub start: &'static str,
-    /// The suffix behind the character.
-    pub behind: &'static str,
-}
-
-/// The colours of the top or the bottom line of a text.
-#[derive(Clone, Copy)]
-pub(crate) struct LineColors {
-    pub corner: Option<ANSIStr<'static>>,
-    pub main: Option<ANSIStr<'static>>,
-    pub right: Option<ANSIStr<'static>>,
-}
-
-const NOTHING: Marks = Marks {
-    close: "",
-    start: "",
-    behind: "",
-};
 
 fn spot_of(start: usize, size: usize, at: usize) -> Spot
     requires { at < 2 ^ 64 - 1 }
@@ -85,67 +56,6 @@ fn spot_of(start: usize, size: usize, at: usize) -> Spot
         Spot::Behind
     } else {
         Spot::Outside
-    }
-}
-
-/// The colour that is used behind a part.
-pub(crate) fn used_after(
-    used: Option<ANSIStr<'static>>,
-    color: Option<ANSIStr<'static>>,
-) -> Option<ANSIStr<'static>>
-    ensures { option_map mark_of result ≡ used_after (option_map mark_of used.entry) (option_map mark_of color.entry) }
-{
-    match used {
-        Some(used) => Some(used),
-        None => color,
-    }
-}
-
-/// What begins a part of a line.
-pub(crate) fn begun(used: Option<ANSIStr<'static>>, color: Option<ANSIStr<'static>>) -> Marks
-    ensures { around_of result ≡ begun (option_map mark_of used.entry) (option_map mark_of color.entry) }
-{
-    let Some(color) = color else {
-        return NOTHING;
-    };
-    let Some(used) = used else {
-        return Marks {
-            close: "",
-            start: color.get_prefix(),
-            behind: "",
-        };
-    };
-    if is_same(used, color) {
-        return NOTHING;
-    }
-    Marks {
-        close: used.get_suffix(),
-        start: color.get_prefix(),
-        behind: "",
-    }
-}
-
-/// What ends a line.
-pub(crate) fn ended(used: Option<ANSIStr<'static>>) -> &'static str
-    ensures { result.now ≡ ended (option_map mark_of used.entry) }
-{
-    match used {
-        Some(used) => used.get_suffix(),
-        None => "",
-    }
-}
-
-/// What stands around one character by itself.
-pub(crate) fn alone(color: Option<ANSIStr<'static>>) -> Marks
-    ensures { around_of result ≡ alone (option_map mark_of color.entry) }
-{
-    match color {
-        Some(color) => Marks {
-            close: "",
-            start: color.get_prefix(),
-            behind: color.get_suffix(),
-        },
-        None => NOTHING,
     }
 }
 
@@ -189,7 +99,7 @@ fn main_around(drawing: &Drawing<'_, '_>, line: LineColors, place: Rectangle, x:
     let first = if x == place.x {
         begun(corner, line.main)
     } else {
-        NOTHING
+        Marks::none()
     };
     let behind = if is_last_column(drawing, place) {
         ""
@@ -302,12 +212,12 @@ pub(crate) fn around_at(drawing: &Drawing<'_, '_>, x: usize, y: usize) -> Marks
     ensures { around_of result ≡ around_at (plan_of drawing.now) (map shown drawing.now.pieces.now) x y }
 {
     if !is_colored(&drawing.colors) {
-        return NOTHING;
+        return Marks::none();
     }
     for piece in drawing.pieces {
         if let Some(marks) = around_piece(drawing, piece, x, y) {
             return marks;
         }
     }
-    NOTHING
+    Marks::none()
 }

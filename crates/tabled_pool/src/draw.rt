@@ -4,18 +4,18 @@ ghost use Rattle.std.specs.List.{flat_map, range_with_len, join_with_byte};
 ghost use Rattle.tabled_row.specs.Sent.{Sent, Writes};
 ghost use Rattle.tabled_row.specs.Leading.{WritesLines};
 ghost use Rattle.tabled_row.specs.Plain.{EachLineTakes};
-ghost use Rattle.tabled_pool.specs.Around.{within_marks};
-ghost use Rattle.tabled_pool.specs.Drawn.{border_char, border_text, leaf_line, place_text, drawn_line, drawn};
+ghost use Rattle.tabled_panels.specs.Marks.{within_marks};
+ghost use Rattle.tabled_panels.specs.Leaf.{leaf_line};
+ghost use Rattle.tabled_panels.specs.Plans.{around_of, plan_of};
+ghost use Rattle.tabled_pool.specs.Drawn.{border_char, border_text, place_text, drawn_line, drawn};
 ghost use Rattle.tabled_pool.specs.Tiled.{Tiled};
-ghost use Rattle.tabled_pool.specs.Plans.{around_of, plan_of};
 
-use crate::around::{Marks, around_at};
-use crate::block::put_block_line;
-use crate::drawing::Drawing;
+use crate::around::around_at;
 use crate::find::find;
 use crate::plan::border_char;
 use tabled_base::TableError;
 use tabled_boxes::{Kind, Rectangle};
+use tabled_panels::{Drawing, Marks, put_block_line};
 use tabled_row::{CellBlock, Content, TextSink, put_char};
 
 /// A character and the marks around it.
@@ -54,7 +54,7 @@ fn put_border<S: TextSink>(
 }
 
 /// What stands at a place: a leaf's line where it begins, one character of a line.
-#[tactic(auto, unfolding(crate::specs::Drawn::place_text, crate::specs::Drawn::leaf_line))]
+#[tactic(auto, unfolding(crate::specs::Drawn::place_text, tabled_panels::specs::Leaf::leaf_line))]
 fn put_place<S: TextSink>(
     sink: &mut S,
     drawing: &Drawing<'_, '_>,

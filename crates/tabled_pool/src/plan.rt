@@ -2,15 +2,16 @@
 ghost use Rattle.std.specs.Prelude.{◌≡◌, ◌^◌, ◌<◌, ◌+◌, ◌-◌, ◌==◌, map};
 ghost use Rattle.std.specs.Option.{option_map};
 ghost use Rattle.tabled_boxes.specs.Shown.{shown};
+ghost use Rattle.tabled_panels.specs.Kinds.{is_line_kind};
+ghost use Rattle.tabled_panels.specs.Plans.{plan_of};
 ghost use Rattle.tabled_pool.specs.Frames.{has_bottom, has_top};
-ghost use Rattle.tabled_pool.specs.Owner.{is_line_kind, is_line, is_border, is_border_before, is_border_above};
+ghost use Rattle.tabled_pool.specs.Owner.{is_line, is_border, is_border_before, is_border_above};
 ghost use Rattle.tabled_pool.specs.Drawn.{main_of, border_char};
-ghost use Rattle.tabled_pool.specs.Plans.{plan_of};
 
-use crate::drawing::Drawing;
 use crate::find::find;
 use tabled_boxes::{Kind, Piece, Rectangle};
 use tabled_config::Borders;
+use tabled_panels::{Drawing, is_line_kind};
 
 /// Whether the top line is there: any of its characters is.
 pub(crate) fn has_top(borders: &Borders<char>) -> bool
@@ -30,16 +31,6 @@ pub(crate) fn has_bottom(borders: &Borders<char>) -> bool
         || borders.bottom_left.is_some()
         || borders.bottom_intersection.is_some()
         || borders.bottom_right.is_some()
-}
-
-pub(crate) fn is_line_kind(kind: Kind) -> bool
-    ensures { result ≡ is_line_kind kind }
-{
-    match kind {
-        Kind::Leaf => false,
-        Kind::Bar => true,
-        Kind::Rule => true,
-    }
 }
 
 /// Whether a place belongs to a line.

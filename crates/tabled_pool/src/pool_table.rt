@@ -6,13 +6,13 @@ ghost use Rattle.tabled_row.specs.Plain.{EachLineTakes};
 ghost use Rattle.tabled_row.specs.Sent.{Sent, Writes};
 ghost use Rattle.tabled_boxes.specs.Shown.{shown};
 ghost use Rattle.tabled_priority.specs.Sums.{one_if};
+ghost use Rattle.tabled_panels.specs.Colours.{marks_of};
+ghost use Rattle.tabled_panels.specs.Handed.{handed_panel, has_bare};
+ghost use Rattle.tabled_panels.specs.Panels.{panel_of};
+ghost use Rattle.tabled_panels.specs.Plans.{plan_of};
 ghost use Rattle.tabled_pool.specs.Apart.{IsStraightPool};
-ghost use Rattle.tabled_pool.specs.Colours.{marks_of};
 ghost use Rattle.tabled_pool.specs.Drawn.{drawn};
 ghost use Rattle.tabled_boxes.specs.Boxes.{box_of};
-ghost use Rattle.tabled_pool.specs.Handed.{handed_panel, has_bare};
-ghost use Rattle.tabled_pool.specs.Panels.{panel_of};
-ghost use Rattle.tabled_pool.specs.Plans.{plan_of};
 ghost use Rattle.tabled_pool.specs.Pool.{
   HasColumns,
   IsInRange,
@@ -38,17 +38,14 @@ ghost use Rattle.tabled_pool.specs.Pool.{
 ghost use Rattle.tabled_pool.specs.NewPool.{IsNewConfig, IsNewPool};
 ghost use Rattle.tabled_pool.specs.Tiled.{Tiled};
 
-use crate::drawing::Drawing;
-use crate::handed::{draw_tree, has_bare};
-use crate::margins::{Margin, put_framed};
-use crate::panel_lines::put_panel;
-use crate::panels::DrawnBox;
+use crate::margins::put_framed;
 use crate::plan::{has_bottom, has_top};
 use std::alloc::Global;
 use std::fmt;
 use tabled_base::TableError;
 use tabled_boxes::{Gaps, Piece, Rectangle, Size, TableValue, own_size, place_tree};
 use tabled_config::{ANSIStr, Borders, CellStyle, CompactMultilineConfig, Indent, Sides, Style};
+use tabled_panels::{Drawing, DrawnBox, Margin, draw_tree, has_bare, put_panel};
 use tabled_row::TextSink;
 use tabled_size::{DimensionPriority, PoolTableDimension};
 

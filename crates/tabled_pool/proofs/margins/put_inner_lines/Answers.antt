@@ -1,9 +1,9 @@
 use Rattle.tabled_row.proofs.Each.{map-more, map-rest}
 use Rattle.tabled_row.proofs.Leading.{lines-further, lines-stopped}
-use Rattle.tabled_pool.specs.Colours.{marks_of}
+use Rattle.tabled_panels.specs.Colours.{marks_of}
+use Rattle.tabled_panels.specs.Margins.{within_margin}
+use Rattle.tabled_panels.specs.Plans.{plan_of}
 use Rattle.tabled_pool.specs.Drawn.{drawn_line}
-use Rattle.tabled_pool.specs.Margins.{within_margin}
-use Rattle.tabled_pool.specs.Plans.{plan_of}
 use Rattle.tabled_pool.proofs.margins.put_inner_lines.Goals as goal
 
 pub returns-in_err-put_near_line : goal.returns-in_err-put_near_line

@@ -1,10 +1,10 @@
 use Rattle.std.proofs.Common.{map}
 use Rattle.std.specs.List.{range_with_len}
 use Rattle.tabled_row.specs.Leading.{LineSends}
-use Rattle.tabled_pool.specs.Colours.{marks_of}
+use Rattle.tabled_panels.specs.Colours.{marks_of}
+use Rattle.tabled_panels.specs.Margins.{within_margin}
+use Rattle.tabled_panels.specs.Plans.{plan_of}
 use Rattle.tabled_pool.specs.Drawn.{drawn_line}
-use Rattle.tabled_pool.specs.Margins.{within_margin}
-use Rattle.tabled_pool.specs.Plans.{plan_of}
 use Rattle.tabled_pool.proofs.margins.put_inner_lines.Given as goal
 
 abbrev pub invariant-lines : goal.invariant-lines

@@ -1,8 +1,8 @@
 use Rattle.std.proofs.Common.{replicate, refl}
 use Rattle.tabled_row.proofs.Leading.{lines-further, lines-finished, lines-stopped, lines-stopped-first}
-use Rattle.tabled_pool.specs.Colours.{marks_of}
-use Rattle.tabled_pool.specs.Margins.{margin_line}
-use Rattle.tabled_pool.specs.Plans.{plan_of}
+use Rattle.tabled_panels.specs.Colours.{marks_of}
+use Rattle.tabled_panels.specs.Margins.{margin_line}
+use Rattle.tabled_panels.specs.Plans.{plan_of}
 use Rattle.tabled_pool.proofs.MarginLemmas.{inner_lines, inner_lines_left}
 use Rattle.tabled_pool.proofs.margins.put_lines.Goals as goal
 

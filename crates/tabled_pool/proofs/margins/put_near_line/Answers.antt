@@ -1,9 +1,9 @@
 use Rattle.std.proofs.Common.{[], ◌∷◌, map, ap, subst, ◌∙◌}
 use Rattle.tabled_boxes.specs.Shown.{shown}
 use Rattle.tabled_row.specs.Leading.{WritesLines}
-use Rattle.tabled_pool.specs.Colours.{marks_of}
-use Rattle.tabled_pool.specs.Margins.{within_margin}
-use Rattle.tabled_pool.specs.Plans.{plan_of}
+use Rattle.tabled_panels.specs.Colours.{marks_of}
+use Rattle.tabled_panels.specs.Margins.{within_margin}
+use Rattle.tabled_panels.specs.Plans.{plan_of}
 use Rattle.tabled_pool.proofs.NearLines.{near_drawn}
 use Rattle.tabled_pool.proofs.margins.put_near_line.Goals as goal
 

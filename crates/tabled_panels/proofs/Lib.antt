@@ -1,0 +1,3 @@
+pub mod Drawers
+pub mod PanelLines
+pub mod PoolBlocks

@@ -1,0 +1,11 @@
+pub mod Block
+pub mod Colours
+pub mod Handed
+pub mod Handing
+pub mod Kinds
+pub mod Leaf
+pub mod Margins
+pub mod Marks
+pub mod Panels
+pub mod Plan
+pub mod Plans

@@ -1,0 +1,88 @@
+//! A margin, with its colours.
+ghost use Rattle.std.specs.Prelude.{◌≡◌, ◌∷◌, [], replicate};
+ghost use Rattle.tabled_row.specs.Fill.{indent};
+ghost use Rattle.tabled_row.specs.Leading.{WritesLines};
+ghost use Rattle.tabled_row.specs.Sent.{Sent, Writes};
+ghost use Rattle.tabled_panels.specs.Colours.{coloured, mark_of, marks_of};
+ghost use Rattle.tabled_panels.specs.Margins.{margin_line};
+
+use crate::colors::put_colored_fill;
+use tabled_base::TableError;
+use tabled_config::{ANSIStr, Indent, Sides};
+use tabled_row::{TextSink, put_break};
+
+/// A margin, and its colours.
+#[derive(Clone, Copy)]
+pub struct Margin {
+    pub indent: Sides<Indent>,
+    pub colors: Sides<ANSIStr<'static>>,
+}
+
+impl Margin {
+    /// The left margin of a line.
+    pub fn put_left<S: TextSink>(&self, sink: &mut S) -> Result<(), TableError>
+        ensures { Writes (S.sent sink.old) result (S.sent sink.new)
+            (coloured (mark_of self.now.colors.left) (indent self.now.indent.left)) }
+    {
+        let left = self.indent.left;
+        put_colored_fill(sink, self.colors.left, left.fill, left.size)
+    }
+
+    /// The right margin of a line.
+    pub fn put_right<S: TextSink>(&self, sink: &mut S) -> Result<(), TableError>
+        ensures { Writes (S.sent sink.old) result (S.sent sink.new)
+            (coloured (mark_of self.now.colors.right) (indent self.now.indent.right)) }
+    {
+        let right = self.indent.right;
+        put_colored_fill(sink, self.colors.right, right.fill, right.size)
+    }
+}
+
+/// A line of the top or bottom margin, between the side margins.
+fn put_filled_line<S: TextSink>(
+    sink: &mut S,
+    margin: &Margin,
+    color: ANSIStr<'static>,
+    c: char,
+    width: usize,
+) -> Result<(), TableError>
+    ensures { Writes (S.sent sink.old) result (S.sent sink.new)
+        (margin_line margin.now.indent (marks_of margin.now.colors) (mark_of color.entry) c width) }
+{
+    margin.put_left(sink)?;
+    put_colored_fill(sink, color, c, width)?;
+    margin.put_right(sink)
+}
+
+fn put_led_margin<S: TextSink>(
+    sink: &mut S,
+    begun: &mut bool,
+    margin: &Margin,
+    color: ANSIStr<'static>,
+    c: char,
+    width: usize,
+) -> Result<(), TableError>
+    ensures { WritesLines (S.sent sink.old) begun.old result (S.sent sink.new) begun.new
+        (margin_line margin.now.indent (marks_of margin.now.colors) (mark_of color.entry) c width ∷ []) }
+{
+    put_break(sink, begun)?;
+    put_filled_line(sink, margin, color, c, width)
+}
+
+/// The lines of the top or the bottom margin.
+pub fn put_margin<S: TextSink>(
+    sink: &mut S,
+    begun: &mut bool,
+    margin: &Margin,
+    color: ANSIStr<'static>,
+    side: Indent,
+    width: usize,
+) -> Result<(), TableError>
+    ensures { WritesLines (S.sent sink.old) begun.old result (S.sent sink.new) begun.new
+        (replicate side.size (margin_line margin.now.indent (marks_of margin.now.colors) (mark_of color.entry) side.fill width)) }
+{
+    'lines: for _i in 0..side.size {
+        put_led_margin(sink, begun, margin, color, side.fill, width)?;
+    }
+    Ok(())
+}
