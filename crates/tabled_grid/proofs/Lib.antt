@@ -1,4 +1,5 @@
 mod PlainTests
+pub mod AlikeRows
 pub mod ApartPictures
 pub mod EstimatedSizes
 pub mod Measuring

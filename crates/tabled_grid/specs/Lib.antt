@@ -1,4 +1,5 @@
 pub mod ApartSheet
+pub mod ColumnStyles
 pub mod Grid
 pub mod Narrow
 pub mod Picture

@@ -1,16 +1,18 @@
 //! A table with the dimension that answers its sizes.
-ghost use Rattle.std.specs.Prelude.{◌≡◌, ◌<◌, ℕ, IfSome, length};
-ghost use Rattle.std.specs.List.{slice_index};
+ghost use Rattle.std.specs.Prelude.{◌≡◌, ◌<◌, ℕ, IfSome, length, map};
+ghost use Rattle.std.specs.List.{range_with_len, slice_index};
 ghost use Rattle.tabled_base.specs.Cells.{IsInside, cell_at, columns};
 ghost use Rattle.tabled_config.specs.Settings.{frame, rule_at, style_at};
+ghost use Rattle.tabled_grid.specs.ColumnStyles.{AreStyles};
 ghost use Rattle.tabled_grid.specs.Grid.{sheet_by};
 ghost use Rattle.tabled_size.specs.Holds.{IsSized};
 ghost use Rattle.tabled_size.specs.Sheet.{Sheet};
 
+use crate::column_styles::ColumnStyles;
 use std::alloc::Global;
 use std::marker::Model;
 use tabled_base::{PeekableRecords, Position};
-use tabled_config::{Frame, HorizontalLine, SpannedConfig};
+use tabled_config::{CellStyle, Frame, HorizontalLine, SpannedConfig};
 use tabled_row::{CellBlock, Content, SharedStyle};
 use tabled_size::Dimension;
 
@@ -27,6 +29,7 @@ pub(crate) struct Grid<'a, R: PeekableRecords, D: Dimension> {
     pub memory: Option<Global>,
     around: Frame,
     shared: Option<SharedStyle>,
+    by_column: Option<ColumnStyles>,
 }
 
 impl<'a, R: PeekableRecords, D: Dimension> Model for Grid<'a, R, D> {
@@ -36,7 +39,8 @@ impl<'a, R: PeekableRecords, D: Dimension> Model for Grid<'a, R, D> {
 
     ghost invariant = { λ g. (g.around ≡ frame g.config.now)
         × IfSome g.shared (λ shared. ((row column : ℕ) → style_at g.config.now row column ≡ shared.style)
-        × (shared.bar ≡ (frame g.config.now).inner)) };
+        × (shared.bar ≡ (frame g.config.now).inner))
+        × IfSome g.by_column (AreStyles g.config.now (columns (R.cells g.records.now))) };
 }
 
 impl<'a, R: PeekableRecords, D: Dimension> Grid<'a, R, D> {
@@ -54,6 +58,17 @@ impl<'a, R: PeekableRecords, D: Dimension> Grid<'a, R, D> {
             Some(style) => Some(SharedStyle::new(style, around.inner)),
             None => None,
         };
+        let by_column = match &shared {
+            Some(_) => None,
+            None => {
+                ColumnStyles::if_kept(
+                    memory,
+                    config,
+                    records.count_rows(),
+                    records.count_columns(),
+                )
+            }
+        };
         Grid {
             records,
             config,
@@ -61,6 +76,7 @@ impl<'a, R: PeekableRecords, D: Dimension> Grid<'a, R, D> {
             memory,
             around,
             shared,
+            by_column,
         }
     }
 
@@ -77,6 +93,17 @@ impl<'a, R: PeekableRecords, D: Dimension> Grid<'a, R, D> {
             × (shared.now.bar ≡ (frame self.now.config).inner)) }
     {
         self.shared.as_ref()
+    }
+
+    /// How the texts of each column stand in a row, if this is kept.
+    pub fn column_styles(&self, row: usize) -> Option<&[CellStyle]>
+        ensures { IfSome result (λ styles. styles.now
+            ≡ map (style_at self.now.config row) (range_with_len 0 (columns self.now.cells))) }
+    {
+        match &self.by_column {
+            Some(kept) => kept.in_row(self.config, row),
+            None => None,
+        }
     }
 
     /// How many rows there are.

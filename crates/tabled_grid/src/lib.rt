@@ -6,6 +6,7 @@
 
 mod apart;
 mod checks;
+mod column_styles;
 mod grid;
 pub mod laws;
 mod parts;

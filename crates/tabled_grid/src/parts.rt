@@ -5,7 +5,7 @@ ghost use Rattle.tabled_size.specs.Holds.{IsSized};
 
 use crate::grid::Grid;
 use tabled_base::{PeekableRecords, Position};
-use tabled_config::Frame;
+use tabled_config::{CellStyle, Frame};
 use tabled_row::{CellBlock, Columns, Content, Row, SharedStyle};
 use tabled_size::Dimension;
 
@@ -61,6 +61,10 @@ impl<'a, R: PeekableRecords, D: Dimension> Row<'a> for GridRow<'a, R, D> {
 
     fn shared_style(&self) -> Option<&SharedStyle> {
         self.grid.shared_style()
+    }
+
+    fn column_styles(&self) -> Option<&[CellStyle]> {
+        self.grid.column_styles(self.row)
     }
 
     fn width(&self, column: usize) -> usize {

@@ -15,7 +15,7 @@ use crate::layout::Layout;
 use std::alloc::Global;
 use std::borrow::CowStr;
 use tabled_base::{CellText, TableError, Text};
-use tabled_config::Frame;
+use tabled_config::{CellStyle, Frame};
 use tabled_row::{CellBlock, Content, Lines, Marks, Row, SharedStyle, TextSink};
 use tabled_text::cut_str;
 
@@ -49,6 +49,10 @@ impl<'a> Row<'a> for CutRow<'a> {
 
     fn shared_style(&self) -> Option<&SharedStyle> {
         Some(&self.layout.shared)
+    }
+
+    fn column_styles(&self) -> Option<&[CellStyle]> {
+        None
     }
 
     fn width(&self, column: usize) -> usize {

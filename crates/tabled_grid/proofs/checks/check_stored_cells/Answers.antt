@@ -14,12 +14,12 @@ check_narrow-requires g c =
 pub returns-in-Some-clause-ok : goal.returns-in-Some-clause-ok
 returns-in-Some-clause-ok g c =
     held_stored (g.R.ExactRecords.cells c.args.records.now) c.args.config.now _ c.args.stored.now c.in-Some.field-0.now
-    (sym c.get_widths.ensures ∙ ap (option_map (λ s. s.now)) c.in-Some.is) (rw c.new.ensures at c.check_narrow.ensures.ok)
+    (sym c.get_widths.ensures ∙ ap (option_map (λ s. s.now)) c.in-Some.is) (rw c.new.ensures at c.check_narrow-in-Some.ensures.ok)
 
 pub returns-in-Some-clause-err : goal.returns-in-Some-clause-err
 returns-in-Some-clause-err g c =
     narrow_stored (g.R.ExactRecords.cells c.args.records.now) c.args.config.now _ c.args.stored.now c.in-Some.field-0.now
-    (sym c.get_widths.ensures ∙ ap (option_map (λ s. s.now)) c.in-Some.is) (rw c.new.ensures at c.check_narrow.ensures.err)
+    (sym c.get_widths.ensures ∙ ap (option_map (λ s. s.now)) c.in-Some.is) (rw c.new.ensures at c.check_narrow-in-Some.ensures.err)
 
 pub returns-in-None-clause-ok : goal.returns-in-None-clause-ok
 returns-in-None-clause-ok g c =

@@ -1,0 +1,12 @@
+use Rattle.std.proofs.Common.{◌≡◌, ◌++◌, ◌∷◌, [], ◌∙◌, ap, sym, map, arith}
+use Rattle.std.specs.List.{range_with_len}
+use Rattle.std.proofs.lemmas.List.FromFn.{map-range_with_len_more}
+use Rattle.tabled_config.specs.Settings.{style_at}
+use Rattle.tabled_grid.proofs.column_styles.ColumnStyles.new.Goals as goal
+
+pub columns-preserved : goal.columns-preserved
+columns-preserved c =
+    let f = style_at c.args.config.now c.args.row in
+    c.in_ok-push.ensures.items ∙ ap (λ xs. xs ++ c.style_at.result ∷ []) c.columns.invariant
+    ∙ ap (λ s. map f (range_with_len 0 c.columns.column) ++ s ∷ []) c.style_at.ensures
+    ∙ sym (map-range_with_len_more f 0 c.columns.column c.columns.column (omega arith))
