@@ -6,9 +6,9 @@ mod words;
 
 use anyhow::Result;
 use reading::{Rows, read_rows};
-use std::env;
 use std::io::{self, BufWriter, Write};
 use std::process::ExitCode;
+use std::{env, mem};
 use tabled::grid::config::{AlignmentHorizontal, Entity};
 use tabled::settings::peaker::Priority;
 use tabled::settings::{Style, Width};
@@ -31,6 +31,8 @@ fn main(rt: HostRuntime) -> Result<ExitCode> {
     let table = dressed(read_rows(alloc, rt.stdin())?, style, width)?;
     let mut out = BufWriter::new(alloc, io::writer(&rt))?;
     put_table(&table, &mut out)?;
+    // The process ends here: its memory goes back as a whole, and not text by text.
+    mem::forget(table);
     Ok(ExitCode::SUCCESS)
 }
 

@@ -43,6 +43,19 @@ pub fn read_rows<R: Read + Drop>(alloc: Global, input: R) -> Result<Rows> {
 
 fn keep_numbers(are_numbers: &mut Vec<bool>, record: &StringRecord) {
     for (is_number, cell) in are_numbers.iter_mut().zip(record.iter()) {
-        *is_number = *is_number && cell.parse::<f64>().is_ok();
+        *is_number = *is_number && is_number_text(cell);
     }
+}
+
+/// Whether a text is a number. One of digits alone is, and needn't be read.
+fn is_number_text(cell: &str) -> bool {
+    is_digits(cell) || cell.parse::<f64>().is_ok()
+}
+
+fn is_digits(cell: &str) -> bool {
+    !cell.is_empty()
+        && cell
+            .as_bytes()
+            .iter()
+            .all(|byte| matches!(*byte, b'0'..=b'9'))
 }
