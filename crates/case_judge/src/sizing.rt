@@ -6,6 +6,7 @@ use crate::words::{Words, mark, number};
 use std::alloc::Global;
 use tabled::grid::config::{ColoredConfig, Entity};
 use tabled::grid::records::{Text, VecRecords};
+use tabled::grid::util::string::split_str;
 use tabled::settings::measurement::{Max, Min, Percent};
 use tabled::settings::object::{Columns, Rows, Segment};
 use tabled::settings::peaker::{Peaker, Priority};
@@ -211,13 +212,17 @@ fn percent(measure: &str) -> Result<Percent, Fault> {
     }
 }
 
-/// A text that is cut, wrapped or truncated by itself.
+/// A text that is cut, split, wrapped or truncated by itself. What follows a text that is split stands behind a bar.
 pub fn narrowed(alloc: Global, text: &str, by: &str) -> Result<String, Fault> {
     let mut words = Words::new(by);
     match words.word() {
         "cut" => {
             let cut = Truncate::truncate(alloc, text, number(words.others())?)?;
             Ok(cut.into_owned(alloc)?)
+        }
+        "split" => {
+            let (cut, rest) = split_str(alloc, text, number(words.others())?)?;
+            Ok(format!(in alloc; "{}|{rest}", cut.as_str())?)
         }
         "wrap" => {
             let sizing = read(&mut words)?;
