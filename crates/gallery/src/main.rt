@@ -6,12 +6,13 @@ use gallery_pages::{
     alignments, borders, cell_widths, from_tabled, heights, objects, of_cities, of_keys, of_lines,
     of_notes, printers, rows, spaces, streams, styles, texts, widths,
 };
+use tabled::TableError;
 
 // Pictures of a table to which something is done.
 macro_rules! show {
     ($rt:expr, $table:path; $($picture:path),+) => {{
         let alloc = $rt.alloc();
-        $(println!($rt; "== {}\n{}", stringify!($picture), $table(alloc, $picture)?)?;)+
+        $(put($rt, stringify!($picture), $table(alloc, $picture))?;)+
         Ok(())
     }};
 }
@@ -20,9 +21,15 @@ macro_rules! show {
 macro_rules! draw {
     ($rt:expr; $($picture:path),+) => {{
         let alloc = $rt.alloc();
-        $(println!($rt; "== {}\n{}", stringify!($picture), $picture(alloc)?)?;)+
+        $(put($rt, stringify!($picture), $picture(alloc))?;)+
         Ok(())
     }};
+}
+
+// A picture below its name.
+fn put(rt: &HostRuntime, name: &str, picture: Result<String, TableError>) -> Result<()> {
+    println!(rt; "== {name}\n{}", picture?)?;
+    Ok(())
 }
 
 fn main(rt: HostRuntime) -> Result<()> {

@@ -4,7 +4,9 @@
 
 mod calls;
 mod changes;
+mod drawings;
 mod found;
+mod materials;
 mod meagre;
 mod numbers;
 mod printers;

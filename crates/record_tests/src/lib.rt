@@ -1,9 +1,7 @@
-//! Tests of records and values that aren't seen beside their pictures in `cases`, and of options and measures of a
-//! caller's own on single cells. Nothing stands here outside of tests.
+//! Tests of records that aren't seen beside their pictures in `cases`, and of options and measures of a caller's own on
+//! single cells. Nothing stands here outside of tests.
 #![tactic(auto)]
 
-#[cfg(test)]
-mod copies;
 #[cfg(test)]
 mod measures;
 #[cfg(test)]
@@ -12,8 +10,6 @@ mod parts;
 mod rows;
 #[cfg(test)]
 mod shown;
-#[cfg(test)]
-mod values;
 #[cfg(test)]
 mod views;
 #[cfg(test)]

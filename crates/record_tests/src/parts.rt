@@ -6,10 +6,7 @@ use crate::shown::records_of;
 use std::alloc::Global;
 use std::process::Abort;
 use std::test::Fail;
-use tabled_base::{
-    Builder, Cell, CellOption, Columns, Entity, Object, Rows, Segment, TableError, TableOption,
-    Text, VecRecords,
-};
+use tabled_base::{CellOption, Entity, Object, Segment, TableError, TableOption, Text, VecRecords};
 
 fn three_by_two(alloc: Global) -> Result<VecRecords<Text<String>>, TableError> {
     records_of(alloc, &[&["a", "b"], &["c", "d"], &["e", "f"]])
@@ -28,33 +25,6 @@ fn names<T: Object<VecRecords<Text<String>>> + Drop>(
 }
 
 #[test]
-fn a_row_is_named(rt: HostRuntime) -> Result<(), Fail> {
-    let alloc = rt.alloc();
-    names(&rt, alloc, Rows::one(1), &[Entity::Row(1)])?;
-    names(&rt, alloc, Rows::first(), &[Entity::Row(0)])?;
-    names(&rt, alloc, Rows::last(), &[Entity::Row(2)])?;
-    names(&rt, alloc, Rows::one(3), &[])
-}
-
-#[test]
-fn a_column_is_named(rt: HostRuntime) -> Result<(), Fail> {
-    let alloc = rt.alloc();
-    names(&rt, alloc, Columns::one(1), &[Entity::Column(1)])?;
-    names(&rt, alloc, Columns::first(), &[Entity::Column(0)])?;
-    names(&rt, alloc, Columns::last(), &[Entity::Column(1)])?;
-    names(&rt, alloc, Columns::one(2), &[])
-}
-
-#[test]
-fn a_cell_is_named(rt: HostRuntime) -> Result<(), Fail> {
-    let alloc = rt.alloc();
-    names(&rt, alloc, Cell::new(2, 1), &[Entity::Cell(2, 1)])?;
-    names(&rt, alloc, (0, 1), &[Entity::Cell(0, 1)])?;
-    names(&rt, alloc, Cell::new(3, 0), &[])?;
-    names(&rt, alloc, (0, 2), &[])
-}
-
-#[test]
 fn a_segment_names_its_cells_row_by_row(rt: HostRuntime) -> Result<(), Fail> {
     let alloc = rt.alloc();
     let corner = [(1, 0), (1, 1), (2, 0), (2, 1)].map(|at| Entity::Cell(at.0, at.1));
@@ -68,14 +38,6 @@ fn a_segment_names_its_cells_row_by_row(rt: HostRuntime) -> Result<(), Fail> {
     )?;
     names(&rt, alloc, Segment::new(3.., ..), &[])?;
     names(&rt, alloc, Segment::all(), &[Entity::Global])
-}
-
-#[test]
-fn an_empty_table_has_no_last_row(rt: HostRuntime) -> Result<(), Fail> {
-    let none = Builder::new(rt.alloc()).build();
-    assert!(rt; Rows::last().cells(rt.alloc(), &none)?.is_empty());
-    assert!(rt; Columns::last().cells(rt.alloc(), &none)?.is_empty());
-    Ok(())
 }
 
 // Counts in the configuration how often it was applied.

@@ -150,10 +150,10 @@ pub(crate) fn report<E: Write>(fault: &Fault, err: &mut E) -> u8
 ///
 /// `words` are the program's arguments without its name: `--wrap N` and `--cut N` narrow a wider table to N columns, by
 /// wrapping or by cutting its texts, `--priority` and `none`, `min`, `max`, `left` or `right` says which columns shrink first,
-/// `--words` keeps words whole, `--stream` prints row by row. `out` gets the table in blocks, `err` one line where the run fails: the usage, or the word of the refusal, or `Input` where
-/// reading failed or the input is no UTF-8. Answers the status: 0, 1 for a refusal, 2 for wrong words,
-/// which end the run before anything is read. The whole input is read and judged before a byte is
-/// written; a failed write to `err` changes nothing.
+/// `--words` keeps words whole, `--stream` prints row by row. `out` gets the table in blocks, `err` one line where the run
+/// fails: the usage, or the word of the refusal, or `Input` where reading failed or the input is no UTF-8. Answers the status:
+/// 0, 1 for a refusal, 2 for wrong words, which end the run before anything is read. The whole input is read and judged before
+/// a byte is written; a failed write to `err` changes nothing.
 pub fn run<I: Read, O: Write, E: Write>(
     alloc: Global,
     words: &[String],

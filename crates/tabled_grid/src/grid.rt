@@ -133,6 +133,14 @@ impl<'a, R: PeekableRecords, D: Dimension> Grid<'a, R, D> {
         }
     }
 
+    /// How the text of a cell stands.
+    #[inline(always)]
+    pub fn style(&self, row: usize, column: usize) -> CellStyle
+        ensures { result ≡ style_at self.now.config row column }
+    {
+        self.config.style_at(row, column)
+    }
+
     /// A cell as it is laid out. Its width and its height have to be there.
     pub fn block(&self, at: Position) -> CellBlock<'a>
         requires sized { IsSized self.now }

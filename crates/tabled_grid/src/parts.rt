@@ -67,6 +67,11 @@ impl<'a, R: PeekableRecords, D: Dimension> Row<'a> for GridRow<'a, R, D> {
         self.grid.column_styles(self.row)
     }
 
+    #[inline(always)]
+    fn style(&self, column: usize) -> CellStyle {
+        self.grid.style(self.row, column)
+    }
+
     fn width(&self, column: usize) -> usize {
         self.grid.width(column)
     }

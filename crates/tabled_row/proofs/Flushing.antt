@@ -13,8 +13,7 @@ use Rattle.tabled_config.specs.declared.spanned.CellStyle.{CellStyle}
 use Rattle.tabled_border.specs.Frame.{has_bar}
 use Rattle.tabled_row.specs.Block.{above_text, block, cell_line, fill_above, text_room}
 use Rattle.tabled_row.specs.Fill.{fill}
-use Rattle.tabled_row.specs.Flush.{IsFlush, first_line, flush_cells, flush_step, opening}
-use Rattle.tabled_row.specs.Laid.{laid_text}
+use Rattle.tabled_row.specs.Flush.{IsFlush, first_line, flush_cells, flush_step, laid_text, opening}
 use Rattle.tabled_row.specs.Row.{RowSheet, cell_piece, piece}
 use Rattle.tabled_row.proofs.Bars.{later-bar}
 use Rattle.tabled_row.proofs.Blocks.{block-text}

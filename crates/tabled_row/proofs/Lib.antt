@@ -6,8 +6,6 @@ pub mod Each
 pub mod Fills
 pub mod Flushing
 pub mod Joined
-pub mod Laying
-pub mod LayingColumns
 pub mod Leading
 pub mod Marking
 pub mod Plains

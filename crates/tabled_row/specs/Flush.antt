@@ -1,5 +1,5 @@
 -- Rows of one line whose texts stand at the left between spaces, as those of a new table do.
-use Rattle.std.specs.Prelude.{◌≡◌, ℕ, ◌+◌, ◌-◌, ◌<◌, nat_lt, if◌then◌else◌, List, [], ◌++◌}
+use Rattle.std.specs.Prelude.{◌≡◌, ℕ, ◌+◌, ◌-◌, nat_lt, if◌then◌else◌, List, [], ◌++◌}
 use Rattle.std.specs.List.{flat_map, range_with_len, slice_index_or}
 use Rattle.tabled_text.specs.Measure.{line_columns, lines_of}
 use Rattle.tabled_config.specs.declared.alignment.AlignmentHorizontal.TheVariants as horizontal
@@ -25,6 +25,13 @@ gap_text bar style = fill 32 64 ++ (piece bar.there bar.main ++ fill 32 style.pa
 abbrev pub first_line : List ℕ → List ℕ
 first_line text = slice_index_or (lines_of text) 0 []
 
+-- the text of a column at the left of its room: padding, the text, spaces
+abbrev pub laid_text : RowSheet → CellStyle → ℕ → List ℕ
+laid_text row style column =
+    let line = first_line (row.text column) in
+    fill 32 style.padding.left.size
+    ++ (line ++ fill 32 (text_room style (row.columns.width column) - line_columns line + style.padding.right.size))
+
 -- the vertical line and the spaces before the text of a column; nothing behind the last one
 unfoldable pub opening : ColumnSheet → CellStyle → ℕ → List ℕ
 opening columns style column =
@@ -39,14 +46,6 @@ flush_step row style column =
     line
     ++ (fill 32 (text_room style (row.columns.width column) - line_columns line + style.padding.right.size)
     ++ opening row.columns style (column + 1))
-
--- a row of one line over some columns, whose texts stand so
-pub record IsFlushOver (columns : ColumnSheet) (row : RowSheet) (style : CellStyle) : Type 0 where
-  pub flush : IsFlush style
-  pub shared : (column : ℕ) → column < row.columns.count → row.style column ≡ style
-  pub height : row.height ≡ 1
-  pub count : row.columns.count ≡ columns.count
-  pub frame : row.columns.frame ≡ columns.frame
 
 -- all cells of the row
 abbrev pub flush_cells : RowSheet → CellStyle → List ℕ

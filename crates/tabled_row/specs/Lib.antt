@@ -2,9 +2,6 @@ pub mod Apart
 pub mod Block
 pub mod Fill
 pub mod Flush
-pub mod Kept
-pub mod Laid
-pub mod LaidColumns
 pub mod Leading
 pub mod Marks
 pub mod Plain

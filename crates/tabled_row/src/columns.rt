@@ -67,7 +67,8 @@ fn put_rule_piece<C: Columns, S: TextSink>(
     put_fill(sink, line.main.unwrap_or(' '), columns.width(column))
 }
 
-pub(crate) fn put_rule_pieces<C: Columns, S: TextSink>(
+/// The pieces of a horizontal line between the outer vertical lines: over each column, with what stands where a vertical line meets it.
+pub fn put_rule_pieces<C: Columns, S: TextSink>(
     sink: &mut S,
     columns: &C,
     line: &HorizontalLine,

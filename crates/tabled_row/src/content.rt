@@ -32,7 +32,7 @@ impl<'a> Content<'a> {
 
     /// The first line with its columns.
     #[inline(always)]
-    pub(crate) fn first_line(&self) -> (&'a str, usize)
+    pub fn first_line(&self) -> (&'a str, usize)
         ensures line { result.0.now ≡ first_line self.now.text.now }
         ensures columns { result.1 ≡ line_columns result.0.now }
     {

@@ -167,7 +167,7 @@ impl<'a> Marks<'a> {
     }
 
     /// Forgets all marks, so that those of another row's texts can be kept.
-    pub(crate) fn forget(&mut self)
+    pub fn forget(&mut self)
         requires { AreClean self.old }
         ensures { (texts : ℕ → List ℕ) → AreKept texts self.new }
     {

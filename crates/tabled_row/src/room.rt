@@ -16,7 +16,7 @@ const MOST: usize = 1_048_576;
 
 /// A room of fixed size as a sink. A text that doesn't fit is refused for memory.
 #[derive(Drop)]
-pub(crate) struct FixedRoom {
+pub struct FixedRoom {
     bytes: [u8; ROOM],
     used: usize,
     ghost within: { used ≤ 4096 },
@@ -69,7 +69,7 @@ impl TextSink for FixedRoom {
 
 /// A room as a sink: memory that grows up to 1 MiB where that may be taken, and else 4 KiB without memory.
 #[derive(Drop)]
-pub(crate) enum Room {
+pub enum Room {
     /// In no memory.
     Fixed(FixedRoom),
     /// In memory.

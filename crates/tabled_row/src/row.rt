@@ -42,6 +42,11 @@ pub trait Row<'a> {
         ensures { IfSome result (λ styles. styles.now
             ≡ map (sheet self.now).style (range_with_len 0 (sheet self.now).columns.count)) };
 
+    /// How the text of a column stands.
+    fn style(&self, column: usize) -> CellStyle
+        requires { column < (sheet self.now).columns.count }
+        ensures { result ≡ (sheet self.now).style column };
+
     /// How many text columns a column takes, padding included.
     fn width(&self, column: usize) -> usize
         requires { column < (sheet self.now).columns.count }
@@ -153,8 +158,8 @@ fn put_cells<'a, R: Row<'a>, S: TextSink>(
     put_each_cell(sink, row, marks, index)
 }
 
-/// A line of a row.
-pub(crate) fn put_row_line<'a, R: Row<'a>, S: TextSink>(
+/// A line of a row, of whose texts the marks are.
+pub fn put_row_line<'a, R: Row<'a>, S: TextSink>(
     sink: &mut S,
     row: &R,
     marks: &mut Marks<'a>,

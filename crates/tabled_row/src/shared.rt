@@ -95,7 +95,7 @@ impl SharedStyle {
     }
 
     /// The style, if texts stand at the left between spaces under it.
-    pub(crate) fn flush(&self) -> Option<&CellStyle>
+    pub fn flush(&self) -> Option<&CellStyle>
         ensures { IfSome result (λ style. (style.now ≡ self.now.style) × IsFlush style.now) }
     {
         if self.whole { Some(&self.style) } else { None }

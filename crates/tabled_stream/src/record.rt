@@ -3,7 +3,7 @@ ghost use Rattle.std.specs.Prelude.{◌≡◌, ℕ, List, [], ◌<◌, ◌≤◌
 ghost use Rattle.std.specs.List.{slice_index_or};
 ghost use Rattle.tabled_base.specs.declared.error.TableError.TheVariants.{Memory};
 ghost use Rattle.tabled_base.specs.Cells.{lengthened};
-ghost use Rattle.tabled_row.specs.Kept.{Keeps};
+ghost use Rattle.tabled_lines.specs.Kept.{Keeps};
 ghost use Rattle.tabled_row.specs.Marks.{AreClean};
 ghost use Rattle.tabled_row.specs.Sent.{Sent};
 ghost use Rattle.tabled_text.specs.Cut.{IsCut};
@@ -16,7 +16,8 @@ use std::alloc::Global;
 use std::borrow::CowStr;
 use tabled_base::{CellText, TableError, Text};
 use tabled_config::{CellStyle, Frame};
-use tabled_row::{CellBlock, Content, Lines, Marks, Row, SharedStyle, TextSink};
+use tabled_lines::Lines;
+use tabled_row::{CellBlock, Content, Marks, Row, SharedStyle, TextSink};
 use tabled_text::cut_str;
 
 /// A row of a stream whose cells are cut; missing ones are empty.
@@ -53,6 +54,10 @@ impl<'a> Row<'a> for CutRow<'a> {
 
     fn column_styles(&self) -> Option<&[CellStyle]> {
         None
+    }
+
+    fn style(&self, _column: usize) -> CellStyle {
+        self.layout.style
     }
 
     fn width(&self, column: usize) -> usize {

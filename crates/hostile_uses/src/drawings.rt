@@ -1,0 +1,241 @@
+//! Calls that set and print tables of each kind, beyond those that are made elsewhere. Each is made once and answers.
+
+use crate::found::{Found, whole_if};
+use crate::printers::{PAIRS, PICTURE};
+use std::alloc::{AllocError, Global};
+use std::io;
+use tabled::grid::config::{ColoredConfig, CompactConfig, CompactMultilineConfig, SpannedConfig};
+use tabled::grid::dimension::{ConstDimension, ConstSize, DimensionPriority, PoolTableDimension};
+use tabled::grid::records::into_records::BufRecords;
+use tabled::grid::{Window, print_compact, print_grid};
+use tabled::settings::object::{Rows, Segment};
+use tabled::settings::{Margin, Padding, Style, Width};
+use tabled::tables::{CompactTable, ExtendedTable, FnTemplate, IterTable, PoolTable, TableValue};
+use tabled::{IoSink, Plan, Table, TableError, TextSink, render_styled};
+
+/// The calls, by what they are about.
+pub const DRAWINGS: &[&str] = &[
+    "grids",
+    "compact grids",
+    "sinks",
+    "configurations",
+    "parts of tables",
+    "streams",
+    "streams to writers",
+    "rows read ahead",
+    "compact tables",
+    "compact tables to writers",
+    "records",
+    "boxes",
+    "boxes of values",
+    "styles",
+];
+
+const BARE: &str = "a  bb\nccc  ";
+
+const MARKED: &str = "\
+| a   | bb |
+|-----|----|
+| ccc |    |";
+
+// A compact configuration keeps no line by its index.
+const BARRED: &str = "\
+| a   | bb |
+| ccc |    |";
+
+const HALF_WRAPPED: &str = "\
++---+----+
+| a | bb |
++---+----+
+| c |    |
+| c |    |
+| c |    |
++---+----+";
+
+// Records under settings with sizes that are stored.
+fn put_grid<S: TextSink>(alloc: Global, sink: &mut S) -> Result<(), TableError> {
+    let mut table = Table::from_iter(alloc, PAIRS)?;
+    let (widths, heights) = (vec![in alloc; 5, 4]?, vec![in alloc; 1, 1]?);
+    table.get_dimension_mut().set_widths(widths);
+    table.get_dimension_mut().set_heights(heights);
+    let config = table.get_config().as_ref();
+    print_grid(sink, table.get_records(), config, table.get_dimension())
+}
+
+fn grids(alloc: Global) -> Result<Found, TableError> {
+    let mut text = String::new(alloc);
+    put_grid(alloc, &mut text)?;
+    let mut bytes: Vec<u8> = Vec::new(alloc);
+    put_grid(alloc, &mut bytes)?;
+    Ok(whole_if(text.as_str() == PICTURE && bytes.as_slice() == PICTURE.as_bytes()))
+}
+
+// Rows under a compact configuration, without a table.
+fn compact_grids(alloc: Global) -> Result<Found, TableError> {
+    let mut text = String::new(alloc);
+    let sizes = ConstDimension::new(ConstSize::List([3, 2]), ConstSize::Value::<0>(1));
+    let window = Window {
+        skip: 0,
+        limit: None,
+    };
+    print_compact(&mut text, PAIRS, &CompactConfig::new(), &sizes, 2, window)?;
+    Ok(whole_if(text.as_str() == BARE))
+}
+
+// A text through each kind of sink.
+fn sunk(alloc: Global) -> Result<Found, TableError> {
+    let mut text = String::new(alloc);
+    text.write_text("a")?;
+    let mut bytes: Vec<u8> = Vec::new(alloc);
+    bytes.write_text("bb")?;
+    let mut room = io::Cursor::new([0u8; 4]);
+    IoSink::new(&mut room).write_text("ccc")?;
+    Ok(whole_if(
+        text.as_str() == "a"
+            && bytes.as_slice() == b"bb".as_slice()
+            && room.get_ref().starts_with(b"ccc"),
+    ))
+}
+
+// Configurations that replace that of a table.
+fn replaced(alloc: Global) -> Result<Found, TableError> {
+    let bare = SpannedConfig::new(alloc);
+    let mut table = Table::from_iter(alloc, PAIRS)?;
+    table.with(&bare)?;
+    let lent = table.to_string()?;
+    table.with(Style::markdown())?.with(CompactConfig::new())?;
+    let compact = table.to_string()?;
+    table
+        .with(Style::markdown())?
+        .with(ColoredConfig::new(bare))?;
+    let colored = table.to_string()?;
+    table.with(Style::markdown())?;
+    table.with(SpannedConfig::new(alloc))?;
+    let spanned = table.to_string()?;
+    Ok(whole_if(
+        lent.as_str() == BARE
+            && compact.as_str() == BARE
+            && colored.as_str() == BARE
+            && spanned.as_str() == BARE,
+    ))
+}
+
+// Options of some cells, given and lent.
+fn modified(alloc: Global) -> Result<Found, TableError> {
+    let mut table = Table::from_iter(alloc, PAIRS)?;
+    table.modify(Rows::last(), Width::wrap(1))?;
+    table.apply_to(Segment::new(1.., ..), &Width::truncate(1).multiline(true))?;
+    table.apply(Padding::new(1, 1, 0, 0))?;
+    Ok(whole_if(table.to_string()?.as_str() == HALF_WRAPPED))
+}
+
+fn streams(alloc: Global) -> Result<Found, TableError> {
+    let mut table = IterTable::from_iter(alloc, PAIRS)?;
+    table
+        .with(Style::markdown())?
+        .apply(Padding::new(1, 1, 0, 0))?;
+    Ok(whole_if(table.to_string(alloc)?.as_str() == BARRED))
+}
+
+// A stream to a writer with room for it.
+fn stream_to_writer(alloc: Global) -> Result<Found, TableError> {
+    let mut room = io::Cursor::new([0u8; 64]);
+    IterTable::new(PAIRS).build(alloc, &mut room)?;
+    Ok(whole_if(room.get_ref().starts_with(PICTURE.as_bytes())))
+}
+
+// A view that reads a row ahead.
+fn read_ahead(alloc: Global) -> Result<Found, TableError> {
+    let rows = BufRecords::new(alloc, PAIRS, 1)?;
+    let text = IterTable::new(rows).to_string(alloc)?;
+    Ok(whole_if(text.as_str() == PICTURE))
+}
+
+fn compact_table(alloc: Global) -> Result<Found, TableError> {
+    let text = CompactTable::new(PAIRS)
+        .columns(2)
+        .width(ConstSize::List([5, 4]))
+        .with(Style::markdown())?
+        .to_string(alloc)?;
+    Ok(whole_if(text.as_str() == BARRED))
+}
+
+// A compact table to a writer with room for it.
+fn compact_to_writer() -> Result<Found, TableError> {
+    let mut room = io::Cursor::new([0u8; 64]);
+    CompactTable::new(PAIRS)
+        .columns(2)
+        .width(ConstSize::List([3, 2]))
+        .with(CompactConfig::new())?
+        .build(&mut room)?;
+    Ok(whole_if(room.get_ref().starts_with(BARE.as_bytes())))
+}
+
+// Records under headers that a function answers.
+fn titled(alloc: Global) -> Result<Found, TableError> {
+    let records = ExtendedTable::from_rows(alloc, PAIRS)?;
+    let copy = records.clone()?;
+    let template = FnTemplate::new(|index: usize| -> Result<String, AllocError> {
+        format!(in alloc; "r{index}")
+    });
+    let text = records.template(template).to_string()?;
+    let plain = copy.to_string()?;
+    Ok(whole_if(
+        text.as_str() == "-r0-----\na  | ccc\nbb | "
+            && plain.as_str() == "-[ RECORD 0 ]-\na  | ccc\nbb | ",
+    ))
+}
+
+// Boxes under settings of each kind.
+fn boxed(alloc: Global) -> Result<Found, TableError> {
+    let mut table = PoolTable::new(alloc, PAIRS)?;
+    table.with(CompactMultilineConfig::new())?;
+    let last = PoolTableDimension::new(DimensionPriority::Last, DimensionPriority::Last);
+    table.with(last)?.with(Style::markdown())?;
+    table.apply(Padding::new(1, 1, 0, 0))?;
+    table.apply(Margin::new(1, 0, 0, 0))?;
+    let text = table.clone()?.to_string()?;
+    Ok(whole_if(text.as_str() == " | a | bb |\n | ccc |  |"))
+}
+
+// A text in a row in a column, which is copied.
+fn nested(alloc: Global) -> Result<Found, TableError> {
+    let cell = TableValue::Cell(String::from_str(alloc, "a")?);
+    let row = TableValue::Row(Vec::from_array(alloc, [cell])?);
+    let column = TableValue::Column(Vec::from_array(alloc, [row])?);
+    let text = PoolTable::from_value(column.clone()?).to_string()?;
+    Ok(whole_if(text.as_str() == "+---+\n| a |\n+---+"))
+}
+
+// A text by a plan in a style.
+fn styled(alloc: Global) -> Result<Found, TableError> {
+    let mut text = String::new(alloc);
+    render_styled(
+        alloc,
+        "a\tbb\nccc\n",
+        Style::markdown(),
+        Plan::Streamed,
+        &mut text,
+    )?;
+    Ok(whole_if(text.as_str() == MARKED))
+}
+
+/// What became of calls that draw one of the kinds.
+pub fn drawn(alloc: Global, name: &str) -> Result<Found, TableError> {
+    match name {
+        "grids" => grids(alloc),
+        "compact grids" => compact_grids(alloc),
+        "sinks" => sunk(alloc),
+        "configurations" => replaced(alloc),
+        "parts of tables" => modified(alloc),
+        "streams" => streams(alloc),
+        "streams to writers" => stream_to_writer(alloc),
+        "rows read ahead" => read_ahead(alloc),
+        "compact tables" => compact_table(alloc),
+        "compact tables to writers" => compact_to_writer(),
+        "records" => titled(alloc),
+        "boxes" => boxed(alloc),
+        "boxes of values" => nested(alloc),
+        _ => styled(alloc),
+    }
+}

@@ -1,0 +1,281 @@
+//! Calls on what tables are made of: texts, rows, parts, values, settings and sizes. Each is made once and answers.
+
+use crate::found::{Found, whole_if};
+use crate::printers::{PAIRS, PICTURE};
+use std::alloc::Global;
+use tabled::builder::Builder;
+use tabled::grid::config::{
+    AlignmentHorizontal, AlignmentVertical, ColoredConfig, Entity, HorizontalLine, Indent,
+    Position, Sides, SpannedConfig,
+};
+use tabled::grid::dimension::{
+    CompleteDimension, ConstDimension, ConstSize, Dimension, DimensionValue, Estimate,
+    StaticDimension, ZeroDimension,
+};
+use tabled::grid::records::{ExactRecords, RecordsMut, Text, VecRecords};
+use tabled::grid::util::string::{cut_str, split_str, wrap_text};
+use tabled::settings::measurement::{Max, Measurement, Min, Percent};
+use tabled::settings::object::{Cell, Columns, Object, Rows, Segment};
+use tabled::settings::width::{Truncate, Wrap};
+use tabled::settings::{Height, Width};
+use tabled::{Table, TableError, Tabled};
+
+/// The calls, by what they are about.
+pub const MATERIALS: &[&str] = &[
+    "texts",
+    "rows",
+    "rows of texts",
+    "parts",
+    "single values",
+    "integers",
+    "held values",
+    "settings",
+    "sizes",
+    "given sizes",
+    "widths",
+    "heights",
+];
+
+// Texts that are cut, split and wrapped.
+fn narrowed(alloc: Global) -> Result<Found, TableError> {
+    let cut = cut_str(alloc, "😳😳😳😳😳", 3)?;
+    let (front, rest) = split_str(alloc, "123\n456789", 4)?;
+    let wrapped = wrap_text(alloc, "12345", 2, false)?;
+    let is_right = cut.as_str() == "😳\u{fffd}"
+        && (front.as_str(), rest) == ("123\n4567", "89")
+        && wrapped.as_str() == "12\n34\n5";
+    Ok(whole_if(is_right && options_narrow(alloc)?))
+}
+
+// Whether options narrow texts as they have to.
+fn options_narrow(alloc: Global) -> Result<bool, TableError> {
+    let wrapped = Wrap::wrap(alloc, "111 234 1", 4, true)?;
+    let cut = Truncate::truncate(alloc, "123\n45", 3)?;
+    let short = Truncate::new(4).suffix("...").shorten(alloc, "Hello", 4)?;
+    Ok(wrapped.as_str() == "111 \n234 \n1" && cut.as_str() == "123" && short.as_str() == "H...")
+}
+
+// Rows that are added, set and copied.
+fn added(alloc: Global) -> Result<Found, TableError> {
+    let mut builder = Builder::with_capacity(alloc, 2, 2)?;
+    builder.add_record(["x", "bb"])?;
+    builder.push_record(["ccc"])?;
+    let mut records = builder.build();
+    if records.count_rows() == 0 || records.count_columns() == 0 {
+        return Ok(Found::Wrong("no cell"));
+    }
+    records.set(Position::new(0, 0), String::from_str(alloc, "a")?)?;
+    let copy = records.clone()?;
+    let is_same = copy == records && copy == Builder::from_iter(alloc, PAIRS)?.build();
+    let picture = Table::from(Builder::from(records)).to_string()?;
+    Ok(whole_if(is_same && picture.as_str() == PICTURE))
+}
+
+fn texts_of(alloc: Global, row: [&str; 2]) -> Result<Vec<Text<String>>, TableError> {
+    let mut texts = Vec::new(alloc);
+    for text in row {
+        let text = Text::new(String::from_str(alloc, text)?);
+        texts.push(text.clone()?)?;
+    }
+    Ok(texts)
+}
+
+// Rows that are given at once, as measured texts.
+fn given(alloc: Global) -> Result<Found, TableError> {
+    let mut rows = Vec::new(alloc);
+    for row in PAIRS {
+        rows.push(texts_of(alloc, row)?)?;
+    }
+    let picture = Table::from(Builder::from_vec(rows)?).to_string()?;
+    Ok(whole_if(picture.as_str() == PICTURE))
+}
+
+// Whether parts of the pairs name that.
+fn names<T: Object<VecRecords<Text<String>>> + Drop>(
+    alloc: Global,
+    part: T,
+    wanted: Entity,
+) -> Result<bool, TableError> {
+    let records = Builder::from_iter(alloc, PAIRS)?.build();
+    let cells = part.cells(alloc, &records)?;
+    Ok(cells.as_slice() == [wanted].as_slice())
+}
+
+// Parts that are chosen.
+fn chosen(alloc: Global) -> Result<Found, TableError> {
+    let is_right = names(alloc, Rows::last(), Entity::Row(1))?
+        && names(alloc, Columns::first(), Entity::Column(0))?
+        && names(alloc, Cell::new(1, 0), Entity::Cell(1, 0))?
+        && names(alloc, (0, 1), Entity::Cell(0, 1))?
+        && names(alloc, Segment::new(1.., ..1), Entity::Cell(1, 0))?
+        && names(alloc, Segment::all(), Entity::Global)?;
+    Ok(whole_if(is_right))
+}
+
+// Whether a value has a field of that name and text.
+fn tells<T: Tabled>(
+    alloc: Global,
+    value: &T,
+    name: &str,
+    wanted: &str,
+) -> Result<bool, TableError> {
+    let mut names = T::headers(alloc)?.into_iter();
+    let mut fields = value.fields(alloc)?.into_iter();
+    match (names.next(), fields.next()) {
+        (Some(first), Some(field)) => Ok(first.as_str() == name && field.as_str() == wanted),
+        _ => Ok(false),
+    }
+}
+
+// Texts, characters and truth values.
+fn single(alloc: Global) -> Result<Found, TableError> {
+    let owned = String::from_str(alloc, "b")?;
+    let is_right = tells(alloc, &"a", "&str", "a")?
+        && tells(alloc, &owned, "String", "b")?
+        && tells(alloc, &'中', "char", "中")?
+        && tells(alloc, &true, "bool", "true")?;
+    Ok(whole_if(is_right))
+}
+
+fn integers(alloc: Global) -> Result<Found, TableError> {
+    let are_signed = tells(alloc, &-1i8, "i8", "-1")?
+        && tells(alloc, &-2i16, "i16", "-2")?
+        && tells(alloc, &-3i32, "i32", "-3")?
+        && tells(alloc, &-4i64, "i64", "-4")?
+        && tells(alloc, &-5i128, "i128", "-5")?
+        && tells(alloc, &-6isize, "isize", "-6")?;
+    let are_unsigned = tells(alloc, &1u8, "u8", "1")?
+        && tells(alloc, &2u16, "u16", "2")?
+        && tells(alloc, &3u32, "u32", "3")?
+        && tells(alloc, &4u64, "u64", "4")?
+        && tells(alloc, &5u128, "u128", "5")?
+        && tells(alloc, &6usize, "usize", "6")?;
+    Ok(whole_if(are_signed && are_unsigned))
+}
+
+// Values that hold others.
+fn held(alloc: Global) -> Result<Found, TableError> {
+    let boxed = Box::new(alloc, 'b')?;
+    let are_held = tells(alloc, &&'a', "char", "a")?
+        && tells(alloc, &boxed, "char", "b")?
+        && tells(alloc, &Some('c'), "char", "c")?
+        && tells(alloc, &['d', 'e'], "0", "d")?;
+    let are_paired = tells(alloc, &('a',), "char", "a")?
+        && tells(alloc, &('a', 1u8), "char", "a")?
+        && tells(alloc, &('a', 1u8, 2u8), "char", "a")?
+        && tells(alloc, &('a', 1u8, 2u8, 3u8), "char", "a")?
+        && tells(alloc, &('a', 1u8, 2u8, 3u8, 4u8), "char", "a")?
+        && tells(alloc, &('a', 1u8, 2u8, 3u8, 4u8, 5u8), "char", "a")?;
+    Ok(whole_if(are_held && are_paired))
+}
+
+const DASHES: HorizontalLine = HorizontalLine {
+    main: Some('-'),
+    left: None,
+    intersection: Some('+'),
+    right: None,
+};
+
+fn set_styles(config: &mut SpannedConfig) -> Result<(), TableError> {
+    config.set_padding(Entity::Global, Sides::filled(Indent::spaced(1)))?;
+    config.set_alignment_horizontal(Entity::Row(1), AlignmentHorizontal::Right)?;
+    config.set_alignment_vertical(Entity::Column(0), AlignmentVertical::Bottom)?;
+    config.set_line_alignment(Entity::Cell(0, 0), true)?;
+    config.set_trim_horizontal(Entity::Row(0), true)?;
+    config.set_trim_vertical(Entity::Row(1), true)?;
+    config.insert_horizontal_line(1, DASHES)
+}
+
+// Settings that are made and copied.
+fn configured(alloc: Global) -> Result<Found, TableError> {
+    let mut config = SpannedConfig::new(alloc);
+    set_styles(&mut config)?;
+    let copy = config.clone()?;
+    let is_set = copy.get_alignment_horizontal(Position::new(1, 0)) == AlignmentHorizontal::Right
+        && copy.get_trim_vertical(Position::new(1, 1))
+        && copy.get_horizontal_line(1) == Some(DASHES);
+    let (whole, same) = (ColoredConfig::new(config), ColoredConfig::new(copy));
+    Ok(whole_if(is_set && whole.clone()? == same))
+}
+
+// Sizes that are estimated, stored and copied.
+fn estimated(alloc: Global) -> Result<Found, TableError> {
+    let table = Table::from_iter(alloc, PAIRS)?;
+    let (records, config) = (table.get_records(), table.get_config());
+    let mut sizes = CompleteDimension::new(alloc);
+    sizes.estimate(records, config.as_ref())?;
+    let mut colored = CompleteDimension::new(alloc);
+    colored.estimate(records, config)?;
+    let copy = sizes.clone()?;
+    Ok(whole_if(
+        copy == colored
+            && copy.get_widths() == Some(&[5, 4])
+            && copy.get_heights() == Some(&[1, 1]),
+    ))
+}
+
+// Sizes that are given, which estimating leaves as they are.
+fn sized(alloc: Global) -> Result<Found, TableError> {
+    let table = Table::from_iter(alloc, PAIRS)?;
+    let (records, config) = (table.get_records(), table.get_config());
+    let list = DimensionValue::List(Vec::from_slice(alloc, &[7, 8])?);
+    let mut sizes = StaticDimension::new(list.clone()?, DimensionValue::Exact(3)).clone()?;
+    sizes.estimate(records, config)?;
+    let mut fixed = ConstDimension::new(ConstSize::List([5, 4]), ConstSize::Value::<0>(1));
+    fixed.estimate(records, config)?;
+    ZeroDimension::new().estimate(records, config)?;
+    Ok(whole_if(
+        sizes.has_width(1)
+            && sizes.get_width(1) == 8
+            && fixed.has_width(0)
+            && fixed.get_width(0) == 5,
+    ))
+}
+
+// What a table measures across, and a list of widths.
+fn across(alloc: Global) -> Result<Found, TableError> {
+    let mut table = Table::from_iter(alloc, PAIRS)?;
+    let (records, config) = (table.get_records(), table.get_config().as_ref());
+    let measures = [
+        Measurement::<Width>::measure(&9, records, config)?,
+        Measurement::<Width>::measure(&Max, records, config)?,
+        Measurement::<Width>::measure(&Min, records, config)?,
+        Measurement::<Width>::measure(&Percent(50), records, config)?,
+    ];
+    table.with(Width::list(alloc, [6, 5])?)?;
+    let is_wide = table.total_width()? == 14;
+    Ok(whole_if(is_wide && measures == [9, 3, 1, 6]))
+}
+
+// What it measures down, and a list of heights.
+fn down(alloc: Global) -> Result<Found, TableError> {
+    let mut table = Table::from_iter(alloc, PAIRS)?;
+    let (records, config) = (table.get_records(), table.get_config().as_ref());
+    let measures = [
+        Measurement::<Height>::measure(&9, records, config)?,
+        Measurement::<Height>::measure(&Max, records, config)?,
+        Measurement::<Height>::measure(&Min, records, config)?,
+        Measurement::<Height>::measure(&Percent(50), records, config)?,
+    ];
+    table.with(Height::list(alloc, [2, 3])?)?;
+    let is_high = table.total_height()? == 8;
+    Ok(whole_if(is_high && measures == [9, 1, 1, 2]))
+}
+
+/// What became of calls on one of the materials.
+pub fn handled(alloc: Global, name: &str) -> Result<Found, TableError> {
+    match name {
+        "texts" => narrowed(alloc),
+        "rows" => added(alloc),
+        "rows of texts" => given(alloc),
+        "parts" => chosen(alloc),
+        "single values" => single(alloc),
+        "integers" => integers(alloc),
+        "held values" => held(alloc),
+        "settings" => configured(alloc),
+        "sizes" => estimated(alloc),
+        "given sizes" => sized(alloc),
+        "widths" => across(alloc),
+        _ => down(alloc),
+    }
+}

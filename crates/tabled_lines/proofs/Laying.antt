@@ -1,0 +1,157 @@
+-- Rows that are laid over a blank one.
+use Rattle.std.proofs.Common.{◌≡◌, ℕ, suc, ◌+◌, ◌-◌, ◌<◌, ◌≤◌, List, [], ◌∷◌, ◌++◌, length, take, drop, map, refl, sym, ◌∙◌, ap, subst, append-nil, append_assoc, arith, lit<}
+use Rattle.std.specs.List.{flat_map, range_with_len}
+use Rattle.std.proofs.Math.Seq.{take-append_seam, drop-append-add, drop-append_seam}
+use Rattle.std.proofs.lemmas.List.{length-append}
+use Rattle.tabled_config.specs.declared.spanned.CellStyle.{CellStyle}
+use Rattle.tabled_border.specs.Frame.{has_bar}
+use Rattle.tabled_row.specs.Fill.{fill}
+use Rattle.tabled_row.specs.Flush.{laid_text}
+use Rattle.tabled_lines.specs.Laid.{IsFlushOver, StandsAt, blank_line, blank_row}
+use Rattle.tabled_row.specs.Row.{ColumnSheet, RowSheet, cell_piece, left_edge, piece, right_edge, row_line, row_lines, rule_line, rule_piece}
+use Rattle.tabled_row.proofs.Bars.{later-bar}
+use Rattle.tabled_row.proofs.Each.{each-more}
+use Rattle.tabled_row.proofs.Fills.{fill-length, fill-parts}
+use Rattle.tabled_row.proofs.Flushing.{IsFlushRow, cell-flush}
+
+-- a text of n bytes in the place of n of w spaces
+pub lay-text : (front back text bytes : List ℕ) (l n r w place : ℕ) → l + (n + r) ≡ w → length text ≡ n → place ≡ length front → bytes ≡ front ++ (fill 32 w ++ back)
+    → take (place + l) bytes ++ (text ++ drop (place + l + length text) bytes) ≡ front ++ ((fill 32 l ++ (text ++ fill 32 r)) ++ back)
+lay-text front back text bytes l n r w place sum size begins whole =
+    let before = front ++ fill 32 l in
+    let behind = fill 32 r ++ back in
+    let parts : bytes ≡ before ++ (fill 32 n ++ behind) = whole ∙ ap (λ u. front ++ (u ++ back)) (fill-parts 32 l n r w sum) ∙ regroup front (fill 32 l) (fill 32 n) (fill 32 r) back in
+    let here : place + l ≡ length before = omega (arith, length-append front (fill 32 l), fill-length 32 l (lit< tt), begins) in
+    let first : take (place + l) bytes ≡ before = ap (λ k. take k bytes) here ∙ ap (take (length before)) parts ∙ take-append_seam before (fill 32 n ++ behind) in
+    let next : place + l + length text ≡ length before + length (fill 32 n) = omega (arith, here, size, fill-length 32 n (lit< tt)) in
+    let last : drop (place + l + length text) bytes ≡ behind =
+    ap (λ k. drop k bytes) next ∙ ap (drop (length before + length (fill 32 n))) parts
+    ∙ drop-append-add before (fill 32 n ++ behind) (length (fill 32 n)) ∙ drop-append_seam (fill 32 n) behind in
+    ap (λ u. u ++ (text ++ drop (place + l + length text) bytes)) first ∙ ap (λ u. before ++ (text ++ u)) last
+    ∙ sym (regroup front (fill 32 l) text (fill 32 r) back)
+  where
+    regroup : (a b c d e : List ℕ) → a ++ ((b ++ (c ++ d)) ++ e) ≡ (a ++ b) ++ (c ++ (d ++ e))
+    regroup a b c d e = simp append_assoc
+
+-- bytes reach as far as what stands in them
+pub stands-long : {bytes : List ℕ} {place : ℕ} (n : ℕ) → StandsAt bytes place (fill 32 n) → place + n ≤ length bytes
+stands-long {bytes} {place} n h =
+    let b = h.begins in
+    let w = ap length h.whole in
+    omega (arith, b, w, length-append h.front (fill 32 n ++ h.back), length-append (fill 32 n) h.back, fill-length 32 n (lit< tt))
+
+pub laid-length : (l r : ℕ) (text : List ℕ) → length (fill 32 l ++ (text ++ fill 32 r)) ≡ l + (length text + r)
+laid-length l r text =
+    omega (arith, length-append (fill 32 l) (text ++ fill 32 r), length-append text (fill 32 r), fill-length 32 l (lit< tt), fill-length 32 r (lit< tt))
+
+pub written-back : (n : ℕ) (new old : List ℕ) → length new ≡ n → take n (new ++ drop (length new) old) ≡ new
+written-back n new old e = ap (λ k. take k (new ++ drop (length new) old)) (sym e) ∙ take-append_seam new (drop (length new) old)
+
+pub blank-parts : (e l p r a b c : List ℕ) → e ≡ [] → a ≡ e ++ l → b ≡ a ++ p → c ≡ b ++ r → c ≡ l ++ (p ++ r)
+blank-parts e l p r a b c none one two three =
+    three ∙ ap (λ u. u ++ r) (two ∙ ap (λ u. u ++ p) (one ∙ ap (λ u. u ++ l) none)) ∙ append_assoc l p r
+
+-- ---- a row while its texts are laid, up to a column
+
+-- the edge and the cells before the column
+abbrev pub laid_part : ColumnSheet → RowSheet → ℕ → List ℕ
+laid_part cs rs column = left_edge cs.frame cs.frame.left.main ++ flat_map (cell_piece rs 0) (range_with_len 0 column)
+
+-- and the vertical line before it
+abbrev pub front : ColumnSheet → RowSheet → ℕ → List ℕ
+front cs rs column = laid_part cs rs column ++ piece (has_bar cs.frame column) cs.frame.inner.main
+
+-- the blank cells from a column on, and the edge
+abbrev pub blank_from : ColumnSheet → ℕ → ℕ → List ℕ
+blank_from cs column count = flat_map (rule_piece cs (blank_line cs.frame)) (range_with_len column count) ++ right_edge cs.frame cs.frame.right.main
+
+-- the cells before the column are laid, those from it on are blank
+pub record IsLaid (cs : ColumnSheet) (rs : RowSheet) (line : List ℕ) (place before column : ℕ) : Type 0 where
+  pub whole : line ≡ laid_part cs rs column ++ blank_from cs column (cs.count - column)
+  pub begins : place ≡ length (laid_part cs rs column)
+  pub bar : before ≡ length (piece (has_bar cs.frame column) cs.frame.inner.main)
+
+pub laid-none : (cs : ColumnSheet) (rs : RowSheet) (line : List ℕ) (place : ℕ) → line ≡ blank_row cs → place ≡ length (left_edge cs.frame cs.frame.left.main) → IsLaid cs rs line place 0 0
+unfolding rule_line
+laid-none cs rs line place blank start =
+    let edge = left_edge cs.frame cs.frame.left.main in
+    let e : cs.count ≡ cs.count - 0 = omega arith in
+    record {
+      whole = blank ∙ ap (λ n. edge ++ blank_from cs 0 n) e ∙ ap (λ u. u ++ blank_from cs 0 (cs.count - 0)) (sym (append-nil edge));
+      begins = start ∙ ap length (sym (append-nil edge));
+      bar = refl;
+    }
+
+-- the blank columns of the next cell
+pub laid-next : {cs : ColumnSheet} {rs : RowSheet} {line : List ℕ} {place before column : ℕ} → IsLaid cs rs line place before column → column < cs.count
+    → line ≡ front cs rs column ++ (fill 32 (cs.width column) ++ blank_from cs (column + 1) (cs.count - column - 1))
+unfolding rule_piece
+laid-next {cs} {rs} {line} {place} {before} {column} h l =
+    let e : cs.count - column ≡ suc (cs.count - column - 1) = omega arith in
+    h.whole ∙ ap (λ n. laid_part cs rs column ++ blank_from cs column n) e
+    ∙ regroup (laid_part cs rs column) (piece (has_bar cs.frame column) cs.frame.inner.main) (fill 32 (cs.width column))
+    (flat_map (rule_piece cs (blank_line cs.frame)) (range_with_len (column + 1) (cs.count - column - 1))) (right_edge cs.frame cs.frame.right.main)
+  where
+    regroup : (a b c d e : List ℕ) → a ++ (((b ++ c) ++ d) ++ e) ≡ (a ++ b) ++ (c ++ (d ++ e))
+    regroup a b c d e = simp append_assoc
+
+pub laid-begins : {cs : ColumnSheet} {rs : RowSheet} {line : List ℕ} {place before column : ℕ} → IsLaid cs rs line place before column → place + before ≡ length (front cs rs column)
+laid-begins {cs} {rs} {line} {place} {before} {column} h =
+    let b = h.begins in
+    let p = h.bar in
+    omega (arith, b, p, length-append (laid_part cs rs column) (piece (has_bar cs.frame column) cs.frame.inner.main))
+
+pub laid-stands : {cs : ColumnSheet} {rs : RowSheet} {line : List ℕ} {place before column : ℕ} → IsLaid cs rs line place before column → column < cs.count
+    → StandsAt line (place + before) (fill 32 (cs.width column))
+laid-stands {cs} {rs} {line} {place} {before} {column} h l =
+    record { front = front cs rs column; back = blank_from cs (column + 1) (cs.count - column - 1); whole = laid-next h l; begins = laid-begins h }
+
+flush-row : {cs : ColumnSheet} {rs : RowSheet} {s : CellStyle} → IsFlushOver cs rs s → IsFlushRow rs s
+flush-row p = record { flush = p.flush; shared = p.shared; height = p.height }
+
+-- the text of a column was laid
+pub laid-more : {cs : ColumnSheet} {rs : RowSheet} {line : List ℕ} {place before column : ℕ} (s : CellStyle) (next : List ℕ) (stop bar : ℕ)
+    → IsFlushOver cs rs s → IsLaid cs rs line place before column → column < cs.count
+    → next ≡ front cs rs column ++ (laid_text rs s column ++ blank_from cs (column + 1) (cs.count - column - 1))
+    → stop ≡ length (front cs rs column) + length (laid_text rs s column)
+    → bar ≡ length (piece cs.frame.inner.there cs.frame.inner.main) → IsLaid cs rs next stop bar (column + 1)
+laid-more {cs} {rs} {line} {place} {before} {column} s next stop bar p h l whole stops same =
+    let f = cs.frame in
+    let laid = laid_text rs s column in
+    let within : column < rs.columns.count = (let c = p.count in omega arith) in
+    let cell : cell_piece rs 0 column ≡ piece (has_bar f column) f.inner.main ++ laid =
+    cell-flush rs s column (flush-row p) within ∙ ap (λ k. piece (has_bar k column) k.inner.main ++ laid) p.frame in
+    let cells = flat_map (cell_piece rs 0) (range_with_len 0 column) in
+    let edge = left_edge f f.left.main in
+    let more : laid_part cs rs (column + 1) ≡ front cs rs column ++ laid =
+    ap (λ u. edge ++ u) (each-more (cell_piece rs 0) column) ∙ ap (λ u. edge ++ (cells ++ u)) cell
+    ∙ regroup edge cells (piece (has_bar f column) f.inner.main) laid in
+    let e : cs.count - column - 1 ≡ cs.count - (column + 1) = omega arith in
+    let later : has_bar f (column + 1) ≡ f.inner.there = (let P : ℕ → Type 0 = λ k. has_bar f k ≡ f.inner.there in let g : suc column ≡ column + 1 = omega arith in subst P g (later-bar column f.inner.there)) in
+    record {
+      whole = whole ∙ sym (append_assoc (front cs rs column) laid (blank_from cs (column + 1) (cs.count - column - 1)))
+          ∙ ap (λ u. u ++ blank_from cs (column + 1) (cs.count - column - 1)) (sym more)
+          ∙ ap (λ n. laid_part cs rs (column + 1) ++ blank_from cs (column + 1) n) e;
+      begins = stops ∙ sym (length-append (front cs rs column) laid) ∙ ap length (sym more);
+      bar = same ∙ ap (λ b. length (piece b f.inner.main)) (sym later);
+    }
+  where
+    regroup : (a b c d : List ℕ) → a ++ (b ++ (c ++ d)) ≡ ((a ++ b) ++ c) ++ d
+    regroup a b c d = simp append_assoc
+
+-- all texts were laid
+pub laid-all : {cs : ColumnSheet} {rs : RowSheet} {line : List ℕ} {place before column : ℕ} (s : CellStyle) → IsFlushOver cs rs s → IsLaid cs rs line place before column → column ≡ rs.columns.count → line ≡ row_line rs 0
+unfolding row_line
+laid-all {cs} {rs} {line} {place} {before} {column} s p h all =
+    let cells = flat_map (cell_piece rs 0) (range_with_len 0 column) in
+    let none : cs.count - column ≡ 0 = (let c = p.count in omega arith) in
+    h.whole ∙ ap (λ n. laid_part cs rs column ++ blank_from cs column n) none
+    ∙ append_assoc (left_edge cs.frame cs.frame.left.main) cells (right_edge cs.frame cs.frame.right.main)
+    ∙ ap (λ f. left_edge f f.left.main ++ (cells ++ right_edge f f.right.main)) (sym p.frame)
+    ∙ ap (λ n. left_edge rs.columns.frame rs.columns.frame.left.main
+    ++ (flat_map (cell_piece rs 0) (range_with_len 0 n) ++ right_edge rs.columns.frame rs.columns.frame.right.main)) all
+
+-- a row of one line has that line alone
+pub one-row_line : (rs : RowSheet) → rs.height ≡ 1 → row_lines rs ≡ row_line rs 0 ∷ []
+unfolding row_lines
+one-row_line rs h = ap (λ n. map (row_line rs) (range_with_len 0 n)) h

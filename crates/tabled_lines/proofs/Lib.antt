@@ -1,0 +1,2 @@
+pub mod Laying
+pub mod LayingStyles

@@ -1,0 +1,61 @@
+use Rattle.std.proofs.Common.{◌≡◌, ◌+◌, ◌-◌, ◌++◌, length, ap, refl, ◌∙◌, arith}
+use Rattle.tabled_text.specs.Measure.{line_columns}
+use Rattle.tabled_row.specs.Block.{text_room}
+use Rattle.tabled_row.specs.Fill.{fill}
+use Rattle.tabled_row.specs.Flush.{first_line}
+use Rattle.tabled_lines.proofs.Laying.{laid-length, lay-text, stands-long}
+use Rattle.tabled_lines.proofs.laid.lay_cell.Goals as goal
+
+pub overflow_add-place : goal.overflow_add-place
+overflow_add-place g c =
+    omega (arith, stands-long _ c.requires.blank, c.width.ensures, c.if-width.false, c.in_ok-checked_sub.ensures.0)
+
+pub copy_at-requires : goal.copy_at-requires
+copy_at-requires g c =
+    (omega (
+      arith,
+      stands-long _ c.requires.blank,
+      c.width.ensures,
+      c.if-width.false,
+      c.if-text-taken.false,
+      c.in_ok-checked_sub.ensures.0,
+      c.in_ok-checked_sub.ensures.1,
+      c.in_ok-checked_sub-2.ensures.0,
+      c.in_ok-checked_sub-2.ensures.1,
+      c.in_ok-_free.ensures.0,
+    ))
+
+pub overflow_add-result : goal.overflow_add-result
+overflow_add-result g c =
+    omega (arith, stands-long _ c.requires.blank, c.width.ensures, c.if-width.false)
+
+pub returns : goal.returns
+returns g c = λ front back whole begins.
+    let rs = g.R.Row.sheet c.args.row.now in
+    let cs = g.C.Columns.sheet c.args.columns.now in
+    let style = c.args.style.now in
+    let text = c.first_line-taken.result.0.now in
+    let left = style.padding.left.size in
+    let same : text ≡ first_line (rs.text c.args.column) = c.first_line-taken.ensures.line ∙ ap first_line c.content.ensures in
+    let taken : c.first_line-taken.result.1 ≡ line_columns (first_line (rs.text c.args.column)) = c.first_line-taken.ensures.columns ∙ ap line_columns same in
+    let free = text_room style (rs.columns.width c.args.column) - line_columns (first_line (rs.text c.args.column)) + style.padding.right.size in
+    let sum : left + (length text + free) ≡ cs.width c.args.column =
+    omega (
+      arith,
+      taken,
+      c.width-width.ensures,
+      c.width.ensures,
+      c.if-width.false,
+      c.if-text-taken.false,
+      c.in_ok-checked_sub.ensures.0,
+      c.in_ok-checked_sub.ensures.1,
+      c.in_ok-checked_sub-2.ensures.0,
+      c.in_ok-checked_sub-2.ensures.1,
+      c.in_ok-_free.ensures.0,
+    ) in
+    let size = laid-length left free text in
+    let named = ap (λ t. fill 32 left ++ (t ++ fill 32 free)) same in (
+      c.copy_at.ensures ∙ lay-text front back text c.args.line.now left (length text) free (cs.width c.args.column) c.args.place sum refl begins whole
+          ∙ ap (λ u. front ++ (u ++ back)) named,
+      omega (arith, begins, sum, size, ap length named, c.width-width.ensures, c.width.ensures, c.if-width.false),
+    )

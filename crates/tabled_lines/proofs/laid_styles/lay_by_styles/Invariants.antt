@@ -1,0 +1,5 @@
+use Rattle.tabled_lines.proofs.Laying.{IsLaid}
+use Rattle.tabled_lines.proofs.laid_styles.lay_by_styles.Given as goal
+
+abbrev pub invariant-texts : goal.invariant-texts
+invariant-texts g l = IsLaid (g.C.Columns.sheet l.columns) (g.R.Row.sheet l.row) l.line l.place l.skipped l.column

@@ -1,0 +1,107 @@
+use Rattle.std.proofs.Common.{◌≡◌, ◌+◌, ◌++◌, length, take, drop, ap, refl, sym, ◌∙◌, arith}
+use Rattle.tabled_text.specs.Measure.{line_columns, text_columns}
+use Rattle.tabled_row.specs.Block.{before_text}
+use Rattle.tabled_row.specs.Fill.{fill}
+use Rattle.tabled_row.specs.Flush.{first_line}
+use Rattle.tabled_lines.specs.LaidStyles.{first_of_block}
+use Rattle.tabled_lines.proofs.Laying.{laid-length, lay-text, stands-long}
+use Rattle.tabled_lines.proofs.LayingStyles.{before-within, first-spaced, free_of, left_of, right_of}
+use Rattle.tabled_lines.proofs.laid_styles.lay_styled.Goals as goal
+
+pub overflow_add-place : goal.overflow_add-place
+overflow_add-place g c =
+    let within = before-within c.args.style.now.horizontal c.in_ok-free.free in
+    omega (
+      arith,
+      within,
+      c.before_text.ensures,
+      stands-long _ c.requires.blank,
+      c.width.ensures,
+      c.if-width.false,
+      c.in_ok-checked_sub.ensures.0,
+      c.in_ok-checked_sub.ensures.1,
+      c.in_ok-checked_sub-2.ensures.0,
+      c.in_ok-checked_sub-2.ensures.1,
+      c.in_ok-free.ensures.0,
+      c.in_ok-free.ensures.1,
+    )
+
+pub copy_at-requires : goal.copy_at-requires
+copy_at-requires g c =
+    let within = before-within c.args.style.now.horizontal c.in_ok-free.free in
+    omega (
+      arith,
+      within,
+      c.before_text.ensures,
+      stands-long _ c.requires.blank,
+      c.width.ensures,
+      c.if-width.false,
+      c.if-text-taken.false,
+      c.in_ok-checked_sub.ensures.0,
+      c.in_ok-checked_sub.ensures.1,
+      c.in_ok-checked_sub-2.ensures.0,
+      c.in_ok-checked_sub-2.ensures.1,
+      c.in_ok-free.ensures.0,
+      c.in_ok-free.ensures.1,
+    )
+
+pub overflow_add-result : goal.overflow_add-result
+overflow_add-result g c =
+    omega (arith, stands-long _ c.requires.blank, c.width.ensures, c.if-width.false)
+
+pub returns : goal.returns
+returns g c = λ front back whole begins.
+    let rs = g.R.Row.sheet c.args.row.now in
+    let cs = g.C.Columns.sheet c.args.columns.now in
+    let style = c.args.style.now in
+    let width = rs.columns.width c.args.column in
+    let text = c.first_line-taken.result.0.now in
+    let line = first_line (rs.text c.args.column) in
+    let bytes = c.args.line.now in
+    let same : text ≡ line = c.first_line-taken.ensures.line ∙ ap first_line c.content-content.ensures in
+    let taken : c.first_line-taken.result.1 ≡ line_columns line = c.first_line-taken.ensures.columns ∙ ap line_columns same in
+    let widest : text_columns (rs.text c.args.column) ≡ line_columns line =
+    ap text_columns (sym c.content-content.ensures) ∙ sym c.content-content.result.columns_are ∙ c.if-content-taken.false ∙ taken in
+    let rest : c.in_ok-free.free ≡ free_of style width line =
+    omega (
+      arith,
+      taken,
+      c.width-width.ensures,
+      c.in_ok-checked_sub.ensures.0,
+      c.in_ok-checked_sub.ensures.1,
+      c.in_ok-checked_sub-2.ensures.0,
+      c.in_ok-checked_sub-2.ensures.1,
+      c.in_ok-free.ensures.0,
+      c.in_ok-free.ensures.1,
+    ) in
+    let left = left_of style width line in
+    let right = right_of style width line in
+    let before = c.before_text.ensures ∙ ap (before_text style.horizontal) rest in
+    let here : style.padding.left.size + c.before_text.result ≡ left = ap (λ n. style.padding.left.size + n) before in
+    let within = before-within style.horizontal (free_of style width line) in
+    let sum : left + (length text + right) ≡ cs.width c.args.column =
+    omega (
+      arith,
+      taken,
+      rest,
+      within,
+      c.width-width.ensures,
+      c.width.ensures,
+      c.if-width.false,
+      c.if-text-taken.false,
+      c.in_ok-checked_sub.ensures.0,
+      c.in_ok-checked_sub.ensures.1,
+      c.in_ok-checked_sub-2.ensures.0,
+      c.in_ok-checked_sub-2.ensures.1,
+      c.in_ok-free.ensures.0,
+      c.in_ok-free.ensures.1,
+    ) in
+    let named : fill 32 left ++ (text ++ fill 32 right) ≡ first_of_block rs c.args.column =
+    ap (λ t. fill 32 left ++ (t ++ fill 32 right)) same
+    ∙ sym (first-spaced rs c.args.column style c.requires.style c.requires.height (c.is_spaced.ensures c.if-not-is_spaced.false) widest) in
+    let size = laid-length left right text in (
+      c.copy_at.ensures ∙ ap (λ n. take (c.args.place + n) bytes ++ (text ++ drop (c.args.place + n + length text) bytes)) here
+          ∙ lay-text front back text bytes left (length text) right (cs.width c.args.column) c.args.place sum refl begins whole
+          ∙ ap (λ u. front ++ (u ++ back)) named,
+      omega (arith, begins, sum, size, ap length named, c.width-width.ensures, c.width.ensures, c.if-width.false),
+    )

@@ -1,0 +1,43 @@
+-- Rows of one line that are laid over a blank one.
+use Rattle.std.specs.Prelude.{◌≡◌, ℕ, ◌<◌, true, List, ◌++◌, Some, length}
+use Rattle.tabled_border.specs.declared.borders.HorizontalLine.{HorizontalLine}
+use Rattle.tabled_border.specs.declared.frame.Frame.{Frame}
+use Rattle.tabled_config.specs.declared.spanned.CellStyle.{CellStyle}
+use Rattle.tabled_row.specs.Flush.{IsFlush}
+use Rattle.tabled_lines.specs.declared.laid.LaidRow.{LaidRow}
+use Rattle.tabled_row.specs.Row.{ColumnSheet, RowSheet, left_edge, rule_line}
+
+-- the characters of a blank row: spaces, and the vertical lines
+abbrev pub blank_line : Frame → HorizontalLine
+blank_line f = record { main = Some 32; left = Some f.left.main; intersection = Some f.inner.main; right = Some f.right.main }
+
+-- a row whose texts are empty and stand between spaces
+abbrev pub blank_row : ColumnSheet → List ℕ
+blank_row columns = rule_line columns (blank_line columns.frame)
+
+-- a row of one line over some columns
+pub record IsOneLineOver (columns : ColumnSheet) (row : RowSheet) : Type 0 where
+  pub height : row.height ≡ 1
+  pub count : row.columns.count ≡ columns.count
+  pub frame : row.columns.frame ≡ columns.frame
+
+-- whose texts all stand at the left between spaces
+pub record IsFlushOver (columns : ColumnSheet) (row : RowSheet) (style : CellStyle) : Type 0 where
+  pub flush : IsFlush style
+  pub shared : (column : ℕ) → column < row.columns.count → row.style column ≡ style
+  pub height : row.height ≡ 1
+  pub count : row.columns.count ≡ columns.count
+  pub frame : row.columns.frame ≡ columns.frame
+
+-- what is kept whole is the blank row of the columns, and where its first cell begins
+abbrev pub IsBlank : ColumnSheet → LaidRow → Type 0
+IsBlank columns laid =
+    laid.whole ≡ true → (laid.blank.items ≡ blank_row columns)
+    × (laid.start ≡ length (left_edge columns.frame columns.frame.left.main))
+
+-- a piece stands at a place of some bytes
+pub record StandsAt (bytes : List ℕ) (place : ℕ) (piece : List ℕ) : Type 0 where
+  pub front : List ℕ
+  pub back : List ℕ
+  pub whole : bytes ≡ front ++ (piece ++ back)
+  pub begins : place ≡ length front

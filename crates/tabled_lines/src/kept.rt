@@ -1,0 +1,104 @@
+//! A horizontal line that is kept as it was laid out. The lines between rows are mostly alike, and one
+//! that is known goes out in one piece.
+ghost use Rattle.std.specs.Prelude.{◌≡◌, Some, None, IfSome, true};
+ghost use Rattle.tabled_lines.specs.Kept.{Keeps, KeepsLine};
+ghost use Rattle.tabled_row.specs.Rooms.{room_text};
+ghost use Rattle.tabled_row.specs.Row.{ColumnSheet, rule_line};
+ghost use Rattle.tabled_row.specs.Sent.{Sent, Writes};
+
+use crate::laid::LaidRow;
+use std::alloc::Global;
+use tabled_base::TableError;
+use tabled_config::HorizontalLine;
+use tabled_row::{Columns, Room, TextSink, put_rule_line};
+
+/// The horizontal line that was laid out last, and its text where the room held the whole.
+#[derive(Drop)]
+pub(crate) struct KeptLine {
+    line: Option<HorizontalLine>,
+    room: Room,
+    whole: bool,
+}
+
+impl KeptLine {
+    /// No line so far. Where memory may be taken, a line of 1 MiB at most is kept, and else one of 4 KiB.
+    pub fn new(memory: Option<Global>) -> KeptLine
+        ensures { result.line ≡ None }
+    {
+        KeptLine {
+            line: None,
+            room: Room::new(memory),
+            whole: false,
+        }
+    }
+
+    /// Whether it is this line that was laid out.
+    fn is(&self, line: &HorizontalLine) -> bool
+        ensures { result ≡ true → self.now.line ≡ Some line.now }
+    {
+        match &self.line {
+            Some(kept) => *kept == *line,
+            None => false,
+        }
+    }
+
+    /// The text of the line, if the room holds it.
+    fn text(&self) -> Option<&str>
+        ensures text { IfSome result (λ text. text.now ≡ room_text self.now.room) }
+        ensures whole { IfSome result (λ _. self.now.whole ≡ true) }
+    {
+        if self.whole { self.room.text() } else { None }
+    }
+
+    /// Lays a line out.
+    fn lay_out<C: Columns>(&mut self, columns: &C, line: &HorizontalLine)
+        ensures line { self.new.line ≡ Some line.now }
+        ensures kept { KeepsLine (C.sheet columns.now) self.new }
+    {
+        self.room.clear();
+        self.whole = put_rule_line(&mut self.room, columns, line).is_ok();
+        self.line = Some(*line);
+    }
+}
+
+/// A horizontal line, which is laid out anew only where it is another than the kept one.
+pub(crate) fn put_kept_line<C: Columns, S: TextSink>(
+    sink: &mut S,
+    columns: &C,
+    line: &HorizontalLine,
+    kept: &mut KeptLine,
+) -> Result<(), TableError>
+    requires known { KeepsLine (C.sheet columns.now) kept.old }
+    ensures printed { Writes (S.sent sink.old) result (S.sent sink.new) (rule_line (C.sheet columns.now) line.now) }
+    ensures known { KeepsLine (C.sheet columns.now) kept.new }
+{
+    if !kept.is(line) {
+        kept.lay_out(columns, line);
+    }
+    match kept.text() {
+        Some(text) => sink.write_text(text),
+        None => put_rule_line(sink, columns, line),
+    }
+}
+
+/// What is kept for later lines over some columns: a horizontal line, and a blank row where memory may be taken.
+#[derive(Drop)]
+pub(crate) struct Kept {
+    pub rule: KeptLine,
+    pub row: Option<LaidRow>,
+}
+
+impl Kept {
+    /// Nothing so far. In memory a horizontal line of any length is kept, and else one of 4 KiB at most.
+    pub fn new(memory: Option<Global>) -> Kept
+        ensures { (columns : ColumnSheet) → Keeps columns result }
+    {
+        Kept {
+            rule: KeptLine::new(memory),
+            row: match memory {
+                Some(alloc) => Some(LaidRow::new(alloc)),
+                None => None,
+            },
+        }
+    }
+}

@@ -1,0 +1,12 @@
+//! The lines of a table, one below the other: rows, horizontal lines and those of margins, each behind the line feed that it needs.
+//!
+//! What the next lines may have in common is kept: a horizontal line, and where the caller lends an allocator a blank row, over
+//! which the texts of a row are laid.
+#![tactic(auto)]
+
+mod kept;
+mod laid;
+mod laid_styles;
+mod lines;
+
+pub use lines::Lines;

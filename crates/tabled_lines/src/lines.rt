@@ -1,0 +1,167 @@
+//! Lines one below the other: those of rows and of margins, and horizontal lines.
+ghost use Rattle.std.specs.Prelude.{◌≡◌, ◌<◌, false, [], ◌∷◌, replicate};
+ghost use Rattle.tabled_row.specs.Fill.{fill};
+ghost use Rattle.tabled_lines.specs.Kept.{Keeps};
+ghost use Rattle.tabled_row.specs.Leading.{WritesLines};
+ghost use Rattle.tabled_row.specs.Marks.{AreClean, AreKept};
+ghost use Rattle.tabled_row.specs.Row.{ColumnSheet, RowSheet, row_line, row_lines, rule_if};
+ghost use Rattle.tabled_row.specs.Sent.{Sent, Writes};
+
+use crate::kept::{Kept, put_kept_line};
+use std::alloc::Global;
+use tabled_base::TableError;
+use tabled_config::{HorizontalLine, Indent};
+use tabled_row::{Columns, Marks, Row, TextSink, put_break, put_fill, put_row_line};
+
+fn put_fill_line<S: TextSink>(
+    sink: &mut S,
+    begun: &mut bool,
+    c: char,
+    width: usize,
+) -> Result<(), TableError>
+    ensures { WritesLines (S.sent sink.old) begun.old result (S.sent sink.new) begun.new
+        (fill c width ∷ []) }
+{
+    put_break(sink, begun)?;
+    put_fill(sink, c, width)
+}
+
+/// The lines of a margin, each as wide as the whole.
+fn put_margin<S: TextSink>(
+    sink: &mut S,
+    begun: &mut bool,
+    side: Indent,
+    width: usize,
+) -> Result<(), TableError>
+    ensures { WritesLines (S.sent sink.old) begun.old result (S.sent sink.new) begun.new
+        (replicate side.size (fill side.fill width)) }
+{
+    'lines: for _i in 0..side.size {
+        put_fill_line(sink, begun, side.fill, width)?;
+    }
+    Ok(())
+}
+
+/// A line of a row, with the line feed before it.
+fn put_led_line<'a, R: Row<'a>, S: TextSink>(
+    sink: &mut S,
+    begun: &mut bool,
+    row: &R,
+    marks: &mut Marks<'a>,
+    index: usize,
+) -> Result<(), TableError>
+    requires index_in { index < (R.sheet row.now).height }
+    requires marked { AreKept (R.sheet row.now).text marks.old }
+    ensures printed { WritesLines (S.sent sink.old) begun.old result (S.sent sink.new) begun.new
+        (row_line (R.sheet row.now) index ∷ []) }
+    ensures marked { AreKept (R.sheet row.now).text marks.new }
+{
+    put_break(sink, begun)?;
+    put_row_line(sink, row, marks, index)
+}
+
+/// The lines of a row, of whose texts the marks are.
+#[tactic(auto, unfolding(tabled_row::specs::Row::row_lines))]
+fn put_row_lines<'a, R: Row<'a>, S: TextSink>(
+    sink: &mut S,
+    begun: &mut bool,
+    row: &R,
+    marks: &mut Marks<'a>,
+) -> Result<(), TableError>
+    requires marked { AreKept (R.sheet row.now).text marks.old }
+    ensures printed { WritesLines (S.sent sink.old) begun.old result (S.sent sink.new) begun.new
+        (row_lines (R.sheet row.now)) }
+    ensures marked { AreKept (R.sheet row.now).text marks.new }
+{
+    'lines: for index in 0..row.height() {
+        put_led_line(sink, begun, row, marks, index)?;
+    }
+    Ok(())
+}
+
+/// Lines over the same columns while they are printed: whether a line went before, and what is kept for the next.
+#[derive(Drop)]
+pub struct Lines<C: Columns> {
+    /// The columns.
+    pub columns: C,
+    begun: bool,
+    kept: Kept,
+}
+
+impl<C: Columns> Lines<C> {
+    /// No line so far. A horizontal line is kept in memory where that may be taken, and else in 4 KiB without.
+    pub fn new(columns: C, memory: Option<Global>) -> Lines<C>
+        ensures columns { result.columns ≡ columns }
+        ensures begun { result.begun ≡ false }
+        ensures kept { Keeps (C.sheet result.columns) result.kept }
+    {
+        Lines {
+            columns,
+            begun: false,
+            kept: Kept::new(memory),
+        }
+    }
+
+    /// The lines of a margin, each of so many columns.
+    pub fn put_margin<S: TextSink>(
+        &mut self,
+        sink: &mut S,
+        side: Indent,
+        width: usize,
+    ) -> Result<(), TableError>
+        requires kept { Keeps (C.sheet self.old.columns) self.old.kept }
+        ensures printed { WritesLines (S.sent sink.old) self.old.begun result (S.sent sink.new) self.new.begun
+            (replicate side.size (fill side.fill width)) }
+        ensures same { self.new.columns ≡ self.old.columns }
+        ensures kept { Keeps (C.sheet self.new.columns) self.new.kept }
+    {
+        put_margin(sink, &mut self.begun, side, width)
+    }
+
+    /// A horizontal line, if there is one.
+    pub fn put_rule<S: TextSink>(
+        &mut self,
+        sink: &mut S,
+        rule: Option<HorizontalLine>,
+    ) -> Result<(), TableError>
+        requires kept { Keeps (C.sheet self.old.columns) self.old.kept }
+        ensures printed { WritesLines (S.sent sink.old) self.old.begun result (S.sent sink.new) self.new.begun
+            (rule_if (C.sheet self.old.columns) rule) }
+        ensures same { self.new.columns ≡ self.old.columns }
+        ensures kept { Keeps (C.sheet self.new.columns) self.new.kept }
+    {
+        match rule {
+            Some(line) => {
+                put_break(sink, &mut self.begun)?;
+                put_kept_line(sink, &self.columns, &line, &mut self.kept.rule)
+            }
+            None => Ok(()),
+        }
+    }
+
+    /// The lines of a row. The marks are those of its cells afterwards, whatever they were.
+    pub fn put_row<'a, R: Row<'a>, S: TextSink>(
+        &mut self,
+        sink: &mut S,
+        row: &R,
+        marks: &mut Marks<'a>,
+    ) -> Result<(), TableError>
+        requires kept { Keeps (C.sheet self.old.columns) self.old.kept }
+        requires clean { AreClean marks.old }
+        ensures printed { WritesLines (S.sent sink.old) self.old.begun result (S.sent sink.new) self.new.begun
+            (row_lines (R.sheet row.now)) }
+        ensures same { self.new.columns ≡ self.old.columns }
+        ensures kept { Keeps (C.sheet self.new.columns) self.new.kept }
+        ensures clean { AreClean marks.new }
+    {
+        if let Some(laid) = &mut self.kept.row
+            && laid.lay_row(&self.columns, row)
+            && let Some(line) = laid.text()
+        {
+            put_break(sink, &mut self.begun)?;
+            return sink.write_text(line);
+        }
+        marks.forget();
+        put_row_lines(sink, &mut self.begun, row, marks)
+    }
+}

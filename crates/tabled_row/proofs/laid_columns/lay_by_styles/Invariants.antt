@@ -1,5 +1,0 @@
-use Rattle.tabled_row.proofs.Laying.{IsLaid}
-use Rattle.tabled_row.proofs.laid_columns.lay_by_styles.Given as goal
-
-abbrev pub invariant-texts : goal.invariant-texts
-invariant-texts g l = IsLaid (g.C.Columns.sheet l.columns) (g.R.Row.sheet l.row) l.line l.place l.skipped l.column
