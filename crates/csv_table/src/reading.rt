@@ -47,9 +47,12 @@ fn keep_numbers(are_numbers: &mut Vec<bool>, record: &StringRecord) {
     }
 }
 
-/// Whether a text is a number. One of digits alone is, and needn't be read.
+/// Whether a text is a number. One of digits alone is, or with a point between them, and needn't be read.
 fn is_number_text(cell: &str) -> bool {
-    is_digits(cell) || cell.parse::<f64>().is_ok()
+    match cell.split_once('.') {
+        Some((whole, part)) if is_digits(whole) && is_digits(part) => true,
+        _ => is_digits(cell) || cell.parse::<f64>().is_ok(),
+    }
 }
 
 fn is_digits(cell: &str) -> bool {
