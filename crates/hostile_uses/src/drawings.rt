@@ -2,15 +2,16 @@
 
 use crate::found::{Found, whole_if};
 use crate::printers::{PAIRS, PICTURE};
-use std::alloc::{AllocError, Global};
+use std::alloc::Global;
 use std::io;
 use tabled::grid::config::{ColoredConfig, CompactConfig, CompactMultilineConfig, SpannedConfig};
 use tabled::grid::dimension::{ConstDimension, ConstSize, DimensionPriority, PoolTableDimension};
-use tabled::grid::records::into_records::BufRecords;
 use tabled::grid::{Window, print_compact, print_grid};
 use tabled::settings::object::{Rows, Segment};
 use tabled::settings::{Margin, Padding, Style, Width};
-use tabled::tables::{CompactTable, ExtendedTable, FnTemplate, IterTable, PoolTable, TableValue};
+use tabled::tables::{
+    CompactTable, ExtendedTable, FnTemplate, IterTable, LabelFn, PoolTable, TableValue,
+};
 use tabled::{IoSink, Plan, Table, TableError, TextSink, render_styled};
 
 /// The calls, by what they are about.
@@ -22,7 +23,6 @@ pub const DRAWINGS: &[&str] = &[
     "parts of tables",
     "streams",
     "streams to writers",
-    "rows read ahead",
     "compact tables",
     "compact tables to writers",
     "records",
@@ -144,13 +144,6 @@ fn stream_to_writer(alloc: Global) -> Result<Found, TableError> {
     Ok(whole_if(room.get_ref().starts_with(PICTURE.as_bytes())))
 }
 
-// A view that reads a row ahead.
-fn read_ahead(alloc: Global) -> Result<Found, TableError> {
-    let rows = BufRecords::new(alloc, PAIRS, 1)?;
-    let text = IterTable::new(rows).to_string(alloc)?;
-    Ok(whole_if(text.as_str() == PICTURE))
-}
-
 fn compact_table(alloc: Global) -> Result<Found, TableError> {
     let text = CompactTable::new(PAIRS)
         .columns(2)
@@ -172,13 +165,17 @@ fn compact_to_writer() -> Result<Found, TableError> {
 }
 
 // Records under headers that a function answers.
+fn under<G: LabelFn + Drop>(table: ExtendedTable, g: G) -> Result<String, TableError>
+    requires { G.callable g }
+{
+    table.template(FnTemplate::new(g)).to_string()
+}
+
+// Those headers, and the usual ones of a copy.
 fn titled(alloc: Global) -> Result<Found, TableError> {
     let records = ExtendedTable::from_rows(alloc, PAIRS)?;
     let copy = records.clone()?;
-    let template = FnTemplate::new(|index: usize| -> Result<String, AllocError> {
-        format!(in alloc; "r{index}")
-    });
-    let text = records.template(template).to_string()?;
+    let text = under(records, |index: usize| format!(in alloc; "r{index}"))?;
     let plain = copy.to_string()?;
     Ok(whole_if(
         text.as_str() == "-r0-----\na  | ccc\nbb | "
@@ -230,7 +227,6 @@ pub fn drawn(alloc: Global, name: &str) -> Result<Found, TableError> {
         "parts of tables" => modified(alloc),
         "streams" => streams(alloc),
         "streams to writers" => stream_to_writer(alloc),
-        "rows read ahead" => read_ahead(alloc),
         "compact tables" => compact_table(alloc),
         "compact tables to writers" => compact_to_writer(),
         "records" => titled(alloc),
