@@ -9,9 +9,7 @@ use tabled::grid::dimension::{ConstDimension, ConstSize, DimensionPriority, Pool
 use tabled::grid::{Window, print_compact, print_grid};
 use tabled::settings::object::{Rows, Segment};
 use tabled::settings::{Margin, Padding, Style, Width};
-use tabled::tables::{
-    CompactTable, ExtendedTable, FnTemplate, IterTable, LabelFn, PoolTable, TableValue,
-};
+use tabled::tables::{CompactTable, IterTable, PoolTable, TableValue};
 use tabled::{IoSink, Plan, Table, TableError, TextSink, render_styled};
 
 /// The calls, by what they are about.
@@ -25,7 +23,6 @@ pub const DRAWINGS: &[&str] = &[
     "streams to writers",
     "compact tables",
     "compact tables to writers",
-    "records",
     "boxes",
     "boxes of values",
     "styles",
@@ -164,25 +161,6 @@ fn compact_to_writer() -> Result<Found, TableError> {
     Ok(whole_if(room.get_ref().starts_with(BARE.as_bytes())))
 }
 
-// Records under headers that a function answers.
-fn under<G: LabelFn + Drop>(table: ExtendedTable, g: G) -> Result<String, TableError>
-    requires { G.callable g }
-{
-    table.template(FnTemplate::new(g)).to_string()
-}
-
-// Those headers, and the usual ones of a copy.
-fn titled(alloc: Global) -> Result<Found, TableError> {
-    let records = ExtendedTable::from_rows(alloc, PAIRS)?;
-    let copy = records.clone()?;
-    let text = under(records, |index: usize| format!(in alloc; "r{index}"))?;
-    let plain = copy.to_string()?;
-    Ok(whole_if(
-        text.as_str() == "-r0-----\na  | ccc\nbb | "
-            && plain.as_str() == "-[ RECORD 0 ]-\na  | ccc\nbb | ",
-    ))
-}
-
 // Boxes under settings of each kind.
 fn boxed(alloc: Global) -> Result<Found, TableError> {
     let mut table = PoolTable::new(alloc, PAIRS)?;
@@ -229,7 +207,6 @@ pub fn drawn(alloc: Global, name: &str) -> Result<Found, TableError> {
         "streams to writers" => stream_to_writer(alloc),
         "compact tables" => compact_table(alloc),
         "compact tables to writers" => compact_to_writer(),
-        "records" => titled(alloc),
         "boxes" => boxed(alloc),
         "boxes of values" => nested(alloc),
         _ => styled(alloc),
