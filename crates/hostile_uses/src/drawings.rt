@@ -131,6 +131,7 @@ fn streams(alloc: Global) -> Result<Found, TableError> {
     table
         .with(Style::markdown())?
         .apply(Padding::new(1, 1, 0, 0))?;
+    table.apply(Margin::new(0, 0, 0, 0))?;
     Ok(whole_if(table.to_string(alloc)?.as_str() == BARRED))
 }
 
