@@ -6,6 +6,9 @@ ghost use Rattle.tabled_border.specs.Lines.{line_set, with_line};
 ghost use Rattle.tabled_entity.specs.Places.{IsWhole};
 
 mod alike;
+mod row_styles;
+
+pub use row_styles::{RowStyles, SetStyles};
 
 use crate::alignment::{AlignmentHorizontal, AlignmentVertical};
 use crate::compact::CompactConfig;

@@ -9,30 +9,27 @@ use Rattle.tabled_entity.specs.Places.{IsIndexed, found, last_for, later, latest
 use Rattle.tabled_entity.proofs.Covering.{IsBelow, latest_place, below-latest_place, said_at, said_at-latest}
 
 module _ {T : Type 0} where
-  indexed-latest : (places : Places) (parts : List (Entity × T)) (row column : ℕ) → IsIndexed places parts
+  pub indexed-latest : (places : Places) (parts : List (Entity × T)) (row column : ℕ) → IsIndexed places parts
       → latest (found places) row column ≡ latest_place parts row column
   indexed-latest places parts row column p =
       ap (λ a. later a (later (found places (Column column)) (found places (Cell row column)))) (p.found (Row row))
       ∙ (ap (λ b. later (last_for (Row row) parts) (later b (found places (Cell row column)))) (p.found (Column column))
       ∙ ap (λ d. later (last_for (Row row) parts) (later (last_for (Column column) parts) d)) (p.found (Cell row column)))
 
-  pub found-below : (places : Places) (parts : List (Entity × T)) (row column i : ℕ) → IsIndexed places parts → Some i
-      ≡ latest (found places) row column → i < length parts
-  found-below places parts row column i p e =
-      subst (IsBelow (length parts)) (sym (e ∙ indexed-latest places parts row column p)) (below-latest_place parts row column)
+  pub placed-below : (parts : List (Entity × T)) (row column i : ℕ) → Some i ≡ latest_place parts row column → i < length parts
+  placed-below parts row column i e = subst (IsBelow (length parts)) (sym e) (below-latest_place parts row column)
 
-  pub said_at-found : (whole : T) (places : Places) (parts : List (Entity × T)) (row column : ℕ) (o : Option ℕ)
-      → IsIndexed places parts → o ≡ latest (found places) row column → said_at whole parts o ≡ first_covering whole parts row column
-  said_at-found whole places parts row column o p e =
-      ap (said_at whole parts) (e ∙ indexed-latest places parts row column p)
-      ∙ said_at-latest whole parts row column (sym (p.found Global))
+  pub said_at-placed : (whole : T) (places : Places) (parts : List (Entity × T)) (row column : ℕ) (o : Option ℕ)
+      → IsIndexed places parts → o ≡ latest_place parts row column → said_at whole parts o ≡ first_covering whole parts row column
+  said_at-placed whole places parts row column o p e =
+      ap (said_at whole parts) e ∙ said_at-latest whole parts row column (sym (p.found Global))
 
   -- rows whose cells have the same latest places have the same settings
   pub alike-found : (whole : T) (places : Places) (parts : List (Entity × T)) (row other column : ℕ) → IsIndexed places parts
       → latest (found places) row column ≡ latest (found places) other column → first_covering whole parts row column ≡ first_covering whole parts other column
   alike-found whole places parts row other column p e =
-      sym (said_at-found whole places parts row column (latest (found places) row column) p refl)
-      ∙ said_at-found whole places parts other column (latest (found places) row column) p e
+      sym (said_at-placed whole places parts row column (latest (found places) row column) p (indexed-latest places parts row column p))
+      ∙ said_at-placed whole places parts other column (latest (found places) row column) p (e ∙ indexed-latest places parts other column p)
 
 pub item-reversed : {X : Type 0} (items : List X) (i : ℕ) (d : X) → i < length (reverse items) → get_or items i d
     ≡ get_or (reverse items) (length (reverse items) - 1 - i) d

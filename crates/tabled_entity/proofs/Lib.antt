@@ -1,3 +1,4 @@
 pub mod Covering
 pub mod Indexed
 pub mod SameCells
+pub mod Walking

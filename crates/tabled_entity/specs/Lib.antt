@@ -1,2 +1,4 @@
+pub mod Ahead
 pub mod Changes
 pub mod Places
+pub mod RowPlaces

@@ -1,9 +1,10 @@
 //! One setting of a table: for the whole of it, for rows, for columns and for cells.
 ghost use Rattle.std.specs.Prelude.{◌≡◌, ℕ, IfOk, IfSome, IsOk, OnErr, OnOk, true};
 ghost use Rattle.tabled_entity.specs.Changes.{for_all, setting_at, shared, with_change};
-ghost use Rattle.tabled_entity.specs.Places.{IsPart, IsWhole};
+ghost use Rattle.tabled_entity.specs.Places.{IsPart, IsWhole, last_for, latest};
 
 use crate::places::Places;
+use crate::row_values::RowValues;
 use std::alloc::{AllocError, Global};
 use std::marker::Model;
 use tabled_base::Entity;
@@ -134,6 +135,19 @@ impl<T: Copy> EntityMap<T> {
         self.places.are_alike(row, other)
     }
 
+    /// The value of a cell for which the latest change stands at a place, if there is one.
+    #[inline]
+    pub(crate) fn said(&self, row: usize, column: usize, place: Option<usize>) -> T
+        requires { place ≡ latest (λ entity. last_for entity self.now.parts) row column }
+        ensures { result ≡ setting_at self.now row column }
+    {
+        let _cell = (row, column);
+        match place {
+            Some(place) => self.changes[place].1,
+            None => self.whole,
+        }
+    }
+
     /// The value of a cell.
     #[inline]
     pub fn get(&self, row: usize, column: usize) -> T
@@ -142,10 +156,17 @@ impl<T: Copy> EntityMap<T> {
         if self.changes.is_empty() {
             return self.whole;
         }
-        match self.places.latest(row, column) {
-            Some(place) => self.changes[place].1,
-            None => self.whole,
+        self.said(row, column, self.places.latest(row, column))
+    }
+
+    /// The values of a row's cells, from left to right: each takes a step, and no look-up among the cells.
+    pub fn in_row(&self, row: usize) -> RowValues<'_, T>
+        ensures { result ≡ record { changes = self.now; row = row } }
+    {
+        if self.changes.is_empty() {
+            return RowValues::new(self, row, None);
         }
+        RowValues::new(self, row, Some(self.places.in_row(row)))
     }
 }
 

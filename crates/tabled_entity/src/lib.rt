@@ -1,7 +1,11 @@
 //! Values by entity: one setting for the whole of a table, for rows, for columns and for cells.
 #![tactic(auto)]
 
+mod ahead;
 mod entity_map;
 mod places;
+mod row_places;
+mod row_values;
 
 pub use entity_map::EntityMap;
+pub use row_values::RowValues;

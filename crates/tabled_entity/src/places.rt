@@ -10,7 +10,9 @@ ghost use Rattle.tabled_entity.specs.Places.{
   later,
   latest,
 };
+ghost use Rattle.tabled_entity.specs.RowPlaces.{latest_at};
 
+use crate::row_places::RowPlaces;
 use std::alloc::{AllocError, Global};
 use std::collections::BTreeMap;
 use tabled_base::Entity;
@@ -23,8 +25,9 @@ pub(crate) struct Places {
     cells: BTreeMap<(usize, usize), usize>,
 }
 
-// The later of two places.
-fn later(a: Option<usize>, b: Option<usize>) -> Option<usize>
+/// The later of two places.
+#[inline(always)]
+pub(crate) fn later(a: Option<usize>, b: Option<usize>) -> Option<usize>
     ensures { result ≡ later a b }
 {
     match (a, b) {
@@ -115,6 +118,14 @@ impl Places {
         let of_column = self.columns.get(&column).copied();
         let of_cell = self.cells.get(&(row, column)).copied();
         later(of_row, later(of_column, of_cell))
+    }
+
+    /// The latest of the places for the cells of a row, from left to right.
+    pub fn in_row(&self, row: usize) -> RowPlaces<'_>
+        ensures { (column : ℕ) → latest_at result column ≡ latest (found self.now) row column }
+    {
+        let of_row = self.rows.get(&row).copied();
+        RowPlaces::new(row, of_row, &self.columns, &self.cells)
     }
 
     /// Whether the latest places in two rows are known to be the same, column by column: where none is kept for either of the

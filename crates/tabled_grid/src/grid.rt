@@ -1,7 +1,8 @@
 //! A table with the dimension that answers its sizes.
-ghost use Rattle.std.specs.Prelude.{◌≡◌, ◌<◌, ℕ, IfSome, length, map};
-ghost use Rattle.std.specs.List.{range_with_len, slice_index};
+ghost use Rattle.std.specs.Prelude.{◌≡◌, ◌<◌, ℕ, IfSome, length};
+ghost use Rattle.std.specs.List.{slice_index};
 ghost use Rattle.tabled_base.specs.Cells.{IsInside, cell_at, columns};
+ghost use Rattle.tabled_config.specs.RowStyles.{style_in};
 ghost use Rattle.tabled_config.specs.Settings.{frame, rule_at, style_at};
 ghost use Rattle.tabled_grid.specs.ColumnStyles.{AreStyles};
 ghost use Rattle.tabled_grid.specs.Grid.{sheet_by};
@@ -12,7 +13,7 @@ use crate::column_styles::ColumnStyles;
 use std::alloc::Global;
 use std::marker::Model;
 use tabled_base::{PeekableRecords, Position};
-use tabled_config::{CellStyle, Frame, HorizontalLine, SpannedConfig};
+use tabled_config::{CellStyle, Frame, HorizontalLine, RowStyles, SpannedConfig};
 use tabled_row::{CellBlock, Content, SharedStyle};
 use tabled_size::Dimension;
 
@@ -95,15 +96,17 @@ impl<'a, R: PeekableRecords, D: Dimension> Grid<'a, R, D> {
         self.shared.as_ref()
     }
 
-    /// How the texts of each column stand in a row, if this is kept.
-    pub fn column_styles(&self, row: usize) -> Option<&[CellStyle]>
-        ensures { IfSome result (λ styles. styles.now
-            ≡ map (style_at self.now.config row) (range_with_len 0 (columns self.now.cells))) }
+    /// How the texts of a row stand, from left to right.
+    pub fn styles(&self, row: usize) -> RowStyles<'_>
+        ensures { (column : ℕ) → column < columns self.now.cells
+            → style_in result column ≡ style_at self.now.config row column }
     {
-        match &self.by_column {
-            Some(kept) => kept.in_row(self.config, row),
-            None => None,
+        if let Some(kept) = &self.by_column
+            && let Some(styles) = kept.in_row(self.config, row)
+        {
+            return RowStyles::Listed(styles);
         }
+        self.config.styles_in(row)
     }
 
     /// How many rows there are.
@@ -133,25 +136,18 @@ impl<'a, R: PeekableRecords, D: Dimension> Grid<'a, R, D> {
         }
     }
 
-    /// How the text of a cell stands.
-    #[inline(always)]
-    pub fn style(&self, row: usize, column: usize) -> CellStyle
-        ensures { result ≡ style_at self.now.config row column }
-    {
-        self.config.style_at(row, column)
-    }
-
-    /// A cell as it is laid out. Its width and its height have to be there.
-    pub fn block(&self, at: Position) -> CellBlock<'a>
+    /// A cell as it is laid out in its style. Its width and its height have to be there.
+    pub fn block(&self, at: Position, style: CellStyle) -> CellBlock<'a>
         requires sized { IsSized self.now }
         requires inside { IsInside self.now.cells at.row at.column }
+        requires style { style ≡ style_at self.now.config at.row at.column }
         ensures style { result.style ≡ style_at self.now.config at.row at.column }
         ensures width { result.width ≡ slice_index self.now.widths at.column }
         ensures height { result.height ≡ slice_index self.now.heights at.row }
         ensures text { result.content.text.now ≡ cell_at self.now.cells at.row at.column }
     {
         CellBlock {
-            style: self.config.style_at(at.row, at.column),
+            style,
             width: self.width(at.column),
             height: self.height(at.row),
             content: self.content(at),

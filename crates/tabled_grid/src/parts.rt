@@ -5,7 +5,7 @@ ghost use Rattle.tabled_size.specs.Holds.{IsSized};
 
 use crate::grid::Grid;
 use tabled_base::{PeekableRecords, Position};
-use tabled_config::{CellStyle, Frame};
+use tabled_config::{CellStyle, Frame, RowStyles};
 use tabled_row::{CellBlock, Columns, Content, Row, SharedStyle};
 use tabled_size::Dimension;
 
@@ -63,13 +63,8 @@ impl<'a, R: PeekableRecords, D: Dimension> Row<'a> for GridRow<'a, R, D> {
         self.grid.shared_style()
     }
 
-    fn column_styles(&self) -> Option<&[CellStyle]> {
-        self.grid.column_styles(self.row)
-    }
-
-    #[inline(always)]
-    fn style(&self, column: usize) -> CellStyle {
-        self.grid.style(self.row, column)
+    fn styles(&self) -> RowStyles<'_> {
+        self.grid.styles(self.row)
     }
 
     fn width(&self, column: usize) -> usize {
@@ -84,11 +79,14 @@ impl<'a, R: PeekableRecords, D: Dimension> Row<'a> for GridRow<'a, R, D> {
         })
     }
 
-    fn cell(&self, column: usize) -> CellBlock<'a> {
-        self.grid.block(Position {
-            row: self.row,
-            column,
-        })
+    fn cell(&self, column: usize, style: CellStyle) -> CellBlock<'a> {
+        self.grid.block(
+            Position {
+                row: self.row,
+                column,
+            },
+            style,
+        )
     }
 
     fn count_drawn(&self) -> usize {

@@ -165,7 +165,7 @@ fn lay_all<'a, C: Columns, R: Row<'a>>(line: &mut [u8], start: usize, columns: &
 {
     match flush_style(columns, row) {
         Some(style) => lay_texts(line, start, columns, row, style),
-        None => lay_by_styles(line, start, columns, row, row.column_styles()),
+        None => lay_by_styles(line, start, columns, row),
     }
 }
 

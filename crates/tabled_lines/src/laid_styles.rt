@@ -1,7 +1,6 @@
 //! Rows of one line whose texts are laid over a blank one each as it stands, as those of a table mostly can be in which something was
-//! set for parts of it. Where it is known how the texts of each column stand, this is looked up once for the table.
-ghost use Rattle.std.specs.Prelude.{◌≡◌, ◌<◌, List, ℕ, ◌+◌, ◌++◌, IfSome, length, map, true};
-ghost use Rattle.std.specs.List.{range_with_len, slice_index_or};
+//! set for parts of it.
+ghost use Rattle.std.specs.Prelude.{◌≡◌, ◌<◌, List, ℕ, ◌+◌, ◌++◌, IfSome, length, true};
 ghost use Rattle.tabled_row.specs.Fill.{fill};
 ghost use Rattle.tabled_lines.specs.Laid.{IsOneLineOver, StandsAt, blank_row};
 ghost use Rattle.tabled_lines.specs.LaidStyles.{IsSpaced, first_of_block};
@@ -16,29 +15,6 @@ fn is_spaced(style: &CellStyle) -> bool
     ensures { result ≡ true → IsSpaced style.now }
 {
     style.padding.left.fill == ' ' && style.padding.right.fill == ' ' && style.padding.top.size == 0
-}
-
-/// The style at a column.
-#[inline(always)]
-fn style_in(styles: &[CellStyle], column: usize) -> CellStyle
-    requires { column < length styles.now }
-    ensures { result ≡ slice_index_or styles.now column result }
-{
-    styles[column]
-}
-
-/// How the text of a column stands.
-#[inline(always)]
-fn style_of<'a, R: Row<'a>>(row: &R, styles: Option<&[CellStyle]>, column: usize) -> CellStyle
-    requires inside { column < (R.sheet row.now).columns.count }
-    requires styles { IfSome styles (λ all. all.now
-        ≡ map (R.sheet row.now).style (range_with_len 0 (R.sheet row.now).columns.count)) }
-    ensures { result ≡ (R.sheet row.now).style column }
-{
-    match styles {
-        Some(all) => style_in(all, column),
-        None => row.style(column),
-    }
 }
 
 /// Lays the text of a column over blank columns that begin at a place, and answers where they end. Only a text is laid that takes
@@ -86,11 +62,8 @@ pub(crate) fn lay_by_styles<'a, C: Columns, R: Row<'a>>(
     start: usize,
     columns: &C,
     row: &R,
-    styles: Option<&[CellStyle]>,
 ) -> bool
     requires over { IsOneLineOver (C.sheet columns.now) (R.sheet row.now) }
-    requires styles { IfSome styles (λ all. all.now
-        ≡ map (R.sheet row.now).style (range_with_len 0 (R.sheet row.now).columns.count)) }
     requires blank { line.old ≡ blank_row (C.sheet columns.now) }
     requires start { start ≡ length (left_edge (C.sheet columns.now).frame (C.sheet columns.now).frame.left.main) }
     ensures { result ≡ true → line.new ≡ row_line (R.sheet row.now) 0 }
@@ -99,8 +72,9 @@ pub(crate) fn lay_by_styles<'a, C: Columns, R: Row<'a>>(
     let mut place = start;
     // The bytes of the vertical line before the next column: none before the first one.
     let mut skipped: usize = 0;
+    let mut styles = row.styles();
     'texts: for column in 0..row.count_columns() {
-        let style = style_of(row, styles, column);
+        let style = styles.at(column);
         let Some(end) = lay_styled(line, place + skipped, columns, row, &style, column) else {
             return false;
         };

@@ -1,6 +1,7 @@
 //! A row of cells, a line at a time.
-ghost use Rattle.std.specs.Prelude.{◌≡◌, ◌<◌, ◌≤◌, ℕ, IfSome, [], map};
+ghost use Rattle.std.specs.Prelude.{◌≡◌, ◌<◌, ◌≤◌, ℕ, IfSome, []};
 ghost use Rattle.std.specs.List.{flat_map, range_with_len, slice_index_or};
+ghost use Rattle.tabled_config.specs.RowStyles.{style_in};
 ghost use Rattle.tabled_row.specs.Marks.{AreKept};
 ghost use Rattle.tabled_row.specs.Row.{RowSheet, cell_block, cell_piece, row_line};
 ghost use Rattle.tabled_row.specs.Sent.{Sent, Writes};
@@ -13,7 +14,7 @@ use crate::marks::{Mark, Marks};
 use crate::shared::SharedStyle;
 use crate::text_sink::TextSink;
 use tabled_base::TableError;
-use tabled_config::{CellStyle, Frame};
+use tabled_config::{CellStyle, Frame, RowStyles};
 
 /// A row of cells as it is printed: the blocks of the cells, and what stands around and between them.
 pub trait Row<'a> {
@@ -37,15 +38,10 @@ pub trait Row<'a> {
         ensures { IfSome result (λ shared. ((column : ℕ) → column < (sheet self.now).columns.count
             → (sheet self.now).style column ≡ shared.now.style) × (shared.now.bar ≡ (sheet self.now).columns.frame.inner)) };
 
-    /// How the texts of each column stand, if that is known without looking at the cells.
-    fn column_styles(&self) -> Option<&[CellStyle]>
-        ensures { IfSome result (λ styles. styles.now
-            ≡ map (sheet self.now).style (range_with_len 0 (sheet self.now).columns.count)) };
-
-    /// How the text of a column stands.
-    fn style(&self, column: usize) -> CellStyle
-        requires { column < (sheet self.now).columns.count }
-        ensures { result ≡ (sheet self.now).style column };
+    /// How the texts of the columns stand, from left to right.
+    fn styles(&self) -> RowStyles<'_>
+        ensures { (column : ℕ) → column < (sheet self.now).columns.count
+            → style_in result column ≡ (sheet self.now).style column };
 
     /// How many text columns a column takes, padding included.
     fn width(&self, column: usize) -> usize
@@ -57,9 +53,10 @@ pub trait Row<'a> {
         requires { column < (sheet self.now).columns.count }
         ensures { result.text.now ≡ (sheet self.now).text column };
 
-    /// A cell as it is laid out.
-    fn cell(&self, column: usize) -> CellBlock<'a>
-        requires { column < (sheet self.now).columns.count }
+    /// A cell as it is laid out in its style.
+    fn cell(&self, column: usize, style: CellStyle) -> CellBlock<'a>
+        requires inside { column < (sheet self.now).columns.count }
+        requires style { style ≡ (sheet self.now).style column }
         ensures style { result.style ≡ (sheet self.now).style column }
         ensures width { result.width ≡ (sheet self.now).columns.width column }
         ensures height { result.height ≡ (sheet self.now).height }
@@ -77,17 +74,19 @@ fn put_block_line<'a, R: Row<'a>, S: TextSink>(
     sink: &mut S,
     row: &R,
     marks: &mut Marks<'a>,
+    style: CellStyle,
     column: usize,
     index: usize,
 ) -> Result<(), TableError>
     requires column_in { column < (R.sheet row.now).columns.count }
+    requires style { style ≡ (R.sheet row.now).style column }
     requires index_in { index < (R.sheet row.now).height }
     requires marked { AreKept (R.sheet row.now).text marks.old }
     ensures printed { Writes (S.sent sink.old) result (S.sent sink.new)
         (slice_index_or (cell_block (R.sheet row.now) column) index []) }
     ensures marked { AreKept (R.sheet row.now).text marks.new }
 {
-    let cell = row.cell(column);
+    let cell = row.cell(column, style);
     let content = cell.content;
     if content.lines <= 1 {
         return cell.put_line(sink, &mut Mark::start(content.text), index);
@@ -103,10 +102,12 @@ fn put_cell<'a, R: Row<'a>, S: TextSink>(
     sink: &mut S,
     row: &R,
     marks: &mut Marks<'a>,
+    style: CellStyle,
     column: usize,
     index: usize,
 ) -> Result<(), TableError>
     requires column_in { column < (R.sheet row.now).columns.count }
+    requires style { style ≡ (R.sheet row.now).style column }
     requires index_in { index < (R.sheet row.now).height }
     requires marked { AreKept (R.sheet row.now).text marks.old }
     ensures printed { Writes (S.sent sink.old) result (S.sent sink.new) (cell_piece (R.sheet row.now) index column) }
@@ -114,7 +115,7 @@ fn put_cell<'a, R: Row<'a>, S: TextSink>(
 {
     let frame = row.frame();
     put_piece(sink, frame.has_bar(column), frame.inner.main)?;
-    put_block_line(sink, row, marks, column, index)
+    put_block_line(sink, row, marks, style, column, index)
 }
 
 fn put_each_cell<'a, R: Row<'a>, S: TextSink>(
@@ -129,8 +130,9 @@ fn put_each_cell<'a, R: Row<'a>, S: TextSink>(
         (flat_map (cell_piece (R.sheet row.now) index) (range_with_len 0 (R.sheet row.now).columns.count)) }
     ensures marked { AreKept (R.sheet row.now).text marks.new }
 {
+    let mut styles = row.styles();
     'cells: for column in 0..row.count_drawn() {
-        put_cell(sink, row, marks, column, index)?;
+        put_cell(sink, row, marks, styles.at(column), column, index)?;
     }
     Ok(())
 }

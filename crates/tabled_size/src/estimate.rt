@@ -3,11 +3,12 @@ ghost use Rattle.std.specs.Prelude.{◌≡◌, ◌⊎◌, ◌<◌, ◌≤◌, �
 ghost use Rattle.std.specs.List.{range_with_len, slice_index};
 ghost use Rattle.tabled_base.specs.Cells.{IsInside, columns};
 ghost use Rattle.tabled_base.specs.declared.error.TableError.TheVariants.{Memory, Range};
+ghost use Rattle.tabled_config.specs.Settings.{style_at};
 ghost use Rattle.tabled_size.specs.Estimates.{IsTooHigh, IsTooWide, estimated_heights, estimated_widths, needed_height, needed_width, row_height};
 
 use std::alloc::Global;
 use tabled_base::{PeekableRecords, Position, TableError};
-use tabled_config::SpannedConfig;
+use tabled_config::{Indent, Sides, SpannedConfig};
 
 /// The columns that a cell needs, if a number can say them.
 pub(crate) fn needed_width<R: PeekableRecords>(
@@ -20,23 +21,43 @@ pub(crate) fn needed_width<R: PeekableRecords>(
         (2 ^ 64 ≤ needed_width (R.cells records.now) config.now at.row at.column)
         (λ n. n ≡ needed_width (R.cells records.now) config.now at.row at.column) }
 {
-    let padding = config.get_padding(at);
+    padded_width(records, config, at, config.get_padding(at))
+}
+
+/// The columns that a cell needs with its padding, if a number can say them.
+#[inline(always)]
+fn padded_width<R: PeekableRecords>(
+    records: &R,
+    config: &SpannedConfig,
+    at: Position,
+    padding: Sides<Indent>,
+) -> Option<usize>
+    requires inside { IsInside (R.cells records.now) at.row at.column }
+    requires padding { padding ≡ (style_at config.now at.row at.column).padding }
+    ensures { MatchOption result
+        (2 ^ 64 ≤ needed_width (R.cells records.now) config.now at.row at.column)
+        (λ n. n ≡ needed_width (R.cells records.now) config.now at.row at.column) }
+{
+    let _config = config;
     let sides = padding.left.size.checked_add(padding.right.size)?;
     records.get_width(at).checked_add(sides)
 }
 
-/// The lines that a cell needs, if a number can say them.
-fn needed_height<R: PeekableRecords>(
+/// The lines that a cell needs with its padding, if a number can say them.
+#[inline(always)]
+fn padded_height<R: PeekableRecords>(
     records: &R,
     config: &SpannedConfig,
     at: Position,
+    padding: Sides<Indent>,
 ) -> Option<usize>
-    requires { IsInside (R.cells records.now) at.row at.column }
+    requires inside { IsInside (R.cells records.now) at.row at.column }
+    requires padding { padding ≡ (style_at config.now at.row at.column).padding }
     ensures { MatchOption result
         (2 ^ 64 ≤ needed_height (R.cells records.now) config.now at.row at.column)
         (λ n. n ≡ needed_height (R.cells records.now) config.now at.row at.column) }
 {
-    let padding = config.get_padding(at);
+    let _config = config;
     let sides = padding.top.size.checked_add(padding.bottom.size)?;
     records.count_lines(at).checked_add(sides)
 }
@@ -55,8 +76,10 @@ fn raise_widths<R: PeekableRecords>(
         (range_with_len 0 (columns (R.cells records.now)))) }
     ensures err { IfErr result (λ e. (e ≡ Range) × IsTooWide (R.cells records.now) config.now) }
 {
+    let mut paddings = config.paddings_in(row);
     'columns: for column in 0..records.count_columns() {
-        let Some(width) = needed_width(records, config, Position { row, column }) else {
+        let at = Position { row, column };
+        let Some(width) = padded_width(records, config, at, paddings.at(column)) else {
             return Err(TableError::Range);
         };
         widths[column] = widths[column].max(width);
@@ -93,8 +116,10 @@ pub(crate) fn row_height<R: PeekableRecords>(
         (λ n. n ≡ row_height (R.cells records.now) config.now row) }
 {
     let mut most: usize = 0;
+    let mut paddings = config.paddings_in(row);
     'columns: for column in 0..records.count_columns() {
-        let height = needed_height(records, config, Position { row, column })?;
+        let at = Position { row, column };
+        let height = padded_height(records, config, at, paddings.at(column))?;
         most = most.max(height);
     }
     Some(most)

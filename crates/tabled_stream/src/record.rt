@@ -15,7 +15,7 @@ use crate::layout::Layout;
 use std::alloc::Global;
 use std::borrow::CowStr;
 use tabled_base::{CellText, TableError, Text};
-use tabled_config::{CellStyle, Frame};
+use tabled_config::{CellStyle, Frame, RowStyles};
 use tabled_lines::Lines;
 use tabled_row::{CellBlock, Content, Marks, Row, SharedStyle, TextSink};
 use tabled_text::cut_str;
@@ -52,12 +52,8 @@ impl<'a> Row<'a> for CutRow<'a> {
         Some(&self.layout.shared)
     }
 
-    fn column_styles(&self) -> Option<&[CellStyle]> {
-        None
-    }
-
-    fn style(&self, _column: usize) -> CellStyle {
-        self.layout.style
+    fn styles(&self) -> RowStyles<'_> {
+        RowStyles::Alike(self.layout.style)
     }
 
     fn width(&self, column: usize) -> usize {
@@ -75,9 +71,9 @@ impl<'a> Row<'a> for CutRow<'a> {
         }
     }
 
-    fn cell(&self, column: usize) -> CellBlock<'a> {
+    fn cell(&self, column: usize, style: CellStyle) -> CellBlock<'a> {
         CellBlock {
-            style: self.layout.style,
+            style,
             width: self.layout.content_width(column) + self.layout.side,
             height: self.height,
             content: self.content(column),

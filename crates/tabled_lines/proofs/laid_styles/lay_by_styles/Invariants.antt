@@ -1,5 +1,11 @@
+use Rattle.std.proofs.Common.{◌≡◌, ◌<◌, ℕ}
+use Rattle.tabled_config.specs.RowStyles.{style_in}
 use Rattle.tabled_lines.proofs.Laying.{IsLaid}
 use Rattle.tabled_lines.proofs.laid_styles.lay_by_styles.Given as goal
 
 abbrev pub invariant-texts : goal.invariant-texts
-invariant-texts g l = IsLaid (g.C.Columns.sheet l.columns) (g.R.Row.sheet l.row) l.line l.place l.skipped l.column
+invariant-texts g l =
+    record {
+      laid : IsLaid (g.C.Columns.sheet l.columns) (g.R.Row.sheet l.row) l.line l.place l.skipped l.column;
+      styles : (c : ℕ) → c < (g.R.Row.sheet l.row).columns.count → style_in l.styles c ≡ (g.R.Row.sheet l.row).style c;
+    }

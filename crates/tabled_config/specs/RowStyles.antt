@@ -1,0 +1,49 @@
+-- How the texts of a row stand.
+use Rattle.std.specs.Prelude.{ℕ, ◌≡◌, false}
+use Rattle.std.specs.List.{slice_index_or}
+use Rattle.tabled_border.specs.declared.sides.Indent.{Indent}
+use Rattle.tabled_config.specs.declared.alignment.AlignmentHorizontal.TheVariants.{Left}
+use Rattle.tabled_config.specs.declared.alignment.AlignmentVertical.TheVariants.{Top}
+use Rattle.tabled_config.specs.declared.spanned.CellStyle.{CellStyle}
+use Rattle.tabled_config.specs.declared.spanned.row_styles.RowStyles.{RowStyles}
+use Rattle.tabled_config.specs.declared.spanned.row_styles.RowStyles.TheVariants.{Alike, Listed, Set}
+use Rattle.tabled_config.specs.declared.spanned.row_styles.SetStyles.{SetStyles}
+use Rattle.tabled_entity.specs.Changes.{value_at}
+
+-- nothing, on one side
+abbrev pub no_indent : Indent
+no_indent = record { size = 0; fill = 32 }
+
+-- how a text stands of which nothing is told
+abbrev pub plain_style : CellStyle
+plain_style =
+    record {
+      padding = record { left = no_indent; right = no_indent; top = no_indent; bottom = no_indent };
+      horizontal = Left;
+      vertical = Top;
+      line_alignment = false;
+    }
+
+-- how the text in a column was set
+abbrev pub set_style : SetStyles → ℕ → CellStyle
+set_style styles column =
+    record {
+      padding = value_at styles.padding column;
+      horizontal = value_at styles.horizontal column;
+      vertical = value_at styles.vertical column;
+      line_alignment = value_at styles.line_alignment column;
+    }
+
+-- how the text in a column stands
+abbrev pub style_in : RowStyles → ℕ → CellStyle
+style_in (Alike style) column = style
+style_in (Listed styles) column = slice_index_or styles.now column plain_style
+style_in (Set styles) column = set_style styles column
+
+-- each text stands as it did
+pub record SameStyles (old new : RowStyles) : Type 0 where
+  pub at : (column : ℕ) → style_in new column ≡ style_in old column
+
+-- each text stands as is told
+pub record TellsStyles (styles : RowStyles) (told : ℕ → CellStyle) : Type 0 where
+  pub at : (column : ℕ) → style_in styles column ≡ told column

@@ -1,0 +1,98 @@
+//! How the texts of a row stand, from left to right.
+ghost use Rattle.std.specs.Prelude.{◌≡◌, ℕ};
+ghost use Rattle.tabled_entity.specs.Changes.{value_at};
+ghost use Rattle.tabled_config.specs.RowStyles.{SameStyles, TellsStyles, plain_style, set_style, style_in};
+ghost use Rattle.tabled_config.specs.Settings.{style_at};
+
+use super::{CellStyle, SpannedConfig};
+use crate::alignment::{AlignmentHorizontal, AlignmentVertical};
+use tabled_border::{Indent, Sides};
+use tabled_entity::RowValues;
+
+/// What was set for the texts of a row. Columns that are asked for from left to right take no look-up among the cells.
+#[derive(Drop)]
+pub struct SetStyles<'a> {
+    padding: RowValues<'a, Sides<Indent>>,
+    horizontal: RowValues<'a, AlignmentHorizontal>,
+    vertical: RowValues<'a, AlignmentVertical>,
+    line_alignment: RowValues<'a, bool>,
+}
+
+/// How the texts of a row stand.
+#[derive(Drop)]
+pub enum RowStyles<'a> {
+    /// All alike.
+    Alike(CellStyle),
+    /// Those of each column as it is listed.
+    Listed(&'a [CellStyle]),
+    /// Each as it was set.
+    Set(SetStyles<'a>),
+}
+
+/// At the left and the top, with nothing around: how a text stands of which nothing is told.
+fn plain_style() -> CellStyle
+    ensures { result ≡ plain_style }
+{
+    CellStyle {
+        padding: Sides::filled(Indent::zero()),
+        horizontal: AlignmentHorizontal::Left,
+        vertical: AlignmentVertical::Top,
+        line_alignment: false,
+    }
+}
+
+impl<'a> SetStyles<'a> {
+    #[inline]
+    fn at(&mut self, column: usize) -> CellStyle
+        ensures style { result ≡ set_style self.old column }
+        ensures same { self.new ≡ self.old }
+    {
+        CellStyle {
+            padding: self.padding.at(column),
+            horizontal: self.horizontal.at(column),
+            vertical: self.vertical.at(column),
+            line_alignment: self.line_alignment.at(column),
+        }
+    }
+}
+
+impl<'a> RowStyles<'a> {
+    /// How the text in a column stands. Behind the listed columns texts stand at the left and the top, with nothing around.
+    #[inline]
+    pub fn at(&mut self, column: usize) -> CellStyle
+        ensures style { result ≡ style_in self.old column }
+        ensures same { SameStyles self.old self.new }
+    {
+        match self {
+            RowStyles::Alike(style) => *style,
+            RowStyles::Listed(styles) => match styles.get(column) {
+                Some(style) => *style,
+                None => plain_style(),
+            },
+            RowStyles::Set(styles) => styles.at(column),
+        }
+    }
+}
+
+impl SpannedConfig {
+    /// How the texts of a row stand, from left to right.
+    #[tactic(auto, unfolding(crate::specs::Settings::style_at))]
+    pub fn styles_in(&self, row: usize) -> RowStyles<'_>
+        ensures { TellsStyles result (style_at self.now row) }
+    {
+        RowStyles::Set(SetStyles {
+            padding: self.padding.in_row(row),
+            horizontal: self.alignment_horizontal.in_row(row),
+            vertical: self.alignment_vertical.in_row(row),
+            line_alignment: self.line_alignment.in_row(row),
+        })
+    }
+
+    /// The paddings of a row's cells, from left to right.
+    #[tactic(auto, unfolding(crate::specs::Settings::style_at))]
+    pub fn paddings_in(&self, row: usize) -> RowValues<'_, Sides<Indent>>
+        ensures { (column : ℕ) → value_at result column ≡ (style_at self.now row column).padding }
+    {
+        self.padding.in_row(row)
+    }
+}

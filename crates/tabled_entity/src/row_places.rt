@@ -1,0 +1,98 @@
+//! The places of the latest changes for the cells of a row, from left to right.
+ghost use Rattle.std.specs.Prelude.{◌≡◌, ℕ};
+ghost use Rattle.std.specs.BTreeMap.{get};
+ghost use Rattle.std.specs.Ordering.{nat_cmp};
+ghost use Rattle.tabled_entity.specs.Ahead.{cell_cmp, place_at};
+ghost use Rattle.tabled_entity.specs.Places.{later};
+ghost use Rattle.tabled_entity.specs.RowPlaces.{SameAt, latest_at};
+
+use crate::ahead::Ahead;
+use crate::places::later;
+use std::collections::BTreeMap;
+use std::marker::Model;
+
+/// Where the changes of a row's cells stand that were made for these cells alone.
+#[derive(Drop)]
+pub(crate) struct CellPlaces<'a> {
+    cells: &'a BTreeMap<(usize, usize), usize>,
+    row: usize,
+    // The column that was asked for last.
+    from: usize,
+    ahead: Ahead<'a>,
+}
+
+impl<'a> Model for CellPlaces<'a> {
+    ghost use Rattle.tabled_entity.specs.Ahead.{CellsAndRow, LieAhead};
+
+    ghost Value = { CellsAndRow };
+
+    ghost view = { λ c. record { cells = c.cells.now.entries; row = c.row } };
+
+    ghost invariant = { λ c. LieAhead (record { cells = c.cells.now.entries; row = c.row }) c.from c.ahead };
+}
+
+impl<'a> CellPlaces<'a> {
+    /// The places of a row's cells.
+    fn new(cells: &'a BTreeMap<(usize, usize), usize>, row: usize) -> CellPlaces<'a>
+        ensures { result ≡ record { cells = cells.now.entries; row = row } }
+    {
+        CellPlaces {
+            cells,
+            row,
+            from: 0,
+            ahead: Ahead::new(cells.range((row, 0)..)),
+        }
+    }
+
+    /// The place of the cell in a column. A column to the left of the one before takes a look-up.
+    #[inline]
+    fn at(&mut self, column: usize) -> Option<usize>
+        ensures place { result ≡ place_at self.old column }
+        ensures same { self.new ≡ self.old }
+    {
+        let at = (self.row, column);
+        if column < self.from {
+            return self.cells.get(&at).copied();
+        }
+        self.ahead.pass_to(at);
+        self.from = column;
+        self.ahead.place(at)
+    }
+}
+
+/// Where the latest changes for the cells of a row stand.
+#[derive(Drop)]
+pub(crate) struct RowPlaces<'a> {
+    of_row: Option<usize>,
+    columns: &'a BTreeMap<usize, usize>,
+    cells: CellPlaces<'a>,
+}
+
+impl<'a> RowPlaces<'a> {
+    /// The places of a row's cells, by those that are kept for the row, for columns and for cells.
+    pub fn new(
+        row: usize,
+        of_row: Option<usize>,
+        columns: &'a BTreeMap<usize, usize>,
+        cells: &'a BTreeMap<(usize, usize), usize>,
+    ) -> RowPlaces<'a>
+        ensures { (column : ℕ) → latest_at result column
+            ≡ later of_row (later (get nat_cmp columns.now column) (get cell_cmp cells.now (row, column))) }
+    {
+        RowPlaces {
+            of_row,
+            columns,
+            cells: CellPlaces::new(cells, row),
+        }
+    }
+
+    /// The place of the latest change for the cell in a column.
+    #[inline]
+    pub fn at(&mut self, column: usize) -> Option<usize>
+        ensures place { result ≡ latest_at self.old column }
+        ensures same { SameAt self.old self.new }
+    {
+        let of_column = self.columns.get(&column).copied();
+        later(self.of_row, later(of_column, self.cells.at(column)))
+    }
+}
