@@ -6,4 +6,4 @@ use Rattle.tabled_stream.proofs.record.CutRowRow.cell.Goals as goal
 pub returns-clause-width : goal.returns-clause-width
 returns-clause-width c =
     let layout = c.args.self.now.layout.now in
-    ap (λ k. k + layout.side) c.content_width.ensures ∙ sym (listed (width_at layout) layout.count c.args.column c.requires)
+    ap (λ k. k + layout.side) c.content_width.ensures ∙ sym (listed (width_at layout) layout.count c.args.column c.requires.inside)
