@@ -9,8 +9,9 @@ than the logarithm of the settings, and the time a row of the table or a line of
 same where printing is linear; then the time that a setting took. Tables are printed into a text that has
 room from the second round on.
 
-Tables of words have 100 columns. In those of padding or alignment each cell was set by itself; in the stored
-ones the estimated sizes were stored. Long cells are of 5 to 15 columns; 1, 60 or 100 of them make a row.
+Tables of words have 100 columns. In those of columns each column was aligned, in those of alignments and paddings
+each cell was set by itself; in the stored ones the estimated sizes were stored. Long cells are of 5 to 15 columns; 1, 60
+or 100 of them make a row.
 """
 
 import collections
@@ -22,6 +23,9 @@ import building
 # Of the tables of words; the program has the same number.
 COLUMNS = 100
 
+# The crates that the program names.
+USED = ("tabled_grid", "tabled_size", "tabled_config", "tabled_border", "tabled_base")
+
 PROGRAM = """\
 //! Times the printing of tables.
 #![tactic(auto)]
@@ -29,12 +33,12 @@ ghost use Rattle.std.specs.Prelude.{◌≡◌, IfOk, vec_len};
 
 use std::alloc::{AllocError, Global};
 use std::time::Instant;
-use tabled::builder::Builder;
-use tabled::grid::config::{AlignmentHorizontal, Entity, Indent, Sides};
-use tabled::grid::dimension::{CompleteDimension, Estimate};
-use tabled::{Table, TableError};
+use tabled_base::{Builder, Entity, TableError, Text, VecRecords};
+use tabled_config::{AlignmentHorizontal, Indent, Sides, SpannedConfig, Style};
+use tabled_grid::print_standing;
+use tabled_size::{CompleteDimension, Estimate};
 
-const ROUNDS: usize = 7;
+const ROUNDS: usize = 15;
 
 const WORDS: [&str; 5] = ["amber", "cedar", "fjord and inlet", "oasis", "a weir"];
 
@@ -48,62 +52,82 @@ fn words(alloc: Global, columns: usize) -> Result<Vec<&'static str>, AllocError>
     Ok(row)
 }
 
-fn table_of(alloc: Global, row: &[&str], rows: usize) -> Result<Table, TableError> {
+type Cells = VecRecords<Text<String>>;
+
+fn cells_of(alloc: Global, row: &[&str], rows: usize) -> Result<Cells, TableError> {
     let mut builder = Builder::new(alloc);
     for _row in 0..rows {
         builder.add_record(row.iter().copied())?;
     }
-    Ok(Table::from(builder))
+    Ok(builder.build())
 }
 
-fn pad(table: &mut Table, row: usize, column: usize) -> Result<(), TableError> {
-    let side = Indent::spaced(1 + (row % 3 + column % 2) % 2);
-    let padding = Sides::new(side, side, Indent::zero(), Indent::zero());
-    let config = table.get_config_mut().as_mut();
-    config.set_padding(Entity::Cell(row, column), padding)
+fn spaced(size: usize) -> Sides<Indent> {
+    let side = Indent::spaced(size);
+    Sides::new(side, side, Indent::zero(), Indent::zero())
 }
 
-fn align(table: &mut Table, row: usize, column: usize) -> Result<(), TableError> {
+/// The settings of a new table.
+fn settings(alloc: Global) -> Result<SpannedConfig, TableError> {
+    let mut config = SpannedConfig::new(alloc);
+    config.set_borders(Style::ascii().get_borders());
+    config.set_padding(Entity::Global, spaced(1))?;
+    Ok(config)
+}
+
+fn pad(config: &mut SpannedConfig, row: usize, column: usize) -> Result<(), TableError> {
+    let size = 1 + (row % 3 + column % 2) % 2;
+    config.set_padding(Entity::Cell(row, column), spaced(size))
+}
+
+fn align(config: &mut SpannedConfig, row: usize, column: usize) -> Result<(), TableError> {
     let alignment = if (row % 3 + column % 2) % 2 == 0 {
         AlignmentHorizontal::Right
     } else {
         AlignmentHorizontal::Center
     };
-    let config = table.get_config_mut().as_mut();
     config.set_alignment_horizontal(Entity::Cell(row, column), alignment)
 }
 
-fn pad_cells(table: &mut Table, rows: usize, columns: usize) -> Result<(), TableError> {
+fn pad_cells(config: &mut SpannedConfig, rows: usize, columns: usize) -> Result<(), TableError> {
     for row in 0..rows {
         for column in 0..columns {
-            pad(table, row, column)?;
+            pad(config, row, column)?;
         }
     }
     Ok(())
 }
 
-fn align_cells(table: &mut Table, rows: usize, columns: usize) -> Result<(), TableError> {
+fn align_cells(config: &mut SpannedConfig, rows: usize, columns: usize) -> Result<(), TableError> {
     for row in 0..rows {
         for column in 0..columns {
-            align(table, row, column)?;
+            align(config, row, column)?;
         }
     }
     Ok(())
 }
 
-fn store_sizes(alloc: Global, table: &mut Table) -> Result<(), TableError> {
-    let mut sizes = CompleteDimension::new(alloc);
-    sizes.estimate(table.get_records(), table.get_config().as_ref())?;
-    *table.get_dimension_mut() = sizes;
+fn align_columns(config: &mut SpannedConfig, columns: usize) -> Result<(), TableError> {
+    for column in 0..columns {
+        let place = Entity::Column(column);
+        config.set_alignment_horizontal(place, AlignmentHorizontal::Right)?;
+    }
     Ok(())
 }
 
-fn measure(rt: &HostRuntime, name: &str, table: &Table, units: usize) -> Result<(), anyhow::Error> {
+fn time(
+    rt: &HostRuntime,
+    name: &str,
+    cells: &Cells,
+    config: &SpannedConfig,
+    sizes: &CompleteDimension,
+    units: usize,
+) -> Result<(), anyhow::Error> {
     let mut text = String::new(rt.alloc());
     for _round in 0..ROUNDS {
         text.clear();
         let start = Instant::now(rt)?;
-        table.write_to(&mut text)?;
+        print_standing(&mut text, cells, config, sizes)?;
         let time = start.elapsed(rt)?.as_nanos();
         let bytes = text.len();
         println!(rt; "{name} {units} {bytes} {time}")?;
@@ -111,28 +135,40 @@ fn measure(rt: &HostRuntime, name: &str, table: &Table, units: usize) -> Result<
     Ok(())
 }
 
+/// Once with estimated sizes, and once with these stored.
+fn measure(
+    rt: &HostRuntime,
+    name: &str,
+    cells: &Cells,
+    config: &SpannedConfig,
+    units: usize,
+) -> Result<(), anyhow::Error> {
+    let mut sizes = CompleteDimension::new(rt.alloc());
+    time(rt, name, cells, config, &sizes, units)?;
+    sizes.estimate(cells, config)?;
+    println!(rt; "stored 0 0 0")?;
+    time(rt, name, cells, config, &sizes, units)?;
+    println!(rt; "estimated 0 0 0")?;
+    Ok(())
+}
+
 fn measure_words(rt: &HostRuntime, rows: usize, columns: usize) -> Result<(), anyhow::Error> {
     let alloc = rt.alloc();
     let row = words(alloc, columns)?;
-    let mut table = table_of(alloc, &row, rows)?;
-    measure(rt, "plain", &table, rows)?;
-    store_sizes(alloc, &mut table)?;
-    measure(rt, "plain,stored", &table, rows)?;
-
-    let mut table = table_of(alloc, &row, rows)?;
+    let cells = cells_of(alloc, &row, rows)?;
+    let mut config = settings(alloc)?;
+    measure(rt, "nothing", &cells, &config, rows)?;
+    align_columns(&mut config, columns)?;
+    measure(rt, "columns", &cells, &config, rows)?;
+    let mut config = settings(alloc)?;
+    align_cells(&mut config, rows, columns)?;
+    measure(rt, "alignments", &cells, &config, rows)?;
+    let mut config = settings(alloc)?;
     let start = Instant::now(rt)?;
-    pad_cells(&mut table, rows, columns)?;
+    pad_cells(&mut config, rows, columns)?;
     let time = start.elapsed(rt)?.as_nanos();
     println!(rt; "setting {rows} 0 {time}")?;
-    measure(rt, "padding", &table, rows)?;
-    store_sizes(alloc, &mut table)?;
-    measure(rt, "padding,stored", &table, rows)?;
-
-    let mut table = table_of(alloc, &row, rows)?;
-    align_cells(&mut table, rows, columns)?;
-    measure(rt, "alignment", &table, rows)?;
-    store_sizes(alloc, &mut table)?;
-    measure(rt, "alignment,stored", &table, rows)
+    measure(rt, "paddings", &cells, &config, rows)
 }
 
 fn long_text(alloc: Global, lines: usize) -> Result<String, AllocError> {
@@ -150,8 +186,10 @@ fn measure_long(rt: &HostRuntime, name: &str, lines: usize, columns: usize) -> R
     let alloc = rt.alloc();
     let text = long_text(alloc, lines)?;
     let row = vec![in alloc; text.as_str(); columns]?;
-    let table = table_of(alloc, &row, 1)?;
-    measure(rt, name, &table, lines)
+    let cells = cells_of(alloc, &row, 1)?;
+    let config = settings(alloc)?;
+    let none = CompleteDimension::new(alloc);
+    time(rt, name, &cells, &config, &none, lines)
 }
 
 fn main(rt: HostRuntime) -> Result<(), anyhow::Error> {
@@ -171,12 +209,17 @@ fn main(rt: HostRuntime) -> Result<(), anyhow::Error> {
 
 
 def main():
-    with building.program(__doc__, "setting_times", building.TABLED, {"src/main.rt": PROGRAM}) as program:
+    crates = building.standing_on("tabled_grid")
+    with building.program(__doc__, "setting_times", crates, {"src/main.rt": PROGRAM}, USED) as program:
         run = subprocess.run([program], stdin=subprocess.DEVNULL, capture_output=True, check=True)
     found = collections.defaultdict(list)
+    stored = ""
     for row in run.stdout.decode().splitlines():
         name, rows, size, time = row.split()
-        found[name, int(rows), int(size)].append(int(time))
+        if name in ("stored", "estimated"):
+            stored = ",stored" if name == "stored" else ""
+        else:
+            found[name + stored, int(rows), int(size)].append(int(time))
     print(f"{'table':16} {'rows or lines':>13} {'bytes':>10} {'ms':>8} {'ns a byte':>9} {'us a line':>9}")
     for (name, rows, size), times in sorted(found.items()):
         time = statistics.median(times)

@@ -8,12 +8,11 @@ ghost use Rattle.tabled_entity.specs.Places.{IsWhole};
 mod alike;
 mod row_styles;
 
-pub use row_styles::{RowStyles, SetStyles};
-
 use crate::alignment::{AlignmentHorizontal, AlignmentVertical};
 use crate::compact::CompactConfig;
 use crate::compact_multiline::CompactMultilineConfig;
 use crate::style::Style;
+pub use row_styles::{RowStyles, SetStyles};
 use std::alloc::Global;
 use tabled_base::{Entity, Position, TableError};
 use tabled_border::{Borders, Frame, HorizontalLine, Indent, Lines, Sides};

@@ -23,6 +23,7 @@ impl<'a> Model for Ahead<'a> {
 }
 
 /// Takes the first of some cells.
+#[inline(always)]
 fn take_first(cells: &mut Range<'_, (usize, usize), usize>) -> Option<((usize, usize), usize)>
     ensures { first_and_others result cells.new ≡ cells.old }
 {
@@ -61,7 +62,7 @@ impl<'a> Ahead<'a> {
     }
 
     /// Passes the cells before one. It takes one step where a row's cells are asked for from left to right.
-    #[inline]
+    #[inline(always)]
     pub fn pass_to(&mut self, at: (usize, usize))
         ensures ordered { AreInOrder self.old → AreInOrder self.new }
         ensures places { (cell : ℕ × ℕ) → is_lt (cell_cmp cell at) ≡ false → place_in self.new cell ≡ place_in self.old cell }
@@ -75,7 +76,7 @@ impl<'a> Ahead<'a> {
     }
 
     /// The place of a cell that is the next one, or else isn't there.
-    #[inline]
+    #[inline(always)]
     pub fn place(&self, at: (usize, usize)) -> Option<usize>
         requires ordered { AreInOrder self.now }
         requires next { IfSome (slice_get self.now 0) (λ first. is_lt (cell_cmp first.0 at) ≡ false) }

@@ -164,9 +164,9 @@ impl<T: Copy> EntityMap<T> {
         ensures { result ≡ record { changes = self.now; row = row } }
     {
         if self.changes.is_empty() {
-            return RowValues::new(self, row, None);
+            return RowValues::new(self, row, self.whole, None);
         }
-        RowValues::new(self, row, Some(self.places.in_row(row)))
+        RowValues::new(self, row, self.whole, Some(self.places.in_row(row)))
     }
 }
 

@@ -45,7 +45,7 @@ impl<'a> CellPlaces<'a> {
     }
 
     /// The place of the cell in a column. A column to the left of the one before takes a look-up.
-    #[inline]
+    #[inline(always)]
     fn at(&mut self, column: usize) -> Option<usize>
         ensures place { result ≡ place_at self.old column }
         ensures same { self.new ≡ self.old }
@@ -87,7 +87,7 @@ impl<'a> RowPlaces<'a> {
     }
 
     /// The place of the latest change for the cell in a column.
-    #[inline]
+    #[inline(always)]
     pub fn at(&mut self, column: usize) -> Option<usize>
         ensures place { result ≡ latest_at self.old column }
         ensures same { SameAt self.old self.new }

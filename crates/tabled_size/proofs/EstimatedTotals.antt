@@ -1,11 +1,11 @@
 -- Totals of estimated sizes.
-use Rattle.std.proofs.Common.{◌≡◌, ℕ, ◌+◌, ◌<◌, ◌≤◌, ◌^◌, suc, false, List, MatchOption, Option, None, length, ap, arith, cond, subst, sym, ◌∙◌}
+use Rattle.std.proofs.Common.{◌≡◌, ℕ, ◌+◌, ◌<◌, ◌≤◌, ◌^◌, suc, false, List, MatchOption, Option, None, length, ap, arith, cond, subst, sym}
 use Rattle.std.specs.List.{slice_index}
 use Rattle.tabled_base.specs.Cells.{columns}
 use Rattle.tabled_config.specs.declared.spanned.SpannedConfig.{SpannedConfig}
 use Rattle.tabled_priority.proofs.Sums.{sum_step}
 use Rattle.tabled_priority.specs.Sums.{sum_below}
-use Rattle.tabled_size.specs.Estimates.{IsTooHigh, IsTooWide, estimated_heights, estimated_widths}
+use Rattle.tabled_size.specs.Estimates.{estimated_heights, estimated_widths}
 use Rattle.tabled_size.specs.Sheet.{estimated, is_empty}
 use Rattle.tabled_size.specs.Totals.{filled_height, filled_width, framed_height, framed_width, part_height, total_height, total_width}
 

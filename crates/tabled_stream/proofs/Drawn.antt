@@ -1,6 +1,5 @@
 -- What stands in the further columns of a stream where nothing is taken there.
 use Rattle.std.proofs.Common.{◌≡◌, ℕ, zero, suc, ◌+◌, ◌-◌, ◌<◌, ◌≤◌, Bool, false, List, [], ◌∷◌, ◌++◌, length, replicate, take, slice_index_or, refl, ◌∙◌, ap, arith}
-use Rattle.tabled_border.specs.declared.frame.Frame.{Frame}
 use Rattle.tabled_border.specs.Frame.{has_bar}
 use Rattle.tabled_config.specs.declared.alignment.AlignmentHorizontal.{AlignmentHorizontal}
 use Rattle.tabled_config.specs.declared.alignment.AlignmentHorizontal.TheVariants as horizontal
@@ -11,7 +10,7 @@ use Rattle.tabled_row.specs.Fill.{fill}
 use Rattle.tabled_row.specs.Row.{cell_piece, piece}
 use Rattle.tabled_row.proofs.Bars.{no-bar}
 use Rattle.tabled_stream.specs.declared.layout.Layout.{Layout}
-use Rattle.tabled_stream.specs.Row.{TakesNoMore, content_at, layout_row, width_at}
+use Rattle.tabled_stream.specs.Row.{TakesNoMore, layout_row, width_at}
 use Rattle.tabled_stream.proofs.Widths.{listed, past-list}
 
 -- each of some texts is empty

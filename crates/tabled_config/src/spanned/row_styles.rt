@@ -42,7 +42,7 @@ fn plain_style() -> CellStyle
 }
 
 impl<'a> SetStyles<'a> {
-    #[inline]
+    #[inline(always)]
     fn at(&mut self, column: usize) -> CellStyle
         ensures style { result ≡ set_style self.old column }
         ensures same { self.new ≡ self.old }
@@ -58,7 +58,7 @@ impl<'a> SetStyles<'a> {
 
 impl<'a> RowStyles<'a> {
     /// How the text in a column stands. Behind the listed columns texts stand at the left and the top, with nothing around.
-    #[inline]
+    #[inline(always)]
     pub fn at(&mut self, column: usize) -> CellStyle
         ensures style { result ≡ style_in self.old column }
         ensures same { SameStyles self.old self.new }

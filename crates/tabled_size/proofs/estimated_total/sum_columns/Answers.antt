@@ -1,4 +1,4 @@
-use Rattle.std.proofs.Common.{◌≡◌, ◌<◌, ◌∙◌, ℕ, ap, arith, inr, sym}
+use Rattle.std.proofs.Common.{◌<◌, ◌∙◌, arith, inr, sym}
 use Rattle.std.specs.List.{slice_index}
 use Rattle.tabled_base.specs.Cells.{columns}
 use Rattle.tabled_size.specs.Estimates.{estimated_widths}

@@ -1,6 +1,6 @@
-use Rattle.std.proofs.Common.{◌≡◌, ◌∷◌, None, false, IfSome, slice_get, ap, sym, subst, ◌∙◌}
+use Rattle.std.proofs.Common.{◌≡◌, false, IfSome, slice_get, ap, sym, subst, ◌∙◌}
 use Rattle.std.specs.Ordering.{is_eq}
-use Rattle.tabled_entity.specs.Ahead.{cell_cmp, first_and_others, place_in}
+use Rattle.tabled_entity.specs.Ahead.{cell_cmp, first_and_others}
 use Rattle.tabled_entity.proofs.Walking.{no-place}
 use Rattle.tabled_entity.proofs.ahead.Ahead.place.Goals as goal
 

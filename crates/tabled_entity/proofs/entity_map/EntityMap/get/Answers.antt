@@ -1,4 +1,4 @@
-use Rattle.std.proofs.Common.{◌≡◌, reverse, ap, ◌∙◌, sym, arith}
+use Rattle.std.proofs.Common.{reverse, ap, ◌∙◌, arith}
 use Rattle.tabled_entity.specs.Changes.{setting_at}
 use Rattle.tabled_entity.proofs.Covering.{latest_place}
 use Rattle.tabled_entity.proofs.Indexed.{indexed-latest, nothing_set}

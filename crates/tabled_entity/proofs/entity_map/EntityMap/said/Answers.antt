@@ -1,9 +1,8 @@
-use Rattle.std.proofs.Common.{◌≡◌, ◌<◌, ℕ, reverse, ap, sym, ◌∙◌, subst, None, Some, Option, arith, length}
+use Rattle.std.proofs.Common.{◌≡◌, ◌<◌, ℕ, reverse, ap, sym, ◌∙◌, subst, None, Some, arith, length}
 use Rattle.std.proofs.lemmas.List.{length-reverse, get_or_read}
 use Rattle.tabled_base.specs.declared.position.Entity.{Entity}
 use Rattle.tabled_base.specs.declared.position.Entity.TheVariants.{Global}
 use Rattle.tabled_entity.specs.Changes.{setting_at}
-use Rattle.tabled_entity.specs.Places.{last_for, latest}
 use Rattle.tabled_entity.proofs.Covering.{latest_place}
 use Rattle.tabled_entity.proofs.Indexed.{placed-below, said_at-placed, item-reversed}
 use Rattle.tabled_entity.proofs.entity_map.EntityMap.said.Goals as goal

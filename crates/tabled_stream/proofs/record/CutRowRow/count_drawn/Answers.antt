@@ -1,4 +1,4 @@
-use Rattle.std.proofs.Common.{◌≡◌, ◌<◌, ◌≤◌, length, arith}
+use Rattle.std.proofs.Common.{arith}
 use Rattle.tabled_stream.proofs.Drawn.{nothing-further}
 use Rattle.tabled_stream.proofs.record.CutRowRow.count_drawn.Goals as goal
 
