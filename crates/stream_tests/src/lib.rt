@@ -1,6 +1,8 @@
-//! Streamed tables as users print them.
+//! Streamed and compact tables as users print them.
 #![tactic(auto)]
 
+#[cfg(test)]
+mod compact;
 #[cfg(test)]
 mod growths;
 #[cfg(test)]

@@ -1,9 +1,11 @@
-//! Tests of whole tables that aren't seen beside their pictures in `cases`: tables made of values, sinks and writers,
-//! options of a caller's own, and the program. Nothing stands here outside of tests.
+//! Tests of whole tables that aren't seen beside their pictures in `cases`: tables made of values, sinks and writers, what
+//! they are measured, sized to and printed with, options of a caller's own, and the program. Nothing stands here outside of tests.
 #![tactic(auto)]
 
 #[cfg(test)]
 mod applying;
+#[cfg(test)]
+mod batches;
 #[cfg(test)]
 mod faulty;
 #[cfg(test)]
@@ -13,11 +15,17 @@ mod made;
 #[cfg(test)]
 mod making;
 #[cfg(test)]
+mod measuring;
+#[cfg(test)]
 mod modifying;
+#[cfg(test)]
+mod printing;
 #[cfg(test)]
 mod runs;
 #[cfg(test)]
 mod showing;
+#[cfg(test)]
+mod sized;
 #[cfg(test)]
 mod totals;
 #[cfg(test)]

@@ -1,5 +1,0 @@
-//! Compact tables as users print them.
-#![tactic(auto)]
-
-#[cfg(test)]
-mod tests;
