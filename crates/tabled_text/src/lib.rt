@@ -14,8 +14,6 @@ mod line;
 mod measure;
 mod plain;
 mod sink;
-#[cfg(test)]
-mod tests;
 mod wrap;
 
 pub use cut::{cut_str, split_str};

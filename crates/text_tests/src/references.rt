@@ -1,7 +1,7 @@
 //! Slow plain references beside the code, on all texts of up to four characters out of five.
-use crate::{count_lines, cut_str, is_fullest, lines, wrap_text};
 use std::alloc::Global;
 use std::test::Fail;
+use tabled_text::{count_lines, cut_str, is_fullest, lines, wrap_text};
 
 const MOST: usize = 4;
 

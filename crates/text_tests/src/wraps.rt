@@ -1,5 +1,6 @@
-use crate::{is_fullest, wrap_text};
+//! How texts are wrapped, and which wrappings have the fewest lines.
 use std::test::Fail;
+use tabled_text::{is_fullest, wrap_text};
 
 #[test]
 fn characters_begin_a_line_where_they_find_no_room(rt: HostRuntime) -> Result<(), Fail> {

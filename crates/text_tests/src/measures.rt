@@ -1,9 +1,5 @@
-//! What no clause says: worked examples, and each public call with ample memory.
-mod cuts;
-mod references;
-mod wraps;
-
-use super::*;
+//! What texts take, and which are plain.
+use tabled_text::{count_lines, is_plain, is_plain_column, lines, text_width};
 
 #[test]
 fn a_text_is_as_wide_as_its_widest_line(rt: HostRuntime) {

@@ -1,5 +1,6 @@
-use crate::{cut_str, split_str};
+//! Where texts are cut.
 use std::test::Fail;
+use tabled_text::{cut_str, split_str};
 
 #[test]
 fn a_cut_stops_at_a_full_line(rt: HostRuntime) -> Result<(), Fail> {
