@@ -4,18 +4,18 @@ use anyhow::{Result, bail};
 use csv::{ReaderBuilder, StringRecord};
 use std::alloc::Global;
 use std::io::Read;
-use tabled::builder::Builder;
+use tabled::grid::records::JoinedRecords;
 
 /// All rows, and of each column whether its cells below the header are all numbers.
 #[derive(Drop)]
 pub struct Rows {
-    pub builder: Builder,
+    pub records: JoinedRecords,
     pub are_numbers: Vec<bool>,
 }
 
-/// Reads all rows, each into the same record. Cells get as much room as the first row has.
+/// Reads all rows, each into the same record, and joins their texts.
 pub fn read_rows<R: Read + Drop>(alloc: Global, input: R) -> Result<Rows> {
-    let mut builder = Builder::new(alloc);
+    let mut records = JoinedRecords::new(alloc);
     let mut are_numbers = Vec::new(alloc);
     let mut record = StringRecord::new(alloc);
     let mut reader = ReaderBuilder::new()
@@ -28,15 +28,14 @@ pub fn read_rows<R: Read + Drop>(alloc: Global, input: R) -> Result<Rows> {
             Err(error) => bail!("{error}"),
         }
         if row == 0 {
-            builder = Builder::with_capacity(alloc, 0, record.len())?;
             are_numbers = vec![in alloc; true; record.len()]?;
         } else {
             keep_numbers(&mut are_numbers, &record);
         }
-        builder.add_record(record.iter())?;
+        records.push_record(record.iter())?;
     }
     Ok(Rows {
-        builder,
+        records,
         are_numbers,
     })
 }
@@ -47,18 +46,23 @@ fn keep_numbers(are_numbers: &mut Vec<bool>, record: &StringRecord) {
     }
 }
 
-/// Whether a text is a number. One of digits alone is, or with a point between them, and needn't be read.
+/// Whether a text is a number. Most are decimal, and needn't be read.
 fn is_number_text(cell: &str) -> bool {
-    match cell.split_once('.') {
-        Some((whole, part)) if is_digits(whole) && is_digits(part) => true,
-        _ => is_digits(cell) || cell.parse::<f64>().is_ok(),
-    }
+    is_decimal(cell) || cell.parse::<f64>().is_ok()
 }
 
-fn is_digits(cell: &str) -> bool {
-    !cell.is_empty()
-        && cell
-            .as_bytes()
-            .iter()
-            .all(|byte| matches!(*byte, b'0'..=b'9'))
+/// Whether a text is digits, or digits with a point between them.
+fn is_decimal(cell: &str) -> bool {
+    let (mut has_point, mut behind_digit) = (false, false);
+    for byte in cell.as_bytes() {
+        match *byte {
+            b'0'..=b'9' => behind_digit = true,
+            b'.' if behind_digit && !has_point => {
+                has_point = true;
+                behind_digit = false;
+            }
+            _ => return false,
+        }
+    }
+    behind_digit
 }

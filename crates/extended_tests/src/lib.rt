@@ -1,4 +1,4 @@
-//! Tests of tables that show each record by itself: their pictures, and writers that take few bytes or fail.
+//! Tests of tables that show each record by itself: their pictures, and truncation.
 #![tactic(auto)]
 
 #[cfg(test)]
@@ -6,8 +6,4 @@ mod named;
 #[cfg(test)]
 mod pictures;
 #[cfg(test)]
-mod refusals;
-#[cfg(test)]
 mod truncation;
-#[cfg(test)]
-mod writers;

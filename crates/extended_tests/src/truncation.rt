@@ -8,8 +8,8 @@ use std::test::Fail;
 use tabled_base::TableError;
 use tabled_extended::ExtendedTable;
 
-/// Three languages.
-pub(crate) fn languages(alloc: Global) -> Result<ExtendedTable, TableError> {
+// Three languages.
+fn languages(alloc: Global) -> Result<ExtendedTable, TableError> {
     let rust = Language {
         name: "Rust",
         designer: "Graydon Hoare",
@@ -23,7 +23,7 @@ pub(crate) fn languages(alloc: Global) -> Result<ExtendedTable, TableError> {
     ExtendedTable::new(alloc, [C, rust, go])
 }
 
-pub(crate) const SHORT_VALUES: &str = "\
+const SHORT_VALUES: &str = "\
 -[ RECORD 0 ]-+---
 name          | ..
 designed_by   | ..

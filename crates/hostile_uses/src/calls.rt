@@ -4,6 +4,9 @@ use crate::found::{Found, refused_if, whole_if};
 use crate::printers::{PAIRS, PICTURE};
 use std::alloc::Global;
 use tabled::builder::Builder;
+use tabled::grid::config::new_config;
+use tabled::grid::print_estimated;
+use tabled::grid::records::JoinedRecords;
 use tabled::tables::{ExtendedTable, PoolTable};
 use tabled::{Table, TableError};
 
@@ -11,6 +14,7 @@ use tabled::{Table, TableError};
 pub const CALLS: &[&str] = &[
     "push_record",
     "push_record longer",
+    "push_record joined",
     "new",
     "with_capacity",
     "nohead",
@@ -47,6 +51,19 @@ fn push(alloc: Global, record: &[&'static str], wanted: &str) -> Result<Found, T
     let picture = Table::from(builder).to_string()?;
     match answer {
         Ok(()) => Ok(whole_if(picture.as_str() == wanted)),
+        Err(error) => Ok(refused_if(error == TableError::Memory && picture.as_str() == ONE_ROW)),
+    }
+}
+
+// Joined records are as they were where a record was refused.
+fn push_joined(alloc: Global) -> Result<Found, TableError> {
+    let mut records = JoinedRecords::new(alloc);
+    records.push_record(["a", "bb"])?;
+    let answer = records.push_record(["c", "d", "e"]);
+    let mut picture = String::new(alloc);
+    print_estimated(alloc, &mut picture, &records, &new_config(alloc))?;
+    match answer {
+        Ok(()) => Ok(whole_if(picture.as_str() == LONGER)),
         Err(error) => Ok(refused_if(error == TableError::Memory && picture.as_str() == ONE_ROW)),
     }
 }
@@ -178,6 +195,7 @@ pub fn called(alloc: Global, name: &str) -> Result<Found, TableError> {
     match name {
         "push_record" => push(alloc, &["ccc"], PICTURE),
         "push_record longer" => push(alloc, &["c", "d", "e"], LONGER),
+        "push_record joined" => push_joined(alloc),
         "total_width" | "total_height" => measured(alloc, name),
         "clone" => copied(alloc),
         "records new" => Ok(made(shown(ExtendedTable::new(alloc, ["a\n", "b"])), ESCAPED)),

@@ -10,8 +10,4 @@ mod deep;
 #[cfg(test)]
 mod pictures;
 #[cfg(test)]
-mod refusals;
-#[cfg(test)]
 mod values;
-#[cfg(test)]
-mod writers;

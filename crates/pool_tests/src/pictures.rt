@@ -8,7 +8,7 @@ use tabled_pool::PoolTable;
 use tabled_sides::{Margin, Padding};
 use tabled_size::{DimensionPriority, PoolTableDimension};
 
-pub(crate) const RAGGED: &str = "\
+const RAGGED: &str = "\
 +---------+---------+----+
 | Hello   | World   | !  |
 +---------+---------+----+

@@ -1,52 +1,12 @@
 //! How streamed tables are refused.
 
-use std::alloc::Global;
-use std::io;
-use std::io::Write;
 use std::test::Fail;
 use tabled_base::TableError;
 use tabled_config::{CompactConfig, Indent, Sides, Style};
-use tabled_row::IoSink;
 use tabled_stream::IterTable;
-
-const PICTURE: &str = "\
-+-------+-----+
-| First | row |
-+-------+-----+
-| Secon | row |
-+-------+-----+";
 
 fn two() -> [[&'static str; 2]; 2] {
     [["First", "row"], ["Second", "row"]]
-}
-
-// Takes so many bytes a call, and so many in all.
-#[derive(Drop)]
-struct Meagre {
-    taken: Vec<u8>,
-    step: usize,
-    room: usize,
-}
-
-impl Write for Meagre {
-    fn write(&mut self, buf: &[u8]) -> io::Result<usize> {
-        let count = buf.len().min(self.step).min(self.room);
-        self.taken.extend_from_slice(&buf[..count])?;
-        self.room -= count;
-        Ok(count)
-    }
-
-    fn flush(&mut self) -> io::Result<()> {
-        Ok(())
-    }
-}
-
-fn make_meagre(alloc: Global, step: usize, room: usize) -> Meagre {
-    Meagre {
-        taken: Vec::new(alloc),
-        step,
-        room,
-    }
 }
 
 // A configuration of ascii borders and these sides.
@@ -64,24 +24,6 @@ fn no_sides() -> Sides<Indent> {
         Indent::zero(),
         Indent::zero(),
     )
-}
-
-#[test]
-fn a_writer_may_stop_anywhere(rt: HostRuntime) -> Result<(), Fail> {
-    let mut table = IterTable::new(two());
-    table.sniff(1);
-    for room in 0..PICTURE.len() {
-        let mut writer = make_meagre(rt.alloc(), 7, room);
-        let mut sink = IoSink::new(&mut writer);
-        assert_eq!(rt; table.fmt(rt.alloc(), &mut sink), Err(TableError::Writer));
-        assert_eq!(rt; sink.failures(), 1);
-        assert!(rt; writer.taken.len() == room);
-        assert!(rt; PICTURE.as_bytes().starts_with(writer.taken.as_slice()));
-    }
-    let mut writer = make_meagre(rt.alloc(), 1, PICTURE.len());
-    assert_eq!(rt; table.build(rt.alloc(), &mut writer), Ok(()));
-    assert_eq!(rt; writer.taken.as_slice(), PICTURE.as_bytes());
-    Ok(())
 }
 
 #[test]

@@ -1,6 +1,5 @@
 //! Readers and writers that fail.
 
-use crate::showing::{assert_picture, picture};
 use std::alloc::Global;
 use std::io;
 use std::io::{Read, Write};
@@ -125,42 +124,5 @@ fn a_failed_write_of_the_word_changes_nothing(rt: HostRuntime) -> Result<(), Fai
     let mut out = Vec::new(rt.alloc());
     let mut input = b"\xFF".as_slice();
     assert_eq!(rt; run(rt.alloc(), &[], &mut input, &mut out, &mut err), 1);
-    Ok(())
-}
-
-// Takes one byte a write.
-#[derive(Drop)]
-struct Slow {
-    taken: Vec<u8>,
-}
-
-impl Write for Slow {
-    fn write(&mut self, buf: &[u8]) -> io::Result<usize> {
-        let count = buf.len().min(1);
-        self.taken.extend_from_slice(&buf[..count])?;
-        Ok(count)
-    }
-
-    fn flush(&mut self) -> io::Result<()> {
-        Ok(())
-    }
-}
-
-const WHOLE: &str = picture! {
-    "+---+---+"
-    "| a | b |"
-    "+---+---+"
-    ""
-};
-
-#[test]
-fn a_slow_writer_gets_all(rt: HostRuntime) -> Result<(), Fail> {
-    let mut out = Slow {
-        taken: Vec::new(rt.alloc()),
-    };
-    let mut err = Vec::new(rt.alloc());
-    let mut input = "a\tb\n".as_bytes();
-    assert_eq!(rt; run(rt.alloc(), &[], &mut input, &mut out, &mut err), 0);
-    assert_picture(&rt, str::from_utf8(out.taken.as_slice())?, WHOLE);
     Ok(())
 }

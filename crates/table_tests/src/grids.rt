@@ -4,7 +4,7 @@ use crate::made::{PICTURE, SIZED};
 use crate::showing::{assert_picture, assert_text};
 use std::alloc::Global;
 use std::test::Fail;
-use table_uses::{PAIRS, Sheet, Sizes, answered, bytes_of, drawn, lent, printed};
+use table_uses::{PAIRS, Sheet, Sizes, answered, bytes_of, drawn, held, lent, printed};
 use tabled_base::TableError;
 
 #[test]
@@ -17,6 +17,13 @@ fn bytes_are_those_of_the_text(rt: HostRuntime) -> Result<(), Fail> {
 #[test]
 fn a_lent_sink_is_a_sink(rt: HostRuntime) -> Result<(), Fail> {
     assert_text(&rt, lent(rt.alloc(), &SIZED), PICTURE)
+}
+
+#[test]
+fn stored_sizes_print_into_a_room_of_fixed_size(rt: HostRuntime) -> Result<(), Fail> {
+    let answer = held(rt.alloc(), &SIZED, PICTURE)?;
+    assert_eq!(rt; answer, (Ok(()), true));
+    Ok(())
 }
 
 const NARROW: TableError = TableError::Narrow { row: 0, column: 0 };

@@ -28,5 +28,3 @@ mod showing;
 mod sized;
 #[cfg(test)]
 mod totals;
-#[cfg(test)]
-mod writers;

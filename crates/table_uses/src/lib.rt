@@ -8,10 +8,9 @@ mod making;
 mod modifying;
 mod sheet;
 mod totals;
-mod writers;
 
 pub use applying::{Stored, broken_off, hinted, picture_of_broken, reconfigured};
-pub use grids::{answered, bytes_of, drawn, lent, printed};
+pub use grids::{answered, bytes_of, drawn, held, lent, printed};
 pub use making::{
     Counts, counts_of, counts_of_none, is_its_copy, is_the_empty_table, of_a_builder, of_fields,
     of_no_pairs, of_no_values, of_one_text, of_pairs, of_rows, of_values, of_values_with_room,
@@ -20,4 +19,3 @@ pub use making::{
 pub use modifying::{Target, joined, joined_picture, modified};
 pub use sheet::{PAIRS, Rows, Sheet, Sizes};
 pub use totals::{leveled, narrows_to_each};
-pub use writers::{held, put_sheet_slowly};

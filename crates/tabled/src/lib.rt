@@ -206,7 +206,10 @@ pub mod settings {
 /// ```
 pub mod grid {
     pub use tabled_compact::{Window, print_compact};
-    pub use tabled_grid::{is_apart_config, is_plain_config, is_plain_records, print_grid};
+    pub use tabled_grid::{
+        is_apart_config, is_plain_config, is_plain_records, print_estimated, print_grid,
+        print_standing,
+    };
 
     /// Marks that colour what they stand around, in a `PoolTable`.
     ///
@@ -230,6 +233,7 @@ pub mod grid {
             CompactConfig, CompactMultilineConfig, Formatting, HorizontalLine, Indent, Sides,
             SpannedConfig,
         };
+        pub use tabled_table::new_config;
     }
 
     /// What answers the sizes of a table.
@@ -253,8 +257,9 @@ pub mod grid {
     pub mod records {
         pub use tabled_base::{
             CellText, ExactRecords, IntoRecords, LentRows, PeekableRecords, Records, RecordsMut,
-            Text, VecRecords,
+            Text, VecRecords, lend_cells,
         };
+        pub use tabled_joined::JoinedRecords;
         pub use tabled_views::{EmptyRecords, IterRecords};
 
         /// Views of records, which are taken row by row.

@@ -1,0 +1,47 @@
+//! The table of rows: a header, and numbers at the right.
+
+use crate::reading::Rows;
+use std::alloc::Global;
+use tabled::TableError;
+use tabled::TextSink;
+use tabled::grid::config::{AlignmentHorizontal, ColoredConfig, Entity, new_config};
+use tabled::grid::dimension::CompleteDimension;
+use tabled::grid::records::lend_cells;
+use tabled::grid::{print_estimated, print_standing};
+use tabled::settings::peaker::Priority;
+use tabled::settings::{Style, TableOption, Width};
+
+/// How the rows stand: in a style, numbers at the right.
+fn settings(alloc: Global, rows: &Rows, style: Style) -> Result<ColoredConfig, TableError> {
+    let mut config = new_config(alloc);
+    for (column, is_number) in rows.are_numbers.iter().enumerate() {
+        if *is_number {
+            let place = Entity::Column(column);
+            config.set_alignment_horizontal(place, AlignmentHorizontal::Right)?;
+        }
+    }
+    let mut config = ColoredConfig::new(config);
+    TableOption::change(style, &mut (), &mut config, &mut ())?;
+    Ok(config)
+}
+
+/// Prints the rows, in at most so many columns a line, where the widest columns give way first and words are kept.
+pub fn put_rows<S: TextSink>(
+    alloc: Global,
+    rows: &Rows,
+    style: Style,
+    width: Option<usize>,
+    sink: &mut S,
+) -> Result<(), TableError> {
+    let mut config = settings(alloc, rows, style)?;
+    let Some(width) = width else {
+        return print_estimated(alloc, sink, &rows.records, config.as_ref());
+    };
+    let mut cells = lend_cells(alloc, &rows.records)?;
+    let mut sizes = CompleteDimension::new(alloc);
+    let narrow = Width::wrap(width).keep_words(true);
+    let narrow = narrow.priority(Priority::max(true));
+    TableOption::change(narrow, &mut cells, &mut config, &mut sizes)?;
+    sizes.clear_height();
+    print_standing(sink, &cells, config.as_ref(), &sizes)
+}
