@@ -2,14 +2,13 @@
 
 use crate::reading::Rows;
 use std::alloc::Global;
-use tabled::TableError;
-use tabled::TextSink;
 use tabled::grid::config::{AlignmentHorizontal, ColoredConfig, Entity, new_config};
 use tabled::grid::dimension::CompleteDimension;
 use tabled::grid::records::lend_cells;
 use tabled::grid::{print_estimated, print_standing};
 use tabled::settings::peaker::Priority;
 use tabled::settings::{Style, TableOption, Width};
+use tabled::{TableError, TextSink};
 
 /// How the rows stand: in a style, numbers at the right.
 fn settings(alloc: Global, rows: &Rows, style: Style) -> Result<ColoredConfig, TableError> {

@@ -82,6 +82,9 @@ fn measures<R: PeekableRecords>(
 fn joined_texts_keep_their_measures(rt: HostRuntime) -> Result<(), Fail> {
     let records = joined(rt.alloc(), &[&["abc\nd", "中"], &[""], &["x", "\n"]])?;
     let wanted = [(3, 2), (2, 1), (0, 1), (0, 1), (1, 1), (0, 2)];
-    assert_eq!(rt; measures(rt.alloc(), &records)?.as_slice(), wanted.as_slice());
+    assert_eq!(rt;
+        measures(rt.alloc(), &records)?.as_slice(),
+        wanted.as_slice()
+    );
     Ok(())
 }

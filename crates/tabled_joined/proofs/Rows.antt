@@ -120,9 +120,10 @@ rows-kept texts added new most rows h e = ap (λ t. rows_in t most rows) e ∙ s
 
 pub there-kept : (texts added new : List (List ℕ)) (most : ℕ) (rows : List JoinedRow) → AreThere (length texts) most rows → new ≡ texts ++ added
     → columns (rows_in texts most rows) ≡ most → AreThere (length new) most rows × (columns (rows_in new most rows) ≡ most)
-there-kept texts added new most rows h e known =
-    (placed-more (length texts) (length new) most most rows h (omega (arith, ap length e, length-append texts added)) (omega arith),
-      ap columns (rows-kept texts added new most rows h e) ∙ known)
+there-kept texts added new most rows h e known = (
+  placed-more (length texts) (length new) most most rows h (omega (arith, ap length e, length-append texts added)) (omega arith),
+  ap columns (rows-kept texts added new most rows h e) ∙ known,
+)
 
 -- rows with a further one
 pub rows-new : (texts added new : List (List ℕ)) (most longer : ℕ) (rows all : List JoinedRow) (row : JoinedRow) → AreThere (length texts) most rows
@@ -136,9 +137,10 @@ pub there-new : (texts added new : List (List ℕ)) (most longer : ℕ) (rows al
     → columns (rows_in texts most rows) ≡ most → new ≡ texts ++ added → row.start ≡ length texts → row.count ≡ length added
     → longer ≡ max most (length added) → all ≡ rows ++ row ∷ [] → AreThere (length new) longer all × (columns (rows_in new longer all) ≡ longer)
 there-new texts added new most longer rows all row h known e start count long last =
-    let grown = ap length e ∙ length-append texts added in
-    (subst (AreThere (length new) longer) (sym last)
-      (placed-new (length texts) (length new) most longer rows row h (omega (arith, grown)) (omega (arith, long))
-        (omega (arith, grown, start, count)) (omega (arith, count, long))),
+    let grown = ap length e ∙ length-append texts added in (
+      subst (AreThere (length new) longer) (sym last)
+          (placed-new (length texts) (length new) most longer rows row h (omega (arith, grown)) (omega (arith, long))
+          (omega (arith, grown, start, count)) (omega (arith, count, long))),
       ap columns (rows-new texts added new most longer rows all row h known e start count long last)
-      ∙ columns-new (rows_in texts most rows) added ∙ omega (arith, known, long))
+          ∙ columns-new (rows_in texts most rows) added ∙ omega (arith, known, long),
+    )

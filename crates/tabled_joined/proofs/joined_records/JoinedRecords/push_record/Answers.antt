@@ -50,8 +50,10 @@ returns-clause-ok g c =
     let same = c.in_ok-push_texts.ensures.ok in
     let added = map g.I.Item.CellText.text same.0 in
     let row : JoinedRow = record { start = c.len-start.result; count = c.len.result - c.len-start.result } in
-    let count : row.count ≡ length added = omega (arith, c.len-start.ensures, c.len.ensures, ap length same.2, length-append r.texts added) in
-    (same.0, same.1,
+    let count : row.count ≡ length added = omega (arith, c.len-start.ensures, c.len.ensures, ap length same.2, length-append r.texts added) in (
+      same.0,
+      same.1,
       rows-new r.texts added c.push_texts.new.texts r.columns c.max-self-inside.result r.rows.items c.push.new.self.items row c.self.invariant.0
-      c.self.invariant.1 same.2 c.len-start.ensures count (omega (arith, count, c.max-self-inside.ensures)) c.in_ok-push.ensures.items
-      ∙ ap (λ cells. with_record cells added) c.self.view_is)
+          c.self.invariant.1 same.2 c.len-start.ensures count (omega (arith, count, c.max-self-inside.ensures)) c.in_ok-push.ensures.items
+          ∙ ap (λ cells. with_record cells added) c.self.view_is,
+    )
