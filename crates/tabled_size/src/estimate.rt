@@ -1,5 +1,5 @@
 //! The widths and heights that the texts of a table ask for.
-ghost use Rattle.std.specs.Prelude.{◌≡◌, ◌⊎◌, ◌<◌, ◌≤◌, ◌^◌, IfOk, IfErr, MatchOption, length, map, max};
+ghost use Rattle.std.specs.Prelude.{◌≡◌, ◌⊎◌, ◌<◌, ◌≤◌, ◌^◌, ℕ, IfOk, IfErr, MatchOption, length, map, max};
 ghost use Rattle.std.specs.List.{range_with_len, slice_index};
 ghost use Rattle.tabled_base.specs.Cells.{IsInside, columns};
 ghost use Rattle.tabled_base.specs.declared.error.TableError.TheVariants.{Memory, Range};
@@ -62,8 +62,34 @@ fn padded_height<R: PeekableRecords>(
     records.count_lines(at).checked_add(sides)
 }
 
-/// Makes room for the cells of a row.
-fn raise_widths<R: PeekableRecords>(
+/// Makes room for the cells of a row that are padded alike.
+fn raise_alike<R: PeekableRecords>(
+    records: &R,
+    config: &SpannedConfig,
+    row: usize,
+    widths: &mut [usize],
+    padding: Sides<Indent>,
+) -> Result<(), TableError>
+    requires row_in { row < length (R.cells records.now) }
+    requires columns { length widths.old ≡ columns (R.cells records.now) }
+    requires alike { (column : ℕ) → (style_at config.now row column).padding ≡ padding }
+    ensures ok { IfOk result (λ _. widths.new ≡ map
+        (λ c. max (slice_index widths.old c) (needed_width (R.cells records.now) config.now row c))
+        (range_with_len 0 (columns (R.cells records.now)))) }
+    ensures err { IfErr result (λ e. (e ≡ Range) × IsTooWide (R.cells records.now) config.now) }
+{
+    'columns: for column in 0..records.count_columns() {
+        let at = Position { row, column };
+        let Some(width) = padded_width(records, config, at, padding) else {
+            return Err(TableError::Range);
+        };
+        widths[column] = widths[column].max(width);
+    }
+    Ok(())
+}
+
+/// Makes room for the cells of a row, each padded as it was set.
+fn raise_each<R: PeekableRecords>(
     records: &R,
     config: &SpannedConfig,
     row: usize,
@@ -87,6 +113,27 @@ fn raise_widths<R: PeekableRecords>(
     Ok(())
 }
 
+/// Makes room for the cells of a row.
+#[inline]
+fn raise_widths<R: PeekableRecords>(
+    records: &R,
+    config: &SpannedConfig,
+    row: usize,
+    widths: &mut [usize],
+) -> Result<(), TableError>
+    requires row_in { row < length (R.cells records.now) }
+    requires columns { length widths.old ≡ columns (R.cells records.now) }
+    ensures ok { IfOk result (λ _. widths.new ≡ map
+        (λ c. max (slice_index widths.old c) (needed_width (R.cells records.now) config.now row c))
+        (range_with_len 0 (columns (R.cells records.now)))) }
+    ensures err { IfErr result (λ e. (e ≡ Range) × IsTooWide (R.cells records.now) config.now) }
+{
+    match config.shared_style() {
+        Some(style) => raise_alike(records, config, row, widths, style.padding),
+        None => raise_each(records, config, row, widths),
+    }
+}
+
 /// The estimated widths, one a column. Refused for memory, or `Range` where a cell's text and padding
 /// pass the greatest `usize`.
 pub fn estimate_widths<R: PeekableRecords>(
@@ -105,12 +152,29 @@ pub fn estimate_widths<R: PeekableRecords>(
     Ok(widths)
 }
 
-/// The lines that the cells of a row need, if a number can say them.
-pub(crate) fn row_height<R: PeekableRecords>(
+/// The lines that the cells of a row need that are padded alike, if a number can say them.
+fn height_alike<R: PeekableRecords>(
     records: &R,
     config: &SpannedConfig,
     row: usize,
+    padding: Sides<Indent>,
 ) -> Option<usize>
+    requires row_in { row < length (R.cells records.now) }
+    requires alike { (column : ℕ) → (style_at config.now row column).padding ≡ padding }
+    ensures { MatchOption result (IsTooHigh (R.cells records.now) config.now)
+        (λ n. n ≡ row_height (R.cells records.now) config.now row) }
+{
+    let mut most: usize = 0;
+    'columns: for column in 0..records.count_columns() {
+        let at = Position { row, column };
+        let height = padded_height(records, config, at, padding)?;
+        most = most.max(height);
+    }
+    Some(most)
+}
+
+/// The lines that the cells of a row need, each padded as it was set, if a number can say them.
+fn height_each<R: PeekableRecords>(records: &R, config: &SpannedConfig, row: usize) -> Option<usize>
     requires { row < length (R.cells records.now) }
     ensures { MatchOption result (IsTooHigh (R.cells records.now) config.now)
         (λ n. n ≡ row_height (R.cells records.now) config.now row) }
@@ -123,6 +187,23 @@ pub(crate) fn row_height<R: PeekableRecords>(
         most = most.max(height);
     }
     Some(most)
+}
+
+/// The lines that the cells of a row need, if a number can say them.
+#[inline]
+pub(crate) fn row_height<R: PeekableRecords>(
+    records: &R,
+    config: &SpannedConfig,
+    row: usize,
+) -> Option<usize>
+    requires { row < length (R.cells records.now) }
+    ensures { MatchOption result (IsTooHigh (R.cells records.now) config.now)
+        (λ n. n ≡ row_height (R.cells records.now) config.now row) }
+{
+    match config.shared_style() {
+        Some(style) => height_alike(records, config, row, style.padding),
+        None => height_each(records, config, row),
+    }
 }
 
 /// The estimated heights, one a row. Refused for memory, or `Range` where a cell's lines and padding

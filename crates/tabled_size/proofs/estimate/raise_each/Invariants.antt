@@ -3,7 +3,7 @@ use Rattle.std.specs.List.{slice_index}
 use Rattle.tabled_config.specs.Settings.{style_at}
 use Rattle.tabled_entity.specs.Changes.{value_at}
 use Rattle.tabled_size.specs.Estimates.{needed_width}
-use Rattle.tabled_size.proofs.estimate.raise_widths.Given as goal
+use Rattle.tabled_size.proofs.estimate.raise_each.Given as goal
 
 abbrev pub invariant-columns : goal.invariant-columns
 invariant-columns g l = record {
