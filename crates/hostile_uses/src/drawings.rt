@@ -5,10 +5,13 @@ use crate::printers::{PAIRS, PICTURE};
 use std::alloc::Global;
 use std::io;
 use tabled::grid::config::{ColoredConfig, CompactConfig, CompactMultilineConfig, SpannedConfig};
-use tabled::grid::dimension::{ConstDimension, ConstSize, DimensionPriority, PoolTableDimension};
+use tabled::grid::dimension::{
+    CompleteDimension, ConstDimension, ConstSize, DimensionPriority, PoolTableDimension,
+};
+use tabled::grid::records::{Text, VecRecords};
 use tabled::grid::{Window, print_compact, print_grid};
 use tabled::settings::object::{Rows, Segment};
-use tabled::settings::{Margin, Padding, Style, Width};
+use tabled::settings::{Margin, Padding, Style, TableOption, Width};
 use tabled::tables::{CompactTable, IterTable, PoolTable, TableValue};
 use tabled::{IoSink, Plan, Table, TableError, TextSink, render_styled};
 
@@ -94,27 +97,29 @@ fn sunk(alloc: Global) -> Result<Found, TableError> {
     ))
 }
 
+// Whether a configuration leaves nothing of a style.
+fn prints_bare<O>(table: &mut Table, config: O) -> Result<bool, TableError>
+where
+    O: TableOption<VecRecords<Text<String>>, ColoredConfig, CompleteDimension>,
+{
+    table.with(Style::markdown())?;
+    table.with(config)?;
+    Ok((*table).to_string()?.as_str() == BARE)
+}
+
+fn are_replaced(alloc: Global, table: &mut Table) -> Result<bool, TableError> {
+    let bare = SpannedConfig::new(alloc);
+    let lent = prints_bare(table, &bare)?;
+    let colored = prints_bare(table, ColoredConfig::new(bare))?;
+    let compact = prints_bare(table, CompactConfig::new())?;
+    let spanned = prints_bare(table, SpannedConfig::new(alloc))?;
+    Ok(lent && colored && compact && spanned)
+}
+
 // Configurations that replace that of a table.
 fn replaced(alloc: Global) -> Result<Found, TableError> {
-    let bare = SpannedConfig::new(alloc);
     let mut table = Table::from_iter(alloc, PAIRS)?;
-    table.with(&bare)?;
-    let lent = table.to_string()?;
-    table.with(Style::markdown())?.with(CompactConfig::new())?;
-    let compact = table.to_string()?;
-    table
-        .with(Style::markdown())?
-        .with(ColoredConfig::new(bare))?;
-    let colored = table.to_string()?;
-    table.with(Style::markdown())?;
-    table.with(SpannedConfig::new(alloc))?;
-    let spanned = table.to_string()?;
-    Ok(whole_if(
-        lent.as_str() == BARE
-            && compact.as_str() == BARE
-            && colored.as_str() == BARE
-            && spanned.as_str() == BARE,
-    ))
+    Ok(whole_if(are_replaced(alloc, &mut table)?))
 }
 
 // Options of some cells, given and lent.

@@ -55,18 +55,29 @@ fn options_narrow(alloc: Global) -> Result<bool, TableError> {
     Ok(wrapped.as_str() == "111 \n234 \n1" && cut.as_str() == "123" && short.as_str() == "H...")
 }
 
-// Rows that are added, set and copied.
-fn added(alloc: Global) -> Result<Found, TableError> {
+fn built(alloc: Global) -> Result<VecRecords<Text<String>>, TableError> {
     let mut builder = Builder::with_capacity(alloc, 2, 2)?;
     builder.add_record(["x", "bb"])?;
     builder.push_record(["ccc"])?;
-    let mut records = builder.build();
+    Ok(builder.build())
+}
+
+fn is_copied(
+    alloc: Global,
+    records: &mut VecRecords<Text<String>>,
+) -> Result<bool, TableError> {
     if records.count_rows() == 0 || records.count_columns() == 0 {
-        return Ok(Found::Wrong("no cell"));
+        return Ok(false);
     }
     records.set(Position::new(0, 0), String::from_str(alloc, "a")?)?;
     let copy = records.clone()?;
-    let is_same = copy == records && copy == Builder::from_iter(alloc, PAIRS)?.build();
+    Ok(copy == *records && copy == Builder::from_iter(alloc, PAIRS)?.build())
+}
+
+// Rows that are added, set and copied.
+fn added(alloc: Global) -> Result<Found, TableError> {
+    let mut records = built(alloc)?;
+    let is_same = is_copied(alloc, &mut records)?;
     let picture = Table::from(Builder::from(records)).to_string()?;
     Ok(whole_if(is_same && picture.as_str() == PICTURE))
 }
@@ -198,65 +209,78 @@ fn configured(alloc: Global) -> Result<Found, TableError> {
     Ok(whole_if(is_set && whole.clone()? == same))
 }
 
-// Sizes that are estimated, stored and copied.
-fn estimated(alloc: Global) -> Result<Found, TableError> {
-    let table = Table::from_iter(alloc, PAIRS)?;
+fn are_estimated(alloc: Global, table: &Table) -> Result<bool, TableError> {
     let (records, config) = (table.get_records(), table.get_config());
     let mut sizes = CompleteDimension::new(alloc);
     sizes.estimate(records, config.as_ref())?;
     let mut colored = CompleteDimension::new(alloc);
     colored.estimate(records, config)?;
     let copy = sizes.clone()?;
-    Ok(whole_if(
-        copy == colored
-            && copy.get_widths() == Some(&[5, 4])
-            && copy.get_heights() == Some(&[1, 1]),
-    ))
+    let is_same = copy == colored;
+    Ok(is_same && copy.get_widths() == Some(&[5, 4]) && copy.get_heights() == Some(&[1, 1]))
+}
+
+// Sizes that are estimated, stored and copied.
+fn estimated(alloc: Global) -> Result<Found, TableError> {
+    let table = Table::from_iter(alloc, PAIRS)?;
+    Ok(whole_if(are_estimated(alloc, &table)?))
+}
+
+fn is_listed(alloc: Global, table: &Table) -> Result<bool, TableError> {
+    let list = DimensionValue::List(Vec::from_slice(alloc, &[7, 8])?);
+    let mut sizes = StaticDimension::new(list.clone()?, DimensionValue::Exact(3)).clone()?;
+    sizes.estimate(table.get_records(), table.get_config())?;
+    Ok(sizes.has_width(1) && sizes.get_width(1) == 8)
+}
+
+fn is_fixed(table: &Table) -> Result<bool, TableError> {
+    let (records, config) = (table.get_records(), table.get_config());
+    let mut fixed = ConstDimension::new(ConstSize::List([5, 4]), ConstSize::Value::<0>(1));
+    fixed.estimate(records, config)?;
+    ZeroDimension::new().estimate(records, config)?;
+    Ok(fixed.has_width(0) && fixed.get_width(0) == 5)
 }
 
 // Sizes that are given, which estimating leaves as they are.
 fn sized(alloc: Global) -> Result<Found, TableError> {
     let table = Table::from_iter(alloc, PAIRS)?;
-    let (records, config) = (table.get_records(), table.get_config());
-    let list = DimensionValue::List(Vec::from_slice(alloc, &[7, 8])?);
-    let mut sizes = StaticDimension::new(list.clone()?, DimensionValue::Exact(3)).clone()?;
-    sizes.estimate(records, config)?;
-    let mut fixed = ConstDimension::new(ConstSize::List([5, 4]), ConstSize::Value::<0>(1));
-    fixed.estimate(records, config)?;
-    ZeroDimension::new().estimate(records, config)?;
-    Ok(whole_if(
-        sizes.has_width(1)
-            && sizes.get_width(1) == 8
-            && fixed.has_width(0)
-            && fixed.get_width(0) == 5,
-    ))
+    let is_listed = is_listed(alloc, &table)?;
+    Ok(whole_if(is_listed && is_fixed(&table)?))
+}
+
+fn measured_across(table: &Table) -> Result<[usize; 4], TableError> {
+    let (records, config) = (table.get_records(), table.get_config().as_ref());
+    Ok([
+        Measurement::<Width>::measure(&9, records, config)?,
+        Measurement::<Width>::measure(&Max, records, config)?,
+        Measurement::<Width>::measure(&Min, records, config)?,
+        Measurement::<Width>::measure(&Percent(50), records, config)?,
+    ])
 }
 
 // What a table measures across, and a list of widths.
 fn across(alloc: Global) -> Result<Found, TableError> {
     let mut table = Table::from_iter(alloc, PAIRS)?;
-    let (records, config) = (table.get_records(), table.get_config().as_ref());
-    let measures = [
-        Measurement::<Width>::measure(&9, records, config)?,
-        Measurement::<Width>::measure(&Max, records, config)?,
-        Measurement::<Width>::measure(&Min, records, config)?,
-        Measurement::<Width>::measure(&Percent(50), records, config)?,
-    ];
+    let measures = measured_across(&table)?;
     table.with(Width::list(alloc, [6, 5])?)?;
     let is_wide = table.total_width()? == 14;
     Ok(whole_if(is_wide && measures == [9, 3, 1, 6]))
 }
 
-// What it measures down, and a list of heights.
-fn down(alloc: Global) -> Result<Found, TableError> {
-    let mut table = Table::from_iter(alloc, PAIRS)?;
+fn measured_down(table: &Table) -> Result<[usize; 4], TableError> {
     let (records, config) = (table.get_records(), table.get_config().as_ref());
-    let measures = [
+    Ok([
         Measurement::<Height>::measure(&9, records, config)?,
         Measurement::<Height>::measure(&Max, records, config)?,
         Measurement::<Height>::measure(&Min, records, config)?,
         Measurement::<Height>::measure(&Percent(50), records, config)?,
-    ];
+    ])
+}
+
+// What it measures down, and a list of heights.
+fn down(alloc: Global) -> Result<Found, TableError> {
+    let mut table = Table::from_iter(alloc, PAIRS)?;
+    let measures = measured_down(&table)?;
     table.with(Height::list(alloc, [2, 3])?)?;
     let is_high = table.total_height()? == 8;
     Ok(whole_if(is_high && measures == [9, 1, 1, 2]))

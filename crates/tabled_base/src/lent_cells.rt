@@ -54,8 +54,8 @@ fn lend_cell<R: PeekableRecords>(records: &R, at: Position) -> Text<CowStr<'_, G
     requires { IsInside (R.cells records.now) at.row at.column }
     ensures { result ≡ cell_at (R.cells records.now) at.row at.column }
 {
-    let text = CowStr::Borrowed(records.get_text(at));
-    Text::measured(text, records.get_width(at), records.count_lines(at))
+    let (text, columns, lines) = records.get_measured(at);
+    Text::measured(CowStr::Borrowed(text), columns, lines)
 }
 
 /// A cell that is set owns its new text. Setting takes no memory.

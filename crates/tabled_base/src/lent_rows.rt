@@ -153,4 +153,12 @@ impl<'a> PeekableRecords for LentRows<'a> {
         let _cell = self.cell(at);
         1
     }
+
+    #[inline(always)]
+    fn get_measured(&self, at: Position) -> (&str, usize, usize) {
+        match self.cell(at) {
+            Some((text, columns)) => (text, columns, 1),
+            None => ("", 0, 1),
+        }
+    }
 }

@@ -115,6 +115,16 @@ pub trait PeekableRecords: ExactRecords {
     fn count_lines(&self, at: Position) -> usize
         requires { IsInside (Self.cells self.now) at.row at.column }
         ensures { result ≡ length (lines_of (cell_at (Self.cells self.now) at.row at.column)) };
+
+    /// The text of a cell, its columns and its lines, by one look-up where records keep them together.
+    fn get_measured(&self, at: Position) -> (&str, usize, usize)
+        requires { IsInside (Self.cells self.now) at.row at.column }
+        ensures text { result.0.now ≡ cell_at (Self.cells self.now) at.row at.column }
+        ensures columns { result.1 ≡ text_columns (cell_at (Self.cells self.now) at.row at.column) }
+        ensures lines { result.2 ≡ length (lines_of (cell_at (Self.cells self.now) at.row at.column)) }
+    {
+        (self.get_text(at), self.get_width(at), self.count_lines(at))
+    }
 }
 
 /// Cells that can be changed.

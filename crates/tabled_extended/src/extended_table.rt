@@ -6,11 +6,22 @@ use crate::template::RecordTemplate;
 use tabled_base::Text;
 
 /// A table that shows each record by itself: a header, and a line for each of its values behind the field's name.
-#[derive(Debug, Drop)]
+#[derive(Debug)]
 pub struct ExtendedTable<F = RecordTemplate> {
     pub(crate) fields: Vec<Text<String>>,
     pub(crate) records: Vec<Vec<Text<String>>>,
     pub(crate) template: F,
+}
+
+/// One call lets a table go, so that whoever lets it go needn't prove it of each part.
+impl<F: Drop> Drop for ExtendedTable<F> {
+    fn drop(self) {
+        let ExtendedTable {
+            fields: _,
+            records: _,
+            template: _,
+        } = self;
+    }
 }
 
 impl<F: Drop> ExtendedTable<F> {

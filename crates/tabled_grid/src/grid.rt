@@ -129,10 +129,11 @@ impl<'a, R: PeekableRecords, D: Dimension> Grid<'a, R, D> {
         requires { IsInside self.now.cells at.row at.column }
         ensures { result.text.now ≡ cell_at self.now.cells at.row at.column }
     {
+        let (text, columns, lines) = self.records.get_measured(at);
         Content {
-            text: self.records.get_text(at),
-            columns: self.records.get_width(at),
-            lines: self.records.count_lines(at),
+            text,
+            columns,
+            lines,
         }
     }
 

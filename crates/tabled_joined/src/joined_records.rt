@@ -140,4 +140,12 @@ impl PeekableRecords for JoinedRecords {
             None => 1,
         }
     }
+
+    #[inline(always)]
+    fn get_measured(&self, at: Position) -> (&str, usize, usize) {
+        match self.cell(at) {
+            Some(told) => told,
+            None => ("", 0, 1),
+        }
+    }
 }

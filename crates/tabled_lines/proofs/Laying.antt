@@ -1,17 +1,19 @@
 -- Rows that are laid over a blank one.
-use Rattle.std.proofs.Common.{◌≡◌, ℕ, suc, ◌+◌, ◌-◌, ◌<◌, ◌≤◌, List, [], ◌∷◌, ◌++◌, length, take, drop, map, refl, sym, ◌∙◌, ap, subst, append-nil, append_assoc, arith, lit<}
+use Rattle.std.proofs.Common.{◌≡◌, ℕ, suc, ◌+◌, ◌-◌, ◌<◌, ◌≤◌, List, [], ◌∷◌, ◌++◌, length, get_or, take, drop, map, refl, sym, ◌∙◌, ap, subst, append-nil, append_assoc, arith, lit<}
 use Rattle.std.specs.List.{flat_map, range_with_len}
 use Rattle.std.proofs.Math.Seq.{take-append_seam, drop-append-add, drop-append_seam}
-use Rattle.std.proofs.lemmas.List.{length-append}
+use Rattle.std.specs.Str.{IsCharBoundary, IsUtf8}
+use Rattle.std.proofs.lemmas.List.{get_or-append-add, length-append, take-append-drop}
+use Rattle.std.proofs.lemmas.Str.{IsCharBoundary-after_ascii, IsCharBoundary-before_ascii, IsUtf8-append, IsUtf8-drop, IsUtf8-take}
 use Rattle.tabled_config.specs.declared.spanned.CellStyle.{CellStyle}
 use Rattle.tabled_border.specs.Frame.{has_bar}
 use Rattle.tabled_row.specs.Fill.{fill}
 use Rattle.tabled_row.specs.Flush.{laid_text}
-use Rattle.tabled_lines.specs.Laid.{IsFlushOver, StandsAt, blank_line, blank_row}
+use Rattle.tabled_lines.specs.Laid.{IsFlushLine, StandsAt, blank_line, blank_row, first_place}
 use Rattle.tabled_row.specs.Row.{ColumnSheet, RowSheet, cell_piece, left_edge, piece, right_edge, row_line, row_lines, rule_line, rule_piece}
 use Rattle.tabled_row.proofs.Bars.{later-bar}
 use Rattle.tabled_row.proofs.Each.{each-more}
-use Rattle.tabled_row.proofs.Fills.{fill-length, fill-parts}
+use Rattle.tabled_row.proofs.Fills.{fill-first_bytes, fill-length, fill-parts}
 use Rattle.tabled_row.proofs.Flushing.{IsFlushRow, cell-flush}
 
 -- a text of n bytes in the place of n of w spaces
@@ -40,6 +42,31 @@ stands-long {bytes} {place} n h =
     let w = ap length h.whole in
     omega (arith, b, w, length-append h.front (fill 32 n ++ h.back), length-append (fill 32 n) h.back, fill-length 32 n (lit< tt))
 
+-- each byte of spaces that stand somewhere is one of ASCII
+space-at : {bytes : List ℕ} {place : ℕ} (w j : ℕ) → StandsAt bytes place (fill 32 w) → j < w → get_or bytes (place + j) 0 < 128
+space-at {bytes} {place} w j h l =
+    let e : get_or bytes (place + j) 0 ≡ get_or (fill 32 w ++ h.back) j 0 =
+    ap (λ n. get_or bytes (n + j) 0) h.begins ∙ ap (λ b. get_or b (length h.front + j) 0) h.whole
+    ∙ get_or-append-add h.front (fill 32 w ++ h.back) j 0 in
+    rw e (fill-first_bytes 32 w j h.back (lit< tt) l)
+
+-- a text over spaces of a text leaves a text
+pub laid-utf8 : (bytes text : List ℕ) (place k w : ℕ) → StandsAt bytes place (fill 32 w) → k + length text ≤ w → IsUtf8 text → IsUtf8 bytes
+    → IsUtf8 (take (place + k) bytes ++ (text ++ drop (place + k + length text) bytes))
+laid-utf8 bytes [] place k w h l t u =
+    let e : place + k + 0 ≡ place + k = omega arith in
+    subst IsUtf8 (sym (ap (λ n. take (place + k) bytes ++ drop n bytes) e ∙ take-append-drop (place + k) bytes)) u
+laid-utf8 bytes (b ∷ bs) place k w h l t u =
+    let long = stands-long w h in
+    let n = length bs in
+    let last : k + n < w = omega arith in
+    let first = IsCharBoundary-before_ascii bytes (place + k) (omega arith) (space-at w k h (omega arith)) in
+    let byte : get_or bytes (place + k + n) 0 < 128 = (let e : place + k + n ≡ place + (k + n) = omega arith in rw e (space-at w (k + n) h last)) in
+    let behind : place + k + n + 1 ≡ place + k + suc n = omega arith in
+    let after = subst (IsCharBoundary bytes) behind (IsCharBoundary-after_ascii bytes (place + k + n) u (omega arith) byte) in
+    IsUtf8-append (take (place + k) bytes) ((b ∷ bs) ++ drop (place + k + suc n) bytes) (IsUtf8-take bytes (place + k) u first)
+    (IsUtf8-append (b ∷ bs) (drop (place + k + suc n) bytes) t (IsUtf8-drop bytes (place + k + suc n) u after))
+
 pub laid-length : (l r : ℕ) (text : List ℕ) → length (fill 32 l ++ (text ++ fill 32 r)) ≡ l + (length text + r)
 laid-length l r text =
     omega (arith, length-append (fill 32 l) (text ++ fill 32 r), length-append text (fill 32 r), fill-length 32 l (lit< tt), fill-length 32 r (lit< tt))
@@ -54,26 +81,27 @@ blank-parts e l p r a b c none one two three =
 -- ---- a row while its texts are laid, up to a column
 
 -- the edge and the cells before the column
-abbrev pub laid_part : ColumnSheet → RowSheet → ℕ → List ℕ
-laid_part cs rs column = left_edge cs.frame cs.frame.left.main ++ flat_map (cell_piece rs 0) (range_with_len 0 column)
+abbrev pub laid_part : RowSheet → ℕ → List ℕ
+laid_part rs column = left_edge rs.columns.frame rs.columns.frame.left.main ++ flat_map (cell_piece rs 0) (range_with_len 0 column)
 
 -- and the vertical line before it
-abbrev pub front : ColumnSheet → RowSheet → ℕ → List ℕ
-front cs rs column = laid_part cs rs column ++ piece (has_bar cs.frame column) cs.frame.inner.main
+abbrev pub front : RowSheet → ℕ → List ℕ
+front rs column = laid_part rs column ++ piece (has_bar rs.columns.frame column) rs.columns.frame.inner.main
 
 -- the blank cells from a column on, and the edge
 abbrev pub blank_from : ColumnSheet → ℕ → ℕ → List ℕ
 blank_from cs column count = flat_map (rule_piece cs (blank_line cs.frame)) (range_with_len column count) ++ right_edge cs.frame cs.frame.right.main
 
 -- the cells before the column are laid, those from it on are blank
-pub record IsLaid (cs : ColumnSheet) (rs : RowSheet) (line : List ℕ) (place before column : ℕ) : Type 0 where
-  pub whole : line ≡ laid_part cs rs column ++ blank_from cs column (cs.count - column)
-  pub begins : place ≡ length (laid_part cs rs column)
-  pub bar : before ≡ length (piece (has_bar cs.frame column) cs.frame.inner.main)
+pub record IsLaid (rs : RowSheet) (line : List ℕ) (place before column : ℕ) : Type 0 where
+  pub whole : line ≡ laid_part rs column ++ blank_from rs.columns column (rs.columns.count - column)
+  pub begins : place ≡ length (laid_part rs column)
+  pub bar : before ≡ length (piece (has_bar rs.columns.frame column) rs.columns.frame.inner.main)
 
-pub laid-none : (cs : ColumnSheet) (rs : RowSheet) (line : List ℕ) (place : ℕ) → line ≡ blank_row cs → place ≡ length (left_edge cs.frame cs.frame.left.main) → IsLaid cs rs line place 0 0
+pub laid-none : (rs : RowSheet) (line : List ℕ) (place : ℕ) → line ≡ blank_row rs.columns → place ≡ first_place rs.columns → IsLaid rs line place 0 0
 unfolding rule_line
-laid-none cs rs line place blank start =
+laid-none rs line place blank start =
+    let cs = rs.columns in
     let edge = left_edge cs.frame cs.frame.left.main in
     let e : cs.count ≡ cs.count - 0 = omega arith in
     record {
@@ -83,73 +111,81 @@ laid-none cs rs line place blank start =
     }
 
 -- the blank columns of the next cell
-pub laid-next : {cs : ColumnSheet} {rs : RowSheet} {line : List ℕ} {place before column : ℕ} → IsLaid cs rs line place before column → column < cs.count
-    → line ≡ front cs rs column ++ (fill 32 (cs.width column) ++ blank_from cs (column + 1) (cs.count - column - 1))
+pub laid-next : {rs : RowSheet} {line : List ℕ} {place before column : ℕ} → IsLaid rs line place before column → column < rs.columns.count
+    → line ≡ front rs column ++ (fill 32 (rs.columns.width column) ++ blank_from rs.columns (column + 1) (rs.columns.count - column - 1))
 unfolding rule_piece
-laid-next {cs} {rs} {line} {place} {before} {column} h l =
+laid-next {rs} {line} {place} {before} {column} h l =
+    let cs = rs.columns in
     let e : cs.count - column ≡ suc (cs.count - column - 1) = omega arith in
-    h.whole ∙ ap (λ n. laid_part cs rs column ++ blank_from cs column n) e
-    ∙ regroup (laid_part cs rs column) (piece (has_bar cs.frame column) cs.frame.inner.main) (fill 32 (cs.width column))
+    h.whole ∙ ap (λ n. laid_part rs column ++ blank_from cs column n) e
+    ∙ regroup (laid_part rs column) (piece (has_bar cs.frame column) cs.frame.inner.main) (fill 32 (cs.width column))
     (flat_map (rule_piece cs (blank_line cs.frame)) (range_with_len (column + 1) (cs.count - column - 1))) (right_edge cs.frame cs.frame.right.main)
   where
     regroup : (a b c d e : List ℕ) → a ++ (((b ++ c) ++ d) ++ e) ≡ (a ++ b) ++ (c ++ (d ++ e))
     regroup a b c d e = simp append_assoc
 
-pub laid-begins : {cs : ColumnSheet} {rs : RowSheet} {line : List ℕ} {place before column : ℕ} → IsLaid cs rs line place before column → place + before ≡ length (front cs rs column)
-laid-begins {cs} {rs} {line} {place} {before} {column} h =
+pub laid-begins : {rs : RowSheet} {line : List ℕ} {place before column : ℕ} → IsLaid rs line place before column → place + before ≡ length (front rs column)
+laid-begins {rs} {line} {place} {before} {column} h =
     let b = h.begins in
     let p = h.bar in
-    omega (arith, b, p, length-append (laid_part cs rs column) (piece (has_bar cs.frame column) cs.frame.inner.main))
+    omega (arith, b, p, length-append (laid_part rs column) (piece (has_bar rs.columns.frame column) rs.columns.frame.inner.main))
 
-pub laid-stands : {cs : ColumnSheet} {rs : RowSheet} {line : List ℕ} {place before column : ℕ} → IsLaid cs rs line place before column → column < cs.count
-    → StandsAt line (place + before) (fill 32 (cs.width column))
-laid-stands {cs} {rs} {line} {place} {before} {column} h l =
-    record { front = front cs rs column; back = blank_from cs (column + 1) (cs.count - column - 1); whole = laid-next h l; begins = laid-begins h }
+pub laid-stands : {rs : RowSheet} {line : List ℕ} {place before column : ℕ} → IsLaid rs line place before column → column < rs.columns.count
+    → StandsAt line (place + before) (fill 32 (rs.columns.width column))
+laid-stands {rs} {line} {place} {before} {column} h l =
+    record { front = front rs column; back = blank_from rs.columns (column + 1) (rs.columns.count - column - 1); whole = laid-next h l; begins = laid-begins h }
 
-flush-row : {cs : ColumnSheet} {rs : RowSheet} {s : CellStyle} → IsFlushOver cs rs s → IsFlushRow rs s
-flush-row p = record { flush = p.flush; shared = p.shared; height = p.height }
-
--- the text of a column was laid
-pub laid-more : {cs : ColumnSheet} {rs : RowSheet} {line : List ℕ} {place before column : ℕ} (s : CellStyle) (next : List ℕ) (stop bar : ℕ)
-    → IsFlushOver cs rs s → IsLaid cs rs line place before column → column < cs.count
-    → next ≡ front cs rs column ++ (laid_text rs s column ++ blank_from cs (column + 1) (cs.count - column - 1))
-    → stop ≡ length (front cs rs column) + length (laid_text rs s column)
-    → bar ≡ length (piece cs.frame.inner.there cs.frame.inner.main) → IsLaid cs rs next stop bar (column + 1)
-laid-more {cs} {rs} {line} {place} {before} {column} s next stop bar p h l whole stops same =
+-- a cell was laid
+pub laid-one : {rs : RowSheet} {line : List ℕ} {place before column : ℕ} (laid next : List ℕ) (stop bar : ℕ)
+    → cell_piece rs 0 column ≡ piece (has_bar rs.columns.frame column) rs.columns.frame.inner.main ++ laid
+    → IsLaid rs line place before column → column < rs.columns.count
+    → next ≡ front rs column ++ (laid ++ blank_from rs.columns (column + 1) (rs.columns.count - column - 1))
+    → stop ≡ length (front rs column) + length laid
+    → bar ≡ length (piece rs.columns.frame.inner.there rs.columns.frame.inner.main) → IsLaid rs next stop bar (column + 1)
+laid-one {rs} {line} {place} {before} {column} laid next stop bar cell h l whole stops same =
+    let cs = rs.columns in
     let f = cs.frame in
-    let laid = laid_text rs s column in
-    let within : column < rs.columns.count = (let c = p.count in omega arith) in
-    let cell : cell_piece rs 0 column ≡ piece (has_bar f column) f.inner.main ++ laid =
-    cell-flush rs s column (flush-row p) within ∙ ap (λ k. piece (has_bar k column) k.inner.main ++ laid) p.frame in
     let cells = flat_map (cell_piece rs 0) (range_with_len 0 column) in
     let edge = left_edge f f.left.main in
-    let more : laid_part cs rs (column + 1) ≡ front cs rs column ++ laid =
+    let more : laid_part rs (column + 1) ≡ front rs column ++ laid =
     ap (λ u. edge ++ u) (each-more (cell_piece rs 0) column) ∙ ap (λ u. edge ++ (cells ++ u)) cell
     ∙ regroup edge cells (piece (has_bar f column) f.inner.main) laid in
     let e : cs.count - column - 1 ≡ cs.count - (column + 1) = omega arith in
     let later : has_bar f (column + 1) ≡ f.inner.there = (let P : ℕ → Type 0 = λ k. has_bar f k ≡ f.inner.there in let g : suc column ≡ column + 1 = omega arith in subst P g (later-bar column f.inner.there)) in
     record {
-      whole = whole ∙ sym (append_assoc (front cs rs column) laid (blank_from cs (column + 1) (cs.count - column - 1)))
+      whole = whole ∙ sym (append_assoc (front rs column) laid (blank_from cs (column + 1) (cs.count - column - 1)))
           ∙ ap (λ u. u ++ blank_from cs (column + 1) (cs.count - column - 1)) (sym more)
-          ∙ ap (λ n. laid_part cs rs (column + 1) ++ blank_from cs (column + 1) n) e;
-      begins = stops ∙ sym (length-append (front cs rs column) laid) ∙ ap length (sym more);
+          ∙ ap (λ n. laid_part rs (column + 1) ++ blank_from cs (column + 1) n) e;
+      begins = stops ∙ sym (length-append (front rs column) laid) ∙ ap length (sym more);
       bar = same ∙ ap (λ b. length (piece b f.inner.main)) (sym later);
     }
   where
     regroup : (a b c d : List ℕ) → a ++ (b ++ (c ++ d)) ≡ ((a ++ b) ++ c) ++ d
     regroup a b c d = simp append_assoc
 
+flush-row : {rs : RowSheet} {s : CellStyle} → IsFlushLine rs s → IsFlushRow rs s
+flush-row p = record { flush = p.flush; shared = p.shared; height = p.height }
+
+-- the text of a column was laid
+pub laid-more : {rs : RowSheet} {line : List ℕ} {place before column : ℕ} (s : CellStyle) (next : List ℕ) (stop bar : ℕ)
+    → IsFlushLine rs s → IsLaid rs line place before column → column < rs.columns.count
+    → next ≡ front rs column ++ (laid_text rs s column ++ blank_from rs.columns (column + 1) (rs.columns.count - column - 1))
+    → stop ≡ length (front rs column) + length (laid_text rs s column)
+    → bar ≡ length (piece rs.columns.frame.inner.there rs.columns.frame.inner.main) → IsLaid rs next stop bar (column + 1)
+laid-more {rs} {line} {place} {before} {column} s next stop bar p h l whole stops same =
+    laid-one (laid_text rs s column) next stop bar (cell-flush rs s column (flush-row p) l) h l whole stops same
+
 -- all texts were laid
-pub laid-all : {cs : ColumnSheet} {rs : RowSheet} {line : List ℕ} {place before column : ℕ} (s : CellStyle) → IsFlushOver cs rs s → IsLaid cs rs line place before column → column ≡ rs.columns.count → line ≡ row_line rs 0
+pub laid-all : {rs : RowSheet} {line : List ℕ} {place before column : ℕ} → IsLaid rs line place before column → column ≡ rs.columns.count → line ≡ row_line rs 0
 unfolding row_line
-laid-all {cs} {rs} {line} {place} {before} {column} s p h all =
+laid-all {rs} {line} {place} {before} {column} h all =
+    let cs = rs.columns in
+    let f = cs.frame in
     let cells = flat_map (cell_piece rs 0) (range_with_len 0 column) in
-    let none : cs.count - column ≡ 0 = (let c = p.count in omega arith) in
-    h.whole ∙ ap (λ n. laid_part cs rs column ++ blank_from cs column n) none
-    ∙ append_assoc (left_edge cs.frame cs.frame.left.main) cells (right_edge cs.frame cs.frame.right.main)
-    ∙ ap (λ f. left_edge f f.left.main ++ (cells ++ right_edge f f.right.main)) (sym p.frame)
-    ∙ ap (λ n. left_edge rs.columns.frame rs.columns.frame.left.main
-    ++ (flat_map (cell_piece rs 0) (range_with_len 0 n) ++ right_edge rs.columns.frame rs.columns.frame.right.main)) all
+    let none : cs.count - column ≡ 0 = omega arith in
+    h.whole ∙ ap (λ n. laid_part rs column ++ blank_from cs column n) none
+    ∙ append_assoc (left_edge f f.left.main) cells (right_edge f f.right.main)
+    ∙ ap (λ n. left_edge f f.left.main ++ (flat_map (cell_piece rs 0) (range_with_len 0 n) ++ right_edge f f.right.main)) all
 
 -- a row of one line has that line alone
 pub one-row_line : (rs : RowSheet) → rs.height ≡ 1 → row_lines rs ≡ row_line rs 0 ∷ []

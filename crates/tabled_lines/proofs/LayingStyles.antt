@@ -1,7 +1,5 @@
 -- Rows of one line whose texts are laid over a blank one, each as its style says.
-use Rattle.std.proofs.Common.{◌≡◌, ℕ, suc, ◌+◌, ◌-◌, ◌<◌, ◌≤◌, Bool, true, false, cond, List, [], ◌++◌, length, get_or, slice_get, refl, sym, ◌∙◌, ap, subst, append_assoc, arith}
-use Rattle.std.specs.List.{flat_map, range_with_len}
-use Rattle.std.proofs.lemmas.List.{length-append}
+use Rattle.std.proofs.Common.{◌≡◌, ℕ, ◌+◌, ◌-◌, ◌<◌, ◌≤◌, Bool, true, false, cond, List, [], ◌++◌, length, get_or, slice_get, refl, sym, ◌∙◌, ap, append_assoc, arith}
 use Rattle.std.proofs.lemmas.Option.{slice_get-get_or}
 use Rattle.tabled_text.specs.Measure.{line_columns, lines_of, text_columns}
 use Rattle.tabled_text.proofs.Bridge.{some_line}
@@ -13,15 +11,12 @@ use Rattle.tabled_config.specs.declared.spanned.CellStyle.{CellStyle}
 use Rattle.tabled_row.specs.Block.{before_text, block, cell_line, columns_before, fill_above, text_room}
 use Rattle.tabled_row.specs.Fill.{fill, indent}
 use Rattle.tabled_row.specs.Flush.{first_line}
-use Rattle.tabled_lines.specs.Laid.{IsOneLineOver}
 use Rattle.tabled_lines.specs.LaidStyles.{IsSpaced, first_of_block}
-use Rattle.tabled_row.specs.Row.{ColumnSheet, RowSheet, cell_piece, left_edge, piece, right_edge, row_line}
-use Rattle.tabled_row.proofs.Bars.{later-bar}
+use Rattle.tabled_row.specs.Row.{RowSheet, cell_piece, piece}
 use Rattle.tabled_row.proofs.Blocks.{block-text}
-use Rattle.tabled_row.proofs.Each.{each-more}
 use Rattle.tabled_row.proofs.Fills.{fill-add}
 use Rattle.tabled_row.proofs.Flushing.{above-none}
-use Rattle.tabled_lines.proofs.Laying.{IsLaid, blank_from, front, laid_part}
+use Rattle.tabled_lines.proofs.Laying.{IsLaid, blank_from, front, laid-one}
 
 pub before-within : (h : AlignmentHorizontal) (n : ℕ) → before_text h n ≤ n
 before-within horizontal.Left n = omega arith
@@ -87,42 +82,11 @@ first-spaced row column s same height h widest =
     ∙ ap (λ n. get_or (block s w n text) 0 []) height ∙ block-spaced s w text h widest
 
 -- the text of a column was laid
-pub laid-by-style : {cs : ColumnSheet} {rs : RowSheet} {line : List ℕ} {place before column : ℕ} (next : List ℕ) (stop bar : ℕ)
-    → IsOneLineOver cs rs → IsLaid cs rs line place before column → column < cs.count
-    → next ≡ front cs rs column ++ (first_of_block rs column ++ blank_from cs (column + 1) (cs.count - column - 1))
-    → stop ≡ length (front cs rs column) + length (first_of_block rs column)
-    → bar ≡ length (piece cs.frame.inner.there cs.frame.inner.main) → IsLaid cs rs next stop bar (column + 1)
+pub laid-by-style : {rs : RowSheet} {line : List ℕ} {place before column : ℕ} (next : List ℕ) (stop bar : ℕ)
+    → IsLaid rs line place before column → column < rs.columns.count
+    → next ≡ front rs column ++ (first_of_block rs column ++ blank_from rs.columns (column + 1) (rs.columns.count - column - 1))
+    → stop ≡ length (front rs column) + length (first_of_block rs column)
+    → bar ≡ length (piece rs.columns.frame.inner.there rs.columns.frame.inner.main) → IsLaid rs next stop bar (column + 1)
 unfolding cell_piece
-laid-by-style {cs} {rs} {line} {place} {before} {column} next stop bar p h l whole stops same =
-    let f = cs.frame in
-    let laid = first_of_block rs column in
-    let cell : cell_piece rs 0 column ≡ piece (has_bar f column) f.inner.main ++ laid = ap (λ k. piece (has_bar k column) k.inner.main ++ laid) p.frame in
-    let cells = flat_map (cell_piece rs 0) (range_with_len 0 column) in
-    let edge = left_edge f f.left.main in
-    let more : laid_part cs rs (column + 1) ≡ front cs rs column ++ laid =
-    ap (λ u. edge ++ u) (each-more (cell_piece rs 0) column) ∙ ap (λ u. edge ++ (cells ++ u)) cell
-    ∙ regroup edge cells (piece (has_bar f column) f.inner.main) laid in
-    let e : cs.count - column - 1 ≡ cs.count - (column + 1) = omega arith in
-    let later : has_bar f (column + 1) ≡ f.inner.there = (let P : ℕ → Type 0 = λ k. has_bar f k ≡ f.inner.there in let g : suc column ≡ column + 1 = omega arith in subst P g (later-bar column f.inner.there)) in
-    record {
-      whole = whole ∙ sym (append_assoc (front cs rs column) laid (blank_from cs (column + 1) (cs.count - column - 1)))
-          ∙ ap (λ u. u ++ blank_from cs (column + 1) (cs.count - column - 1)) (sym more)
-          ∙ ap (λ n. laid_part cs rs (column + 1) ++ blank_from cs (column + 1) n) e;
-      begins = stops ∙ sym (length-append (front cs rs column) laid) ∙ ap length (sym more);
-      bar = same ∙ ap (λ b. length (piece b f.inner.main)) (sym later);
-    }
-  where
-    regroup : (a b c d : List ℕ) → a ++ (b ++ (c ++ d)) ≡ ((a ++ b) ++ c) ++ d
-    regroup a b c d = simp append_assoc
-
--- all texts were laid
-pub laid-by-styles : {cs : ColumnSheet} {rs : RowSheet} {line : List ℕ} {place before column : ℕ} → IsOneLineOver cs rs → IsLaid cs rs line place before column → column ≡ rs.columns.count → line ≡ row_line rs 0
-unfolding row_line
-laid-by-styles {cs} {rs} {line} {place} {before} {column} p h all =
-    let cells = flat_map (cell_piece rs 0) (range_with_len 0 column) in
-    let none : cs.count - column ≡ 0 = (let c = p.count in omega arith) in
-    h.whole ∙ ap (λ n. laid_part cs rs column ++ blank_from cs column n) none
-    ∙ append_assoc (left_edge cs.frame cs.frame.left.main) cells (right_edge cs.frame cs.frame.right.main)
-    ∙ ap (λ f. left_edge f f.left.main ++ (cells ++ right_edge f f.right.main)) (sym p.frame)
-    ∙ ap (λ n. left_edge rs.columns.frame rs.columns.frame.left.main
-    ++ (flat_map (cell_piece rs 0) (range_with_len 0 n) ++ right_edge rs.columns.frame rs.columns.frame.right.main)) all
+laid-by-style {rs} {line} {place} {before} {column} next stop bar h l whole stops same =
+    laid-one (first_of_block rs column) next stop bar refl h l whole stops same

@@ -1,5 +1,5 @@
 -- Rows of one line that are laid over a blank one.
-use Rattle.std.specs.Prelude.{◌≡◌, ℕ, ◌<◌, true, List, ◌++◌, Some, length}
+use Rattle.std.specs.Prelude.{◌≡◌, ℕ, ◌<◌, true, List, ◌++◌, Some, length, string_bytes}
 use Rattle.tabled_border.specs.declared.borders.HorizontalLine.{HorizontalLine}
 use Rattle.tabled_border.specs.declared.frame.Frame.{Frame}
 use Rattle.tabled_config.specs.declared.spanned.CellStyle.{CellStyle}
@@ -15,25 +15,20 @@ blank_line f = record { main = Some 32; left = Some f.left.main; intersection = 
 abbrev pub blank_row : ColumnSheet → List ℕ
 blank_row columns = rule_line columns (blank_line columns.frame)
 
--- a row of one line over some columns
-pub record IsOneLineOver (columns : ColumnSheet) (row : RowSheet) : Type 0 where
-  pub height : row.height ≡ 1
-  pub count : row.columns.count ≡ columns.count
-  pub frame : row.columns.frame ≡ columns.frame
+-- where its first cell begins, in bytes
+abbrev pub first_place : ColumnSheet → ℕ
+first_place columns = length (left_edge columns.frame columns.frame.left.main)
 
--- whose texts all stand at the left between spaces
-pub record IsFlushOver (columns : ColumnSheet) (row : RowSheet) (style : CellStyle) : Type 0 where
+-- a row of one line whose texts all stand at the left between spaces
+pub record IsFlushLine (row : RowSheet) (style : CellStyle) : Type 0 where
   pub flush : IsFlush style
   pub shared : (column : ℕ) → column < row.columns.count → row.style column ≡ style
   pub height : row.height ≡ 1
-  pub count : row.columns.count ≡ columns.count
-  pub frame : row.columns.frame ≡ columns.frame
 
 -- what is kept whole is the blank row of the columns, and where its first cell begins
 abbrev pub IsBlank : ColumnSheet → LaidRow → Type 0
 IsBlank columns laid =
-    laid.whole ≡ true → (laid.blank.items ≡ blank_row columns)
-    × (laid.start ≡ length (left_edge columns.frame columns.frame.left.main))
+    laid.whole ≡ true → (string_bytes laid.blank ≡ blank_row columns) × (laid.start ≡ first_place columns)
 
 -- a piece stands at a place of some bytes
 pub record StandsAt (bytes : List ℕ) (place : ℕ) (piece : List ℕ) : Type 0 where

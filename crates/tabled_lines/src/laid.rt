@@ -1,10 +1,10 @@
 //! Rows of one line that are laid over a blank one, as those of a new table mostly can be: the spaces, the vertical lines and the
 //! edges are made once, and the texts of a row are copied to their places.
-ghost use Rattle.std.specs.Prelude.{◌≡◌, ◌+◌, ◌<◌, ◌≤◌, List, ℕ, [], ◌∷◌, ◌++◌, IfOk, IfSome, drop, false, length, take, true};
+ghost use Rattle.std.specs.Prelude.{◌≡◌, ◌+◌, ◌<◌, ◌≤◌, List, ℕ, [], ◌∷◌, ◌++◌, IfOk, IfSome, IsUtf8, drop, false, length, string_bytes, take, true};
 ghost use Rattle.tabled_row.specs.Fill.{fill};
 ghost use Rattle.tabled_row.specs.Flush.{laid_text};
-ghost use Rattle.tabled_lines.specs.Laid.{IsBlank, IsFlushOver, IsOneLineOver, StandsAt, blank_line, blank_row};
-ghost use Rattle.tabled_row.specs.Row.{left_edge, piece, row_line, row_lines};
+ghost use Rattle.tabled_lines.specs.Laid.{IsBlank, IsFlushLine, StandsAt, blank_line, blank_row, first_place};
+ghost use Rattle.tabled_row.specs.Row.{piece, row_line, row_lines};
 
 use crate::laid_styles::lay_by_styles;
 use std::alloc::Global;
@@ -45,35 +45,24 @@ fn blank_line(frame: &Frame) -> HorizontalLine
 }
 
 /// Lays out a blank row, and answers where its first cell begins.
-fn put_blank<C: Columns>(blank: &mut Vec<u8>, columns: &C) -> Result<usize, TableError>
-    requires empty { blank.old.items ≡ [] }
-    ensures row { IfOk result (λ _. blank.new.items ≡ blank_row (C.sheet columns.now)) }
-    ensures start { IfOk result (λ start. start
-        ≡ length (left_edge (C.sheet columns.now).frame (C.sheet columns.now).frame.left.main)) }
+fn put_blank<C: Columns>(blank: &mut String, columns: &C) -> Result<usize, TableError>
+    requires empty { string_bytes blank.old ≡ [] }
+    ensures row { IfOk result (λ _. string_bytes blank.new ≡ blank_row (C.sheet columns.now)) }
+    ensures start { IfOk result (λ start. start ≡ first_place (C.sheet columns.now)) }
 {
     let frame = columns.frame();
     put_left(blank, frame, frame.left.main)?;
-    let start = blank.len();
+    let start = blank.as_str().len();
     put_rule_pieces(blank, columns, &blank_line(frame))?;
     put_right(blank, frame, frame.right.main)?;
     Ok(start)
 }
 
-/// Whether a row is one of one line over some columns.
-fn is_one_line_over<'a, C: Columns, R: Row<'a>>(columns: &C, row: &R) -> bool
-    ensures { result ≡ true → IsOneLineOver (C.sheet columns.now) (R.sheet row.now) }
+/// How the texts of a row of one line stand, if it is known that they all stand at the left between spaces.
+fn flush_style<'r, 'a, R: Row<'a>>(row: &'r R) -> Option<&'r CellStyle>
+    requires { (R.sheet row.now).height ≡ 1 }
+    ensures { IfSome result (λ style. IsFlushLine (R.sheet row.now) style.now) }
 {
-    row.height() == 1
-        && row.count_columns() == columns.count_columns()
-        && *row.frame() == *columns.frame()
-}
-
-/// How the texts of a row stand, if it is known that they all stand at the left between spaces.
-fn flush_style<'r, 'a, C: Columns, R: Row<'a>>(columns: &C, row: &'r R) -> Option<&'r CellStyle>
-    requires over { IsOneLineOver (C.sheet columns.now) (R.sheet row.now) }
-    ensures { IfSome result (λ style. IsFlushOver (C.sheet columns.now) (R.sheet row.now) style.now) }
-{
-    let _columns = columns;
     let style = row.shared_style()?.flush()?;
     Some(style)
 }
@@ -89,7 +78,8 @@ pub(crate) fn bar_length(bar: VerticalLine) -> usize
 #[inline(always)]
 pub(crate) fn copy_at(line: &mut [u8], place: usize, text: &str)
     requires { place + length text.now ≤ length line.old }
-    ensures { line.new ≡ take place line.old ++ (text.now ++ drop (place + length text.now) line.old) }
+    ensures copied { line.new ≡ take place line.old ++ (text.now ++ drop (place + length text.now) line.old) }
+    ensures text { IsUtf8 text.now }
 {
     let end = place + text.len();
     line[place..end].copy_from_slice(text.as_bytes());
@@ -98,21 +88,20 @@ pub(crate) fn copy_at(line: &mut [u8], place: usize, text: &str)
 /// Lays the text of a column over blank columns that begin at a place, and answers where they end. Only a text that takes as
 /// many bytes as columns is laid.
 #[inline(always)]
-fn lay_cell<'a, C: Columns, R: Row<'a>>(
+fn lay_cell<'a, R: Row<'a>>(
     line: &mut [u8],
     place: usize,
-    columns: &C,
     row: &R,
     style: &CellStyle,
     column: usize,
 ) -> Option<usize>
     requires inside { column < (R.sheet row.now).columns.count }
-    requires same { (R.sheet row.now).columns.count ≡ (C.sheet columns.now).count }
-    requires blank { StandsAt line.old place (fill 32 ((C.sheet columns.now).width column)) }
-    ensures { IfSome result (λ end. (front back : List ℕ)
-        → line.old ≡ front ++ (fill 32 ((C.sheet columns.now).width column) ++ back) → place ≡ length front
+    requires blank { StandsAt line.old place (fill 32 ((R.sheet row.now).columns.width column)) }
+    ensures laid { IfSome result (λ end. (front back : List ℕ)
+        → line.old ≡ front ++ (fill 32 ((R.sheet row.now).columns.width column) ++ back) → place ≡ length front
         → (line.new ≡ front ++ (laid_text (R.sheet row.now) style.now column ++ back))
         × (end ≡ length front + length (laid_text (R.sheet row.now) style.now column))) }
+    ensures utf8 { IsUtf8 line.old → IsUtf8 line.new }
 {
     let width = row.width(column);
     let (text, taken) = row.content(column).first_line();
@@ -121,7 +110,7 @@ fn lay_cell<'a, C: Columns, R: Row<'a>>(
         .checked_sub(left)?
         .checked_sub(style.padding.right.size)?
         .checked_sub(taken)?;
-    if columns.width(column) != width || text.len() != taken {
+    if text.len() != taken {
         return None;
     }
     copy_at(line, place + left, text);
@@ -130,24 +119,19 @@ fn lay_cell<'a, C: Columns, R: Row<'a>>(
 
 /// Lays texts that stand at the left between spaces over a blank row, whose first cell begins at a place. Answers whether all could
 /// be laid.
-fn lay_texts<'a, C: Columns, R: Row<'a>>(
-    line: &mut [u8],
-    start: usize,
-    columns: &C,
-    row: &R,
-    style: &CellStyle,
-) -> bool
-    requires flush { IsFlushOver (C.sheet columns.now) (R.sheet row.now) style.now }
-    requires blank { line.old ≡ blank_row (C.sheet columns.now) }
-    requires start { start ≡ length (left_edge (C.sheet columns.now).frame (C.sheet columns.now).frame.left.main) }
-    ensures { result ≡ true → line.new ≡ row_line (R.sheet row.now) 0 }
+fn lay_texts<'a, R: Row<'a>>(line: &mut [u8], start: usize, row: &R, style: &CellStyle) -> bool
+    requires flush { IsFlushLine (R.sheet row.now) style.now }
+    requires blank { line.old ≡ blank_row (R.sheet row.now).columns }
+    requires start { start ≡ first_place (R.sheet row.now).columns }
+    ensures laid { result ≡ true → line.new ≡ row_line (R.sheet row.now) 0 }
+    ensures utf8 { IsUtf8 line.old → IsUtf8 line.new }
 {
-    let bar = bar_length(columns.frame().inner);
+    let bar = bar_length(row.frame().inner);
     let mut place = start;
     // The bytes of the vertical line before the next column: none before the first one.
     let mut skipped: usize = 0;
     'texts: for column in 0..row.count_columns() {
-        let Some(end) = lay_cell(line, place + skipped, columns, row, style, column) else {
+        let Some(end) = lay_cell(line, place + skipped, row, style, column) else {
             return false;
         };
         place = end;
@@ -156,23 +140,24 @@ fn lay_texts<'a, C: Columns, R: Row<'a>>(
     true
 }
 
-/// Lays the texts of a row over a blank row, whose first cell begins at a place. Answers whether all could be laid.
-fn lay_all<'a, C: Columns, R: Row<'a>>(line: &mut [u8], start: usize, columns: &C, row: &R) -> bool
-    requires over { IsOneLineOver (C.sheet columns.now) (R.sheet row.now) }
-    requires blank { line.old ≡ blank_row (C.sheet columns.now) }
-    requires start { start ≡ length (left_edge (C.sheet columns.now).frame (C.sheet columns.now).frame.left.main) }
-    ensures { result ≡ true → line.new ≡ row_line (R.sheet row.now) 0 }
+/// Lays the texts of a row of one line over a blank row, whose first cell begins at a place. Answers whether all could be laid.
+fn lay_all<'a, R: Row<'a>>(line: &mut [u8], start: usize, row: &R) -> bool
+    requires height { (R.sheet row.now).height ≡ 1 }
+    requires blank { line.old ≡ blank_row (R.sheet row.now).columns }
+    requires start { start ≡ first_place (R.sheet row.now).columns }
+    ensures laid { result ≡ true → line.new ≡ row_line (R.sheet row.now) 0 }
+    ensures utf8 { IsUtf8 line.old → IsUtf8 line.new }
 {
-    match flush_style(columns, row) {
-        Some(style) => lay_texts(line, start, columns, row, style),
-        None => lay_by_styles(line, start, columns, row),
+    match flush_style(row) {
+        Some(style) => lay_texts(line, start, row, style),
+        None => lay_by_styles(line, start, row),
     }
 }
 
 /// A blank row over some columns, which is laid out once, and the row that was laid over it.
 #[derive(Drop)]
 pub(crate) struct LaidRow {
-    blank: Vec<u8>,
+    blank: String,
     start: usize,
     whole: bool,
     line: Vec<u8>,
@@ -186,7 +171,7 @@ impl LaidRow {
         ensures { result.whole ≡ false }
     {
         LaidRow {
-            blank: Vec::new(alloc),
+            blank: String::new(alloc),
             start: 0,
             whole: false,
             line: Vec::new(alloc),
@@ -220,34 +205,39 @@ impl LaidRow {
         requires known { IsBlank (C.sheet columns.now) self.old }
         ensures known { IsBlank (C.sheet columns.now) self.new }
         ensures begun { result ≡ true → (self.new.whole ≡ true) × (self.new.line.items ≡ blank_row (C.sheet columns.now)) }
+        ensures utf8 { result ≡ true → IsUtf8 self.new.line.items }
     {
         if !self.lay_out(columns) {
             return false;
         }
         self.line.clear();
-        self.line.extend_from_slice(&self.blank).is_ok()
+        self.line.extend_from_slice(self.blank.as_bytes()).is_ok()
     }
 
-    /// Lays the texts of a row over the blank one. Answers whether all could be laid.
+    /// Lays the texts of a row over these columns over the blank one. Answers whether all could be laid.
     pub fn lay_row<'a, C: Columns, R: Row<'a>>(&mut self, columns: &C, row: &R) -> bool
         requires known { IsBlank (C.sheet columns.now) self.old }
+        requires over { (R.sheet row.now).columns ≡ C.sheet columns.now }
         ensures known { IsBlank (C.sheet columns.now) self.new }
         ensures laid { result ≡ true → row_lines (R.sheet row.now) ≡ self.new.line.items ∷ [] }
+        ensures utf8 { result ≡ true → IsUtf8 self.new.line.items }
     {
-        if self.tries == 0 || !is_one_line_over(columns, row) || !self.begin(columns) {
+        if self.tries == 0 || row.height() != 1 || !self.begin(columns) {
             return false;
         }
-        let laid = lay_all(&mut self.line, self.start, columns, row);
+        let laid = lay_all(&mut self.line, self.start, row);
         if !laid {
             self.tries = self.tries.saturating_sub(1);
         }
         laid
     }
 
-    /// The row that was laid, if it is a text.
-    pub fn text(&self) -> Option<&str>
-        ensures { IfSome result (λ text. text.now ≡ self.now.line.items) }
+    /// The row that was laid.
+    pub fn text(&self) -> &str
+        requires { IsUtf8 self.now.line.items }
+        ensures { result.now ≡ self.now.line.items }
     {
-        std::str::from_utf8(&self.line).ok()
+        // In range: texts over spaces of a text make a text.
+        unsafe { std::str::from_utf8_unchecked(&self.line) }
     }
 }

@@ -139,7 +139,7 @@ impl<C: Columns> Lines<C> {
         }
     }
 
-    /// The lines of a row. The marks are those of its cells afterwards, whatever they were.
+    /// The lines of a row over these columns. The marks are those of its cells afterwards, whatever they were.
     pub fn put_row<'a, R: Row<'a>, S: TextSink>(
         &mut self,
         sink: &mut S,
@@ -147,6 +147,7 @@ impl<C: Columns> Lines<C> {
         marks: &mut Marks<'a>,
     ) -> Result<(), TableError>
         requires kept { Keeps (C.sheet self.old.columns) self.old.kept }
+        requires over { (R.sheet row.now).columns ≡ C.sheet self.old.columns }
         requires clean { AreClean marks.old }
         ensures printed { WritesLines (S.sent sink.old) self.old.begun result (S.sent sink.new) self.new.begun
             (row_lines (R.sheet row.now)) }
@@ -156,10 +157,9 @@ impl<C: Columns> Lines<C> {
     {
         if let Some(laid) = &mut self.kept.row
             && laid.lay_row(&self.columns, row)
-            && let Some(line) = laid.text()
         {
             put_break(sink, &mut self.begun)?;
-            return sink.write_text(line);
+            return sink.write_text(laid.text());
         }
         marks.forget();
         put_row_lines(sink, &mut self.begun, row, marks)

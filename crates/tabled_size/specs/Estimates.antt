@@ -1,6 +1,6 @@
 -- The sizes that the texts of a table ask for.
-use Rattle.std.specs.Prelude.{ℕ, ◌+◌, ◌<◌, ◌≤◌, ◌^◌, List, length, map}
-use Rattle.std.specs.List.{range_with_len}
+use Rattle.std.specs.Prelude.{ℕ, ◌+◌, ◌<◌, ◌≤◌, ◌^◌, List, length, map, max}
+use Rattle.std.specs.List.{range_with_len, slice_index}
 use Rattle.tabled_text.specs.Measure.{greatest, lines_of, text_columns}
 use Rattle.tabled_base.specs.Cells.{cell_at, columns}
 use Rattle.tabled_config.specs.declared.spanned.SpannedConfig.{SpannedConfig}
@@ -17,6 +17,11 @@ abbrev pub needed_height : List (List (List ℕ)) → SpannedConfig → ℕ → 
 needed_height cells config row column =
     let padding = (style_at config row column).padding in
     length (lines_of (cell_at cells row column)) + (padding.top.size + padding.bottom.size)
+
+-- widths, one a column, that are raised to what the cells of a row need
+abbrev pub raised : List ℕ → List (List (List ℕ)) → SpannedConfig → ℕ → List ℕ
+raised widths cells config row =
+    map (λ c. max (slice_index widths c) (needed_width cells config row c)) (range_with_len 0 (columns cells))
 
 -- the most columns that a cell of a column needs
 unfoldable pub column_width : List (List (List ℕ)) → SpannedConfig → ℕ → ℕ

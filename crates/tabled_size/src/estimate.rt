@@ -1,10 +1,9 @@
 //! The widths and heights that the texts of a table ask for.
-ghost use Rattle.std.specs.Prelude.{◌≡◌, ◌⊎◌, ◌<◌, ◌≤◌, ◌^◌, ℕ, IfOk, IfErr, MatchOption, length, map, max};
-ghost use Rattle.std.specs.List.{range_with_len, slice_index};
+ghost use Rattle.std.specs.Prelude.{◌≡◌, ◌⊎◌, ◌<◌, ◌≤◌, ◌^◌, ℕ, IfOk, IfErr, IfNone, IfSome, MatchOption, length};
 ghost use Rattle.tabled_base.specs.Cells.{IsInside, columns};
 ghost use Rattle.tabled_base.specs.declared.error.TableError.TheVariants.{Memory, Range};
 ghost use Rattle.tabled_config.specs.Settings.{style_at};
-ghost use Rattle.tabled_size.specs.Estimates.{IsTooHigh, IsTooWide, estimated_heights, estimated_widths, needed_height, needed_width, row_height};
+ghost use Rattle.tabled_size.specs.Estimates.{IsTooHigh, IsTooWide, estimated_heights, estimated_widths, needed_height, needed_width, raised, row_height};
 
 use std::alloc::Global;
 use tabled_base::{PeekableRecords, Position, TableError};
@@ -62,34 +61,8 @@ fn padded_height<R: PeekableRecords>(
     records.count_lines(at).checked_add(sides)
 }
 
-/// Makes room for the cells of a row that are padded alike.
-fn raise_alike<R: PeekableRecords>(
-    records: &R,
-    config: &SpannedConfig,
-    row: usize,
-    widths: &mut [usize],
-    padding: Sides<Indent>,
-) -> Result<(), TableError>
-    requires row_in { row < length (R.cells records.now) }
-    requires columns { length widths.old ≡ columns (R.cells records.now) }
-    requires alike { (column : ℕ) → (style_at config.now row column).padding ≡ padding }
-    ensures ok { IfOk result (λ _. widths.new ≡ map
-        (λ c. max (slice_index widths.old c) (needed_width (R.cells records.now) config.now row c))
-        (range_with_len 0 (columns (R.cells records.now)))) }
-    ensures err { IfErr result (λ e. (e ≡ Range) × IsTooWide (R.cells records.now) config.now) }
-{
-    'columns: for column in 0..records.count_columns() {
-        let at = Position { row, column };
-        let Some(width) = padded_width(records, config, at, padding) else {
-            return Err(TableError::Range);
-        };
-        widths[column] = widths[column].max(width);
-    }
-    Ok(())
-}
-
-/// Makes room for the cells of a row, each padded as it was set.
-fn raise_each<R: PeekableRecords>(
+/// Makes room for the cells of a row.
+fn raise_widths<R: PeekableRecords>(
     records: &R,
     config: &SpannedConfig,
     row: usize,
@@ -97,9 +70,7 @@ fn raise_each<R: PeekableRecords>(
 ) -> Result<(), TableError>
     requires row_in { row < length (R.cells records.now) }
     requires columns { length widths.old ≡ columns (R.cells records.now) }
-    ensures ok { IfOk result (λ _. widths.new ≡ map
-        (λ c. max (slice_index widths.old c) (needed_width (R.cells records.now) config.now row c))
-        (range_with_len 0 (columns (R.cells records.now)))) }
+    ensures ok { IfOk result (λ _. widths.new ≡ raised widths.old (R.cells records.now) config.now row) }
     ensures err { IfErr result (λ e. (e ≡ Range) × IsTooWide (R.cells records.now) config.now) }
 {
     let mut paddings = config.paddings_in(row);
@@ -111,27 +82,6 @@ fn raise_each<R: PeekableRecords>(
         widths[column] = widths[column].max(width);
     }
     Ok(())
-}
-
-/// Makes room for the cells of a row.
-#[inline]
-fn raise_widths<R: PeekableRecords>(
-    records: &R,
-    config: &SpannedConfig,
-    row: usize,
-    widths: &mut [usize],
-) -> Result<(), TableError>
-    requires row_in { row < length (R.cells records.now) }
-    requires columns { length widths.old ≡ columns (R.cells records.now) }
-    ensures ok { IfOk result (λ _. widths.new ≡ map
-        (λ c. max (slice_index widths.old c) (needed_width (R.cells records.now) config.now row c))
-        (range_with_len 0 (columns (R.cells records.now)))) }
-    ensures err { IfErr result (λ e. (e ≡ Range) × IsTooWide (R.cells records.now) config.now) }
-{
-    match config.shared_style() {
-        Some(style) => raise_alike(records, config, row, widths, style.padding),
-        None => raise_each(records, config, row, widths),
-    }
 }
 
 /// The estimated widths, one a column. Refused for memory, or `Range` where a cell's text and padding
@@ -152,29 +102,12 @@ pub fn estimate_widths<R: PeekableRecords>(
     Ok(widths)
 }
 
-/// The lines that the cells of a row need that are padded alike, if a number can say them.
-fn height_alike<R: PeekableRecords>(
+/// The lines that the cells of a row need, if a number can say them.
+pub(crate) fn row_height<R: PeekableRecords>(
     records: &R,
     config: &SpannedConfig,
     row: usize,
-    padding: Sides<Indent>,
 ) -> Option<usize>
-    requires row_in { row < length (R.cells records.now) }
-    requires alike { (column : ℕ) → (style_at config.now row column).padding ≡ padding }
-    ensures { MatchOption result (IsTooHigh (R.cells records.now) config.now)
-        (λ n. n ≡ row_height (R.cells records.now) config.now row) }
-{
-    let mut most: usize = 0;
-    'columns: for column in 0..records.count_columns() {
-        let at = Position { row, column };
-        let height = padded_height(records, config, at, padding)?;
-        most = most.max(height);
-    }
-    Some(most)
-}
-
-/// The lines that the cells of a row need, each padded as it was set, if a number can say them.
-fn height_each<R: PeekableRecords>(records: &R, config: &SpannedConfig, row: usize) -> Option<usize>
     requires { row < length (R.cells records.now) }
     ensures { MatchOption result (IsTooHigh (R.cells records.now) config.now)
         (λ n. n ≡ row_height (R.cells records.now) config.now row) }
@@ -187,23 +120,6 @@ fn height_each<R: PeekableRecords>(records: &R, config: &SpannedConfig, row: usi
         most = most.max(height);
     }
     Some(most)
-}
-
-/// The lines that the cells of a row need, if a number can say them.
-#[inline]
-pub(crate) fn row_height<R: PeekableRecords>(
-    records: &R,
-    config: &SpannedConfig,
-    row: usize,
-) -> Option<usize>
-    requires { row < length (R.cells records.now) }
-    ensures { MatchOption result (IsTooHigh (R.cells records.now) config.now)
-        (λ n. n ≡ row_height (R.cells records.now) config.now row) }
-{
-    match config.shared_style() {
-        Some(style) => height_alike(records, config, row, style.padding),
-        None => height_each(records, config, row),
-    }
 }
 
 /// The estimated heights, one a row. Refused for memory, or `Range` where a cell's lines and padding
@@ -227,6 +143,78 @@ pub fn estimate_heights<R: PeekableRecords>(
     Ok(heights)
 }
 
+/// Makes room for the cells of a row that are padded alike, and answers the lines that they need, if numbers can say both.
+fn measure_alike<R: PeekableRecords>(
+    records: &R,
+    config: &SpannedConfig,
+    row: usize,
+    widths: &mut [usize],
+    padding: Sides<Indent>,
+) -> Option<usize>
+    requires row_in { row < length (R.cells records.now) }
+    requires columns { length widths.old ≡ columns (R.cells records.now) }
+    requires alike { (column : ℕ) → (style_at config.now row column).padding ≡ padding }
+    ensures widths { IfSome result (λ _. widths.new ≡ raised widths.old (R.cells records.now) config.now row) }
+    ensures lines { IfSome result (λ n. n ≡ row_height (R.cells records.now) config.now row) }
+    ensures none { IfNone result (IsTooWide (R.cells records.now) config.now ⊎ IsTooHigh (R.cells records.now) config.now) }
+{
+    let mut most: usize = 0;
+    'columns: for column in 0..records.count_columns() {
+        let at = Position { row, column };
+        let width = padded_width(records, config, at, padding)?;
+        let height = padded_height(records, config, at, padding)?;
+        widths[column] = widths[column].max(width);
+        most = most.max(height);
+    }
+    Some(most)
+}
+
+/// The same, of cells that are each padded as it was set.
+fn measure_each<R: PeekableRecords>(
+    records: &R,
+    config: &SpannedConfig,
+    row: usize,
+    widths: &mut [usize],
+) -> Option<usize>
+    requires row_in { row < length (R.cells records.now) }
+    requires columns { length widths.old ≡ columns (R.cells records.now) }
+    ensures widths { IfSome result (λ _. widths.new ≡ raised widths.old (R.cells records.now) config.now row) }
+    ensures lines { IfSome result (λ n. n ≡ row_height (R.cells records.now) config.now row) }
+    ensures none { IfNone result (IsTooWide (R.cells records.now) config.now ⊎ IsTooHigh (R.cells records.now) config.now) }
+{
+    let mut most: usize = 0;
+    let mut paddings = config.paddings_in(row);
+    'columns: for column in 0..records.count_columns() {
+        let at = Position { row, column };
+        let padding = paddings.at(column);
+        let width = padded_width(records, config, at, padding)?;
+        let height = padded_height(records, config, at, padding)?;
+        widths[column] = widths[column].max(width);
+        most = most.max(height);
+    }
+    Some(most)
+}
+
+/// Makes room for the cells of a row, and answers the lines that they need, if numbers can say both.
+#[inline]
+fn measure_row<R: PeekableRecords>(
+    records: &R,
+    config: &SpannedConfig,
+    row: usize,
+    widths: &mut [usize],
+) -> Option<usize>
+    requires row_in { row < length (R.cells records.now) }
+    requires columns { length widths.old ≡ columns (R.cells records.now) }
+    ensures widths { IfSome result (λ _. widths.new ≡ raised widths.old (R.cells records.now) config.now row) }
+    ensures lines { IfSome result (λ n. n ≡ row_height (R.cells records.now) config.now row) }
+    ensures none { IfNone result (IsTooWide (R.cells records.now) config.now ⊎ IsTooHigh (R.cells records.now) config.now) }
+{
+    match config.shared_padding() {
+        Some(padding) => measure_alike(records, config, row, widths, padding),
+        None => measure_each(records, config, row, widths),
+    }
+}
+
 /// The estimated widths and heights, one row after another. Refused for memory, or `Range` where a
 /// cell's text and padding pass the greatest `usize`.
 pub fn estimate_sizes<R: PeekableRecords>(
@@ -242,8 +230,7 @@ pub fn estimate_sizes<R: PeekableRecords>(
     let mut widths = vec![in alloc; 0usize; records.count_columns()]?;
     let mut heights = Vec::with_capacity(alloc, records.count_rows())?;
     'rows: for row in 0..records.count_rows() {
-        raise_widths(records, config, row, &mut widths)?;
-        let Some(height) = row_height(records, config, row) else {
+        let Some(height) = measure_row(records, config, row, &mut widths) else {
             return Err(TableError::Range);
         };
         heights.push(height)?;

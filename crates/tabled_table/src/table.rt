@@ -34,11 +34,22 @@ use tabled_value::{Tabled, value_records};
 
 /// Rows of texts, how they are set, and the sizes that are stored. What isn't stored is estimated when it
 /// is needed. Two tables are equal where their texts, settings and stored sizes are.
-#[derive(Debug, Drop, PartialEq, Eq)]
+#[derive(Debug, PartialEq, Eq)]
 pub struct Table {
     pub(crate) records: VecRecords<Text<String>>,
     pub(crate) config: ColoredConfig,
     pub(crate) dimension: CompleteDimension,
+}
+
+/// One call lets a table go, so that whoever lets it go needn't prove it of each part.
+impl Drop for Table {
+    fn drop(self) {
+        let Table {
+            records: _,
+            config: _,
+            dimension: _,
+        } = self;
+    }
 }
 
 impl Table {
@@ -57,6 +68,18 @@ impl Table {
             config: ColoredConfig::new(new_config(alloc)),
             dimension: CompleteDimension::new(alloc),
         }
+    }
+
+    /// The records, without settings and sizes.
+    fn into_records(self) -> VecRecords<Text<String>>
+        ensures { result ≡ self.records }
+    {
+        let Table {
+            records,
+            config: _,
+            dimension: _,
+        } = self;
+        records
     }
 
     /// A table with no row. It takes no memory.
@@ -272,6 +295,6 @@ impl From<Table> for Builder {
     ghost from_gives = { λ table builder. builder ≡ table.records };
 
     fn from(table: Table) -> Builder {
-        Builder::from(table.records)
+        Builder::from(table.into_records())
     }
 }

@@ -1,8 +1,10 @@
-//! Rows in which nothing was set for a row or a cell.
-ghost use Rattle.std.specs.Prelude.{◌≡◌, ℕ, true};
+//! Cells and rows that are known to be set alike.
+ghost use Rattle.std.specs.Prelude.{◌≡◌, ℕ, IfSome, true};
 ghost use Rattle.tabled_config.specs.Settings.{style_at};
+ghost use Rattle.tabled_entity.specs.Changes.{shared};
 
 use super::SpannedConfig;
+use tabled_border::{Indent, Sides};
 
 impl SpannedConfig {
     /// Whether the texts of two rows are known to stand alike, column by column: where nothing was set for either of the rows, nor
@@ -15,5 +17,15 @@ impl SpannedConfig {
             && self.alignment_horizontal.are_alike(row, other)
             && self.alignment_vertical.are_alike(row, other)
             && self.line_alignment.are_alike(row, other)
+    }
+
+    /// The columns and lines kept free around the texts of all cells, where no padding was set for a part of the table.
+    #[inline]
+    #[tactic(auto, unfolding(crate::specs::Settings::style_at))]
+    pub fn shared_padding(&self) -> Option<Sides<Indent>>
+        ensures value { result ≡ shared self.now.padding }
+        ensures everywhere { IfSome result (λ padding. (row column : ℕ) → (style_at self.now row column).padding ≡ padding) }
+    {
+        self.padding.shared()
     }
 }

@@ -1,22 +1,21 @@
-use Rattle.std.proofs.Common.{◌≡◌, ◌+◌, ◌-◌, ◌++◌, length, ap, refl, ◌∙◌, arith}
+use Rattle.std.proofs.Common.{◌≡◌, ◌+◌, ◌-◌, ◌≤◌, ◌++◌, length, ap, refl, ◌∙◌, arith}
 use Rattle.tabled_text.specs.Measure.{line_columns}
 use Rattle.tabled_row.specs.Block.{text_room}
 use Rattle.tabled_row.specs.Fill.{fill}
 use Rattle.tabled_row.specs.Flush.{first_line}
-use Rattle.tabled_lines.proofs.Laying.{laid-length, lay-text, stands-long}
+use Rattle.tabled_lines.proofs.Laying.{laid-length, laid-utf8, lay-text, stands-long}
 use Rattle.tabled_lines.proofs.laid.lay_cell.Goals as goal
 
 pub overflow_add-place : goal.overflow_add-place
 overflow_add-place g c =
-    omega (arith, stands-long _ c.requires.blank, c.width.ensures, c.if-width.false, c.in_ok-checked_sub.ensures.0)
+    omega (arith, stands-long _ c.requires.blank, c.width-width.ensures, c.in_ok-checked_sub.ensures.0)
 
 pub copy_at-requires : goal.copy_at-requires
 copy_at-requires g c =
     (omega (
       arith,
       stands-long _ c.requires.blank,
-      c.width.ensures,
-      c.if-width.false,
+      c.width-width.ensures,
       c.if-text-taken.false,
       c.in_ok-checked_sub.ensures.0,
       c.in_ok-checked_sub.ensures.1,
@@ -27,25 +26,22 @@ copy_at-requires g c =
 
 pub overflow_add-result : goal.overflow_add-result
 overflow_add-result g c =
-    omega (arith, stands-long _ c.requires.blank, c.width.ensures, c.if-width.false)
+    omega (arith, stands-long _ c.requires.blank, c.width-width.ensures)
 
-pub returns : goal.returns
-returns g c = λ front back whole begins.
+pub returns-clause-laid : goal.returns-clause-laid
+returns-clause-laid g c = λ front back whole begins.
     let rs = g.R.Row.sheet c.args.row.now in
-    let cs = g.C.Columns.sheet c.args.columns.now in
     let style = c.args.style.now in
     let text = c.first_line-taken.result.0.now in
     let left = style.padding.left.size in
     let same : text ≡ first_line (rs.text c.args.column) = c.first_line-taken.ensures.line ∙ ap first_line c.content.ensures in
     let taken : c.first_line-taken.result.1 ≡ line_columns (first_line (rs.text c.args.column)) = c.first_line-taken.ensures.columns ∙ ap line_columns same in
     let free = text_room style (rs.columns.width c.args.column) - line_columns (first_line (rs.text c.args.column)) + style.padding.right.size in
-    let sum : left + (length text + free) ≡ cs.width c.args.column =
+    let sum : left + (length text + free) ≡ rs.columns.width c.args.column =
     omega (
       arith,
       taken,
       c.width-width.ensures,
-      c.width.ensures,
-      c.if-width.false,
       c.if-text-taken.false,
       c.in_ok-checked_sub.ensures.0,
       c.in_ok-checked_sub.ensures.1,
@@ -55,7 +51,22 @@ returns g c = λ front back whole begins.
     ) in
     let size = laid-length left free text in
     let named = ap (λ t. fill 32 left ++ (t ++ fill 32 free)) same in (
-      c.copy_at.ensures ∙ lay-text front back text c.args.line.now left (length text) free (cs.width c.args.column) c.args.place sum refl begins whole
+      c.copy_at.ensures.copied ∙ lay-text front back text c.args.line.now left (length text) free (rs.columns.width c.args.column) c.args.place sum refl begins whole
           ∙ ap (λ u. front ++ (u ++ back)) named,
-      omega (arith, begins, sum, size, ap length named, c.width-width.ensures, c.width.ensures, c.if-width.false),
+      omega (arith, begins, sum, size, ap length named, c.width-width.ensures),
     )
+
+pub returns-clause-utf8 : goal.returns-clause-utf8
+returns-clause-utf8 g c = λ u.
+    let within : c.args.style.now.padding.left.size + length c.first_line-taken.result.0.now ≤ (g.R.Row.sheet c.args.row.now).columns.width c.args.column =
+    omega (
+      arith,
+      c.width-width.ensures,
+      c.if-text-taken.false,
+      c.in_ok-checked_sub.ensures.0,
+      c.in_ok-checked_sub.ensures.1,
+      c.in_ok-checked_sub-2.ensures.0,
+      c.in_ok-checked_sub-2.ensures.1,
+      c.in_ok-_free.ensures.0,
+    ) in
+    rw c.copy_at.ensures.copied (laid-utf8 _ _ _ _ _ c.requires.blank within c.copy_at.ensures.text u)

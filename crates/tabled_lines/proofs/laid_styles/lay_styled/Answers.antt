@@ -1,10 +1,10 @@
-use Rattle.std.proofs.Common.{◌≡◌, ◌+◌, ◌++◌, length, take, drop, ap, refl, sym, ◌∙◌, arith}
+use Rattle.std.proofs.Common.{◌≡◌, ◌+◌, ◌≤◌, ◌++◌, length, take, drop, ap, refl, sym, ◌∙◌, arith}
 use Rattle.tabled_text.specs.Measure.{line_columns, text_columns}
 use Rattle.tabled_row.specs.Block.{before_text}
 use Rattle.tabled_row.specs.Fill.{fill}
 use Rattle.tabled_row.specs.Flush.{first_line}
 use Rattle.tabled_lines.specs.LaidStyles.{first_of_block}
-use Rattle.tabled_lines.proofs.Laying.{laid-length, lay-text, stands-long}
+use Rattle.tabled_lines.proofs.Laying.{laid-length, laid-utf8, lay-text, stands-long}
 use Rattle.tabled_lines.proofs.LayingStyles.{before-within, first-spaced, free_of, left_of, right_of}
 use Rattle.tabled_lines.proofs.laid_styles.lay_styled.Goals as goal
 
@@ -16,8 +16,7 @@ overflow_add-place g c =
       within,
       c.before_text.ensures,
       stands-long _ c.requires.blank,
-      c.width.ensures,
-      c.if-width.false,
+      c.width-width.ensures,
       c.in_ok-checked_sub.ensures.0,
       c.in_ok-checked_sub.ensures.1,
       c.in_ok-checked_sub-2.ensures.0,
@@ -34,8 +33,7 @@ copy_at-requires g c =
       within,
       c.before_text.ensures,
       stands-long _ c.requires.blank,
-      c.width.ensures,
-      c.if-width.false,
+      c.width-width.ensures,
       c.if-text-taken.false,
       c.in_ok-checked_sub.ensures.0,
       c.in_ok-checked_sub.ensures.1,
@@ -47,12 +45,11 @@ copy_at-requires g c =
 
 pub overflow_add-result : goal.overflow_add-result
 overflow_add-result g c =
-    omega (arith, stands-long _ c.requires.blank, c.width.ensures, c.if-width.false)
+    omega (arith, stands-long _ c.requires.blank, c.width-width.ensures)
 
-pub returns : goal.returns
-returns g c = λ front back whole begins.
+pub returns-clause-laid : goal.returns-clause-laid
+returns-clause-laid g c = λ front back whole begins.
     let rs = g.R.Row.sheet c.args.row.now in
-    let cs = g.C.Columns.sheet c.args.columns.now in
     let style = c.args.style.now in
     let width = rs.columns.width c.args.column in
     let text = c.first_line-taken.result.0.now in
@@ -79,15 +76,13 @@ returns g c = λ front back whole begins.
     let before = c.before_text.ensures ∙ ap (before_text style.horizontal) rest in
     let here : style.padding.left.size + c.before_text.result ≡ left = ap (λ n. style.padding.left.size + n) before in
     let within = before-within style.horizontal (free_of style width line) in
-    let sum : left + (length text + right) ≡ cs.width c.args.column =
+    let sum : left + (length text + right) ≡ width =
     omega (
       arith,
       taken,
       rest,
       within,
       c.width-width.ensures,
-      c.width.ensures,
-      c.if-width.false,
       c.if-text-taken.false,
       c.in_ok-checked_sub.ensures.0,
       c.in_ok-checked_sub.ensures.1,
@@ -100,8 +95,28 @@ returns g c = λ front back whole begins.
     ap (λ t. fill 32 left ++ (t ++ fill 32 right)) same
     ∙ sym (first-spaced rs c.args.column style c.requires.style c.requires.height (c.is_spaced.ensures c.if-not-is_spaced.false) widest) in
     let size = laid-length left right text in (
-      c.copy_at.ensures ∙ ap (λ n. take (c.args.place + n) bytes ++ (text ++ drop (c.args.place + n + length text) bytes)) here
-          ∙ lay-text front back text bytes left (length text) right (cs.width c.args.column) c.args.place sum refl begins whole
+      c.copy_at.ensures.copied ∙ ap (λ n. take (c.args.place + n) bytes ++ (text ++ drop (c.args.place + n + length text) bytes)) here
+          ∙ lay-text front back text bytes left (length text) right width c.args.place sum refl begins whole
           ∙ ap (λ u. front ++ (u ++ back)) named,
-      omega (arith, begins, sum, size, ap length named, c.width-width.ensures, c.width.ensures, c.if-width.false),
+      omega (arith, begins, sum, size, ap length named, c.width-width.ensures),
     )
+
+pub returns-clause-utf8 : goal.returns-clause-utf8
+returns-clause-utf8 g c = λ u.
+    let before = before-within c.args.style.now.horizontal c.in_ok-free.free in
+    let within : c.args.style.now.padding.left.size + c.before_text.result + length c.first_line-taken.result.0.now
+        ≤ (g.R.Row.sheet c.args.row.now).columns.width c.args.column =
+    omega (
+      arith,
+      before,
+      c.before_text.ensures,
+      c.width-width.ensures,
+      c.if-text-taken.false,
+      c.in_ok-checked_sub.ensures.0,
+      c.in_ok-checked_sub.ensures.1,
+      c.in_ok-checked_sub-2.ensures.0,
+      c.in_ok-checked_sub-2.ensures.1,
+      c.in_ok-free.ensures.0,
+      c.in_ok-free.ensures.1,
+    ) in
+    rw c.copy_at.ensures.copied (laid-utf8 _ _ _ _ _ c.requires.blank within c.copy_at.ensures.text u)

@@ -22,13 +22,13 @@ rows-preserved g c =
     let f = row_height cells c.args.config.now in
     record {
       widths =
-          written_back _ _ _ (omega (arith, c.raise_widths.auto.widths, c.deref_mut.ensures.len))
-          ∙ c.in_ok-raise_widths.ensures.ok
+          written_back _ _ _ (omega (arith, c.measure_row.auto.widths, c.deref_mut.ensures.len))
+          ∙ c.in-Some.ensures.widths
           ∙ greatest_each (λ r k. needed_width cells c.args.config.now r k) c.deref_mut.result.now c.rows.row
           (columns cells) (c.deref_mut.ensures.value ∙ c.rows.invariant.widths);
       heights =
           c.in_ok-push.ensures.items ∙ ap (λ xs. xs ++ c.in-Some.height ∷ []) c.rows.invariant.heights
-          ∙ ap (λ h. map f (range_with_len 0 c.rows.row) ++ h ∷ []) c.in-Some.ensures
+          ∙ ap (λ h. map f (range_with_len 0 c.rows.row) ++ h ∷ []) c.in-Some.ensures.lines
           ∙ sym (map-range_with_len_more f 0 c.rows.row c.rows.row (omega arith));
     }
 

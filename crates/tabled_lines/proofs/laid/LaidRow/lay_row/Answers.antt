@@ -1,9 +1,10 @@
-use Rattle.std.proofs.Common.{◌∷◌, [], ap, sym, ◌∙◌, arith}
+use Rattle.std.proofs.Common.{◌≡◌, ◌∷◌, [], ap, sym, ◌∙◌, arith}
 use Rattle.tabled_lines.proofs.Laying.{one-row_line, written-back}
 use Rattle.tabled_lines.proofs.laid.LaidRow.lay_row.Goals as goal
 
 pub returns-else-not-laid-clause-laid : goal.returns-else-not-laid-clause-laid
 returns-else-not-laid-clause-laid g c = λ all.
     let size = c.lay_all-laid.auto.line in
-    let line = written-back _ _ _ (omega (arith, size, c.deref_mut.ensures.len)) ∙ c.lay_all-laid.ensures all in
-    one-row_line (g.R.Row.sheet c.args.row.now) (c.is_one_line_over.ensures c.if-not-is_one_line_over.false).height ∙ ap (λ u. u ∷ []) (sym line)
+    let line = written-back _ _ _ (omega (arith, size, c.deref_mut.ensures.len)) ∙ c.lay_all-laid.ensures.laid all in
+    let high : (g.R.Row.sheet c.args.row.now).height ≡ 1 = omega (arith, c.height.ensures, c.if-height-ne1.false) in
+    one-row_line (g.R.Row.sheet c.args.row.now) high ∙ ap (λ u. u ∷ []) (sym line)

@@ -1,12 +1,18 @@
-use Rattle.std.proofs.Common.{max, arith, rules}
+use Rattle.std.proofs.Common.{◌∙◌, ap, max, arith, rules}
 use Rattle.std.specs.List.{slice_index}
 use Rattle.std.proofs.lemmas.List.FromFn.{fill_by_all}
 use Rattle.tabled_base.specs.Cells.{columns}
+use Rattle.tabled_entity.specs.Changes.{value_at}
 use Rattle.tabled_size.specs.Estimates.{needed_width}
-use Rattle.tabled_size.proofs.estimate.raise_alike.Goals as goal
+use Rattle.tabled_size.proofs.estimate.raise_widths.Goals as goal
 
 pub columns-preserved : goal.columns-preserved
-columns-preserved g c = record { raised = search rules; rest = search rules }
+columns-preserved g c =
+    record {
+      paddings = λ k. ap (λ p. value_at p k) c.at.ensures.same ∙ c.columns.invariant.paddings k;
+      raised = search rules;
+      rest = search rules;
+    }
 
 pub returns-clause-ok : goal.returns-clause-ok
 returns-clause-ok g c =

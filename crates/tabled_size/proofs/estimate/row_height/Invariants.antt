@@ -3,7 +3,7 @@ use Rattle.tabled_config.specs.Settings.{style_at}
 use Rattle.tabled_entity.specs.Changes.{value_at}
 use Rattle.tabled_size.specs.Estimates.{needed_height}
 use Rattle.tabled_size.proofs.Greatest.{greatest_below}
-use Rattle.tabled_size.proofs.estimate.height_each.Given as goal
+use Rattle.tabled_size.proofs.estimate.row_height.Given as goal
 
 abbrev pub invariant-columns : goal.invariant-columns
 invariant-columns g l = record {

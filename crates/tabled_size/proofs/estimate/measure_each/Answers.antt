@@ -1,0 +1,34 @@
+use Rattle.std.proofs.Common.{◌≡◌, ◌∙◌, ap, max, arith, rules}
+use Rattle.std.specs.List.{slice_index}
+use Rattle.std.proofs.lemmas.List.FromFn.{fill_by_all}
+use Rattle.tabled_base.specs.Cells.{columns}
+use Rattle.tabled_entity.specs.Changes.{value_at}
+use Rattle.tabled_size.specs.Estimates.{needed_height, needed_width, row_height}
+use Rattle.tabled_size.proofs.Greatest.{greatest_below, greatest_more}
+use Rattle.tabled_size.proofs.estimate.measure_each.Goals as goal
+
+pub columns-preserved : goal.columns-preserved
+columns-preserved g c =
+    let f = needed_height (g.R.ExactRecords.cells c.args.records.now) c.args.config.now c.args.row in
+    let e = greatest_more f c.columns.column in
+    record {
+      paddings = λ k. ap (λ p. value_at p k) c.at-padding.ensures.same ∙ c.columns.invariant.paddings k;
+      raised = search rules;
+      rest = search rules;
+      most = omega (arith, e, c.columns.invariant.most, c.max-most.ensures, c.in_ok-height.ensures);
+    }
+
+pub returns-clause-widths : goal.returns-clause-widths
+returns-clause-widths g c =
+    let cells = g.R.ExactRecords.cells c.args.records.now in
+    fill_by_all (λ k. max (slice_index c.args.widths.now k) (needed_width cells c.args.config.now c.args.row k))
+    c.columns.widths (columns cells) 0 (omega (arith, c.requires.columns, c.columns.auto.widths))
+    (λ k l. c.columns.invariant.raised k (omega (arith, c.count_columns-column-end.ensures.columns)))
+
+pub returns-clause-lines : goal.returns-clause-lines
+unfolding row_height
+returns-clause-lines g c =
+    let cells = g.R.ExactRecords.cells c.args.records.now in
+    let f = needed_height cells c.args.config.now c.args.row in
+    let e : c.columns.column ≡ columns cells = omega (arith, c.count_columns-column-end.ensures.columns) in
+    c.columns.invariant.most ∙ ap (greatest_below f) e
