@@ -1,3 +1,4 @@
+pub mod CellsBehind
 pub mod FieldRows
 pub mod Joining
 pub mod RowsAdded

@@ -1,6 +1,7 @@
 //! Values as rows: what can be a row of a table, and the records that values make.
 #![tactic(auto)]
 
+mod cells;
 mod rows;
 mod value;
 

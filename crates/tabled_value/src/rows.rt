@@ -8,6 +8,7 @@ ghost use Rattle.tabled_base.specs.Given.{Given};
 ghost use Rattle.tabled_base.specs.declared.error.TableError.TheVariants.{Memory};
 ghost use Rattle.tabled_value.specs.ValueRows.{pairs};
 
+use crate::cells::push_texts;
 use crate::value::Tabled;
 use std::alloc::Global;
 use std::borrow::CowStr;
@@ -29,7 +30,7 @@ where
 {
     let mut rows = Vec::new(alloc);
     'values: for value in iter {
-        rows.push(measured(alloc, value.fields(alloc)?)?)?;
+        rows.push(value_row(alloc, &value)?)?;
     }
     Ok(VecRecords::new(rows))
 }
@@ -52,7 +53,7 @@ where
     let mut rows = Vec::with_capacity(alloc, room)?;
     rows.push(measured(alloc, I::Item::headers(alloc)?)?)?;
     'values: for value in values {
-        rows.push(measured(alloc, value.fields(alloc)?)?)?;
+        rows.push(value_row(alloc, &value)?)?;
     }
     Ok(VecRecords::new(rows))
 }
@@ -109,6 +110,17 @@ fn pair(alloc: Global, name: &str, text: String) -> Result<Vec<Text<String>>, Ta
     Ok(row)
 }
 
+/// The texts of a value's fields, measured.
+fn value_row<T: Tabled>(alloc: Global, value: &T) -> Result<Vec<Text<String>>, TableError>
+    ensures texts { IfOk result (λ row. T.shows value.now row.items) }
+    ensures length { IfOk result (λ row. length row.items ≡ T.LENGTH) }
+    ensures only { IfErr result (λ e. e ≡ Memory) }
+{
+    let mut row = Vec::with_capacity(alloc, T::length())?;
+    value.push_cells(&mut row)?;
+    Ok(row)
+}
+
 /// Texts, measured.
 fn measured(alloc: Global, texts: Vec<CowStr<'_>>) -> Result<Vec<Text<String>>, TableError>
     ensures texts { IfOk result (λ row. row.items ≡ map cow_str_bytes texts.entry.items) }
@@ -116,8 +128,6 @@ fn measured(alloc: Global, texts: Vec<CowStr<'_>>) -> Result<Vec<Text<String>>, 
     ensures only { IfErr result (λ e. e ≡ Memory) }
 {
     let mut row = Vec::with_capacity(alloc, texts.len())?;
-    'texts: for text in texts {
-        row.push(Text::new(text.into_owned(alloc)?))?;
-    }
+    push_texts(&mut row, texts)?;
     Ok(row)
 }

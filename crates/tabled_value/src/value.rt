@@ -1,7 +1,8 @@
 //! What can be a row of a table.
-ghost use Rattle.std.specs.Prelude.{◌≡◌, ℕ, List, IfOk, IfErr, map, vec_len};
+ghost use Rattle.std.specs.Prelude.{◌≡◌, ◌+◌, ℕ, List, IfOk, IfErr, OnOk, map, vec_len};
 ghost use Rattle.std.specs.Cow.{cow_str_bytes};
 ghost use Rattle.tabled_base.specs.declared.error.TableError.TheVariants.{Memory};
+ghost use Rattle.tabled_value.specs.Fields.{CellsAdded};
 
 mod arrays;
 mod holders;
@@ -10,9 +11,10 @@ mod parts;
 mod single;
 mod tuples;
 
+use crate::cells::push_texts;
 use std::alloc::Global;
 use std::borrow::CowStr;
-use tabled_base::TableError;
+use tabled_base::{TableError, Text};
 
 /// A value whose fields are the cells of a row.
 pub trait Tabled {
@@ -40,4 +42,15 @@ pub trait Tabled {
         ensures names { IfOk result (λ v. map cow_str_bytes v.items ≡ names) }
         ensures length { IfOk result (λ v. vec_len v ≡ LENGTH) }
         ensures only { IfErr result (λ e. e ≡ Memory) };
+
+    /// Puts the texts of the fields, measured, behind the cells of a row. Refused only for memory; some of them may
+    /// stand there then.
+    fn push_cells(&self, row: &mut Vec<Text<String>>) -> Result<(), TableError>
+        ensures texts { OnOk result (CellsAdded (shows self.now) row.old.items row.new.items) }
+        ensures length { OnOk result (vec_len row.new ≡ vec_len row.old + LENGTH) }
+        ensures only { IfErr result (λ e. e ≡ Memory) }
+    {
+        let texts = self.fields(*row.allocator())?;
+        push_texts(row, texts)
+    }
 }

@@ -5,10 +5,11 @@ ghost use Rattle.tabled_value.specs.Fields.{Says};
 
 use super::Tabled;
 use super::parts::displayed;
+use crate::cells::push_displayed;
 use std::alloc::Global;
 use std::borrow::CowStr;
 use std::fmt::Display;
-use tabled_base::TableError;
+use tabled_base::{TableError, Text};
 
 impl<T: Display, const N: usize> Tabled for [T; N] {
     ghost LENGTH = { N };
@@ -35,5 +36,12 @@ impl<T: Display, const N: usize> Tabled for [T; N] {
             names.push(displayed(alloc, &place)?)?;
         }
         Ok(names)
+    }
+
+    fn push_cells(&self, row: &mut Vec<Text<String>>) -> Result<(), TableError> {
+        'items: for item in self {
+            push_displayed(row, item)?;
+        }
+        Ok(())
     }
 }

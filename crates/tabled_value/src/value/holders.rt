@@ -3,9 +3,10 @@ ghost use Rattle.std.specs.Prelude.{◌≡◌, [], MatchOption, replicate};
 
 use super::Tabled;
 use super::parts::empty_texts;
+use crate::cells::push_empty;
 use std::alloc::Global;
 use std::borrow::CowStr;
-use tabled_base::TableError;
+use tabled_base::{TableError, Text};
 
 impl<T: Tabled> Tabled for &T {
     ghost LENGTH = { T.LENGTH };
@@ -24,6 +25,10 @@ impl<T: Tabled> Tabled for &T {
 
     fn headers(alloc: Global) -> Result<Vec<CowStr<'static>>, TableError> {
         T::headers(alloc)
+    }
+
+    fn push_cells(&self, row: &mut Vec<Text<String>>) -> Result<(), TableError> {
+        T::push_cells(*self, row)
     }
 }
 
@@ -44,6 +49,10 @@ impl<T: Tabled> Tabled for Box<T> {
 
     fn headers(alloc: Global) -> Result<Vec<CowStr<'static>>, TableError> {
         T::headers(alloc)
+    }
+
+    fn push_cells(&self, row: &mut Vec<Text<String>>) -> Result<(), TableError> {
+        T::push_cells(self, row)
     }
 }
 
@@ -68,5 +77,12 @@ impl<T: Tabled> Tabled for Option<T> {
 
     fn headers(alloc: Global) -> Result<Vec<CowStr<'static>>, TableError> {
         T::headers(alloc)
+    }
+
+    fn push_cells(&self, row: &mut Vec<Text<String>>) -> Result<(), TableError> {
+        match self {
+            None => push_empty(row, T::length()),
+            Some(value) => value.push_cells(row),
+        }
     }
 }

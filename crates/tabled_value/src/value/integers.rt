@@ -4,9 +4,10 @@ ghost use Rattle.std.specs.Fmt.{signed_decimal};
 
 use super::Tabled;
 use super::parts::{one_displayed, one_text};
+use crate::cells::push_integer;
 use std::alloc::Global;
 use std::borrow::CowStr;
-use tabled_base::TableError;
+use tabled_base::{TableError, Text};
 
 impl Tabled for i8 {
     ghost LENGTH = { 1 };
@@ -25,6 +26,10 @@ impl Tabled for i8 {
 
     fn headers(alloc: Global) -> Result<Vec<CowStr<'static>>, TableError> {
         one_text(alloc, "i8")
+    }
+
+    fn push_cells(&self, row: &mut Vec<Text<String>>) -> Result<(), TableError> {
+        push_integer(row, *self)
     }
 }
 
@@ -46,6 +51,10 @@ impl Tabled for i16 {
     fn headers(alloc: Global) -> Result<Vec<CowStr<'static>>, TableError> {
         one_text(alloc, "i16")
     }
+
+    fn push_cells(&self, row: &mut Vec<Text<String>>) -> Result<(), TableError> {
+        push_integer(row, *self)
+    }
 }
 
 impl Tabled for i32 {
@@ -65,6 +74,10 @@ impl Tabled for i32 {
 
     fn headers(alloc: Global) -> Result<Vec<CowStr<'static>>, TableError> {
         one_text(alloc, "i32")
+    }
+
+    fn push_cells(&self, row: &mut Vec<Text<String>>) -> Result<(), TableError> {
+        push_integer(row, *self)
     }
 }
 
@@ -86,6 +99,10 @@ impl Tabled for i64 {
     fn headers(alloc: Global) -> Result<Vec<CowStr<'static>>, TableError> {
         one_text(alloc, "i64")
     }
+
+    fn push_cells(&self, row: &mut Vec<Text<String>>) -> Result<(), TableError> {
+        push_integer(row, *self)
+    }
 }
 
 impl Tabled for i128 {
@@ -105,6 +122,10 @@ impl Tabled for i128 {
 
     fn headers(alloc: Global) -> Result<Vec<CowStr<'static>>, TableError> {
         one_text(alloc, "i128")
+    }
+
+    fn push_cells(&self, row: &mut Vec<Text<String>>) -> Result<(), TableError> {
+        push_integer(row, *self)
     }
 }
 
@@ -126,6 +147,10 @@ impl Tabled for isize {
     fn headers(alloc: Global) -> Result<Vec<CowStr<'static>>, TableError> {
         one_text(alloc, "isize")
     }
+
+    fn push_cells(&self, row: &mut Vec<Text<String>>) -> Result<(), TableError> {
+        push_integer(row, *self)
+    }
 }
 
 impl Tabled for u8 {
@@ -145,6 +170,10 @@ impl Tabled for u8 {
 
     fn headers(alloc: Global) -> Result<Vec<CowStr<'static>>, TableError> {
         one_text(alloc, "u8")
+    }
+
+    fn push_cells(&self, row: &mut Vec<Text<String>>) -> Result<(), TableError> {
+        push_integer(row, *self)
     }
 }
 
@@ -166,6 +195,10 @@ impl Tabled for u16 {
     fn headers(alloc: Global) -> Result<Vec<CowStr<'static>>, TableError> {
         one_text(alloc, "u16")
     }
+
+    fn push_cells(&self, row: &mut Vec<Text<String>>) -> Result<(), TableError> {
+        push_integer(row, *self)
+    }
 }
 
 impl Tabled for u32 {
@@ -185,6 +218,10 @@ impl Tabled for u32 {
 
     fn headers(alloc: Global) -> Result<Vec<CowStr<'static>>, TableError> {
         one_text(alloc, "u32")
+    }
+
+    fn push_cells(&self, row: &mut Vec<Text<String>>) -> Result<(), TableError> {
+        push_integer(row, *self)
     }
 }
 
@@ -206,6 +243,10 @@ impl Tabled for u64 {
     fn headers(alloc: Global) -> Result<Vec<CowStr<'static>>, TableError> {
         one_text(alloc, "u64")
     }
+
+    fn push_cells(&self, row: &mut Vec<Text<String>>) -> Result<(), TableError> {
+        push_integer(row, *self)
+    }
 }
 
 impl Tabled for u128 {
@@ -226,6 +267,10 @@ impl Tabled for u128 {
     fn headers(alloc: Global) -> Result<Vec<CowStr<'static>>, TableError> {
         one_text(alloc, "u128")
     }
+
+    fn push_cells(&self, row: &mut Vec<Text<String>>) -> Result<(), TableError> {
+        push_integer(row, *self)
+    }
 }
 
 impl Tabled for usize {
@@ -245,5 +290,9 @@ impl Tabled for usize {
 
     fn headers(alloc: Global) -> Result<Vec<CowStr<'static>>, TableError> {
         one_text(alloc, "usize")
+    }
+
+    fn push_cells(&self, row: &mut Vec<Text<String>>) -> Result<(), TableError> {
+        push_integer(row, *self)
     }
 }

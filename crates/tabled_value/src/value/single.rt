@@ -5,9 +5,10 @@ ghost use Rattle.tabled_base.specs.declared.error.TableError.TheVariants.{Memory
 
 use super::Tabled;
 use super::parts::{one_displayed, one_text};
+use crate::cells::push_text;
 use std::alloc::Global;
 use std::borrow::CowStr;
-use tabled_base::TableError;
+use tabled_base::{TableError, Text};
 
 impl Tabled for &str {
     ghost LENGTH = { 1 };
@@ -37,6 +38,10 @@ impl Tabled for &str {
     {
         one_text(alloc, "&str")
     }
+
+    fn push_cells(&self, row: &mut Vec<Text<String>>) -> Result<(), TableError> {
+        push_text(row, self)
+    }
 }
 
 impl Tabled for String {
@@ -56,6 +61,10 @@ impl Tabled for String {
 
     fn headers(alloc: Global) -> Result<Vec<CowStr<'static>>, TableError> {
         one_text(alloc, "String")
+    }
+
+    fn push_cells(&self, row: &mut Vec<Text<String>>) -> Result<(), TableError> {
+        push_text(row, self.as_str())
     }
 }
 
@@ -77,6 +86,10 @@ impl Tabled for char {
     fn headers(alloc: Global) -> Result<Vec<CowStr<'static>>, TableError> {
         one_text(alloc, "char")
     }
+
+    fn push_cells(&self, row: &mut Vec<Text<String>>) -> Result<(), TableError> {
+        push_text(row, self.encode_utf8(&mut [0; 4]))
+    }
 }
 
 impl Tabled for bool {
@@ -96,5 +109,9 @@ impl Tabled for bool {
 
     fn headers(alloc: Global) -> Result<Vec<CowStr<'static>>, TableError> {
         one_text(alloc, "bool")
+    }
+
+    fn push_cells(&self, row: &mut Vec<Text<String>>) -> Result<(), TableError> {
+        push_text(row, if *self { "true" } else { "false" })
     }
 }

@@ -6,7 +6,7 @@ use super::Tabled;
 use super::parts::joined;
 use std::alloc::Global;
 use std::borrow::CowStr;
-use tabled_base::TableError;
+use tabled_base::{TableError, Text};
 
 impl<A: Tabled> Tabled for (A,) {
     ghost LENGTH = { A.LENGTH };
@@ -25,6 +25,10 @@ impl<A: Tabled> Tabled for (A,) {
 
     fn headers(alloc: Global) -> Result<Vec<CowStr<'static>>, TableError> {
         A::headers(alloc)
+    }
+
+    fn push_cells(&self, row: &mut Vec<Text<String>>) -> Result<(), TableError> {
+        A::push_cells(&self.0, row)
     }
 }
 
@@ -45,6 +49,11 @@ impl<A: Tabled, B: Tabled> Tabled for (A, B) {
 
     fn headers(alloc: Global) -> Result<Vec<CowStr<'static>>, TableError> {
         joined(A::headers(alloc)?, B::headers(alloc)?)
+    }
+
+    fn push_cells(&self, row: &mut Vec<Text<String>>) -> Result<(), TableError> {
+        self.0.push_cells(row)?;
+        self.1.push_cells(row)
     }
 }
 
@@ -69,6 +78,12 @@ impl<A: Tabled, B: Tabled, C: Tabled> Tabled for (A, B, C) {
     fn headers(alloc: Global) -> Result<Vec<CowStr<'static>>, TableError> {
         let rest = joined(B::headers(alloc)?, C::headers(alloc)?)?;
         joined(A::headers(alloc)?, rest)
+    }
+
+    fn push_cells(&self, row: &mut Vec<Text<String>>) -> Result<(), TableError> {
+        self.0.push_cells(row)?;
+        self.1.push_cells(row)?;
+        self.2.push_cells(row)
     }
 }
 
@@ -96,6 +111,13 @@ impl<A: Tabled, B: Tabled, C: Tabled, D: Tabled> Tabled for (A, B, C, D) {
         let rest = joined(C::headers(alloc)?, D::headers(alloc)?)?;
         let rest = joined(B::headers(alloc)?, rest)?;
         joined(A::headers(alloc)?, rest)
+    }
+
+    fn push_cells(&self, row: &mut Vec<Text<String>>) -> Result<(), TableError> {
+        self.0.push_cells(row)?;
+        self.1.push_cells(row)?;
+        self.2.push_cells(row)?;
+        self.3.push_cells(row)
     }
 }
 
@@ -126,6 +148,14 @@ impl<A: Tabled, B: Tabled, C: Tabled, D: Tabled, E: Tabled> Tabled for (A, B, C,
         let rest = joined(C::headers(alloc)?, rest)?;
         let rest = joined(B::headers(alloc)?, rest)?;
         joined(A::headers(alloc)?, rest)
+    }
+
+    fn push_cells(&self, row: &mut Vec<Text<String>>) -> Result<(), TableError> {
+        self.0.push_cells(row)?;
+        self.1.push_cells(row)?;
+        self.2.push_cells(row)?;
+        self.3.push_cells(row)?;
+        self.4.push_cells(row)
     }
 }
 
@@ -161,5 +191,14 @@ impl<A: Tabled, B: Tabled, C: Tabled, D: Tabled, E: Tabled, F: Tabled> Tabled
         let rest = joined(C::headers(alloc)?, rest)?;
         let rest = joined(B::headers(alloc)?, rest)?;
         joined(A::headers(alloc)?, rest)
+    }
+
+    fn push_cells(&self, row: &mut Vec<Text<String>>) -> Result<(), TableError> {
+        self.0.push_cells(row)?;
+        self.1.push_cells(row)?;
+        self.2.push_cells(row)?;
+        self.3.push_cells(row)?;
+        self.4.push_cells(row)?;
+        self.5.push_cells(row)
     }
 }

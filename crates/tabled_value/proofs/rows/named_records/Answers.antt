@@ -1,4 +1,4 @@
-use Rattle.std.proofs.Common.{◌∙◌, rules, subst, sym}
+use Rattle.std.proofs.Common.{◌∙◌, rules}
 use Rattle.tabled_value.proofs.RowsAdded.{names_stand, rectangular_named, values_added}
 use Rattle.tabled_value.proofs.rows.named_records.Goals as goal
 
@@ -10,9 +10,8 @@ values-init g c =
 pub values-preserved : goal.values-preserved
 values-preserved g c =
     values_added g.I.Item.Tabled.shows g.I.Item.Tabled.LENGTH c.values.yielded _ c.values.rows.items c.push-in-values.new.self.items
-    c.in_ok-measured-2.field-0 c.in-Some.value c.values.invariant c.in_ok-push-2.ensures.items
-    (subst (g.I.Item.Tabled.shows c.in-Some.value) (sym c.in_ok-measured-2.ensures.texts) c.in_ok-fields.ensures.texts)
-    (c.in_ok-measured-2.ensures.length ∙ c.in_ok-fields.ensures.length)
+    c.in_ok-value_row.field-0 c.in-Some.value c.values.invariant c.in_ok-push-2.ensures.items c.in_ok-value_row.ensures.texts
+    c.in_ok-value_row.ensures.length
 
 pub new-requires : goal.new-requires
 new-requires g c =

@@ -1,0 +1,9 @@
+use Rattle.std.proofs.Common.{◌≡◌, ◌+◌, ◌++◌, length, map, vec_len}
+use Rattle.std.specs.Cow.{cow_str_bytes}
+use Rattle.tabled_value.proofs.cells.push_texts.Given as goal
+
+abbrev pub invariant-texts : goal.invariant-texts
+invariant-texts l = record {
+  texts : l.row.items ≡ l.initial.row.items ++ map cow_str_bytes l.yielded;
+  length : vec_len l.row ≡ vec_len l.initial.row + length l.yielded;
+}
