@@ -100,7 +100,7 @@ fn sunk(alloc: Global) -> Result<Found, TableError> {
 // Whether a configuration leaves nothing of a style.
 fn prints_bare<O>(table: &mut Table, config: O) -> Result<bool, TableError>
 where
-    O: TableOption<VecRecords<Text<String>>, ColoredConfig, CompleteDimension>,
+    O: TableOption<VecRecords<Text<String>>, ColoredConfig, CompleteDimension> + Drop,
 {
     table.with(Style::markdown())?;
     table.with(config)?;

@@ -12,7 +12,7 @@ use tabled::grid::dimension::{
     CompleteDimension, ConstDimension, ConstSize, Dimension, DimensionValue, Estimate,
     StaticDimension, ZeroDimension,
 };
-use tabled::grid::records::{ExactRecords, RecordsMut, Text, VecRecords};
+use tabled::grid::records::{CellText, ExactRecords, RecordsMut, Text, VecRecords};
 use tabled::grid::util::string::{cut_str, split_str, wrap_text};
 use tabled::settings::measurement::{Max, Measurement, Min, Percent};
 use tabled::settings::object::{Cell, Columns, Object, Rows, Segment};
@@ -62,10 +62,7 @@ fn built(alloc: Global) -> Result<VecRecords<Text<String>>, TableError> {
     Ok(builder.build())
 }
 
-fn is_copied(
-    alloc: Global,
-    records: &mut VecRecords<Text<String>>,
-) -> Result<bool, TableError> {
+fn is_copied(alloc: Global, records: &mut VecRecords<Text<String>>) -> Result<bool, TableError> {
     if records.count_rows() == 0 || records.count_columns() == 0 {
         return Ok(false);
     }
@@ -123,6 +120,16 @@ fn chosen(alloc: Global) -> Result<Found, TableError> {
     Ok(whole_if(is_right))
 }
 
+// Whether a value puts that text into the first cell of a row.
+fn puts<T: Tabled>(alloc: Global, value: &T, wanted: &str) -> Result<bool, TableError> {
+    let mut row = Vec::new(alloc);
+    value.push_cells(&mut row)?;
+    match row.first() {
+        Some(cell) => Ok(cell.text() == wanted),
+        None => Ok(false),
+    }
+}
+
 // Whether a value has a field of that name and text.
 fn tells<T: Tabled>(
     alloc: Global,
@@ -133,7 +140,10 @@ fn tells<T: Tabled>(
     let mut names = T::headers(alloc)?.into_iter();
     let mut fields = value.fields(alloc)?.into_iter();
     match (names.next(), fields.next()) {
-        (Some(first), Some(field)) => Ok(first.as_str() == name && field.as_str() == wanted),
+        (Some(first), Some(field)) => {
+            let is_right = first.as_str() == name && field.as_str() == wanted;
+            Ok(is_right && puts(alloc, value, wanted)?)
+        }
         _ => Ok(false),
     }
 }
