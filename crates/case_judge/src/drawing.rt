@@ -18,18 +18,18 @@ use toml::Value;
 pub fn table_of(alloc: Global, rows: &[Value]) -> Result<Table, Fault> {
     let mut builder = Builder::new(alloc);
     for row in rows {
-        push_row(alloc, &mut builder, list_of(row)?)?;
+        builder.push_record(texts_of(alloc, list_of(row)?)?)?;
     }
     Ok(Table::from(builder))
 }
 
-fn push_row(alloc: Global, builder: &mut Builder, row: &[Value]) -> Result<(), Fault> {
+/// The texts of a list.
+pub fn texts_of<'a>(alloc: Global, list: &'a [Value]) -> Result<Vec<&'a str>, Fault> {
     let mut texts = Vec::new(alloc);
-    for text in row {
+    for text in list {
         texts.push(text_of(text)?)?;
     }
-    builder.push_record(texts)?;
-    Ok(())
+    Ok(texts)
 }
 
 /// What a table answers to a question.

@@ -2,6 +2,7 @@
 
 use crate::drawing::{answer, shown_word, table_of};
 use crate::fault::Fault;
+use crate::printers::{Printed, print_case};
 use crate::reading::{list_at, text_at, text_of};
 use crate::report::{compare, wanted};
 use crate::settings::set;
@@ -10,6 +11,13 @@ use crate::sizing::narrowed;
 use std::alloc::{AllocError, Global};
 use tabled::{Table, TableError};
 use toml::Value;
+
+// What is asked: a table, of which a command may have been refused, or what was printed.
+#[derive(Clone, Copy)]
+enum Judged<'a> {
+    Table(&'a Table, Option<TableError>),
+    Printed(&'a Printed),
+}
 
 /// What is told of a case of some kind, also where it can't be judged; nothing where it holds.
 pub fn told(alloc: Global, kind: &str, case: &toml::Table) -> Result<String, AllocError> {
@@ -26,7 +34,10 @@ fn judge(alloc: Global, kind: &str, case: &toml::Table) -> Result<String, Fault>
         "case" => judge_table(alloc, case, &mut report)?,
         "text" => judge_text(alloc, case, &mut report)?,
         "shrink" => judge_sizes(alloc, case, &mut report)?,
-        _ => return Err(Fault::Unknown("no such kind of case")),
+        _ => {
+            let printed = print_case(alloc, kind, case)?;
+            judge_answers(alloc, Judged::Printed(&printed), case, &mut report)?;
+        }
     }
     Ok(report)
 }
@@ -45,7 +56,7 @@ fn judge_table(alloc: Global, case: &toml::Table, report: &mut String) -> Result
     if stopped.is_some() && !case.contains_key("stopped") {
         return Err(Fault::Unknown("a setting is refused"));
     }
-    judge_answers(alloc, &table, stopped, case, report)
+    judge_answers(alloc, Judged::Table(&table, stopped), case, report)
 }
 
 // Obeys the commands, up to one that is refused.
@@ -72,8 +83,7 @@ fn set_each(
 // Compares each answer with what is wanted.
 fn judge_answers(
     alloc: Global,
-    table: &Table,
-    stopped: Option<TableError>,
+    judged: Judged<'_>,
     case: &toml::Table,
     report: &mut String,
 ) -> Result<(), Fault> {
@@ -81,7 +91,7 @@ fn judge_answers(
     for (question, value) in case {
         if !is_given(question.as_str()) {
             asked = true;
-            judge_answer(alloc, table, stopped, question.as_str(), value, report)?;
+            judge_answer(alloc, judged, question.as_str(), value, report)?;
         }
     }
     if asked {
@@ -93,21 +103,21 @@ fn judge_answers(
 
 // Whether a key says what is given.
 fn is_given(key: &str) -> bool {
-    key == "name" || key == "rows" || key == "set"
+    key == "name" || key == "rows" || key == "tree" || key == "set"
 }
 
 // Only where a command was refused it can be asked why.
 fn judge_answer(
     alloc: Global,
-    table: &Table,
-    stopped: Option<TableError>,
+    judged: Judged<'_>,
     question: &str,
     value: &Value,
     report: &mut String,
 ) -> Result<(), Fault> {
-    let answer = match stopped {
-        Some(error) if question == "stopped" => shown_word(alloc, error)?,
-        _ => answer(alloc, table, question)?,
+    let answer = match judged {
+        Judged::Table(_, Some(error)) if question == "stopped" => shown_word(alloc, error)?,
+        Judged::Table(table, _) => answer(alloc, table, question)?,
+        Judged::Printed(printed) => printed.answer(alloc, question)?,
     };
     let wanted = wanted(alloc, value)?;
     compare(report, question, answer.as_str(), wanted.as_str())?;

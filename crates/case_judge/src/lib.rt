@@ -1,14 +1,16 @@
 //! Cases: tables beside what is wanted of them, as data, and what is told where one doesn't come out as it should. It
 //! stands below the program `cases`, which therefore names no table.
 //!
-//! A case has rows, commands that set the table in order, and what is wanted of it; a text is narrowed by itself, and
-//! lists of sizes are shrunk by each priority that is named.
+//! A case has rows, commands that set the table in order, and what is wanted of it; so have cases of the printers that
+//! keep no `Table`. A text is narrowed by itself, and lists of sizes are shrunk by each priority that is named.
 #![tactic(auto)]
 
 mod drawing;
 mod fault;
 mod judging;
+mod looks;
 mod never;
+mod printers;
 mod reading;
 mod report;
 mod settings;

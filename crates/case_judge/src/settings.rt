@@ -56,7 +56,7 @@ fn set_sizes(
 // Sets what is seen around the texts.
 fn set_look(table: &mut Table, kind: &str, words: &mut Words<'_>) -> Result<(), Fault> {
     match kind {
-        "style" => set_style(table, words.word()),
+        "style" => Ok(table.apply(style_of(words.word())?)?),
         "bare" => set_bare(table),
         "border" => set_border(table, words),
         "line" => set_line(table, words),
@@ -67,18 +67,17 @@ fn set_look(table: &mut Table, kind: &str, words: &mut Words<'_>) -> Result<(), 
     }
 }
 
-fn set_style(table: &mut Table, name: &str) -> Result<(), Fault> {
-    let style = match name {
-        "ascii" => Style::ascii(),
-        "modern" => Style::modern(),
-        "extended" => Style::extended(),
-        "markdown" => Style::markdown(),
-        "psql" => Style::psql(),
-        "empty" => Style::empty(),
-        _ => return Err(Fault::Unknown("no such style")),
-    };
-    table.apply(style)?;
-    Ok(())
+/// A style by its name.
+pub fn style_of(name: &str) -> Result<Style, Fault> {
+    match name {
+        "ascii" => Ok(Style::ascii()),
+        "modern" => Ok(Style::modern()),
+        "extended" => Ok(Style::extended()),
+        "markdown" => Ok(Style::markdown()),
+        "psql" => Ok(Style::psql()),
+        "empty" => Ok(Style::empty()),
+        _ => Err(Fault::Unknown("no such style")),
+    }
 }
 
 // No borders and no padding.
@@ -130,8 +129,8 @@ fn set_line(table: &mut Table, words: &mut Words<'_>) -> Result<(), Fault> {
     Ok(())
 }
 
-// Sizes of the left, the right, the top and the bottom, and then their fills: spaces, if none is given.
-fn read_sides(words: &mut Words<'_>) -> Result<Sides<Indent>, Fault> {
+/// Sizes of the left, the right, the top and the bottom, and then their fills: spaces, if none is given.
+pub fn read_sides(words: &mut Words<'_>) -> Result<Sides<Indent>, Fault> {
     let sizes = [
         words.number()?,
         words.number()?,

@@ -15,7 +15,7 @@ macro_rules! texts {
     }};
 }
 
-/// A language, who designed it, and when it came.
+/// What a language is called, who designed it, and when it came.
 #[derive(Drop)]
 pub(crate) struct Language {
     pub name: &'static str,
@@ -23,7 +23,7 @@ pub(crate) struct Language {
     pub year: &'static str,
 }
 
-/// The first language of the pictures.
+/// A language.
 pub(crate) const C: Language = Language {
     name: "C",
     designer: "Dennis Ritchie",

@@ -1,4 +1,4 @@
-//! Whole pictures.
+//! Records of values, and headers that a function answers.
 
 use crate::named::{C, Language, Plain, Quoted};
 use std::alloc::{AllocError, Global};
@@ -7,47 +7,20 @@ use std::test::Fail;
 use tabled_base::TableError;
 use tabled_extended::{ExtendedTable, FnTemplate, LabelFn};
 
-/// The picture of the language.
-pub(crate) const LANGUAGE: &str = "\
+const LANGUAGE: &str = "\
 -[ RECORD 0 ]-+---------------
 name          | C
 designed_by   | Dennis Ritchie
 invented_year | 1972";
 
-const TWO: &str = "\
--[ RECORD 0 ]-+--------------------
-name          | C
-designed_by   | Dennis Ritchie
-invented_year | 1972
--[ RECORD 1 ]-+--------------------
-name          | Rust
-designed_by   | Graydon Hoare et al
-invented_year | 2010";
-
 // Stops a test where a text isn't the wanted one; one that is refused ends it.
-pub(crate) fn assert_text(
+fn assert_text(
     rt: &impl Abort,
     text: Result<String, TableError>,
     wanted: &str,
 ) -> Result<(), Fail> {
     assert_eq!(rt; text?.as_str(), wanted);
     Ok(())
-}
-
-fn languages(alloc: Global) -> Result<String, TableError> {
-    let rust = Language {
-        name: "Rust",
-        designer: "Graydon Hoare et al",
-        year: "2010",
-    };
-    ExtendedTable::new(alloc, [C, rust])?.to_string()
-}
-
-#[test]
-fn a_record_has_a_header_and_a_line_for_each_field(rt: HostRuntime) -> Result<(), Fail> {
-    let text = ExtendedTable::new(rt.alloc(), [C])?.to_string();
-    assert_text(&rt, text, LANGUAGE)?;
-    assert_text(&rt, languages(rt.alloc()), TWO)
 }
 
 fn plain(alloc: Global, text: &'static str) -> Result<String, TableError> {
@@ -64,13 +37,6 @@ fn new_escapes_names_and_texts(rt: HostRuntime) -> Result<(), Fail> {
     let text = plain(rt.alloc(), "\u{7f}\u{9f}\u{a0}");
     let wanted = "-[ RECORD 0 ]----\nk | \\u{7f}\\u{9f}\u{a0}";
     assert_text(&rt, text, wanted)
-}
-
-#[test]
-fn no_record_prints_nothing(rt: HostRuntime) -> Result<(), Fail> {
-    let none: [Language; 0] = [];
-    let text = ExtendedTable::new(rt.alloc(), none)?.to_string();
-    assert_text(&rt, text, "")
 }
 
 fn both(
@@ -93,7 +59,11 @@ fn a_function_answers_the_headers(rt: HostRuntime) -> Result<(), Fail> {
     let alloc = rt.alloc();
     let table = both(alloc, "v", "")?;
     let text = under(table, |index: usize| format!(in alloc; "r{index}"));
-    assert_text(&rt, text, "-r0--\nk | v\n-r1--\nk | ")
+    assert_text(&rt, text, "-r0--\nk | v\n-r1--\nk | ")?;
+    // A character of two columns takes two.
+    let table = both(alloc, "中", "a")?;
+    let text = under(table, |_index: usize| Ok(String::new(alloc)));
+    assert_text(&rt, text, "--+---\nk | 中\n--+---\nk | a")
 }
 
 // What printing under headers that a function answers leaves in a text.
@@ -130,21 +100,6 @@ fn a_refused_label_leaves_the_records_before_its_own(rt: HostRuntime) -> Result<
     Ok(())
 }
 
-#[test]
-fn a_character_of_two_columns_takes_two(rt: HostRuntime) -> Result<(), Fail> {
-    let alloc = rt.alloc();
-    let table = both(alloc, "中", "a")?;
-    let text = under(table, |_index: usize| Ok(String::new(alloc)));
-    assert_text(&rt, text, "--+---\nk | 中\n--+---\nk | a")
-}
-
-#[test]
-fn the_first_row_names_the_fields_and_nothing_is_escaped(rt: HostRuntime) -> Result<(), Fail> {
-    let rows = [["k", "中\""], ["v", "\\"]];
-    let text = ExtendedTable::from_rows(rt.alloc(), rows)?.to_string();
-    assert_text(&rt, text, "-[ RECORD 0 ]-\nk   | v\n中\" | \\")
-}
-
 // What Display writes of a copy of a table.
 fn copied(alloc: Global, table: &ExtendedTable) -> Result<String, TableError> {
     let copy = table.clone()?;
@@ -154,5 +109,8 @@ fn copied(alloc: Global, table: &ExtendedTable) -> Result<String, TableError> {
 #[test]
 fn a_copy_displays_the_same_picture(rt: HostRuntime) -> Result<(), Fail> {
     let table = ExtendedTable::new(rt.alloc(), [C])?;
-    assert_text(&rt, copied(rt.alloc(), &table), LANGUAGE)
+    assert_text(&rt, copied(rt.alloc(), &table), LANGUAGE)?;
+    let none: [Language; 0] = [];
+    let table = ExtendedTable::new(rt.alloc(), none)?;
+    assert_text(&rt, copied(rt.alloc(), &table), "")
 }

@@ -1,0 +1,140 @@
+//! How rows and boxes are printed without a `Table`.
+
+use crate::fault::Fault;
+use crate::settings::{read_sides, style_of};
+use crate::words::Words;
+use std::alloc::Global;
+use tabled::grid::config::{ANSIStr, AlignmentHorizontal, Borders, CompactConfig, Indent, Sides};
+use tabled::grid::dimension::{DimensionPriority, PoolTableDimension};
+use tabled::settings::Style;
+
+/// What commands say of a picture.
+#[derive(Drop)]
+pub struct Look {
+    pub config: CompactConfig,
+    pub boxes: PoolTableDimension,
+    pub widths: Vec<usize>,
+    pub width: Option<usize>,
+    pub height: Option<usize>,
+    pub columns: Option<usize>,
+    pub rows: Option<usize>,
+    pub sniff: Option<usize>,
+    pub skip: usize,
+}
+
+impl Look {
+    /// Ascii borders, and one column of padding left and right.
+    pub fn new(alloc: Global) -> Look {
+        let one = Indent::spaced(1);
+        let none = Indent::zero();
+        Look {
+            config: CompactConfig::new()
+                .set_borders(Style::ascii().get_borders())
+                .set_padding(Sides::new(one, one, none, none)),
+            boxes: PoolTableDimension::new(DimensionPriority::List, DimensionPriority::List),
+            widths: Vec::new(alloc),
+            width: None,
+            height: None,
+            columns: None,
+            rows: None,
+            sniff: None,
+            skip: 0,
+        }
+    }
+
+    /// Takes a command of a kind of cases.
+    pub fn take(&mut self, alloc: Global, kind: &str, command: &str) -> Result<(), Fault> {
+        let mut words = Words::new(command);
+        match (kind, words.word()) {
+            ("compact", "widths") => self.widths = words.numbers(alloc)?,
+            ("compact", "skip") => self.skip = words.number()?,
+            ("stream", "sniff") => self.sniff = Some(words.number()?),
+            ("stream", "height") => self.height = Some(words.number()?),
+            ("stream" | "compact", "width") => self.width = Some(words.number()?),
+            ("stream" | "compact", "columns") => self.columns = Some(words.number()?),
+            ("stream" | "compact", "rows") => self.rows = Some(words.number()?),
+            ("boxes", "left_over") => {
+                let width = priority(words.word())?;
+                self.boxes = PoolTableDimension::new(width, priority(words.word())?);
+            }
+            (_, name) => self.config = configured(self.config, name, &mut words)?,
+        }
+        if words.has_more() {
+            return Err(Fault::Unknown("too many words"));
+        }
+        Ok(())
+    }
+}
+
+// Which boxes take what is left over.
+fn priority(word: &str) -> Result<DimensionPriority, Fault> {
+    match word {
+        "first" => Ok(DimensionPriority::First),
+        "last" => Ok(DimensionPriority::Last),
+        "all" => Ok(DimensionPriority::List),
+        _ => Err(Fault::Unknown("no such boxes")),
+    }
+}
+
+// The settings with another one.
+fn configured(
+    config: CompactConfig,
+    name: &str,
+    words: &mut Words<'_>,
+) -> Result<CompactConfig, Fault> {
+    match name {
+        "style" => Ok(config.set_borders(style_of(words.word())?.get_borders())),
+        "padding" => Ok(config.set_padding(read_sides(words)?)),
+        "margin" => Ok(config.set_margin(read_sides(words)?)),
+        "right" => Ok(config.set_alignment_horizontal(AlignmentHorizontal::Right)),
+        "color" => {
+            let colors = *config.get_borders_color();
+            Ok(config.set_borders_color(with_color(colors, words)?))
+        }
+        "padding_colors" => Ok(config.set_padding_color(read_colors(words)?)),
+        "margin_colors" => Ok(config.set_margin_color(read_colors(words)?)),
+        _ => Err(Fault::Unknown("no such command")),
+    }
+}
+
+// A colour by its letter: the upper one is written before a run, and the lower one behind it.
+fn color(letter: &str) -> Result<ANSIStr<'static>, Fault> {
+    match letter {
+        "none" => Ok(ANSIStr::new("", "")),
+        "A" => Ok(ANSIStr::new("A", "a")),
+        "B" => Ok(ANSIStr::new("B", "b")),
+        "C" => Ok(ANSIStr::new("C", "c")),
+        "D" => Ok(ANSIStr::new("D", "d")),
+        "L" => Ok(ANSIStr::new("L", "l")),
+        "R" => Ok(ANSIStr::new("R", "r")),
+        "T" => Ok(ANSIStr::new("T", "t")),
+        _ => Err(Fault::Unknown("no such colour")),
+    }
+}
+
+// The colours of borders with another one at a place.
+fn with_color(
+    mut colors: Borders<ANSIStr<'static>>,
+    words: &mut Words<'_>,
+) -> Result<Borders<ANSIStr<'static>>, Fault> {
+    let place = words.word();
+    let color = Some(color(words.word())?);
+    match place {
+        "top" => colors.top = color,
+        "top_left" => colors.top_left = color,
+        "left" => colors.left = color,
+        "right" => colors.right = color,
+        "bottom" => colors.bottom = color,
+        "bottom_right" => colors.bottom_right = color,
+        _ => return Err(Fault::Unknown("no such border")),
+    }
+    Ok(colors)
+}
+
+// The colours of the left, the right, the top and the bottom.
+fn read_colors(words: &mut Words<'_>) -> Result<Sides<ANSIStr<'static>>, Fault> {
+    let left = color(words.word())?;
+    let right = color(words.word())?;
+    let top = color(words.word())?;
+    Ok(Sides::new(left, right, top, color(words.word())?))
+}

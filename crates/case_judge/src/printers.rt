@@ -1,0 +1,182 @@
+//! What is printed without a `Table`: streams of rows, compact tables, boxes, and records line by line.
+
+use crate::drawing::{shown_word, texts_of};
+use crate::fault::Fault;
+use crate::looks::Look;
+use crate::reading::{list_at, list_of, text_of};
+use crate::words::Words;
+use std::alloc::Global;
+use tabled::TableError;
+use tabled::grid::config::CompactMultilineConfig;
+use tabled::grid::dimension::{DimensionValue, StaticDimension};
+use tabled::tables::{CompactTable, ExtendedTable, IterTable, PoolTable, TableValue};
+use toml::Value;
+
+/// What printing leaves.
+#[derive(Drop)]
+pub struct Printed {
+    text: String,
+    answer: Result<(), TableError>,
+    // Whether boxes keep their texts apart.
+    is_apart: Option<bool>,
+    // How often records were truncated.
+    truncated: Option<usize>,
+}
+
+impl Printed {
+    fn new(alloc: Global) -> Printed {
+        Printed {
+            text: String::new(alloc),
+            answer: Ok(()),
+            is_apart: None,
+            truncated: None,
+        }
+    }
+
+    /// What is out, why the printing is refused, or what was told.
+    pub fn answer(&self, alloc: Global, question: &str) -> Result<String, Fault> {
+        match (question, self.is_apart, self.truncated) {
+            ("picture", _, _) => Ok(String::from_str(alloc, self.text.as_str())?),
+            ("refused", _, _) => match self.answer {
+                Ok(()) => Ok(String::new(alloc)),
+                Err(error) => shown_word(alloc, error),
+            },
+            ("apart", Some(is_apart), _) => Ok(format!(in alloc; "{is_apart}")?),
+            ("truncated", _, Some(count)) => Ok(format!(in alloc; "{count}")?),
+            _ => Err(Fault::Unknown("no such question")),
+        }
+    }
+}
+
+/// Prints what a case of some kind gives, as its commands say.
+pub fn print_case(alloc: Global, kind: &str, case: &toml::Table) -> Result<Printed, Fault> {
+    let commands = list_at(case, "set")?;
+    let rows = rows_of(alloc, list_at(case, "rows")?)?;
+    if kind == "records" {
+        return print_records(alloc, rows, commands);
+    }
+    let mut look = Look::new(alloc);
+    for command in commands {
+        look.take(alloc, kind, text_of(command)?)?;
+    }
+    match (kind, case.get("tree")) {
+        ("stream", None) => print_stream(alloc, rows, &look),
+        ("compact", None) => print_compact(alloc, rows, look),
+        ("boxes", None) => print_boxes(alloc, PoolTable::new(alloc, rows)?, &look),
+        ("boxes", Some(tree)) => {
+            let tree = tree_of(alloc, tree, 9)?;
+            print_boxes(alloc, PoolTable::from_value(tree), &look)
+        }
+        _ => Err(Fault::Unknown("no such kind of case")),
+    }
+}
+
+fn rows_of<'a>(alloc: Global, list: &'a [Value]) -> Result<Vec<Vec<&'a str>>, Fault> {
+    let mut rows = Vec::new(alloc);
+    for row in list {
+        rows.push(texts_of(alloc, list_of(row)?)?)?;
+    }
+    Ok(rows)
+}
+
+fn print_stream(alloc: Global, rows: Vec<Vec<&str>>, look: &Look) -> Result<Printed, Fault> {
+    let mut table = IterTable::new(rows);
+    table.with(look.config)?;
+    if let Some(count) = look.sniff {
+        table.sniff(count);
+    }
+    if let Some(count) = look.columns {
+        table.columns(count);
+    }
+    if let Some(count) = look.rows {
+        table.rows(count);
+    }
+    if let Some(columns) = look.width {
+        table.width(columns);
+    }
+    if let Some(lines) = look.height {
+        table.height(lines);
+    }
+    let mut printed = Printed::new(alloc);
+    printed.answer = table.fmt(alloc, &mut printed.text);
+    Ok(printed)
+}
+
+fn print_compact(alloc: Global, rows: Vec<Vec<&str>>, look: Look) -> Result<Printed, Fault> {
+    let Look {
+        config,
+        widths,
+        width,
+        columns,
+        rows: limit,
+        skip,
+        ..
+    } = look;
+    let widths = match width {
+        Some(width) => DimensionValue::Exact(width),
+        None => DimensionValue::List(widths),
+    };
+    let sizes = StaticDimension::new(widths, DimensionValue::Exact(1));
+    let mut table = CompactTable::with_dimension(rows, sizes)
+        .columns(columns.unwrap_or(0))
+        .skip(skip)
+        .with(config)?;
+    if let Some(count) = limit {
+        table = table.rows(count);
+    }
+    let mut printed = Printed::new(alloc);
+    printed.answer = table.fmt(&mut printed.text);
+    Ok(printed)
+}
+
+fn print_boxes(alloc: Global, mut table: PoolTable, look: &Look) -> Result<Printed, Fault> {
+    table.with(CompactMultilineConfig::from(look.config))?;
+    table.with(look.boxes)?;
+    let mut printed = Printed::new(alloc);
+    printed.is_apart = Some(table.is_apart());
+    printed.answer = table.write_to(&mut printed.text);
+    Ok(printed)
+}
+
+// A text, or a row or a column of such values. Deeper ones than so many levels aren't read.
+fn tree_of(alloc: Global, value: &Value, levels: usize) -> Result<TableValue, Fault> {
+    let Some(table) = value.as_table() else {
+        return Ok(TableValue::Cell(String::from_str(alloc, text_of(value)?)?));
+    };
+    if levels == 0 {
+        return Err(Fault::Unknown("too deep a tree"));
+    }
+    let is_row = table.contains_key("row");
+    let mut children = Vec::new(alloc);
+    for child in list_at(table, if is_row { "row" } else { "column" })? {
+        children.push(tree_of(alloc, child, levels - 1)?)?;
+    }
+    if is_row {
+        Ok(TableValue::Row(children))
+    } else {
+        Ok(TableValue::Column(children))
+    }
+}
+
+// Records below names, truncated in turn to some columns with a suffix.
+fn print_records(
+    alloc: Global,
+    rows: Vec<Vec<&str>>,
+    commands: &[Value],
+) -> Result<Printed, Fault> {
+    let mut table = ExtendedTable::from_rows(alloc, rows)?;
+    let mut count: usize = 0;
+    for command in commands {
+        let mut words = Words::new(text_of(command)?);
+        if words.word() != "truncate" {
+            return Err(Fault::Unknown("no such command"));
+        }
+        if table.truncate(words.number()?, words.others())? {
+            count = count.saturating_add(1);
+        }
+    }
+    let mut printed = Printed::new(alloc);
+    printed.truncated = Some(count);
+    printed.answer = table.write_to(&mut printed.text);
+    Ok(printed)
+}
