@@ -94,21 +94,23 @@ fn printed(alloc: Global, table: &Table) -> Result<Result<String, TableError>, F
         return Err(Fault::Unknown("a writer gets another picture"));
     }
     if let Ok(text) = &printed {
-        if table.is_apart() && !is_straight(text.as_str(), table.total_width()?) {
+        if table.is_apart() && straight_lines(text.as_str(), table.total_width()?).is_none() {
             return Err(Fault::Unknown("a line takes other columns"));
         }
     }
     Ok(printed)
 }
 
-// Whether each line takes so many columns.
-fn is_straight(text: &str, columns: usize) -> bool {
+/// How many lines a text has, if each takes so many columns.
+pub fn straight_lines(text: &str, columns: usize) -> Option<usize> {
+    let mut count: usize = 0;
     for line in lines(text) {
         if line_width(line) != columns {
-            return false;
+            return None;
         }
+        count = count.saturating_add(1);
     }
-    true
+    Some(count)
 }
 
 // The cells, a row a line, each in quotes and with a space behind it.

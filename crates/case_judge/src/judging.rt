@@ -2,6 +2,7 @@
 
 use crate::drawing::{answer, shown_word, table_of};
 use crate::fault::Fault;
+use crate::pairs::judge_pairs;
 use crate::printers::{Printed, print_case};
 use crate::reading::{list_at, text_at, text_of};
 use crate::report::{compare, wanted};
@@ -34,6 +35,7 @@ fn judge(alloc: Global, kind: &str, case: &toml::Table) -> Result<String, Fault>
         "case" => judge_table(alloc, case, &mut report)?,
         "text" => judge_text(alloc, case, &mut report)?,
         "shrink" => judge_sizes(alloc, case, &mut report)?,
+        "pairs" => judge_pairs(alloc, case, &mut report)?,
         _ => {
             let printed = print_case(alloc, kind, case)?;
             judge_answers(alloc, Judged::Printed(&printed), case, &mut report)?;
@@ -59,8 +61,8 @@ fn judge_table(alloc: Global, case: &toml::Table, report: &mut String) -> Result
     judge_answers(alloc, Judged::Table(&table, stopped), case, report)
 }
 
-// Obeys the commands, up to one that is refused.
-fn set_each(
+/// Obeys the commands, up to one that is refused.
+pub fn set_each(
     alloc: Global,
     table: &mut Table,
     commands: &[Value],

@@ -2,7 +2,8 @@
 //! stands below the program `cases`, which therefore names no table.
 //!
 //! A case has rows, commands that set the table in order, and what is wanted of it; so have cases of the printers that
-//! keep no `Table`. A text is narrowed by itself, and lists of sizes are shrunk by each priority that is named.
+//! keep no `Table`. A text is narrowed by itself, lists of sizes are shrunk by each priority that is named, and pairs of
+//! characters are printed through tables of which each line is measured.
 #![tactic(auto)]
 
 mod drawing;
@@ -10,6 +11,7 @@ mod fault;
 mod judging;
 mod looks;
 mod never;
+mod pairs;
 mod printers;
 mod reading;
 mod report;

@@ -1,7 +1,9 @@
 //! What the commands of a case set of its table.
 
 use crate::fault::Fault;
-use crate::sizing::{Change, justify_to, limit_to, resize, set_part, truncate_to, wrap_to};
+use crate::sizing::{
+    Change, justify_to, limit_to, narrow_by, resize, set_part, truncate_to, wrap_to,
+};
 use crate::words::Words;
 use std::alloc::Global;
 use tabled::Table;
@@ -25,6 +27,7 @@ pub fn set(alloc: Global, table: &mut Table, command: &str) -> Result<(), Fault>
         "truncate_to" => truncate_to(table, words.word())?,
         "justify_to" => justify_to(table, words.word())?,
         "limit_to" => limit_to(table, words.word())?,
+        "wrap_by" | "truncate_by" => narrow_by(table, kind, words.number()?)?,
         "widths" | "heights" | "list" => set_sizes(alloc, table, kind, &mut words)?,
         _ => set_look(table, kind, &mut words)?,
     }
@@ -103,6 +106,8 @@ fn with_border(
     match place {
         "horizontal" => borders.horizontal = mark,
         "vertical" => borders.vertical = mark,
+        "left" => borders.left = mark,
+        "right" => borders.right = mark,
         "intersection" => borders.intersection = mark,
         "left_intersection" => borders.left_intersection = mark,
         "right_intersection" => borders.right_intersection = mark,

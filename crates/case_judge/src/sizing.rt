@@ -204,6 +204,21 @@ pub fn limit_to(table: &mut Table, measure: &str) -> Result<(), Fault> {
     Ok(())
 }
 
+/// Wraps or truncates the whole table to so many columns less than it takes, which it has to take then.
+pub fn narrow_by(table: &mut Table, kind: &str, less: usize) -> Result<(), Fault> {
+    let wanted = table.total_width()?.saturating_sub(less);
+    if kind == "wrap_by" {
+        table.apply(Width::wrap(wanted))?;
+    } else {
+        table.apply(Width::truncate(wanted))?;
+    }
+    if table.total_width()? == wanted {
+        Ok(())
+    } else {
+        Err(Fault::Unknown("other columns than were asked for"))
+    }
+}
+
 // A number with a per cent sign.
 fn percent(measure: &str) -> Result<Percent, Fault> {
     match measure.strip_suffix('%') {
