@@ -4,7 +4,6 @@ use Rattle.std.proofs.lemmas.Option.{slice_get-get_or}
 use Rattle.tabled_text.specs.Measure.{line_columns, lines_of, text_columns}
 use Rattle.tabled_text.proofs.Bridge.{some_line}
 use Rattle.tabled_border.specs.declared.sides.Indent.{Indent}
-use Rattle.tabled_border.specs.Frame.{has_bar}
 use Rattle.tabled_config.specs.declared.alignment.AlignmentHorizontal.{AlignmentHorizontal}
 use Rattle.tabled_config.specs.declared.alignment.AlignmentHorizontal.TheVariants as horizontal
 use Rattle.tabled_config.specs.declared.spanned.CellStyle.{CellStyle}

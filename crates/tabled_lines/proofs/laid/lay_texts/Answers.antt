@@ -1,4 +1,4 @@
-use Rattle.std.proofs.Common.{◌<◌, arith, refl}
+use Rattle.std.proofs.Common.{arith, refl}
 use Rattle.tabled_lines.proofs.Laying.{laid-all, laid-begins, laid-more, laid-next, laid-none, laid-stands, stands-long}
 use Rattle.tabled_lines.proofs.laid.lay_texts.Goals as goal
 

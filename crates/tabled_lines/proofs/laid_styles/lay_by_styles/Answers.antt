@@ -1,4 +1,4 @@
-use Rattle.std.proofs.Common.{◌<◌, ◌∙◌, arith, refl}
+use Rattle.std.proofs.Common.{◌∙◌, arith, refl}
 use Rattle.tabled_lines.proofs.Laying.{laid-all, laid-begins, laid-next, laid-none, laid-stands, stands-long}
 use Rattle.tabled_lines.proofs.LayingStyles.{laid-by-style}
 use Rattle.tabled_lines.proofs.laid_styles.lay_by_styles.Goals as goal

@@ -105,7 +105,7 @@ pub returns-clause-utf8 : goal.returns-clause-utf8
 returns-clause-utf8 g c = λ u.
     let before = before-within c.args.style.now.horizontal c.in_ok-free.free in
     let within : c.args.style.now.padding.left.size + c.before_text.result + length c.first_line-taken.result.0.now
-        ≤ (g.R.Row.sheet c.args.row.now).columns.width c.args.column =
+    ≤ (g.R.Row.sheet c.args.row.now).columns.width c.args.column =
     omega (
       arith,
       before,
