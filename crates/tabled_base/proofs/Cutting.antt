@@ -1,5 +1,5 @@
 -- What holds while a text is cut into cells and rows.
-use Rattle.std.proofs.Common.{◌≡◌, ◌==◌, ◌&&◌, true, ℕ, ◌+◌, ◌-◌, ◌<◌, ◌≤◌, false, List, [], ◌∷◌, ◌++◌, length, map, take, drop, get_or, append_assoc, length-append, refl, sym, ap, subst, ◌∙◌, arith}
+use Rattle.std.proofs.Common.{◌≡◌, ◌==◌, ◌&&◌, true, ℕ, zero, suc, ◌+◌, ◌-◌, ◌<◌, ◌≤◌, false, List, [], ◌∷◌, ◌++◌, length, map, take, drop, get_or, append_assoc, length-append, refl, sym, ap, subst, ◌∙◌, arith}
 use Rattle.std.specs.Int.{is_in_range}
 use Rattle.std.specs.List.{list_all, slice_range}
 use Rattle.std.specs.Str.{IsCharBoundary, IsUtf8}
@@ -194,11 +194,21 @@ pub within-end : (text bytes : List ℕ) (start at : ℕ) → at ≤ length byte
     → IsWithin text start (length bytes)
 within-end text bytes start at le end h = subst (IsWithin text start) (omega (arith, le, end)) h
 
--- a printable byte ends no cell
-pub within-printable : (text : List ℕ) (start at : ℕ) → at < length text → IsWithin text start at → is_in_range 0x20 0x7E (get_or text at 0) ≡ true
-    → IsWithin text start (at + 1)
-within-printable text start at l h own =
-    within-more text start at l h (λ e. grind (arith, nat_tests, own, e)) (λ e. grind (arith, nat_tests, own, e))
+-- a run of bytes from the blank on ends no cell
+within-steps : (n : ℕ) (text : List ℕ) (start from high : ℕ) → from + n ≤ length text
+    → ((k : ℕ) → from ≤ k → k < from + n → is_in_range 0x20 high (get_or text k 0) ≡ true) → IsWithin text start from → IsWithin text start (from + n)
+within-steps zero text start from high l run h = subst (IsWithin text start) (omega arith) h
+within-steps (suc n) text start from high l run h =
+    let own : is_in_range 0x20 high (get_or text from 0) ≡ true = run from (omega arith) (omega arith) in
+    let next : IsWithin text start (from + 1) = within-more text start from (omega arith) h (λ e. grind (arith, nat_tests, own, e)) (λ e. grind (arith, nat_tests, own, e)) in
+    let same : from + 1 + n ≡ from + suc n = omega arith in
+    subst (IsWithin text start) same (within-steps n text start (from + 1) high (omega arith) (λ k a b. run k (omega arith) (omega arith)) next)
+
+pub within-run : (text : List ℕ) (start from end high : ℕ) → from ≤ end → end ≤ length text
+    → ((k : ℕ) → from ≤ k → k < end → is_in_range 0x20 high (get_or text k 0) ≡ true) → IsWithin text start from → IsWithin text start end
+within-run text start from end high o l run h =
+    let same : from + (end - from) ≡ end = omega arith in
+    subst (IsWithin text start) same (within-steps (end - from) text start from high (omega arith) (λ k a b. run k a (omega arith)) h)
 
 pub printable-more : (text : List ℕ) (start at : ℕ) → start ≤ at → at < length text → IsPrintable (slice_range text start at)
     → is_in_range 0x20 0x7E (get_or text at 0) ≡ true → IsPrintable (slice_range text start (at + 1))
@@ -212,3 +222,21 @@ pub printable-none : (text : List ℕ) (at : ℕ) → IsPrintable (slice_range t
 printable-none text at =
     let zero : at - at ≡ 0 = omega arith in
     ap (λ n. list_all (is_in_range 0x20 0x7E) (take n (drop at text))) zero
+
+-- a run of printable bytes stays printable
+printable-steps : (n : ℕ) (text : List ℕ) (start from : ℕ) → start ≤ from → from + n ≤ length text
+    → ((k : ℕ) → from ≤ k → k < from + n → is_in_range 0x20 0x7E (get_or text k 0) ≡ true) → IsPrintable (slice_range text start from)
+    → IsPrintable (slice_range text start (from + n))
+printable-steps zero text start from o l run h = let same : from ≡ from + 0 = omega arith in subst (λ i. IsPrintable (slice_range text start i)) same h
+printable-steps (suc n) text start from o l run h =
+    let next = printable-more text start from o (omega arith) h (run from (omega arith) (omega arith)) in
+    let same : from + 1 + n ≡ from + suc n = omega arith in
+    subst (λ i. IsPrintable (slice_range text start i)) same
+    (printable-steps n text start (from + 1) (omega arith) (omega arith) (λ k a b. run k (omega arith) (omega arith)) next)
+
+pub printable-run : (text : List ℕ) (start end : ℕ) → start ≤ end → end ≤ length text
+    → ((k : ℕ) → start ≤ k → k < end → is_in_range 0x20 0x7E (get_or text k 0) ≡ true) → IsPrintable (slice_range text start end)
+printable-run text start end o l run =
+    let same : start + (end - start) ≡ end = omega arith in
+    subst (λ i. IsPrintable (slice_range text start i)) same
+    (printable-steps (end - start) text start start (omega arith) (omega arith) (λ k a b. run k a (omega arith)) (printable-none text start))

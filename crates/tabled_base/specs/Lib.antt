@@ -6,4 +6,5 @@ pub mod LentRows
 pub mod Picks
 pub mod PicksLaws
 pub mod RowsGiven
+pub mod ShortOr
 pub mod TextRows

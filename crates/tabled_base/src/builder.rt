@@ -157,8 +157,7 @@ where
     let cells = cells.into_iter();
     let mut row = Vec::with_capacity(alloc, room)?;
     for cell in cells {
-        let text = String::from_str(alloc, cell.text())?;
-        row.push(Text::new(text))?;
+        row.push(Text::copied(alloc, cell.text())?)?;
     }
     Ok(row)
 }

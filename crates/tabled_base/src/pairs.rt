@@ -1,5 +1,5 @@
 //! Pairs of numbers, in half of the memory as long as the numbers are small.
-ghost use Rattle.std.specs.Prelude.{◌≡◌, ◌<◌, ◌++◌, [], ◌∷◌, IfErr, IfSome, OnOk, length};
+ghost use Rattle.std.specs.Prelude.{◌≡◌, ◌<◌, ◌++◌, [], ◌∷◌, IfErr, IfSome, OnErr, OnOk, length};
 ghost use Rattle.std.specs.List.{slice_index_or};
 ghost use Rattle.tabled_base.specs.declared.error.TableError.TheVariants.{Memory};
 
@@ -10,7 +10,7 @@ use std::marker::Model;
 /// A list of pairs. Up to the first one with a number that doesn't fit 32 bits, a pair takes 8 bytes, and from
 /// there on 16.
 #[derive(Debug, Drop)]
-pub(crate) struct Pairs {
+pub struct Pairs {
     small: Vec<(u32, u32)>,
     great: Vec<(usize, usize)>,
 }
@@ -67,10 +67,11 @@ impl Pairs {
         }
     }
 
-    /// Adds a pair.
+    /// Adds a pair. Where memory is refused, they are as they were.
     #[inline(always)]
     pub fn push(&mut self, pair: (usize, usize)) -> Result<(), TableError>
         ensures ok { OnOk result (self.new ≡ self.old ++ pair ∷ []) }
+        ensures err { OnErr result (self.new ≡ self.old) }
         ensures only { IfErr result (λ e. e ≡ Memory) }
     {
         match small(pair) {

@@ -12,7 +12,7 @@ use crate::error::TableError;
 use crate::lent_rows::{LentCell, LentRows, RowRange};
 use crate::pairs::Pairs;
 use std::alloc::Global;
-use tabled_text::line_width;
+use tabled_text::{line_width, run_end};
 
 /// The rows of a text by line feeds, with cells by tabs, short rows lengthened with empty cells. A last
 /// line feed ends the last row, and the empty text has no row. Every cell lends the text.
@@ -52,19 +52,19 @@ fn split_rows(alloc: Global, text: &str) -> Result<LentRows<'_>, TableError>
     let mut first: usize = 0;
     // Whether the cell is printable ASCII so far.
     let mut printable = true;
-    'bytes: for at in 0..bytes.len() {
+    let mut at = run_end(bytes, 0, b' ', b'~');
+    'bytes: while at < bytes.len() {
         let byte = bytes[at];
-        if matches!(byte, b' '..=b'~') {
-            continue;
-        }
         if byte != b'\t' && byte != b'\n' {
             printable = false;
+            at = run_end(bytes, at + 1, b' ', u8::MAX);
             continue;
         }
         let cell = measured(text, start, at, printable);
         cells.push((cell.end, cell.columns))?;
         start = at + 1;
         printable = true;
+        at = run_end(bytes, start, b' ', b'~');
         if byte == b'\t' {
             continue;
         }

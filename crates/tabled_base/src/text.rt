@@ -1,29 +1,47 @@
 //! A text with its measures.
-ghost use Rattle.std.specs.Prelude.{◌≡◌, ℕ, List, length, IfErr, IfOk};
+ghost use Rattle.std.specs.Prelude.{◌≡◌, ◌<◌, ℕ, List, length, IfErr, IfOk};
 ghost use Rattle.tabled_base.specs.declared.error.TableError.TheVariants.{Memory};
 ghost use Rattle.tabled_text.specs.Measure.{lines_of, text_columns};
 
 use crate::error::TableError;
 use crate::records::CellText;
+use crate::short_or::{SHORT_TEXT, ShortOr};
+use std::alloc::Global;
 use std::convert::AsStr;
 use std::marker::Model;
 use tabled_text::text_measures;
 
-/// A text whose columns and lines were counted once. `Text<String>` owns it, `Text<&str>` lends it.
-#[derive(Debug, Drop)]
+/// A text whose columns and lines were counted once. `Text<String>` owns it, `Text<&str>` lends it. A copy of a short text
+/// stands in the value itself.
+#[derive(Debug)]
 pub struct Text<S: AsStr> {
-    text: S,
+    text: ShortOr<S>,
     columns: usize,
     lines: usize,
 }
 
+/// The fields, one by one.
+impl<S: AsStr + Drop> Drop for Text<S> {
+    fn drop(self) {
+        let Text {
+            text: _,
+            columns: _,
+            lines: _,
+        } = self;
+    }
+}
+
 impl<S: AsStr> Model for Text<S> {
+    ghost use Rattle.std.specs.Prelude.{◌≡◌, ℕ, List, length};
+    ghost use Rattle.tabled_base.specs.ShortOr.{bytes_of};
+    ghost use Rattle.tabled_text.specs.Measure.{lines_of, text_columns};
+
     ghost Value = { List ℕ };
 
-    ghost view = { λ t. S.text t.text };
+    ghost view = { λ t. bytes_of S.text t.text };
 
-    ghost invariant = { λ t. (t.columns ≡ text_columns (S.text t.text))
-        × (t.lines ≡ length (lines_of (S.text t.text))) };
+    ghost invariant = { λ t. (t.columns ≡ text_columns (bytes_of S.text t.text))
+        × (t.lines ≡ length (lines_of (bytes_of S.text t.text))) };
 }
 
 impl<S: AsStr> Text<S> {
@@ -33,7 +51,7 @@ impl<S: AsStr> Text<S> {
     {
         let (columns, lines) = text_measures(text.as_str());
         Text {
-            text,
+            text: ShortOr::Other(text),
             columns,
             lines,
         }
@@ -46,7 +64,7 @@ impl<S: AsStr> Text<S> {
         ensures { result ≡ S.text text }
     {
         Text {
-            text,
+            text: ShortOr::Other(text),
             columns,
             lines,
         }
@@ -70,6 +88,21 @@ impl<S: AsStr> CellText for Text<S> {
 }
 
 impl Text<String> {
+    /// A copy of a text, measured. One of at most 16 bytes stands in the value itself, so that only a longer one may be refused
+    /// memory.
+    pub fn copied(alloc: Global, text: &str) -> Result<Text<String>, TableError>
+        ensures ok { IfOk result (λ copy. copy ≡ text.now) }
+        ensures only { IfErr result (λ e. e ≡ Memory) }
+        ensures long { IfErr result (λ _. SHORT_TEXT < length text.now) }
+    {
+        let (columns, lines) = text_measures(text);
+        Ok(Text {
+            text: ShortOr::copied(alloc, text)?,
+            columns,
+            lines,
+        })
+    }
+
     /// The same text, in memory of its own.
     pub fn clone(&self) -> Result<Text<String>, TableError>
         ensures ok { IfOk result (λ copy. copy ≡ self.now) }

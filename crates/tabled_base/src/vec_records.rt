@@ -138,6 +138,13 @@ impl<T: CellText> PeekableRecords for VecRecords<T> {
         let row = &self.rows[at.row];
         row[at.column].count_lines()
     }
+
+    #[inline(always)]
+    fn get_measured(&self, at: Position) -> (&str, usize, usize) {
+        let row = &self.rows[at.row];
+        let cell = &row[at.column];
+        (cell.text(), cell.width(), cell.count_lines())
+    }
 }
 
 impl RecordsMut for VecRecords<Text<String>> {

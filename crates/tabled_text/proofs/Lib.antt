@@ -1,3 +1,4 @@
+pub mod Blocks
 pub mod BoundLemmas
 pub mod Bridge
 pub mod CheckLemmas
@@ -13,6 +14,7 @@ pub mod LongestLemmas
 pub mod OwnBreaking
 pub mod PlainLemmas
 pub mod PlainLines
+pub mod RunLemmas
 pub mod StayLemmas
 pub mod Tables
 pub mod WordLemmas

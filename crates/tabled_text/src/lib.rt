@@ -13,13 +13,15 @@ pub mod laws;
 mod line;
 mod measure;
 mod plain;
+mod runs;
 mod sink;
 mod wrap;
 
 pub use cut::{cut_str, split_str};
 pub use fullest::is_fullest;
 pub use line::{TextLines, lines, split_line};
-pub use measure::{count_lines, line_width, text_measures, text_width};
+pub use measure::{count_lines, line_width, tail_measures, text_measures, text_width};
 pub use plain::{is_plain, is_plain_column};
+pub use runs::run_end;
 pub use sink::{copies, push_copies};
 pub use wrap::wrap_text;

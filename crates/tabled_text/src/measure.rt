@@ -1,10 +1,12 @@
 //! The columns and the lines of a text.
-ghost use Rattle.std.specs.Prelude.{◌≡◌, ◌*◌, ◌≤◌, length};
+ghost use Rattle.std.specs.Prelude.{◌≡◌, ◌*◌, ◌≤◌, drop, length};
 ghost use Rattle.std.specs.Int.{is_in_range};
 ghost use Rattle.std.specs.List.{list_all};
+ghost use Rattle.std.specs.Str.{IsCharBoundary};
 ghost use Rattle.tabled_text.specs.Measure.{lines_of, line_columns, text_columns};
 
 use crate::line::lines;
+use crate::runs::{BLOCK, is_run};
 use unicode_width::UnicodeWidthStr;
 
 /// The columns of a line, by `unicode_width`. The text is taken as one line, line feeds and all.
@@ -35,13 +37,39 @@ pub fn count_lines(text: &str) -> usize
 }
 
 /// Whether a text is printable ASCII, and so one line of as many columns as bytes.
+#[inline(always)]
 fn is_printable(text: &str) -> bool
     ensures { result ≡ list_all (is_in_range 0x20 0x7E) text.now }
 {
-    text.as_bytes().iter().all(|b| matches!(*b, b' '..=b'~'))
+    is_run(text.as_bytes(), 0, b' ', b'~')
 }
 
-/// The columns and the lines of a text. A text of one line is measured as that line.
+/// Whether what stands behind a place is printable ASCII. What ends a longer text is tested in one block with some bytes before it.
+#[inline(always)]
+fn is_printable_tail(bytes: &[u8], start: usize) -> bool
+    requires { start ≤ length bytes.now }
+    ensures { result ≡ list_all (is_in_range 0x20 0x7E) (drop start bytes.now) }
+{
+    let earlier = start.min(bytes.len().saturating_sub(BLOCK));
+    is_run(bytes, earlier, b' ', b'~') || is_run(bytes, start, b' ', b'~')
+}
+
+/// The columns and the lines of any text. A text of one line is measured as that line.
+#[inline(never)]
+fn measures_of_any(text: &str) -> (usize, usize)
+    ensures columns { result.0 ≡ text_columns text.now }
+    ensures lines { result.1 ≡ length (lines_of text.now) }
+    ensures bound { result.0 ≤ 2 * length text.now }
+{
+    if text.as_bytes().contains(&b'\n') {
+        (text_width(text), count_lines(text))
+    } else {
+        (line_width(text), 1)
+    }
+}
+
+/// The columns and the lines of a text, which are told at once of printable ASCII.
+#[inline]
 pub fn text_measures(text: &str) -> (usize, usize)
     ensures columns { result.0 ≡ text_columns text.now }
     ensures lines { result.1 ≡ length (lines_of text.now) }
@@ -49,9 +77,21 @@ pub fn text_measures(text: &str) -> (usize, usize)
 {
     if is_printable(text) {
         (text.len(), 1)
-    } else if text.as_bytes().contains(&b'\n') {
-        (text_width(text), count_lines(text))
     } else {
-        (line_width(text), 1)
+        measures_of_any(text)
+    }
+}
+
+/// The columns and the lines of what stands behind a place of a text, which are told at once of printable ASCII.
+#[inline]
+pub fn tail_measures(text: &str, start: usize) -> (usize, usize)
+    requires { IsCharBoundary text.now start }
+    ensures columns { result.0 ≡ text_columns (drop start text.now) }
+    ensures lines { result.1 ≡ length (lines_of (drop start text.now)) }
+{
+    if is_printable_tail(text.as_bytes(), start) {
+        (text.len() - start, 1)
+    } else {
+        measures_of_any(&text[start..])
     }
 }

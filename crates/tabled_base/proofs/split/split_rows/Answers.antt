@@ -1,43 +1,51 @@
-use Rattle.std.proofs.Common.{◌≡◌, false, true, ◌+◌, ◌<◌, ◌++◌, [], ◌∷◌, length, map, get_or, sym, ap, subst, ◌∙◌, arith, length-append}
+use Rattle.std.proofs.Common.{◌≡◌, ℕ, List, false, true, ◌+◌, ◌<◌, ◌≤◌, ◌++◌, [], ◌∷◌, length, map, get_or, sym, ap, subst, ◌∙◌, arith, length-append}
 use Rattle.std.specs.Int.{is_in_range}
-use Rattle.std.proofs.lemmas.Bool.Decides.{nat_tests}
 use Rattle.std.proofs.lemmas.Simd.{map-map}
 use Rattle.tabled_text.specs.Measure.{greatest, lines_of}
 use Rattle.tabled_base.specs.Cells.{lengthened}
 use Rattle.tabled_base.specs.LentRows.{AreLent, ArePlaced, IsLent, cells_in, part, rows_in, texts_from}
 use Rattle.tabled_base.specs.TextRows.{cells_of, most_cells}
-use Rattle.tabled_base.proofs.Cutting.{IsWithin, cut-feed, cut-tab, cut-start, inside-next, printable-more, printable-none, rows-cut, within-end, within-more, within-none, within-printable}
+use Rattle.tabled_base.proofs.Cutting.{IsWithin, cut-feed, cut-tab, cut-start, inside-next, printable-run, rows-cut, within-end, within-more, within-none, within-run}
 use Rattle.tabled_base.proofs.LentCells.{cells-count, cells-more, length-texts, lent-more, rows-more}
 use Rattle.tabled_base.proofs.Spans.{AreInside, counts-parts, placed-all, spread-all}
 use Rattle.tabled_base.proofs.split.split_rows.Goals as goal
 
+-- a run of the text's bytes
+run-of : (bytes text : List ℕ) (from end high : ℕ) → bytes ≡ text → ((k : ℕ) → from ≤ k → k < end → is_in_range 0x20 high (get_or bytes k 0) ≡ true)
+    → (k : ℕ) → from ≤ k → k < end → is_in_range 0x20 high (get_or text k 0) ≡ true
+run-of bytes text from end high e run = subst (λ t. (k : ℕ) → from ≤ k → k < end → is_in_range 0x20 high (get_or t k 0) ≡ true) e run
+
 pub bytes-init : goal.bytes-init
 bytes-init c =
+    let text = c.args.text.now in
+    let same = c.as_bytes-bytes.ensures.value in
+    let at = c.run_end-at.result in
+    let ends : at ≤ length text = omega (arith, c.run_end-at.ensures.end, ap length same) in
+    let run = run-of c.as_bytes-bytes.result.now text 0 at 0x7E same c.run_end-at.ensures.passed in
     rw (c.new-cells.ensures, c.new-rows.ensures)
-    (record { cut = cut-start c.args.text.now c.utf8.text; within = within-none c.args.text.now 0; printable = λ _. printable-none c.args.text.now 0 })
+    (record {
+      inside = ends;
+      cut = cut-start text c.utf8.text;
+      within = within-run text 0 0 at 0x7E (omega arith) ends run (within-none text 0);
+      printable = λ _. printable-run text 0 at (omega arith) ends run;
+    })
 
 pub bytes-preserved-then-byte-ne10 : goal.bytes-preserved-then-byte-ne10
 bytes-preserved-then-byte-ne10 c =
     let was = c.bytes.invariant in
-    let same = c.as_bytes-bytes.ensures.value in
-    record {
-      cut = was.cut;
-      within = within-more c.args.text.now c.bytes.start c.bytes.at (subst (λ t. c.bytes.at < length t) same c.bytes-test.true) was.within
-          (subst (λ t. get_or t c.bytes.at 0 ≡ 9 → ⊥) same c.if-byte-ne9.true) (subst (λ t. get_or t c.bytes.at 0 ≡ 10 → ⊥) same c.if-byte-ne10.true);
-      printable = λ e. absurd (let f : false ≡ true = e in cc);
-    }
-
-pub bytes-preserved-then-matches : goal.bytes-preserved-then-matches
-bytes-preserved-then-matches c =
-    let was = c.bytes.invariant in
     let text = c.args.text.now in
     let same = c.as_bytes-bytes.ensures.value in
+    let at = c.run_end-at-then-byte-ne10.result in
     let inside : c.bytes.at < length text = subst (λ t. c.bytes.at < length t) same c.bytes-test.true in
-    let own : is_in_range 0x20 0x7E (get_or text c.bytes.at 0) ≡ true = subst (λ t. is_in_range 0x20 0x7E (get_or t c.bytes.at 0) ≡ true) same (grind (arith, nat_tests, c.if-matches.true)) in
+    let ends : at ≤ length text = omega (arith, c.run_end-at-then-byte-ne10.ensures.end, ap length same) in
+    let run = run-of c.as_bytes-bytes.result.now text (c.bytes.at + 1) at 0xFF same c.run_end-at-then-byte-ne10.ensures.passed in
+    let first = within-more text c.bytes.start c.bytes.at inside was.within
+    (subst (λ t. get_or t c.bytes.at 0 ≡ 9 → ⊥) same c.if-byte-ne9.true) (subst (λ t. get_or t c.bytes.at 0 ≡ 10 → ⊥) same c.if-byte-ne10.true) in
     record {
+      inside = ends;
       cut = was.cut;
-      within = within-printable text c.bytes.start c.bytes.at inside was.within own;
-      printable = λ e. printable-more text c.bytes.start c.bytes.at was.within.ordered inside (was.printable e) own;
+      within = within-run text c.bytes.start (c.bytes.at + 1) at 0xFF c.run_end-at-then-byte-ne10.ensures.from ends run first;
+      printable = λ e. absurd (let f : false ≡ true = e in cc);
     }
 
 pub measured-cell-requires-clause-ordered : goal.measured-cell-requires-clause-ordered
@@ -51,16 +59,16 @@ measured-cell-requires-clause-line c = c.bytes.invariant.within.feeds
 
 pub measured-cell-requires-2-clause-ordered : goal.measured-cell-requires-2-clause-ordered
 measured-cell-requires-2-clause-ordered c =
-    (within-end c.args.text.now c.as_bytes-bytes.result.now c.bytes.start c.bytes.at c.bytes.auto.at-end
-    c.bytes-test.false c.bytes.invariant.within).ordered
+    (within-end c.args.text.now c.as_bytes-bytes.result.now c.bytes.start c.bytes.at
+    (omega (arith, c.bytes.invariant.inside, ap length c.as_bytes-bytes.ensures.value)) c.bytes-test.false c.bytes.invariant.within).ordered
 
 pub measured-cell-requires-2-clause-begins : goal.measured-cell-requires-2-clause-begins
 measured-cell-requires-2-clause-begins c = c.bytes.invariant.cut.begins
 
 pub measured-cell-requires-2-clause-line : goal.measured-cell-requires-2-clause-line
 measured-cell-requires-2-clause-line c =
-    (within-end c.args.text.now c.as_bytes-bytes.result.now c.bytes.start c.bytes.at c.bytes.auto.at-end
-    c.bytes-test.false c.bytes.invariant.within).feeds
+    (within-end c.args.text.now c.as_bytes-bytes.result.now c.bytes.start c.bytes.at
+    (omega (arith, c.bytes.invariant.inside, ap length c.as_bytes-bytes.ensures.value)) c.bytes-test.false c.bytes.invariant.within).feeds
 
 pub bytes-preserved-then-byte-eq9 : goal.bytes-preserved-then-byte-eq9
 bytes-preserved-then-byte-eq9 c =
@@ -70,13 +78,17 @@ bytes-preserved-then-byte-eq9 c =
     let inside : c.bytes.at < length text = subst (λ t. c.bytes.at < length t) same c.bytes-test.true in
     let tab : get_or text c.bytes.at 0 ≡ 9 = subst (λ t. get_or t c.bytes.at 0 ≡ 9) same c.if-byte-eq9.true in
     let pushed = ap cells_in c.in_ok-push.ensures.ok ∙ cells-more c.bytes.cells c.measured-cell.result in
+    let at = c.run_end-at-in-bytes.result in
+    let ends : at ≤ length text = omega (arith, c.run_end-at-in-bytes.ensures.end, ap length same) in
+    let run = run-of c.as_bytes-bytes.result.now text (c.bytes.at + 1) at 0x7E same c.run_end-at-in-bytes.ensures.passed in
     record {
+      inside = ends;
       cut =
           rw pushed
           (cut-tab text (cells_in c.bytes.cells) (rows_in c.bytes.rows) c.bytes.start c.bytes.first c.bytes.at c.measured-cell.result c.utf8.text was.cut
           was.within inside tab c.measured-cell.ensures.lent c.measured-cell.ensures.end);
-      within = within-none text (c.bytes.at + 1);
-      printable = λ _. printable-none text (c.bytes.at + 1);
+      within = within-run text (c.bytes.at + 1) (c.bytes.at + 1) at 0x7E c.run_end-at-in-bytes.ensures.from ends run (within-none text (c.bytes.at + 1));
+      printable = λ _. printable-run text (c.bytes.at + 1) at c.run_end-at-in-bytes.ensures.from ends run;
     }
 
 pub between-row-requires : goal.between-row-requires
@@ -97,13 +109,17 @@ bytes-preserved c =
     let count : c.len.result ≡ length cells = c.len.ensures ∙ sym (cells-count c.push.new.self) ∙ ap length pushed in
     let last : c.len-first.result ≡ length cells = c.len-first.ensures ∙ sym (cells-count c.push.new.self) ∙ ap length pushed in
     let end : c.between-row.result.start + c.between-row.result.count ≡ length cells = c.between-row.ensures.count ∙ count in
+    let at = c.run_end-at-in-bytes.result in
+    let ends : at ≤ length text = omega (arith, c.run_end-at-in-bytes.ensures.end, ap length same) in
+    let run = run-of c.as_bytes-bytes.result.now text (c.bytes.at + 1) at 0x7E same c.run_end-at-in-bytes.ensures.passed in
     record {
+      inside = ends;
       cut =
           rw (pushed, ap rows_in c.in_ok-push-2.ensures.ok ∙ rows-more c.bytes.rows c.between-row.result, last)
           (cut-feed text (cells_in c.bytes.cells) (rows_in c.bytes.rows) c.bytes.start c.bytes.first c.bytes.at c.measured-cell.result c.between-row.result
           c.utf8.text was.cut was.within inside feed c.measured-cell.ensures.lent c.measured-cell.ensures.end c.between-row.ensures.start end);
-      within = within-none text (c.bytes.at + 1);
-      printable = λ _. printable-none text (c.bytes.at + 1);
+      within = within-run text (c.bytes.at + 1) (c.bytes.at + 1) at 0x7E c.run_end-at-in-bytes.ensures.from ends run (within-none text (c.bytes.at + 1));
+      printable = λ _. printable-run text (c.bytes.at + 1) at c.run_end-at-in-bytes.ensures.from ends run;
     }
 
 pub between-row-requires-2 : goal.between-row-requires-2
@@ -145,7 +161,8 @@ returns-clause-ok c =
     let size = ap length c.as_bytes-bytes.ensures.value in
     let pushed : cells_in c.push-2.new.self ≡ cells = ap cells_in c.in_ok-push-3.ensures.ok ∙ cells-more c.bytes.cells c.measured-cell-2.result in
     let put : taken ≡ rows = ap rows_in c.in_ok-push-4.ensures.ok ∙ rows-more c.bytes.rows c.between-row-2.result in
-    let within = within-end text c.as_bytes-bytes.result.now c.bytes.start c.bytes.at c.bytes.auto.at-end c.bytes-test.false c.bytes.invariant.within in
+    let within = within-end text c.as_bytes-bytes.result.now c.bytes.start c.bytes.at
+    (omega (arith, c.bytes.invariant.inside, size)) c.bytes-test.false c.bytes.invariant.within in
     let count : c.len-2.result ≡ length cells = c.len-2.ensures ∙ sym (cells-count c.push-2.new.self) ∙ ap length pushed in
     let end : c.between-row-2.result.start + c.between-row-2.result.count ≡ length cells =
     omega (arith, c.between-row-2.ensures.count, count) in

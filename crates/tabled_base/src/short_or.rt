@@ -1,0 +1,64 @@
+//! A text of few bytes, which stands in a value itself, or a text of another type.
+ghost use Rattle.std.specs.Prelude.{◌≡◌, ◌<◌, IfErr, IfOk, length, string_bytes};
+ghost use Rattle.tabled_base.specs.ShortOr.{bytes_of};
+ghost use Rattle.tabled_base.specs.declared.error.TableError.TheVariants.{Memory};
+
+use crate::error::TableError;
+use arrayvec::ArrayString;
+use std::alloc::Global;
+use std::convert::AsStr;
+use std::fmt;
+
+/// The most bytes of a text that stands in its cell. With its length it is as large as a `String` itself.
+pub const SHORT_TEXT: usize = 16;
+
+/// A text of few bytes, which takes no memory of its own, or one of another type.
+#[derive(Drop)]
+pub(crate) enum ShortOr<S> {
+    Short(ArrayString<SHORT_TEXT>),
+    Other(S),
+}
+
+impl<S: AsStr> ShortOr<S> {
+    /// The text.
+    #[inline(always)]
+    pub fn as_str(&self) -> &str
+        ensures { result.now ≡ bytes_of S.text self.now }
+    {
+        match self {
+            ShortOr::Short(short) => short.as_str(),
+            ShortOr::Other(other) => other.as_str(),
+        }
+    }
+}
+
+impl ShortOr<String> {
+    /// A copy of a text. Only one that isn't short takes memory.
+    pub fn copied(alloc: Global, text: &str) -> Result<ShortOr<String>, TableError>
+        ensures ok { IfOk result (λ copy. bytes_of string_bytes copy ≡ text.now) }
+        ensures only { IfErr result (λ e. e ≡ Memory) }
+        ensures long { IfErr result (λ _. SHORT_TEXT < length text.now) }
+    {
+        match ArrayString::from(text) {
+            Ok(short) => Ok(ShortOr::Short(short)),
+            Err(_) => Ok(ShortOr::Other(String::from_str(alloc, text)?)),
+        }
+    }
+
+    /// The same text, in memory of its own.
+    pub fn clone(&self) -> Result<ShortOr<String>, TableError>
+        ensures ok { IfOk result (λ copy. bytes_of string_bytes copy ≡ bytes_of string_bytes self.now) }
+        ensures only { IfErr result (λ e. e ≡ Memory) }
+    {
+        match self {
+            ShortOr::Short(short) => Ok(ShortOr::Short(*short)),
+            ShortOr::Other(other) => Ok(ShortOr::Other(other.clone()?)),
+        }
+    }
+}
+
+impl<S: AsStr> fmt::Debug for ShortOr<S> {
+    fn fmt<W: fmt::Write>(&self, f: &mut fmt::Formatter<W>) -> fmt::Result {
+        fmt::Debug::fmt(&self.as_str(), f)
+    }
+}

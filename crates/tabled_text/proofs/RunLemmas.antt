@@ -1,0 +1,39 @@
+-- Runs of bytes that pass a test.
+use Rattle.std.proofs.Common.{◌≡◌, ℕ, zero, suc, ◌+◌, ◌-◌, ◌<◌, ◌≤◌, ◌&&◌, Bool, true, false, List, [], ◌∷◌, length, drop, get_or, refl, sym, ap, ◌∙◌, arith}
+use Rattle.std.specs.List.{list_all}
+use Rattle.std.proofs.lemmas.List.{drop-drop, get_or-drop, length-drop}
+use Rattle.std.proofs.lemmas.List.Folds.{list_all_at}
+
+all-of : (test : ℕ → Bool) (xs : List ℕ) → ((k : ℕ) → k < length xs → test (get_or xs k 0) ≡ true) → list_all test xs ≡ true
+all-of test [] h = refl
+all-of test (x ∷ xs) h = ap (λ b. b && list_all test xs) (h 0 (omega arith)) ∙ all-of test xs (λ k l. h (suc k) (omega arith))
+
+-- where a run reaches the end, all behind its beginning passes
+pub run-all : (test : ℕ → Bool) (xs : List ℕ) (from end : ℕ) → ((k : ℕ) → from ≤ k → k < end → test (get_or xs k 0) ≡ true)
+    → length xs ≤ end → list_all test (drop from xs) ≡ true
+run-all test xs from end run e =
+    all-of test (drop from xs) (λ k l. ap test (get_or-drop from xs k 0) ∙ run (from + k) (omega arith) (omega (arith, l, e, length-drop from xs)))
+
+-- and else not
+pub run-some : (test : ℕ → Bool) (xs : List ℕ) (from end : ℕ) → from ≤ end → end < length xs → test (get_or xs end 0) ≡ false
+    → list_all test (drop from xs) ≡ false
+run-some test xs from end o l stop =
+    let place : from + (end - from) ≡ end = omega arith in
+    list_all_at test (drop from xs) (end - from) 0 (omega (arith, length-drop from xs))
+    (ap test (get_or-drop from xs (end - from) 0 ∙ ap (λ i. get_or xs i 0) place) ∙ stop)
+
+and-right : (a b : Bool) → (a && b) ≡ true → b ≡ true
+and-right true b h = h
+and-right false b h = cc
+
+all-drop : (test : ℕ → Bool) (n : ℕ) (xs : List ℕ) → list_all test xs ≡ true → list_all test (drop n xs) ≡ true
+all-drop test zero xs h = h
+all-drop test (suc n) [] h = refl
+all-drop test (suc n) (x ∷ xs) h = all-drop test n xs (and-right (test x) (list_all test xs) h)
+
+-- what stands behind a later place passes too
+pub all-later : (test : ℕ → Bool) (xs : List ℕ) (earlier start : ℕ) → earlier ≤ start → list_all test (drop earlier xs) ≡ true
+    → list_all test (drop start xs) ≡ true
+all-later test xs earlier start o h =
+    let place : earlier + (start - earlier) ≡ start = omega arith in
+    ap (list_all test) (sym (drop-drop (start - earlier) earlier xs ∙ ap (λ n. drop n xs) place)) ∙ all-drop test (start - earlier) (drop earlier xs) h

@@ -1,0 +1,112 @@
+//! Runs of bytes within a range, looked through in blocks of sixteen.
+ghost use Rattle.std.specs.Prelude.{◌≡◌, ℕ, ◌+◌, ◌-◌, ◌%◌, ◌<◌, ◌≤◌, drop, false, length, map, nat_lt, not, slice_index, true};
+ghost use Rattle.std.specs.Int.{is_in_range};
+ghost use Rattle.std.specs.List.{list_all};
+ghost use Rattle.std.specs.Simd.Lanes.{chunk, mask_l};
+
+use std::simd::prelude::*;
+
+/// The bytes of a block.
+pub(crate) const BLOCK: usize = 16;
+
+/// The block at a place.
+#[inline(always)]
+fn block_at(bytes: &[u8], at: usize) -> u8x16
+    requires { at + BLOCK ≤ length bytes.now }
+    ensures { result ≡ chunk at BLOCK bytes.now }
+{
+    u8x16::from_slice(&bytes[at..])
+}
+
+/// The block with a number taken from each byte, around the end.
+#[inline(always)]
+fn lowered(block: u8x16, by: u8) -> u8x16
+    ensures { result ≡ map (λ byte. (byte + (256 - by)) % 256) block }
+{
+    block - u8x16::splat(by)
+}
+
+/// The places of a block with greater bytes, a bit each.
+#[inline(always)]
+fn greater(block: u8x16, than: u8) -> u64
+    ensures { result ≡ mask_l (map (λ byte. nat_lt than byte) block) }
+{
+    block.simd_gt(u8x16::splat(than)).to_bitmask()
+}
+
+/// The places of a block with bytes outside of a range, a bit each.
+#[inline(always)]
+fn outside(bytes: &[u8], at: usize, first: u8, last: u8) -> u64
+    requires room { at + BLOCK ≤ length bytes.now }
+    requires range { first ≤ last }
+    ensures { result ≡ mask_l (map (λ byte. not (is_in_range first last byte)) (chunk at BLOCK bytes.now)) }
+{
+    greater(lowered(block_at(bytes, at), first), last - first)
+}
+
+/// How many bytes at the front of the block at a place lie within a range.
+#[inline(always)]
+fn run_in_block(bytes: &[u8], at: usize, first: u8, last: u8) -> usize
+    requires room { at + BLOCK ≤ length bytes.now }
+    requires range { first ≤ last }
+    ensures bound { result ≤ BLOCK }
+    ensures passed { (k : ℕ) → at ≤ k → k < at + result → is_in_range first last (slice_index bytes.now k) ≡ true }
+    ensures stops { result < BLOCK → is_in_range first last (slice_index bytes.now (at + result)) ≡ false }
+{
+    let outside = outside(bytes, at, first, last);
+    if outside == 0 {
+        BLOCK
+    } else {
+        outside.trailing_zeros() as usize
+    }
+}
+
+/// Where a run ends, byte by byte.
+fn short_run_end(bytes: &[u8], from: usize, first: u8, last: u8) -> usize
+    requires { from ≤ length bytes.now }
+    ensures from { from ≤ result }
+    ensures end { result ≤ length bytes.now }
+    ensures passed { (k : ℕ) → from ≤ k → k < result → is_in_range first last (slice_index bytes.now k) ≡ true }
+    ensures stops { result < length bytes.now → is_in_range first last (slice_index bytes.now result) ≡ false }
+{
+    let mut at = from;
+    'bytes: while at < bytes.len() {
+        let byte = bytes[at];
+        if byte < first || last < byte {
+            return at;
+        }
+        at += 1;
+    }
+    at
+}
+
+/// Where the run of bytes from `first` to `last` that begins at a place ends: at the first other byte, or at the end.
+#[inline(always)]
+pub fn run_end(bytes: &[u8], from: usize, first: u8, last: u8) -> usize
+    requires from { from ≤ length bytes.now }
+    requires range { first ≤ last }
+    ensures from { from ≤ result }
+    ensures end { result ≤ length bytes.now }
+    ensures passed { (k : ℕ) → from ≤ k → k < result → is_in_range first last (slice_index bytes.now k) ≡ true }
+    ensures stops { result < length bytes.now → is_in_range first last (slice_index bytes.now result) ≡ false }
+{
+    let mut at = from;
+    'whole: while bytes.len() - at >= BLOCK {
+        let count = run_in_block(bytes, at, first, last);
+        at += count;
+        if count < BLOCK {
+            return at;
+        }
+    }
+    short_run_end(bytes, at, first, last)
+}
+
+/// Whether all bytes from a place on lie within a range.
+#[inline(always)]
+pub(crate) fn is_run(bytes: &[u8], from: usize, first: u8, last: u8) -> bool
+    requires from { from ≤ length bytes.now }
+    requires range { first ≤ last }
+    ensures { result ≡ list_all (is_in_range first last) (drop from bytes.now) }
+{
+    run_end(bytes, from, first, last) == bytes.len()
+}
