@@ -18,6 +18,9 @@ use tabled::grid::records::ExactRecords;
 use tabled::settings::Style;
 use words::{command, style_of, terminal_width};
 
+/// The bytes that are written at once.
+const BLOCK: usize = 65_536;
+
 fn main(rt: HostRuntime) -> Result<ExitCode> {
     let alloc = rt.alloc();
     let words: Vec<String> = env::args(&rt)?.collect(alloc)?;
@@ -32,7 +35,7 @@ fn main(rt: HostRuntime) -> Result<ExitCode> {
     let width = matches.get_one::<usize>("width");
     let width = width.or_else(|| terminal_width(&rt));
     let rows = read_rows(alloc, rt.stdin())?;
-    let mut out = BufWriter::new(alloc, io::writer(&rt))?;
+    let mut out = BufWriter::with_capacity(alloc, BLOCK, io::writer(&rt))?;
     put_table(alloc, &rows, style, width, &mut out)?;
     Ok(ExitCode::SUCCESS)
 }

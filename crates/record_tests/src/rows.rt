@@ -1,9 +1,9 @@
-//! The words of refusals, rows of a text, and rows whose texts are joined.
+//! The words of refusals, copied texts, rows of a text, and rows whose texts are joined.
 
 use crate::shown::{Rows, assert_text, shown};
 use std::alloc::Global;
 use std::test::Fail;
-use tabled_base::{PeekableRecords, Position, TableError, text_rows};
+use tabled_base::{CellText, PeekableRecords, Position, TableError, Text, text_rows};
 use tabled_joined::JoinedRecords;
 
 #[test]
@@ -22,6 +22,27 @@ fn each_refusal_has_its_words(rt: HostRuntime) -> Result<(), Fail> {
 }
 
 #[test]
+fn a_copied_text_keeps_its_measures(rt: HostRuntime) -> Result<(), Fail> {
+    for (text, columns, lines) in [
+        ("", 0, 1),
+        ("sixteen letters.", 16, 1),
+        ("seventeen letters", 17, 1),
+        ("中\n文字", 4, 2),
+        ("six\nteen\nletters\n.", 7, 4),
+    ] {
+        let copy = Text::copied(rt.alloc(), text)?;
+        assert_eq!(rt; copy.text(), text);
+        assert_eq!(rt;
+            (copy.width(), copy.count_lines()),
+            (columns, lines),
+            "at {text}"
+        );
+        assert!(rt; copy.clone()? == copy, "at {text}");
+    }
+    Ok(())
+}
+
+#[test]
 fn a_text_is_split_at_feeds_and_tabs(rt: HostRuntime) -> Result<(), Fail> {
     for (text, want) in [
         ("", "0x0"),
@@ -30,6 +51,10 @@ fn a_text_is_split_at_feeds_and_tabs(rt: HostRuntime) -> Result<(), Fail> {
         ("a\tb\nc\n", "2x2 [a][b] [c][]"),
         ("a\r\n", "1x1 [a\r]"),
         ("\n\na\tb\t\n", "3x3 [][][] [][][] [a][b][]"),
+        (
+            "sixteen letters.\tmore than sixteen letters\nбольше шестнадцати букв\t\u{7F}и ещё\n",
+            "2x2 [sixteen letters.][more than sixteen letters] [больше шестнадцати букв][\u{7F}и ещё]",
+        ),
     ] {
         let rows = text_rows(rt.alloc(), text)?;
         assert_text(&rt, shown(rt.alloc(), &rows), want)?;

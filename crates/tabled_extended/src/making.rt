@@ -94,8 +94,7 @@ where
 {
     let mut row = Vec::new(alloc);
     for cell in cells {
-        let text = String::from_str(alloc, cell.text())?;
-        row.push(Text::new(text))?;
+        row.push(Text::copied(alloc, cell.text())?)?;
     }
     Ok(row)
 }

@@ -1,16 +1,14 @@
 -- Texts that stand one after another in one text, to which more is added.
-use Rattle.std.proofs.Common.{◌≡◌, ℕ, ◌-◌, ◌≤◌, List, [], ◌∷◌, ◌++◌, length, get_or, refl, sym, ap, subst, ◌∙◌, arith, inl, inr, take, drop, length-append, Result, Ok, Err, OnErr}
+use Rattle.std.proofs.Common.{◌≡◌, ℕ, zero, suc, ◌+◌, ◌-◌, ◌<◌, ◌≤◌, List, [], ◌∷◌, ◌++◌, length, get_or, refl, sym, ap, subst, ◌∙◌, arith, inl, inr, take, drop, length-append, Result, Ok, Err, OnErr}
 use Rattle.std.proofs.lemmas.Bool.{cases_lt}
-use Rattle.std.proofs.lemmas.List.{take-append-le, drop-append-le, length-drop, map-append, take_all}
-use Rattle.std.proofs.lemmas.List.Elements.{All-head, All-tail, All-cons, All-nil, All-append}
+use Rattle.std.proofs.lemmas.List.{take-append-le, drop-append-le, length-drop, take_all, get_or_append_left, get_or-append-add, get_or-take, length-take}
 use Rattle.std.proofs.Math.ListN.{get_or-append}
 use Rattle.std.proofs.Math.Seq.{drop-append_seam}
 use Rattle.std.proofs.lemmas.Str.{IsCharBoundary-at_seam, IsCharBoundary-end}
 use Rattle.std.specs.Prelude.{IsCharBoundary, IsUtf8}
 use Rattle.std.specs.List.{slice_range}
 use Rattle.tabled_text.specs.Measure.{lines_of, text_columns}
-use Rattle.tabled_joined.specs.Joined.{AreJoined, IsJoined, text_of, texts_of}
-use Rattle.tabled_joined.specs.declared.joined_texts.JoinedText.{JoinedText}
+use Rattle.tabled_joined.specs.Joined.{AreJoined, AreKept, AreLines, IsJoined, begin, end_of, texts_from}
 
 -- a place where a text may be cut stays one
 boundary-more : (whole more : List ℕ) (i : ℕ) → IsUtf8 more → IsCharBoundary whole i → IsCharBoundary (whole ++ more) i
@@ -30,58 +28,161 @@ range-new whole more =
     ap (take (length (whole ++ more) - length whole)) (drop-append_seam whole more)
     ∙ take_all (length (whole ++ more) - length whole) more (omega (arith, length-append whole more))
 
--- a text that stands there stays
-joined-more : (whole more : List ℕ) (place : JoinedText) → IsUtf8 more → IsJoined whole place → IsJoined (whole ++ more) place
-joined-more whole more place u h =
-    let same = range-more whole more place.start place.end h.ordered h.ends.0 in
+-- texts that stand there stay
+joined-more : (whole more : List ℕ) (start : ℕ) (places : List (ℕ × ℕ)) → IsUtf8 more → AreJoined whole start places → AreJoined (whole ++ more) start places
+joined-more whole more start [] u h = tt
+joined-more whole more start (place ∷ places) u h =
+    let own = h.0 in
+    let ordered = own.ordered in
+    let ends = own.ends in
+    let same = range-more whole more start place.0 ordered ends.0 in (
+      record {
+        ordered = ordered;
+        begins = boundary-more whole more start u own.begins;
+        ends = boundary-more whole more place.0 u ends;
+        counted = own.counted ∙ ap text_columns (sym same);
+      },
+      joined-more whole more place.0 places u h.1,
+    )
+
+texts-more : (whole more : List ℕ) (start : ℕ) (places : List (ℕ × ℕ)) → AreJoined whole start places
+    → texts_from (whole ++ more) start places ≡ texts_from whole start places
+texts-more whole more start [] h = refl
+texts-more whole more start (place ∷ places) h =
+    let own = h.0 in
+    let ordered = own.ordered in
+    let ends = own.ends in
+    ap (λ text. text ∷ texts_from (whole ++ more) place.0 places) (range-more whole more start place.0 ordered ends.0)
+    ∙ ap (λ texts. slice_range whole start place.0 ∷ texts) (texts-more whole more place.0 places h.1)
+
+-- a further text comes
+joined-new : (whole : List ℕ) (start : ℕ) (places : List (ℕ × ℕ)) (place : ℕ × ℕ) → AreJoined whole start places
+    → IsJoined whole (end_of start places) place → AreJoined whole start (places ++ place ∷ [])
+joined-new whole start [] place h own = (own, tt)
+joined-new whole start (first ∷ places) place h own = (h.0, joined-new whole first.0 places place h.1 own)
+
+texts-new : (whole : List ℕ) (start : ℕ) (places : List (ℕ × ℕ)) (place : ℕ × ℕ)
+    → texts_from whole start (places ++ place ∷ []) ≡ texts_from whole start places ++ slice_range whole (end_of start places) place.0 ∷ []
+texts-new whole start [] place = refl
+texts-new whole start (first ∷ places) place = ap (λ texts. slice_range whole start first.0 ∷ texts) (texts-new whole first.0 places place)
+
+end-new : (start : ℕ) (places : List (ℕ × ℕ)) (place : ℕ × ℕ) → end_of start (places ++ place ∷ []) ≡ place.0
+end-new start [] place = refl
+end-new start (first ∷ places) place = end-new first.0 places place
+
+pub length-texts : (whole : List ℕ) (start : ℕ) (places : List (ℕ × ℕ)) → length (texts_from whole start places) ≡ length places
+length-texts whole start [] = refl
+length-texts whole start (place ∷ places) = omega (arith, length-texts whole place.0 places)
+
+-- lines that are told alike
+lines-new : (texts : List (List ℕ)) (more : List ℕ) (old new : List ℕ) → AreLines texts old
+    → ((k : ℕ) → k < length texts → get_or new k 1 ≡ get_or old k 1) → get_or new (length texts) 1 ≡ length (lines_of more) → AreLines (texts ++ more ∷ []) new
+lines-new texts more old new h same last = λ k l. elim (cases_lt k (length texts)) [
+  | inl lt ↦ same k lt ∙ h k lt ∙ ap (λ text. length (lines_of text)) (sym (get_or_append_left texts (more ∷ []) [] k lt))
+  | inr ge ↦
+      let e : k ≡ length texts = omega (arith, length-append texts (more ∷ [])) in
+      ap (λ i. get_or new i 1) e ∙ last ∙ ap (λ text. length (lines_of text)) (sym (get_or-append-add texts (more ∷ []) 0 []))
+      ∙ ap (λ i. length (lines_of (get_or (texts ++ more ∷ []) i []))) (omega (arith, e))
+]
+
+-- the texts with a further one
+pub texts-added : (whole more : List ℕ) (places : List (ℕ × ℕ)) (lines : List ℕ) (columns : ℕ) → AreKept whole places lines
+    → texts_from (whole ++ more) 0 (places ++ (length (whole ++ more), columns) ∷ []) ≡ texts_from whole 0 places ++ more ∷ []
+texts-added whole more places lines columns h =
+    let end = length (whole ++ more) in
+    texts-new (whole ++ more) 0 places (end, columns)
+    ∙ ap (λ texts. texts ++ slice_range (whole ++ more) (end_of 0 places) end ∷ []) (texts-more whole more 0 places h.joined)
+    ∙ ap (λ i. texts_from whole 0 places ++ slice_range (whole ++ more) i end ∷ []) h.filled
+    ∙ ap (λ text. texts_from whole 0 places ++ text ∷ []) (range-new whole more)
+
+pub kept-new : (whole more : List ℕ) (places : List (ℕ × ℕ)) (old new : List ℕ) (columns : ℕ) → IsUtf8 more → AreKept whole places old
+    → columns ≡ text_columns more → ((k : ℕ) → k < length places → get_or new k 1 ≡ get_or old k 1)
+    → get_or new (length places) 1 ≡ length (lines_of more) → length new ≤ length places + 1
+    → AreKept (whole ++ more) (places ++ (length (whole ++ more), columns) ∷ []) new
+kept-new whole more places old new columns u h wide same last few =
+    let end = length (whole ++ more) in
+    let place : ℕ × ℕ = (end, columns) in
+    let all = h.filled in
+    let count = length-texts whole 0 places in
+    let own : slice_range (whole ++ more) (end_of 0 places) end ≡ more = ap (λ i. slice_range (whole ++ more) i end) all ∙ range-new whole more in
+    let added = texts-added whole more places old columns h in
     record {
-      ordered = h.ordered;
-      begins = boundary-more whole more place.start u h.begins;
-      ends = boundary-more whole more place.end u h.ends;
-      columns = h.columns ∙ ap text_columns (sym same);
-      lines = h.lines ∙ ap (λ text. length (lines_of text)) (sym same);
+      joined = joined-new (whole ++ more) 0 places place (joined-more whole more 0 places u h.joined) (record {
+        ordered = omega (arith, all, length-append whole more);
+        begins = subst (IsCharBoundary (whole ++ more)) (sym all) (IsCharBoundary-at_seam (whole ++ more) whole more refl u);
+        ends = IsCharBoundary-end (whole ++ more);
+        counted = wide ∙ ap text_columns (sym own);
+      });
+      filled = end-new 0 places place;
+      told = subst (λ texts. AreLines texts new) (sym added)
+          (lines-new (texts_from whole 0 places) more old new h.told (λ k l. same k (omega (arith, l, count)))
+          (ap (λ i. get_or new i 1) count ∙ last));
+      few = omega (arith, few, length-append places (place ∷ []));
     }
 
-pub all-joined-more : (whole more : List ℕ) (places : List JoinedText) → IsUtf8 more → AreJoined whole places → AreJoined (whole ++ more) places
-all-joined-more whole more places u h = λ k d l. joined-more whole more (get_or places k d) u (h k d l)
+-- what is kept where a refused text left lines
+pub kept-still : (whole : List ℕ) (places : List (ℕ × ℕ)) (old new : List ℕ) → AreKept whole places old
+    → ((k : ℕ) → k < length places → get_or new k 1 ≡ get_or old k 1) → length new ≤ length places → AreKept whole places new
+kept-still whole places old new h same few =
+    let count = length-texts whole 0 places in
+    record { joined = h.joined; filled = h.filled; told = λ k l. same k (omega (arith, l, count)) ∙ h.told k l; few = few }
 
-pub texts-more : (whole more : List ℕ) (places : List JoinedText) → AreJoined whole places → texts_of (whole ++ more) places ≡ texts_of whole places
-texts-more whole more [] h = refl
-texts-more whole more (place ∷ places) h =
-    let first = All-head (IsJoined whole) place places h in
-    ap (λ text. text ∷ texts_of (whole ++ more) places) (range-more whole more place.start place.end first.ordered first.ends.0)
-    ∙ ap (λ texts. text_of whole place ∷ texts) (texts-more whole more places (All-tail (IsJoined whole) place places h))
+pub taken : (lines : List ℕ) (n k : ℕ) → k < n → get_or (take n lines) k 1 ≡ get_or lines k 1
+taken lines n k l = get_or-take n lines k 1 l
 
--- a text that is added behind the others
-new-joined : (whole more : List ℕ) (place : JoinedText) → IsUtf8 more → place.start ≡ length whole → place.end ≡ length (whole ++ more)
-    → place.columns ≡ text_columns more → place.lines ≡ length (lines_of more) → IsJoined (whole ++ more) place
-new-joined whole more place u start end columns lines =
-    let same : text_of (whole ++ more) place ≡ more =
-    ap (λ i. slice_range (whole ++ more) i place.end) start ∙ ap (slice_range (whole ++ more) (length whole)) end ∙ range-new whole more in
-    record {
-      ordered = omega (arith, start, end, length-append whole more);
-      begins = subst (IsCharBoundary (whole ++ more)) (sym start) (IsCharBoundary-at_seam (whole ++ more) whole more refl u);
-      ends = subst (IsCharBoundary (whole ++ more)) (sym end) (IsCharBoundary-end (whole ++ more));
-      columns = columns ∙ ap text_columns (sym same);
-      lines = lines ∙ ap (λ text. length (lines_of text)) (sym same);
-    }
+-- a one behind changes nothing
+pub one-behind : (lines : List ℕ) (k : ℕ) → get_or (lines ++ 1 ∷ []) k 1 ≡ get_or lines k 1
+one-behind [] zero = refl
+one-behind [] (suc k) = refl
+one-behind (n ∷ lines) zero = refl
+one-behind (n ∷ lines) (suc k) = one-behind lines k
 
-pub all-joined-new : (whole more : List ℕ) (places : List JoinedText) (place : JoinedText) → IsUtf8 more → AreJoined whole places
-    → place.start ≡ length whole → place.end ≡ length (whole ++ more) → place.columns ≡ text_columns more
-    → place.lines ≡ length (lines_of more) → AreJoined (whole ++ more) (places ++ place ∷ [])
-all-joined-new whole more places place u h start end columns lines =
-    All-append (IsJoined (whole ++ more)) places (place ∷ []) (all-joined-more whole more places u h)
-    (All-cons (IsJoined (whole ++ more)) place [] (new-joined whole more place u start end columns lines) (All-nil (IsJoined (whole ++ more))))
+pub behind-all : (lines : List ℕ) (k : ℕ) → length lines ≤ k → get_or lines k 1 ≡ 1
+behind-all [] zero h = refl
+behind-all [] (suc k) h = refl
+behind-all (n ∷ lines) zero h = absurd (omega (arith, h))
+behind-all (n ∷ lines) (suc k) h = behind-all lines k (omega (arith, h))
 
-pub texts-new : (whole more : List ℕ) (places : List JoinedText) (place : JoinedText) → AreJoined whole places
-    → place.start ≡ length whole → place.end ≡ length (whole ++ more)
-    → texts_of (whole ++ more) (places ++ place ∷ []) ≡ texts_of whole places ++ more ∷ []
-texts-new whole more places place h start end =
-    let same : text_of (whole ++ more) place ≡ more =
-    ap (λ i. slice_range (whole ++ more) i place.end) start ∙ ap (slice_range (whole ++ more) (length whole)) end ∙ range-new whole more in
-    map-append (text_of (whole ++ more)) places (place ∷ [])
-    ∙ ap (λ texts. texts ++ text_of (whole ++ more) place ∷ []) (texts-more whole more places h)
-    ∙ ap (λ text. texts_of whole places ++ text ∷ []) same
+pub number-last : (lines : List ℕ) (n k : ℕ) → length lines ≡ k → get_or (lines ++ n ∷ []) k 1 ≡ n
+number-last [] n zero h = refl
+number-last [] n (suc k) h = absurd (omega (arith, h))
+number-last (m ∷ lines) n zero h = absurd (omega (arith, h))
+number-last (m ∷ lines) n (suc k) h = number-last lines n k (omega (arith, h))
+
+pub number-before : (lines : List ℕ) (n k : ℕ) → k < length lines → get_or (lines ++ n ∷ []) k 1 ≡ get_or lines k 1
+number-before lines n k l = get_or_append_left lines (n ∷ []) 1 k l
+
+-- where a text begins
+begin-after : (start : ℕ) (places : List (ℕ × ℕ)) (i : ℕ) (d : ℕ × ℕ) → i < length places → begin start places (suc i) ≡ (get_or places i d).0
+unfolding begin
+begin-after start [] i d h = absurd (omega (arith, h))
+begin-after start (place ∷ places) zero d h = refl
+begin-after start (place ∷ places) (suc i) d h = begin-after place.0 places i d (omega (arith, h))
+
+pub begin-first : (start : ℕ) (places : List (ℕ × ℕ)) (i : ℕ) → i ≡ 0 → start ≡ begin start places i
+unfolding begin
+begin-first start [] zero h = refl
+begin-first start (place ∷ places) zero h = refl
+begin-first start places (suc i) h = absurd (omega (arith, h))
+
+pub begin-behind : (start : ℕ) (places : List (ℕ × ℕ)) (i before : ℕ) (d : ℕ × ℕ) → i ≡ suc before → before < length places
+    → (get_or places before d).0 ≡ begin start places i
+begin-behind start places i before d e h = sym (begin-after start places before d h) ∙ ap (begin start places) (sym e)
+
+-- the text at a place
+pub joined-at : (whole : List ℕ) (start : ℕ) (places : List (ℕ × ℕ)) (i : ℕ) (d : ℕ × ℕ) → AreJoined whole start places → i < length places
+    → IsJoined whole (begin start places i) (get_or places i d)
+unfolding begin
+joined-at whole start [] i d h l = absurd (omega (arith, l))
+joined-at whole start (place ∷ places) zero d h l = h.0
+joined-at whole start (place ∷ places) (suc i) d h l = joined-at whole place.0 places i d h.1 (omega (arith, l))
+
+pub text-at : (whole : List ℕ) (start : ℕ) (places : List (ℕ × ℕ)) (i : ℕ) (d : ℕ × ℕ) → i < length places
+    → get_or (texts_from whole start places) i [] ≡ slice_range whole (begin start places i) (get_or places i d).0
+unfolding begin
+text-at whole start [] i d l = absurd (omega (arith, l))
+text-at whole start (place ∷ places) zero d l = refl
+text-at whole start (place ∷ places) (suc i) d l = text-at whole place.0 places i d (omega (arith, l))
 
 -- what holds in any case holds after a refusal
 pub on-err : {T E P : Type 0} (r : Result T E) → P → OnErr r P

@@ -17,8 +17,8 @@ pub(crate) fn push_text(row: &mut Vec<Text<String>>, text: &str) -> Result<(), T
     ensures length { OnOk result (vec_len row.new ≡ vec_len row.old + 1) }
     ensures only { IfErr result (λ e. e ≡ Memory) }
 {
-    let text = String::from_str(*row.allocator(), text)?;
-    row.push(Text::new(text))?;
+    let text = Text::copied(*row.allocator(), text)?;
+    row.push(text)?;
     Ok(())
 }
 

@@ -105,7 +105,7 @@ fn pair(alloc: Global, name: &str, text: String) -> Result<Vec<Text<String>>, Ta
     ensures only { IfErr result (λ e. e ≡ Memory) }
 {
     let mut row = Vec::with_capacity(alloc, 2)?;
-    row.push(Text::new(String::from_str(alloc, name)?))?;
+    row.push(Text::copied(alloc, name)?)?;
     row.push(Text::new(text))?;
     Ok(row)
 }

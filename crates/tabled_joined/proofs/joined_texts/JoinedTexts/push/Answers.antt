@@ -1,40 +1,48 @@
-use Rattle.std.proofs.Common.{◌++◌, [], ◌∷◌, ap, ◌∙◌, length, string_bytes}
-use Rattle.tabled_joined.specs.Joined.{texts_of}
-use Rattle.tabled_joined.specs.declared.joined_texts.JoinedText.{JoinedText}
-use Rattle.tabled_joined.proofs.Joining.{all-joined-more, all-joined-new, on-err, texts-more, texts-new}
+use Rattle.std.proofs.Common.{◌≡◌, ◌++◌, [], ◌∷◌, drop, length, sym, ap, subst, ◌∙◌, string_bytes}
+use Rattle.std.specs.Prelude.{IsCharBoundary}
+use Rattle.std.proofs.Math.Seq.{drop-append_seam}
+use Rattle.std.proofs.lemmas.Str.{IsCharBoundary-at_seam}
+use Rattle.tabled_text.specs.Measure.{lines_of, text_columns}
+use Rattle.tabled_joined.specs.Joined.{texts_from}
+use Rattle.tabled_joined.proofs.Joining.{kept-new, texts-added}
 use Rattle.tabled_joined.proofs.joined_texts.JoinedTexts.push.Goals as goal
 
-pub invariant_of-self-in_err-push : goal.invariant_of-self-in_err-push
-invariant_of-self-in_err-push c =
-    let whole = string_bytes c.self.inside.whole in
-    let kept = all-joined-more whole c.args.text.now c.self.inside.places.items c.utf8.text c.self.invariant in
-    rw (c.in_ok-push_str.ensures.bytes, c.in_err-push.ensures.items) kept
+pub tail_measures-columns-requires : goal.tail_measures-columns-requires
+tail_measures-columns-requires c =
+    let all = c.as_str.ensures.value ∙ c.in_ok-push_str.ensures.bytes in
+    subst (IsCharBoundary c.as_str.result.now) (sym (ap length c.as_str-start.ensures.value))
+    (IsCharBoundary-at_seam c.as_str.result.now (string_bytes c.self.inside.whole) c.args.text.now all c.utf8.text)
 
-pub returns-in_err-push-clause-err : goal.returns-in_err-push-clause-err
-returns-in_err-push-clause-err c =
+pub invariant_of-self-in-Ok : goal.invariant_of-self-in-Ok
+invariant_of-self-in-Ok c =
     let whole = string_bytes c.self.inside.whole in
-    let same = texts-more whole c.args.text.now c.self.inside.places.items c.self.invariant in
-    on-err c.from_residual-in_err-push.result
-    (ap (λ bytes. texts_of bytes c.push.new.self.items) c.in_ok-push_str.ensures.bytes
-    ∙ ap (texts_of (whole ++ c.args.text.now)) c.in_err-push.ensures.items ∙ same ∙ c.self.view_is)
-
-pub invariant_of-self-2 : goal.invariant_of-self-2
-invariant_of-self-2 c =
-    let whole = string_bytes c.self.inside.whole in
-    let place : JoinedText = record { start = length c.as_str-start.result.now; end = length c.as_str-end.result.now; columns = c.text_measures-columns.result.0; lines = c.text_measures-columns.result.1 } in
-    let start = ap length c.as_str-start.ensures.value in
+    let text = c.args.text.now in
+    let places = c.self.inside.places in
+    let columns = c.tail_measures-columns.result.0 in
+    let tail : drop (length c.as_str-start.result.now) c.as_str.result.now ≡ text =
+    ap (drop (length c.as_str-start.result.now)) (c.as_str.ensures.value ∙ c.in_ok-push_str.ensures.bytes)
+    ∙ ap (λ start. drop (length start) (whole ++ text)) c.as_str-start.ensures.value ∙ drop-append_seam whole text in
     let end = ap length (c.as_str-end.ensures.value ∙ c.in_ok-push_str.ensures.bytes) in
-    let new = all-joined-new whole c.args.text.now c.self.inside.places.items place c.utf8.text c.self.invariant start end
-    c.text_measures-columns.ensures.columns c.text_measures-columns.ensures.lines in
-    rw (c.in_ok-push_str.ensures.bytes, c.in_ok-push.ensures.items) new
+    rw (c.in_ok-push_str.ensures.bytes, c.in-Ok.ensures.ok ∙ ap (λ n. places ++ (n, columns) ∷ []) end)
+    (kept-new whole text places c.self.inside.lines.items c.put_place.new.lines.items columns c.utf8.text c.self.invariant
+    (c.tail_measures-columns.ensures.columns ∙ ap text_columns tail) c.put_place.ensures.same
+    (c.in-Ok.ensures.noted ∙ c.tail_measures-columns.ensures.lines ∙ ap (λ t. length (lines_of t)) tail) c.in-Ok.ensures.few)
 
-pub returns-clause-ok : goal.returns-clause-ok
-returns-clause-ok c =
+pub truncate-requires-in-Err : goal.truncate-requires-in-Err
+truncate-requires-in-Err c =
+    let bytes = string_bytes c.push_str.new.self in
+    let cut = subst (IsCharBoundary bytes) (sym (ap length c.as_str-start.ensures.value))
+    (IsCharBoundary-at_seam bytes (string_bytes c.self.inside.whole) c.args.text.now c.in_ok-push_str.ensures.bytes c.utf8.text) in
+    λ _. (cut.0, λ _. cut.1)
+
+pub returns-in-Ok-clause-ok : goal.returns-in-Ok-clause-ok
+returns-in-Ok-clause-ok c =
     let whole = string_bytes c.self.inside.whole in
-    let place : JoinedText = record { start = length c.as_str-start.result.now; end = length c.as_str-end.result.now; columns = c.text_measures-columns.result.0; lines = c.text_measures-columns.result.1 } in
-    let start = ap length c.as_str-start.ensures.value in
+    let text = c.args.text.now in
+    let places = c.self.inside.places in
+    let columns = c.tail_measures-columns.result.0 in
     let end = ap length (c.as_str-end.ensures.value ∙ c.in_ok-push_str.ensures.bytes) in
-    ap (λ bytes. texts_of bytes c.push.new.self.items) c.in_ok-push_str.ensures.bytes
-    ∙ ap (texts_of (whole ++ c.args.text.now)) c.in_ok-push.ensures.items
-    ∙ texts-new whole c.args.text.now c.self.inside.places.items place c.self.invariant start end
-    ∙ ap (λ texts. texts ++ c.args.text.now ∷ []) c.self.view_is
+    ap (λ bytes. texts_from bytes 0 c.put_place.new.places) c.in_ok-push_str.ensures.bytes
+    ∙ ap (texts_from (whole ++ text) 0) (c.in-Ok.ensures.ok ∙ ap (λ n. places ++ (n, columns) ∷ []) end)
+    ∙ texts-added whole text places c.self.inside.lines.items columns c.self.invariant
+    ∙ ap (λ texts. texts ++ text ∷ []) c.self.view_is
