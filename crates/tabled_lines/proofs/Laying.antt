@@ -74,9 +74,12 @@ laid-length l r text =
 pub written-back : (n : ℕ) (new old : List ℕ) → length new ≡ n → take n (new ++ drop (length new) old) ≡ new
 written-back n new old e = ap (λ k. take k (new ++ drop (length new) old)) (sym e) ∙ take-append_seam new (drop (length new) old)
 
-pub blank-parts : (e l p r a b c : List ℕ) → e ≡ [] → a ≡ e ++ l → b ≡ a ++ p → c ≡ b ++ r → c ≡ l ++ (p ++ r)
-blank-parts e l p r a b c none one two three =
-    three ∙ ap (λ u. u ++ r) (two ∙ ap (λ u. u ++ p) (one ∙ ap (λ u. u ++ l) none)) ∙ append_assoc l p r
+pub blank-parts : (e f l p r n a b c : List ℕ) → e ≡ [] → n ≡ e ++ f → a ≡ n ++ l → b ≡ a ++ p → c ≡ b ++ r → c ≡ f ++ (l ++ (p ++ r))
+blank-parts e f l p r n a b c none first one two three =
+    three ∙ ap (λ u. u ++ r) (two ∙ ap (λ u. u ++ p) (one ∙ ap (λ u. u ++ l) (first ∙ ap (λ u. u ++ f) none))) ∙ regroup f l p r
+  where
+    regroup : (f l p r : List ℕ) → ((f ++ l) ++ p) ++ r ≡ f ++ (l ++ (p ++ r))
+    regroup f l p r = simp append_assoc
 
 -- ---- a row while its texts are laid, up to a column
 

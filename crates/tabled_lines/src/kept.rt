@@ -1,23 +1,37 @@
 //! A horizontal line that is kept as it was laid out. The lines between rows are mostly alike, and one
 //! that is known goes out in one piece.
-ghost use Rattle.std.specs.Prelude.{◌≡◌, Some, None, IfSome, true};
+ghost use Rattle.std.specs.Prelude.{◌≡◌, [], ◌∷◌, Some, None, IfSome, true};
 ghost use Rattle.tabled_lines.specs.Kept.{Keeps, KeepsLine};
+ghost use Rattle.tabled_row.specs.Leading.{WritesLines};
 ghost use Rattle.tabled_row.specs.Rooms.{room_text};
 ghost use Rattle.tabled_row.specs.Row.{ColumnSheet, rule_line};
 ghost use Rattle.tabled_row.specs.Sent.{Sent, Writes};
 
 use crate::laid::LaidRow;
+use crate::led::put_led;
 use std::alloc::Global;
 use tabled_base::TableError;
 use tabled_config::HorizontalLine;
-use tabled_row::{Columns, Room, TextSink, put_rule_line};
+use tabled_row::{Columns, Room, TextSink, put_break, put_rule_line};
 
-/// The horizontal line that was laid out last, and its text where the room held the whole.
+/// The horizontal line that was laid out last, and its text behind a line feed where the room held the whole.
 #[derive(Drop)]
 pub(crate) struct KeptLine {
     line: Option<HorizontalLine>,
     room: Room,
     whole: bool,
+}
+
+/// A line feed, and a horizontal line behind it.
+fn put_led_rule<C: Columns, S: TextSink>(
+    sink: &mut S,
+    columns: &C,
+    line: &HorizontalLine,
+) -> Result<(), TableError>
+    ensures { Writes (S.sent sink.old) result (S.sent sink.new) (10 ∷ rule_line (C.sheet columns.now) line.now) }
+{
+    sink.write_text("\n")?;
+    put_rule_line(sink, columns, line)
 }
 
 impl KeptLine {
@@ -42,7 +56,7 @@ impl KeptLine {
         }
     }
 
-    /// The text of the line, if the room holds it.
+    /// The text of the line behind a line feed, if the room holds it.
     fn text(&self) -> Option<&str>
         ensures text { IfSome result (λ text. text.now ≡ room_text self.now.room) }
         ensures whole { IfSome result (λ _. self.now.whole ≡ true) }
@@ -56,29 +70,41 @@ impl KeptLine {
         ensures kept { KeepsLine (C.sheet columns.now) self.new }
     {
         self.room.clear();
-        self.whole = put_rule_line(&mut self.room, columns, line).is_ok();
+        self.whole = put_led_rule(&mut self.room, columns, line).is_ok();
         self.line = Some(*line);
+    }
+
+    /// Lays a line out, unless it is the one that is kept.
+    fn keep<C: Columns>(&mut self, columns: &C, line: &HorizontalLine)
+        requires known { KeepsLine (C.sheet columns.now) self.old }
+        ensures line { self.new.line ≡ Some line.now }
+        ensures known { KeepsLine (C.sheet columns.now) self.new }
+    {
+        if !self.is(line) {
+            self.lay_out(columns, line);
+        }
     }
 }
 
 /// A horizontal line, which is laid out anew only where it is another than the kept one.
 pub(crate) fn put_kept_line<C: Columns, S: TextSink>(
     sink: &mut S,
+    begun: &mut bool,
     columns: &C,
     line: &HorizontalLine,
     kept: &mut KeptLine,
 ) -> Result<(), TableError>
     requires known { KeepsLine (C.sheet columns.now) kept.old }
-    ensures printed { Writes (S.sent sink.old) result (S.sent sink.new) (rule_line (C.sheet columns.now) line.now) }
+    ensures printed { WritesLines (S.sent sink.old) begun.old result (S.sent sink.new) begun.new
+        (rule_line (C.sheet columns.now) line.now ∷ []) }
     ensures known { KeepsLine (C.sheet columns.now) kept.new }
 {
-    if !kept.is(line) {
-        kept.lay_out(columns, line);
+    kept.keep(columns, line);
+    if let Some(text) = kept.text() {
+        return put_led(sink, begun, text);
     }
-    match kept.text() {
-        Some(text) => sink.write_text(text),
-        None => put_rule_line(sink, columns, line),
-    }
+    put_break(sink, begun)?;
+    put_rule_line(sink, columns, line)
 }
 
 /// What is kept for later lines over some columns: a horizontal line, and a blank row where memory may be taken.

@@ -10,7 +10,7 @@ use crate::laid_styles::lay_by_styles;
 use std::alloc::Global;
 use tabled_base::TableError;
 use tabled_config::{CellStyle, Frame, HorizontalLine, VerticalLine};
-use tabled_row::{Columns, Row, put_left, put_right, put_rule_pieces};
+use tabled_row::{Columns, Row, TextSink, put_left, put_right, put_rule_pieces};
 
 /// After so many rows that could not be laid no more are tried.
 const TRIES: usize = 16;
@@ -44,15 +44,16 @@ fn blank_line(frame: &Frame) -> HorizontalLine
     }
 }
 
-/// Lays out a blank row, and answers where its first cell begins.
+/// Lays out a blank row behind a line feed, and answers where its first cell begins behind that.
 fn put_blank<C: Columns>(blank: &mut String, columns: &C) -> Result<usize, TableError>
     requires empty { string_bytes blank.old ≡ [] }
-    ensures row { IfOk result (λ _. string_bytes blank.new ≡ blank_row (C.sheet columns.now)) }
+    ensures row { IfOk result (λ _. string_bytes blank.new ≡ 10 ∷ blank_row (C.sheet columns.now)) }
     ensures start { IfOk result (λ start. start ≡ first_place (C.sheet columns.now)) }
 {
     let frame = columns.frame();
+    blank.write_text("\n")?;
     put_left(blank, frame, frame.left.main)?;
-    let start = blank.as_str().len();
+    let start = blank.as_str().len() - 1;
     put_rule_pieces(blank, columns, &blank_line(frame))?;
     put_right(blank, frame, frame.right.main)?;
     Ok(start)
@@ -85,17 +86,19 @@ pub(crate) fn copy_at(line: &mut [u8], place: usize, text: &str)
     line[place..end].copy_from_slice(text.as_bytes());
 }
 
-/// Lays the text of a column over blank columns that begin at a place, and answers where they end. Only a text that takes as
-/// many bytes as columns is laid.
+/// Lays the text of a column over blank columns that begin at a place, and answers where they end. So many columns of padding stand
+/// at the sides of it. Only a text that takes as many bytes as columns is laid.
 #[inline(always)]
 fn lay_cell<'a, R: Row<'a>>(
     line: &mut [u8],
     place: usize,
     row: &R,
     style: &CellStyle,
+    sides: usize,
     column: usize,
 ) -> Option<usize>
     requires inside { column < (R.sheet row.now).columns.count }
+    requires sides { sides ≡ style.now.padding.left.size + style.now.padding.right.size }
     requires blank { StandsAt line.old place (fill 32 ((R.sheet row.now).columns.width column)) }
     ensures laid { IfSome result (λ end. (front back : List ℕ)
         → line.old ≡ front ++ (fill 32 ((R.sheet row.now).columns.width column) ++ back) → place ≡ length front
@@ -105,15 +108,11 @@ fn lay_cell<'a, R: Row<'a>>(
 {
     let width = row.width(column);
     let (text, taken) = row.content(column).first_line();
-    let left = style.padding.left.size;
-    let _free = width
-        .checked_sub(left)?
-        .checked_sub(style.padding.right.size)?
-        .checked_sub(taken)?;
+    let _free = width.checked_sub(sides)?.checked_sub(taken)?;
     if text.len() != taken {
         return None;
     }
-    copy_at(line, place + left, text);
+    copy_at(line, place + style.padding.left.size, text);
     Some(place + width)
 }
 
@@ -126,12 +125,20 @@ fn lay_texts<'a, R: Row<'a>>(line: &mut [u8], start: usize, row: &R, style: &Cel
     ensures laid { result ≡ true → line.new ≡ row_line (R.sheet row.now) 0 }
     ensures utf8 { IsUtf8 line.old → IsUtf8 line.new }
 {
+    let Some(sides) = style
+        .padding
+        .left
+        .size
+        .checked_add(style.padding.right.size)
+    else {
+        return false;
+    };
     let bar = bar_length(row.frame().inner);
     let mut place = start;
     // The bytes of the vertical line before the next column: none before the first one.
     let mut skipped: usize = 0;
     'texts: for column in 0..row.count_columns() {
-        let Some(end) = lay_cell(line, place + skipped, row, style, column) else {
+        let Some(end) = lay_cell(line, place + skipped, row, style, sides, column) else {
             return false;
         };
         place = end;
@@ -154,7 +161,18 @@ fn lay_all<'a, R: Row<'a>>(line: &mut [u8], start: usize, row: &R) -> bool
     }
 }
 
-/// A blank row over some columns, which is laid out once, and the row that was laid over it.
+/// Lays the texts of a row of one line over a blank row that stands behind a line feed. Answers whether all could be laid.
+fn lay_led<'a, R: Row<'a>>(led: &mut [u8], start: usize, row: &R) -> bool
+    requires height { (R.sheet row.now).height ≡ 1 }
+    requires blank { led.old ≡ 10 ∷ blank_row (R.sheet row.now).columns }
+    requires start { start ≡ first_place (R.sheet row.now).columns }
+    ensures laid { result ≡ true → led.new ≡ 10 ∷ row_line (R.sheet row.now) 0 }
+    ensures utf8 { IsUtf8 led.old → IsUtf8 led.new }
+{
+    lay_all(&mut led[1..], start, row)
+}
+
+/// A blank row over some columns, which is laid out once, and the row that was laid over it, both behind a line feed.
 #[derive(Drop)]
 pub(crate) struct LaidRow {
     blank: String,
@@ -204,7 +222,7 @@ impl LaidRow {
     fn begin<C: Columns>(&mut self, columns: &C) -> bool
         requires known { IsBlank (C.sheet columns.now) self.old }
         ensures known { IsBlank (C.sheet columns.now) self.new }
-        ensures begun { result ≡ true → (self.new.whole ≡ true) × (self.new.line.items ≡ blank_row (C.sheet columns.now)) }
+        ensures begun { result ≡ true → (self.new.whole ≡ true) × (self.new.line.items ≡ 10 ∷ blank_row (C.sheet columns.now)) }
         ensures utf8 { result ≡ true → IsUtf8 self.new.line.items }
     {
         if !self.lay_out(columns) {
@@ -219,20 +237,21 @@ impl LaidRow {
         requires known { IsBlank (C.sheet columns.now) self.old }
         requires over { (R.sheet row.now).columns ≡ C.sheet columns.now }
         ensures known { IsBlank (C.sheet columns.now) self.new }
-        ensures laid { result ≡ true → row_lines (R.sheet row.now) ≡ self.new.line.items ∷ [] }
+        ensures laid { result ≡ true → row_lines (R.sheet row.now) ≡ drop 1 self.new.line.items ∷ [] }
+        ensures led { result ≡ true → self.new.line.items ≡ 10 ∷ drop 1 self.new.line.items }
         ensures utf8 { result ≡ true → IsUtf8 self.new.line.items }
     {
         if self.tries == 0 || row.height() != 1 || !self.begin(columns) {
             return false;
         }
-        let laid = lay_all(&mut self.line, self.start, row);
+        let laid = lay_led(&mut self.line, self.start, row);
         if !laid {
             self.tries = self.tries.saturating_sub(1);
         }
         laid
     }
 
-    /// The row that was laid.
+    /// The row that was laid, behind a line feed.
     pub fn text(&self) -> &str
         requires { IsUtf8 self.now.line.items }
         ensures { result.now ≡ self.now.line.items }

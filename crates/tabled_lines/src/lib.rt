@@ -7,6 +7,7 @@
 mod kept;
 mod laid;
 mod laid_styles;
+mod led;
 mod lines;
 
 pub use lines::Lines;

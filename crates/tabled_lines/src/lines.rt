@@ -8,6 +8,7 @@ ghost use Rattle.tabled_row.specs.Row.{ColumnSheet, RowSheet, row_line, row_line
 ghost use Rattle.tabled_row.specs.Sent.{Sent, Writes};
 
 use crate::kept::{Kept, put_kept_line};
+use crate::led::put_led;
 use std::alloc::Global;
 use tabled_base::TableError;
 use tabled_config::{HorizontalLine, Indent};
@@ -131,10 +132,13 @@ impl<C: Columns> Lines<C> {
         ensures kept { Keeps (C.sheet self.new.columns) self.new.kept }
     {
         match rule {
-            Some(line) => {
-                put_break(sink, &mut self.begun)?;
-                put_kept_line(sink, &self.columns, &line, &mut self.kept.rule)
-            }
+            Some(line) => put_kept_line(
+                sink,
+                &mut self.begun,
+                &self.columns,
+                &line,
+                &mut self.kept.rule,
+            ),
             None => Ok(()),
         }
     }
@@ -158,8 +162,7 @@ impl<C: Columns> Lines<C> {
         if let Some(laid) = &mut self.kept.row
             && laid.lay_row(&self.columns, row)
         {
-            put_break(sink, &mut self.begun)?;
-            return sink.write_text(laid.text());
+            return put_led(sink, &mut self.begun, laid.text());
         }
         marks.forget();
         put_row_lines(sink, &mut self.begun, row, marks)

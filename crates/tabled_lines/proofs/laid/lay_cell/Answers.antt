@@ -8,7 +8,7 @@ use Rattle.tabled_lines.proofs.laid.lay_cell.Goals as goal
 
 pub overflow_add-place : goal.overflow_add-place
 overflow_add-place g c =
-    omega (arith, stands-long _ c.requires.blank, c.width-width.ensures, c.in_ok-checked_sub.ensures.0)
+    omega (arith, stands-long _ c.requires.blank, c.width-width.ensures, c.requires.sides, c.in_ok-checked_sub.ensures.0)
 
 pub copy_at-requires : goal.copy_at-requires
 copy_at-requires g c =
@@ -17,10 +17,9 @@ copy_at-requires g c =
       stands-long _ c.requires.blank,
       c.width-width.ensures,
       c.if-text-taken.false,
+      c.requires.sides,
       c.in_ok-checked_sub.ensures.0,
       c.in_ok-checked_sub.ensures.1,
-      c.in_ok-checked_sub-2.ensures.0,
-      c.in_ok-checked_sub-2.ensures.1,
       c.in_ok-_free.ensures.0,
     ))
 
@@ -43,10 +42,9 @@ returns-clause-laid g c = λ front back whole begins.
       taken,
       c.width-width.ensures,
       c.if-text-taken.false,
+      c.requires.sides,
       c.in_ok-checked_sub.ensures.0,
       c.in_ok-checked_sub.ensures.1,
-      c.in_ok-checked_sub-2.ensures.0,
-      c.in_ok-checked_sub-2.ensures.1,
       c.in_ok-_free.ensures.0,
     ) in
     let size = laid-length left free text in
@@ -63,10 +61,9 @@ returns-clause-utf8 g c = λ u.
       arith,
       c.width-width.ensures,
       c.if-text-taken.false,
+      c.requires.sides,
       c.in_ok-checked_sub.ensures.0,
       c.in_ok-checked_sub.ensures.1,
-      c.in_ok-checked_sub-2.ensures.0,
-      c.in_ok-checked_sub-2.ensures.1,
       c.in_ok-_free.ensures.0,
     ) in
     rw c.copy_at.ensures.copied (laid-utf8 _ _ _ _ _ c.requires.blank within c.copy_at.ensures.text u)

@@ -13,13 +13,13 @@ overflow_add-place g c =
 pub lay_cell-requires : goal.lay_cell-requires
 lay_cell-requires g c κs =
     let within = rw c.count_columns-column-end.ensures at c.texts-test.true in
-    ((refl, tt), (within, laid-stands c.texts.invariant.laid within))
+    ((refl, tt), (within, (c.in-Some.ensures.1, laid-stands c.texts.invariant.laid within)))
 
 pub texts-preserved : goal.texts-preserved
 texts-preserved g c =
     let within = rw c.count_columns-column-end.ensures at c.texts-test.true in
     let begun = c.texts.invariant.laid in
-    let laid = c.in-Some.ensures.laid _ _ (laid-next begun within) (laid-begins begun) in
+    let laid = c.in-Some-lay_cell.ensures.laid _ _ (laid-next begun within) (laid-begins begun) in
     record {
       laid = laid-more c.args.style.now _ _ _ c.requires.flush begun within laid.0 laid.1 (rw c.frame.ensures at c.bar_length-bar.ensures);
       utf8 = λ u. c.lay_cell.ensures.utf8 (c.texts.invariant.utf8 u);

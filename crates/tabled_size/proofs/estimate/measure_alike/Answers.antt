@@ -13,7 +13,7 @@ columns-preserved g c =
     record {
       raised = search rules;
       rest = search rules;
-      most = omega (arith, e, c.columns.invariant.most, c.max-most.ensures, c.in_ok-height.ensures);
+      most = omega (arith, e, c.columns.invariant.most, c.max-most.ensures, c.in_ok-needs.ensures.height);
     }
 
 pub returns-clause-widths : goal.returns-clause-widths

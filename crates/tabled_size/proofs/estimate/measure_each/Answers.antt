@@ -1,10 +1,11 @@
-use Rattle.std.proofs.Common.{◌≡◌, ◌∙◌, ap, max, arith, rules}
+use Rattle.std.proofs.Common.{◌≡◌, ◌∙◌, ap, max, sym, arith, rules}
 use Rattle.std.specs.List.{slice_index}
 use Rattle.std.proofs.lemmas.List.FromFn.{fill_by_all}
 use Rattle.tabled_base.specs.Cells.{columns}
 use Rattle.tabled_entity.specs.Changes.{value_at}
 use Rattle.tabled_size.specs.Estimates.{needed_height, needed_width, row_height}
 use Rattle.tabled_size.proofs.Greatest.{greatest_below, greatest_more}
+use Rattle.tabled_size.proofs.Passing.{if_none, padding_passes}
 use Rattle.tabled_size.proofs.estimate.measure_each.Goals as goal
 
 pub columns-preserved : goal.columns-preserved
@@ -12,10 +13,10 @@ columns-preserved g c =
     let f = needed_height (g.R.ExactRecords.cells c.args.records.now) c.args.config.now c.args.row in
     let e = greatest_more f c.columns.column in
     record {
-      paddings = λ k. ap (λ p. value_at p k) c.at-padding.ensures.same ∙ c.columns.invariant.paddings k;
+      paddings = λ k. ap (λ p. value_at p k) c.at.ensures.same ∙ c.columns.invariant.paddings k;
       raised = search rules;
       rest = search rules;
-      most = omega (arith, e, c.columns.invariant.most, c.max-most.ensures, c.in_ok-height.ensures);
+      most = omega (arith, e, c.columns.invariant.most, c.max-most.ensures, c.in_ok-needs.ensures.height);
     }
 
 pub returns-clause-widths : goal.returns-clause-widths
@@ -32,3 +33,10 @@ returns-clause-lines g c =
     let f = needed_height cells c.args.config.now c.args.row in
     let e : c.columns.column ≡ columns cells = omega (arith, c.count_columns-column-end.ensures.columns) in
     c.columns.invariant.most ∙ ap (greatest_below f) e
+
+pub returns-in_err-added-clause-none : goal.returns-in_err-added-clause-none
+returns-in_err-added-clause-none g c =
+    if_none c.from_residual.result
+    (padding_passes (g.R.ExactRecords.cells c.args.records.now) c.args.config.now c.args.row c.columns.column _
+    (sym (c.at.ensures.value ∙ c.columns.invariant.paddings c.columns.column)) c.requires.row_in
+    (omega (arith, c.count_columns-column-end.ensures.columns)) c.in_err-added.ensures.none)
