@@ -1,7 +1,7 @@
 //! Where batches begin.
 
-use sizing_uses::{batch_begins, default_begins, pair_begins, triple_begins};
 use std::test::Fail;
+use table_uses::{batch_begins, default_begins, pair_begins, triple_begins};
 
 const M: usize = usize::MAX;
 

@@ -1,7 +1,7 @@
 //! What a table measures.
 
-use sizing_uses::{Given, NEW, heights, widths};
 use std::test::Fail;
+use table_uses::{Given, NEW, heights, widths};
 use tabled_base::TableError;
 
 const RANGE: Result<usize, TableError> = Err(TableError::Range);

@@ -1,7 +1,7 @@
 //! Tables that are printed with a width and an alignment of their own, and formatted.
 
-use sizing_uses::{Given, Look, NEW, formatted, held_with, put_with};
 use std::test::Fail;
+use table_uses::{Given, Look, NEW, formatted, held_with, put_with};
 use tabled_base::TableError;
 use tabled_config::AlignmentHorizontal::{self, Center, Left, Right};
 

@@ -1,7 +1,7 @@
 //! Tables that are widened, heightened or limited to a total.
 
-use sizing_uses::{heightened, limited, widened};
 use std::test::Fail;
+use table_uses::{heightened, limited, widened};
 
 #[test]
 fn a_widened_table_has_its_total(rt: HostRuntime) -> Result<(), Fail> {
