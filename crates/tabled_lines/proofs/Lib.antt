@@ -1,3 +1,4 @@
 pub mod Laying
 pub mod LayingStyles
 pub mod LedLines
+pub mod Placing

@@ -3,7 +3,7 @@ use Rattle.std.specs.Prelude.{◌≡◌, ◌∷◌, true, IfSome, Some}
 use Rattle.tabled_border.specs.declared.borders.HorizontalLine.{HorizontalLine}
 use Rattle.tabled_lines.specs.declared.kept.Kept.{Kept}
 use Rattle.tabled_lines.specs.declared.kept.KeptLine.{KeptLine}
-use Rattle.tabled_lines.specs.Laid.{IsBlank}
+use Rattle.tabled_lines.specs.Blank.{IsBlank}
 use Rattle.tabled_row.specs.Rooms.{room_text}
 use Rattle.tabled_row.specs.Row.{ColumnSheet, rule_line}
 

@@ -1,10 +1,9 @@
 -- Rows of one line that are laid over a blank one.
-use Rattle.std.specs.Prelude.{◌≡◌, ℕ, ◌<◌, true, List, ◌∷◌, ◌++◌, Some, length, string_bytes}
+use Rattle.std.specs.Prelude.{◌≡◌, ℕ, ◌<◌, List, ◌++◌, Some, length}
 use Rattle.tabled_border.specs.declared.borders.HorizontalLine.{HorizontalLine}
 use Rattle.tabled_border.specs.declared.frame.Frame.{Frame}
 use Rattle.tabled_config.specs.declared.spanned.CellStyle.{CellStyle}
 use Rattle.tabled_row.specs.Flush.{IsFlush}
-use Rattle.tabled_lines.specs.declared.laid.LaidRow.{LaidRow}
 use Rattle.tabled_row.specs.Row.{ColumnSheet, RowSheet, left_edge, rule_line}
 
 -- the characters of a blank row: spaces, and the vertical lines
@@ -24,11 +23,6 @@ pub record IsFlushLine (row : RowSheet) (style : CellStyle) : Type 0 where
   pub flush : IsFlush style
   pub shared : (column : ℕ) → column < row.columns.count → row.style column ≡ style
   pub height : row.height ≡ 1
-
--- what is kept whole is the blank row of the columns behind a line feed, and where its first cell begins
-abbrev pub IsBlank : ColumnSheet → LaidRow → Type 0
-IsBlank columns laid =
-    laid.whole ≡ true → (string_bytes laid.blank ≡ 10 ∷ blank_row columns) × (laid.start ≡ first_place columns)
 
 -- a piece stands at a place of some bytes
 pub record StandsAt (bytes : List ℕ) (place : ℕ) (piece : List ℕ) : Type 0 where

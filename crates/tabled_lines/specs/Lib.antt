@@ -1,3 +1,5 @@
+pub mod Blank
 pub mod Kept
 pub mod Laid
 pub mod LaidStyles
+pub mod Spots

@@ -3,13 +3,16 @@
 ghost use Rattle.std.specs.Prelude.{◌≡◌, ◌+◌, ◌<◌, ◌≤◌, List, ℕ, [], ◌∷◌, ◌++◌, IfOk, IfSome, IsUtf8, drop, false, length, string_bytes, take, true};
 ghost use Rattle.tabled_row.specs.Fill.{fill};
 ghost use Rattle.tabled_row.specs.Flush.{laid_text};
-ghost use Rattle.tabled_lines.specs.Laid.{IsBlank, IsFlushLine, StandsAt, blank_line, blank_row, first_place};
+ghost use Rattle.tabled_lines.specs.Blank.{IsBlank};
+ghost use Rattle.tabled_lines.specs.Laid.{IsFlushLine, StandsAt, blank_line, blank_row, first_place};
+ghost use Rattle.tabled_lines.specs.Spots.{AreSpots};
 ghost use Rattle.tabled_row.specs.Row.{piece, row_line, row_lines};
 
 use crate::laid_styles::lay_by_styles;
+use crate::spots::{Spot, put_spots};
 use std::alloc::Global;
 use tabled_base::TableError;
-use tabled_config::{CellStyle, Frame, HorizontalLine, VerticalLine};
+use tabled_config::{CellStyle, Frame, HorizontalLine};
 use tabled_row::{Columns, Row, TextSink, put_left, put_right, put_rule_pieces};
 
 /// After so many rows that could not be laid no more are tried.
@@ -68,13 +71,6 @@ fn flush_style<'r, 'a, R: Row<'a>>(row: &'r R) -> Option<&'r CellStyle>
     Some(style)
 }
 
-/// The bytes of a vertical line.
-pub(crate) fn bar_length(bar: VerticalLine) -> usize
-    ensures { result ≡ length (piece bar.there bar.main) }
-{
-    if bar.there { bar.main.len_utf8() } else { 0 }
-}
-
 /// Copies a text over some bytes of its length.
 #[inline(always)]
 pub(crate) fn copy_at(line: &mut [u8], place: usize, text: &str)
@@ -86,42 +82,40 @@ pub(crate) fn copy_at(line: &mut [u8], place: usize, text: &str)
     line[place..end].copy_from_slice(text.as_bytes());
 }
 
-/// Lays the text of a column over blank columns that begin at a place, and answers where they end. So many columns of padding stand
-/// at the sides of it. Only a text that takes as many bytes as columns is laid.
+/// Lays the text of a column over the blank columns of its cell. So many columns of padding stand at the sides of it. Answers whether
+/// it could be laid: only a text that takes as many bytes as columns is.
 #[inline(always)]
 fn lay_cell<'a, R: Row<'a>>(
     line: &mut [u8],
-    place: usize,
+    spot: Spot,
     row: &R,
     style: &CellStyle,
     sides: usize,
     column: usize,
-) -> Option<usize>
+) -> bool
     requires inside { column < (R.sheet row.now).columns.count }
+    requires width { spot.width ≡ (R.sheet row.now).columns.width column }
     requires sides { sides ≡ style.now.padding.left.size + style.now.padding.right.size }
-    requires blank { StandsAt line.old place (fill 32 ((R.sheet row.now).columns.width column)) }
-    ensures laid { IfSome result (λ end. (front back : List ℕ)
-        → line.old ≡ front ++ (fill 32 ((R.sheet row.now).columns.width column) ++ back) → place ≡ length front
+    requires blank { StandsAt line.old spot.place (fill 32 ((R.sheet row.now).columns.width column)) }
+    ensures laid { result ≡ true → (front back : List ℕ)
+        → line.old ≡ front ++ (fill 32 ((R.sheet row.now).columns.width column) ++ back) → spot.place ≡ length front
         → (line.new ≡ front ++ (laid_text (R.sheet row.now) style.now column ++ back))
-        × (end ≡ length front + length (laid_text (R.sheet row.now) style.now column))) }
+        × (spot.place + spot.width ≡ length front + length (laid_text (R.sheet row.now) style.now column)) }
     ensures utf8 { IsUtf8 line.old → IsUtf8 line.new }
 {
-    let width = row.width(column);
     let (text, taken) = row.content(column).first_line();
-    let _free = width.checked_sub(sides)?.checked_sub(taken)?;
-    if text.len() != taken {
-        return None;
+    if spot.width < sides || spot.width - sides < taken || text.len() != taken {
+        return false;
     }
-    copy_at(line, place + style.padding.left.size, text);
-    Some(place + width)
+    copy_at(line, spot.place + style.padding.left.size, text);
+    true
 }
 
-/// Lays texts that stand at the left between spaces over a blank row, whose first cell begins at a place. Answers whether all could
-/// be laid.
-fn lay_texts<'a, R: Row<'a>>(line: &mut [u8], start: usize, row: &R, style: &CellStyle) -> bool
+/// Lays texts that stand at the left between spaces over a blank row. Answers whether all could be laid.
+fn lay_texts<'a, R: Row<'a>>(line: &mut [u8], spots: &[Spot], row: &R, style: &CellStyle) -> bool
     requires flush { IsFlushLine (R.sheet row.now) style.now }
     requires blank { line.old ≡ blank_row (R.sheet row.now).columns }
-    requires start { start ≡ first_place (R.sheet row.now).columns }
+    requires spots { AreSpots (R.sheet row.now).columns spots.now }
     ensures laid { result ≡ true → line.new ≡ row_line (R.sheet row.now) 0 }
     ensures utf8 { IsUtf8 line.old → IsUtf8 line.new }
 {
@@ -133,50 +127,45 @@ fn lay_texts<'a, R: Row<'a>>(line: &mut [u8], start: usize, row: &R, style: &Cel
     else {
         return false;
     };
-    let bar = bar_length(row.frame().inner);
-    let mut place = start;
-    // The bytes of the vertical line before the next column: none before the first one.
-    let mut skipped: usize = 0;
-    'texts: for column in 0..row.count_columns() {
-        let Some(end) = lay_cell(line, place + skipped, row, style, sides, column) else {
+    'texts: for column in 0..spots.len() {
+        if !lay_cell(line, spots[column], row, style, sides, column) {
             return false;
-        };
-        place = end;
-        skipped = bar;
+        }
     }
     true
 }
 
-/// Lays the texts of a row of one line over a blank row, whose first cell begins at a place. Answers whether all could be laid.
-fn lay_all<'a, R: Row<'a>>(line: &mut [u8], start: usize, row: &R) -> bool
+/// Lays the texts of a row of one line over a blank row. Answers whether all could be laid.
+fn lay_all<'a, R: Row<'a>>(line: &mut [u8], spots: &[Spot], row: &R) -> bool
     requires height { (R.sheet row.now).height ≡ 1 }
     requires blank { line.old ≡ blank_row (R.sheet row.now).columns }
-    requires start { start ≡ first_place (R.sheet row.now).columns }
+    requires spots { AreSpots (R.sheet row.now).columns spots.now }
     ensures laid { result ≡ true → line.new ≡ row_line (R.sheet row.now) 0 }
     ensures utf8 { IsUtf8 line.old → IsUtf8 line.new }
 {
     match flush_style(row) {
-        Some(style) => lay_texts(line, start, row, style),
-        None => lay_by_styles(line, start, row),
+        Some(style) => lay_texts(line, spots, row, style),
+        None => lay_by_styles(line, spots, row),
     }
 }
 
 /// Lays the texts of a row of one line over a blank row that stands behind a line feed. Answers whether all could be laid.
-fn lay_led<'a, R: Row<'a>>(led: &mut [u8], start: usize, row: &R) -> bool
+fn lay_led<'a, R: Row<'a>>(led: &mut [u8], spots: &[Spot], row: &R) -> bool
     requires height { (R.sheet row.now).height ≡ 1 }
     requires blank { led.old ≡ 10 ∷ blank_row (R.sheet row.now).columns }
-    requires start { start ≡ first_place (R.sheet row.now).columns }
+    requires spots { AreSpots (R.sheet row.now).columns spots.now }
     ensures laid { result ≡ true → led.new ≡ 10 ∷ row_line (R.sheet row.now) 0 }
     ensures utf8 { IsUtf8 led.old → IsUtf8 led.new }
 {
-    lay_all(&mut led[1..], start, row)
+    lay_all(&mut led[1..], spots, row)
 }
 
 /// A blank row over some columns, which is laid out once, and the row that was laid over it, both behind a line feed.
 #[derive(Drop)]
 pub(crate) struct LaidRow {
     blank: String,
-    start: usize,
+    /// Where its cells stand.
+    spots: Vec<Spot>,
     whole: bool,
     line: Vec<u8>,
     /// How many rows may still fail to be laid before no more are tried.
@@ -190,7 +179,7 @@ impl LaidRow {
     {
         LaidRow {
             blank: String::new(alloc),
-            start: 0,
+            spots: Vec::new(alloc),
             whole: false,
             line: Vec::new(alloc),
             tries: TRIES,
@@ -211,9 +200,9 @@ impl LaidRow {
             return false;
         }
         self.blank.clear();
+        self.spots.clear();
         if let Ok(start) = put_blank(&mut self.blank, columns) {
-            self.start = start;
-            self.whole = true;
+            self.whole = put_spots(&mut self.spots, columns, start).is_ok();
         }
         self.whole
     }
@@ -244,7 +233,7 @@ impl LaidRow {
         if self.tries == 0 || row.height() != 1 || !self.begin(columns) {
             return false;
         }
-        let laid = lay_led(&mut self.line, self.start, row);
+        let laid = lay_led(&mut self.line, &self.spots, row);
         if !laid {
             self.tries = self.tries.saturating_sub(1);
         }

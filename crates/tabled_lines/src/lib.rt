@@ -9,5 +9,6 @@ mod laid;
 mod laid_styles;
 mod led;
 mod lines;
+mod spots;
 
 pub use lines::Lines;

@@ -1,9 +1,9 @@
 use Rattle.std.specs.Prelude.{IsUtf8}
-use Rattle.tabled_lines.proofs.Laying.{IsLaid}
+use Rattle.tabled_lines.proofs.Placing.{IsLaidTo}
 use Rattle.tabled_lines.proofs.laid.lay_texts.Given as goal
 
 abbrev pub invariant-texts : goal.invariant-texts
 invariant-texts g l = record {
-  laid : IsLaid (g.R.Row.sheet l.row) l.line l.place l.skipped l.column;
+  laid : IsLaidTo (g.R.Row.sheet l.row) l.line l.column;
   utf8 : IsUtf8 l.fn.line → IsUtf8 l.line;
 }

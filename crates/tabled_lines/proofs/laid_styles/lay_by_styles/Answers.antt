@@ -1,38 +1,57 @@
-use Rattle.std.proofs.Common.{◌∙◌, arith, refl}
-use Rattle.tabled_lines.proofs.Laying.{laid-all, laid-begins, laid-next, laid-none, laid-stands, stands-long}
+use Rattle.std.proofs.Common.{◌+◌, ◌<◌, ap, refl, subst, sym, ◌∙◌, arith}
+use Rattle.tabled_row.specs.Fill.{fill}
+use Rattle.tabled_lines.specs.Laid.{StandsAt}
+use Rattle.tabled_lines.proofs.Laying.{laid-next}
 use Rattle.tabled_lines.proofs.LayingStyles.{laid-by-style}
+use Rattle.tabled_lines.proofs.Placing.{laid-to, laid-to-end, none-laid, spot-begins, spot-is, spot-stands, spots-count}
 use Rattle.tabled_lines.proofs.laid_styles.lay_by_styles.Goals as goal
 
 pub texts-init : goal.texts-init
 texts-init g c =
     record {
-      laid = laid-none (g.R.Row.sheet c.args.row.now) _ _ c.requires.blank c.requires.start;
+      laid = none-laid (g.R.Row.sheet c.args.row.now) _ c.requires.blank;
       styles = c.styles-styles.ensures;
       utf8 = λ u. u;
     }
 
-pub overflow_add-place : goal.overflow_add-place
-overflow_add-place g c =
-    let stands = laid-stands c.texts.invariant.laid (omega (arith, c.count_columns-column-end.ensures, c.texts-test.true)) in
-    omega (arith, stands-long _ stands)
-
 pub lay_styled-requires : goal.lay_styled-requires
 lay_styled-requires g c κs =
-    let within = rw c.count_columns-column-end.ensures at c.texts-test.true in
-    let style = c.at-style.ensures.style ∙ c.texts.invariant.styles c.texts.column within in
-    ((refl, tt), (within, (c.requires.height, (style, laid-stands c.texts.invariant.laid within))))
+    let rs = g.R.Row.sheet c.args.row.now in
+    let within : c.texts.column < rs.columns.count = omega (arith, c.texts-test.true, spots-count rs.columns c.args.spots.now c.requires.spots) in
+    let spot = spot-is rs.columns c.args.spots.now c.texts.column c.requires.spots within in
+    let style = c.at-style.ensures.style ∙ c.texts.invariant.styles c.texts.column within in (
+      (refl, tt),
+      (
+        within,
+        (
+          ap (λ s. s.width) spot,
+          (
+            c.requires.height,
+            (
+              style,
+              subst (λ s. StandsAt c.texts.line s.place (fill 32 (rs.columns.width c.texts.column))) (sym spot) (spot-stands c.texts.invariant.laid within),
+            ),
+          ),
+        ),
+      ),
+    )
 
 pub texts-preserved : goal.texts-preserved
 texts-preserved g c =
-    let within = rw c.count_columns-column-end.ensures at c.texts-test.true in
+    let rs = g.R.Row.sheet c.args.row.now in
+    let within : c.texts.column < rs.columns.count = omega (arith, c.texts-test.true, spots-count rs.columns c.args.spots.now c.requires.spots) in
+    let spot = spot-is rs.columns c.args.spots.now c.texts.column c.requires.spots within in
     let begun = c.texts.invariant.laid in
-    let laid = c.in-Some.ensures.laid _ _ (laid-next begun within) (laid-begins begun) in
+    let laid = c.lay_styled.ensures.laid c.if-not-lay_styled.false _ _ (laid-next begun.laid within) (ap (λ s. s.place) spot ∙ spot-begins begun) in
     record {
-      laid = laid-by-style _ _ _ begun within laid.0 laid.1 (rw c.frame.ensures at c.bar_length-bar.ensures);
+      laid = laid-to rs c.texts.column _
+          (laid-by-style _ _ _ begun.laid within laid.0 (sym (ap (λ s. s.place + s.width) spot) ∙ laid.1) refl);
       utf8 = λ u. c.lay_styled.ensures.utf8 (c.texts.invariant.utf8 u);
       styles = λ k within. c.at-style.ensures.same.at k ∙ c.texts.invariant.styles k within;
     }
 
 pub returns-clause-laid : goal.returns-clause-laid
-returns-clause-laid g c = λ _. laid-all c.texts.invariant.laid
-    (let past = c.texts-test.false in let upto = c.texts.auto.column-end in omega (arith, past, upto, c.count_columns-column-end.ensures))
+returns-clause-laid g c = λ _.
+    let rs = g.R.Row.sheet c.args.row.now in
+    laid-to-end c.texts.invariant.laid
+    (let past = c.texts-test.false in let upto = c.texts.auto.column-end in omega (arith, past, upto, spots-count rs.columns c.args.spots.now c.requires.spots))

@@ -8,47 +8,33 @@ use Rattle.tabled_lines.proofs.Laying.{laid-length, laid-utf8, lay-text, stands-
 use Rattle.tabled_lines.proofs.LayingStyles.{before-within, first-spaced, free_of, left_of, right_of}
 use Rattle.tabled_lines.proofs.laid_styles.lay_styled.Goals as goal
 
-pub overflow_add-place : goal.overflow_add-place
-overflow_add-place g c =
-    let within = before-within c.args.style.now.horizontal c.in_ok-free.free in
+pub overflow_add-spot : goal.overflow_add-spot
+overflow_add-spot g c =
+    let within = before-within c.args.style.now.horizontal c.in-Some.free in
     omega (
       arith,
       within,
       c.before_text.ensures,
       stands-long _ c.requires.blank,
-      c.width-width.ensures,
-      c.in_ok-checked_sub.ensures.0,
-      c.in_ok-checked_sub.ensures.1,
-      c.in_ok-checked_sub-2.ensures.0,
-      c.in_ok-checked_sub-2.ensures.1,
-      c.in_ok-free.ensures.0,
-      c.in_ok-free.ensures.1,
+      c.requires.width,
+      c.in-Some.ensures,
     )
 
 pub copy_at-requires : goal.copy_at-requires
 copy_at-requires g c =
-    let within = before-within c.args.style.now.horizontal c.in_ok-free.free in
+    let within = before-within c.args.style.now.horizontal c.in-Some.free in
     omega (
       arith,
       within,
       c.before_text.ensures,
       stands-long _ c.requires.blank,
-      c.width-width.ensures,
+      c.requires.width,
       c.if-text-taken.false,
-      c.in_ok-checked_sub.ensures.0,
-      c.in_ok-checked_sub.ensures.1,
-      c.in_ok-checked_sub-2.ensures.0,
-      c.in_ok-checked_sub-2.ensures.1,
-      c.in_ok-free.ensures.0,
-      c.in_ok-free.ensures.1,
+      c.in-Some.ensures,
     )
 
-pub overflow_add-result : goal.overflow_add-result
-overflow_add-result g c =
-    omega (arith, stands-long _ c.requires.blank, c.width-width.ensures)
-
 pub returns-clause-laid : goal.returns-clause-laid
-returns-clause-laid g c = λ front back whole begins.
+returns-clause-laid g c = λ _ front back whole begins.
     let rs = g.R.Row.sheet c.args.row.now in
     let style = c.args.style.now in
     let width = rs.columns.width c.args.column in
@@ -59,17 +45,12 @@ returns-clause-laid g c = λ front back whole begins.
     let taken : c.first_line-taken.result.1 ≡ line_columns line = c.first_line-taken.ensures.columns ∙ ap line_columns same in
     let widest : text_columns (rs.text c.args.column) ≡ line_columns line =
     ap text_columns (sym c.content-content.ensures) ∙ sym c.content-content.result.columns_are ∙ c.if-content-taken.false ∙ taken in
-    let rest : c.in_ok-free.free ≡ free_of style width line =
+    let rest : c.in-Some.free ≡ free_of style width line =
     omega (
       arith,
       taken,
-      c.width-width.ensures,
-      c.in_ok-checked_sub.ensures.0,
-      c.in_ok-checked_sub.ensures.1,
-      c.in_ok-checked_sub-2.ensures.0,
-      c.in_ok-checked_sub-2.ensures.1,
-      c.in_ok-free.ensures.0,
-      c.in_ok-free.ensures.1,
+      c.requires.width,
+      c.in-Some.ensures,
     ) in
     let left = left_of style width line in
     let right = right_of style width line in
@@ -82,41 +63,31 @@ returns-clause-laid g c = λ front back whole begins.
       taken,
       rest,
       within,
-      c.width-width.ensures,
+      c.requires.width,
       c.if-text-taken.false,
-      c.in_ok-checked_sub.ensures.0,
-      c.in_ok-checked_sub.ensures.1,
-      c.in_ok-checked_sub-2.ensures.0,
-      c.in_ok-checked_sub-2.ensures.1,
-      c.in_ok-free.ensures.0,
-      c.in_ok-free.ensures.1,
+      c.in-Some.ensures,
     ) in
     let named : fill 32 left ++ (text ++ fill 32 right) ≡ first_of_block rs c.args.column =
     ap (λ t. fill 32 left ++ (t ++ fill 32 right)) same
     ∙ sym (first-spaced rs c.args.column style c.requires.style c.requires.height (c.is_spaced.ensures c.if-not-is_spaced.false) widest) in
     let size = laid-length left right text in (
-      c.copy_at.ensures.copied ∙ ap (λ n. take (c.args.place + n) bytes ++ (text ++ drop (c.args.place + n + length text) bytes)) here
-          ∙ lay-text front back text bytes left (length text) right width c.args.place sum refl begins whole
+      c.copy_at.ensures.copied ∙ ap (λ n. take (c.args.spot.place + n) bytes ++ (text ++ drop (c.args.spot.place + n + length text) bytes)) here
+          ∙ lay-text front back text bytes left (length text) right width c.args.spot.place sum refl begins whole
           ∙ ap (λ u. front ++ (u ++ back)) named,
-      omega (arith, begins, sum, size, ap length named, c.width-width.ensures),
+      omega (arith, begins, sum, size, ap length named, c.requires.width),
     )
 
 pub returns-clause-utf8 : goal.returns-clause-utf8
 returns-clause-utf8 g c = λ u.
-    let before = before-within c.args.style.now.horizontal c.in_ok-free.free in
+    let before = before-within c.args.style.now.horizontal c.in-Some.free in
     let within : c.args.style.now.padding.left.size + c.before_text.result + length c.first_line-taken.result.0.now
     ≤ (g.R.Row.sheet c.args.row.now).columns.width c.args.column =
     omega (
       arith,
       before,
       c.before_text.ensures,
-      c.width-width.ensures,
+      c.requires.width,
       c.if-text-taken.false,
-      c.in_ok-checked_sub.ensures.0,
-      c.in_ok-checked_sub.ensures.1,
-      c.in_ok-checked_sub-2.ensures.0,
-      c.in_ok-checked_sub-2.ensures.1,
-      c.in_ok-free.ensures.0,
-      c.in_ok-free.ensures.1,
+      c.in-Some.ensures,
     ) in
     rw c.copy_at.ensures.copied (laid-utf8 _ _ _ _ _ c.requires.blank within c.copy_at.ensures.text u)
