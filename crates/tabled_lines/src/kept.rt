@@ -65,25 +65,41 @@ impl KeptLine {
     }
 
     /// Lays a line out.
-    fn lay_out<C: Columns>(&mut self, columns: &C, line: &HorizontalLine)
-        ensures line { self.new.line ≡ Some line.now }
+    #[inline(never)]
+    fn lay_out<C: Columns>(&mut self, columns: &C, line: HorizontalLine)
+        ensures line { self.new.line ≡ Some line }
         ensures kept { KeepsLine (C.sheet columns.now) self.new }
     {
         self.room.clear();
-        self.whole = put_led_rule(&mut self.room, columns, line).is_ok();
-        self.line = Some(*line);
+        self.whole = put_led_rule(&mut self.room, columns, &line).is_ok();
+        self.line = Some(line);
     }
 
     /// Lays a line out, unless it is the one that is kept.
-    fn keep<C: Columns>(&mut self, columns: &C, line: &HorizontalLine)
+    fn keep<C: Columns>(&mut self, columns: &C, line: HorizontalLine)
         requires known { KeepsLine (C.sheet columns.now) self.old }
-        ensures line { self.new.line ≡ Some line.now }
+        ensures line { self.new.line ≡ Some line }
         ensures known { KeepsLine (C.sheet columns.now) self.new }
     {
-        if !self.is(line) {
+        if !self.is(&line) {
             self.lay_out(columns, line);
         }
     }
+}
+
+/// A horizontal line that isn't kept, piece by piece.
+#[inline(never)]
+fn put_pieces<C: Columns, S: TextSink>(
+    sink: &mut S,
+    begun: &mut bool,
+    columns: &C,
+    line: HorizontalLine,
+) -> Result<(), TableError>
+    ensures { WritesLines (S.sent sink.old) begun.old result (S.sent sink.new) begun.new
+        (rule_line (C.sheet columns.now) line ∷ []) }
+{
+    put_break(sink, begun)?;
+    put_rule_line(sink, columns, &line)
 }
 
 /// A horizontal line, which is laid out anew only where it is another than the kept one.
@@ -91,20 +107,19 @@ pub(crate) fn put_kept_line<C: Columns, S: TextSink>(
     sink: &mut S,
     begun: &mut bool,
     columns: &C,
-    line: &HorizontalLine,
+    line: HorizontalLine,
     kept: &mut KeptLine,
 ) -> Result<(), TableError>
     requires known { KeepsLine (C.sheet columns.now) kept.old }
     ensures printed { WritesLines (S.sent sink.old) begun.old result (S.sent sink.new) begun.new
-        (rule_line (C.sheet columns.now) line.now ∷ []) }
+        (rule_line (C.sheet columns.now) line ∷ []) }
     ensures known { KeepsLine (C.sheet columns.now) kept.new }
 {
     kept.keep(columns, line);
-    if let Some(text) = kept.text() {
-        return put_led(sink, begun, text);
+    match kept.text() {
+        Some(text) => put_led(sink, begun, text),
+        None => put_pieces(sink, begun, columns, line),
     }
-    put_break(sink, begun)?;
-    put_rule_line(sink, columns, line)
 }
 
 /// What is kept for later lines over some columns: a horizontal line, and a blank row where memory may be taken.

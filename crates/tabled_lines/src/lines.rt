@@ -136,7 +136,7 @@ impl<C: Columns> Lines<C> {
                 sink,
                 &mut self.begun,
                 &self.columns,
-                &line,
+                line,
                 &mut self.kept.rule,
             ),
             None => Ok(()),
