@@ -2,6 +2,7 @@
 ghost use Rattle.std.specs.Prelude.{◌≡◌, ◌<◌, ℕ, IfSome, length};
 ghost use Rattle.std.specs.List.{slice_index};
 ghost use Rattle.tabled_base.specs.Cells.{IsInside, cell_at, columns};
+ghost use Rattle.tabled_border.specs.Frame.{if_any, inner_line};
 ghost use Rattle.tabled_config.specs.RowStyles.{style_in};
 ghost use Rattle.tabled_config.specs.Settings.{frame, rule_at, style_at};
 ghost use Rattle.tabled_grid.specs.ColumnStyles.{AreStyles};
@@ -29,6 +30,8 @@ pub(crate) struct Grid<'a, R: PeekableRecords, D: Dimension> {
     /// What memory may be taken from while the table is printed, if it may.
     pub memory: Option<Global>,
     around: Frame,
+    // The line of the borders between two rows.
+    between: Option<HorizontalLine>,
     shared: Option<SharedStyle>,
     by_column: Option<ColumnStyles>,
 }
@@ -41,7 +44,8 @@ impl<'a, R: PeekableRecords, D: Dimension> Model for Grid<'a, R, D> {
     ghost invariant = { λ g. (g.around ≡ frame g.config.now)
         × IfSome g.shared (λ shared. ((row column : ℕ) → style_at g.config.now row column ≡ shared.style)
         × (shared.bar ≡ (frame g.config.now).inner))
-        × IfSome g.by_column (AreStyles g.config.now (columns (R.cells g.records.now))) };
+        × IfSome g.by_column (AreStyles g.config.now (columns (R.cells g.records.now)))
+        × (g.between ≡ if_any (inner_line g.config.now.borders)) };
 }
 
 impl<'a, R: PeekableRecords, D: Dimension> Grid<'a, R, D> {
@@ -55,6 +59,7 @@ impl<'a, R: PeekableRecords, D: Dimension> Grid<'a, R, D> {
         ensures { result ≡ sheet_by (R.cells records.now) config.now (D.width_at dimension.now) (D.height_at dimension.now) }
     {
         let around = config.frame();
+        let between = config.borders.line_at(2, 1);
         let shared = match config.shared_style() {
             Some(style) => Some(SharedStyle::new(style, around.inner)),
             None => None,
@@ -76,6 +81,7 @@ impl<'a, R: PeekableRecords, D: Dimension> Grid<'a, R, D> {
             dimension,
             memory,
             around,
+            between,
             shared,
             by_column,
         }
@@ -156,10 +162,18 @@ impl<'a, R: PeekableRecords, D: Dimension> Grid<'a, R, D> {
     }
 
     /// The horizontal line above a row, or below the last one, if it is there.
+    #[tactic(auto, unfolding(tabled_config::specs::Settings::rule_at))]
     pub fn rule_at(&self, index: usize) -> Option<HorizontalLine>
         ensures { result ≡ rule_at self.now.config (length self.now.cells) index }
     {
-        self.config.rule_at(self.records.count_rows(), index)
+        let rows = self.records.count_rows();
+        if index == 0 || index == rows {
+            return self.config.rule_at(rows, index);
+        }
+        match self.config.get_horizontal_line(index) {
+            Some(line) => Some(line),
+            None => self.between,
+        }
     }
 
     /// The width of a column, which has to be there.

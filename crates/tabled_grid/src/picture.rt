@@ -28,6 +28,7 @@ struct Picture<'a, R: PeekableRecords, D: Dimension> {
 
 impl<'a, R: PeekableRecords, D: Dimension> Picture<'a, R, D> {
     /// The horizontal line at an index, if it is there.
+    #[inline(always)]
     #[tactic(auto, unfolding(crate::specs::Picture::rule))]
     fn put_rule<S: TextSink>(&mut self, sink: &mut S, index: usize) -> Result<(), TableError>
         ensures printed { WritesLines (S.sent sink.old) self.old.lines.begun result (S.sent sink.new) self.new.lines.begun

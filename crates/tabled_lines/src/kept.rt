@@ -103,6 +103,7 @@ fn put_pieces<C: Columns, S: TextSink>(
 }
 
 /// A horizontal line, which is laid out anew only where it is another than the kept one.
+#[inline(always)]
 pub(crate) fn put_kept_line<C: Columns, S: TextSink>(
     sink: &mut S,
     begun: &mut bool,

@@ -217,8 +217,13 @@ impl LaidRow {
         if !self.lay_out(columns) {
             return false;
         }
+        let blank = self.blank.as_bytes();
+        if self.line.len() == blank.len() {
+            self.line.copy_from_slice(blank);
+            return true;
+        }
         self.line.clear();
-        self.line.extend_from_slice(self.blank.as_bytes()).is_ok()
+        self.line.extend_from_slice(blank).is_ok()
     }
 
     /// Lays the texts of a row over these columns over the blank one. Answers whether all could be laid.

@@ -120,6 +120,7 @@ impl<C: Columns> Lines<C> {
     }
 
     /// A horizontal line, if there is one.
+    #[inline(always)]
     pub fn put_rule<S: TextSink>(
         &mut self,
         sink: &mut S,
