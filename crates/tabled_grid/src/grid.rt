@@ -161,14 +161,22 @@ impl<'a, R: PeekableRecords, D: Dimension> Grid<'a, R, D> {
         }
     }
 
+    /// The horizontal line above the first row, or below the last one, if it is there.
+    #[inline(never)]
+    fn outer_rule(&self, index: usize) -> Option<HorizontalLine>
+        ensures { result ≡ rule_at self.now.config (length self.now.cells) index }
+    {
+        self.config.rule_at(self.records.count_rows(), index)
+    }
+
     /// The horizontal line above a row, or below the last one, if it is there.
+    #[inline(always)]
     #[tactic(auto, unfolding(tabled_config::specs::Settings::rule_at))]
     pub fn rule_at(&self, index: usize) -> Option<HorizontalLine>
         ensures { result ≡ rule_at self.now.config (length self.now.cells) index }
     {
-        let rows = self.records.count_rows();
-        if index == 0 || index == rows {
-            return self.config.rule_at(rows, index);
+        if index == 0 || index == self.records.count_rows() {
+            return self.outer_rule(index);
         }
         match self.config.get_horizontal_line(index) {
             Some(line) => Some(line),

@@ -76,6 +76,7 @@ impl KeptLine {
     }
 
     /// Lays a line out, unless it is the one that is kept.
+    #[inline(always)]
     fn keep<C: Columns>(&mut self, columns: &C, line: HorizontalLine)
         requires known { KeepsLine (C.sheet columns.now) self.old }
         ensures line { self.new.line ≡ Some line }
