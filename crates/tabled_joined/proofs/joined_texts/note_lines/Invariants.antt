@@ -1,4 +1,4 @@
-use Rattle.std.proofs.Common.{◌≡◌, ◌≤◌, ℕ, length, get_or, max}
+use Rattle.std.proofs.Common.{◌≡◌, ℕ, length, get_or}
 use Rattle.tabled_joined.proofs.joined_texts.note_lines.Given as goal
 
 abbrev pub invariant-ones : goal.invariant-ones
