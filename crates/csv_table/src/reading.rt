@@ -40,9 +40,12 @@ pub fn read_rows<R: Read + Drop>(alloc: Global, input: R) -> Result<Rows> {
     })
 }
 
+/// Keeps which columns are numbers. Those that have a text already aren't looked at.
 fn keep_numbers(are_numbers: &mut Vec<bool>, record: &StringRecord) {
-    for (is_number, cell) in are_numbers.iter_mut().zip(record.iter()) {
-        *is_number = *is_number && is_number_text(cell);
+    for (column, is_number) in are_numbers.iter_mut().enumerate() {
+        if *is_number && let Some(cell) = record.get(column) {
+            *is_number = is_number_text(cell);
+        }
     }
 }
 
