@@ -1,7 +1,9 @@
 //! One setting of a table: for the whole of it, for rows, for columns and for cells.
 ghost use Rattle.std.specs.Prelude.{◌≡◌, ℕ, IfOk, IfSome, IsOk, OnErr, OnOk, true};
+ghost use Rattle.tabled_base.specs.declared.position.Entity.TheVariants.{Cell};
 ghost use Rattle.tabled_entity.specs.Changes.{for_all, setting_at, shared, with_change};
-ghost use Rattle.tabled_entity.specs.Places.{IsPart, IsWhole, last_for, latest};
+ghost use Rattle.tabled_entity.specs.Once.{IsSetByCell};
+ghost use Rattle.tabled_entity.specs.Places.{IsPart, IsWhole, last_for, latest, same};
 
 use crate::places::Places;
 use crate::row_values::RowValues;
@@ -20,6 +22,19 @@ pub struct EntityMap<T> {
     changes: Vec<(Entity, T)>,
     // Where the latest change for each part stands.
     places: Places,
+    // Whether no part was changed twice.
+    once: bool,
+}
+
+/// Whether an entity is the cell in a row and a column.
+#[inline(always)]
+fn is_cell(entity: Entity, row: usize, column: usize) -> bool
+    ensures { result ≡ same entity (Cell row column) }
+{
+    match entity {
+        Entity::Cell(r, c) => r == row && c == column,
+        _ => false,
+    }
 }
 
 /// One call lets a setting go with all its changes, so that whoever lets it go needn't prove it of each part.
@@ -29,20 +44,22 @@ impl<T: Drop> Drop for EntityMap<T> {
             whole: _,
             changes: _,
             places: _,
+            once: _,
         } = self;
     }
 }
 
 impl<T> Model for EntityMap<T> {
-    ghost use Rattle.std.specs.Prelude.{reverse};
+    ghost use Rattle.std.specs.Prelude.{◌≡◌, reverse, true};
     ghost use Rattle.tabled_entity.specs.Changes.{Changes};
+    ghost use Rattle.tabled_entity.specs.Once.{AreOnce};
     ghost use Rattle.tabled_entity.specs.Places.{IsIndexed};
 
     ghost Value = { Changes T };
 
     ghost view = { λ m. record { whole = m.whole; parts = reverse m.changes.items } };
 
-    ghost invariant = { λ m. IsIndexed m.places (reverse m.changes.items) };
+    ghost invariant = { λ m. IsIndexed m.places (reverse m.changes.items) × (m.once ≡ true → AreOnce (reverse m.changes.items)) };
 }
 
 impl<T: Copy> EntityMap<T> {
@@ -54,6 +71,7 @@ impl<T: Copy> EntityMap<T> {
             whole: value,
             changes: Vec::new(alloc),
             places: Places::new(alloc),
+            once: true,
         }
     }
 
@@ -65,6 +83,7 @@ impl<T: Copy> EntityMap<T> {
             whole: self.whole,
             changes: Vec::from_slice(*self.changes.allocator(), &self.changes)?,
             places: self.places.clone()?,
+            once: self.once,
         })
     }
 
@@ -75,6 +94,7 @@ impl<T: Copy> EntityMap<T> {
         self.whole = value;
         self.changes.clear();
         self.places.clear();
+        self.once = true;
     }
 
     /// Sets a value for a part of the table. Where memory is refused, all is as it was.
@@ -85,8 +105,9 @@ impl<T: Copy> EntityMap<T> {
     {
         let place = self.changes.len();
         self.changes.try_reserve(1)?;
-        self.places.put(entity, place)?;
+        let had = self.places.put(entity, place)?;
         self.changes.push((entity, value))?;
+        self.once = self.once && !had;
         Ok(())
     }
 
@@ -148,6 +169,18 @@ impl<T: Copy> EntityMap<T> {
         }
     }
 
+    /// The value of a cell, if the change at a place is its own: then it is the one that covers the cell.
+    #[inline(always)]
+    pub(crate) fn set_at(&self, place: usize, row: usize, column: usize) -> Option<T>
+        requires { IsSetByCell self.now.parts row }
+        ensures { IfSome result (λ value. value ≡ setting_at self.now row column) }
+    {
+        match self.changes.get(place) {
+            Some((entity, value)) if is_cell(*entity, row, column) => Some(*value),
+            _ => None,
+        }
+    }
+
     /// The value of a cell.
     #[inline]
     pub fn get(&self, row: usize, column: usize) -> T
@@ -159,14 +192,28 @@ impl<T: Copy> EntityMap<T> {
         self.said(row, column, self.places.latest(row, column))
     }
 
+    /// Whether what covers the cells of a row is known to be set for each of them alone, and once.
+    fn is_set_by_cell(&self, row: usize) -> bool
+        ensures { result ≡ true → IsSetByCell self.now.parts row }
+    {
+        self.once && self.places.are_of_cells(row)
+    }
+
     /// The values of a row's cells, from left to right: each takes a step, and no look-up among the cells.
     pub fn in_row(&self, row: usize) -> RowValues<'_, T>
         ensures { result ≡ record { changes = self.now; row = row } }
     {
         if self.changes.is_empty() {
-            return RowValues::new(self, row, self.whole, None);
+            return RowValues::new(self, row, self.whole, None, false);
         }
-        RowValues::new(self, row, self.whole, Some(self.places.in_row(row)))
+        let places = self.places.in_row(row);
+        RowValues::new(
+            self,
+            row,
+            self.whole,
+            Some(places),
+            self.is_set_by_cell(row),
+        )
     }
 }
 

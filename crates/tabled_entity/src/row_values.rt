@@ -1,6 +1,7 @@
 //! The values of a row's cells, from left to right.
-ghost use Rattle.std.specs.Prelude.{◌≡◌, ℕ, MatchOption};
+ghost use Rattle.std.specs.Prelude.{◌≡◌, ℕ, IfSome, MatchOption, true};
 ghost use Rattle.tabled_entity.specs.Changes.{setting_at, value_at};
+ghost use Rattle.tabled_entity.specs.Once.{IsSetByCell};
 ghost use Rattle.tabled_entity.specs.Places.{last_for, latest};
 ghost use Rattle.tabled_entity.specs.RowPlaces.{latest_at};
 
@@ -8,8 +9,8 @@ use crate::entity_map::EntityMap;
 use crate::row_places::RowPlaces;
 use std::marker::Model;
 
-/// The values of a row's cells. Where columns are asked for from left to right, each takes a step, and else a look-up. They are seen as
-/// all settings, and the row.
+/// The values of a row's cells. Where columns are asked for from left to right, each takes a step, and else a look-up; where cells were
+/// set one after another, each is found behind the one before. They are seen as all settings, and the row.
 #[derive(Drop)]
 pub struct RowValues<'a, T> {
     map: &'a EntityMap<T>,
@@ -17,11 +18,16 @@ pub struct RowValues<'a, T> {
     whole: T,
     // Where the latest changes stand, if there are any.
     places: Option<RowPlaces<'a>>,
+    // Whether each change for a cell of the row is known to be the only one that covers the cell.
+    by_cell: bool,
+    // Where the change of the cell stands that is asked for next, if cells were set in that order.
+    next: usize,
 }
 
 impl<'a, T> Model for RowValues<'a, T> {
-    ghost use Rattle.std.specs.Prelude.{◌≡◌, ℕ, MatchOption};
+    ghost use Rattle.std.specs.Prelude.{◌≡◌, ℕ, MatchOption, true};
     ghost use Rattle.tabled_entity.specs.Changes.{ChangesAndRow, setting_at};
+    ghost use Rattle.tabled_entity.specs.Once.{IsSetByCell};
     ghost use Rattle.tabled_entity.specs.Places.{last_for, latest};
     ghost use Rattle.tabled_entity.specs.RowPlaces.{latest_at};
 
@@ -31,7 +37,8 @@ impl<'a, T> Model for RowValues<'a, T> {
 
     ghost invariant = { λ v. MatchOption v.places
         ((column : ℕ) → v.whole ≡ setting_at v.map.now v.row column)
-        (λ places. (column : ℕ) → latest_at places column ≡ latest (λ entity. last_for entity v.map.now.parts) v.row column) };
+        (λ places. (column : ℕ) → latest_at places column ≡ latest (λ entity. last_for entity v.map.now.parts) v.row column)
+        × (v.by_cell ≡ true → IsSetByCell v.map.now.parts v.row) };
 }
 
 impl<'a, T: Copy> RowValues<'a, T> {
@@ -41,10 +48,12 @@ impl<'a, T: Copy> RowValues<'a, T> {
         row: usize,
         whole: T,
         places: Option<RowPlaces<'a>>,
+        by_cell: bool,
     ) -> RowValues<'a, T>
-        requires { MatchOption places
+        requires places { MatchOption places
             ((column : ℕ) → whole ≡ setting_at map.now row column)
             (λ places. (column : ℕ) → latest_at places column ≡ latest (λ entity. last_for entity map.now.parts) row column) }
+        requires by_cell { by_cell ≡ true → IsSetByCell map.now.parts row }
         ensures { result ≡ record { changes = map.now; row = row } }
     {
         RowValues {
@@ -52,7 +61,38 @@ impl<'a, T: Copy> RowValues<'a, T> {
             row,
             whole,
             places,
+            by_cell,
+            next: 0,
         }
+    }
+
+    /// The value of the cell in a column, if its change is the next one.
+    #[inline(always)]
+    fn take_next(&mut self, column: usize) -> Option<T>
+        ensures value { IfSome result (λ value. value ≡ value_at self.old column) }
+        ensures same { self.new ≡ self.old }
+    {
+        if !self.by_cell {
+            return None;
+        }
+        let value = self.map.set_at(self.next, self.row, column)?;
+        self.next = self.next.wrapping_add(1);
+        Some(value)
+    }
+
+    /// The value of the cell in a column, by the place of the latest change for it.
+    fn look_up(&mut self, column: usize) -> T
+        ensures value { result ≡ value_at self.old column }
+        ensures same { self.new ≡ self.old }
+    {
+        let Some(places) = &mut self.places else {
+            return self.whole;
+        };
+        let place = places.at(column);
+        if let Some(place) = place {
+            self.next = place.wrapping_add(1);
+        }
+        self.map.said(self.row, column, place)
     }
 
     /// The value of the cell in a column.
@@ -61,9 +101,9 @@ impl<'a, T: Copy> RowValues<'a, T> {
         ensures value { result ≡ value_at self.old column }
         ensures same { self.new ≡ self.old }
     {
-        match &mut self.places {
-            Some(places) => self.map.said(self.row, column, places.at(column)),
-            None => self.whole,
+        match self.take_next(column) {
+            Some(value) => value,
+            None => self.look_up(column),
         }
     }
 }

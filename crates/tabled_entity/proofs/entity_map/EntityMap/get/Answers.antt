@@ -7,7 +7,7 @@ use Rattle.tabled_entity.proofs.entity_map.EntityMap.get.Goals as goal
 pub said-requires : goal.said-requires
 said-requires g c =
     c.latest.ensures
-    ∙ indexed-latest c.self.inside.places (reverse c.self.inside.changes.items) c.args.row c.args.column c.self.invariant
+    ∙ indexed-latest c.self.inside.places (reverse c.self.inside.changes.items) c.args.row c.args.column c.self.invariant.0
     ∙ ap (λ v. latest_place v.parts c.args.row c.args.column) c.self.view_is
 
 pub returns-then-is_empty : goal.returns-then-is_empty

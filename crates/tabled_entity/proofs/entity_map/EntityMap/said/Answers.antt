@@ -28,7 +28,7 @@ returns-in-Some g c =
     let below = placed-below (reverse items) c.args.row c.args.column place placed in
     let within = subst (λ (n : ℕ). place < n) (length-reverse items) below in
     ap (λ p. p.1) (get_or_read items place c.index.result.now within c.index.ensures none ∙ item-reversed items place none below)
-    ∙ (said_at-placed inside.whole inside.places (reverse items) c.args.row c.args.column (Some place) c.self.invariant placed
+    ∙ (said_at-placed inside.whole inside.places (reverse items) c.args.row c.args.column (Some place) c.self.invariant.0 placed
     ∙ ap (λ v. setting_at v c.args.row c.args.column) c.self.view_is)
 
 pub returns-in-None : goal.returns-in-None
@@ -36,5 +36,5 @@ returns-in-None g c =
     let parts = reverse c.self.inside.changes.items in
     let placed : None ≡ latest_place parts c.args.row c.args.column =
     sym c.in-None.is ∙ c.requires ∙ ap (λ v. latest_place v.parts c.args.row c.args.column) (sym c.self.view_is) in
-    said_at-placed c.self.inside.whole c.self.inside.places parts c.args.row c.args.column None c.self.invariant placed
+    said_at-placed c.self.inside.whole c.self.inside.places parts c.args.row c.args.column None c.self.invariant.0 placed
     ∙ ap (λ v. setting_at v c.args.row c.args.column) c.self.view_is
