@@ -7,6 +7,7 @@ pub mod Measure
 pub mod OldText
 pub mod Plain
 pub mod Room
+pub mod Runs
 pub mod Units
 pub mod Walk
 pub mod Wrapping

@@ -3,6 +3,7 @@ ghost use Rattle.std.specs.Prelude.{◌≡◌, ℕ, ◌+◌, ◌-◌, ◌%◌, �
 ghost use Rattle.std.specs.Int.{is_in_range};
 ghost use Rattle.std.specs.List.{list_all};
 ghost use Rattle.std.specs.Simd.Lanes.{chunk, mask_l};
+ghost use Rattle.tabled_text.specs.Runs.{EndsRun, LieWithin};
 
 use std::simd::prelude::*;
 
@@ -50,7 +51,7 @@ fn run_in_block(bytes: &[u8], at: usize, first: u8, last: u8) -> usize
     requires room { at + BLOCK ≤ length bytes.now }
     requires range { first ≤ last }
     ensures bound { result ≤ BLOCK }
-    ensures passed { (k : ℕ) → at ≤ k → k < at + result → is_in_range first last (slice_index bytes.now k) ≡ true }
+    ensures passed { LieWithin first last bytes.now at (at + result) }
     ensures stops { result < BLOCK → is_in_range first last (slice_index bytes.now (at + result)) ≡ false }
 {
     let outside = outside(bytes, at, first, last);
@@ -64,10 +65,7 @@ fn run_in_block(bytes: &[u8], at: usize, first: u8, last: u8) -> usize
 /// Where a run ends, byte by byte.
 fn short_run_end(bytes: &[u8], from: usize, first: u8, last: u8) -> usize
     requires { from ≤ length bytes.now }
-    ensures from { from ≤ result }
-    ensures end { result ≤ length bytes.now }
-    ensures passed { (k : ℕ) → from ≤ k → k < result → is_in_range first last (slice_index bytes.now k) ≡ true }
-    ensures stops { result < length bytes.now → is_in_range first last (slice_index bytes.now result) ≡ false }
+    ensures { EndsRun first last bytes.now from result }
 {
     let mut at = from;
     'bytes: while at < bytes.len() {
@@ -85,10 +83,7 @@ fn short_run_end(bytes: &[u8], from: usize, first: u8, last: u8) -> usize
 pub fn run_end(bytes: &[u8], from: usize, first: u8, last: u8) -> usize
     requires from { from ≤ length bytes.now }
     requires range { first ≤ last }
-    ensures from { from ≤ result }
-    ensures end { result ≤ length bytes.now }
-    ensures passed { (k : ℕ) → from ≤ k → k < result → is_in_range first last (slice_index bytes.now k) ≡ true }
-    ensures stops { result < length bytes.now → is_in_range first last (slice_index bytes.now result) ≡ false }
+    ensures { EndsRun first last bytes.now from result }
 {
     let mut at = from;
     'whole: while bytes.len() - at >= BLOCK {

@@ -1,12 +1,12 @@
-use Rattle.std.proofs.Common.{◌≡◌, ℕ, ◌-◌, ◌<◌, ◌≤◌, true, length, get_or}
-use Rattle.std.specs.Int.{is_in_range}
+use Rattle.std.proofs.Common.{◌-◌, ◌≤◌, length}
+use Rattle.tabled_text.specs.Runs.{LieWithin}
 use Rattle.tabled_text.proofs.runs.run_end.Given as goal
 
 abbrev pub invariant-whole : goal.invariant-whole
 invariant-whole l = record {
   from : l.from ≤ l.at;
   end : l.at ≤ length l.bytes;
-  passed : (k : ℕ) → l.from ≤ k → k < l.at → is_in_range l.first l.last (get_or l.bytes k 0) ≡ true;
+  passed : LieWithin l.first l.last l.bytes l.from l.at;
 }
 
 abbrev pub decreases-whole : goal.decreases-whole
