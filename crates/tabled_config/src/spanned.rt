@@ -1,5 +1,5 @@
 //! The configuration of a table.
-ghost use Rattle.std.specs.Prelude.{◌≡◌, ◌==◌, ℕ, if◌then◌else◌, IfErr, IfOk, IfSome, IsOk, OnErr, OnOk, Some, []};
+ghost use Rattle.std.specs.Prelude.{◌≡◌, ◌==◌, ℕ, if◌then◌else◌, IfErr, IfOk, IsOk, OnErr, OnOk, Some, []};
 ghost use Rattle.tabled_base.specs.declared.error.TableError.TheVariants.{Memory};
 ghost use Rattle.tabled_entity.specs.Changes.{setting_at, with_change};
 ghost use Rattle.tabled_border.specs.Lines.{line_set, with_line};
@@ -68,7 +68,7 @@ impl Drop for SpannedConfig {
 
 impl SpannedConfig {
     ghost use Rattle.tabled_config.specs.Options.{with_style};
-    ghost use Rattle.tabled_config.specs.Settings.{frame, rule_at, shared_style, style_at};
+    ghost use Rattle.tabled_config.specs.Settings.{frame, rule_at, style_at};
     ghost use Rattle.tabled_config.specs.Spanned.{
       new_spanned,
       spanned_of_compact,
@@ -352,20 +352,6 @@ impl SpannedConfig {
     /// What the settings grow by.
     pub(crate) fn allocator(&self) -> Global {
         self.padding.allocator()
-    }
-
-    /// How the texts of all cells stand, where nothing was set for parts of the table.
-    #[tactic(auto, unfolding(crate::specs::Settings::shared_style, crate::specs::Settings::style_at))]
-    pub fn shared_style(&self) -> Option<CellStyle>
-        ensures value { result ≡ shared_style self.now }
-        ensures everywhere { IfSome result (λ style. (row column : ℕ) → style_at self.now row column ≡ style) }
-    {
-        Some(CellStyle {
-            padding: self.padding.shared()?,
-            horizontal: self.alignment_horizontal.shared()?,
-            vertical: self.alignment_vertical.shared()?,
-            line_alignment: self.line_alignment.shared()?,
-        })
     }
 
     /// How the text of the cell at a place stands.
