@@ -1,6 +1,7 @@
 pub mod EstimatedTotals
 pub mod Greatest
 pub mod Passing
+pub mod Raising
 pub mod Reaching
 pub mod ShrunkTotals
 pub mod Totalling

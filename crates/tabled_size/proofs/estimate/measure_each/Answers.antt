@@ -1,4 +1,4 @@
-use Rattle.std.proofs.Common.{◌≡◌, ◌∙◌, ap, max, sym, arith, rules}
+use Rattle.std.proofs.Common.{◌≡◌, ◌∙◌, ap, max, sym, arith, get_or}
 use Rattle.std.specs.List.{slice_index}
 use Rattle.std.proofs.lemmas.List.FromFn.{fill_by_all}
 use Rattle.tabled_base.specs.Cells.{columns}
@@ -6,16 +6,20 @@ use Rattle.tabled_entity.specs.Changes.{value_at}
 use Rattle.tabled_size.specs.Estimates.{needed_height, needed_width, row_height}
 use Rattle.tabled_size.proofs.Greatest.{greatest_below, greatest_more}
 use Rattle.tabled_size.proofs.Passing.{if_none, padding_passes}
+use Rattle.tabled_size.proofs.Raising.{raised-more, rest-more}
 use Rattle.tabled_size.proofs.estimate.measure_each.Goals as goal
 
 pub columns-preserved : goal.columns-preserved
 columns-preserved g c =
-    let f = needed_height (g.R.ExactRecords.cells c.args.records.now) c.args.config.now c.args.row in
+    let cells = g.R.ExactRecords.cells c.args.records.now in
+    let f = needed_height cells c.args.config.now c.args.row in
     let e = greatest_more f c.columns.column in
     record {
       paddings = λ k. ap (λ p. value_at p k) c.at.ensures.same ∙ c.columns.invariant.paddings k;
-      raised = search rules;
-      rest = search rules;
+      raised = raised-more c.args.widths.now c.columns.widths (needed_width cells c.args.config.now c.args.row) c.columns.column c.max.result
+          (omega (arith, c.columns-test.true, c.requires.columns, c.columns.auto.widths, c.count_columns-column-end.ensures.columns)) c.columns.invariant.raised
+          (c.columns.invariant.rest c.columns.column (omega arith)) (c.max.ensures ∙ ap (max (get_or c.columns.widths c.columns.column 0)) c.in_ok-needs.ensures.width);
+      rest = rest-more c.args.widths.now c.columns.widths c.columns.column c.max.result c.columns.invariant.rest;
       most = omega (arith, e, c.columns.invariant.most, c.max-most.ensures, c.in_ok-needs.ensures.height);
     }
 
