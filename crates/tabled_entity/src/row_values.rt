@@ -101,6 +101,9 @@ impl<'a, T: Copy> RowValues<'a, T> {
         ensures value { result ≡ value_at self.old column }
         ensures same { self.new ≡ self.old }
     {
+        if let None = &self.places {
+            return self.whole;
+        }
         match self.take_next(column) {
             Some(value) => value,
             None => self.look_up(column),

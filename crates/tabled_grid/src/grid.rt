@@ -7,7 +7,9 @@ ghost use Rattle.tabled_config.specs.RowStyles.{style_in};
 ghost use Rattle.tabled_config.specs.Settings.{frame, rule_at, style_at};
 ghost use Rattle.tabled_grid.specs.ColumnStyles.{AreStyles};
 ghost use Rattle.tabled_grid.specs.Grid.{sheet_by};
+ghost use Rattle.tabled_row.specs.Aims.{AreAims};
 ghost use Rattle.tabled_size.specs.Holds.{IsSized};
+ghost use Rattle.tabled_size.specs.Reached.{reached};
 ghost use Rattle.tabled_size.specs.Sheet.{Sheet};
 
 use crate::column_styles::ColumnStyles;
@@ -15,7 +17,7 @@ use std::alloc::Global;
 use std::marker::Model;
 use tabled_base::{PeekableRecords, Position};
 use tabled_config::{CellStyle, Frame, HorizontalLine, RowStyles, SpannedConfig};
-use tabled_row::{CellBlock, Content, SharedStyle};
+use tabled_row::{Aim, CellBlock, Content, SharedStyle};
 use tabled_size::Dimension;
 
 /// Records, how they are set, and their sizes. Contracts see the sheet that they make.
@@ -44,7 +46,8 @@ impl<'a, R: PeekableRecords, D: Dimension> Model for Grid<'a, R, D> {
     ghost invariant = { λ g. (g.around ≡ frame g.config.now)
         × IfSome g.shared (λ shared. ((row column : ℕ) → style_at g.config.now row column ≡ shared.style)
         × (shared.bar ≡ (frame g.config.now).inner))
-        × IfSome g.by_column (AreStyles g.config.now (columns (R.cells g.records.now)))
+        × IfSome g.by_column (AreStyles g.config.now (slice_index (reached (D.width_at g.dimension.now) (columns (R.cells g.records.now))))
+        (columns (R.cells g.records.now)))
         × (g.between ≡ if_any (inner_line g.config.now.borders)) };
 }
 
@@ -65,15 +68,14 @@ impl<'a, R: PeekableRecords, D: Dimension> Grid<'a, R, D> {
             None => None,
         };
         let by_column = match &shared {
-            Some(_) => None,
-            None => {
-                ColumnStyles::if_kept(
-                    memory,
-                    config,
-                    records.count_rows(),
-                    records.count_columns(),
-                )
-            }
+            Some(style) if style.flush().is_some() => None,
+            _ => ColumnStyles::if_kept(
+                memory,
+                config,
+                dimension,
+                records.count_rows(),
+                records.count_columns(),
+            ),
         };
         Grid {
             records,
@@ -113,6 +115,14 @@ impl<'a, R: PeekableRecords, D: Dimension> Grid<'a, R, D> {
             return RowStyles::Listed(styles);
         }
         self.config.styles_in(row)
+    }
+
+    /// Where the texts of a row stand if it is of one line, if that is known for all of them.
+    pub fn aims(&self, row: usize) -> Option<&[Aim]>
+        ensures { IfSome result (λ aims.
+            AreAims (style_at self.now.config row) (slice_index self.now.widths) (columns self.now.cells) aims.now) }
+    {
+        self.by_column.as_ref()?.aims_in_row(self.config, row)
     }
 
     /// How many rows there are.

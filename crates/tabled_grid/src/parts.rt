@@ -6,7 +6,7 @@ ghost use Rattle.tabled_size.specs.Holds.{IsSized};
 use crate::grid::Grid;
 use tabled_base::{PeekableRecords, Position};
 use tabled_config::{CellStyle, Frame, RowStyles};
-use tabled_row::{CellBlock, Columns, Content, Row, SharedStyle};
+use tabled_row::{Aim, CellBlock, Columns, Content, Row, SharedStyle};
 use tabled_size::Dimension;
 
 /// The columns of a table whose sizes are there.
@@ -65,6 +65,10 @@ impl<'a, R: PeekableRecords, D: Dimension> Row<'a> for GridRow<'a, R, D> {
 
     fn styles(&self) -> RowStyles<'_> {
         self.grid.styles(self.row)
+    }
+
+    fn aims(&self) -> Option<&[Aim]> {
+        self.grid.aims(self.row)
     }
 
     fn width(&self, column: usize) -> usize {

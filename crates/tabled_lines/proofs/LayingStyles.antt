@@ -10,7 +10,8 @@ use Rattle.tabled_config.specs.declared.spanned.CellStyle.{CellStyle}
 use Rattle.tabled_row.specs.Block.{before_text, block, cell_line, columns_before, fill_above, text_room}
 use Rattle.tabled_row.specs.Fill.{fill, indent}
 use Rattle.tabled_row.specs.Flush.{first_line}
-use Rattle.tabled_lines.specs.LaidStyles.{IsSpaced, first_of_block}
+use Rattle.tabled_lines.specs.LaidStyles.{first_of_block}
+use Rattle.tabled_row.specs.Aims.{IsSpaced}
 use Rattle.tabled_row.specs.Row.{RowSheet, cell_piece, piece}
 use Rattle.tabled_row.proofs.Blocks.{block-text}
 use Rattle.tabled_row.proofs.Fills.{fill-add}

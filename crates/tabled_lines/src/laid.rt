@@ -8,7 +8,7 @@ ghost use Rattle.tabled_lines.specs.Laid.{IsFlushLine, StandsAt, blank_line, bla
 ghost use Rattle.tabled_lines.specs.Spots.{AreSpots};
 ghost use Rattle.tabled_row.specs.Row.{piece, row_line, row_lines};
 
-use crate::laid_styles::lay_by_styles;
+use crate::laid_styles::{lay_by_aims, lay_by_styles};
 use crate::spots::{Spot, put_spots};
 use std::alloc::Global;
 use tabled_base::TableError;
@@ -143,8 +143,11 @@ fn lay_all<'a, R: Row<'a>>(line: &mut [u8], spots: &[Spot], row: &R) -> bool
     ensures laid { result ≡ true → line.new ≡ row_line (R.sheet row.now) 0 }
     ensures utf8 { IsUtf8 line.old → IsUtf8 line.new }
 {
-    match flush_style(row) {
-        Some(style) => lay_texts(line, spots, row, style),
+    if let Some(style) = flush_style(row) {
+        return lay_texts(line, spots, row, style);
+    }
+    match row.aims() {
+        Some(aims) => lay_by_aims(line, spots, row, aims),
         None => lay_by_styles(line, spots, row),
     }
 }

@@ -1,3 +1,4 @@
+pub mod Aims
 pub mod Apart
 pub mod Block
 pub mod Fill

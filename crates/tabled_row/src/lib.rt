@@ -4,6 +4,7 @@
 //! of its cells: the rows of a table in memory and those of a stream print by the same calls.
 #![tactic(auto)]
 
+mod aim;
 mod block;
 mod columns;
 mod content;
@@ -20,6 +21,7 @@ mod row;
 mod shared;
 mod text_sink;
 
+pub use aim::Aim;
 pub use block::{CellBlock, before_text};
 pub use columns::{Columns, count_drawn, put_rule_line, put_rule_pieces};
 pub use content::Content;

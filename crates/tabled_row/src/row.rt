@@ -2,10 +2,12 @@
 ghost use Rattle.std.specs.Prelude.{◌≡◌, ◌<◌, ◌≤◌, ℕ, IfSome, []};
 ghost use Rattle.std.specs.List.{flat_map, range_with_len, slice_index_or};
 ghost use Rattle.tabled_config.specs.RowStyles.{style_in};
+ghost use Rattle.tabled_row.specs.Aims.{AreAims};
 ghost use Rattle.tabled_row.specs.Marks.{AreKept};
 ghost use Rattle.tabled_row.specs.Row.{RowSheet, cell_block, cell_piece, row_line};
 ghost use Rattle.tabled_row.specs.Sent.{Sent, Writes};
 
+use crate::aim::Aim;
 use crate::block::CellBlock;
 use crate::content::Content;
 use crate::edges::{put_left, put_piece, put_right};
@@ -42,6 +44,10 @@ pub trait Row<'a> {
     fn styles(&self) -> RowStyles<'_>
         ensures { (column : ℕ) → column < (sheet self.now).columns.count
             → style_in result column ≡ (sheet self.now).style column };
+
+    /// Where the texts of the columns stand if the row takes one line, if that is known for all of them.
+    fn aims(&self) -> Option<&[Aim]>
+        ensures { IfSome result (λ aims. AreAims (sheet self.now).style (sheet self.now).columns.width (sheet self.now).columns.count aims.now) };
 
     /// How many text columns a column takes, padding included.
     fn width(&self, column: usize) -> usize

@@ -17,7 +17,7 @@ use std::borrow::CowStr;
 use tabled_base::{CellText, TableError, Text};
 use tabled_config::{CellStyle, Frame, RowStyles};
 use tabled_lines::Lines;
-use tabled_row::{CellBlock, Content, Marks, Row, SharedStyle, TextSink};
+use tabled_row::{Aim, CellBlock, Content, Marks, Row, SharedStyle, TextSink};
 use tabled_text::cut_str;
 
 /// A row of a stream whose cells are cut; missing ones are empty.
@@ -54,6 +54,10 @@ impl<'a> Row<'a> for CutRow<'a> {
 
     fn styles(&self) -> RowStyles<'_> {
         RowStyles::Alike(self.layout.style)
+    }
+
+    fn aims(&self) -> Option<&[Aim]> {
+        None
     }
 
     fn width(&self, column: usize) -> usize {

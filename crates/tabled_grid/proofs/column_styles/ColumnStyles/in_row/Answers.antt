@@ -4,6 +4,6 @@ use Rattle.tabled_grid.proofs.AlikeRows.{alike-maps}
 use Rattle.tabled_grid.proofs.column_styles.ColumnStyles.in_row.Goals as goal
 
 pub returns-then-are_alike : goal.returns-then-are_alike
-returns-then-are_alike c = λ columns known.
-    c.as_slice.ensures.value ∙ known ∙ alike-maps (style_at c.args.config.now c.args.self.now.row) (style_at c.args.config.now c.args.row) 0 columns
+returns-then-are_alike c = λ width columns known.
+    c.as_slice.ensures.value ∙ known.styles ∙ alike-maps (style_at c.args.config.now c.args.self.now.row) (style_at c.args.config.now c.args.row) 0 columns
     (λ column. sym (c.are_alike.ensures c.if-are_alike.true column))

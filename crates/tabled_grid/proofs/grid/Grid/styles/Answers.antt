@@ -1,6 +1,8 @@
 use Rattle.std.proofs.Common.{◌≡◌, ◌<◌, ℕ, slice_index_or, subst, ap, ◌∙◌, arith}
 use Rattle.std.proofs.lemmas.List.FromFn.{get_or-map-range_with_len}
+use Rattle.std.specs.List.{slice_index}
 use Rattle.tabled_base.specs.Cells.{columns}
+use Rattle.tabled_size.specs.Reached.{reached}
 use Rattle.tabled_config.specs.RowStyles.{plain_style}
 use Rattle.tabled_config.specs.Settings.{style_at}
 use Rattle.tabled_grid.proofs.grid.Grid.styles.Goals as goal
@@ -12,7 +14,7 @@ returns g c =
     let styles = c.in-Some-in_row.styles.now in
     let style = style_at inside.config.now c.args.row in
     let kept = rw c.in-Some.is at c.self.invariant.2 in
-    let listed = c.in-Some-in_row.ensures count kept in
+    let listed = c.in-Some-in_row.ensures (slice_index (reached (g.D.Dimension.width_at inside.dimension.now) count)) count kept in
     subst (λ sheet. (column : ℕ) → column < columns sheet.cells → slice_index_or styles column plain_style ≡ style_at sheet.config c.args.row column)
     c.self.view_is (λ column within. ap (λ all. slice_index_or all column plain_style) listed
     ∙ get_or-map-range_with_len style 0 count column column plain_style within (omega arith))

@@ -2,7 +2,7 @@ use Rattle.std.proofs.Common.{◌++◌, ◌∷◌, [], ◌∙◌, ap, sym, map, 
 use Rattle.std.specs.List.{range_with_len}
 use Rattle.std.proofs.lemmas.List.FromFn.{map-range_with_len_more}
 use Rattle.tabled_config.specs.Settings.{style_at}
-use Rattle.tabled_grid.proofs.column_styles.ColumnStyles.new.Goals as goal
+use Rattle.tabled_grid.proofs.column_styles.styles_in.Goals as goal
 
 pub columns-preserved : goal.columns-preserved
 columns-preserved c =

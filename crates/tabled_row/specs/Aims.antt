@@ -1,0 +1,26 @@
+-- Where the texts of a row of one line stand among its blank columns.
+use Rattle.std.specs.Prelude.{◌≡◌, ℕ, ◌+◌, ◌<◌, ◌≤◌, List, map}
+use Rattle.std.specs.List.{range_with_len}
+use Rattle.tabled_config.specs.declared.spanned.CellStyle.{CellStyle}
+use Rattle.tabled_row.specs.Block.{text_room}
+use Rattle.tabled_row.specs.declared.aim.Aim.{Aim}
+
+-- texts stand between spaces, with no line above them
+pub record IsSpaced (style : CellStyle) : Type 0 where
+  pub left : style.padding.left.fill ≡ 32
+  pub right : style.padding.right.fill ≡ 32
+  pub top : style.padding.top.size ≡ 0
+
+-- where a text under a style stands in a column of some width: behind its padding, among the columns that this leaves
+abbrev pub aim_of : CellStyle → ℕ → Aim
+aim_of style width = record { before = style.padding.left.size; room = text_room style width; horizontal = style.horizontal }
+
+-- it stands between spaces, and its padding fits
+pub record IsAimed (style : CellStyle) (width : ℕ) : Type 0 where
+  pub spaced : IsSpaced style
+  pub fits : style.padding.left.size + style.padding.right.size ≤ width
+
+-- those of all columns
+pub record AreAims (style : ℕ → CellStyle) (width : ℕ → ℕ) (count : ℕ) (aims : List Aim) : Type 0 where
+  pub listed : aims ≡ map (λ column. aim_of (style column) (width column)) (range_with_len 0 count)
+  pub aimed : (column : ℕ) → column < count → IsAimed (style column) (width column)
