@@ -199,12 +199,25 @@ impl<T: Copy> EntityMap<T> {
         self.once && self.places.are_of_cells(row)
     }
 
+    /// Where the change for the first cell of a row stands, if cells were set row by row, and as many in each.
+    fn likely_place(&self, row: usize) -> usize {
+        let (Some((Entity::Cell(first, _), _)), Some((Entity::Cell(last, _), _))) = (
+            self.changes.first(),
+            self.changes.last(),
+        ) else {
+            return 0;
+        };
+        let rows = last.saturating_sub(*first).saturating_add(1);
+        row.saturating_sub(*first)
+            .saturating_mul(self.changes.len() / rows)
+    }
+
     /// The values of a row's cells, from left to right: each takes a step, and no look-up among the cells.
     pub fn in_row(&self, row: usize) -> RowValues<'_, T>
         ensures { result ≡ record { changes = self.now; row = row } }
     {
         if self.changes.is_empty() {
-            return RowValues::new(self, row, self.whole, None, false);
+            return RowValues::new(self, row, self.whole, None, false, 0);
         }
         let places = self.places.in_row(row);
         RowValues::new(
@@ -213,6 +226,7 @@ impl<T: Copy> EntityMap<T> {
             self.whole,
             Some(places),
             self.is_set_by_cell(row),
+            self.likely_place(row),
         )
     }
 }

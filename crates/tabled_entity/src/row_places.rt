@@ -18,17 +18,19 @@ pub(crate) struct CellPlaces<'a> {
     row: usize,
     // The column that was asked for last.
     from: usize,
-    ahead: Ahead<'a>,
+    // The cells from that column on, once one was asked for.
+    ahead: Option<Ahead<'a>>,
 }
 
 impl<'a> Model for CellPlaces<'a> {
+    ghost use Rattle.std.specs.Prelude.{IfSome};
     ghost use Rattle.tabled_entity.specs.Ahead.{CellsAndRow, LieAhead};
 
     ghost Value = { CellsAndRow };
 
     ghost view = { λ c. record { cells = c.cells.now.entries; row = c.row } };
 
-    ghost invariant = { λ c. LieAhead (record { cells = c.cells.now.entries; row = c.row }) c.from c.ahead };
+    ghost invariant = { λ c. IfSome c.ahead (LieAhead (record { cells = c.cells.now.entries; row = c.row }) c.from) };
 }
 
 impl<'a> CellPlaces<'a> {
@@ -40,8 +42,16 @@ impl<'a> CellPlaces<'a> {
             cells,
             row,
             from: 0,
-            ahead: Ahead::new(cells.range((row, 0)..)),
+            ahead: None,
         }
+    }
+
+    /// Begins at the left of the row.
+    fn begin(&mut self)
+        ensures { self.new ≡ self.old }
+    {
+        self.ahead = Some(Ahead::new(self.cells.range((self.row, 0)..)));
+        self.from = 0;
     }
 
     /// The place of the cell in a column. A column to the left of the one before takes a look-up.
@@ -50,13 +60,18 @@ impl<'a> CellPlaces<'a> {
         ensures place { result ≡ place_at self.old column }
         ensures same { self.new ≡ self.old }
     {
-        let at = (self.row, column);
-        if column < self.from {
-            return self.cells.get(&at).copied();
+        if self.ahead.is_none() {
+            self.begin();
         }
-        self.ahead.pass_to(at);
-        self.from = column;
-        self.ahead.place(at)
+        let at = (self.row, column);
+        match &mut self.ahead {
+            Some(ahead) if self.from <= column => {
+                ahead.pass_to(at);
+                self.from = column;
+                ahead.place(at)
+            }
+            _ => self.cells.get(&at).copied(),
+        }
     }
 }
 

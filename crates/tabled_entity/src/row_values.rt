@@ -49,6 +49,7 @@ impl<'a, T: Copy> RowValues<'a, T> {
         whole: T,
         places: Option<RowPlaces<'a>>,
         by_cell: bool,
+        next: usize,
     ) -> RowValues<'a, T>
         requires places { MatchOption places
             ((column : ℕ) → whole ≡ setting_at map.now row column)
@@ -62,7 +63,7 @@ impl<'a, T: Copy> RowValues<'a, T> {
             whole,
             places,
             by_cell,
-            next: 0,
+            next,
         }
     }
 
