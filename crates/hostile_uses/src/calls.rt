@@ -1,7 +1,7 @@
 //! Calls that make rows and tables, copy and measure them.
 
 use crate::found::{Found, refused_if, whole_if};
-use crate::printers::{PAIRS, PICTURE};
+use crate::printers::{PAIRS, PICTURE, table_of_pairs};
 use std::alloc::Global;
 use tabled::builder::Builder;
 use tabled::grid::config::new_config;
@@ -112,13 +112,13 @@ fn table_made(alloc: Global, name: &str) -> Found {
             printed(Table::builder(alloc, TUPLES).map(Table::from)),
             HEADED,
         ),
-        _ => made(printed(Table::from_iter(alloc, PAIRS)), PICTURE),
+        _ => made(printed(table_of_pairs(alloc)), PICTURE),
     }
 }
 
 // The new table's total, or the refusal of it; the table is left as it was.
 fn measured(alloc: Global, name: &str) -> Result<Found, TableError> {
-    let table = Table::from_iter(alloc, PAIRS)?;
+    let table = table_of_pairs(alloc)?;
     let (answer, wanted) = match name {
         "total_width" => (table.total_width(), 12),
         _ => (table.total_height(), 5),
@@ -131,7 +131,7 @@ fn measured(alloc: Global, name: &str) -> Result<Found, TableError> {
 }
 
 fn copied(alloc: Global) -> Result<Found, TableError> {
-    let table = Table::from_iter(alloc, PAIRS)?;
+    let table = table_of_pairs(alloc)?;
     match table.clone() {
         Ok(copy) => Ok(whole_if(copy == table)),
         Err(error) => Ok(refused_if(

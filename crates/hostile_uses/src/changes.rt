@@ -2,7 +2,7 @@
 //! not, the configuration as it was, and no size stored.
 
 use crate::found::{Found, refused_if, whole_if};
-use crate::printers::PAIRS;
+use crate::printers::sized_table_of_pairs;
 use case_judge::{Fault, set};
 use std::alloc::Global;
 use tabled::grid::config::Position;
@@ -143,19 +143,10 @@ fn is_left(
     )
 }
 
-// The table of the pairs, with sizes stored.
-fn stored(alloc: Global) -> Result<Table, TableError> {
-    let mut table = Table::from_iter(alloc, PAIRS)?;
-    let (widths, heights) = (vec![in alloc; 5, 4]?, vec![in alloc; 1, 1]?);
-    table.get_dimension_mut().set_widths(widths);
-    table.get_dimension_mut().set_heights(heights);
-    Ok(table)
-}
-
 /// What became of an option of a table whose sizes are stored.
 pub fn changed(alloc: Global, change: Change, by_columns: bool) -> Result<Found, TableError> {
     let (command, cells) = change;
-    let mut table = stored(alloc)?;
+    let mut table = sized_table_of_pairs(alloc)?;
     match set(alloc, &mut table, command) {
         Ok(()) => Ok(whole_if(are_changed(table.get_records(), &cells, by_columns, 4))),
         Err(Fault::Refused(TableError::Memory)) => {

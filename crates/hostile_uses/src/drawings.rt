@@ -1,7 +1,7 @@
 //! Calls that set and print tables of each kind, beyond those that are made elsewhere. Each is made once and answers.
 
 use crate::found::{Found, whole_if};
-use crate::printers::{PAIRS, PICTURE};
+use crate::printers::{PAIRS, PICTURE, sized_table_of_pairs, table_of_pairs};
 use std::alloc::Global;
 use std::io;
 use tabled::grid::config::{ColoredConfig, CompactConfig, CompactMultilineConfig, SpannedConfig};
@@ -54,10 +54,7 @@ const HALF_WRAPPED: &str = "\
 
 // Records under settings with sizes that are stored.
 fn put_grid<S: TextSink>(alloc: Global, sink: &mut S) -> Result<(), TableError> {
-    let mut table = Table::from_iter(alloc, PAIRS)?;
-    let (widths, heights) = (vec![in alloc; 5, 4]?, vec![in alloc; 1, 1]?);
-    table.get_dimension_mut().set_widths(widths);
-    table.get_dimension_mut().set_heights(heights);
+    let table = sized_table_of_pairs(alloc)?;
     let config = table.get_config().as_ref();
     print_grid(sink, table.get_records(), config, table.get_dimension())
 }
@@ -118,16 +115,20 @@ fn are_replaced(alloc: Global, table: &mut Table) -> Result<bool, TableError> {
 
 // Configurations that replace that of a table.
 fn replaced(alloc: Global) -> Result<Found, TableError> {
-    let mut table = Table::from_iter(alloc, PAIRS)?;
+    let mut table = table_of_pairs(alloc)?;
     Ok(whole_if(are_replaced(alloc, &mut table)?))
 }
 
 // Options of some cells, given and lent.
-fn modified(alloc: Global) -> Result<Found, TableError> {
-    let mut table = Table::from_iter(alloc, PAIRS)?;
+fn modify(table: &mut Table) -> Result<(), TableError> {
     table.modify(Rows::last(), Width::wrap(1))?;
     table.apply_to(Segment::new(1.., ..), &Width::truncate(1).multiline(true))?;
-    table.apply(Padding::new(1, 1, 0, 0))?;
+    table.apply(Padding::new(1, 1, 0, 0))
+}
+
+fn modified(alloc: Global) -> Result<Found, TableError> {
+    let mut table = table_of_pairs(alloc)?;
+    modify(&mut table)?;
     Ok(whole_if(table.to_string()?.as_str() == HALF_WRAPPED))
 }
 

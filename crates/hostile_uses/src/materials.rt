@@ -1,7 +1,7 @@
 //! Calls on what tables are made of: texts, rows, parts, values, settings and sizes. Each is made once and answers.
 
 use crate::found::{Found, whole_if};
-use crate::printers::{PAIRS, PICTURE};
+use crate::printers::{PAIRS, PICTURE, table_of_pairs};
 use std::alloc::Global;
 use tabled::builder::Builder;
 use tabled::grid::config::{
@@ -111,13 +111,14 @@ fn names<T: Object<VecRecords<Text<String>>> + Drop>(
 
 // Parts that are chosen.
 fn chosen(alloc: Global) -> Result<Found, TableError> {
-    let is_right = names(alloc, Rows::last(), Entity::Row(1))?
-        && names(alloc, Columns::first(), Entity::Column(0))?
-        && names(alloc, Cell::new(1, 0), Entity::Cell(1, 0))?
-        && names(alloc, (0, 1), Entity::Cell(0, 1))?
-        && names(alloc, Segment::new(1.., ..1), Entity::Cell(1, 0))?
-        && names(alloc, Segment::all(), Entity::Global)?;
-    Ok(whole_if(is_right))
+    whole_if_all(&[
+        names(alloc, Rows::last(), Entity::Row(1)),
+        names(alloc, Columns::first(), Entity::Column(0)),
+        names(alloc, Cell::new(1, 0), Entity::Cell(1, 0)),
+        names(alloc, (0, 1), Entity::Cell(0, 1)),
+        names(alloc, Segment::new(1.., ..1), Entity::Cell(1, 0)),
+        names(alloc, Segment::all(), Entity::Global),
+    ])
 }
 
 // Whether a value puts that text into the first cell of a row.
@@ -148,46 +149,59 @@ fn tells<T: Tabled>(
     }
 }
 
+// What became of calls that each were to answer yes, up to one that is refused.
+fn whole_if_all(answers: &[Result<bool, TableError>]) -> Result<Found, TableError> {
+    for answer in answers {
+        if !(*answer)? {
+            return Ok(whole_if(false));
+        }
+    }
+    Ok(whole_if(true))
+}
+
 // Texts, characters and truth values.
 fn single(alloc: Global) -> Result<Found, TableError> {
     let owned = String::from_str(alloc, "b")?;
-    let is_right = tells(alloc, &"a", "&str", "a")?
-        && tells(alloc, &owned, "String", "b")?
-        && tells(alloc, &'中', "char", "中")?
-        && tells(alloc, &true, "bool", "true")?;
-    Ok(whole_if(is_right))
+    whole_if_all(&[
+        tells(alloc, &"a", "&str", "a"),
+        tells(alloc, &owned, "String", "b"),
+        tells(alloc, &'中', "char", "中"),
+        tells(alloc, &true, "bool", "true"),
+    ])
 }
 
 fn integers(alloc: Global) -> Result<Found, TableError> {
-    let are_signed = tells(alloc, &-1i8, "i8", "-1")?
-        && tells(alloc, &-2i16, "i16", "-2")?
-        && tells(alloc, &-3i32, "i32", "-3")?
-        && tells(alloc, &-4i64, "i64", "-4")?
-        && tells(alloc, &-5i128, "i128", "-5")?
-        && tells(alloc, &-6isize, "isize", "-6")?;
-    let are_unsigned = tells(alloc, &1u8, "u8", "1")?
-        && tells(alloc, &2u16, "u16", "2")?
-        && tells(alloc, &3u32, "u32", "3")?
-        && tells(alloc, &4u64, "u64", "4")?
-        && tells(alloc, &5u128, "u128", "5")?
-        && tells(alloc, &6usize, "usize", "6")?;
-    Ok(whole_if(are_signed && are_unsigned))
+    whole_if_all(&[
+        tells(alloc, &-1i8, "i8", "-1"),
+        tells(alloc, &-2i16, "i16", "-2"),
+        tells(alloc, &-3i32, "i32", "-3"),
+        tells(alloc, &-4i64, "i64", "-4"),
+        tells(alloc, &-5i128, "i128", "-5"),
+        tells(alloc, &-6isize, "isize", "-6"),
+        tells(alloc, &1u8, "u8", "1"),
+        tells(alloc, &2u16, "u16", "2"),
+        tells(alloc, &3u32, "u32", "3"),
+        tells(alloc, &4u64, "u64", "4"),
+        tells(alloc, &5u128, "u128", "5"),
+        tells(alloc, &6usize, "usize", "6"),
+    ])
 }
 
 // Values that hold others.
 fn held(alloc: Global) -> Result<Found, TableError> {
     let boxed = Box::new(alloc, 'b')?;
-    let are_held = tells(alloc, &&'a', "char", "a")?
-        && tells(alloc, &boxed, "char", "b")?
-        && tells(alloc, &Some('c'), "char", "c")?
-        && tells(alloc, &['d', 'e'], "0", "d")?;
-    let are_paired = tells(alloc, &('a',), "char", "a")?
-        && tells(alloc, &('a', 1u8), "char", "a")?
-        && tells(alloc, &('a', 1u8, 2u8), "char", "a")?
-        && tells(alloc, &('a', 1u8, 2u8, 3u8), "char", "a")?
-        && tells(alloc, &('a', 1u8, 2u8, 3u8, 4u8), "char", "a")?
-        && tells(alloc, &('a', 1u8, 2u8, 3u8, 4u8, 5u8), "char", "a")?;
-    Ok(whole_if(are_held && are_paired))
+    whole_if_all(&[
+        tells(alloc, &&'a', "char", "a"),
+        tells(alloc, &boxed, "char", "b"),
+        tells(alloc, &Some('c'), "char", "c"),
+        tells(alloc, &['d', 'e'], "0", "d"),
+        tells(alloc, &('a',), "char", "a"),
+        tells(alloc, &('a', 1u8), "char", "a"),
+        tells(alloc, &('a', 1u8, 2u8), "char", "a"),
+        tells(alloc, &('a', 1u8, 2u8, 3u8), "char", "a"),
+        tells(alloc, &('a', 1u8, 2u8, 3u8, 4u8), "char", "a"),
+        tells(alloc, &('a', 1u8, 2u8, 3u8, 4u8, 5u8), "char", "a"),
+    ])
 }
 
 const DASHES: HorizontalLine = HorizontalLine {
@@ -232,7 +246,7 @@ fn are_estimated(alloc: Global, table: &Table) -> Result<bool, TableError> {
 
 // Sizes that are estimated, stored and copied.
 fn estimated(alloc: Global) -> Result<Found, TableError> {
-    let table = Table::from_iter(alloc, PAIRS)?;
+    let table = table_of_pairs(alloc)?;
     Ok(whole_if(are_estimated(alloc, &table)?))
 }
 
@@ -253,7 +267,7 @@ fn is_fixed(table: &Table) -> Result<bool, TableError> {
 
 // Sizes that are given, which estimating leaves as they are.
 fn sized(alloc: Global) -> Result<Found, TableError> {
-    let table = Table::from_iter(alloc, PAIRS)?;
+    let table = table_of_pairs(alloc)?;
     let is_listed = is_listed(alloc, &table)?;
     Ok(whole_if(is_listed && is_fixed(&table)?))
 }
@@ -270,7 +284,7 @@ fn measured_across(table: &Table) -> Result<[usize; 4], TableError> {
 
 // What a table measures across, and a list of widths.
 fn across(alloc: Global) -> Result<Found, TableError> {
-    let mut table = Table::from_iter(alloc, PAIRS)?;
+    let mut table = table_of_pairs(alloc)?;
     let measures = measured_across(&table)?;
     table.with(Width::list(alloc, [6, 5])?)?;
     let is_wide = table.total_width()? == 14;
@@ -289,7 +303,7 @@ fn measured_down(table: &Table) -> Result<[usize; 4], TableError> {
 
 // What it measures down, and a list of heights.
 fn down(alloc: Global) -> Result<Found, TableError> {
-    let mut table = Table::from_iter(alloc, PAIRS)?;
+    let mut table = table_of_pairs(alloc)?;
     let measures = measured_down(&table)?;
     table.with(Height::list(alloc, [2, 3])?)?;
     let is_high = table.total_height()? == 8;

@@ -1,7 +1,7 @@
 //! Tables that are set by numbers of any size, and printed to a writer with room for 1,000 bytes.
 
 use crate::meagre::{End, Meagre};
-use crate::printers::PAIRS;
+use crate::printers::{PAIRS, table_of_pairs};
 use crate::sides::{new_config, set_sides};
 use case_judge::{Fault, Words, set};
 use std::alloc::Global;
@@ -65,7 +65,7 @@ fn said(alloc: Global, table: &mut Table, commands: &str) -> Result<String, Faul
 
 // A table of the pairs that is set by commands, measured and printed.
 fn try_table(alloc: Global, commands: &str) -> Result<String, Fault> {
-    let mut table = Table::from_iter(alloc, PAIRS)?;
+    let mut table = table_of_pairs(alloc)?;
     let said = said(alloc, &mut table, commands)?;
     let measured = measured(alloc, &table)?;
     Ok(format!(in alloc; "{said} {measured}")?)
@@ -73,7 +73,7 @@ fn try_table(alloc: Global, commands: &str) -> Result<String, Fault> {
 
 // The same, printed with a width of its own.
 fn try_look(alloc: Global, commands: &str, width: &str) -> Result<String, Fault> {
-    let mut table = Table::from_iter(alloc, PAIRS)?;
+    let mut table = table_of_pairs(alloc)?;
     let said = said(alloc, &mut table, commands)?;
     let width = Words::new(width).number()?;
     let mut writer = narrow_room(alloc);

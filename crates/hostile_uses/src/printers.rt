@@ -122,8 +122,28 @@ pub fn picture(printer: Printer) -> &'static str {
     }
 }
 
+/// The table of the cells.
+pub fn table_of_pairs(alloc: Global) -> Result<Table, TableError> {
+    Table::from_iter(alloc, PAIRS)
+}
+
+// Stores the sizes that the cells take.
+fn store_sizes(alloc: Global, table: &mut Table) -> Result<(), TableError> {
+    let (widths, heights) = (vec![in alloc; 5, 4]?, vec![in alloc; 1, 1]?);
+    table.get_dimension_mut().set_widths(widths);
+    table.get_dimension_mut().set_heights(heights);
+    Ok(())
+}
+
+/// The table of the cells, with sizes stored.
+pub fn sized_table_of_pairs(alloc: Global) -> Result<Table, TableError> {
+    let mut table = table_of_pairs(alloc)?;
+    store_sizes(alloc, &mut table)?;
+    Ok(table)
+}
+
 fn put_look<S: TextSink>(alloc: Global, sink: &mut S) -> Result<(), TableError> {
-    let table = Table::from_iter(alloc, PAIRS)?;
+    let table = table_of_pairs(alloc)?;
     table.print_with(sink, Some(16), Some(AlignmentHorizontal::Center), '*')
 }
 
@@ -160,7 +180,7 @@ fn put_plan<S: TextSink>(alloc: Global, printer: Printer, sink: &mut S) -> Resul
 /// Prints the cells.
 pub fn put<S: TextSink>(alloc: Global, printer: Printer, sink: &mut S) -> Result<(), TableError> {
     match printer {
-        Printer::Table => Table::from_iter(alloc, PAIRS)?.write_to(sink),
+        Printer::Table => table_of_pairs(alloc)?.write_to(sink),
         Printer::Look => put_look(alloc, sink),
         Printer::Stream => IterTable::new(PAIRS).fmt(alloc, sink),
         Printer::Rows => put_rows(alloc, sink),

@@ -1,7 +1,7 @@
 //! Calls that take no memory: they succeed while every growth is refused.
 
 use crate::found::{Found, whole_if};
-use crate::printers::{PAIRS, PICTURE};
+use crate::printers::{PAIRS, PICTURE, sized_table_of_pairs};
 use std::alloc::Global;
 use std::io;
 use tabled::builder::Builder;
@@ -24,10 +24,7 @@ fn turned(alloc: Global) -> Result<Found, TableError> {
 
 // A table with stored sizes, printed into a room.
 fn stored(alloc: Global) -> Result<Found, TableError> {
-    let mut table = Table::from_iter(alloc, PAIRS)?;
-    let (widths, heights) = (vec![in alloc; 5, 4]?, vec![in alloc; 1, 1]?);
-    table.get_dimension_mut().set_widths(widths);
-    table.get_dimension_mut().set_heights(heights);
+    let table = sized_table_of_pairs(alloc)?;
     let totals = (table.total_width(), table.total_height());
     let mut room = io::Cursor::new([0u8; 128]);
     let answer = table.write_to(&mut IoSink::new(&mut room));
