@@ -12,34 +12,9 @@ use tabled::settings::Style;
 use tabled::tables::{PoolTable, TableValue};
 
 fn main(rt: HostRuntime) -> Result<()> {
-    let alloc = rt.alloc();
     let width = width_of(&rt)?;
-    let text = io::read_to_string(alloc, rt.stdin()).context("reading the input")?;
-    let mut lines = (1..=u64::MAX).zip(text.lines());
-    let headline = lines.next().map_or("", |first| first.1);
-    let mut panels = IndexMap::new(alloc);
-    for (number, line) in lines {
-        let Some((panel, reading)) = line.split_once('\t') else {
-            bail!("line {number} has no panel and reading");
-        };
-        let readings = panels.entry(panel)?.or_insert(Vec::new(alloc));
-        readings.push(reading.replace(alloc, '\t', "\n")?)?;
-    }
-    let Some(share) = width.saturating_sub(1).checked_div(panels.len()) else {
-        bail!("there is no reading");
-    };
-    // Each panel has a line on its left, and padding.
-    let room = share.saturating_sub(3);
-    ensure!(room > 0, "{width} columns are too few for the panels");
-    let mut beside = Vec::new(alloc);
-    for (panel, readings) in panels {
-        beside.push(panel_of(alloc, panel, readings, room)?)?;
-    }
-    let parts = [
-        filled(alloc, headline, width.saturating_sub(4))?,
-        TableValue::Row(beside),
-    ];
-    let mut table = PoolTable::from_value(TableValue::Column(Vec::from_array(alloc, parts)?));
+    let text = io::read_to_string(rt.alloc(), rt.stdin()).context("reading the input")?;
+    let mut table = table_of(rt.alloc(), &text, width)?;
     table.apply(Style::modern())?;
     println!(rt; "{}", table.to_string()?)?;
     Ok(())
@@ -51,6 +26,48 @@ fn width_of(rt: &HostRuntime) -> Result<usize> {
     };
     word.parse::<usize>()
         .context(format_args!("{word} is no number of columns"))
+}
+
+/// The headline, which is the first line, above the panels.
+fn table_of(alloc: Global, text: &str, width: usize) -> Result<PoolTable> {
+    let panels = panels_of(alloc, text)?;
+    let Some(share) = width.saturating_sub(1).checked_div(panels.len()) else {
+        bail!("there is no reading");
+    };
+    // Each panel has a line on its left, and padding.
+    let room = share.saturating_sub(3);
+    ensure!(room > 0, "{width} columns are too few for the panels");
+    let headline = text.lines().next().unwrap_or("");
+    let headline = filled(alloc, headline, width.saturating_sub(4))?;
+    let parts = [headline, row_of(alloc, panels, room)?];
+    let parts = Vec::from_array(alloc, parts)?;
+    Ok(PoolTable::from_value(TableValue::Column(parts)))
+}
+
+/// The readings of each panel, from the lines behind the first.
+fn panels_of(alloc: Global, text: &str) -> Result<IndexMap<&str, Vec<String>>> {
+    let mut panels = IndexMap::new(alloc);
+    for (number, line) in (1..=u64::MAX).zip(text.lines()).skip(1) {
+        let Some((panel, reading)) = line.split_once('\t') else {
+            bail!("line {number} has no panel and reading");
+        };
+        let readings = panels.entry(panel)?.or_insert(Vec::new(alloc));
+        readings.push(reading.replace(alloc, '\t', "\n")?)?;
+    }
+    Ok(panels)
+}
+
+/// The panels side by side, each with room for so many columns.
+fn row_of(
+    alloc: Global,
+    panels: IndexMap<&str, Vec<String>>,
+    room: usize,
+) -> Result<TableValue, TableError> {
+    let mut beside = Vec::new(alloc);
+    for (panel, readings) in panels {
+        beside.push(panel_of(alloc, panel, readings, room)?)?;
+    }
+    Ok(TableValue::Row(beside))
 }
 
 /// A name above readings, each wrapped to so many columns.
