@@ -15,28 +15,38 @@ use tabled::builder::Builder;
 use tabled::settings::Style;
 
 fn main(rt: HostRuntime) -> Result<()> {
-    let alloc = rt.alloc();
-    let text = io::read_to_string(alloc, rt.stdin()).context("reading the input")?;
-    let mut keys = IndexSet::new(alloc);
-    let mut rows = Vec::new(alloc);
-    for (number, line) in (1..=u64::MAX).zip(text.lines()) {
-        let members: Members = serde_json::from_str(alloc, line).context(format_args!(
-            "line {number} is no object of JSON"
-        ))?;
-        rows.push(row_of(alloc, &mut keys, members)?)?;
-    }
-    let mut builder = Builder::new(alloc);
-    builder.add_record(keys.iter())?;
-    for row in rows {
-        builder.add_record(row)?;
-    }
-    let mut table = Table::from(builder);
+    let text = io::read_to_string(rt.alloc(), rt.stdin()).context("reading the input")?;
+    let mut table = table_of(rt.alloc(), &text)?;
     table.apply(Style::modern())?;
     let text = table.to_string()?;
     if !text.is_empty() {
         println!(rt; "{text}")?;
     }
     Ok(())
+}
+
+/// The rows of all lines, below the keys.
+fn table_of(alloc: Global, text: &str) -> Result<Table> {
+    let mut keys = IndexSet::new(alloc);
+    let rows = rows_of(alloc, &mut keys, text)?;
+    let mut builder = Builder::new(alloc);
+    builder.add_record(keys.iter())?;
+    for row in rows {
+        builder.add_record(row)?;
+    }
+    Ok(Table::from(builder))
+}
+
+/// The cells of each line.
+fn rows_of(alloc: Global, keys: &mut IndexSet<String>, text: &str) -> Result<Vec<Vec<String>>> {
+    let mut rows = Vec::new(alloc);
+    for (number, line) in (1..=u64::MAX).zip(text.lines()) {
+        let members: Members = serde_json::from_str(alloc, line).context(format_args!(
+            "line {number} is no object of JSON"
+        ))?;
+        rows.push(row_of(alloc, keys, members)?)?;
+    }
+    Ok(rows)
 }
 
 /// The cells of an object, each in the column of its key. A key that is new gets the next column.
