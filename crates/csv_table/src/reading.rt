@@ -15,29 +15,33 @@ pub struct Rows {
 
 /// Reads all rows, each into the same record, and joins their texts.
 pub fn read_rows<R: Read + Drop>(alloc: Global, input: R) -> Result<Rows> {
-    let mut records = JoinedRecords::new(alloc);
-    let mut are_numbers = Vec::new(alloc);
+    let mut rows = Rows {
+        records: JoinedRecords::new(alloc),
+        are_numbers: Vec::new(alloc),
+    };
     let mut record = StringRecord::new(alloc);
     let mut reader = ReaderBuilder::new()
         .has_headers(false)
         .from_reader(alloc, input);
     for row in 0..u64::MAX {
         match reader.read_record(&mut record) {
-            Ok(true) => {}
+            Ok(true) => take_record(alloc, &mut rows, &record, row)?,
             Ok(false) => break,
             Err(error) => bail!("{error}"),
         }
-        if row == 0 {
-            are_numbers = vec![in alloc; true; record.len()]?;
-        } else {
-            keep_numbers(&mut are_numbers, &record);
-        }
-        records.push_record(record.iter())?;
     }
-    Ok(Rows {
-        records,
-        are_numbers,
-    })
+    Ok(rows)
+}
+
+/// Takes a record as the row of an index. The first is the header.
+fn take_record(alloc: Global, rows: &mut Rows, record: &StringRecord, row: u64) -> Result<()> {
+    if row == 0 {
+        rows.are_numbers = vec![in alloc; true; record.len()]?;
+    } else {
+        keep_numbers(&mut rows.are_numbers, record);
+    }
+    rows.records.push_record(record.iter())?;
+    Ok(())
 }
 
 /// Keeps which columns are numbers. Those that have a text already aren't looked at.

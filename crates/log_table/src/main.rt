@@ -2,6 +2,7 @@
 #![tactic(auto)]
 
 use anyhow::{Context, Result, bail, ensure};
+use std::alloc::Global;
 use std::io;
 use tabled::builder::Builder;
 use tabled::settings::peaker::Priority;
@@ -16,15 +17,7 @@ const PADDING: usize = 2;
 fn main(rt: HostRuntime) -> Result<()> {
     let alloc = rt.alloc();
     let text = io::read_to_string(alloc, rt.stdin()).context("reading the input")?;
-    let mut builder = Builder::new(alloc);
-    builder.add_record(["Time", "Level", "Source", "Message"])?;
-    for (number, line) in (1..=u64::MAX).zip(text.lines()) {
-        let Some((time, level, source, message)) = parts_of(line) else {
-            bail!("line {number} has no time, level, source and message");
-        };
-        builder.add_record([time, level, source, message])?;
-    }
-    let table = fitted(Table::from(builder))?;
+    let table = fitted(Table::from(rows_of(alloc, &text)?))?;
     if let Some([.., message]) = table.get_dimension().get_widths() {
         ensure!(
             *message > PADDING,
@@ -33,6 +26,19 @@ fn main(rt: HostRuntime) -> Result<()> {
     }
     println!(rt; "{}", table.to_string()?)?;
     Ok(())
+}
+
+/// The lines of a log below the names of the columns.
+fn rows_of(alloc: Global, text: &str) -> Result<Builder> {
+    let mut builder = Builder::new(alloc);
+    builder.add_record(["Time", "Level", "Source", "Message"])?;
+    for (number, line) in (1..=u64::MAX).zip(text.lines()) {
+        let Some((time, level, source, message)) = parts_of(line) else {
+            bail!("line {number} has no time, level, source and message");
+        };
+        builder.add_record([time, level, source, message])?;
+    }
+    Ok(builder)
 }
 
 /// The time, the level, the source and the message of a line.

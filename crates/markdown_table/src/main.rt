@@ -2,6 +2,7 @@
 #![tactic(auto)]
 
 use anyhow::{Context, Result, ensure};
+use std::alloc::Global;
 use std::io;
 use tabled::Table;
 use tabled::builder::Builder;
@@ -10,6 +11,14 @@ use tabled::settings::Style;
 fn main(rt: HostRuntime) -> Result<()> {
     let alloc = rt.alloc();
     let text = io::read_to_string(alloc, rt.stdin()).context("reading the input")?;
+    let mut table = Table::from(rows_of(alloc, &text)?);
+    table.apply(Style::markdown())?;
+    println!(rt; "{}", table.to_string()?)?;
+    Ok(())
+}
+
+/// The rows of a text, which all have as many cells.
+fn rows_of(alloc: Global, text: &str) -> Result<Builder> {
     let mut builder = Builder::new(alloc);
     let mut first = None;
     for (number, line) in (1..=u64::MAX).zip(text.lines()) {
@@ -24,8 +33,5 @@ fn main(rt: HostRuntime) -> Result<()> {
         builder.add_record(line.split('\t'))?;
     }
     ensure!(first.is_some(), "there is no line");
-    let mut table = Table::from(builder);
-    table.apply(Style::markdown())?;
-    println!(rt; "{}", table.to_string()?)?;
-    Ok(())
+    Ok(builder)
 }

@@ -3,6 +3,7 @@
 #![tactic(auto)]
 
 use anyhow::{Context, Result, ensure};
+use std::alloc::Global;
 use std::{env, io};
 use tabled::tables::ExtendedTable;
 
@@ -10,6 +11,20 @@ fn main(rt: HostRuntime) -> Result<()> {
     let alloc = rt.alloc();
     let width = width_of(&rt)?;
     let text = io::read_to_string(alloc, rt.stdin()).context("reading the input")?;
+    let mut table = ExtendedTable::from_rows(alloc, rows_of(alloc, &text)?)?;
+    ensure!(
+        table.truncate(width, "..")?,
+        "{width} columns are too few for a record"
+    );
+    let text = table.to_string()?;
+    if !text.is_empty() {
+        println!(rt; "{text}")?;
+    }
+    Ok(())
+}
+
+/// The cells of each line of a text, of which all lines have as many.
+fn rows_of(alloc: Global, text: &str) -> Result<Vec<Vec<&str>>> {
     let mut rows: Vec<Vec<&str>> = Vec::new(alloc);
     for (number, line) in (1..=u64::MAX).zip(text.lines()) {
         let cells: Vec<&str> = line.split('\t').collect(alloc)?;
@@ -20,16 +35,7 @@ fn main(rt: HostRuntime) -> Result<()> {
         );
         rows.push(cells)?;
     }
-    let mut table = ExtendedTable::from_rows(alloc, rows)?;
-    ensure!(
-        table.truncate(width, "..")?,
-        "{width} columns are too few for a record"
-    );
-    let text = table.to_string()?;
-    if !text.is_empty() {
-        println!(rt; "{text}")?;
-    }
-    Ok(())
+    Ok(rows)
 }
 
 /// The columns of the command line, or else of the terminal, or 80.
