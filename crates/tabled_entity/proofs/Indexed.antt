@@ -24,6 +24,13 @@ module _ {T : Type 0} where
   said_at-placed whole places parts row column o p e =
       ap (said_at whole parts) e ∙ said_at-latest whole parts row column (sym (p.found Global))
 
+  -- cells of a row that have the same latest places have the same settings
+  pub same-found : (whole : T) (places : Places) (parts : List (Entity × T)) (row column other : ℕ) → IsIndexed places parts
+      → latest (found places) row column ≡ latest (found places) row other → first_covering whole parts row column ≡ first_covering whole parts row other
+  same-found whole places parts row column other p e =
+      sym (said_at-placed whole places parts row column (latest (found places) row column) p (indexed-latest places parts row column p))
+      ∙ said_at-placed whole places parts row other (latest (found places) row column) p (e ∙ indexed-latest places parts row other p)
+
   -- rows whose cells have the same latest places have the same settings
   pub alike-found : (whole : T) (places : Places) (parts : List (Entity × T)) (row other column : ℕ) → IsIndexed places parts
       → latest (found places) row column ≡ latest (found places) other column → first_covering whole parts row column ≡ first_covering whole parts other column

@@ -1,8 +1,8 @@
 //! One setting of a table: for the whole of it, for rows, for columns and for cells.
-ghost use Rattle.std.specs.Prelude.{◌≡◌, ℕ, IfOk, IfSome, IsOk, OnErr, OnOk, true};
-ghost use Rattle.tabled_base.specs.declared.position.Entity.TheVariants.{Cell};
+ghost use Rattle.std.specs.Prelude.{◌≡◌, ◌||◌, ℕ, IfOk, IfSome, IsOk, OnErr, OnOk, true};
+ghost use Rattle.tabled_base.specs.declared.position.Entity.TheVariants.{Cell, Column};
 ghost use Rattle.tabled_entity.specs.Changes.{for_all, setting_at, shared, with_change};
-ghost use Rattle.tabled_entity.specs.Once.{IsSetByCell};
+ghost use Rattle.tabled_entity.specs.Once.{IsSetByPart};
 ghost use Rattle.tabled_entity.specs.Places.{IsPart, IsWhole, last_for, latest, same};
 
 use crate::places::Places;
@@ -26,13 +26,14 @@ pub struct EntityMap<T> {
     once: bool,
 }
 
-/// Whether an entity is the cell in a row and a column.
+/// Whether an entity is the cell in a row and a column, or that column.
 #[inline(always)]
-fn is_cell(entity: Entity, row: usize, column: usize) -> bool
-    ensures { result ≡ same entity (Cell row column) }
+fn is_own(entity: Entity, row: usize, column: usize) -> bool
+    ensures { result ≡ (same entity (Cell row column) || same entity (Column column)) }
 {
     match entity {
         Entity::Cell(r, c) => r == row && c == column,
+        Entity::Column(c) => c == column,
         _ => false,
     }
 }
@@ -169,14 +170,14 @@ impl<T: Copy> EntityMap<T> {
         }
     }
 
-    /// The value of a cell, if the change at a place is its own: then it is the one that covers the cell.
+    /// The value of a cell, if the change at a place was made for it or for its column: then it is the one that covers the cell.
     #[inline(always)]
     pub(crate) fn set_at(&self, place: usize, row: usize, column: usize) -> Option<T>
-        requires { IsSetByCell self.now.parts row }
+        requires { IsSetByPart self.now.parts row }
         ensures { IfSome result (λ value. value ≡ setting_at self.now row column) }
     {
         match self.changes.get(place) {
-            Some((entity, value)) if is_cell(*entity, row, column) => Some(*value),
+            Some((entity, value)) if is_own(*entity, row, column) => Some(*value),
             _ => None,
         }
     }
@@ -192,11 +193,22 @@ impl<T: Copy> EntityMap<T> {
         self.said(row, column, self.places.latest(row, column))
     }
 
-    /// Whether what covers the cells of a row is known to be set for each of them alone, and once.
-    fn is_set_by_cell(&self, row: usize) -> bool
-        ensures { result ≡ true → IsSetByCell self.now.parts row }
+    /// Whether what covers the cells of a row is known to be set once each, and for cells alone or for columns alone.
+    fn is_set_by_part(&self, row: usize) -> bool
+        ensures { result ≡ true → IsSetByPart self.now.parts row }
     {
-        self.once && self.places.are_of_cells(row)
+        self.once && self.places.are_of_one_kind(row)
+    }
+
+    /// The value of all cells of a row, if nothing was set for a column or a cell.
+    pub fn row_value(&self, row: usize) -> Option<T>
+        ensures { IfSome result (λ value. (column : ℕ) → value ≡ setting_at self.now row column) }
+    {
+        if self.places.are_of_rows() {
+            Some(self.get(row, 0))
+        } else {
+            None
+        }
     }
 
     /// Where the change for the first cell of a row stands, if cells were set row by row, and as many in each.
@@ -216,8 +228,8 @@ impl<T: Copy> EntityMap<T> {
     pub fn in_row(&self, row: usize) -> RowValues<'_, T>
         ensures { result ≡ record { changes = self.now; row = row } }
     {
-        if self.changes.is_empty() {
-            return RowValues::new(self, row, self.whole, None, false, 0);
+        if let Some(value) = self.row_value(row) {
+            return RowValues::new(self, row, value, None, false, 0);
         }
         let places = self.places.in_row(row);
         RowValues::new(
@@ -225,7 +237,7 @@ impl<T: Copy> EntityMap<T> {
             row,
             self.whole,
             Some(places),
-            self.is_set_by_cell(row),
+            self.is_set_by_part(row),
             self.likely_place(row),
         )
     }

@@ -1,5 +1,5 @@
 //! Where the latest change for each part of a table stands in the list of changes.
-ghost use Rattle.std.specs.Prelude.{◌≡◌, ℕ, IfOk, None, OnErr, OnOk, is_some, true};
+ghost use Rattle.std.specs.Prelude.{◌≡◌, ◌⊎◌, ℕ, IfOk, None, OnErr, OnOk, is_some, true};
 ghost use Rattle.tabled_base.specs.declared.position.Entity.TheVariants.{Cell, Column, Row};
 ghost use Rattle.tabled_entity.specs.Places.{
   HasNone,
@@ -137,11 +137,22 @@ impl Places {
         self.cells.is_empty() && self.rows.get(&row).is_none() && self.rows.get(&other).is_none()
     }
 
-    /// Whether no place is kept for a row, nor for a column.
-    pub fn are_of_cells(&self, row: usize) -> bool
+    /// Whether no place is kept for a row, and none for columns, or none for cells.
+    pub fn are_of_one_kind(&self, row: usize) -> bool
         ensures row { result ≡ true → found self.now (Row row) ≡ None }
-        ensures columns { result ≡ true → (column : ℕ) → found self.now (Column column) ≡ None }
+        ensures kind { result ≡ true → ((column : ℕ) → found self.now (Column column) ≡ None)
+            ⊎ ((column : ℕ) → found self.now (Cell row column) ≡ None) }
     {
-        self.columns.is_empty() && self.rows.get(&row).is_none()
+        if self.rows.get(&row).is_some() {
+            return false;
+        }
+        self.columns.is_empty() || self.cells.is_empty()
+    }
+
+    /// Whether the latest places of all cells of a row are known to be the same: where none is kept for a column, nor for a cell.
+    pub fn are_of_rows(&self) -> bool
+        ensures { result ≡ true → (row column other : ℕ) → latest (found self.now) row column ≡ latest (found self.now) row other }
+    {
+        self.columns.is_empty() && self.cells.is_empty()
     }
 }

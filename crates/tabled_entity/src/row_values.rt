@@ -1,7 +1,7 @@
 //! The values of a row's cells, from left to right.
 ghost use Rattle.std.specs.Prelude.{◌≡◌, ℕ, IfSome, MatchOption, true};
 ghost use Rattle.tabled_entity.specs.Changes.{setting_at, value_at};
-ghost use Rattle.tabled_entity.specs.Once.{IsSetByCell};
+ghost use Rattle.tabled_entity.specs.Once.{IsSetByPart};
 ghost use Rattle.tabled_entity.specs.Places.{last_for, latest};
 ghost use Rattle.tabled_entity.specs.RowPlaces.{latest_at};
 
@@ -9,17 +9,17 @@ use crate::entity_map::EntityMap;
 use crate::row_places::RowPlaces;
 use std::marker::Model;
 
-/// The values of a row's cells. Where columns are asked for from left to right, each takes a step, and else a look-up; where cells were
-/// set one after another, each is found behind the one before. They are seen as all settings, and the row.
+/// The values of a row's cells. Where columns are asked for from left to right, each takes a step, and else a look-up; where cells or
+/// columns were set one after another, each is found behind the one before. They are seen as all settings, and the row.
 #[derive(Drop)]
 pub struct RowValues<'a, T> {
     map: &'a EntityMap<T>,
     row: usize,
     whole: T,
-    // Where the latest changes stand, if there are any.
+    // Where the latest changes stand, unless all cells have the same value.
     places: Option<RowPlaces<'a>>,
-    // Whether each change for a cell of the row is known to be the only one that covers the cell.
-    by_cell: bool,
+    // Whether each change for a cell of the row or for its column is known to be the only one that covers the cell.
+    by_part: bool,
     // Where the change of the cell stands that is asked for next, if cells were set in that order.
     next: usize,
 }
@@ -27,7 +27,7 @@ pub struct RowValues<'a, T> {
 impl<'a, T> Model for RowValues<'a, T> {
     ghost use Rattle.std.specs.Prelude.{◌≡◌, ℕ, MatchOption, true};
     ghost use Rattle.tabled_entity.specs.Changes.{ChangesAndRow, setting_at};
-    ghost use Rattle.tabled_entity.specs.Once.{IsSetByCell};
+    ghost use Rattle.tabled_entity.specs.Once.{IsSetByPart};
     ghost use Rattle.tabled_entity.specs.Places.{last_for, latest};
     ghost use Rattle.tabled_entity.specs.RowPlaces.{latest_at};
 
@@ -38,23 +38,23 @@ impl<'a, T> Model for RowValues<'a, T> {
     ghost invariant = { λ v. MatchOption v.places
         ((column : ℕ) → v.whole ≡ setting_at v.map.now v.row column)
         (λ places. (column : ℕ) → latest_at places column ≡ latest (λ entity. last_for entity v.map.now.parts) v.row column)
-        × (v.by_cell ≡ true → IsSetByCell v.map.now.parts v.row) };
+        × (v.by_part ≡ true → IsSetByPart v.map.now.parts v.row) };
 }
 
 impl<'a, T: Copy> RowValues<'a, T> {
-    /// The values of the cells of a row, by the places of the latest changes for them, or the one of all where there are no changes.
+    /// The values of the cells of a row, by the places of the latest changes for them, or the one of all where it is known to be one.
     pub(crate) fn new(
         map: &'a EntityMap<T>,
         row: usize,
         whole: T,
         places: Option<RowPlaces<'a>>,
-        by_cell: bool,
+        by_part: bool,
         next: usize,
     ) -> RowValues<'a, T>
         requires places { MatchOption places
             ((column : ℕ) → whole ≡ setting_at map.now row column)
             (λ places. (column : ℕ) → latest_at places column ≡ latest (λ entity. last_for entity map.now.parts) row column) }
-        requires by_cell { by_cell ≡ true → IsSetByCell map.now.parts row }
+        requires by_part { by_part ≡ true → IsSetByPart map.now.parts row }
         ensures { result ≡ record { changes = map.now; row = row } }
     {
         RowValues {
@@ -62,7 +62,7 @@ impl<'a, T: Copy> RowValues<'a, T> {
             row,
             whole,
             places,
-            by_cell,
+            by_part,
             next,
         }
     }
@@ -73,7 +73,7 @@ impl<'a, T: Copy> RowValues<'a, T> {
         ensures value { IfSome result (λ value. value ≡ value_at self.old column) }
         ensures same { self.new ≡ self.old }
     {
-        if !self.by_cell {
+        if !self.by_part {
             return None;
         }
         let value = self.map.set_at(self.next, self.row, column)?;

@@ -2,6 +2,7 @@
 ghost use Rattle.std.specs.Prelude.{◌≡◌, ◌↔◌, ℕ, ◌<◌, ◌≤◌, ◌^◌, IsTrue, length, IfNone, IfOk, IfErr, IfSome, OnOk};
 ghost use Rattle.tabled_base.specs.Cells.{columns};
 ghost use Rattle.tabled_base.specs.declared.error.TableError.TheVariants.{ShortHeights, ShortWidths};
+ghost use Rattle.tabled_config.specs.Settings.{style_at};
 ghost use Rattle.tabled_size.specs.Reached.{reached};
 ghost use Rattle.tabled_size.specs.Standing.{standing};
 ghost use Rattle.tabled_size.specs.Totals.{filled_width};
@@ -11,7 +12,7 @@ ghost use Rattle.tabled_grid.specs.Printed.{IsInRange, IsRefused};
 
 use crate::grid::Grid;
 use tabled_base::{PeekableRecords, Position, TableError};
-use tabled_config::SpannedConfig;
+use tabled_config::{Indent, Sides, SpannedConfig};
 use tabled_size::{
     CompleteDimension, Dimension, check_heights, check_widths, filled_height, filled_width,
 };
@@ -20,13 +21,14 @@ fn is_held<R: PeekableRecords, D: Dimension>(
     grid: &Grid<'_, R, D>,
     row: usize,
     column: usize,
+    padding: Sides<Indent>,
 ) -> bool
     requires sized { columns grid.now.cells ≤ length grid.now.widths }
     requires row_in { row < length grid.now.cells }
     requires column_in { column < columns grid.now.cells }
+    requires padding { padding ≡ (style_at grid.now.config row column).padding }
     ensures { IsTrue result ↔ IsHeld grid.now row column }
 {
-    let padding = grid.config.get_padding(Position { row, column });
     let width = grid.width(column);
     let used = grid.records.get_width(Position { row, column });
     padding.left.size <= width
@@ -41,8 +43,9 @@ fn narrow_in<R: PeekableRecords, D: Dimension>(grid: &Grid<'_, R, D>, row: usize
         → IsHeld grid.now row c) }
     ensures some { IfSome result (IsNarrowIn grid.now row) }
 {
+    let mut paddings = grid.config.paddings_in(row);
     'columns: for column in 0..grid.count_columns() {
-        if !is_held(grid, row, column) {
+        if !is_held(grid, row, column, paddings.at(column)) {
             return Some(column);
         }
     }

@@ -1,5 +1,5 @@
 //! How the texts of a row stand, from left to right.
-ghost use Rattle.std.specs.Prelude.{◌≡◌, ℕ};
+ghost use Rattle.std.specs.Prelude.{◌≡◌, ℕ, IfSome};
 ghost use Rattle.tabled_entity.specs.Changes.{value_at};
 ghost use Rattle.tabled_config.specs.RowStyles.{SameStyles, TellsStyles, plain_style, set_style, style_in};
 ghost use Rattle.tabled_config.specs.Settings.{style_at};
@@ -75,11 +75,27 @@ impl<'a> RowStyles<'a> {
 }
 
 impl SpannedConfig {
+    /// How the texts of a row stand, where nothing was set for columns or cells.
+    #[tactic(auto, unfolding(crate::specs::Settings::style_at))]
+    fn row_style(&self, row: usize) -> Option<CellStyle>
+        ensures { IfSome result (λ style. (column : ℕ) → style ≡ style_at self.now row column) }
+    {
+        Some(CellStyle {
+            padding: self.padding.row_value(row)?,
+            horizontal: self.alignment_horizontal.row_value(row)?,
+            vertical: self.alignment_vertical.row_value(row)?,
+            line_alignment: self.line_alignment.row_value(row)?,
+        })
+    }
+
     /// How the texts of a row stand, from left to right.
     #[tactic(auto, unfolding(crate::specs::Settings::style_at))]
     pub fn styles_in(&self, row: usize) -> RowStyles<'_>
         ensures { TellsStyles result (style_at self.now row) }
     {
+        if let Some(style) = self.row_style(row) {
+            return RowStyles::Alike(style);
+        }
         RowStyles::Set(SetStyles {
             padding: self.padding.in_row(row),
             horizontal: self.alignment_horizontal.in_row(row),
