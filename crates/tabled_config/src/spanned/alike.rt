@@ -19,6 +19,16 @@ impl SpannedConfig {
             && self.line_alignment.are_alike(row, other)
     }
 
+    /// Whether the cells of two rows are known to be padded alike, column by column: where no padding was set for either of the
+    /// rows, nor for a cell.
+    #[inline]
+    #[tactic(auto, unfolding(crate::specs::Settings::style_at))]
+    pub fn are_padded_alike(&self, row: usize, other: usize) -> bool
+        ensures { result ≡ true → (column : ℕ) → (style_at self.now row column).padding ≡ (style_at self.now other column).padding }
+    {
+        self.padding.are_alike(row, other)
+    }
+
     /// How the texts of all cells stand, where nothing was set for parts of the table.
     #[tactic(auto, unfolding(crate::specs::Settings::shared_style, crate::specs::Settings::style_at))]
     pub fn shared_style(&self) -> Option<CellStyle>
