@@ -1,12 +1,11 @@
 -- Where a cell needs more than a number can say, so does the whole.
-use Rattle.std.proofs.Common.{◌≡◌, ℕ, ◌+◌, ◌^◌, ◌<◌, ◌≤◌, ◌⊎◌, ⊎_elim, inl, inr, List, length, Option, Some, None, IfNone, arith}
+use Rattle.std.proofs.Common.{◌≡◌, ℕ, ◌+◌, ◌^◌, ◌<◌, ◌≤◌, ◌⊎◌, ⊎_elim, inl, inr, List, length, Option, Some, None, IfNone, arith, subst}
 use Rattle.std.specs.List.{slice_index}
 use Rattle.std.proofs.lemmas.List.FromFn.{get_or-map-range_with_len}
 use Rattle.tabled_base.specs.Cells.{columns}
-use Rattle.tabled_border.specs.declared.sides.Indent.{Indent}
-use Rattle.tabled_border.specs.declared.sides.Sides.{Sides}
 use Rattle.tabled_config.specs.declared.spanned.SpannedConfig.{SpannedConfig}
-use Rattle.tabled_config.specs.Settings.{style_at}
+use Rattle.tabled_size.specs.Added.{PassesRange, added_at}
+use Rattle.tabled_size.specs.declared.added.Extent.{Extent}
 use Rattle.tabled_size.specs.Estimates.{
   IsTooHigh,
   IsTooWide,
@@ -73,16 +72,15 @@ too_high_passes cells config h =
     let passes : 2 ^ 64 ≤ needed_height cells config h.row h.column = h.out_of_range in
     omega arith
 
--- padding that passes the range makes its cell too wide or too high
-pub padding_passes : (cells : List (List (List ℕ))) (config : SpannedConfig) (row column : ℕ) (padding : Sides Indent)
-    → (style_at config row column).padding ≡ padding → row < length cells → column < columns cells
-    → (2 ^ 64 ≤ padding.left.size + padding.right.size) ⊎ (2 ^ 64 ≤ padding.top.size + padding.bottom.size)
-    → IsTooWide cells config ⊎ IsTooHigh cells config
-padding_passes cells config row column padding same row_in column_in passes =
+-- where padding adds more than numbers can say, its cell is too wide or too high
+pub added_passes : (cells : List (List (List ℕ))) (config : SpannedConfig) (row column : ℕ) (extent : Extent)
+    → extent ≡ added_at config row column → row < length cells → column < columns cells
+    → PassesRange extent → IsTooWide cells config ⊎ IsTooHigh cells config
+added_passes cells config row column extent same row_in column_in passes =
     ⊎_elim
-    (λ (wide : 2 ^ 64 ≤ padding.left.size + padding.right.size). inl (record { row = row; column = column; row_in = row_in; column_in = column_in; out_of_range = rw same (omega arith) }))
-    (λ (high : 2 ^ 64 ≤ padding.top.size + padding.bottom.size). inr (record { row = row; column = column; row_in = row_in; column_in = column_in; out_of_range = rw same (omega arith) }))
-    passes
+    (λ (wide : 2 ^ 64 ≤ (added_at config row column).columns). inl (record { row = row; column = column; row_in = row_in; column_in = column_in; out_of_range = omega arith }))
+    (λ (high : 2 ^ 64 ≤ (added_at config row column).lines). inr (record { row = row; column = column; row_in = row_in; column_in = column_in; out_of_range = omega arith }))
+    (subst PassesRange same passes)
 
 -- what holds also holds where a result is none
 pub if_none : {T : Type 0} {P : Type 0} (r : Option T) → P → IfNone r P

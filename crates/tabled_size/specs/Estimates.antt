@@ -1,10 +1,8 @@
 -- The sizes that the texts of a table ask for.
-use Rattle.std.specs.Prelude.{◌≡◌, ℕ, ◌+◌, ◌<◌, ◌≤◌, ◌^◌, List, length, map, max}
+use Rattle.std.specs.Prelude.{ℕ, ◌+◌, ◌<◌, ◌≤◌, ◌^◌, List, length, map, max}
 use Rattle.std.specs.List.{range_with_len, slice_index}
 use Rattle.tabled_text.specs.Measure.{greatest, lines_of, text_columns}
 use Rattle.tabled_base.specs.Cells.{cell_at, columns}
-use Rattle.tabled_border.specs.declared.sides.Indent.{Indent}
-use Rattle.tabled_border.specs.declared.sides.Sides.{Sides}
 use Rattle.tabled_config.specs.declared.spanned.SpannedConfig.{SpannedConfig}
 use Rattle.tabled_config.specs.Settings.{style_at}
 
@@ -56,8 +54,3 @@ pub record IsTooHigh (cells : List (List (List ℕ))) (config : SpannedConfig) :
   pub row_in : row < length cells
   pub column_in : column < columns cells
   pub out_of_range : 2 ^ 64 ≤ needed_height cells config row column
-
--- padding adds so many columns and lines to a text
-pub record IsAddedBy (columns lines : ℕ) (padding : Sides Indent) : Type 0 where
-  pub columns_are : columns ≡ padding.left.size + padding.right.size
-  pub lines_are : lines ≡ padding.top.size + padding.bottom.size

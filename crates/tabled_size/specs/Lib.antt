@@ -1,3 +1,4 @@
+pub mod Added
 pub mod Cleared
 pub mod ConstSizes
 pub mod Entries

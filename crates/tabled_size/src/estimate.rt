@@ -3,8 +3,10 @@ ghost use Rattle.std.specs.Prelude.{◌≡◌, ◌⊎◌, ◌+◌, ◌<◌, ◌�
 ghost use Rattle.tabled_base.specs.Cells.{IsInside, columns};
 ghost use Rattle.tabled_base.specs.declared.error.TableError.TheVariants.{Memory, Range};
 ghost use Rattle.tabled_config.specs.Settings.{style_at};
-ghost use Rattle.tabled_size.specs.Estimates.{IsAddedBy, IsTooHigh, IsTooWide, estimated_heights, estimated_widths, needed_height, needed_width, raised, row_height};
+ghost use Rattle.tabled_size.specs.Added.{TellsAdded, added_at};
+ghost use Rattle.tabled_size.specs.Estimates.{IsTooHigh, IsTooWide, estimated_heights, estimated_widths, needed_height, needed_width, raised, row_height};
 
+use crate::added::{Added, Extent, KnownAdded};
 use std::alloc::Global;
 use tabled_base::{PeekableRecords, Position, TableError};
 use tabled_config::{Indent, Sides, SpannedConfig};
@@ -143,34 +145,6 @@ pub fn estimate_heights<R: PeekableRecords>(
     Ok(heights)
 }
 
-/// So many columns and lines: those that padding adds to a text, or those that a cell needs.
-#[derive(Clone, Copy)]
-struct Extent {
-    columns: usize,
-    lines: usize,
-}
-
-/// What padding adds to a text, if numbers can say it.
-#[inline(always)]
-fn added_by(padding: Sides<Indent>) -> Option<Extent>
-    ensures some { IfSome result (λ sum. IsAddedBy sum.columns sum.lines padding) }
-    ensures none { IfNone result ((2 ^ 64 ≤ padding.left.size + padding.right.size)
-        ⊎ (2 ^ 64 ≤ padding.top.size + padding.bottom.size)) }
-{
-    Some(Extent {
-        columns: padding.left.size.checked_add(padding.right.size)?,
-        lines: padding.top.size.checked_add(padding.bottom.size)?,
-    })
-}
-
-/// What padding adds to the text of each cell, where all are known to be padded alike, and numbers can say it.
-fn shared_added(config: &SpannedConfig) -> Option<Extent>
-    ensures { IfSome result (λ sum. (row column : ℕ) → IsAddedBy sum.columns sum.lines (style_at config.now row column).padding) }
-{
-    let padding = config.shared_padding()?;
-    added_by(padding)
-}
-
 /// What a cell needs, to whose text padding adds so much, if numbers can say it.
 #[inline(always)]
 fn needed<R: PeekableRecords>(
@@ -180,7 +154,7 @@ fn needed<R: PeekableRecords>(
     added: Extent,
 ) -> Option<Extent>
     requires inside { IsInside (R.cells records.now) at.row at.column }
-    requires added { IsAddedBy added.columns added.lines (style_at config.now at.row at.column).padding }
+    requires added { added ≡ added_at config.now at.row at.column }
     ensures width { IfSome result (λ n. n.columns ≡ needed_width (R.cells records.now) config.now at.row at.column) }
     ensures height { IfSome result (λ n. n.lines ≡ needed_height (R.cells records.now) config.now at.row at.column) }
     ensures none { IfNone result (IsTooWide (R.cells records.now) config.now ⊎ IsTooHigh (R.cells records.now) config.now) }
@@ -195,76 +169,31 @@ fn needed<R: PeekableRecords>(
     })
 }
 
-/// Makes room for the cells of a row, to whose texts padding adds so much, and answers the lines that they need, if numbers can
-/// say both.
-fn measure_alike<R: PeekableRecords>(
-    records: &R,
-    config: &SpannedConfig,
-    row: usize,
-    widths: &mut [usize],
-    added: Extent,
-) -> Option<usize>
-    requires row_in { row < length (R.cells records.now) }
-    requires columns { length widths.old ≡ columns (R.cells records.now) }
-    requires alike { (row column : ℕ) → IsAddedBy added.columns added.lines (style_at config.now row column).padding }
-    ensures widths { IfSome result (λ _. widths.new ≡ raised widths.old (R.cells records.now) config.now row) }
-    ensures lines { IfSome result (λ n. n ≡ row_height (R.cells records.now) config.now row) }
-    ensures none { IfNone result (IsTooWide (R.cells records.now) config.now ⊎ IsTooHigh (R.cells records.now) config.now) }
-{
-    let mut most: usize = 0;
-    'columns: for column in 0..records.count_columns() {
-        let needs = needed(records, config, Position { row, column }, added)?;
-        widths[column] = widths[column].max(needs.columns);
-        most = most.max(needs.lines);
-    }
-    Some(most)
-}
-
-/// The same, of cells that are each padded as it was set.
-fn measure_each<R: PeekableRecords>(
-    records: &R,
-    config: &SpannedConfig,
-    row: usize,
-    widths: &mut [usize],
-) -> Option<usize>
-    requires row_in { row < length (R.cells records.now) }
-    requires columns { length widths.old ≡ columns (R.cells records.now) }
-    ensures widths { IfSome result (λ _. widths.new ≡ raised widths.old (R.cells records.now) config.now row) }
-    ensures lines { IfSome result (λ n. n ≡ row_height (R.cells records.now) config.now row) }
-    ensures none { IfNone result (IsTooWide (R.cells records.now) config.now ⊎ IsTooHigh (R.cells records.now) config.now) }
-{
-    let mut most: usize = 0;
-    let mut paddings = config.paddings_in(row);
-    'columns: for column in 0..records.count_columns() {
-        let added = added_by(paddings.at(column))?;
-        let needs = needed(records, config, Position { row, column }, added)?;
-        widths[column] = widths[column].max(needs.columns);
-        most = most.max(needs.lines);
-    }
-    Some(most)
-}
-
-/// Makes room for the cells of a row, and answers the lines that they need, if numbers can say both. What padding adds to each
-/// text is given where that is the same for all.
+/// Makes room for the cells of a row, and answers the lines that they need, if numbers can say both. What padding adds to their
+/// texts is told.
 #[inline]
 fn measure_row<R: PeekableRecords>(
     records: &R,
     config: &SpannedConfig,
     row: usize,
     widths: &mut [usize],
-    shared: Option<Extent>,
+    mut added: Added<'_>,
 ) -> Option<usize>
     requires row_in { row < length (R.cells records.now) }
     requires columns { length widths.old ≡ columns (R.cells records.now) }
-    requires shared { IfSome shared (λ sum. (row column : ℕ) → IsAddedBy sum.columns sum.lines (style_at config.now row column).padding) }
+    requires told { TellsAdded added config.now row (columns (R.cells records.now)) }
     ensures widths { IfSome result (λ _. widths.new ≡ raised widths.old (R.cells records.now) config.now row) }
     ensures lines { IfSome result (λ n. n ≡ row_height (R.cells records.now) config.now row) }
     ensures none { IfNone result (IsTooWide (R.cells records.now) config.now ⊎ IsTooHigh (R.cells records.now) config.now) }
 {
-    match shared {
-        Some(added) => measure_alike(records, config, row, widths, added),
-        None => measure_each(records, config, row, widths),
+    let mut most: usize = 0;
+    'columns: for column in 0..records.count_columns() {
+        let extent = added.at(column)?;
+        let needs = needed(records, config, Position { row, column }, extent)?;
+        widths[column] = widths[column].max(needs.columns);
+        most = most.max(needs.lines);
     }
+    Some(most)
 }
 
 /// The estimated widths and heights, one row after another. Refused for memory, or `Range` where a
@@ -279,11 +208,12 @@ pub fn estimate_sizes<R: PeekableRecords>(
     ensures err { IfErr result (λ e. (e ≡ Memory) ⊎ ((e ≡ Range)
         × (IsTooWide (R.cells records.now) config.now ⊎ IsTooHigh (R.cells records.now) config.now))) }
 {
-    let shared = shared_added(config);
     let mut widths = vec![in alloc; 0usize; records.count_columns()]?;
     let mut heights = Vec::with_capacity(alloc, records.count_rows())?;
+    let known = KnownAdded::new(alloc, config, records.count_rows(), records.count_columns());
     'rows: for row in 0..records.count_rows() {
-        let Some(height) = measure_row(records, config, row, &mut widths, shared) else {
+        let added = known.in_row(config, row);
+        let Some(height) = measure_row(records, config, row, &mut widths, added) else {
             return Err(TableError::Range);
         };
         heights.push(height)?;

@@ -1,6 +1,7 @@
 //! The sizes of a table: what its texts ask for, what the whole takes, and the dimensions that answer them.
 #![tactic(auto)]
 
+mod added;
 mod complete_dimension;
 mod const_dimension;
 mod dimension;

@@ -1,7 +1,8 @@
-use Rattle.std.proofs.Common.{◌≡◌, ◌++◌, ◌∷◌, [], ◌∙◌, ℕ, ap, sym, length, map, replicate, arith, rules}
+use Rattle.std.proofs.Common.{◌≡◌, ◌++◌, ◌∷◌, [], ◌∙◌, ℕ, ap, sym, length, map, replicate, arith, rules, subst}
 use Rattle.std.specs.List.{range_with_len}
 use Rattle.std.proofs.lemmas.List.FromFn.{map-range_with_len_more}
 use Rattle.tabled_base.specs.Cells.{columns}
+use Rattle.tabled_size.specs.Added.{KnowsAdded}
 use Rattle.tabled_size.specs.Estimates.{column_width, estimated_heights, estimated_widths, needed_width, row_height}
 use Rattle.tabled_size.proofs.Greatest.{greatest_below, greatest_each, greatest_none, written_back}
 use Rattle.tabled_size.proofs.estimate.estimate_sizes.Goals as goal
@@ -9,6 +10,7 @@ use Rattle.tabled_size.proofs.estimate.estimate_sizes.Goals as goal
 pub rows-init : goal.rows-init
 rows-init g c =
     record {
+      known = subst (KnowsAdded c.new-known.result c.args.config.now) c.count_columns-2.ensures.columns c.new-known.ensures;
       widths =
           c.in_ok-widths.ensures.items_if_clones_equal (λ y h. search rules)
           ∙ ap (λ n. replicate {A = ℕ} n 0) c.count_columns.ensures.columns
@@ -16,11 +18,16 @@ rows-init g c =
       heights = search rules;
     }
 
+pub measure_row-requires-clause-told : goal.measure_row-requires-clause-told
+measure_row-requires-clause-told g c =
+    c.in_row-added.ensures (columns (g.R.ExactRecords.cells c.args.records.now)) c.rows.invariant.known
+
 pub rows-preserved : goal.rows-preserved
 rows-preserved g c =
     let cells = g.R.ExactRecords.cells c.args.records.now in
     let f = row_height cells c.args.config.now in
     record {
+      known = c.rows.invariant.known;
       widths =
           written_back _ _ _ (omega (arith, c.measure_row.auto.widths, c.deref_mut.ensures.len))
           ∙ c.in-Some.ensures.widths

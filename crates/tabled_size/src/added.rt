@@ -1,0 +1,140 @@
+//! What padding adds to the texts of a row's cells.
+ghost use Rattle.std.specs.Prelude.{◌≡◌, ℕ, IfNone, IfSome, map};
+ghost use Rattle.std.specs.List.{range_with_len};
+ghost use Rattle.tabled_config.specs.Settings.{style_at};
+ghost use Rattle.tabled_size.specs.Added.{KnowsAdded, PassesRange, SameAdded, TellsAdded, added_at, added_by, added_in, nothing};
+
+use std::alloc::Global;
+use tabled_base::Position;
+use tabled_config::{Indent, Sides, SpannedConfig};
+use tabled_entity::RowValues;
+
+/// For more columns nothing is listed.
+const MOST: usize = 65_536;
+
+/// So many columns and lines: those that padding adds to a text, or those that a cell needs.
+#[derive(Clone, Copy)]
+pub(crate) struct Extent {
+    pub(crate) columns: usize,
+    pub(crate) lines: usize,
+}
+
+/// What padding adds to the texts of a row.
+#[derive(Drop)]
+pub(crate) enum Added<'a> {
+    /// The same to all.
+    Alike(Extent),
+    /// To that in each column as it is listed.
+    Listed(&'a [Extent]),
+    /// To each as its padding was set.
+    Set(RowValues<'a, Sides<Indent>>),
+}
+
+/// What padding adds to the texts of a table, where that is known for more than one row.
+#[derive(Drop)]
+pub(crate) enum KnownAdded {
+    /// The same to all.
+    Alike(Extent),
+    /// As it is listed for the columns of one row, and so in each row that is padded like it.
+    Listed(usize, Vec<Extent>),
+    /// Nothing is known.
+    Unknown,
+}
+
+/// What padding adds to a text, if numbers can say it.
+#[inline(always)]
+fn added_by(padding: Sides<Indent>) -> Option<Extent>
+    ensures some { IfSome result (λ extent. extent ≡ added_by padding) }
+    ensures none { IfNone result (PassesRange (added_by padding)) }
+{
+    Some(Extent {
+        columns: padding.left.size.checked_add(padding.right.size)?,
+        lines: padding.top.size.checked_add(padding.bottom.size)?,
+    })
+}
+
+/// What padding adds to the text of each cell, where all are known to be padded alike, and numbers can say it.
+fn shared_added(config: &SpannedConfig) -> Option<Extent>
+    ensures { IfSome result (λ extent. (row column : ℕ) → extent ≡ added_at config.now row column) }
+{
+    let padding = config.shared_padding()?;
+    added_by(padding)
+}
+
+/// What padding adds to the texts in so many columns of a row, if numbers can say it, and memory isn't refused.
+fn listed_in(
+    alloc: Global,
+    config: &SpannedConfig,
+    row: usize,
+    columns: usize,
+) -> Option<Vec<Extent>>
+    ensures { IfSome result (λ extents. extents.items ≡ map (added_at config.now row) (range_with_len 0 columns)) }
+{
+    let mut extents = Vec::with_capacity(alloc, columns).ok()?;
+    'columns: for column in 0..columns {
+        let extent = added_by(config.get_padding(Position { row, column }))?;
+        extents.push(extent).ok()?;
+    }
+    Some(extents)
+}
+
+impl<'a> Added<'a> {
+    /// What padding adds to the text in a column, if numbers can say it. Behind the listed columns that is nothing.
+    #[inline(always)]
+    pub(crate) fn at(&mut self, column: usize) -> Option<Extent>
+        ensures some { IfSome result (λ extent. extent ≡ added_in self.old column) }
+        ensures none { IfNone result (PassesRange (added_in self.old column)) }
+        ensures same { SameAdded self.old self.new }
+    {
+        match self {
+            Added::Alike(extent) => Some(*extent),
+            Added::Listed(extents) => match extents.get(column) {
+                Some(extent) => Some(*extent),
+                None => Some(Extent {
+                    columns: 0,
+                    lines: 0,
+                }),
+            },
+            Added::Set(paddings) => added_by(paddings.at(column)),
+        }
+    }
+}
+
+impl KnownAdded {
+    /// What padding adds to the texts of a table with so many rows and columns. It is listed where there are few enough columns,
+    /// and padding was set for no cell. That memory for the list is refused changes what is kept, and not what is told.
+    pub(crate) fn new(
+        alloc: Global,
+        config: &SpannedConfig,
+        rows: usize,
+        columns: usize,
+    ) -> KnownAdded
+        ensures { KnowsAdded result config.now columns }
+    {
+        if let Some(extent) = shared_added(config) {
+            return KnownAdded::Alike(extent);
+        }
+        // For the row behind the last hardly anything is set, so that most rows are padded like it.
+        if rows < 2 || columns > MOST || !config.are_padded_alike(rows, rows) {
+            return KnownAdded::Unknown;
+        }
+        match listed_in(alloc, config, rows, columns) {
+            Some(extents) => KnownAdded::Listed(rows, extents),
+            None => KnownAdded::Unknown,
+        }
+    }
+
+    /// What padding adds to the texts of a row, from left to right.
+    #[inline]
+    pub(crate) fn in_row<'a>(&'a self, config: &'a SpannedConfig, row: usize) -> Added<'a>
+        ensures { (columns : ℕ) → KnowsAdded self.now config.now columns → TellsAdded result config.now row columns }
+    {
+        match self {
+            KnownAdded::Alike(extent) => Added::Alike(*extent),
+            KnownAdded::Listed(reference, extents) if config.are_padded_alike(row, *reference) => {
+                Added::Listed(extents.as_slice())
+            }
+            _ => Added::Set(config.paddings_in(row)),
+        }
+    }
+}
