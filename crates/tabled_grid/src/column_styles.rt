@@ -16,6 +16,9 @@ use tabled_size::{Dimension, check_widths};
 /// For more columns nothing is kept.
 const MOST: usize = 65_536;
 
+/// For fewer rows nothing is kept either, since they would gain too little by it.
+const FEW: usize = 4;
+
 /// How the texts of so many columns stand in a row. Refused for memory alone.
 fn styles_in(
     alloc: Global,
@@ -83,22 +86,22 @@ impl ColumnStyles {
         })
     }
 
-    /// The same, if memory may be taken, and there are few enough columns. That it is refused changes what is kept, and not what
-    /// is printed.
+    /// How the texts stand in the row behind so many rows, if memory may be taken, and there are rows enough and few enough columns.
+    /// That it is refused changes what is kept, and not what is printed.
     pub fn if_kept<D: Dimension>(
         memory: Option<Global>,
         config: &SpannedConfig,
         dimension: &D,
-        row: usize,
+        rows: usize,
         columns: usize,
     ) -> Option<ColumnStyles>
         ensures { IfSome result (AreStyles config.now (slice_index (reached (D.width_at dimension.now) columns)) columns) }
     {
         let alloc = memory?;
-        if columns > MOST {
+        if rows < FEW || columns > MOST {
             return None;
         }
-        match ColumnStyles::new(alloc, config, dimension, row, columns) {
+        match ColumnStyles::new(alloc, config, dimension, rows, columns) {
             Ok(kept) => Some(kept),
             Err(_) => None,
         }

@@ -17,7 +17,7 @@ use std::alloc::Global;
 use std::marker::Model;
 use tabled_base::{PeekableRecords, Position};
 use tabled_config::{CellStyle, Frame, HorizontalLine, RowStyles, SpannedConfig};
-use tabled_row::{Aim, CellBlock, Content, SharedStyle};
+use tabled_row::{Aim, CellBlock, Content, Gap};
 use tabled_size::Dimension;
 
 /// Records, how they are set, and their sizes. Contracts see the sheet that they make.
@@ -34,7 +34,8 @@ pub(crate) struct Grid<'a, R: PeekableRecords, D: Dimension> {
     around: Frame,
     // The line of the borders between two rows.
     between: Option<HorizontalLine>,
-    shared: Option<SharedStyle>,
+    // What stands between the texts of two columns.
+    gap: Gap,
     by_column: Option<ColumnStyles>,
 }
 
@@ -44,8 +45,7 @@ impl<'a, R: PeekableRecords, D: Dimension> Model for Grid<'a, R, D> {
     ghost view = { λ g. sheet_by (R.cells g.records.now) g.config.now (D.width_at g.dimension.now) (D.height_at g.dimension.now) };
 
     ghost invariant = { λ g. (g.around ≡ frame g.config.now)
-        × IfSome g.shared (λ shared. ((row column : ℕ) → style_at g.config.now row column ≡ shared.style)
-        × (shared.bar ≡ (frame g.config.now).inner))
+        × (g.gap.bar ≡ (frame g.config.now).inner)
         × IfSome g.by_column (AreStyles g.config.now (slice_index (reached (D.width_at g.dimension.now) (columns (R.cells g.records.now))))
         (columns (R.cells g.records.now)))
         × (g.between ≡ if_any (inner_line g.config.now.borders)) };
@@ -63,20 +63,13 @@ impl<'a, R: PeekableRecords, D: Dimension> Grid<'a, R, D> {
     {
         let around = config.frame();
         let between = config.borders.line_at(2, 1);
-        let shared = match config.shared_style() {
-            Some(style) => Some(SharedStyle::new(style, around.inner)),
-            None => None,
-        };
-        let by_column = match &shared {
-            Some(style) if style.flush().is_some() => None,
-            _ => ColumnStyles::if_kept(
-                memory,
-                config,
-                dimension,
-                records.count_rows(),
-                records.count_columns(),
-            ),
-        };
+        let by_column = ColumnStyles::if_kept(
+            memory,
+            config,
+            dimension,
+            records.count_rows(),
+            records.count_columns(),
+        );
         Grid {
             records,
             config,
@@ -84,7 +77,7 @@ impl<'a, R: PeekableRecords, D: Dimension> Grid<'a, R, D> {
             memory,
             around,
             between,
-            shared,
+            gap: Gap::new(around.inner),
             by_column,
         }
     }
@@ -96,12 +89,11 @@ impl<'a, R: PeekableRecords, D: Dimension> Grid<'a, R, D> {
         &self.around
     }
 
-    /// How the texts of all cells stand, if it is known that they stand alike.
-    pub fn shared_style(&self) -> Option<&SharedStyle>
-        ensures { IfSome result (λ shared. ((row column : ℕ) → style_at self.now.config row column ≡ shared.now.style)
-            × (shared.now.bar ≡ (frame self.now.config).inner)) }
+    /// What stands between the texts of two columns in a row of one line.
+    pub fn gap(&self) -> &Gap
+        ensures { result.now.bar ≡ (frame self.now.config).inner }
     {
-        self.shared.as_ref()
+        &self.gap
     }
 
     /// How the texts of a row stand, from left to right.

@@ -6,7 +6,7 @@ ghost use Rattle.tabled_size.specs.Holds.{IsSized};
 use crate::grid::Grid;
 use tabled_base::{PeekableRecords, Position};
 use tabled_config::{CellStyle, Frame, RowStyles};
-use tabled_row::{Aim, CellBlock, Columns, Content, Row, SharedStyle};
+use tabled_row::{Aim, CellBlock, Columns, Content, Gap, Row};
 use tabled_size::Dimension;
 
 /// The columns of a table whose sizes are there.
@@ -59,8 +59,8 @@ impl<'a, R: PeekableRecords, D: Dimension> Row<'a> for GridRow<'a, R, D> {
         self.grid.frame()
     }
 
-    fn shared_style(&self) -> Option<&SharedStyle> {
-        self.grid.shared_style()
+    fn gap(&self) -> &Gap {
+        self.grid.gap()
     }
 
     fn styles(&self) -> RowStyles<'_> {

@@ -5,16 +5,13 @@ use Rattle.std.proofs.Math.Seq.{take-append_seam, drop-append-add, drop-append_s
 use Rattle.std.specs.Str.{IsCharBoundary, IsUtf8}
 use Rattle.std.proofs.lemmas.List.{get_or-append-add, length-append, take-append-drop}
 use Rattle.std.proofs.lemmas.Str.{IsCharBoundary-after_ascii, IsCharBoundary-before_ascii, IsUtf8-append, IsUtf8-drop, IsUtf8-take}
-use Rattle.tabled_config.specs.declared.spanned.CellStyle.{CellStyle}
 use Rattle.tabled_border.specs.Frame.{has_bar}
 use Rattle.tabled_row.specs.Fill.{fill}
-use Rattle.tabled_row.specs.Flush.{laid_text}
-use Rattle.tabled_lines.specs.Laid.{IsFlushLine, StandsAt, blank_line, blank_row, first_place}
-use Rattle.tabled_row.specs.Row.{ColumnSheet, RowSheet, cell_piece, left_edge, piece, right_edge, row_line, row_lines, rule_line, rule_piece}
+use Rattle.tabled_lines.specs.Laid.{StandsAt, blank_line, blank_row, first_place}
+use Rattle.tabled_row.specs.Row.{ColumnSheet, RowSheet, cell_piece, first_of_block, left_edge, piece, right_edge, row_line, row_lines, rule_line, rule_piece}
 use Rattle.tabled_row.proofs.Bars.{later-bar}
 use Rattle.tabled_row.proofs.Each.{each-more}
 use Rattle.tabled_row.proofs.Fills.{fill-first_bytes, fill-length, fill-parts}
-use Rattle.tabled_row.proofs.Flushing.{IsFlushRow, cell-flush}
 
 -- a text of n bytes in the place of n of w spaces
 pub lay-text : (front back text bytes : List ℕ) (l n r w place : ℕ) → l + (n + r) ≡ w → length text ≡ n → place ≡ length front → bytes ≡ front ++ (fill 32 w ++ back)
@@ -139,7 +136,7 @@ laid-stands {rs} {line} {place} {before} {column} h l =
     record { front = front rs column; back = blank_from rs.columns (column + 1) (rs.columns.count - column - 1); whole = laid-next h l; begins = laid-begins h }
 
 -- a cell was laid
-pub laid-one : {rs : RowSheet} {line : List ℕ} {place before column : ℕ} (laid next : List ℕ) (stop bar : ℕ)
+laid-one : {rs : RowSheet} {line : List ℕ} {place before column : ℕ} (laid next : List ℕ) (stop bar : ℕ)
     → cell_piece rs 0 column ≡ piece (has_bar rs.columns.frame column) rs.columns.frame.inner.main ++ laid
     → IsLaid rs line place before column → column < rs.columns.count
     → next ≡ front rs column ++ (laid ++ blank_from rs.columns (column + 1) (rs.columns.count - column - 1))
@@ -166,17 +163,15 @@ laid-one {rs} {line} {place} {before} {column} laid next stop bar cell h l whole
     regroup : (a b c d : List ℕ) → a ++ (b ++ (c ++ d)) ≡ ((a ++ b) ++ c) ++ d
     regroup a b c d = simp append_assoc
 
-flush-row : {rs : RowSheet} {s : CellStyle} → IsFlushLine rs s → IsFlushRow rs s
-flush-row p = record { flush = p.flush; shared = p.shared; height = p.height }
-
 -- the text of a column was laid
-pub laid-more : {rs : RowSheet} {line : List ℕ} {place before column : ℕ} (s : CellStyle) (next : List ℕ) (stop bar : ℕ)
-    → IsFlushLine rs s → IsLaid rs line place before column → column < rs.columns.count
-    → next ≡ front rs column ++ (laid_text rs s column ++ blank_from rs.columns (column + 1) (rs.columns.count - column - 1))
-    → stop ≡ length (front rs column) + length (laid_text rs s column)
+pub laid-more : {rs : RowSheet} {line : List ℕ} {place before column : ℕ} (laid next : List ℕ) (stop bar : ℕ)
+    → first_of_block rs column ≡ laid → IsLaid rs line place before column → column < rs.columns.count
+    → next ≡ front rs column ++ (laid ++ blank_from rs.columns (column + 1) (rs.columns.count - column - 1))
+    → stop ≡ length (front rs column) + length laid
     → bar ≡ length (piece rs.columns.frame.inner.there rs.columns.frame.inner.main) → IsLaid rs next stop bar (column + 1)
-laid-more {rs} {line} {place} {before} {column} s next stop bar p h l whole stops same =
-    laid-one (laid_text rs s column) next stop bar (cell-flush rs s column (flush-row p) l) h l whole stops same
+unfolding cell_piece
+laid-more {rs} {line} {place} {before} {column} laid next stop bar first h l whole stops same =
+    laid-one laid next stop bar (ap (λ u. piece (has_bar rs.columns.frame column) rs.columns.frame.inner.main ++ u) first) h l whole stops same
 
 -- all texts were laid
 pub laid-all : {rs : RowSheet} {line : List ℕ} {place before column : ℕ} → IsLaid rs line place before column → column ≡ rs.columns.count → line ≡ row_line rs 0

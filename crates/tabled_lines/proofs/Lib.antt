@@ -1,4 +1,3 @@
 pub mod Laying
-pub mod LayingStyles
 pub mod LedLines
 pub mod Placing

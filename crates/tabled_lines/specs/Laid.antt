@@ -1,10 +1,8 @@
 -- Rows of one line that are laid over a blank one.
-use Rattle.std.specs.Prelude.{◌≡◌, ℕ, ◌<◌, List, ◌++◌, Some, length}
+use Rattle.std.specs.Prelude.{◌≡◌, ℕ, List, ◌++◌, Some, length}
 use Rattle.tabled_border.specs.declared.borders.HorizontalLine.{HorizontalLine}
 use Rattle.tabled_border.specs.declared.frame.Frame.{Frame}
-use Rattle.tabled_config.specs.declared.spanned.CellStyle.{CellStyle}
-use Rattle.tabled_row.specs.Flush.{IsFlush}
-use Rattle.tabled_row.specs.Row.{ColumnSheet, RowSheet, left_edge, rule_line}
+use Rattle.tabled_row.specs.Row.{ColumnSheet, left_edge, rule_line}
 
 -- the characters of a blank row: spaces, and the vertical lines
 abbrev pub blank_line : Frame → HorizontalLine
@@ -17,12 +15,6 @@ blank_row columns = rule_line columns (blank_line columns.frame)
 -- where its first cell begins, in bytes
 abbrev pub first_place : ColumnSheet → ℕ
 first_place columns = length (left_edge columns.frame columns.frame.left.main)
-
--- a row of one line whose texts all stand at the left between spaces
-pub record IsFlushLine (row : RowSheet) (style : CellStyle) : Type 0 where
-  pub flush : IsFlush style
-  pub shared : (column : ℕ) → column < row.columns.count → row.style column ≡ style
-  pub height : row.height ≡ 1
 
 -- a piece stands at a place of some bytes
 pub record StandsAt (bytes : List ℕ) (place : ℕ) (piece : List ℕ) : Type 0 where

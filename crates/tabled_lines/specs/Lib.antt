@@ -1,5 +1,4 @@
 pub mod Blank
 pub mod Kept
 pub mod Laid
-pub mod LaidStyles
 pub mod Spots

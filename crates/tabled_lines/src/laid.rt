@@ -1,18 +1,16 @@
 //! Rows of one line that are laid over a blank one, as those of a new table mostly can be: the spaces, the vertical lines and the
 //! edges are made once, and the texts of a row are copied to their places.
-ghost use Rattle.std.specs.Prelude.{◌≡◌, ◌+◌, ◌<◌, ◌≤◌, List, ℕ, [], ◌∷◌, ◌++◌, IfOk, IfSome, IsUtf8, drop, false, length, string_bytes, take, true};
-ghost use Rattle.tabled_row.specs.Fill.{fill};
-ghost use Rattle.tabled_row.specs.Flush.{laid_text};
+ghost use Rattle.std.specs.Prelude.{◌≡◌, [], ◌∷◌, IfOk, IsUtf8, drop, false, string_bytes, true};
 ghost use Rattle.tabled_lines.specs.Blank.{IsBlank};
-ghost use Rattle.tabled_lines.specs.Laid.{IsFlushLine, StandsAt, blank_line, blank_row, first_place};
+ghost use Rattle.tabled_lines.specs.Laid.{blank_line, blank_row, first_place};
 ghost use Rattle.tabled_lines.specs.Spots.{AreSpots};
-ghost use Rattle.tabled_row.specs.Row.{piece, row_line, row_lines};
+ghost use Rattle.tabled_row.specs.Row.{row_line, row_lines};
 
-use crate::laid_styles::{lay_by_aims, lay_by_styles};
+use crate::laid_texts::lay_texts;
 use crate::spots::{Spot, put_spots};
 use std::alloc::Global;
 use tabled_base::TableError;
-use tabled_config::{CellStyle, Frame, HorizontalLine};
+use tabled_config::{Frame, HorizontalLine};
 use tabled_row::{Columns, Row, TextSink, put_left, put_right, put_rule_pieces};
 
 /// After so many rows that could not be laid no more are tried.
@@ -62,96 +60,6 @@ fn put_blank<C: Columns>(blank: &mut String, columns: &C) -> Result<usize, Table
     Ok(start)
 }
 
-/// How the texts of a row of one line stand, if it is known that they all stand at the left between spaces.
-fn flush_style<'r, 'a, R: Row<'a>>(row: &'r R) -> Option<&'r CellStyle>
-    requires { (R.sheet row.now).height ≡ 1 }
-    ensures { IfSome result (λ style. IsFlushLine (R.sheet row.now) style.now) }
-{
-    let style = row.shared_style()?.flush()?;
-    Some(style)
-}
-
-/// Copies a text over some bytes of its length.
-#[inline(always)]
-pub(crate) fn copy_at(line: &mut [u8], place: usize, text: &str)
-    requires { place + length text.now ≤ length line.old }
-    ensures copied { line.new ≡ take place line.old ++ (text.now ++ drop (place + length text.now) line.old) }
-    ensures text { IsUtf8 text.now }
-{
-    let end = place + text.len();
-    line[place..end].copy_from_slice(text.as_bytes());
-}
-
-/// Lays the text of a column over the blank columns of its cell. So many columns of padding stand at the sides of it. Answers whether
-/// it could be laid: only a text that takes as many bytes as columns is.
-#[inline(always)]
-fn lay_cell<'a, R: Row<'a>>(
-    line: &mut [u8],
-    spot: Spot,
-    row: &R,
-    style: &CellStyle,
-    sides: usize,
-    column: usize,
-) -> bool
-    requires inside { column < (R.sheet row.now).columns.count }
-    requires width { spot.width ≡ (R.sheet row.now).columns.width column }
-    requires sides { sides ≡ style.now.padding.left.size + style.now.padding.right.size }
-    requires blank { StandsAt line.old spot.place (fill 32 ((R.sheet row.now).columns.width column)) }
-    ensures laid { result ≡ true → (front back : List ℕ)
-        → line.old ≡ front ++ (fill 32 ((R.sheet row.now).columns.width column) ++ back) → spot.place ≡ length front
-        → (line.new ≡ front ++ (laid_text (R.sheet row.now) style.now column ++ back))
-        × (spot.place + spot.width ≡ length front + length (laid_text (R.sheet row.now) style.now column)) }
-    ensures utf8 { IsUtf8 line.old → IsUtf8 line.new }
-{
-    let (text, taken) = row.content(column).first_line();
-    if spot.width < sides || spot.width - sides < taken || text.len() != taken {
-        return false;
-    }
-    copy_at(line, spot.place + style.padding.left.size, text);
-    true
-}
-
-/// Lays texts that stand at the left between spaces over a blank row. Answers whether all could be laid.
-fn lay_texts<'a, R: Row<'a>>(line: &mut [u8], spots: &[Spot], row: &R, style: &CellStyle) -> bool
-    requires flush { IsFlushLine (R.sheet row.now) style.now }
-    requires blank { line.old ≡ blank_row (R.sheet row.now).columns }
-    requires spots { AreSpots (R.sheet row.now).columns spots.now }
-    ensures laid { result ≡ true → line.new ≡ row_line (R.sheet row.now) 0 }
-    ensures utf8 { IsUtf8 line.old → IsUtf8 line.new }
-{
-    let Some(sides) = style
-        .padding
-        .left
-        .size
-        .checked_add(style.padding.right.size)
-    else {
-        return false;
-    };
-    'texts: for column in 0..spots.len() {
-        if !lay_cell(line, spots[column], row, style, sides, column) {
-            return false;
-        }
-    }
-    true
-}
-
-/// Lays the texts of a row of one line over a blank row. Answers whether all could be laid.
-fn lay_all<'a, R: Row<'a>>(line: &mut [u8], spots: &[Spot], row: &R) -> bool
-    requires height { (R.sheet row.now).height ≡ 1 }
-    requires blank { line.old ≡ blank_row (R.sheet row.now).columns }
-    requires spots { AreSpots (R.sheet row.now).columns spots.now }
-    ensures laid { result ≡ true → line.new ≡ row_line (R.sheet row.now) 0 }
-    ensures utf8 { IsUtf8 line.old → IsUtf8 line.new }
-{
-    if let Some(style) = flush_style(row) {
-        return lay_texts(line, spots, row, style);
-    }
-    match row.aims() {
-        Some(aims) => lay_by_aims(line, spots, row, aims),
-        None => lay_by_styles(line, spots, row),
-    }
-}
-
 /// Lays the texts of a row of one line over a blank row that stands behind a line feed. Answers whether all could be laid.
 fn lay_led<'a, R: Row<'a>>(led: &mut [u8], spots: &[Spot], row: &R) -> bool
     requires height { (R.sheet row.now).height ≡ 1 }
@@ -160,7 +68,7 @@ fn lay_led<'a, R: Row<'a>>(led: &mut [u8], spots: &[Spot], row: &R) -> bool
     ensures laid { result ≡ true → led.new ≡ 10 ∷ row_line (R.sheet row.now) 0 }
     ensures utf8 { IsUtf8 led.old → IsUtf8 led.new }
 {
-    lay_all(&mut led[1..], spots, row)
+    lay_texts(&mut led[1..], spots, row)
 }
 
 /// A blank row over some columns, which is laid out once, and the row that was laid over it, both behind a line feed.

@@ -6,7 +6,7 @@
 
 mod kept;
 mod laid;
-mod laid_styles;
+mod laid_texts;
 mod led;
 mod lines;
 mod spots;

@@ -1,5 +1,5 @@
 -- The columns of the vertical lines between columns.
-use Rattle.std.proofs.Common.{◌≡◌, ℕ, zero, suc, ◌+◌, ◌-◌, ◌*◌, ◌==◌, Bool, false, cond, unwrap_or, [], ◌++◌, refl, ap, ◌∙◌, arith}
+use Rattle.std.proofs.Common.{◌≡◌, ℕ, zero, suc, ◌+◌, ◌-◌, ◌*◌, ◌<◌, ◌==◌, Bool, false, cond, unwrap_or, [], ◌++◌, refl, ap, ◌∙◌, arith}
 use Rattle.std.proofs.lemmas.Bool.Decides.{nat_tests}
 use Rattle.tabled_border.specs.declared.frame.Frame.{Frame}
 use Rattle.tabled_border.specs.Frame.{has_bar}
@@ -10,6 +10,15 @@ use Rattle.tabled_row.specs.Row.{ColumnSheet, piece, rule_piece}
 
 pub later-bar : (n : ℕ) (b : Bool) → cond (suc n == 0) false b ≡ b
 later-bar n b = grind (arith, nat_tests)
+
+-- no vertical line stands before the first column, and that between columns before each other one
+pub bar-first : (r : Frame) (k : ℕ) → k ≡ 0 → has_bar r k ≡ false
+bar-first r zero h = refl
+bar-first r (suc k) h = absurd (omega arith)
+
+pub bar-before : (r : Frame) (k : ℕ) → 0 < k → has_bar r k ≡ r.inner.there
+bar-before r zero h = absurd (omega arith)
+bar-before r (suc k) h = later-bar k r.inner.there
 
 -- no vertical line stands before a column where there is none between columns
 pub no-bar : (r : Frame) (k : ℕ) → r.inner.there ≡ false → has_bar r k ≡ false

@@ -4,9 +4,12 @@ pub mod Blocks
 pub mod Contents
 pub mod Each
 pub mod Fills
-pub mod Flushing
+pub mod Gaps
 pub mod Joined
 pub mod Leading
 pub mod Marking
+pub mod Owing
+pub mod Placing
 pub mod Plains
 pub mod Sending
+pub mod Spacing

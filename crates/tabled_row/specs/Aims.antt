@@ -1,9 +1,12 @@
 -- Where the texts of a row of one line stand among its blank columns.
-use Rattle.std.specs.Prelude.{◌≡◌, ℕ, ◌+◌, ◌<◌, ◌≤◌, List, map}
+use Rattle.std.specs.Prelude.{◌≡◌, ℕ, ◌+◌, ◌<◌, ◌≤◌, ◌⊎◌, IfSome, List, [], map}
 use Rattle.std.specs.List.{range_with_len}
+use Rattle.tabled_config.specs.RowStyles.{style_in}
 use Rattle.tabled_config.specs.declared.spanned.CellStyle.{CellStyle}
 use Rattle.tabled_row.specs.Block.{text_room}
+use Rattle.tabled_row.specs.Row.{RowSheet}
 use Rattle.tabled_row.specs.declared.aim.Aim.{Aim}
+use Rattle.tabled_row.specs.declared.row_aims.RowAims.{RowAims}
 
 -- texts stand between spaces, with no line above them
 pub record IsSpaced (style : CellStyle) : Type 0 where
@@ -24,3 +27,8 @@ pub record IsAimed (style : CellStyle) (width : ℕ) : Type 0 where
 pub record AreAims (style : ℕ → CellStyle) (width : ℕ → ℕ) (count : ℕ) (aims : List Aim) : Type 0 where
   pub listed : aims ≡ map (λ column. aim_of (style column) (width column)) (range_with_len 0 count)
   pub aimed : (column : ℕ) → column < count → IsAimed (style column) (width column)
+
+-- what is told of the texts of a row is right: what is kept, if it is, and their styles
+pub record TellsAims (aims : RowAims) (row : RowSheet) : Type 0 where
+  pub kept : (aims.kept.now ≡ []) ⊎ AreAims row.style row.columns.width row.columns.count aims.kept.now
+  pub styles : IfSome aims.styles (λ styles. (column : ℕ) → column < row.columns.count → style_in styles column ≡ row.style column)

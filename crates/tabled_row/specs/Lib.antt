@@ -2,10 +2,12 @@ pub mod Aims
 pub mod Apart
 pub mod Block
 pub mod Fill
-pub mod Flush
+pub mod Gap
 pub mod Leading
 pub mod Marks
 pub mod Plain
 pub mod Rooms
 pub mod Row
+pub mod SendsBut
 pub mod Sent
+pub mod Spaced

@@ -37,6 +37,10 @@ right_edge frame c = piece frame.right.there c ++ indent frame.margin.right
 abbrev pub cell_block : RowSheet → ℕ → List (List ℕ)
 cell_block row column = block (row.style column) (row.columns.width column) row.height (row.text column)
 
+-- the first line of a cell in its room
+abbrev pub first_of_block : RowSheet → ℕ → List ℕ
+first_of_block row column = slice_index_or (cell_block row column) 0 []
+
 -- a line of the block of a cell, behind the vertical line before it
 unfoldable pub cell_piece : RowSheet → ℕ → ℕ → List ℕ
 cell_piece row index column =

@@ -14,7 +14,7 @@ use tabled_base::TableError;
 use tabled_config::{AlignmentHorizontal, AlignmentVertical, CellStyle};
 
 /// The part of the free columns that stands before the text.
-pub fn before_text(alignment: AlignmentHorizontal, free: usize) -> usize
+pub(crate) fn before_text(alignment: AlignmentHorizontal, free: usize) -> usize
     ensures { result ≡ before_text alignment free }
 {
     match alignment {

@@ -2,7 +2,7 @@
 ghost use Rattle.std.specs.Prelude.{◌≡◌, ◌-◌, ◌<◌, ◌^◌, length, slice_get, IfSome};
 ghost use Rattle.std.specs.Option.{option_map};
 ghost use Rattle.tabled_text.specs.Measure.{line_columns, lines_of, text_columns};
-ghost use Rattle.tabled_row.specs.Flush.{first_line};
+ghost use Rattle.tabled_row.specs.Block.{first_line};
 ghost use Rattle.tabled_row.specs.Marks.{IsMarked};
 
 use crate::marks::Mark;

@@ -11,9 +11,9 @@ use crate::aim::Aim;
 use crate::block::CellBlock;
 use crate::content::Content;
 use crate::edges::{put_left, put_piece, put_right};
-use crate::flush::put_flush_cells;
+use crate::gap::Gap;
 use crate::marks::{Mark, Marks};
-use crate::shared::SharedStyle;
+use crate::spaced::put_spaced_cells;
 use crate::text_sink::TextSink;
 use tabled_base::TableError;
 use tabled_config::{CellStyle, Frame, RowStyles};
@@ -35,10 +35,9 @@ pub trait Row<'a> {
     fn frame(&self) -> &Frame
         ensures { result.now ≡ (sheet self.now).columns.frame };
 
-    /// How the texts of all cells stand, if it is known that they stand alike.
-    fn shared_style(&self) -> Option<&SharedStyle>
-        ensures { IfSome result (λ shared. ((column : ℕ) → column < (sheet self.now).columns.count
-            → (sheet self.now).style column ≡ shared.now.style) × (shared.now.bar ≡ (sheet self.now).columns.frame.inner)) };
+    /// What stands between the texts of two columns in a row of one line.
+    fn gap(&self) -> &Gap
+        ensures { result.now.bar ≡ (sheet self.now).columns.frame.inner };
 
     /// How the texts of the columns stand, from left to right.
     fn styles(&self) -> RowStyles<'_>
@@ -104,7 +103,7 @@ fn put_block_line<'a, R: Row<'a>, S: TextSink>(
 }
 
 /// A line of a cell, with the vertical line before it.
-fn put_cell<'a, R: Row<'a>, S: TextSink>(
+pub(crate) fn put_cell<'a, R: Row<'a>, S: TextSink>(
     sink: &mut S,
     row: &R,
     marks: &mut Marks<'a>,
@@ -143,7 +142,7 @@ fn put_each_cell<'a, R: Row<'a>, S: TextSink>(
     Ok(())
 }
 
-/// The cells of a line. Where they are all drawn, of one line, and stand alike, they need no blocks.
+/// The cells of a line. Those of a row of one line mostly need no blocks.
 fn put_cells<'a, R: Row<'a>, S: TextSink>(
     sink: &mut S,
     row: &R,
@@ -157,11 +156,9 @@ fn put_cells<'a, R: Row<'a>, S: TextSink>(
     ensures marked { AreKept (R.sheet row.now).text marks.new }
 {
     if row.height() == 1
-        && row.count_drawn() == row.count_columns()
-        && let Some(shared) = row.shared_style()
-        && let Some(gap) = shared.gap()
+        && let Some(gap) = row.gap().text()
     {
-        return put_flush_cells(sink, row, &gap);
+        return put_spaced_cells(sink, row, marks, gap);
     }
     put_each_cell(sink, row, marks, index)
 }

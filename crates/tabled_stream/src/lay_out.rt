@@ -15,7 +15,7 @@ use crate::total::total_width;
 use std::alloc::Global;
 use tabled_base::{CellText, TableError};
 use tabled_config::{AlignmentVertical, CellStyle, CompactConfig, SpannedConfig};
-use tabled_row::SharedStyle;
+use tabled_row::Gap;
 
 /// How many columns there are.
 pub(crate) fn count_columns<C: CellText>(settings: &Settings, rows: &[Vec<C>]) -> usize
@@ -97,7 +97,7 @@ fn lay_out<C: CellText>(
         inner: spanned.rule_at(2, 1),
         bottom: spanned.rule_at(1, 1),
         style,
-        shared: SharedStyle::new(style, frame.inner),
+        gap: Gap::new(frame.inner),
     })
 }
 

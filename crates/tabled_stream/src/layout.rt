@@ -2,7 +2,7 @@
 ghost use Rattle.std.specs.Prelude.{◌≡◌, ◌+◌, ◌<◌, ◌≤◌, ◌^◌, false, if◌then◌else◌, MatchOption};
 
 use tabled_config::{CellStyle, Frame, HorizontalLine};
-use tabled_row::SharedStyle;
+use tabled_row::Gap;
 
 /// The columns of a stream: what each leaves to texts, what stands around and between them, and how texts stand.
 #[derive(Drop)]
@@ -25,10 +25,9 @@ pub(crate) struct Layout {
     pub bottom: Option<HorizontalLine>,
     /// How the texts of all cells stand.
     pub style: CellStyle,
-    /// The same, with what stands between two texts.
-    pub shared: SharedStyle,
-    ghost bar: { shared.bar ≡ frame.inner },
-    ghost alike: { shared.style ≡ style },
+    /// What stands between the texts of two columns in a row of one line.
+    pub gap: Gap,
+    ghost bar: { gap.bar ≡ frame.inner },
 }
 
 impl Layout {

@@ -17,7 +17,7 @@ use std::borrow::CowStr;
 use tabled_base::{CellText, TableError, Text};
 use tabled_config::{CellStyle, Frame, RowStyles};
 use tabled_lines::Lines;
-use tabled_row::{Aim, CellBlock, Content, Marks, Row, SharedStyle, TextSink};
+use tabled_row::{Aim, CellBlock, Content, Gap, Marks, Row, TextSink};
 use tabled_text::cut_str;
 
 /// A row of a stream whose cells are cut; missing ones are empty.
@@ -48,8 +48,8 @@ impl<'a> Row<'a> for CutRow<'a> {
         &self.layout.frame
     }
 
-    fn shared_style(&self) -> Option<&SharedStyle> {
-        Some(&self.layout.shared)
+    fn gap(&self) -> &Gap {
+        &self.layout.gap
     }
 
     fn styles(&self) -> RowStyles<'_> {

@@ -1,0 +1,58 @@
+//! The texts of a row of one line, laid over a blank one where they stand.
+ghost use Rattle.std.specs.Prelude.{◌≡◌, List, ℕ, ◌+◌, ◌≤◌, ◌++◌, IsUtf8, drop, length, take, true};
+ghost use Rattle.tabled_lines.specs.Laid.{StandsAt, blank_row};
+ghost use Rattle.tabled_lines.specs.Spots.{AreSpots};
+ghost use Rattle.tabled_row.specs.Fill.{fill};
+ghost use Rattle.tabled_row.specs.Row.{row_line};
+
+use crate::spots::Spot;
+use tabled_row::{Placed, Row, RowAims};
+
+/// Copies a text over some bytes of its length.
+#[inline(always)]
+fn copy_at(line: &mut [u8], place: usize, text: &str)
+    requires { place + length text.now ≤ length line.old }
+    ensures copied { line.new ≡ take place line.old ++ (text.now ++ drop (place + length text.now) line.old) }
+    ensures text { IsUtf8 text.now }
+{
+    let end = place + text.len();
+    line[place..end].copy_from_slice(text.as_bytes());
+}
+
+/// Lays a text over the blank columns of its cell. Answers whether it could be laid: only a text that takes as many bytes as columns is.
+#[inline(always)]
+fn lay_text(line: &mut [u8], spot: Spot, placed: &Placed<'_>) -> bool
+    requires whole { placed.now.before + (placed.now.columns + placed.now.behind) ≡ spot.width }
+    requires blank { StandsAt line.old spot.place (fill 32 spot.width) }
+    ensures laid { result ≡ true → (front back : List ℕ) → line.old ≡ front ++ (fill 32 spot.width ++ back) → spot.place ≡ length front
+        → line.new ≡ front ++ ((fill 32 placed.now.before ++ (placed.now.text.now ++ fill 32 placed.now.behind)) ++ back) }
+    ensures size { result ≡ true → length placed.now.text.now ≡ placed.now.columns }
+    ensures utf8 { IsUtf8 line.old → IsUtf8 line.new }
+{
+    if placed.text.len() != placed.columns {
+        return false;
+    }
+    copy_at(line, spot.place + placed.before, placed.text);
+    true
+}
+
+/// Lays the texts of a row of one line over a blank row. Answers whether all could be laid: only texts that stand between spaces are.
+pub(crate) fn lay_texts<'a, R: Row<'a>>(line: &mut [u8], spots: &[Spot], row: &R) -> bool
+    requires height { (R.sheet row.now).height ≡ 1 }
+    requires blank { line.old ≡ blank_row (R.sheet row.now).columns }
+    requires spots { AreSpots (R.sheet row.now).columns spots.now }
+    ensures laid { result ≡ true → line.new ≡ row_line (R.sheet row.now) 0 }
+    ensures utf8 { IsUtf8 line.old → IsUtf8 line.new }
+{
+    let mut aims = RowAims::of(row);
+    'texts: for column in 0..spots.len() {
+        let spot = spots[column];
+        let Some(placed) = aims.place(row, column, spot.width) else {
+            return false;
+        };
+        if !lay_text(line, spot, &placed) {
+            return false;
+        }
+    }
+    true
+}

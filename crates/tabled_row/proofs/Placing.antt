@@ -1,0 +1,19 @@
+-- The pieces of a cell whose text stands between spaces.
+use Rattle.std.proofs.Common.{◌≡◌, ℕ, List, ◌++◌, ◌∙◌, ap, append_assoc}
+use Rattle.tabled_border.specs.Frame.{has_bar}
+use Rattle.tabled_row.specs.Fill.{fill}
+use Rattle.tabled_row.specs.Row.{RowSheet, cell_piece, piece}
+use Rattle.tabled_row.specs.Spaced.{IsPlaced}
+use Rattle.tabled_row.specs.declared.row_aims.Placed.{Placed}
+
+-- spaces and the cell: the spaces, the vertical line and the spaces before the text, the text, and the spaces behind it
+pub spaced-parts : (row : RowSheet) (column : ℕ) (placed : Placed) (n : ℕ) → IsPlaced row column placed
+    → fill 32 n ++ cell_piece row 0 column
+    ≡ (fill 32 n ++ (piece (has_bar row.columns.frame column) row.columns.frame.inner.main ++ fill 32 placed.before)) ++ (placed.text.now ++ fill 32 placed.behind)
+unfolding cell_piece
+spaced-parts row column placed n h =
+    let bar = piece (has_bar row.columns.frame column) row.columns.frame.inner.main in
+    ap (λ u. fill 32 n ++ (bar ++ u)) h.line ∙ regroup (fill 32 n) bar (fill 32 placed.before) (placed.text.now ++ fill 32 placed.behind)
+  where
+    regroup : (a b c d : List ℕ) → a ++ (b ++ (c ++ d)) ≡ (a ++ (b ++ c)) ++ d
+    regroup a b c d = simp append_assoc
