@@ -159,25 +159,32 @@ impl<T: Copy> EntityMap<T> {
 
     /// The value of a cell for which the latest change stands at a place, if there is one.
     #[inline]
-    pub(crate) fn said(&self, row: usize, column: usize, place: Option<usize>) -> T
+    pub(crate) fn said(&self, row: usize, column: usize, place: Option<usize>) -> &T
         requires { place ≡ latest (λ entity. last_for entity self.now.parts) row column }
-        ensures { result ≡ setting_at self.now row column }
+        ensures { result.now ≡ setting_at self.now row column }
     {
         let _cell = (row, column);
         match place {
-            Some(place) => self.changes[place].1,
-            None => self.whole,
+            Some(place) => &self.changes[place].1,
+            None => &self.whole,
         }
+    }
+
+    /// The value of a cell, looked up among the changes.
+    fn found(&self, row: usize, column: usize) -> &T
+        ensures { result.now ≡ setting_at self.now row column }
+    {
+        self.said(row, column, self.places.latest(row, column))
     }
 
     /// The value of a cell, if the change at a place was made for it or for its column: then it is the one that covers the cell.
     #[inline(always)]
-    pub(crate) fn set_at(&self, place: usize, row: usize, column: usize) -> Option<T>
+    pub(crate) fn set_at(&self, place: usize, row: usize, column: usize) -> Option<&T>
         requires { IsSetByPart self.now.parts row }
-        ensures { IfSome result (λ value. value ≡ setting_at self.now row column) }
+        ensures { IfSome result (λ value. value.now ≡ setting_at self.now row column) }
     {
         match self.changes.get(place) {
-            Some((entity, value)) if is_own(*entity, row, column) => Some(*value),
+            Some((entity, value)) if is_own(*entity, row, column) => Some(value),
             _ => None,
         }
     }
@@ -190,7 +197,7 @@ impl<T: Copy> EntityMap<T> {
         if self.changes.is_empty() {
             return self.whole;
         }
-        self.said(row, column, self.places.latest(row, column))
+        *self.found(row, column)
     }
 
     /// Whether what covers the cells of a row is known to be set once each, and for cells alone or for columns alone.
@@ -201,11 +208,11 @@ impl<T: Copy> EntityMap<T> {
     }
 
     /// The value of all cells of a row, if nothing was set for a column or a cell.
-    pub fn row_value(&self, row: usize) -> Option<T>
-        ensures { IfSome result (λ value. (column : ℕ) → value ≡ setting_at self.now row column) }
+    pub fn row_value(&self, row: usize) -> Option<&T>
+        ensures { IfSome result (λ value. (column : ℕ) → value.now ≡ setting_at self.now row column) }
     {
         if self.places.are_of_rows() {
-            Some(self.get(row, 0))
+            Some(self.found(row, 0))
         } else {
             None
         }
@@ -235,7 +242,7 @@ impl<T: Copy> EntityMap<T> {
         RowValues::new(
             self,
             row,
-            self.whole,
+            &self.whole,
             Some(places),
             self.is_set_by_part(row),
             self.likely_place(row),

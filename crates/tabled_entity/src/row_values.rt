@@ -15,7 +15,8 @@ use std::marker::Model;
 pub struct RowValues<'a, T> {
     map: &'a EntityMap<T>,
     row: usize,
-    whole: T,
+    // The value of all cells of the row, if no places are kept.
+    whole: &'a T,
     // Where the latest changes stand, unless all cells have the same value.
     places: Option<RowPlaces<'a>>,
     // Whether each change for a cell of the row or for its column is known to be the only one that covers the cell.
@@ -36,7 +37,7 @@ impl<'a, T> Model for RowValues<'a, T> {
     ghost view = { λ v. record { changes = v.map.now; row = v.row } };
 
     ghost invariant = { λ v. MatchOption v.places
-        ((column : ℕ) → v.whole ≡ setting_at v.map.now v.row column)
+        ((column : ℕ) → v.whole.now ≡ setting_at v.map.now v.row column)
         (λ places. (column : ℕ) → latest_at places column ≡ latest (λ entity. last_for entity v.map.now.parts) v.row column)
         × (v.by_part ≡ true → IsSetByPart v.map.now.parts v.row) };
 }
@@ -46,13 +47,13 @@ impl<'a, T: Copy> RowValues<'a, T> {
     pub(crate) fn new(
         map: &'a EntityMap<T>,
         row: usize,
-        whole: T,
+        whole: &'a T,
         places: Option<RowPlaces<'a>>,
         by_part: bool,
         next: usize,
     ) -> RowValues<'a, T>
         requires places { MatchOption places
-            ((column : ℕ) → whole ≡ setting_at map.now row column)
+            ((column : ℕ) → whole.now ≡ setting_at map.now row column)
             (λ places. (column : ℕ) → latest_at places column ≡ latest (λ entity. last_for entity map.now.parts) row column) }
         requires by_part { by_part ≡ true → IsSetByPart map.now.parts row }
         ensures { result ≡ record { changes = map.now; row = row } }
@@ -69,8 +70,8 @@ impl<'a, T: Copy> RowValues<'a, T> {
 
     /// The value of the cell in a column, if its change is the next one.
     #[inline(always)]
-    fn take_next(&mut self, column: usize) -> Option<T>
-        ensures value { IfSome result (λ value. value ≡ value_at self.old column) }
+    fn take_next(&mut self, column: usize) -> Option<&'a T>
+        ensures value { IfSome result (λ value. value.now ≡ value_at self.old column) }
         ensures same { self.new ≡ self.old }
     {
         if !self.by_part {
@@ -82,8 +83,8 @@ impl<'a, T: Copy> RowValues<'a, T> {
     }
 
     /// The value of the cell in a column, by the place of the latest change for it.
-    fn look_up(&mut self, column: usize) -> T
-        ensures value { result ≡ value_at self.old column }
+    fn look_up(&mut self, column: usize) -> &'a T
+        ensures value { result.now ≡ value_at self.old column }
         ensures same { self.new ≡ self.old }
     {
         let Some(places) = &mut self.places else {
@@ -98,8 +99,8 @@ impl<'a, T: Copy> RowValues<'a, T> {
 
     /// The value of the cell in a column.
     #[inline(always)]
-    pub fn at(&mut self, column: usize) -> T
-        ensures value { result ≡ value_at self.old column }
+    pub fn at(&mut self, column: usize) -> &'a T
+        ensures value { result.now ≡ value_at self.old column }
         ensures same { self.new ≡ self.old }
     {
         if let None = &self.places {

@@ -45,7 +45,7 @@ fn narrow_in<R: PeekableRecords, D: Dimension>(grid: &Grid<'_, R, D>, row: usize
 {
     let mut paddings = grid.config.paddings_in(row);
     'columns: for column in 0..grid.count_columns() {
-        if !is_held(grid, row, column, paddings.at(column)) {
+        if !is_held(grid, row, column, *paddings.at(column)) {
             return Some(column);
         }
     }

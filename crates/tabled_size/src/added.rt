@@ -95,7 +95,7 @@ impl<'a> Added<'a> {
                     lines: 0,
                 }),
             },
-            Added::Set(paddings) => added_by(paddings.at(column)),
+            Added::Set(paddings) => added_by(*paddings.at(column)),
         }
     }
 }

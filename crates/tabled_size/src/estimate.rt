@@ -78,7 +78,7 @@ fn raise_widths<R: PeekableRecords>(
     let mut paddings = config.paddings_in(row);
     'columns: for column in 0..records.count_columns() {
         let at = Position { row, column };
-        let Some(width) = padded_width(records, config, at, paddings.at(column)) else {
+        let Some(width) = padded_width(records, config, at, *paddings.at(column)) else {
             return Err(TableError::Range);
         };
         widths[column] = widths[column].max(width);
@@ -118,7 +118,7 @@ pub(crate) fn row_height<R: PeekableRecords>(
     let mut paddings = config.paddings_in(row);
     'columns: for column in 0..records.count_columns() {
         let at = Position { row, column };
-        let height = padded_height(records, config, at, paddings.at(column))?;
+        let height = padded_height(records, config, at, *paddings.at(column))?;
         most = most.max(height);
     }
     Some(most)

@@ -48,10 +48,10 @@ impl<'a> SetStyles<'a> {
         ensures same { self.new ≡ self.old }
     {
         CellStyle {
-            padding: self.padding.at(column),
-            horizontal: self.horizontal.at(column),
-            vertical: self.vertical.at(column),
-            line_alignment: self.line_alignment.at(column),
+            padding: *self.padding.at(column),
+            horizontal: *self.horizontal.at(column),
+            vertical: *self.vertical.at(column),
+            line_alignment: *self.line_alignment.at(column),
         }
     }
 }
@@ -81,10 +81,10 @@ impl SpannedConfig {
         ensures { IfSome result (λ style. (column : ℕ) → style ≡ style_at self.now row column) }
     {
         Some(CellStyle {
-            padding: self.padding.row_value(row)?,
-            horizontal: self.alignment_horizontal.row_value(row)?,
-            vertical: self.alignment_vertical.row_value(row)?,
-            line_alignment: self.line_alignment.row_value(row)?,
+            padding: *self.padding.row_value(row)?,
+            horizontal: *self.alignment_horizontal.row_value(row)?,
+            vertical: *self.alignment_vertical.row_value(row)?,
+            line_alignment: *self.line_alignment.row_value(row)?,
         })
     }
 

@@ -1,14 +1,7 @@
-use Rattle.std.proofs.Common.{reverse, ap, ◌∙◌, arith}
+use Rattle.std.proofs.Common.{ap, ◌∙◌, arith}
 use Rattle.tabled_entity.specs.Changes.{setting_at}
-use Rattle.tabled_entity.proofs.Covering.{latest_place}
-use Rattle.tabled_entity.proofs.Indexed.{indexed-latest, nothing_set}
+use Rattle.tabled_entity.proofs.Indexed.{nothing_set}
 use Rattle.tabled_entity.proofs.entity_map.EntityMap.get.Goals as goal
-
-pub said-requires : goal.said-requires
-said-requires g c =
-    c.latest.ensures
-    ∙ indexed-latest c.self.inside.places (reverse c.self.inside.changes.items) c.args.row c.args.column c.self.invariant.0
-    ∙ ap (λ v. latest_place v.parts c.args.row c.args.column) c.self.view_is
 
 pub returns-then-is_empty : goal.returns-then-is_empty
 returns-then-is_empty g c =
