@@ -1,13 +1,10 @@
 -- What padding adds to the texts of a row.
 use Rattle.std.specs.Prelude.{◌≡◌, ℕ, ◌+◌, ◌<◌, ◌≤◌, ◌^◌, ◌⊎◌, map}
-use Rattle.std.specs.List.{range_with_len, slice_index_or}
+use Rattle.std.specs.List.{range_with_len}
 use Rattle.tabled_border.specs.declared.sides.Indent.{Indent}
 use Rattle.tabled_border.specs.declared.sides.Sides.{Sides}
 use Rattle.tabled_config.specs.declared.spanned.SpannedConfig.{SpannedConfig}
 use Rattle.tabled_config.specs.Settings.{style_at}
-use Rattle.tabled_entity.specs.Changes.{value_at}
-use Rattle.tabled_size.specs.declared.added.Added.{Added}
-use Rattle.tabled_size.specs.declared.added.Added.TheVariants.{Alike, Listed, Set}
 use Rattle.tabled_size.specs.declared.added.Extent.{Extent}
 use Rattle.tabled_size.specs.declared.added.KnownAdded.{KnownAdded}
 use Rattle.tabled_size.specs.declared.added.KnownAdded.TheVariants as known
@@ -32,19 +29,9 @@ PassesRange extent = (2 ^ 64 ≤ extent.columns) ⊎ (2 ^ 64 ≤ extent.lines)
 abbrev pub nothing : Extent
 nothing = record { columns = 0; lines = 0 }
 
--- what is told of the text in a column
-abbrev pub added_in : Added → ℕ → Extent
-added_in (Alike extent) column = extent
-added_in (Listed extents) column = slice_index_or extents.now column nothing
-added_in (Set paddings) column = added_by (value_at paddings column)
-
--- of each text is told what was
-pub record SameAdded (old new : Added) : Type 0 where
-  pub at : (column : ℕ) → added_in new column ≡ added_in old column
-
 -- of each text in so many columns is told what its padding adds
-pub record TellsAdded (added : Added) (config : SpannedConfig) (row columns : ℕ) : Type 0 where
-  pub at : (column : ℕ) → column < columns → added_in added column ≡ added_at config row column
+pub record TellsAdded (told : ℕ → Extent) (config : SpannedConfig) (row columns : ℕ) : Type 0 where
+  pub at : (column : ℕ) → column < columns → told column ≡ added_at config row column
 
 -- what is known of the texts in so many columns
 abbrev pub known_of : KnownAdded → SpannedConfig → ℕ → Type 0

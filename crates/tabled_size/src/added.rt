@@ -1,8 +1,9 @@
 //! What padding adds to the texts of a row's cells.
 ghost use Rattle.std.specs.Prelude.{◌≡◌, ℕ, IfNone, IfSome, map};
-ghost use Rattle.std.specs.List.{range_with_len};
+ghost use Rattle.std.specs.List.{range_with_len, slice_index_or};
 ghost use Rattle.tabled_config.specs.Settings.{style_at};
-ghost use Rattle.tabled_size.specs.Added.{KnowsAdded, PassesRange, SameAdded, TellsAdded, added_at, added_by, added_in, nothing};
+ghost use Rattle.tabled_entity.specs.Changes.{value_at};
+ghost use Rattle.tabled_size.specs.Added.{KnowsAdded, PassesRange, added_at, added_by, nothing};
 
 use std::alloc::Global;
 use tabled_base::Position;
@@ -19,16 +20,23 @@ pub(crate) struct Extent {
     pub(crate) lines: usize,
 }
 
-/// What padding adds to the texts of a row.
-#[derive(Drop)]
-pub(crate) enum Added<'a> {
-    /// The same to all.
-    Alike(Extent),
-    /// To that in each column as it is listed.
-    Listed(&'a [Extent]),
-    /// To each as its padding was set.
-    Set(RowValues<'a, Sides<Indent>>),
+/// What tells what padding adds to the texts of a row's cells, from left to right.
+pub(crate) trait TellAdded {
+    ghost use Rattle.tabled_size.specs.declared.added.Extent.{Extent};
+
+    // What is told of the text in a column.
+    ghost told: { Self → ℕ → Extent };
+
+    /// What padding adds to the text in a column, if numbers can say it.
+    fn at(&mut self, column: usize) -> Option<Extent>
+        ensures some { IfSome result (λ extent. extent ≡ told self.old column) }
+        ensures none { IfNone result (PassesRange (told self.old column)) }
+        ensures same { (column : ℕ) → told self.new column ≡ told self.old column };
 }
+
+/// To the text in each column as it is listed, and nothing behind the listed columns.
+#[derive(Drop)]
+pub(crate) struct Listed<'a>(pub(crate) &'a [Extent]);
 
 /// What padding adds to the texts of a table, where that is known for more than one row.
 #[derive(Drop)]
@@ -78,25 +86,38 @@ fn listed_in(
     Some(extents)
 }
 
-impl<'a> Added<'a> {
-    /// What padding adds to the text in a column, if numbers can say it. Behind the listed columns that is nothing.
+/// The same to all texts.
+impl TellAdded for Extent {
+    ghost told = { λ extent column. extent };
+
     #[inline(always)]
-    pub(crate) fn at(&mut self, column: usize) -> Option<Extent>
-        ensures some { IfSome result (λ extent. extent ≡ added_in self.old column) }
-        ensures none { IfNone result (PassesRange (added_in self.old column)) }
-        ensures same { SameAdded self.old self.new }
-    {
-        match self {
-            Added::Alike(extent) => Some(*extent),
-            Added::Listed(extents) => match extents.get(column) {
-                Some(extent) => Some(*extent),
-                None => Some(Extent {
-                    columns: 0,
-                    lines: 0,
-                }),
-            },
-            Added::Set(paddings) => added_by(*paddings.at(column)),
+    fn at(&mut self, _column: usize) -> Option<Extent> {
+        Some(*self)
+    }
+}
+
+impl<'a> TellAdded for Listed<'a> {
+    ghost told = { λ listed column. slice_index_or listed.0.now column nothing };
+
+    #[inline(always)]
+    fn at(&mut self, column: usize) -> Option<Extent> {
+        match self.0.get(column) {
+            Some(extent) => Some(*extent),
+            None => Some(Extent {
+                columns: 0,
+                lines: 0,
+            }),
         }
+    }
+}
+
+/// To each text as its padding was set.
+impl<'a> TellAdded for RowValues<'a, Sides<Indent>> {
+    ghost told = { λ paddings column. added_by (value_at paddings column) };
+
+    #[inline(always)]
+    fn at(&mut self, column: usize) -> Option<Extent> {
+        added_by(*RowValues::at(self, column))
     }
 }
 
@@ -121,20 +142,6 @@ impl KnownAdded {
         match listed_in(alloc, config, rows, columns) {
             Some(extents) => KnownAdded::Listed(rows, extents),
             None => KnownAdded::Unknown,
-        }
-    }
-
-    /// What padding adds to the texts of a row, from left to right.
-    #[inline]
-    pub(crate) fn in_row<'a>(&'a self, config: &'a SpannedConfig, row: usize) -> Added<'a>
-        ensures { (columns : ℕ) → KnowsAdded self.now config.now columns → TellsAdded result config.now row columns }
-    {
-        match self {
-            KnownAdded::Alike(extent) => Added::Alike(*extent),
-            KnownAdded::Listed(reference, extents) if config.are_padded_alike(row, *reference) => {
-                Added::Listed(extents.as_slice())
-            }
-            _ => Added::Set(config.paddings_in(row)),
         }
     }
 }

@@ -3,10 +3,10 @@ ghost use Rattle.std.specs.Prelude.{◌≡◌, ◌⊎◌, ◌+◌, ◌<◌, ◌�
 ghost use Rattle.tabled_base.specs.Cells.{IsInside, columns};
 ghost use Rattle.tabled_base.specs.declared.error.TableError.TheVariants.{Memory, Range};
 ghost use Rattle.tabled_config.specs.Settings.{style_at};
-ghost use Rattle.tabled_size.specs.Added.{TellsAdded, added_at};
+ghost use Rattle.tabled_size.specs.Added.{KnowsAdded, TellsAdded, added_at};
 ghost use Rattle.tabled_size.specs.Estimates.{IsTooHigh, IsTooWide, estimated_heights, estimated_widths, needed_height, needed_width, raised, row_height};
 
-use crate::added::{Added, Extent, KnownAdded};
+use crate::added::{Extent, KnownAdded, Listed, TellAdded};
 use std::alloc::Global;
 use tabled_base::{PeekableRecords, Position, TableError};
 use tabled_config::{Indent, Sides, SpannedConfig};
@@ -172,16 +172,16 @@ fn needed<R: PeekableRecords>(
 /// Makes room for the cells of a row, and answers the lines that they need, if numbers can say both. What padding adds to their
 /// texts is told.
 #[inline]
-fn measure_row<R: PeekableRecords>(
+fn measure_row<R: PeekableRecords, A: TellAdded + Drop>(
     records: &R,
     config: &SpannedConfig,
     row: usize,
     widths: &mut [usize],
-    mut added: Added<'_>,
+    mut added: A,
 ) -> Option<usize>
     requires row_in { row < length (R.cells records.now) }
     requires columns { length widths.old ≡ columns (R.cells records.now) }
-    requires told { TellsAdded added config.now row (columns (R.cells records.now)) }
+    requires told { TellsAdded (A.told added) config.now row (columns (R.cells records.now)) }
     ensures widths { IfSome result (λ _. widths.new ≡ raised widths.old (R.cells records.now) config.now row) }
     ensures lines { IfSome result (λ n. n ≡ row_height (R.cells records.now) config.now row) }
     ensures none { IfNone result (IsTooWide (R.cells records.now) config.now ⊎ IsTooHigh (R.cells records.now) config.now) }
@@ -194,6 +194,32 @@ fn measure_row<R: PeekableRecords>(
         most = most.max(needs.lines);
     }
     Some(most)
+}
+
+/// Makes room for the cells of a row, and answers the lines that they need, if numbers can say both. What padding adds to their
+/// texts is known, or else asked for.
+#[inline]
+fn measure_known<R: PeekableRecords>(
+    records: &R,
+    config: &SpannedConfig,
+    row: usize,
+    widths: &mut [usize],
+    known: &KnownAdded,
+) -> Option<usize>
+    requires row_in { row < length (R.cells records.now) }
+    requires columns { length widths.old ≡ columns (R.cells records.now) }
+    requires known { KnowsAdded known.now config.now (columns (R.cells records.now)) }
+    ensures widths { IfSome result (λ _. widths.new ≡ raised widths.old (R.cells records.now) config.now row) }
+    ensures lines { IfSome result (λ n. n ≡ row_height (R.cells records.now) config.now row) }
+    ensures none { IfNone result (IsTooWide (R.cells records.now) config.now ⊎ IsTooHigh (R.cells records.now) config.now) }
+{
+    match known {
+        KnownAdded::Alike(extent) => measure_row(records, config, row, widths, *extent),
+        KnownAdded::Listed(reference, extents) if config.are_padded_alike(row, *reference) => {
+            measure_row(records, config, row, widths, Listed(extents.as_slice()))
+        }
+        _ => measure_row(records, config, row, widths, config.paddings_in(row)),
+    }
 }
 
 /// The estimated widths and heights, one row after another. Refused for memory, or `Range` where a
@@ -212,8 +238,7 @@ pub fn estimate_sizes<R: PeekableRecords>(
     let mut heights = Vec::with_capacity(alloc, records.count_rows())?;
     let known = KnownAdded::new(alloc, config, records.count_rows(), records.count_columns());
     'rows: for row in 0..records.count_rows() {
-        let added = known.in_row(config, row);
-        let Some(height) = measure_row(records, config, row, &mut widths, added) else {
+        let Some(height) = measure_known(records, config, row, &mut widths, &known) else {
             return Err(TableError::Range);
         };
         heights.push(height)?;

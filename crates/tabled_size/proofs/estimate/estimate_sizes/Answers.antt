@@ -18,10 +18,6 @@ rows-init g c =
       heights = search rules;
     }
 
-pub measure_row-requires-clause-told : goal.measure_row-requires-clause-told
-measure_row-requires-clause-told g c =
-    c.in_row-added.ensures (columns (g.R.ExactRecords.cells c.args.records.now)) c.rows.invariant.known
-
 pub rows-preserved : goal.rows-preserved
 rows-preserved g c =
     let cells = g.R.ExactRecords.cells c.args.records.now in
@@ -29,7 +25,7 @@ rows-preserved g c =
     record {
       known = c.rows.invariant.known;
       widths =
-          written_back _ _ _ (omega (arith, c.measure_row.auto.widths, c.deref_mut.ensures.len))
+          written_back _ _ _ (omega (arith, c.measure_known.auto.widths, c.deref_mut.ensures.len))
           ∙ c.in-Some.ensures.widths
           ∙ greatest_each (λ r k. needed_width cells c.args.config.now r k) c.deref_mut.result.now c.rows.row
           (columns cells) (c.deref_mut.ensures.value ∙ c.rows.invariant.widths);

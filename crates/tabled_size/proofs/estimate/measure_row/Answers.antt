@@ -14,7 +14,7 @@ columns-preserved g c =
     let f = needed_height cells c.args.config.now c.args.row in
     let e = greatest_more f c.columns.column in
     record {
-      told = record { at = λ k inside. c.at.ensures.same.at k ∙ c.columns.invariant.told.at k inside };
+      told = record { at = λ k inside. c.at.ensures.same k ∙ c.columns.invariant.told.at k inside };
       raised = raised-more c.args.widths.now c.columns.widths (needed_width cells c.args.config.now c.args.row) c.columns.column c.max.result
           (omega (arith, c.columns-test.true, c.requires.columns, c.columns.auto.widths, c.count_columns-column-end.ensures.columns)) c.columns.invariant.raised
           (c.columns.invariant.rest c.columns.column (omega arith)) (c.max.ensures ∙ ap (max (get_or c.columns.widths c.columns.column 0)) c.in_ok-needs.ensures.width);

@@ -8,7 +8,7 @@ use Rattle.tabled_size.proofs.estimate.measure_row.Given as goal
 
 abbrev pub invariant-columns : goal.invariant-columns
 invariant-columns g l = record {
-  told : TellsAdded l.added l.config l.row (columns (g.R.ExactRecords.cells l.records));
+  told : TellsAdded (g.A.TellAdded.told l.added) l.config l.row (columns (g.R.ExactRecords.cells l.records));
   raised : (c : ℕ) → c < l.column → slice_index l.widths c
       ≡ max (slice_index l.fn.widths c) (needed_width (g.R.ExactRecords.cells l.records) l.config l.row c);
   rest : (c : ℕ) → l.column ≤ c → slice_index l.widths c ≡ slice_index l.fn.widths c;
