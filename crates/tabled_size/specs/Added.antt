@@ -1,5 +1,5 @@
 -- What padding adds to the texts of a row.
-use Rattle.std.specs.Prelude.{◌≡◌, ℕ, ◌+◌, ◌<◌, ◌≤◌, ◌^◌, ◌⊎◌, map}
+use Rattle.std.specs.Prelude.{◌≡◌, ℕ, ◌+◌, ◌<◌, ◌≤◌, ◌^◌, ◌⊎◌, Some, None, map}
 use Rattle.std.specs.List.{range_with_len}
 use Rattle.tabled_border.specs.declared.sides.Indent.{Indent}
 use Rattle.tabled_border.specs.declared.sides.Sides.{Sides}
@@ -36,9 +36,9 @@ pub record TellsAdded (told : ℕ → Extent) (config : SpannedConfig) (row colu
 -- what is known of the texts in so many columns
 abbrev pub known_of : KnownAdded → SpannedConfig → ℕ → Type 0
 known_of (known.Alike extent) config columns = (row column : ℕ) → extent ≡ added_at config row column
-known_of (known.Listed reference extents) config columns =
-    extents.items ≡ map (added_at config reference) (range_with_len 0 columns)
-known_of known.Unknown config columns = Unit
+known_of (known.Unlike (Some listed)) config columns =
+    listed.extents.items ≡ map (added_at config listed.reference) (range_with_len 0 columns)
+known_of (known.Unlike None) config columns = Unit
 
 -- what is known of the texts in so many columns is what their padding adds
 pub record KnowsAdded (known : KnownAdded) (config : SpannedConfig) (columns : ℕ) : Type 0 where

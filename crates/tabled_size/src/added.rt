@@ -38,15 +38,21 @@ pub(crate) trait TellAdded {
 #[derive(Drop)]
 pub(crate) struct Listed<'a>(pub(crate) &'a [Extent]);
 
-/// What padding adds to the texts of a table, where that is known for more than one row.
+/// What padding adds in each column of a row, and so in each row that is padded like it.
+#[derive(Drop)]
+pub(crate) struct ListedRow {
+    pub(crate) reference: usize,
+    pub(crate) extents: Vec<Extent>,
+}
+
+/// What padding adds to the texts of a table, where that is known for more than one row. That it is the same to
+/// all is told by one test, so that a loop over rows is compiled for that case by itself.
 #[derive(Drop)]
 pub(crate) enum KnownAdded {
     /// The same to all.
     Alike(Extent),
-    /// As it is listed for the columns of one row, and so in each row that is padded like it.
-    Listed(usize, Vec<Extent>),
-    /// Nothing is known.
-    Unknown,
+    /// As it is listed for one row, or nothing is known.
+    Unlike(Option<ListedRow>),
 }
 
 /// What padding adds to a text, if numbers can say it.
@@ -137,11 +143,14 @@ impl KnownAdded {
         }
         // For the row behind the last hardly anything is set, so that most rows are padded like it.
         if rows < 2 || columns > MOST || !config.are_padded_alike(rows, rows) {
-            return KnownAdded::Unknown;
+            return KnownAdded::Unlike(None);
         }
         match listed_in(alloc, config, rows, columns) {
-            Some(extents) => KnownAdded::Listed(rows, extents),
-            None => KnownAdded::Unknown,
+            Some(extents) => KnownAdded::Unlike(Some(ListedRow {
+                reference: rows,
+                extents,
+            })),
+            None => KnownAdded::Unlike(None),
         }
     }
 }

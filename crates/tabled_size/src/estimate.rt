@@ -215,8 +215,14 @@ fn measure_known<R: PeekableRecords>(
 {
     match known {
         KnownAdded::Alike(extent) => measure_row(records, config, row, widths, *extent),
-        KnownAdded::Listed(reference, extents) if config.are_padded_alike(row, *reference) => {
-            measure_row(records, config, row, widths, Listed(extents.as_slice()))
+        KnownAdded::Unlike(Some(listed)) if config.are_padded_alike(row, listed.reference) => {
+            measure_row(
+                records,
+                config,
+                row,
+                widths,
+                Listed(listed.extents.as_slice()),
+            )
         }
         _ => measure_row(records, config, row, widths, config.paddings_in(row)),
     }

@@ -5,12 +5,14 @@ use Rattle.tabled_base.specs.Cells.{columns}
 use Rattle.tabled_size.specs.Added.{added_at, added_by, nothing}
 use Rattle.tabled_size.proofs.estimate.measure_known.Goals as goal
 
-pub measure_row-requires-in-Listed-clause-told : goal.measure_row-requires-in-Listed-clause-told
-measure_row-requires-in-Listed-clause-told g c = record {
+pub measure_row-requires-in-Unlike-Some-clause-told : goal.measure_row-requires-in-Unlike-Some-clause-told
+measure_row-requires-in-Unlike-Some-clause-told g c = record {
   at = λ column inside.
       let count = columns (g.R.ExactRecords.cells c.args.records.now) in
-      let listed = rw c.in-Listed.is at c.requires.known.is in
+      let known = rw c.in-Unlike-Some.is at c.requires.known.is in
+      let some = rw c.in-Unlike-Some.is at c.in-Unlike-Some.field-0-is in
+      let listed = rw some at known in
       ap (λ extents. slice_index_or extents column nothing) (c.as_slice.ensures.value ∙ listed)
-      ∙ get_or-map-range_with_len (added_at c.args.config.now c.in-Listed.reference) 0 count column column nothing inside (omega arith)
+      ∙ get_or-map-range_with_len (added_at c.args.config.now c.in-Unlike-Some.listed.reference) 0 count column column nothing inside (omega arith)
       ∙ ap added_by (sym (c.are_padded_alike.ensures c.if-are_padded_alike.true column));
 }
