@@ -1,5 +1,5 @@
 -- Texts that go out one after another, of which the spaces at the end are still to come.
-use Rattle.std.proofs.Common.{◌≡◌, ℕ, List, [], ◌++◌, Result, Ok, Err, sym, subst, ◌∙◌, ap, append-nil, append_assoc}
+use Rattle.std.proofs.Common.{◌≡◌, ℕ, List, [], ◌++◌, Result, Ok, Err, sym, ◌∙◌, ap, append-nil, append_assoc}
 use Rattle.std.specs.Result.{IsErrAnd}
 use Rattle.tabled_base.specs.declared.error.TableError.{TableError}
 use Rattle.tabled_row.specs.Fill.{fill}

@@ -1,4 +1,4 @@
-use Rattle.std.proofs.Common.{◌≡◌, ◌∙◌, sym, ap, subst, arith}
+use Rattle.std.proofs.Common.{◌≡◌, ap, arith}
 use Rattle.std.specs.List.{flat_map, range_with_len}
 use Rattle.tabled_row.specs.Row.{cell_piece}
 use Rattle.tabled_row.proofs.Sending.{finished, sends-none}

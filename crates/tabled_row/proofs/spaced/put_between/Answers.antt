@@ -1,5 +1,4 @@
-use Rattle.std.proofs.Common.{◌≡◌, ℕ, ◌+◌, ◌-◌, ◌++◌, [], zero, suc, ap, refl, sym, subst, ◌∙◌, arith}
-use Rattle.tabled_border.specs.Frame.{has_bar}
+use Rattle.std.proofs.Common.{◌++◌, ap, refl, sym, ◌∙◌, arith}
 use Rattle.tabled_row.specs.Fill.{fill}
 use Rattle.tabled_row.specs.Row.{piece}
 use Rattle.tabled_row.proofs.Bars.{bar-before, bar-first}

@@ -1,7 +1,6 @@
-use Rattle.std.proofs.Common.{◌≡◌, ◌++◌, ap, sym, refl, append_assoc, append-nil, ◌∙◌}
-use Rattle.tabled_border.specs.Frame.{has_bar}
+use Rattle.std.proofs.Common.{◌++◌, ap, sym, refl, append_assoc, append-nil, ◌∙◌}
 use Rattle.tabled_row.specs.Fill.{fill}
-use Rattle.tabled_row.specs.Row.{cell_piece, first_of_block, piece}
+use Rattle.tabled_row.specs.Row.{cell_piece}
 use Rattle.tabled_row.proofs.Owing.{but-stopped, owes-nothing}
 use Rattle.tabled_row.proofs.Sending.{further, sends-none}
 use Rattle.tabled_row.proofs.Placing.{spaced-parts}

@@ -1,4 +1,4 @@
-use Rattle.std.proofs.Common.{◌<◌, arith, sym}
+use Rattle.std.proofs.Common.{◌<◌, arith}
 use Rattle.tabled_row.specs.Row.{cell_piece}
 use Rattle.tabled_row.proofs.Each.{each-first, each-more, each-rest}
 use Rattle.tabled_row.proofs.Owing.{owes-finished, owes-further, owes-start, owes-stopped}

@@ -1,7 +1,6 @@
-use Rattle.std.proofs.Common.{◌≡◌, ◌-◌, ◌++◌, append_assoc, ap, ◌∙◌, sym, refl, arith}
+use Rattle.std.proofs.Common.{◌-◌, ◌++◌, append_assoc, ap, ◌∙◌, sym, refl, arith}
 use Rattle.tabled_row.specs.Fill.{fill}
 use Rattle.tabled_row.specs.Gap.{gap_text}
-use Rattle.tabled_row.specs.Row.{piece}
 use Rattle.tabled_row.proofs.Gaps.{gap-parts}
 use Rattle.tabled_row.proofs.Sending.{finished, further, stopped, stopped-first}
 use Rattle.tabled_row.proofs.gap.GapText.put.Goals as goal

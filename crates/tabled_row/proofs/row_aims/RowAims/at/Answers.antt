@@ -1,7 +1,6 @@
-use Rattle.std.proofs.Common.{◌≡◌, ℕ, ◌+◌, ◌<◌, [], List, length, get_or, ap, inl, inr, subst, sym, ◌∙◌, arith}
+use Rattle.std.proofs.Common.{length, get_or, ap, inl, inr, subst, sym, ◌∙◌, arith}
 use Rattle.std.proofs.lemmas.List.FromFn.{get_or-map-range_with_len}
 use Rattle.tabled_row.specs.Aims.{IsAimed, aim_of}
-use Rattle.tabled_row.specs.declared.aim.Aim.{Aim}
 use Rattle.tabled_row.proofs.row_aims.RowAims.at.Goals as goal
 
 pub returns-in-Some-clause-aim : goal.returns-in-Some-clause-aim
@@ -12,9 +11,9 @@ returns-in-Some-clause-aim c = λ row tells within width.
     elim tells.kept [
       | inl none ↦ absurd (omega (arith, lookup.3.0, ap length none))
       | inr aims ↦ (
-            lookup.1 ∙ ap (λ l. get_or l column c.in-Some.aim.now) aims.listed
-                ∙ get_or-map-range_with_len (λ k. aim_of (row.style k) (row.columns.width k)) 0 row.columns.count column column c.in-Some.aim.now within (omega arith)
-                ∙ ap (aim_of (row.style column)) (sym width),
-            subst (IsAimed (row.style column)) (sym width) (aims.aimed column within),
-          )
+        lookup.1 ∙ ap (λ l. get_or l column c.in-Some.aim.now) aims.listed
+            ∙ get_or-map-range_with_len (λ k. aim_of (row.style k) (row.columns.width k)) 0 row.columns.count column column c.in-Some.aim.now within (omega arith)
+            ∙ ap (aim_of (row.style column)) (sym width),
+        subst (IsAimed (row.style column)) (sym width) (aims.aimed column within),
+      )
     ]

@@ -1,8 +1,7 @@
-use Rattle.std.proofs.Common.{◌≡◌, ◌+◌, ◌-◌, ◌≤◌, ◌++◌, Some, ap, refl, sym, subst, ◌∙◌, arith}
+use Rattle.std.proofs.Common.{◌≡◌, ◌+◌, ◌-◌, ◌++◌, ap, sym, ◌∙◌, arith}
 use Rattle.tabled_text.specs.Measure.{line_columns, text_columns}
 use Rattle.tabled_row.specs.Block.{before_text, first_line, text_room}
 use Rattle.tabled_row.specs.Fill.{fill}
-use Rattle.tabled_row.specs.Row.{first_of_block}
 use Rattle.tabled_row.proofs.Spacing.{before-within, first-spaced, free_of, left_of, right_of}
 use Rattle.tabled_row.proofs.row_aims.RowAims.place.Goals as goal
 
