@@ -6,6 +6,7 @@ use Rattle.tabled_config.specs.declared.spanned.CellStyle.{CellStyle}
 use Rattle.tabled_row.specs.Block.{text_room}
 use Rattle.tabled_row.specs.Row.{RowSheet}
 use Rattle.tabled_row.specs.declared.aim.Aim.{Aim}
+use Rattle.tabled_row.specs.declared.aim.Spread.{Spread}
 use Rattle.tabled_row.specs.declared.row_aims.RowAims.{RowAims}
 
 -- texts stand between spaces, with no line above them
@@ -18,6 +19,15 @@ pub record IsSpaced (style : CellStyle) : Type 0 where
 abbrev pub aim_of : CellStyle → ℕ → Aim
 aim_of style width = record { before = style.padding.left.size; room = text_room style width; horizontal = style.horizontal }
 
+-- how texts under a style stand in columns of any width: behind so much padding, with so much on both sides
+abbrev pub spread_of : CellStyle → Spread
+spread_of style =
+    record {
+      before = style.padding.left.size;
+      sides = style.padding.left.size + style.padding.right.size;
+      horizontal = style.horizontal;
+    }
+
 -- it stands between spaces, and its padding fits
 pub record IsAimed (style : CellStyle) (width : ℕ) : Type 0 where
   pub spaced : IsSpaced style
@@ -28,7 +38,13 @@ pub record AreAims (style : ℕ → CellStyle) (width : ℕ → ℕ) (count : �
   pub listed : aims ≡ map (λ column. aim_of (style column) (width column)) (range_with_len 0 count)
   pub aimed : (column : ℕ) → column < count → IsAimed (style column) (width column)
 
--- what is told of the texts of a row is right: what is kept, if it is, and their styles
+-- a style is one of texts between spaces, and how these stand is told
+pub record IsSpread (style : CellStyle) (spread : Spread) : Type 0 where
+  pub spaced : IsSpaced style
+  pub spread_is : spread ≡ spread_of style
+
+-- what is told of the texts of a row is right: what is kept, if it is, how all stand, if they stand alike, and their styles
 pub record TellsAims (aims : RowAims) (row : RowSheet) : Type 0 where
   pub kept : (aims.kept.now ≡ []) ⊎ AreAims row.style row.columns.width row.columns.count aims.kept.now
+  pub alike : IfSome aims.alike (λ spread. (column : ℕ) → column < row.columns.count → IsSpread (row.style column) spread)
   pub styles : IfSome aims.styles (λ styles. (column : ℕ) → column < row.columns.count → style_in styles column ≡ row.style column)

@@ -1,6 +1,7 @@
 //! Where the texts of a column stand in rows of one line.
 ghost use Rattle.std.specs.Prelude.{◌≡◌, IfSome, true};
-ghost use Rattle.tabled_row.specs.Aims.{IsAimed, IsSpaced, aim_of};
+ghost use Rattle.tabled_config.specs.declared.spanned.CellStyle.{CellStyle};
+ghost use Rattle.tabled_row.specs.Aims.{IsAimed, IsSpaced, aim_of, spread_of};
 
 use tabled_config::{AlignmentHorizontal, CellStyle};
 
@@ -23,22 +24,52 @@ fn is_spaced(style: &CellStyle) -> bool
     style.padding.left.fill == ' ' && style.padding.right.fill == ' ' && style.padding.top.size == 0
 }
 
+/// How texts under a style stand between spaces in columns of any width.
+#[derive(Clone, Copy)]
+pub(crate) struct Spread {
+    before: usize,
+    // The columns of padding on both sides.
+    sides: usize,
+    horizontal: AlignmentHorizontal,
+}
+
+impl Spread {
+    /// How texts under a style stand, if they stand between spaces, and a number can say the columns of their padding.
+    #[inline(always)]
+    pub fn new(style: &CellStyle) -> Option<Spread>
+        ensures { IfSome result (λ spread. (spread ≡ spread_of style.now) × IsSpaced style.now) }
+    {
+        if !is_spaced(style) {
+            return None;
+        }
+        let padding = style.padding;
+        Some(Spread {
+            before: padding.left.size,
+            sides: padding.left.size.checked_add(padding.right.size)?,
+            horizontal: style.horizontal,
+        })
+    }
+
+    /// Where such a text stands in a column of some width, if its padding fits.
+    #[inline(always)]
+    pub fn aim(self, width: usize) -> Option<Aim>
+        ensures { (style : CellStyle) → self ≡ spread_of style → IsSpaced style
+            → IfSome result (λ aim. (aim ≡ aim_of style width) × IsAimed style width) }
+    {
+        Some(Aim {
+            before: self.before,
+            room: width.checked_sub(self.sides)?,
+            horizontal: self.horizontal,
+        })
+    }
+}
+
 impl Aim {
     /// Where a text under a style stands in a column of some width, if it stands between spaces, and its padding fits.
     #[inline(always)]
     pub fn new(style: &CellStyle, width: usize) -> Option<Aim>
         ensures { IfSome result (λ aim. (aim ≡ aim_of style.now width) × IsAimed style.now width) }
     {
-        if !is_spaced(style) {
-            return None;
-        }
-        let room = width
-            .checked_sub(style.padding.left.size)?
-            .checked_sub(style.padding.right.size)?;
-        Some(Aim {
-            before: style.padding.left.size,
-            room,
-            horizontal: style.horizontal,
-        })
+        Spread::new(style)?.aim(width)
     }
 }

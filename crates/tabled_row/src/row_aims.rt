@@ -1,10 +1,11 @@
 //! Where the texts of a row of one line stand, from left to right.
-ghost use Rattle.std.specs.Prelude.{◌≡◌, ◌<◌, IfSome};
-ghost use Rattle.tabled_row.specs.Aims.{IsAimed, TellsAims, aim_of};
+ghost use Rattle.std.specs.Prelude.{◌≡◌, ◌<◌, ℕ, IfSome};
+ghost use Rattle.tabled_config.specs.RowStyles.{style_in};
+ghost use Rattle.tabled_row.specs.Aims.{IsAimed, IsSpread, TellsAims, aim_of};
 ghost use Rattle.tabled_row.specs.Row.{RowSheet};
 ghost use Rattle.tabled_row.specs.Spaced.{IsPlaced};
 
-use crate::aim::Aim;
+use crate::aim::{Aim, Spread};
 use crate::block::before_text;
 use crate::row::Row;
 use tabled_config::{CellStyle, RowStyles};
@@ -22,18 +23,34 @@ pub struct Placed<'a> {
     pub behind: usize,
 }
 
+/// How all texts of a row stand, if they stand alike, and between spaces.
+fn alike(styles: &RowStyles<'_>) -> Option<Spread>
+    ensures { IfSome result (λ spread. (column : ℕ) → IsSpread (style_in styles.now column) spread) }
+{
+    match styles {
+        RowStyles::Alike(style) => Spread::new(style),
+        _ => None,
+    }
+}
+
 /// Where the texts of a row stand: as it is kept for rows set alike, and else as the style of each one says.
 pub struct RowAims<'a> {
     // Nothing, if it isn't kept.
     kept: &'a [Aim],
-    // Nothing, if it is.
+    // How all texts stand, if they are known to stand alike.
+    alike: Option<Spread>,
+    // Nothing, if it is kept where the texts stand.
     styles: Option<RowStyles<'a>>,
 }
 
 /// One call lets them go, so that whoever lets them go needn't prove it of each part.
 impl<'a> Drop for RowAims<'a> {
     fn drop(self) {
-        let RowAims { kept: _, styles: _ } = self;
+        let RowAims {
+            kept: _,
+            alike: _,
+            styles: _,
+        } = self;
     }
 }
 
@@ -42,12 +59,18 @@ impl<'a> RowAims<'a> {
     pub fn of<'c, R: Row<'c>>(row: &'a R) -> RowAims<'a>
         ensures { TellsAims result (R.sheet row.now) }
     {
-        match row.aims() {
-            Some(kept) => RowAims { kept, styles: None },
-            None => RowAims {
-                kept: &[],
-                styles: Some(row.styles()),
-            },
+        if let Some(kept) = row.aims() {
+            return RowAims {
+                kept,
+                alike: None,
+                styles: None,
+            };
+        }
+        let styles = row.styles();
+        RowAims {
+            kept: &[],
+            alike: alike(&styles),
+            styles: Some(styles),
         }
     }
 
@@ -60,6 +83,9 @@ impl<'a> RowAims<'a> {
     {
         if let Some(aim) = self.kept.get(column) {
             return Some(*aim);
+        }
+        if let Some(spread) = self.alike {
+            return spread.aim(width);
         }
         match &mut self.styles {
             Some(styles) => Aim::new(&styles.at(column), width),
