@@ -1,27 +1,30 @@
 #!/usr/bin/env python3
-"""Times the printing of tables whose cells have settings of their own, of long cells, and with stored sizes.
+"""Times the printing of tables with settings of their columns, rows or cells, of long cells, and with stored sizes.
 
-usage: settings.py [FOLDER]
+usage: settings.py [--instructions] [FOLDER]
 
 A small program is written into FOLDER (else a temporary folder) beside copies of the crates, built with
-`rt run`, and run. Printed are medians of its rounds: the time a printed byte, which may grow with no more
+`rt run`, and run. Printed are the medians and the shortest of its rounds: the time a printed byte, which may grow with no more
 than the logarithm of the settings, and the time a row of the table or a line of long cells, which stays the
 same where printing is linear; then the time that a setting took. Tables are printed into a text that has
 room from the second round on.
 
-Tables of words have 100 columns. In those of columns each column was aligned, in those of alignments and paddings
-each cell was set by itself; in the stored ones the estimated sizes were stored. Long cells are of 5 to 15 columns; 1, 60
-or 100 of them make a row.
+Tables of words have 100 columns. An alignment or a padding was set for each column, for each row or for each cell by itself; in the
+stored ones the estimated sizes were stored. Long cells are of 5 to 15 columns; 1, 60 or 100 of them make a row.
+
+With --instructions the program runs under valgrind and prints tables of 1,000 rows; told are the instructions a cell.
 """
 
 import collections
 import statistics
 import subprocess
+import sys
 
 import building
 
-# Of the tables of words; the program has the same number.
+# Of the tables of words, and what is set in them; the program has the same.
 COLUMNS = 100
+KINDS = ("nothing", "aligned,columns", "padded,columns", "aligned,rows", "padded,rows", "aligned,cells", "padded,cells")
 
 # The crates that the program names.
 USED = ("tabled_grid", "tabled_size", "tabled_config", "tabled_border", "tabled_base")
@@ -32,6 +35,7 @@ PROGRAM = """\
 ghost use Rattle.std.specs.Prelude.{◌≡◌, IfOk, vec_len};
 
 use std::alloc::{AllocError, Global};
+use std::env;
 use std::time::Instant;
 use tabled_base::{Builder, Entity, TableError, Text, VecRecords};
 use tabled_config::{AlignmentHorizontal, Indent, Sides, SpannedConfig, Style};
@@ -39,6 +43,18 @@ use tabled_grid::print_standing;
 use tabled_size::{CompleteDimension, Estimate};
 
 const ROUNDS: usize = 15;
+
+const COLUMNS: usize = 100;
+
+const KINDS: [&str; 7] = [
+    "nothing",
+    "aligned,columns",
+    "padded,columns",
+    "aligned,rows",
+    "padded,rows",
+    "aligned,cells",
+    "padded,cells",
+];
 
 const WORDS: [&str; 5] = ["amber", "cedar", "fjord and inlet", "oasis", "a weir"];
 
@@ -107,12 +123,42 @@ fn align_cells(config: &mut SpannedConfig, rows: usize, columns: usize) -> Resul
     Ok(())
 }
 
-fn align_columns(config: &mut SpannedConfig, columns: usize) -> Result<(), TableError> {
+fn set_columns(config: &mut SpannedConfig, columns: usize, padded: bool) -> Result<(), TableError> {
     for column in 0..columns {
         let place = Entity::Column(column);
-        config.set_alignment_horizontal(place, AlignmentHorizontal::Right)?;
+        if padded {
+            config.set_padding(place, spaced(1 + column % 2))?;
+        } else {
+            config.set_alignment_horizontal(place, AlignmentHorizontal::Right)?;
+        }
     }
     Ok(())
+}
+
+fn set_rows(config: &mut SpannedConfig, rows: usize, padded: bool) -> Result<(), TableError> {
+    for row in 0..rows {
+        let place = Entity::Row(row);
+        if padded {
+            config.set_padding(place, spaced(1 + row % 2))?;
+        } else {
+            config.set_alignment_horizontal(place, AlignmentHorizontal::Right)?;
+        }
+    }
+    Ok(())
+}
+
+fn configured(alloc: Global, kind: &str, rows: usize) -> Result<SpannedConfig, TableError> {
+    let mut config = settings(alloc)?;
+    match kind {
+        "aligned,columns" => set_columns(&mut config, COLUMNS, false)?,
+        "padded,columns" => set_columns(&mut config, COLUMNS, true)?,
+        "aligned,rows" => set_rows(&mut config, rows, false)?,
+        "padded,rows" => set_rows(&mut config, rows, true)?,
+        "aligned,cells" => align_cells(&mut config, rows, COLUMNS)?,
+        "padded,cells" => pad_cells(&mut config, rows, COLUMNS)?,
+        _ => {}
+    }
+    Ok(config)
 }
 
 fn time(
@@ -122,9 +168,10 @@ fn time(
     config: &SpannedConfig,
     sizes: &CompleteDimension,
     units: usize,
+    rounds: usize,
 ) -> Result<(), anyhow::Error> {
     let mut text = String::new(rt.alloc());
-    for _round in 0..ROUNDS {
+    for _round in 0..rounds {
         text.clear();
         let start = Instant::now(rt)?;
         print_standing(&mut text, cells, config, sizes)?;
@@ -144,31 +191,41 @@ fn measure(
     units: usize,
 ) -> Result<(), anyhow::Error> {
     let mut sizes = CompleteDimension::new(rt.alloc());
-    time(rt, name, cells, config, &sizes, units)?;
+    time(rt, name, cells, config, &sizes, units, ROUNDS)?;
     sizes.estimate(cells, config)?;
     println!(rt; "stored 0 0 0")?;
-    time(rt, name, cells, config, &sizes, units)?;
+    time(rt, name, cells, config, &sizes, units, ROUNDS)?;
     println!(rt; "estimated 0 0 0")?;
     Ok(())
 }
 
-fn measure_words(rt: &HostRuntime, rows: usize, columns: usize) -> Result<(), anyhow::Error> {
+fn measure_words(rt: &HostRuntime, rows: usize) -> Result<(), anyhow::Error> {
     let alloc = rt.alloc();
-    let row = words(alloc, columns)?;
+    let row = words(alloc, COLUMNS)?;
     let cells = cells_of(alloc, &row, rows)?;
-    let mut config = settings(alloc)?;
-    measure(rt, "nothing", &cells, &config, rows)?;
-    align_columns(&mut config, columns)?;
-    measure(rt, "columns", &cells, &config, rows)?;
-    let mut config = settings(alloc)?;
-    align_cells(&mut config, rows, columns)?;
-    measure(rt, "alignments", &cells, &config, rows)?;
-    let mut config = settings(alloc)?;
-    let start = Instant::now(rt)?;
-    pad_cells(&mut config, rows, columns)?;
-    let time = start.elapsed(rt)?.as_nanos();
-    println!(rt; "setting {rows} 0 {time}")?;
-    measure(rt, "paddings", &cells, &config, rows)
+    for kind in KINDS {
+        let start = Instant::now(rt)?;
+        let config = configured(alloc, kind, rows)?;
+        let time = start.elapsed(rt)?.as_nanos();
+        if kind == "padded,cells" {
+            println!(rt; "setting {rows} 0 {time}")?;
+        }
+        measure(rt, kind, &cells, &config, rows)?;
+    }
+    Ok(())
+}
+
+/// So many rounds of a table of 1,000 rows.
+fn print_kind(rt: &HostRuntime, kind: &str, stored: bool, rounds: usize) -> Result<(), anyhow::Error> {
+    let alloc = rt.alloc();
+    let row = words(alloc, COLUMNS)?;
+    let cells = cells_of(alloc, &row, 1000)?;
+    let config = configured(alloc, kind, 1000)?;
+    let mut sizes = CompleteDimension::new(alloc);
+    if stored {
+        sizes.estimate(&cells, &config)?;
+    }
+    time(rt, kind, &cells, &config, &sizes, 1000, rounds)
 }
 
 fn long_text(alloc: Global, lines: usize) -> Result<String, AllocError> {
@@ -189,29 +246,36 @@ fn measure_long(rt: &HostRuntime, name: &str, lines: usize, columns: usize) -> R
     let cells = cells_of(alloc, &row, 1)?;
     let config = settings(alloc)?;
     let none = CompleteDimension::new(alloc);
-    time(rt, name, &cells, &config, &none, lines)
+    time(rt, name, &cells, &config, &none, lines, ROUNDS)
+}
+
+fn measure_all(rt: &HostRuntime) -> Result<(), anyhow::Error> {
+    for rows in [100, 300, 1000, 3000] {
+        measure_words(rt, rows)?;
+    }
+    for lines in [1000, 10_000, 100_000, 300_000] {
+        measure_long(rt, "1,long", lines, 1)?;
+    }
+    for lines in [100, 300, 1000, 3000] {
+        measure_long(rt, "60,long", lines, 60)?;
+        measure_long(rt, "100,long", lines, 100)?;
+    }
+    Ok(())
 }
 
 fn main(rt: HostRuntime) -> Result<(), anyhow::Error> {
-    for rows in [100, 300, 1000, 3000] {
-        measure_words(&rt, rows, 100)?;
-    }
-    for lines in [1000, 10_000, 100_000, 300_000] {
-        measure_long(&rt, "1,long", lines, 1)?;
-    }
-    for lines in [100, 300, 1000, 3000] {
-        measure_long(&rt, "60,long", lines, 60)?;
-        measure_long(&rt, "100,long", lines, 100)?;
-    }
-    Ok(())
+    let mut words = env::args(&rt)?.skip(1);
+    let (Some(kind), Some(sizes), Some(rounds)) = (words.next(), words.next(), words.next()) else {
+        return measure_all(&rt);
+    };
+    let rounds = rounds.as_str().parse().unwrap_or(1);
+    print_kind(&rt, kind.as_str(), sizes.as_str() == "stored", rounds)
 }
 """
 
 
-def main():
-    crates = building.standing_on("tabled_grid")
-    with building.program(__doc__, "setting_times", crates, {"src/main.rt": PROGRAM}, USED) as program:
-        run = subprocess.run([program], stdin=subprocess.DEVNULL, capture_output=True, check=True)
+def tell_times(program):
+    run = subprocess.run([program], stdin=subprocess.DEVNULL, capture_output=True, check=True)
     found = collections.defaultdict(list)
     stored = ""
     for row in run.stdout.decode().splitlines():
@@ -220,13 +284,44 @@ def main():
             stored = ",stored" if name == "stored" else ""
         else:
             found[name + stored, int(rows), int(size)].append(int(time))
-    print(f"{'table':16} {'rows or lines':>13} {'bytes':>10} {'ms':>8} {'ns a byte':>9} {'us a line':>9}")
+    print(f"{'table':23} {'rows or lines':>13} {'bytes':>10} {'ms':>8} {'shortest':>8} {'ns a byte':>9} {'us a line':>9}")
     for (name, rows, size), times in sorted(found.items()):
         time = statistics.median(times)
         if name == "setting":
-            print(f"{name:16} {rows:13,} {'':10} {time / 1e6:8.2f} {time / rows / COLUMNS:9.1f} ns a setting")
+            print(f"{name:23} {rows:13,} {'':10} {time / 1e6:8.2f} {'':8} {time / rows / COLUMNS:9.1f} ns a setting")
         else:
-            print(f"{name:16} {rows:13,} {size:10,} {time / 1e6:8.2f} {time / size:9.2f} {time / rows / 1000:9.3f}")
+            least = min(times)
+            print(f"{name:23} {rows:13,} {size:10,} {time / 1e6:8.2f} {least / 1e6:8.2f} {time / size:9.2f} {time / rows / 1000:9.3f}")
+
+
+def instructions(program, kind, sizes, rounds):
+    run = subprocess.run(
+        ["valgrind", "--tool=callgrind", "--callgrind-out-file=/dev/null", program, kind, sizes, str(rounds)],
+        stdin=subprocess.DEVNULL,
+        capture_output=True,
+        text=True,
+        check=True,
+    )
+    (told,) = (line for line in run.stderr.splitlines() if "Collected" in line)
+    return int(told.split()[-1])
+
+
+def tell_instructions(program):
+    for sizes in ("estimated", "stored"):
+        for kind in KINDS:
+            more = instructions(program, kind, sizes, 4) - instructions(program, kind, sizes, 2)
+            print(f"{kind:15} {sizes:9} {more / 2 / 1000 / COLUMNS:7.1f} instructions a cell")
+
+
+def main():
+    counts = "--instructions" in sys.argv
+    sys.argv = [word for word in sys.argv if word != "--instructions"]
+    crates = building.standing_on("tabled_grid")
+    with building.program(__doc__, "setting_times", crates, {"src/main.rt": PROGRAM}, USED) as program:
+        if counts:
+            tell_instructions(program)
+        else:
+            tell_times(program)
 
 
 main()
