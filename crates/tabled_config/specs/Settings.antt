@@ -1,10 +1,14 @@
 -- What a configuration says of each place. The layers above read it by these words alone.
-use Rattle.std.specs.Prelude.{ℕ, Option, Some, None}
+use Rattle.std.specs.Prelude.{ℕ, Bool, Option, Some, None}
 use Rattle.tabled_border.specs.declared.borders.HorizontalLine.{HorizontalLine}
+use Rattle.tabled_config.specs.declared.alignment.AlignmentHorizontal.{AlignmentHorizontal}
+use Rattle.tabled_config.specs.declared.alignment.AlignmentVertical.{AlignmentVertical}
 use Rattle.tabled_border.specs.declared.frame.Frame.{Frame}
+use Rattle.tabled_border.specs.declared.sides.Indent.{Indent}
+use Rattle.tabled_border.specs.declared.sides.Sides.{Sides}
 use Rattle.tabled_config.specs.declared.spanned.CellStyle.{CellStyle}
 use Rattle.tabled_config.specs.declared.spanned.SpannedConfig.{SpannedConfig}
-use Rattle.tabled_entity.specs.Changes.{setting_at}
+use Rattle.tabled_entity.specs.Changes.{setting_at, shared}
 use Rattle.tabled_border.specs.Frame.{border_at, frame_of}
 use Rattle.tabled_border.specs.Lines.{line_set}
 
@@ -17,6 +21,17 @@ style_at config row column =
       vertical = setting_at config.alignment_vertical row column;
       line_alignment = setting_at config.line_alignment row column;
     }
+
+-- a style, where each of its parts is known
+abbrev pub style_if : Option (Sides Indent) → Option AlignmentHorizontal → Option AlignmentVertical → Option Bool → Option CellStyle
+style_if (Some padding) (Some horizontal) (Some vertical) (Some line_alignment) =
+    Some (record { padding = padding; horizontal = horizontal; vertical = vertical; line_alignment = line_alignment })
+style_if _ _ _ _ = None
+
+-- how the texts of all cells stand, where nothing of it was set for a part of the table
+unfoldable pub shared_style : SpannedConfig → Option CellStyle
+shared_style config =
+    style_if (shared config.padding) (shared config.alignment_horizontal) (shared config.alignment_vertical) (shared config.line_alignment)
 
 -- a line set by its index, and else that of the borders
 abbrev pub in_place_of : Option HorizontalLine → Option HorizontalLine → Option HorizontalLine

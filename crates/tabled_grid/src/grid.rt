@@ -7,7 +7,7 @@ ghost use Rattle.tabled_config.specs.RowStyles.{style_in};
 ghost use Rattle.tabled_config.specs.Settings.{frame, rule_at, style_at};
 ghost use Rattle.tabled_grid.specs.ColumnStyles.{AreStyles};
 ghost use Rattle.tabled_grid.specs.Grid.{sheet_by};
-ghost use Rattle.tabled_row.specs.Aims.{AreAims};
+ghost use Rattle.tabled_row.specs.Aims.{AreAims, IsSpread};
 ghost use Rattle.tabled_size.specs.Holds.{IsSized};
 ghost use Rattle.tabled_size.specs.Reached.{reached};
 ghost use Rattle.tabled_size.specs.Sheet.{Sheet};
@@ -17,7 +17,7 @@ use std::alloc::Global;
 use std::marker::Model;
 use tabled_base::{PeekableRecords, Position};
 use tabled_config::{CellStyle, Frame, HorizontalLine, RowStyles, SpannedConfig};
-use tabled_row::{Aim, CellBlock, Content, Gap};
+use tabled_row::{Aim, CellBlock, Content, Gap, Spread};
 use tabled_size::Dimension;
 
 /// Records, how they are set, and their sizes. Contracts see the sheet that they make.
@@ -36,6 +36,8 @@ pub(crate) struct Grid<'a, R: PeekableRecords, D: Dimension> {
     between: Option<HorizontalLine>,
     // What stands between the texts of two columns.
     gap: Gap,
+    // How all texts stand between spaces, if they stand alike.
+    spread: Option<Spread>,
     by_column: Option<ColumnStyles>,
 }
 
@@ -46,9 +48,18 @@ impl<'a, R: PeekableRecords, D: Dimension> Model for Grid<'a, R, D> {
 
     ghost invariant = { λ g. (g.around ≡ frame g.config.now)
         × (g.gap.bar ≡ (frame g.config.now).inner)
+        × IfSome g.spread (λ spread. (row column : ℕ) → IsSpread (style_at g.config.now row column) spread)
         × IfSome g.by_column (AreStyles g.config.now (slice_index (reached (D.width_at g.dimension.now) (columns (R.cells g.records.now))))
         (columns (R.cells g.records.now)))
         × (g.between ≡ if_any (inner_line g.config.now.borders)) };
+}
+
+/// How all texts stand between spaces, if nothing was set for a part of the table.
+fn spread_of_all(config: &SpannedConfig) -> Option<Spread>
+    ensures { IfSome result (λ spread. (row column : ℕ) → IsSpread (style_at config.now row column) spread) }
+{
+    let style = config.shared_style()?;
+    Spread::new(&style)
 }
 
 impl<'a, R: PeekableRecords, D: Dimension> Grid<'a, R, D> {
@@ -63,13 +74,17 @@ impl<'a, R: PeekableRecords, D: Dimension> Grid<'a, R, D> {
     {
         let around = config.frame();
         let between = config.borders.line_at(2, 1);
-        let by_column = ColumnStyles::if_kept(
-            memory,
-            config,
-            dimension,
-            records.count_rows(),
-            records.count_columns(),
-        );
+        let spread = spread_of_all(config);
+        let by_column = match &spread {
+            Some(_) => None,
+            None => ColumnStyles::if_kept(
+                memory,
+                config,
+                dimension,
+                records.count_rows(),
+                records.count_columns(),
+            ),
+        };
         Grid {
             records,
             config,
@@ -78,6 +93,7 @@ impl<'a, R: PeekableRecords, D: Dimension> Grid<'a, R, D> {
             around,
             between,
             gap: Gap::new(around.inner),
+            spread,
             by_column,
         }
     }
@@ -94,6 +110,13 @@ impl<'a, R: PeekableRecords, D: Dimension> Grid<'a, R, D> {
         ensures { result.now.bar ≡ (frame self.now.config).inner }
     {
         &self.gap
+    }
+
+    /// How all texts stand between spaces, if it is known that they stand alike, and so.
+    pub fn spread(&self) -> Option<Spread>
+        ensures { IfSome result (λ spread. (row column : ℕ) → IsSpread (style_at self.now.config row column) spread) }
+    {
+        self.spread
     }
 
     /// How the texts of a row stand, from left to right.

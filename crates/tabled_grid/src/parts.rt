@@ -6,7 +6,7 @@ ghost use Rattle.tabled_size.specs.Holds.{IsSized};
 use crate::grid::Grid;
 use tabled_base::{PeekableRecords, Position};
 use tabled_config::{CellStyle, Frame, RowStyles};
-use tabled_row::{Aim, CellBlock, Columns, Content, Gap, Row};
+use tabled_row::{Aim, CellBlock, Columns, Content, Gap, Row, Spread};
 use tabled_size::Dimension;
 
 /// The columns of a table whose sizes are there.
@@ -61,6 +61,10 @@ impl<'a, R: PeekableRecords, D: Dimension> Row<'a> for GridRow<'a, R, D> {
 
     fn gap(&self) -> &Gap {
         self.grid.gap()
+    }
+
+    fn spread(&self) -> Option<Spread> {
+        self.grid.spread()
     }
 
     fn styles(&self) -> RowStyles<'_> {

@@ -6,7 +6,7 @@ ghost use Rattle.tabled_lines.specs.Laid.{blank_line, blank_row, first_place};
 ghost use Rattle.tabled_lines.specs.Spots.{AreSpots};
 ghost use Rattle.tabled_row.specs.Row.{row_line, row_lines};
 
-use crate::laid_texts::lay_texts;
+use crate::laid_texts::lay_all;
 use crate::spots::{Spot, put_spots};
 use std::alloc::Global;
 use tabled_base::TableError;
@@ -68,7 +68,7 @@ fn lay_led<'a, R: Row<'a>>(led: &mut [u8], spots: &[Spot], row: &R) -> bool
     ensures laid { result ≡ true → led.new ≡ 10 ∷ row_line (R.sheet row.now) 0 }
     ensures utf8 { IsUtf8 led.old → IsUtf8 led.new }
 {
-    lay_texts(&mut led[1..], spots, row)
+    lay_all(&mut led[1..], spots, row)
 }
 
 /// A blank row over some columns, which is laid out once, and the row that was laid over it, both behind a line feed.

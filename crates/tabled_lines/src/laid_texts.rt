@@ -6,7 +6,7 @@ ghost use Rattle.tabled_row.specs.Fill.{fill};
 ghost use Rattle.tabled_row.specs.Row.{row_line};
 
 use crate::spots::Spot;
-use tabled_row::{Placed, Row, RowAims};
+use tabled_row::{KeptAims, Placed, Row, TellAims, place};
 
 /// Copies a text over some bytes of its length.
 #[inline(always)]
@@ -36,18 +36,24 @@ fn lay_text(line: &mut [u8], spot: Spot, placed: &Placed<'_>) -> bool
     true
 }
 
-/// Lays the texts of a row of one line over a blank row. Answers whether all could be laid: only texts that stand between spaces are.
-pub(crate) fn lay_texts<'a, R: Row<'a>>(line: &mut [u8], spots: &[Spot], row: &R) -> bool
+/// Lays the texts of a row of one line over a blank row, of which it is told where they stand. Answers whether all could be laid: only texts that stand
+/// between spaces are.
+fn lay_texts<'a, R: Row<'a>, A: TellAims + Drop>(
+    line: &mut [u8],
+    spots: &[Spot],
+    row: &R,
+    mut aims: A,
+) -> bool
     requires height { (R.sheet row.now).height ≡ 1 }
     requires blank { line.old ≡ blank_row (R.sheet row.now).columns }
     requires spots { AreSpots (R.sheet row.now).columns spots.now }
+    requires tells { A.tells aims (R.sheet row.now) }
     ensures laid { result ≡ true → line.new ≡ row_line (R.sheet row.now) 0 }
     ensures utf8 { IsUtf8 line.old → IsUtf8 line.new }
 {
-    let mut aims = RowAims::of(row);
     'texts: for column in 0..spots.len() {
         let spot = spots[column];
-        let Some(placed) = aims.place(row, column, spot.width) else {
+        let Some(placed) = place(row, &mut aims, column, spot.width) else {
             return false;
         };
         if !lay_text(line, spot, &placed) {
@@ -55,4 +61,21 @@ pub(crate) fn lay_texts<'a, R: Row<'a>>(line: &mut [u8], spots: &[Spot], row: &R
         }
     }
     true
+}
+
+/// Lays the texts of a row of one line over a blank row. Answers whether all could be laid.
+pub(crate) fn lay_all<'a, R: Row<'a>>(line: &mut [u8], spots: &[Spot], row: &R) -> bool
+    requires height { (R.sheet row.now).height ≡ 1 }
+    requires blank { line.old ≡ blank_row (R.sheet row.now).columns }
+    requires spots { AreSpots (R.sheet row.now).columns spots.now }
+    ensures laid { result ≡ true → line.new ≡ row_line (R.sheet row.now) 0 }
+    ensures utf8 { IsUtf8 line.old → IsUtf8 line.new }
+{
+    if let Some(spread) = row.spread() {
+        return lay_texts(line, spots, row, spread);
+    }
+    match row.aims() {
+        Some(kept) => lay_texts(line, spots, row, KeptAims(kept)),
+        None => lay_texts(line, spots, row, row.styles()),
+    }
 }

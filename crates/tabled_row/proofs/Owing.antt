@@ -32,10 +32,10 @@ pub owes-finished : {T : Type 0} {a b : Sent} {spaces : ℕ} {text whole : List 
 owes-finished {T} {a} {b} {spaces} {text} {whole} c r p q e = finished c (fill 32 spaces) whole r p.sends q (e ∙ sym p.whole)
 
 -- a text was refused, and so is the function; rest is what would have come
-pub but-stopped : {T : Type 0} {a b c : Sent} {s t whole : List ℕ} (spaces : ℕ) (r : Result T TableError) (e : TableError) (rest : List ℕ)
-    → Sends a b s → Stops b e c t → IsErrAnd r (λ d. d ≡ e) → whole ≡ s ++ (t ++ rest) → WritesBut a r c spaces whole
-but-stopped spaces (Ok x) e rest p q h w = absurd h
-but-stopped {T} spaces (Err d) e rest p q h w = let same : Result T TableError = Err d in stopped same e rest p q h w
+pub but-stopped : {a b c : Sent} {s t whole : List ℕ} (r : Result ℕ TableError) (e : TableError) (rest : List ℕ)
+    → Sends a b s → Stops b e c t → IsErrAnd r (λ d. d ≡ e) → whole ≡ s ++ (t ++ rest) → WritesBut a r c whole
+but-stopped (Ok x) e rest p q h w = absurd h
+but-stopped (Err d) e rest p q h w = let same : Result ℕ TableError = Err d in stopped same e rest p q h w
 
 -- the step was refused
 pub owes-stopped : {T : Type 0} {a b c : Sent} {spaces : ℕ} {text whole : List ℕ} (r : Result T TableError) (e : TableError) (step rest : List ℕ)

@@ -1,13 +1,10 @@
 -- Where the texts of a row of one line stand among its blank columns.
-use Rattle.std.specs.Prelude.{◌≡◌, ℕ, ◌+◌, ◌<◌, ◌≤◌, ◌⊎◌, IfSome, List, [], map}
+use Rattle.std.specs.Prelude.{◌≡◌, ℕ, ◌+◌, ◌<◌, ◌≤◌, List, map}
 use Rattle.std.specs.List.{range_with_len}
-use Rattle.tabled_config.specs.RowStyles.{style_in}
 use Rattle.tabled_config.specs.declared.spanned.CellStyle.{CellStyle}
 use Rattle.tabled_row.specs.Block.{text_room}
-use Rattle.tabled_row.specs.Row.{RowSheet}
 use Rattle.tabled_row.specs.declared.aim.Aim.{Aim}
 use Rattle.tabled_row.specs.declared.aim.Spread.{Spread}
-use Rattle.tabled_row.specs.declared.row_aims.RowAims.{RowAims}
 
 -- texts stand between spaces, with no line above them
 pub record IsSpaced (style : CellStyle) : Type 0 where
@@ -42,9 +39,3 @@ pub record AreAims (style : ℕ → CellStyle) (width : ℕ → ℕ) (count : �
 pub record IsSpread (style : CellStyle) (spread : Spread) : Type 0 where
   pub spaced : IsSpaced style
   pub spread_is : spread ≡ spread_of style
-
--- what is told of the texts of a row is right: what is kept, if it is, how all stand, if they stand alike, and their styles
-pub record TellsAims (aims : RowAims) (row : RowSheet) : Type 0 where
-  pub kept : (aims.kept.now ≡ []) ⊎ AreAims row.style row.columns.width row.columns.count aims.kept.now
-  pub alike : IfSome aims.alike (λ spread. (column : ℕ) → column < row.columns.count → IsSpread (row.style column) spread)
-  pub styles : IfSome aims.styles (λ styles. (column : ℕ) → column < row.columns.count → style_in styles column ≡ row.style column)

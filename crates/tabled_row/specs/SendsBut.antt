@@ -10,7 +10,7 @@ pub record SendsBut (old new : Sent) (spaces : ℕ) (text : List ℕ) : Type 0 w
   pub sends : Sends old new sent
   pub whole : sent ++ fill 32 spaces ≡ text
 
--- what a call that writes the text but for these spaces leaves, by its answer
-abbrev pub WritesBut : {T : Type 0} → Sent → Result T TableError → Sent → ℕ → List ℕ → Type 0
-WritesBut old (Ok _) new spaces text = SendsBut old new spaces text
-WritesBut old (Err error) new spaces text = Stops old error new text
+-- what a call that writes the text leaves, if it answers how many spaces are still to come
+abbrev pub WritesBut : Sent → Result ℕ TableError → Sent → List ℕ → Type 0
+WritesBut old (Ok spaces) new text = SendsBut old new spaces text
+WritesBut old (Err error) new text = Stops old error new text

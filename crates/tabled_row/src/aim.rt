@@ -1,7 +1,7 @@
 //! Where the texts of a column stand in rows of one line.
 ghost use Rattle.std.specs.Prelude.{◌≡◌, IfSome, true};
 ghost use Rattle.tabled_config.specs.declared.spanned.CellStyle.{CellStyle};
-ghost use Rattle.tabled_row.specs.Aims.{IsAimed, IsSpaced, aim_of, spread_of};
+ghost use Rattle.tabled_row.specs.Aims.{IsAimed, IsSpaced, IsSpread, aim_of};
 
 use tabled_config::{AlignmentHorizontal, CellStyle};
 
@@ -26,7 +26,7 @@ fn is_spaced(style: &CellStyle) -> bool
 
 /// How texts under a style stand between spaces in columns of any width.
 #[derive(Clone, Copy)]
-pub(crate) struct Spread {
+pub struct Spread {
     before: usize,
     // The columns of padding on both sides.
     sides: usize,
@@ -37,7 +37,7 @@ impl Spread {
     /// How texts under a style stand, if they stand between spaces, and a number can say the columns of their padding.
     #[inline(always)]
     pub fn new(style: &CellStyle) -> Option<Spread>
-        ensures { IfSome result (λ spread. (spread ≡ spread_of style.now) × IsSpaced style.now) }
+        ensures { IfSome result (IsSpread style.now) }
     {
         if !is_spaced(style) {
             return None;
@@ -53,7 +53,7 @@ impl Spread {
     /// Where such a text stands in a column of some width, if its padding fits.
     #[inline(always)]
     pub fn aim(self, width: usize) -> Option<Aim>
-        ensures { (style : CellStyle) → self ≡ spread_of style → IsSpaced style
+        ensures { (style : CellStyle) → IsSpread style self
             → IfSome result (λ aim. (aim ≡ aim_of style width) × IsAimed style width) }
     {
         Some(Aim {

@@ -22,7 +22,7 @@ mod row_aims;
 mod spaced;
 mod text_sink;
 
-pub use aim::Aim;
+pub use aim::{Aim, Spread};
 pub use block::CellBlock;
 pub use columns::{Columns, count_drawn, put_rule_line, put_rule_pieces};
 pub use content::Content;
@@ -34,5 +34,5 @@ pub use marks::Marks;
 pub use pieces::{put_char, put_fill, put_indent};
 pub use room::Room;
 pub use row::{Row, put_row_line};
-pub use row_aims::{Placed, RowAims};
+pub use row_aims::{KeptAims, Placed, TellAims, place};
 pub use text_sink::TextSink;

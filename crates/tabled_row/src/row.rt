@@ -2,17 +2,18 @@
 ghost use Rattle.std.specs.Prelude.{◌≡◌, ◌<◌, ◌≤◌, ℕ, IfSome, []};
 ghost use Rattle.std.specs.List.{flat_map, range_with_len, slice_index_or};
 ghost use Rattle.tabled_config.specs.RowStyles.{style_in};
-ghost use Rattle.tabled_row.specs.Aims.{AreAims};
+ghost use Rattle.tabled_row.specs.Aims.{AreAims, IsSpread};
 ghost use Rattle.tabled_row.specs.Marks.{AreKept};
 ghost use Rattle.tabled_row.specs.Row.{RowSheet, cell_block, cell_piece, row_line};
 ghost use Rattle.tabled_row.specs.Sent.{Sent, Writes};
 
-use crate::aim::Aim;
+use crate::aim::{Aim, Spread};
 use crate::block::CellBlock;
 use crate::content::Content;
 use crate::edges::{put_left, put_piece, put_right};
-use crate::gap::Gap;
+use crate::gap::{Gap, GapText};
 use crate::marks::{Mark, Marks};
+use crate::row_aims::KeptAims;
 use crate::spaced::put_spaced_cells;
 use crate::text_sink::TextSink;
 use tabled_base::TableError;
@@ -38,6 +39,11 @@ pub trait Row<'a> {
     /// What stands between the texts of two columns in a row of one line.
     fn gap(&self) -> &Gap
         ensures { result.now.bar ≡ (sheet self.now).columns.frame.inner };
+
+    /// How the texts of all cells stand between spaces, if it is known that they stand alike, and so.
+    fn spread(&self) -> Option<Spread>
+        ensures { IfSome result (λ spread. (column : ℕ) → column < (sheet self.now).columns.count
+            → IsSpread ((sheet self.now).style column) spread) };
 
     /// How the texts of the columns stand, from left to right.
     fn styles(&self) -> RowStyles<'_>
@@ -142,6 +148,29 @@ fn put_each_cell<'a, R: Row<'a>, S: TextSink>(
     Ok(())
 }
 
+/// The cells of a row of one line, as it is known where its texts stand.
+fn put_spaced<'a, R: Row<'a>, S: TextSink>(
+    sink: &mut S,
+    row: &R,
+    marks: &mut Marks<'a>,
+    gap: GapText<'_>,
+) -> Result<(), TableError>
+    requires height { (R.sheet row.now).height ≡ 1 }
+    requires bar { gap.bar ≡ (R.sheet row.now).columns.frame.inner }
+    requires marked { AreKept (R.sheet row.now).text marks.old }
+    ensures printed { Writes (S.sent sink.old) result (S.sent sink.new)
+        (flat_map (cell_piece (R.sheet row.now) 0) (range_with_len 0 (R.sheet row.now).columns.count)) }
+    ensures marked { AreKept (R.sheet row.now).text marks.new }
+{
+    if let Some(spread) = row.spread() {
+        return put_spaced_cells(sink, row, marks, spread, gap);
+    }
+    match row.aims() {
+        Some(kept) => put_spaced_cells(sink, row, marks, KeptAims(kept), gap),
+        None => put_spaced_cells(sink, row, marks, row.styles(), gap),
+    }
+}
+
 /// The cells of a line. Those of a row of one line mostly need no blocks.
 fn put_cells<'a, R: Row<'a>, S: TextSink>(
     sink: &mut S,
@@ -158,7 +187,7 @@ fn put_cells<'a, R: Row<'a>, S: TextSink>(
     if row.height() == 1
         && let Some(gap) = row.gap().text()
     {
-        return put_spaced_cells(sink, row, marks, gap);
+        return put_spaced(sink, row, marks, gap);
     }
     put_each_cell(sink, row, marks, index)
 }

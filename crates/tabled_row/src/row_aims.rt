@@ -1,7 +1,6 @@
 //! Where the texts of a row of one line stand, from left to right.
-ghost use Rattle.std.specs.Prelude.{◌≡◌, ◌<◌, ℕ, IfSome};
-ghost use Rattle.tabled_config.specs.RowStyles.{style_in};
-ghost use Rattle.tabled_row.specs.Aims.{IsAimed, IsSpread, TellsAims, aim_of};
+ghost use Rattle.std.specs.Prelude.{◌≡◌, ◌<◌, IfSome};
+ghost use Rattle.tabled_row.specs.Aims.{IsAimed, aim_of};
 ghost use Rattle.tabled_row.specs.Row.{RowSheet};
 ghost use Rattle.tabled_row.specs.Spaced.{IsPlaced};
 
@@ -23,117 +22,126 @@ pub struct Placed<'a> {
     pub behind: usize,
 }
 
-/// How all texts of a row stand, if they stand alike, and between spaces.
-fn alike(styles: &RowStyles<'_>) -> Option<Spread>
-    ensures { IfSome result (λ spread. (column : ℕ) → IsSpread (style_in styles.now column) spread) }
-{
-    match styles {
-        RowStyles::Alike(style) => Spread::new(style),
-        _ => None,
-    }
-}
+/// What tells where the texts of a row of one line stand, from left to right.
+pub trait TellAims {
+    ghost use Rattle.tabled_row.specs.Row.{RowSheet};
 
-/// Where the texts of a row stand: as it is kept for rows set alike, and else as the style of each one says.
-pub struct RowAims<'a> {
-    // Nothing, if it isn't kept.
-    kept: &'a [Aim],
-    // How all texts stand, if they are known to stand alike.
-    alike: Option<Spread>,
-    // Nothing, if it is kept where the texts stand.
-    styles: Option<RowStyles<'a>>,
-}
-
-/// One call lets them go, so that whoever lets them go needn't prove it of each part.
-impl<'a> Drop for RowAims<'a> {
-    fn drop(self) {
-        let RowAims {
-            kept: _,
-            alike: _,
-            styles: _,
-        } = self;
-    }
-}
-
-impl<'a> RowAims<'a> {
-    /// Where the texts of a row stand.
-    pub fn of<'c, R: Row<'c>>(row: &'a R) -> RowAims<'a>
-        ensures { TellsAims result (R.sheet row.now) }
-    {
-        if let Some(kept) = row.aims() {
-            return RowAims {
-                kept,
-                alike: None,
-                styles: None,
-            };
-        }
-        let styles = row.styles();
-        RowAims {
-            kept: &[],
-            alike: alike(&styles),
-            styles: Some(styles),
-        }
-    }
+    // What is told of a row is right.
+    ghost tells: { Self → RowSheet → Type 0 };
 
     /// Where the text of a column of some width stands, if it stands between spaces, and its padding fits.
-    #[inline(always)]
     fn at(&mut self, column: usize, width: usize) -> Option<Aim>
-        ensures aim { (row : RowSheet) → TellsAims self.old row → column < row.columns.count → width ≡ row.columns.width column
+        ensures aim { (row : RowSheet) → tells self.old row → column < row.columns.count → width ≡ row.columns.width column
             → IfSome result (λ aim. (aim ≡ aim_of (row.style column) width) × IsAimed (row.style column) width) }
-        ensures same { (row : RowSheet) → TellsAims self.old row → TellsAims self.new row }
-    {
-        if let Some(aim) = self.kept.get(column) {
-            return Some(*aim);
-        }
-        if let Some(spread) = self.alike {
-            return spread.aim(width);
-        }
-        match &mut self.styles {
-            Some(styles) => Aim::new(&styles.at(column), width),
+        ensures same { (row : RowSheet) → tells self.old row → tells self.new row };
+
+    /// How the text of a column stands, if that is at hand.
+    fn style(&mut self, column: usize) -> Option<CellStyle>
+        ensures style { (row : RowSheet) → tells self.old row → column < row.columns.count
+            → IfSome result (λ style. style ≡ row.style column) }
+        ensures same { (row : RowSheet) → tells self.old row → tells self.new row };
+}
+
+/// Where the texts of the columns stand, as it is kept for rows set alike.
+#[derive(Drop)]
+pub struct KeptAims<'a>(pub &'a [Aim]);
+
+impl<'a> TellAims for KeptAims<'a> {
+    ghost use Rattle.tabled_row.specs.Aims.{AreAims};
+
+    ghost tells = { λ kept row. AreAims row.style row.columns.width row.columns.count kept.0.now };
+
+    #[inline(always)]
+    fn at(&mut self, column: usize, _width: usize) -> Option<Aim> {
+        match self.0.get(column) {
+            Some(aim) => Some(*aim),
             None => None,
         }
     }
 
-    /// The first line of the text of a column of some width where it stands between spaces, if it does and fits, and no further line is wider.
+    fn style(&mut self, _column: usize) -> Option<CellStyle> {
+        None
+    }
+}
+
+/// All texts stand alike.
+impl TellAims for Spread {
+    ghost use Rattle.std.specs.Prelude.{◌<◌, ℕ};
+    ghost use Rattle.tabled_row.specs.Aims.{IsSpread};
+
+    ghost tells = { λ spread row. (column : ℕ) → column < row.columns.count → IsSpread (row.style column) spread };
+
     #[inline(always)]
-    pub fn place<'c, R: Row<'c>>(
-        &mut self,
-        row: &R,
-        column: usize,
-        width: usize,
-    ) -> Option<Placed<'c>>
-        requires tells { TellsAims self.old (R.sheet row.now) }
-        requires inside { column < (R.sheet row.now).columns.count }
-        requires width { width ≡ (R.sheet row.now).columns.width column }
-        requires height { (R.sheet row.now).height ≡ 1 }
-        ensures placed { IfSome result (IsPlaced (R.sheet row.now) column) }
-        ensures tells { TellsAims self.new (R.sheet row.now) }
-    {
-        let aim = self.at(column, width)?;
-        let content = row.content(column);
-        let (text, columns) = content.first_line();
-        if content.columns != columns {
-            return None;
-        }
-        let free = aim.room.checked_sub(columns)?;
-        let before = aim.before + before_text(aim.horizontal, free);
-        Some(Placed {
-            before,
-            text,
-            columns,
-            behind: width - before - columns,
-        })
+    fn at(&mut self, _column: usize, width: usize) -> Option<Aim> {
+        self.aim(width)
     }
 
-    /// How the text of a column of the row stands.
-    pub(crate) fn style<'c, R: Row<'c>>(&mut self, row: &R, column: usize) -> CellStyle
-        requires tells { TellsAims self.old (R.sheet row.now) }
-        requires inside { column < (R.sheet row.now).columns.count }
-        ensures style { result ≡ (R.sheet row.now).style column }
-        ensures tells { TellsAims self.new (R.sheet row.now) }
-    {
-        match &mut self.styles {
-            Some(styles) => styles.at(column),
-            None => row.styles().at(column),
-        }
+    fn style(&mut self, _column: usize) -> Option<CellStyle> {
+        None
+    }
+}
+
+/// Each text stands as its style says.
+impl<'a> TellAims for RowStyles<'a> {
+    ghost use Rattle.std.specs.Prelude.{◌≡◌, ◌<◌, ℕ};
+    ghost use Rattle.tabled_config.specs.RowStyles.{style_in};
+
+    ghost tells = { λ styles row. (column : ℕ) → column < row.columns.count → style_in styles column ≡ row.style column };
+
+    #[inline(always)]
+    fn at(&mut self, column: usize, width: usize) -> Option<Aim> {
+        Aim::new(&RowStyles::at(self, column), width)
+    }
+
+    fn style(&mut self, column: usize) -> Option<CellStyle> {
+        Some(RowStyles::at(self, column))
+    }
+}
+
+/// The first line of the text of a column of some width where it stands between spaces, if it does and fits, and no further line is wider.
+#[inline(always)]
+pub fn place<'c, R: Row<'c>, A: TellAims>(
+    row: &R,
+    aims: &mut A,
+    column: usize,
+    width: usize,
+) -> Option<Placed<'c>>
+    requires tells { A.tells aims.old (R.sheet row.now) }
+    requires inside { column < (R.sheet row.now).columns.count }
+    requires width { width ≡ (R.sheet row.now).columns.width column }
+    requires height { (R.sheet row.now).height ≡ 1 }
+    ensures placed { IfSome result (IsPlaced (R.sheet row.now) column) }
+    ensures tells { A.tells aims.new (R.sheet row.now) }
+{
+    let aim = aims.at(column, width)?;
+    let content = row.content(column);
+    let (text, columns) = content.first_line();
+    if content.columns != columns {
+        return None;
+    }
+    let free = aim.room.checked_sub(columns)?;
+    let before = aim.before + before_text(aim.horizontal, free);
+    Some(Placed {
+        before,
+        text,
+        columns,
+        behind: width - before - columns,
+    })
+}
+
+/// How the text of a column of the row stands.
+pub(crate) fn style_of<'c, R: Row<'c>, A: TellAims>(
+    row: &R,
+    aims: &mut A,
+    column: usize,
+) -> CellStyle
+    requires tells { A.tells aims.old (R.sheet row.now) }
+    requires inside { column < (R.sheet row.now).columns.count }
+    ensures style { result ≡ (R.sheet row.now).style column }
+    ensures tells { A.tells aims.new (R.sheet row.now) }
+{
+    match aims.style(column) {
+        Some(style) => style,
+        None => row.styles().at(column),
     }
 }

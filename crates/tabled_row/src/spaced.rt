@@ -8,40 +8,22 @@ ghost use Rattle.tabled_row.specs.Marks.{AreKept};
 ghost use Rattle.tabled_row.specs.Row.{cell_piece, piece};
 ghost use Rattle.tabled_row.specs.SendsBut.{WritesBut};
 ghost use Rattle.tabled_row.specs.Sent.{Sent, Writes};
-ghost use Rattle.tabled_row.specs.Spaced.{IsLineOf};
 
 use crate::gap::GapText;
 use crate::marks::Marks;
 use crate::pieces::put_spaces;
 use crate::row::{Row, put_cell};
-use crate::row_aims::RowAims;
+use crate::row_aims::{TellAims, place, style_of};
 use crate::text_sink::TextSink;
 use tabled_base::TableError;
 
 /// A line while its cells go out.
-#[derive(Drop)]
+#[derive(Clone, Copy)]
 struct SpacedLine<'r> {
     /// What stands between two texts.
     gap: GapText<'r>,
-    /// Where the texts stand.
-    aims: RowAims<'r>,
     /// The spaces behind the last text, which are still to come.
     behind: usize,
-}
-
-impl<'r> SpacedLine<'r> {
-    /// A line of which nothing went out.
-    fn of<'a, R: Row<'a>>(row: &'r R, gap: GapText<'r>) -> SpacedLine<'r>
-        requires { gap.bar ≡ (R.sheet row.now).columns.frame.inner }
-        ensures over { IsLineOf (R.sheet row.now) result }
-        ensures none { result.behind ≡ 0 }
-    {
-        SpacedLine {
-            gap,
-            aims: RowAims::of(row),
-            behind: 0,
-        }
-    }
 }
 
 /// The spaces that are still to come, the vertical line before a column, and so many spaces before its text.
@@ -53,7 +35,7 @@ fn put_between<'a, R: Row<'a>, S: TextSink>(
     column: usize,
     before: usize,
 ) -> Result<(), TableError>
-    requires { IsLineOf (R.sheet row.now) line.now }
+    requires { line.now.gap.bar ≡ (R.sheet row.now).columns.frame.inner }
     ensures { let frame = (R.sheet row.now).columns.frame in Writes (S.sent sink.old) result (S.sent sink.new)
         (fill 32 line.now.behind ++ (piece (has_bar frame column) frame.inner.main ++ fill 32 before)) }
 {
@@ -65,56 +47,59 @@ fn put_between<'a, R: Row<'a>, S: TextSink>(
     put_spaces(sink, before)
 }
 
-/// The spaces that are still to come, and the next cell but for the spaces behind its text.
+/// The spaces that are still to come, and the next cell but for the spaces behind its text, of which it answers how many there are.
 #[inline(always)]
-fn put_next<'a, R: Row<'a>, S: TextSink>(
+fn put_next<'a, R: Row<'a>, S: TextSink, A: TellAims>(
     sink: &mut S,
     row: &R,
     marks: &mut Marks<'a>,
-    line: &mut SpacedLine<'_>,
+    aims: &mut A,
+    line: &SpacedLine<'_>,
     column: usize,
-) -> Result<(), TableError>
+) -> Result<usize, TableError>
     requires inside { column < (R.sheet row.now).columns.count }
     requires height { (R.sheet row.now).height ≡ 1 }
-    requires over { IsLineOf (R.sheet row.now) line.old }
+    requires bar { line.now.gap.bar ≡ (R.sheet row.now).columns.frame.inner }
+    requires tells { A.tells aims.old (R.sheet row.now) }
     requires marked { AreKept (R.sheet row.now).text marks.old }
-    ensures printed { WritesBut (S.sent sink.old) result (S.sent sink.new) line.new.behind
-        (fill 32 line.old.behind ++ cell_piece (R.sheet row.now) 0 column) }
-    ensures over { IsLineOf (R.sheet row.now) line.new }
+    ensures printed { WritesBut (S.sent sink.old) result (S.sent sink.new) (fill 32 line.now.behind ++ cell_piece (R.sheet row.now) 0 column) }
+    ensures tells { A.tells aims.new (R.sheet row.now) }
     ensures marked { AreKept (R.sheet row.now).text marks.new }
 {
-    match line.aims.place(row, column, row.width(column)) {
+    match place(row, aims, column, row.width(column)) {
         Some(placed) => {
             put_between(sink, row, line, column, placed.before)?;
             sink.write_text(placed.text)?;
-            line.behind = placed.behind;
+            Ok(placed.behind)
         }
         None => {
             put_spaces(sink, line.behind)?;
-            put_cell(sink, row, marks, line.aims.style(row, column), column, 0)?;
-            line.behind = 0;
+            put_cell(sink, row, marks, style_of(row, aims, column), column, 0)?;
+            Ok(0)
         }
     }
-    Ok(())
 }
 
-/// The cells of a row of one line.
-pub(crate) fn put_spaced_cells<'a, R: Row<'a>, S: TextSink>(
+/// The cells of a row of one line, of which it is told where they stand.
+pub(crate) fn put_spaced_cells<'a, R: Row<'a>, S: TextSink, A: TellAims + Drop>(
     sink: &mut S,
     row: &R,
     marks: &mut Marks<'a>,
+    mut aims: A,
     gap: GapText<'_>,
 ) -> Result<(), TableError>
     requires height { (R.sheet row.now).height ≡ 1 }
     requires bar { gap.bar ≡ (R.sheet row.now).columns.frame.inner }
+    requires tells { A.tells aims (R.sheet row.now) }
     requires marked { AreKept (R.sheet row.now).text marks.old }
     ensures printed { Writes (S.sent sink.old) result (S.sent sink.new)
         (flat_map (cell_piece (R.sheet row.now) 0) (range_with_len 0 (R.sheet row.now).columns.count)) }
     ensures marked { AreKept (R.sheet row.now).text marks.new }
 {
-    let mut line = SpacedLine::of(row, gap);
+    let mut behind = 0;
     'cells: for column in 0..row.count_drawn() {
-        put_next(sink, row, marks, &mut line, column)?;
+        let line = SpacedLine { gap, behind };
+        behind = put_next(sink, row, marks, &mut aims, &line, column)?;
     }
-    put_spaces(sink, line.behind)
+    put_spaces(sink, behind)
 }

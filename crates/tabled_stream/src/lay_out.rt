@@ -15,7 +15,7 @@ use crate::total::total_width;
 use std::alloc::Global;
 use tabled_base::{CellText, TableError};
 use tabled_config::{AlignmentVertical, CellStyle, CompactConfig, SpannedConfig};
-use tabled_row::Gap;
+use tabled_row::{Gap, Spread};
 
 /// How many columns there are.
 pub(crate) fn count_columns<C: CellText>(settings: &Settings, rows: &[Vec<C>]) -> usize
@@ -98,6 +98,7 @@ fn lay_out<C: CellText>(
         bottom: spanned.rule_at(1, 1),
         style,
         gap: Gap::new(frame.inner),
+        spread: Spread::new(&style),
     })
 }
 

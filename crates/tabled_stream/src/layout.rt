@@ -1,8 +1,10 @@
 //! The columns of a stream, and what is printed around its cells.
-ghost use Rattle.std.specs.Prelude.{◌≡◌, ◌+◌, ◌<◌, ◌≤◌, ◌^◌, false, if◌then◌else◌, MatchOption};
+ghost use Rattle.std.specs.Prelude.{◌≡◌, ◌+◌, ◌<◌, ◌≤◌, ◌^◌, false, if◌then◌else◌, IfSome, MatchOption};
+ghost use Rattle.std.proofs.Props.{props};
+ghost use Rattle.tabled_row.specs.Aims.{IsSpread};
 
 use tabled_config::{CellStyle, Frame, HorizontalLine};
-use tabled_row::Gap;
+use tabled_row::{Gap, Spread};
 
 /// The columns of a stream: what each leaves to texts, what stands around and between them, and how texts stand.
 #[derive(Drop)]
@@ -27,7 +29,10 @@ pub(crate) struct Layout {
     pub style: CellStyle,
     /// What stands between the texts of two columns in a row of one line.
     pub gap: Gap,
+    /// How the texts stand, if they stand between spaces.
+    pub spread: Option<Spread>,
     ghost bar: { gap.bar ≡ frame.inner },
+    ghost spread_is: { IfSome spread (IsSpread style) } by { Prim.hlevel props },
 }
 
 impl Layout {

@@ -17,7 +17,7 @@ use std::borrow::CowStr;
 use tabled_base::{CellText, TableError, Text};
 use tabled_config::{CellStyle, Frame, RowStyles};
 use tabled_lines::Lines;
-use tabled_row::{Aim, CellBlock, Content, Gap, Marks, Row, TextSink};
+use tabled_row::{Aim, CellBlock, Content, Gap, Marks, Row, Spread, TextSink};
 use tabled_text::cut_str;
 
 /// A row of a stream whose cells are cut; missing ones are empty.
@@ -50,6 +50,10 @@ impl<'a> Row<'a> for CutRow<'a> {
 
     fn gap(&self) -> &Gap {
         &self.layout.gap
+    }
+
+    fn spread(&self) -> Option<Spread> {
+        self.layout.spread
     }
 
     fn styles(&self) -> RowStyles<'_> {

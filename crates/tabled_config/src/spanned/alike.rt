@@ -1,9 +1,9 @@
 //! Cells and rows that are known to be set alike.
 ghost use Rattle.std.specs.Prelude.{◌≡◌, ℕ, IfSome, true};
-ghost use Rattle.tabled_config.specs.Settings.{style_at};
+ghost use Rattle.tabled_config.specs.Settings.{shared_style, style_at};
 ghost use Rattle.tabled_entity.specs.Changes.{shared};
 
-use super::SpannedConfig;
+use super::{CellStyle, SpannedConfig};
 use tabled_border::{Indent, Sides};
 
 impl SpannedConfig {
@@ -27,6 +27,20 @@ impl SpannedConfig {
         ensures { result ≡ true → (column : ℕ) → (style_at self.now row column).padding ≡ (style_at self.now other column).padding }
     {
         self.padding.are_alike(row, other)
+    }
+
+    /// How the texts of all cells stand, where nothing was set for parts of the table.
+    #[tactic(auto, unfolding(crate::specs::Settings::shared_style, crate::specs::Settings::style_at))]
+    pub fn shared_style(&self) -> Option<CellStyle>
+        ensures value { result ≡ shared_style self.now }
+        ensures everywhere { IfSome result (λ style. (row column : ℕ) → style_at self.now row column ≡ style) }
+    {
+        Some(CellStyle {
+            padding: self.padding.shared()?,
+            horizontal: self.alignment_horizontal.shared()?,
+            vertical: self.alignment_vertical.shared()?,
+            line_alignment: self.line_alignment.shared()?,
+        })
     }
 
     /// The columns and lines kept free around the texts of all cells, where no padding was set for a part of the table.

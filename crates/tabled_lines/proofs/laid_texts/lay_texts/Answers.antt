@@ -10,7 +10,7 @@ pub texts-init : goal.texts-init
 texts-init g c =
     record {
       laid = none-laid (g.R.Row.sheet c.args.row.now) _ c.requires.blank;
-      tells = c.of-aims.ensures;
+      tells = c.requires.tells;
       utf8 = λ u. u;
     }
 
@@ -19,7 +19,7 @@ place-requires g c = λ κs.
     let rs = g.R.Row.sheet c.args.row.now in
     let within : c.texts.column < rs.columns.count = omega (arith, c.texts-test.true, spots-count rs.columns c.args.spots.now c.requires.spots) in
     let spot = spot-is rs.columns c.args.spots.now c.texts.column c.requires.spots within in
-    ((refl, (refl, tt)), (c.texts.invariant.tells, (within, (ap (λ s. s.width) spot, c.requires.height))))
+    ((refl, tt), (c.texts.invariant.tells, (within, (ap (λ s. s.width) spot, c.requires.height))))
 
 pub lay_text-requires : goal.lay_text-requires
 lay_text-requires g c =

@@ -1,4 +1,4 @@
-use Rattle.std.proofs.Common.{◌<◌, arith}
+use Rattle.std.proofs.Common.{refl, ◌<◌, arith}
 use Rattle.tabled_row.specs.Row.{cell_piece}
 use Rattle.tabled_row.proofs.Each.{each-first, each-more, each-rest}
 use Rattle.tabled_row.proofs.Owing.{owes-finished, owes-further, owes-start, owes-stopped}
@@ -7,25 +7,25 @@ use Rattle.tabled_row.proofs.spaced.put_spaced_cells.Goals as goal
 pub cells-init : goal.cells-init
 cells-init g c =
     record {
-      printed = owes-start _ c.of-line.ensures.none;
-      over = c.of-line.ensures.over;
+      printed = owes-start _ refl;
+      tells = c.requires.tells;
       marked = c.requires.marked;
     }
 
-pub returns-in_err-put_next-clause-printed : goal.returns-in_err-put_next-clause-printed
-returns-in_err-put_next-clause-printed g c =
+pub returns-in_err-behind-clause-printed : goal.returns-in_err-behind-clause-printed
+returns-in_err-behind-clause-printed g c =
     let row = g.R.Row.sheet c.args.row.now in
     let drawn = c.count_drawn-column-end.ensures.within in
     let within : c.cells.column < row.columns.count = omega (arith, drawn, c.cells-test.true) in
-    owes-stopped _ _ _ _ c.cells.invariant.printed c.in_err-put_next.ensures.printed c.from_residual.ensures.1
+    owes-stopped _ _ _ _ c.cells.invariant.printed c.in_err-behind.ensures.printed c.from_residual.ensures.1
     (each-rest (cell_piece row 0) _ _ within)
 
 pub cells-preserved : goal.cells-preserved
 cells-preserved g c =
     record {
-      printed = owes-further _ c.cells.invariant.printed c.in_ok-put_next.ensures.printed (each-more (cell_piece (g.R.Row.sheet c.args.row.now) 0) _);
-      over = c.in_ok-put_next.ensures.over;
-      marked = c.in_ok-put_next.ensures.marked;
+      printed = owes-further _ c.cells.invariant.printed c.in_ok-behind.ensures.printed (each-more (cell_piece (g.R.Row.sheet c.args.row.now) 0) _);
+      tells = c.in_ok-behind.ensures.tells;
+      marked = c.in_ok-behind.ensures.marked;
     }
 
 pub returns-clause-printed : goal.returns-clause-printed

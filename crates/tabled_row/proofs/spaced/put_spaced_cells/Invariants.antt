@@ -2,14 +2,13 @@ use Rattle.std.specs.List.{flat_map, range_with_len}
 use Rattle.tabled_row.specs.Marks.{AreKept}
 use Rattle.tabled_row.specs.Row.{cell_piece}
 use Rattle.tabled_row.specs.SendsBut.{SendsBut}
-use Rattle.tabled_row.specs.Spaced.{IsLineOf}
 use Rattle.tabled_row.proofs.spaced.put_spaced_cells.Given as goal
 
 abbrev pub invariant-cells : goal.invariant-cells
 invariant-cells g l =
     record {
-      printed : SendsBut (g.S.TextSink.sent l.initial.sink) (g.S.TextSink.sent l.sink) l.line.behind
+      printed : SendsBut (g.S.TextSink.sent l.initial.sink) (g.S.TextSink.sent l.sink) l.behind
           (flat_map (cell_piece (g.R.Row.sheet l.row) 0) (range_with_len 0 l.column));
-      over : IsLineOf (g.R.Row.sheet l.row) l.line;
+      tells : g.A.TellAims.tells l.aims (g.R.Row.sheet l.row);
       marked : AreKept (g.R.Row.sheet l.row).text l.marks;
     }

@@ -3,7 +3,7 @@ use Rattle.tabled_text.specs.Measure.{line_columns, text_columns}
 use Rattle.tabled_row.specs.Block.{before_text, first_line, text_room}
 use Rattle.tabled_row.specs.Fill.{fill}
 use Rattle.tabled_row.proofs.Spacing.{before-within, first-spaced, free_of, left_of, right_of}
-use Rattle.tabled_row.proofs.row_aims.RowAims.place.Goals as goal
+use Rattle.tabled_row.proofs.row_aims.place.Goals as goal
 
 pub returns-clause-placed : goal.returns-clause-placed
 returns-clause-placed g c =
