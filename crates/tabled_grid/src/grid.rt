@@ -112,11 +112,15 @@ impl<'a, R: PeekableRecords, D: Dimension> Grid<'a, R, D> {
         &self.gap
     }
 
-    /// How all texts stand between spaces, if it is known that they stand alike, and so.
-    pub fn spread(&self) -> Option<Spread>
-        ensures { IfSome result (λ spread. (row column : ℕ) → IsSpread (style_at self.now.config row column) spread) }
+    /// How all texts of a row stand between spaces, if it is known that they stand alike, and so.
+    pub fn spread(&self, row: usize) -> Option<Spread>
+        ensures { IfSome result (λ spread. (column : ℕ) → IsSpread (style_at self.now.config row column) spread) }
     {
-        self.spread
+        if self.spread.is_some() {
+            return self.spread;
+        }
+        let style = self.config.row_style(row)?;
+        Spread::new(&style)
     }
 
     /// How the texts of a row stand, from left to right.

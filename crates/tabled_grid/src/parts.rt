@@ -64,7 +64,7 @@ impl<'a, R: PeekableRecords, D: Dimension> Row<'a> for GridRow<'a, R, D> {
     }
 
     fn spread(&self) -> Option<Spread> {
-        self.grid.spread()
+        self.grid.spread(self.row)
     }
 
     fn styles(&self) -> RowStyles<'_> {

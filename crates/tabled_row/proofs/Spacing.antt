@@ -44,7 +44,7 @@ indent-spaces : (side : Indent) → side.fill ≡ 32 → indent side ≡ fill 32
 indent-spaces side e = ap (λ f. fill f side.size) e
 
 -- a line of a text that takes no more columns than it stands between spaces
-cell_line-spaced : (s : CellStyle) (w : ℕ) (text line : List ℕ) → IsSpaced s → text_columns text ≡ line_columns line
+cell_line-spaced : (s : CellStyle) (w : ℕ) (text line : List ℕ) → IsSpaced s.padding → text_columns text ≡ line_columns line
     → cell_line s w text line ≡ fill 32 (left_of s w line) ++ (line ++ fill 32 (right_of s w line))
 unfolding cell_line
 cell_line-spaced s w text line h widest =
@@ -63,7 +63,7 @@ cell_line-spaced s w text line h widest =
     ∙ ap (λ u. u ++ (line ++ fill 32 (right_of s w line))) (sym (fill-add 32 left.size before (left_of s w line) refl))
 
 -- the only line of its block
-block-spaced : (s : CellStyle) (w : ℕ) (text : List ℕ) → IsSpaced s → text_columns text ≡ line_columns (first_line text)
+block-spaced : (s : CellStyle) (w : ℕ) (text : List ℕ) → IsSpaced s.padding → text_columns text ≡ line_columns (first_line text)
     → get_or (block s w 1 text) 0 [] ≡ fill 32 (left_of s w (first_line text)) ++ (first_line text ++ fill 32 (right_of s w (first_line text)))
 block-spaced s w text h widest =
     let some = some_line text in
@@ -74,7 +74,7 @@ block-spaced s w text h widest =
     (sym (ap (slice_get (lines_of text)) first ∙ slice_get-get_or (lines_of text) 0 [] some))
     ∙ cell_line-spaced s w text (first_line text) h widest
 
-pub first-spaced : (row : RowSheet) (column : ℕ) → row.height ≡ 1 → IsSpaced (row.style column)
+pub first-spaced : (row : RowSheet) (column : ℕ) → row.height ≡ 1 → IsSpaced (row.style column).padding
     → text_columns (row.text column) ≡ line_columns (first_line (row.text column))
     → first_of_block row column ≡ fill 32 (left_of (row.style column) (row.columns.width column) (first_line (row.text column)))
     ++ (first_line (row.text column) ++ fill 32 (right_of (row.style column) (row.columns.width column) (first_line (row.text column))))

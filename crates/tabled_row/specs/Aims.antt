@@ -1,16 +1,18 @@
 -- Where the texts of a row of one line stand among its blank columns.
 use Rattle.std.specs.Prelude.{◌≡◌, ℕ, ◌+◌, ◌<◌, ◌≤◌, List, map}
 use Rattle.std.specs.List.{range_with_len}
+use Rattle.tabled_border.specs.declared.sides.Indent.{Indent}
+use Rattle.tabled_border.specs.declared.sides.Sides.{Sides}
 use Rattle.tabled_config.specs.declared.spanned.CellStyle.{CellStyle}
 use Rattle.tabled_row.specs.Block.{text_room}
 use Rattle.tabled_row.specs.declared.aim.Aim.{Aim}
 use Rattle.tabled_row.specs.declared.aim.Spread.{Spread}
 
--- texts stand between spaces, with no line above them
-pub record IsSpaced (style : CellStyle) : Type 0 where
-  pub left : style.padding.left.fill ≡ 32
-  pub right : style.padding.right.fill ≡ 32
-  pub top : style.padding.top.size ≡ 0
+-- texts that are padded so stand between spaces, with no line above them
+pub record IsSpaced (padding : Sides Indent) : Type 0 where
+  pub left : padding.left.fill ≡ 32
+  pub right : padding.right.fill ≡ 32
+  pub top : padding.top.size ≡ 0
 
 -- where a text under a style stands in a column of some width: behind its padding, among the columns that this leaves
 abbrev pub aim_of : CellStyle → ℕ → Aim
@@ -27,7 +29,7 @@ spread_of style =
 
 -- it stands between spaces, and its padding fits
 pub record IsAimed (style : CellStyle) (width : ℕ) : Type 0 where
-  pub spaced : IsSpaced style
+  pub spaced : IsSpaced style.padding
   pub fits : style.padding.left.size + style.padding.right.size ≤ width
 
 -- those of all columns
@@ -37,5 +39,5 @@ pub record AreAims (style : ℕ → CellStyle) (width : ℕ → ℕ) (count : �
 
 -- a style is one of texts between spaces, and how these stand is told
 pub record IsSpread (style : CellStyle) (spread : Spread) : Type 0 where
-  pub spaced : IsSpaced style
+  pub spaced : IsSpaced style.padding
   pub spread_is : spread ≡ spread_of style

@@ -3,7 +3,7 @@ ghost use Rattle.std.specs.Prelude.{◌≡◌, IfSome, true};
 ghost use Rattle.tabled_config.specs.declared.spanned.CellStyle.{CellStyle};
 ghost use Rattle.tabled_row.specs.Aims.{IsAimed, IsSpaced, IsSpread, aim_of};
 
-use tabled_config::{AlignmentHorizontal, CellStyle};
+use tabled_config::{AlignmentHorizontal, CellStyle, Indent, Sides};
 
 /// Where a text stands in its column of a row of one line, between spaces.
 #[derive(Clone, Copy)]
@@ -16,12 +16,12 @@ pub struct Aim {
     pub horizontal: AlignmentHorizontal,
 }
 
-/// Whether texts under a style stand between spaces, with no line above.
+/// Whether texts that are padded so stand between spaces, with no line above.
 #[inline(always)]
-fn is_spaced(style: &CellStyle) -> bool
-    ensures { result ≡ true → IsSpaced style.now }
+fn is_spaced(padding: &Sides<Indent>) -> bool
+    ensures { result ≡ true → IsSpaced padding.now }
 {
-    style.padding.left.fill == ' ' && style.padding.right.fill == ' ' && style.padding.top.size == 0
+    padding.left.fill == ' ' && padding.right.fill == ' ' && padding.top.size == 0
 }
 
 /// How texts under a style stand between spaces in columns of any width.
@@ -34,20 +34,27 @@ pub struct Spread {
 }
 
 impl Spread {
+    /// How texts with some padding and alignment stand, if they stand between spaces, and a number can say the columns of the padding.
+    #[inline(always)]
+    pub fn of(padding: &Sides<Indent>, horizontal: AlignmentHorizontal) -> Option<Spread>
+        ensures { (style : CellStyle) → padding.now ≡ style.padding → horizontal ≡ style.horizontal → IfSome result (IsSpread style) }
+    {
+        if !is_spaced(padding) {
+            return None;
+        }
+        Some(Spread {
+            before: padding.left.size,
+            sides: padding.left.size.checked_add(padding.right.size)?,
+            horizontal,
+        })
+    }
+
     /// How texts under a style stand, if they stand between spaces, and a number can say the columns of their padding.
     #[inline(always)]
     pub fn new(style: &CellStyle) -> Option<Spread>
         ensures { IfSome result (IsSpread style.now) }
     {
-        if !is_spaced(style) {
-            return None;
-        }
-        let padding = style.padding;
-        Some(Spread {
-            before: padding.left.size,
-            sides: padding.left.size.checked_add(padding.right.size)?,
-            horizontal: style.horizontal,
-        })
+        Spread::of(&style.padding, style.horizontal)
     }
 
     /// Where such a text stands in a column of some width, if its padding fits.

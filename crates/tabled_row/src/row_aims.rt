@@ -90,7 +90,8 @@ impl<'a> TellAims for RowStyles<'a> {
 
     #[inline(always)]
     fn at(&mut self, column: usize, width: usize) -> Option<Aim> {
-        Aim::new(&RowStyles::at(self, column), width)
+        let (padding, horizontal) = self.beside(column);
+        Spread::of(&padding, horizontal)?.aim(width)
     }
 
     fn style(&mut self, column: usize) -> Option<CellStyle> {

@@ -75,6 +75,15 @@ fn shared_added(config: &SpannedConfig) -> Option<Extent>
     added_by(padding)
 }
 
+/// What padding adds to each text of a row, where all are known to be padded alike, and numbers can say it.
+#[inline(never)]
+pub(crate) fn row_added(config: &SpannedConfig, row: usize) -> Option<Extent>
+    ensures { IfSome result (λ extent. (column : ℕ) → extent ≡ added_at config.now row column) }
+{
+    let padding = config.row_padding(row)?;
+    added_by(padding)
+}
+
 /// What padding adds to the texts in so many columns of a row, if numbers can say it, and memory isn't refused.
 fn listed_in(
     alloc: Global,

@@ -6,7 +6,7 @@ ghost use Rattle.tabled_config.specs.Settings.{style_at};
 ghost use Rattle.tabled_size.specs.Added.{KnowsAdded, TellsAdded, added_at};
 ghost use Rattle.tabled_size.specs.Estimates.{IsTooHigh, IsTooWide, estimated_heights, estimated_widths, needed_height, needed_width, raised, row_height};
 
-use crate::added::{Extent, KnownAdded, Listed, TellAdded};
+use crate::added::{Extent, KnownAdded, Listed, TellAdded, row_added};
 use std::alloc::Global;
 use tabled_base::{PeekableRecords, Position, TableError};
 use tabled_config::{Indent, Sides, SpannedConfig};
@@ -224,7 +224,10 @@ fn measure_known<R: PeekableRecords>(
                 Listed(listed.extents.as_slice()),
             )
         }
-        _ => measure_row(records, config, row, widths, config.paddings_in(row)),
+        _ => match row_added(config, row) {
+            Some(extent) => measure_row(records, config, row, widths, extent),
+            None => measure_row(records, config, row, widths, config.paddings_in(row)),
+        },
     }
 }
 

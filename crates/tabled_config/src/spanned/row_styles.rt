@@ -43,6 +43,15 @@ fn plain_style() -> CellStyle
 
 impl<'a> SetStyles<'a> {
     #[inline(always)]
+    fn beside(&mut self, column: usize) -> (Sides<Indent>, AlignmentHorizontal)
+        ensures padding { result.0 ≡ (set_style self.old column).padding }
+        ensures horizontal { result.1 ≡ (set_style self.old column).horizontal }
+        ensures same { self.new ≡ self.old }
+    {
+        (*self.padding.at(column), *self.horizontal.at(column))
+    }
+
+    #[inline(always)]
     fn at(&mut self, column: usize) -> CellStyle
         ensures style { result ≡ set_style self.old column }
         ensures same { self.new ≡ self.old }
@@ -72,13 +81,31 @@ impl<'a> RowStyles<'a> {
             RowStyles::Set(styles) => styles.at(column),
         }
     }
+
+    /// What is kept free around the text in a column, and where the text stands among the columns that are left: of its style what a
+    /// row of one line asks for.
+    #[inline(always)]
+    pub fn beside(&mut self, column: usize) -> (Sides<Indent>, AlignmentHorizontal)
+        ensures padding { result.0 ≡ (style_in self.old column).padding }
+        ensures horizontal { result.1 ≡ (style_in self.old column).horizontal }
+        ensures same { SameStyles self.old self.new }
+    {
+        match self {
+            RowStyles::Alike(style) => (style.padding, style.horizontal),
+            RowStyles::Listed(styles) => match styles.get(column) {
+                Some(style) => (style.padding, style.horizontal),
+                None => (plain_style().padding, plain_style().horizontal),
+            },
+            RowStyles::Set(styles) => styles.beside(column),
+        }
+    }
 }
 
 impl SpannedConfig {
-    /// How the texts of a row stand, where nothing was set for columns or cells.
+    /// How all texts of a row stand, where nothing was set for columns or cells.
     #[tactic(auto, unfolding(crate::specs::Settings::style_at))]
-    fn row_style(&self, row: usize) -> Option<CellStyle>
-        ensures { IfSome result (λ style. (column : ℕ) → style ≡ style_at self.now row column) }
+    pub fn row_style(&self, row: usize) -> Option<CellStyle>
+        ensures { IfSome result (λ style. (column : ℕ) → style_at self.now row column ≡ style) }
     {
         Some(CellStyle {
             padding: *self.padding.row_value(row)?,
@@ -102,6 +129,14 @@ impl SpannedConfig {
             vertical: self.alignment_vertical.in_row(row),
             line_alignment: self.line_alignment.in_row(row),
         })
+    }
+
+    /// The columns and lines kept free around each text of a row, where no padding was set for columns or cells.
+    #[tactic(auto, unfolding(crate::specs::Settings::style_at))]
+    pub fn row_padding(&self, row: usize) -> Option<Sides<Indent>>
+        ensures { IfSome result (λ padding. (column : ℕ) → (style_at self.now row column).padding ≡ padding) }
+    {
+        Some(*self.padding.row_value(row)?)
     }
 
     /// The paddings of a row's cells, from left to right.

@@ -1,0 +1,10 @@
+use Rattle.std.proofs.Common.{ap, ◌∙◌}
+use Rattle.tabled_row.proofs.row_aims.RowStylesTellAims.at.Goals as goal
+
+pub returns-clause-aim : goal.returns-clause-aim
+returns-clause-aim c = λ row tells within width.
+    let style = row.style c.args.column in
+    let is = tells c.args.column within in
+    let spread = c.in_ok-of.ensures style (c.beside-horizontal.ensures.padding ∙ ap (λ s. s.padding) is)
+    (c.beside-horizontal.ensures.horizontal ∙ ap (λ s. s.horizontal) is) in
+    c.aim.ensures style spread
