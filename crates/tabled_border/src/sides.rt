@@ -1,5 +1,7 @@
 //! What stands on the four sides of something.
-ghost use Rattle.std.specs.Prelude.{◌≡◌};
+ghost use Rattle.std.specs.Prelude.{◌≡◌, true};
+
+use tabled_entity::Distinct;
 
 /// A run of one character: columns on the left and right, lines at the top and bottom.
 #[derive(Clone, Copy, Debug, PartialEq, Eq, PartialOrd, Ord, Hash)]
@@ -66,5 +68,21 @@ impl<T: Copy> Sides<T> {
         ensures { result ≡ record { left = value; right = value; top = value; bottom = value } }
     {
         Sides::new(value, value, value, value)
+    }
+}
+
+/// The same columns or lines of the same character.
+fn is_same(indent: Indent, other: Indent) -> bool
+    ensures { result ≡ true → indent ≡ other }
+{
+    indent.size == other.size && indent.fill == other.fill
+}
+
+impl Distinct for Sides<Indent> {
+    fn is_same(&self, other: &Sides<Indent>) -> bool {
+        is_same(self.left, other.left)
+            && is_same(self.right, other.right)
+            && is_same(self.top, other.top)
+            && is_same(self.bottom, other.bottom)
     }
 }

@@ -1,5 +1,7 @@
 //! Where a text stands in its room.
 
+use tabled_entity::Distinct;
+
 /// Where a text stands among the columns of its room.
 #[derive(Clone, Copy, Debug, PartialEq, Eq, PartialOrd, Ord, Hash)]
 pub enum AlignmentHorizontal {
@@ -20,4 +22,26 @@ pub enum AlignmentVertical {
     Center,
     /// At the bottom.
     Bottom,
+}
+
+impl Distinct for AlignmentHorizontal {
+    fn is_same(&self, other: &AlignmentHorizontal) -> bool {
+        match (*self, *other) {
+            (AlignmentHorizontal::Left, AlignmentHorizontal::Left) => true,
+            (AlignmentHorizontal::Center, AlignmentHorizontal::Center) => true,
+            (AlignmentHorizontal::Right, AlignmentHorizontal::Right) => true,
+            _ => false,
+        }
+    }
+}
+
+impl Distinct for AlignmentVertical {
+    fn is_same(&self, other: &AlignmentVertical) -> bool {
+        match (*self, *other) {
+            (AlignmentVertical::Top, AlignmentVertical::Top) => true,
+            (AlignmentVertical::Center, AlignmentVertical::Center) => true,
+            (AlignmentVertical::Bottom, AlignmentVertical::Bottom) => true,
+            _ => false,
+        }
+    }
 }

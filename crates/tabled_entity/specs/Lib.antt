@@ -1,5 +1,5 @@
 pub mod Ahead
 pub mod Changes
-pub mod Once
 pub mod Places
 pub mod RowPlaces
+pub mod Series

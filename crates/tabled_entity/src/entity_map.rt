@@ -1,19 +1,19 @@
 //! One setting of a table: for the whole of it, for rows, for columns and for cells.
-ghost use Rattle.std.specs.Prelude.{◌≡◌, ◌||◌, ℕ, IfOk, IfSome, IsOk, OnErr, OnOk, true};
-ghost use Rattle.tabled_base.specs.declared.position.Entity.TheVariants.{Cell, Column};
+ghost use Rattle.std.specs.Prelude.{◌≡◌, ℕ, IfOk, IfSome, IsOk, OnErr, OnOk, reverse, true};
 ghost use Rattle.tabled_entity.specs.Changes.{for_all, setting_at, shared, with_change};
-ghost use Rattle.tabled_entity.specs.Once.{IsSetByPart};
-ghost use Rattle.tabled_entity.specs.Places.{IsPart, IsWhole, last_for, latest, same};
+ghost use Rattle.tabled_entity.specs.Places.{IsPart, IsWhole, last_for, latest};
+ghost use Rattle.tabled_entity.specs.Series.{AreListed, IsTold};
 
 use crate::places::Places;
 use crate::row_values::RowValues;
+use crate::series::{Distinct, Series};
 use std::alloc::{AllocError, Global};
 use std::marker::Model;
 use tabled_base::Entity;
 
 /// One setting of a table. The latest one that covers a cell holds there.
 ///
-/// A cell's setting is found by three look-ups among the entities that were set.
+/// A cell's setting is found by three look-ups among the entities that were set, or by its place where they were set one after another.
 #[derive(Debug)]
 pub struct EntityMap<T> {
     // What was set for the whole table.
@@ -22,20 +22,22 @@ pub struct EntityMap<T> {
     changes: Vec<(Entity, T)>,
     // Where the latest change for each part stands.
     places: Places,
-    // Whether no part was changed twice.
-    once: bool,
+    // Those that were set one after another.
+    series: Series<T>,
 }
 
-/// Whether an entity is the cell in a row and a column, or that column.
-#[inline(always)]
-fn is_own(entity: Entity, row: usize, column: usize) -> bool
-    ensures { result ≡ (same entity (Cell row column) || same entity (Column column)) }
+/// The values of some changes that were made one after another, as far as they are told.
+fn series_of<T: Copy + Distinct>(alloc: Global, whole: T, changes: &[(Entity, T)]) -> Series<T>
+    ensures listed { AreListed result }
+    ensures told { IsTold whole (reverse changes.now) result }
 {
-    match entity {
-        Entity::Cell(r, c) => r == row && c == column,
-        Entity::Column(c) => c == column,
-        _ => false,
+    let _whole = whole;
+    let mut series = Series::new(alloc);
+    'places: for place in 0..changes.len() {
+        let change = changes[place];
+        series.put(change.0, change.1);
     }
+    series
 }
 
 /// One call lets a setting go with all its changes, so that whoever lets it go needn't prove it of each part.
@@ -45,22 +47,23 @@ impl<T: Drop> Drop for EntityMap<T> {
             whole: _,
             changes: _,
             places: _,
-            once: _,
+            series: _,
         } = self;
     }
 }
 
 impl<T> Model for EntityMap<T> {
-    ghost use Rattle.std.specs.Prelude.{◌≡◌, reverse, true};
+    ghost use Rattle.std.specs.Prelude.{reverse};
     ghost use Rattle.tabled_entity.specs.Changes.{Changes};
-    ghost use Rattle.tabled_entity.specs.Once.{AreOnce};
     ghost use Rattle.tabled_entity.specs.Places.{IsIndexed};
+    ghost use Rattle.tabled_entity.specs.Series.{AreListed, IsTold};
 
     ghost Value = { Changes T };
 
     ghost view = { λ m. record { whole = m.whole; parts = reverse m.changes.items } };
 
-    ghost invariant = { λ m. IsIndexed m.places (reverse m.changes.items) × (m.once ≡ true → AreOnce (reverse m.changes.items)) };
+    ghost invariant = { λ m. IsIndexed m.places (reverse m.changes.items)
+        × (AreListed m.series × IsTold m.whole (reverse m.changes.items) m.series) };
 }
 
 impl<T: Copy> EntityMap<T> {
@@ -72,20 +75,8 @@ impl<T: Copy> EntityMap<T> {
             whole: value,
             changes: Vec::new(alloc),
             places: Places::new(alloc),
-            once: true,
+            series: Series::new(alloc),
         }
-    }
-
-    /// The same settings.
-    pub fn clone(&self) -> Result<EntityMap<T>, AllocError>
-        ensures { IfOk result (λ copy. copy ≡ self.now) }
-    {
-        Ok(EntityMap {
-            whole: self.whole,
-            changes: Vec::from_slice(*self.changes.allocator(), &self.changes)?,
-            places: self.places.clone()?,
-            once: self.once,
-        })
     }
 
     /// Sets a value for the whole table, and forgets all others.
@@ -95,36 +86,7 @@ impl<T: Copy> EntityMap<T> {
         self.whole = value;
         self.changes.clear();
         self.places.clear();
-        self.once = true;
-    }
-
-    /// Sets a value for a part of the table. Where memory is refused, all is as it was.
-    fn set_part(&mut self, entity: Entity, value: T) -> Result<(), AllocError>
-        requires { IsPart entity }
-        ensures ok { OnOk result (self.new ≡ with_change self.old entity value) }
-        ensures err { OnErr result (self.new ≡ self.old) }
-    {
-        let place = self.changes.len();
-        self.changes.try_reserve(1)?;
-        let had = self.places.put(entity, place)?;
-        self.changes.push((entity, value))?;
-        self.once = self.once && !had;
-        Ok(())
-    }
-
-    /// Sets a value for an entity. Where memory is refused, all is as it was.
-    pub fn set(&mut self, entity: Entity, value: T) -> Result<(), AllocError>
-        ensures ok { OnOk result (self.new ≡ with_change self.old entity value) }
-        ensures err { OnErr result (self.new ≡ self.old) }
-        ensures whole { IsWhole entity → IsOk result }
-    {
-        match entity {
-            Entity::Global => {
-                self.set_all(value);
-                Ok(())
-            }
-            part => self.set_part(part, value),
-        }
+        self.series.clear();
     }
 
     /// What the settings grow by.
@@ -177,18 +139,6 @@ impl<T: Copy> EntityMap<T> {
         self.said(row, column, self.places.latest(row, column))
     }
 
-    /// The value of a cell, if the change at a place was made for it or for its column: then it is the one that covers the cell.
-    #[inline(always)]
-    pub(crate) fn set_at(&self, place: usize, row: usize, column: usize) -> Option<&T>
-        requires { IsSetByPart self.now.parts row }
-        ensures { IfSome result (λ value. value.now ≡ setting_at self.now row column) }
-    {
-        match self.changes.get(place) {
-            Some((entity, value)) if is_own(*entity, row, column) => Some(value),
-            _ => None,
-        }
-    }
-
     /// The value of a cell.
     #[inline]
     pub fn get(&self, row: usize, column: usize) -> T
@@ -200,17 +150,13 @@ impl<T: Copy> EntityMap<T> {
         *self.found(row, column)
     }
 
-    /// Whether what covers the cells of a row is known to be set once each, and for cells alone or for columns alone.
-    fn is_set_by_part(&self, row: usize) -> bool
-        ensures { result ≡ true → IsSetByPart self.now.parts row }
-    {
-        self.once && self.places.are_of_one_kind(row)
-    }
-
     /// The value of all cells of a row, if nothing was set for a column or a cell.
     pub fn row_value(&self, row: usize) -> Option<&T>
         ensures { IfSome result (λ value. (column : ℕ) → value.now ≡ setting_at self.now row column) }
     {
+        if self.changes.is_empty() {
+            return Some(&self.whole);
+        }
         if self.places.are_of_rows() {
             Some(self.found(row, 0))
         } else {
@@ -218,35 +164,58 @@ impl<T: Copy> EntityMap<T> {
         }
     }
 
-    /// Where the change for the first cell of a row stands, if cells were set row by row, and as many in each.
-    fn likely_place(&self, row: usize) -> usize {
-        let (Some((Entity::Cell(first, _), _)), Some((Entity::Cell(last, _), _))) = (
-            self.changes.first(),
-            self.changes.last(),
-        ) else {
-            return 0;
-        };
-        let rows = last.saturating_sub(*first).saturating_add(1);
-        row.saturating_sub(*first)
-            .saturating_mul(self.changes.len() / rows)
-    }
-
     /// The values of a row's cells, from left to right: each takes a step, and no look-up among the cells.
     pub fn in_row(&self, row: usize) -> RowValues<'_, T>
         ensures { result ≡ record { changes = self.now; row = row } }
     {
         if let Some(value) = self.row_value(row) {
-            return RowValues::new(self, row, value, None, false, 0);
+            return RowValues::new(self, row, value, None, None);
         }
         let places = self.places.in_row(row);
-        RowValues::new(
-            self,
-            row,
-            &self.whole,
-            Some(places),
-            self.is_set_by_part(row),
-            self.likely_place(row),
-        )
+        RowValues::new(self, row, &self.whole, Some(places), self.series.row(row))
+    }
+}
+
+impl<T: Copy + Distinct> EntityMap<T> {
+    /// The same settings.
+    pub fn clone(&self) -> Result<EntityMap<T>, AllocError>
+        ensures { IfOk result (λ copy. copy ≡ self.now) }
+    {
+        Ok(EntityMap {
+            whole: self.whole,
+            changes: Vec::from_slice(*self.changes.allocator(), &self.changes)?,
+            places: self.places.clone()?,
+            series: series_of(*self.changes.allocator(), self.whole, &self.changes),
+        })
+    }
+
+    /// Sets a value for a part of the table. Where memory is refused, all is as it was.
+    fn set_part(&mut self, entity: Entity, value: T) -> Result<(), AllocError>
+        requires { IsPart entity }
+        ensures ok { OnOk result (self.new ≡ with_change self.old entity value) }
+        ensures err { OnErr result (self.new ≡ self.old) }
+    {
+        let place = self.changes.len();
+        self.changes.try_reserve(1)?;
+        self.places.put(entity, place)?;
+        self.changes.push((entity, value))?;
+        self.series.put(entity, value);
+        Ok(())
+    }
+
+    /// Sets a value for an entity. Where memory is refused, all is as it was.
+    pub fn set(&mut self, entity: Entity, value: T) -> Result<(), AllocError>
+        ensures ok { OnOk result (self.new ≡ with_change self.old entity value) }
+        ensures err { OnErr result (self.new ≡ self.old) }
+        ensures whole { IsWhole entity → IsOk result }
+    {
+        match entity {
+            Entity::Global => {
+                self.set_all(value);
+                Ok(())
+            }
+            part => self.set_part(part, value),
+        }
     }
 }
 

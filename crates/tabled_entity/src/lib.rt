@@ -6,6 +6,8 @@ mod entity_map;
 mod places;
 mod row_places;
 mod row_values;
+mod series;
 
 pub use entity_map::EntityMap;
 pub use row_values::RowValues;
+pub use series::Distinct;

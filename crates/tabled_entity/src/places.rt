@@ -1,5 +1,5 @@
 //! Where the latest change for each part of a table stands in the list of changes.
-ghost use Rattle.std.specs.Prelude.{◌≡◌, ◌⊎◌, ℕ, IfOk, None, OnErr, OnOk, is_some, true};
+ghost use Rattle.std.specs.Prelude.{◌≡◌, ℕ, IfOk, OnErr, OnOk, true};
 ghost use Rattle.tabled_base.specs.declared.position.Entity.TheVariants.{Cell, Column, Row};
 ghost use Rattle.tabled_entity.specs.Places.{
   HasNone,
@@ -69,38 +69,37 @@ impl Places {
         self.cells.clear();
     }
 
-    /// Keeps the place of a row, and answers whether it had one.
-    fn put_row(&mut self, row: usize, place: usize) -> Result<bool, AllocError>
+    /// Keeps the place of a row.
+    fn put_row(&mut self, row: usize, place: usize) -> Result<(), AllocError>
         ensures ok { OnOk result (IsPlaced self.old self.new (Row row) place) }
-        ensures had { IfOk result (λ had. had ≡ is_some (found self.old (Row row))) }
         ensures err { OnErr result (SamePlaces self.old self.new) }
     {
-        Ok(self.rows.insert(row, place)?.is_some())
+        self.rows.insert(row, place)?;
+        Ok(())
     }
 
-    /// Keeps the place of a column, and answers whether it had one.
-    fn put_column(&mut self, column: usize, place: usize) -> Result<bool, AllocError>
+    /// Keeps the place of a column.
+    fn put_column(&mut self, column: usize, place: usize) -> Result<(), AllocError>
         ensures ok { OnOk result (IsPlaced self.old self.new (Column column) place) }
-        ensures had { IfOk result (λ had. had ≡ is_some (found self.old (Column column))) }
         ensures err { OnErr result (SamePlaces self.old self.new) }
     {
-        Ok(self.columns.insert(column, place)?.is_some())
+        self.columns.insert(column, place)?;
+        Ok(())
     }
 
-    /// Keeps the place of a cell, and answers whether it had one.
-    fn put_cell(&mut self, row: usize, column: usize, place: usize) -> Result<bool, AllocError>
+    /// Keeps the place of a cell.
+    fn put_cell(&mut self, row: usize, column: usize, place: usize) -> Result<(), AllocError>
         ensures ok { OnOk result (IsPlaced self.old self.new (Cell row column) place) }
-        ensures had { IfOk result (λ had. had ≡ is_some (found self.old (Cell row column))) }
         ensures err { OnErr result (SamePlaces self.old self.new) }
     {
-        Ok(self.cells.insert((row, column), place)?.is_some())
+        self.cells.insert((row, column), place)?;
+        Ok(())
     }
 
-    /// Keeps the place of an entity, which is not the whole table, and answers whether it had one.
-    pub fn put(&mut self, entity: Entity, place: usize) -> Result<bool, AllocError>
+    /// Keeps the place of an entity, which is not the whole table.
+    pub fn put(&mut self, entity: Entity, place: usize) -> Result<(), AllocError>
         requires { IsPart entity }
         ensures ok { OnOk result (IsPlaced self.old self.new entity place) }
-        ensures had { IfOk result (λ had. had ≡ is_some (found self.old entity)) }
         ensures err { OnErr result (SamePlaces self.old self.new) }
     {
         match entity {
@@ -135,18 +134,6 @@ impl Places {
         ensures { result ≡ true → (column : ℕ) → latest (found self.now) row column ≡ latest (found self.now) other column }
     {
         self.cells.is_empty() && self.rows.get(&row).is_none() && self.rows.get(&other).is_none()
-    }
-
-    /// Whether no place is kept for a row, and none for columns, or none for cells.
-    pub fn are_of_one_kind(&self, row: usize) -> bool
-        ensures row { result ≡ true → found self.now (Row row) ≡ None }
-        ensures kind { result ≡ true → ((column : ℕ) → found self.now (Column column) ≡ None)
-            ⊎ ((column : ℕ) → found self.now (Cell row column) ≡ None) }
-    {
-        if self.rows.get(&row).is_some() {
-            return false;
-        }
-        self.columns.is_empty() || self.cells.is_empty()
     }
 
     /// Whether the latest places of all cells of a row are known to be the same: where none is kept for a column, nor for a cell.

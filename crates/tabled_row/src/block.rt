@@ -17,10 +17,16 @@ use tabled_config::{AlignmentHorizontal, AlignmentVertical, CellStyle};
 pub(crate) fn before_text(alignment: AlignmentHorizontal, free: usize) -> usize
     ensures { result ≡ before_text alignment free }
 {
-    match alignment {
-        AlignmentHorizontal::Left => 0,
-        AlignmentHorizontal::Center => free / 2,
-        AlignmentHorizontal::Right => free,
+    // As two choices of a number, and not as three ways to go on, since alignments may differ from cell to cell.
+    let centered = if let AlignmentHorizontal::Center = alignment {
+        free / 2
+    } else {
+        free
+    };
+    if let AlignmentHorizontal::Left = alignment {
+        0
+    } else {
+        centered
     }
 }
 

@@ -1,0 +1,223 @@
+-- What is told of cells, while values are listed and put behind each other.
+use Rattle.std.proofs.Common.{◌≡◌, ◌⊎◌, ℕ, Bool, true, false, if◌then◌else◌, ◌==◌, ◌&&◌, zero, suc, ◌+◌, ◌-◌, ◌<◌, ◌++◌, [], ◌∷◌, List, Option, None, Some, IfSome, ap, arith, inl, inr, is_some, length, nat_lt, refl, slice_get, slice_set, subst, sym, ◌∙◌}
+use Rattle.std.proofs.lemmas.Bool.{and_parts, both_ways, cases_Bool, eqb-false, eqb-true, ltb-false}
+use Rattle.std.proofs.lemmas.Option.{slice_get_cases, slice_get_within}
+use Rattle.std.specs.Option.{option_and_then, unwrap_or}
+use Rattle.std.specs.declared.alloc.Global.{Global}
+use Rattle.std.specs.declared.vec.Vec.{Vec}
+use Rattle.tabled_base.specs.declared.position.Entity.{Entity}
+use Rattle.tabled_base.specs.declared.position.Entity.TheVariants.{Cell, Column}
+use Rattle.tabled_entity.specs.Changes.{covers, first_covering}
+use Rattle.tabled_entity.specs.Series.{IsTold, TellsLess, TellsNone, TellsPut, TellsSame, numbered, told, value_told}
+use Rattle.tabled_entity.specs.declared.series.Series.{Series}
+
+is-same : (n : ℕ) → (n == n) ≡ true
+is-same n =
+    elim (cases_Bool (n == n)) [
+      | inl same ↦ same
+      | inr differs ↦ absurd (eqb-false n n differs refl)
+    ]
+
+-- where one item of a list was set
+set-get : {X : Type 0} (xs : List X) (i place : ℕ) (x : X)
+    → (slice_get (slice_set xs i x) place ≡ slice_get xs place) ⊎ (slice_get (slice_set xs i x) place ≡ Some x)
+set-get [] i place x = inl refl
+set-get (y ∷ ys) zero zero x = inr refl
+set-get (y ∷ ys) zero (suc place) x = inl refl
+set-get (y ∷ ys) (suc i) zero x = inl refl
+set-get (y ∷ ys) (suc i) (suc place) x = set-get ys i place x
+
+same-some : (m n : ℕ) → Some m ≡ Some n → m ≡ n
+same-some m n h = ap (λ o. unwrap_or o m) h
+
+none-some : (n : ℕ) → None ≡ Some n → ⊥
+none-some n h = both_ways false refl (ap is_some h)
+
+push-get : (xs : List ℕ) (x column number : ℕ) → slice_get (xs ++ x ∷ []) column ≡ Some number
+    → (slice_get xs column ≡ Some number) ⊎ (x ≡ number)
+push-get [] x zero number h = inr (same-some x number h)
+push-get [] x (suc column) number h = absurd (none-some number h)
+push-get (y ∷ ys) x zero number h = inl h
+push-get (y ∷ ys) x (suc column) number h = push-get ys x column number h
+
+own-more : (xs : List ℕ) (x column number count : ℕ) (ok : Bool) → x < count → (slice_get xs column ≡ Some number → number < count)
+    → slice_get (if ok then xs ++ x ∷ [] else xs) column ≡ Some number → number < count
+own-more xs x column number count false below listed h = listed h
+own-more xs x column number count true below listed h =
+    elim (push-get xs x column number h) [
+      | inl old ↦ listed old
+      | inr own ↦ let same : x ≡ number = own in omega (arith, below, same)
+    ]
+
+-- one number more in a row, or none
+pub listed-more : (rows : List (Vec ℕ Global)) (i x count place column number : ℕ) (row more : Vec ℕ Global) (ok : Bool) → slice_get rows i ≡ Some row
+    → more.items ≡ (if ok then row.items ++ x ∷ [] else row.items) → x < count
+    → ((place column number : ℕ) → option_and_then (λ numbers. slice_get numbers.items column) (slice_get rows place) ≡ Some number → number < count)
+    → option_and_then (λ numbers. slice_get numbers.items column) (slice_get (slice_set rows i more) place) ≡ Some number → number < count
+listed-more rows i x count place column number row more ok is items below listed h =
+    elim (set-get rows i place more) [
+      | inl same ↦ listed place column number (ap (option_and_then (λ numbers. slice_get numbers.items column)) (sym same) ∙ h)
+      | inr set ↦
+          let there : slice_get more.items column ≡ Some number =
+          sym (ap (option_and_then (λ numbers. slice_get numbers.items column)) set) ∙ h in
+          own-more row.items x column number count ok below
+          (λ old. listed i column number (ap (option_and_then (λ numbers. slice_get numbers.items column)) is ∙ old))
+          (ap (λ xs. slice_get xs column) (sym items) ∙ there)
+    ]
+
+module _ {T : Type 0} where
+  -- what is listed stays so
+  abbrev pub StayListed : List T → List T → Type 0
+  StayListed old new = (number : ℕ) (listed : T) → slice_get old number ≡ Some listed → slice_get new number ≡ Some listed
+
+  pub within-more : (old new : List T) (number : ℕ) → StayListed old new → number < length old → number < length new
+  within-more old new number stay h =
+      elim (slice_get_cases old number).1 [
+        | inl (x, lt, is, _) ↦ slice_get_within new number x (stay number x is)
+        | inr (past, _) ↦ absurd (omega (arith, past, h))
+      ]
+
+  number-more : (old new : List T) (o : Option ℕ) → StayListed old new → ((number : ℕ) → o ≡ Some number → number < length old)
+      → option_and_then (slice_get new) o ≡ option_and_then (slice_get old) o
+  number-more old new None stay h = refl
+  number-more old new (Some number) stay h =
+      let within = h number refl in
+      elim (slice_get_cases old number).1 [
+        | inl (x, lt, is, _) ↦ stay number x is ∙ sym is
+        | inr (past, _) ↦ absurd (omega (arith, past, within))
+      ]
+
+  -- more values that are listed change nothing of what is told by numbers
+  pub told-more : (old new : List T) (row : Option (Vec ℕ Global)) (column : ℕ) → StayListed old new
+      → ((number : ℕ) → option_and_then (λ numbers. slice_get numbers.items column) row ≡ Some number → number < length old)
+      → option_and_then (λ numbers. numbered new numbers.items column) row ≡ option_and_then (λ numbers. numbered old numbers.items column) row
+  told-more old new None column stay h = refl
+  told-more old new (Some numbers) column stay h = number-more old new (slice_get numbers.items column) stay h
+
+  -- where values are told of cells
+  told-cells : (series : Series T) (row column : ℕ) → series.for_columns ≡ false
+      → told series row column ≡ (if nat_lt row series.first then None else value_told series (row - series.first) column)
+  told-cells series row column cells =
+      let tell = option_and_then (λ place. value_told series place column) in
+      ap (λ t. tell (if t then Some 0 else (if nat_lt row series.first then None else Some (row - series.first)))) cells
+      ∙ elim (nat_lt row series.first) as (λ t. tell (if t then None else Some (row - series.first))
+      ≡ (if t then None else value_told series (row - series.first) column)) [
+        | true ↦ refl
+        | false ↦ refl
+      ]
+
+  -- and where they are told of columns
+  told-columns : (series : Series T) (row column : ℕ) → series.for_columns ≡ true → told series row column ≡ value_told series 0 column
+  told-columns series row column columns =
+      ap (λ t. option_and_then (λ place. value_told series place column)
+      (if t then Some 0 else (if nat_lt row series.first then None else Some (row - series.first)))) columns
+
+  -- one value more in the last row
+  abbrev pub IsAdded : Series T → Series T → ℕ → T → Type 0
+  IsAdded old new column value = (place at : ℕ) → (value_told new place at ≡ value_told old place at)
+      ⊎ ((suc place ≡ length old.rows.items) × (at ≡ column) × (value_told new place at ≡ Some value))
+
+  -- it is the only one that is told anew
+  abbrev pub TellsOne : Entity → T → Series T → Series T → Type 0
+  TellsOne entity value old new = (row column : ℕ) → (told new row column ≡ told old row column)
+      ⊎ ((covers entity row column ≡ true) × (told new row column ≡ Some value))
+
+  one-cell : (old new : Series T) (row column : ℕ) (value : T) → old.for_columns ≡ false → new.for_columns ≡ old.for_columns
+      → new.first ≡ old.first → row + 1 ≡ old.first + length old.rows.items → IsAdded old new column value
+      → TellsOne (Cell row column) value old new
+  one-cell old new row column value cells still first last added = λ r k.
+      let place = r - old.first in
+      let before = told-cells old r k cells in
+      let after = told-cells new r k (still ∙ cells)
+          ∙ ap (λ n. if nat_lt r n then None else value_told new (r - n) k) first in
+      elim (cases_Bool (nat_lt r old.first)) [
+        | inl less ↦
+            inl (after ∙ ap (λ t. if t then None else value_told new place k) less
+            ∙ sym (before ∙ ap (λ t. if t then None else value_told old place k) less))
+        | inr from ↦
+            let now = after ∙ ap (λ t. if t then None else value_told new place k) from in
+            let once = before ∙ ap (λ t. if t then None else value_told old place k) from in
+            let above = ltb-false r old.first from in
+            elim (added place k) [
+              | inl same ↦ inl (now ∙ same ∙ sym once)
+              | inr (end, at, is) ↦
+                  let same : r ≡ row = omega (arith, last, end, above) in
+                  inr (ap (λ n. row == n && column == k) same ∙ ap (λ n. row == row && column == n) at
+                  ∙ ap (λ t. t && column == column) (is-same row) ∙ is-same column, now ∙ is)
+            ]
+      ]
+
+  one-column : (old new : Series T) (column : ℕ) (value : T) → old.for_columns ≡ true → new.for_columns ≡ old.for_columns
+      → IsAdded old new column value → TellsOne (Column column) value old new
+  one-column old new column value columns still added = λ r k.
+      let before = told-columns old r k columns in
+      let after = told-columns new r k (still ∙ columns) in
+      elim (added 0 k) [
+        | inl same ↦ inl (after ∙ same ∙ sym before)
+        | inr (_, at, is) ↦ inr (ap (λ n. column == n) at ∙ is-same column, after ∙ is)
+      ]
+
+  put-one : (entity : Entity) (value : T) (old less new : Series T) → TellsLess old less
+      → ((row column : ℕ) → covers entity row column ≡ true → told less row column ≡ None)
+      → TellsOne entity value less new → TellsPut entity value old new
+  put-one entity value old less new fewer none one =
+      record {
+        own = λ row column is.
+            elim (one row column) [
+              | inl same ↦ subst (λ o. IfSome o (λ now. now ≡ value)) (sym (same ∙ none row column is)) tt
+              | inr (_, told) ↦ subst (λ o. IfSome o (λ now. now ≡ value)) (sym told) refl
+            ];
+        others = λ row column no.
+            elim (one row column) [
+              | inl same ↦ subst (λ o. IfSome o (λ now. told old row column ≡ Some now)) (sym same) (fewer.at row column)
+              | inr (is, _) ↦ absurd (both_ways (covers entity row column) no is)
+            ];
+      }
+
+  -- a value is put for a cell, behind the others
+  pub put-cell : (old less opened new : Series T) (row column : ℕ) (value : T) → TellsLess old less → told less row column ≡ None
+      → TellsSame less opened → opened.for_columns ≡ false → new.for_columns ≡ opened.for_columns → new.first ≡ opened.first
+      → row + 1 ≡ opened.first + length opened.rows.items → IsAdded opened new column value → TellsPut (Cell row column) value old new
+  put-cell old less opened new row column value fewer none same cells still first last added =
+      put-one (Cell row column) value old opened new
+      (record { at = λ r k. subst (λ o. IfSome o (λ now. told old r k ≡ Some now)) (sym (same.at r k)) (fewer.at r k) })
+      (λ r k is.
+      let both = and_parts (row == r) (column == k) is in
+      same.at r k ∙ ap (λ n. told less n k) (sym (eqb-true row r both.0)) ∙ ap (told less row) (sym (eqb-true column k both.1)) ∙ none)
+      (one-cell opened new row column value cells still first last added)
+
+  -- and for a column
+  pub put-column : (old less new : Series T) (column : ℕ) (value : T) → TellsLess old less → ((row : ℕ) → told less row column ≡ None)
+      → less.for_columns ≡ true → new.for_columns ≡ less.for_columns → IsAdded less new column value → TellsPut (Column column) value old new
+  put-column old less new column value fewer none columns still added =
+      put-one (Column column) value old less new fewer
+      (λ r k is. ap (told less r) (sym (eqb-true column k is)) ∙ none r)
+      (one-column less new column value columns still added)
+
+  -- nothing is told, so nothing wrong
+  pub none-told : (whole : T) (parts : List (Entity × T)) (series : Series T) → TellsNone series → IsTold whole parts series
+  none-told whole parts series none =
+      record {
+        at = λ row column. subst (λ o. IfSome o (λ value. value ≡ first_covering whole parts row column)) (sym (none.at row column)) tt;
+      }
+
+  -- what is told is still what was set, where the value that was set is told too
+  pub told-set : (whole : T) (parts : List (Entity × T)) (entity : Entity) (value : T) (old new : Series T) → IsTold whole parts old
+      → TellsPut entity value old new → IsTold whole ((entity, value) ∷ parts) new
+  told-set whole parts entity value old new is put =
+      record {
+        at = λ row column. set-at row column (told new row column) (told old row column) (put.own row column) (put.others row column) (is.at row column);
+      }
+    where
+      set-at : (row column : ℕ) (now once : Option T) → (covers entity row column ≡ true → IfSome now (λ x. x ≡ value))
+          → (covers entity row column ≡ false → IfSome now (λ x. once ≡ Some x))
+          → IfSome once (λ x. x ≡ first_covering whole parts row column)
+          → IfSome now (λ x. x ≡ first_covering whole ((entity, value) ∷ parts) row column)
+      set-at row column None once own others before = tt
+      set-at row column (Some x) once own others before =
+          elim (cases_Bool (covers entity row column)) [
+            | inl covered ↦ own covered ∙ sym (ap (λ t. if t then value else first_covering whole parts row column) covered)
+            | inr apart ↦
+                subst (λ o. IfSome o (λ y. y ≡ first_covering whole parts row column)) (others apart) before
+                ∙ sym (ap (λ t. if t then value else first_covering whole parts row column) apart)
+          ]
