@@ -129,7 +129,7 @@ module _ {T : Type 0} where
       let place = r - old.first in
       let before = told-cells old r k cells in
       let after = told-cells new r k (still ∙ cells)
-          ∙ ap (λ n. if nat_lt r n then None else value_told new (r - n) k) first in
+      ∙ ap (λ n. if nat_lt r n then None else value_told new (r - n) k) first in
       elim (cases_Bool (nat_lt r old.first)) [
         | inl less ↦
             inl (after ∙ ap (λ t. if t then None else value_told new place k) less
@@ -142,8 +142,11 @@ module _ {T : Type 0} where
               | inl same ↦ inl (now ∙ same ∙ sym once)
               | inr (end, at, is) ↦
                   let same : r ≡ row = omega (arith, last, end, above) in
-                  inr (ap (λ n. row == n && column == k) same ∙ ap (λ n. row == row && column == n) at
-                  ∙ ap (λ t. t && column == column) (is-same row) ∙ is-same column, now ∙ is)
+                  inr (
+                    ap (λ n. row == n && column == k) same ∙ ap (λ n. row == row && column == n) at
+                        ∙ ap (λ t. t && column == column) (is-same row) ∙ is-same column,
+                    now ∙ is,
+                  )
             ]
       ]
 

@@ -1,5 +1,5 @@
 -- Values that were set one after another: for cells, row by row and each row from its first column on, or for columns.
-use Rattle.std.specs.Prelude.{ℕ, ◌≡◌, ◌-◌, Bool, true, false, List, Option, Some, None, IfSome, if◌then◌else◌, length, nat_lt, slice_get, ◌<◌}
+use Rattle.std.specs.Prelude.{ℕ, ◌≡◌, ◌-◌, true, false, List, Option, Some, None, IfSome, if◌then◌else◌, length, nat_lt, slice_get, ◌<◌}
 use Rattle.std.specs.Option.{option_and_then}
 use Rattle.tabled_base.specs.declared.position.Entity.{Entity}
 use Rattle.tabled_entity.specs.Changes.{covers, first_covering}

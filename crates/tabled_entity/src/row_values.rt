@@ -43,7 +43,8 @@ impl<'a, T> Model for RowValues<'a, T> {
 }
 
 impl<'a, T: Copy> RowValues<'a, T> {
-    /// The values of the cells of a row, by the places of the latest changes for them and by what is told of the first, or the one of all where it is known to be one.
+    /// The values of the cells of a row, by the places of the latest changes for them and by what is told of the first ones, or the one
+    /// of all where it is known to be one.
     pub(crate) fn new(
         map: &'a EntityMap<T>,
         row: usize,

@@ -3,7 +3,7 @@ use Rattle.std.proofs.Common.{◌≡◌, ℕ, List, ◌++◌, ◌∙◌, ap, app
 use Rattle.tabled_border.specs.Frame.{has_bar}
 use Rattle.tabled_row.specs.Fill.{fill}
 use Rattle.tabled_row.specs.Row.{RowSheet, cell_piece, piece}
-use Rattle.tabled_row.specs.Spaced.{IsPlaced}
+use Rattle.tabled_row.specs.Placed.{IsPlaced}
 use Rattle.tabled_row.specs.declared.row_aims.Placed.{Placed}
 
 -- spaces and the cell: the spaces, the vertical line and the spaces before the text, the text, and the spaces behind it

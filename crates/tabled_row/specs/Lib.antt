@@ -5,9 +5,9 @@ pub mod Fill
 pub mod Gap
 pub mod Leading
 pub mod Marks
+pub mod Placed
 pub mod Plain
 pub mod Rooms
 pub mod Row
 pub mod SendsBut
 pub mod Sent
-pub mod Spaced

@@ -2,7 +2,7 @@
 ghost use Rattle.std.specs.Prelude.{◌≡◌, ◌<◌, IfSome};
 ghost use Rattle.tabled_row.specs.Aims.{IsAimed, aim_of};
 ghost use Rattle.tabled_row.specs.Row.{RowSheet};
-ghost use Rattle.tabled_row.specs.Spaced.{IsPlaced};
+ghost use Rattle.tabled_row.specs.Placed.{IsPlaced};
 
 use crate::aim::{Aim, Spread};
 use crate::block::before_text;
