@@ -157,11 +157,8 @@ impl<T: Copy> EntityMap<T> {
         if self.changes.is_empty() {
             return Some(&self.whole);
         }
-        if self.places.are_of_rows() {
-            Some(self.found(row, 0))
-        } else {
-            None
-        }
+        let place = self.places.of_row(row)?;
+        Some(self.said(row, 0, place))
     }
 
     /// The values of a row's cells, from left to right: each takes a step, and no look-up among the cells.

@@ -1,5 +1,5 @@
 //! Where the latest change for each part of a table stands in the list of changes.
-ghost use Rattle.std.specs.Prelude.{◌≡◌, ℕ, IfOk, OnErr, OnOk, true};
+ghost use Rattle.std.specs.Prelude.{◌≡◌, ℕ, IfOk, IfSome, OnErr, OnOk, true};
 ghost use Rattle.tabled_base.specs.declared.position.Entity.TheVariants.{Cell, Column, Row};
 ghost use Rattle.tabled_entity.specs.Places.{
   HasNone,
@@ -136,10 +136,15 @@ impl Places {
         self.cells.is_empty() && self.rows.get(&row).is_none() && self.rows.get(&other).is_none()
     }
 
-    /// Whether the latest places of all cells of a row are known to be the same: where none is kept for a column, nor for a cell.
-    pub fn are_of_rows(&self) -> bool
-        ensures { result ≡ true → (row column other : ℕ) → latest (found self.now) row column ≡ latest (found self.now) row other }
+    /// The latest place of all cells of a row, where none is kept for a column, nor for a cell.
+    #[inline]
+    pub fn of_row(&self, row: usize) -> Option<Option<usize>>
+        ensures { IfSome result (λ place. (column : ℕ) → latest (found self.now) row column ≡ place) }
     {
-        self.columns.is_empty() && self.cells.is_empty()
+        if self.columns.is_empty() && self.cells.is_empty() {
+            Some(self.rows.get(&row).copied())
+        } else {
+            None
+        }
     }
 }

@@ -1,11 +1,19 @@
 use Rattle.std.proofs.Common.{reverse, sym, ap, ◌∙◌}
 use Rattle.tabled_entity.specs.Changes.{setting_at}
-use Rattle.tabled_entity.proofs.Indexed.{same-found}
+use Rattle.tabled_entity.proofs.Covering.{latest_place}
+use Rattle.tabled_entity.proofs.Indexed.{indexed-latest, same-found}
 use Rattle.tabled_entity.proofs.entity_map.EntityMap.row_value.Goals as goal
 
-pub returns-then-are_of_rows : goal.returns-then-are_of_rows
-returns-then-are_of_rows g c = λ column.
+pub said-requires : goal.said-requires
+said-requires g c =
     let inside = c.self.inside in
-    c.found.ensures ∙ sym (ap (λ v. setting_at v c.args.row 0) c.self.view_is)
+    sym (c.in_ok-place.ensures 0)
+    ∙ indexed-latest inside.places (reverse inside.changes.items) c.args.row 0 c.self.invariant.0
+    ∙ ap (λ v. latest_place v.parts c.args.row 0) c.self.view_is
+
+pub returns : goal.returns
+returns g c = λ column.
+    let inside = c.self.inside in
+    c.said.ensures ∙ sym (ap (λ v. setting_at v c.args.row 0) c.self.view_is)
     ∙ (same-found inside.whole inside.places (reverse inside.changes.items) c.args.row 0 column c.self.invariant.0
-    (c.are_of_rows.ensures c.if-are_of_rows.true c.args.row 0 column) ∙ ap (λ v. setting_at v c.args.row column) c.self.view_is)
+    (c.in_ok-place.ensures 0 ∙ sym (c.in_ok-place.ensures column)) ∙ ap (λ v. setting_at v c.args.row column) c.self.view_is)
