@@ -68,6 +68,17 @@ impl<'a, T: Copy> RowValues<'a, T> {
         }
     }
 
+    /// The value of all cells, if it is known to be one.
+    #[inline(always)]
+    pub fn shared(&self) -> Option<T>
+        ensures { IfSome result (λ value. (column : ℕ) → value_at self.now column ≡ value) }
+    {
+        match &self.places {
+            Some(_) => None,
+            None => Some(*self.whole),
+        }
+    }
+
     /// The value of the cell in a column, if it is told by its place.
     #[inline(always)]
     fn told(&self, column: usize) -> Option<&'a T>

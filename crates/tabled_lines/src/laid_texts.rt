@@ -6,7 +6,7 @@ ghost use Rattle.tabled_row.specs.Fill.{fill};
 ghost use Rattle.tabled_row.specs.Row.{row_line};
 
 use crate::spots::Spot;
-use tabled_row::{KeptAims, Placed, Row, TellAims, place};
+use tabled_row::{KeptAims, Placed, Row, SetAims, TellAims, place};
 
 /// Copies a text over some bytes of its length.
 #[inline(always)]
@@ -76,6 +76,6 @@ pub(crate) fn lay_all<'a, R: Row<'a>>(line: &mut [u8], spots: &[Spot], row: &R) 
     }
     match row.aims() {
         Some(kept) => lay_texts(line, spots, row, KeptAims(kept)),
-        None => lay_texts(line, spots, row, row.styles()),
+        None => lay_texts(line, spots, row, SetAims::new(row.styles())),
     }
 }

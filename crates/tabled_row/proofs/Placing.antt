@@ -1,9 +1,15 @@
 -- The pieces of a cell whose text stands between spaces.
-use Rattle.std.proofs.Common.{◌≡◌, ℕ, List, ◌++◌, ◌∙◌, ap, append_assoc}
+use Rattle.std.proofs.Common.{◌≡◌, ℕ, List, ◌++◌, ◌∙◌, IfSome, None, Option, Some, ap, append_assoc, refl, sym}
 use Rattle.tabled_border.specs.Frame.{has_bar}
+use Rattle.tabled_border.specs.declared.sides.Indent.{Indent}
+use Rattle.tabled_border.specs.declared.sides.Sides.{Sides}
+use Rattle.tabled_config.specs.declared.alignment.AlignmentHorizontal.TheVariants.{Left}
+use Rattle.tabled_config.specs.declared.spanned.CellStyle.{CellStyle}
+use Rattle.tabled_row.specs.Aims.{IsPadded, IsSpread}
 use Rattle.tabled_row.specs.Fill.{fill}
 use Rattle.tabled_row.specs.Row.{RowSheet, cell_piece, piece}
 use Rattle.tabled_row.specs.Placed.{IsPlaced}
+use Rattle.tabled_row.specs.declared.aim.Spread.{Spread}
 use Rattle.tabled_row.specs.declared.row_aims.Placed.{Placed}
 
 -- spaces and the cell: the spaces, the vertical line and the spaces before the text, the text, and the spaces behind it
@@ -17,3 +23,13 @@ spaced-parts row column placed n h =
   where
     regroup : (a b c d : List ℕ) → a ++ (b ++ (c ++ d)) ≡ (a ++ (b ++ c)) ++ d
     regroup a b c d = simp append_assoc
+
+-- texts that are padded alike stand alike but for their alignments
+pub padded-alike : (styles : ℕ → CellStyle) (padding : Sides Indent) (told : Option Spread)
+    → ((style : CellStyle) → padding ≡ style.padding → Left ≡ style.horizontal → IfSome told (IsSpread style))
+    → ((column : ℕ) → (styles column).padding ≡ padding)
+    → IfSome told (λ spread. (column : ℕ) → IsPadded (styles column) spread)
+padded-alike styles padding None is alike = tt
+padded-alike styles padding (Some spread) is alike = λ column.
+    let own = is (record (styles column) { horizontal = Left }) (sym (alike column)) refl in
+    record { spaced = own.spaced; spread_is = ap {A = Spread} (λ s. record s { horizontal = (styles column).horizontal }) own.spread_is }

@@ -41,3 +41,7 @@ pub record AreAims (style : ℕ → CellStyle) (width : ℕ → ℕ) (count : �
 pub record IsSpread (style : CellStyle) (spread : Spread) : Type 0 where
   pub spaced : IsSpaced style.padding
   pub spread_is : spread ≡ spread_of style
+
+-- so is the padding of a style, whatever its alignment
+abbrev pub IsPadded : CellStyle → Spread → Type 0
+IsPadded style spread = IsSpread style (record spread { horizontal = style.horizontal })

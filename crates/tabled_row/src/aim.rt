@@ -57,6 +57,14 @@ impl Spread {
         Spread::of(&style.padding, style.horizontal)
     }
 
+    /// The same with another alignment.
+    #[inline(always)]
+    pub fn aligned(self, horizontal: AlignmentHorizontal) -> Spread
+        ensures { result ≡ record self { horizontal = horizontal } }
+    {
+        Spread { horizontal, ..self }
+    }
+
     /// Where such a text stands in a column of some width, if its padding fits.
     #[inline(always)]
     pub fn aim(self, width: usize) -> Option<Aim>

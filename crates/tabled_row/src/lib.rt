@@ -34,5 +34,5 @@ pub use marks::Marks;
 pub use pieces::{put_char, put_fill, put_indent};
 pub use room::Room;
 pub use row::{Row, put_row_line};
-pub use row_aims::{KeptAims, Placed, TellAims, place};
+pub use row_aims::{KeptAims, Placed, SetAims, TellAims, place};
 pub use text_sink::TextSink;

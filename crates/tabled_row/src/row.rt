@@ -13,7 +13,7 @@ use crate::content::Content;
 use crate::edges::{put_left, put_piece, put_right};
 use crate::gap::{Gap, GapText};
 use crate::marks::{Mark, Marks};
-use crate::row_aims::KeptAims;
+use crate::row_aims::{KeptAims, SetAims};
 use crate::spaced::put_spaced_cells;
 use crate::text_sink::TextSink;
 use tabled_base::TableError;
@@ -167,7 +167,7 @@ fn put_spaced<'a, R: Row<'a>, S: TextSink>(
     }
     match row.aims() {
         Some(kept) => put_spaced_cells(sink, row, marks, KeptAims(kept), gap),
-        None => put_spaced_cells(sink, row, marks, row.styles(), gap),
+        None => put_spaced_cells(sink, row, marks, SetAims::new(row.styles()), gap),
     }
 }
 

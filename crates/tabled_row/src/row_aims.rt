@@ -1,13 +1,14 @@
 //! Where the texts of a row of one line stand, from left to right.
-ghost use Rattle.std.specs.Prelude.{◌≡◌, ◌<◌, IfSome};
-ghost use Rattle.tabled_row.specs.Aims.{IsAimed, aim_of};
+ghost use Rattle.std.specs.Prelude.{◌≡◌, ◌<◌, ℕ, IfSome};
+ghost use Rattle.tabled_config.specs.RowStyles.{style_in};
+ghost use Rattle.tabled_row.specs.Aims.{IsAimed, IsPadded, aim_of};
 ghost use Rattle.tabled_row.specs.Row.{RowSheet};
 ghost use Rattle.tabled_row.specs.Placed.{IsPlaced};
 
 use crate::aim::{Aim, Spread};
 use crate::block::before_text;
 use crate::row::Row;
-use tabled_config::{CellStyle, RowStyles};
+use tabled_config::{AlignmentHorizontal, CellStyle, RowStyles};
 
 /// The first line of a text where it stands between spaces.
 #[derive(Clone, Copy)]
@@ -82,20 +83,51 @@ impl TellAims for Spread {
 }
 
 /// Each text stands as its style says.
-impl<'a> TellAims for RowStyles<'a> {
-    ghost use Rattle.std.specs.Prelude.{◌≡◌, ◌<◌, ℕ};
-    ghost use Rattle.tabled_config.specs.RowStyles.{style_in};
+#[derive(Drop)]
+pub struct SetAims<'a> {
+    styles: RowStyles<'a>,
+    // How the texts stand but for their alignments, if all are padded alike.
+    alike: Option<Spread>,
+}
 
-    ghost tells = { λ styles row. (column : ℕ) → column < row.columns.count → style_in styles column ≡ row.style column };
+/// How the texts of a row stand but for their alignments, if all are known to be padded alike, and stand between spaces.
+fn shared_spread(styles: &RowStyles<'_>) -> Option<Spread>
+    ensures { IfSome result (λ spread. (column : ℕ) → IsPadded (style_in styles.now column) spread) }
+{
+    let padding = styles.shared_padding()?;
+    Spread::of(&padding, AlignmentHorizontal::Left)
+}
+
+impl<'a> SetAims<'a> {
+    /// What these styles say.
+    pub fn new(styles: RowStyles<'a>) -> SetAims<'a>
+        ensures styles { result.styles ≡ styles.entry }
+        ensures alike { IfSome result.alike (λ spread. (column : ℕ) → IsPadded (style_in styles.entry column) spread) }
+    {
+        let alike = shared_spread(&styles);
+        SetAims { styles, alike }
+    }
+}
+
+impl<'a> TellAims for SetAims<'a> {
+    ghost use Rattle.std.specs.Prelude.{◌≡◌, ◌<◌, ℕ, IfSome};
+    ghost use Rattle.tabled_config.specs.RowStyles.{style_in};
+    ghost use Rattle.tabled_row.specs.Aims.{IsPadded};
+
+    ghost tells = { λ aims row. ((column : ℕ) → column < row.columns.count → style_in aims.styles column ≡ row.style column)
+        × IfSome aims.alike (λ spread. (column : ℕ) → IsPadded (style_in aims.styles column) spread) };
 
     #[inline(always)]
     fn at(&mut self, column: usize, width: usize) -> Option<Aim> {
-        let (padding, horizontal) = self.beside(column);
+        if let Some(spread) = self.alike {
+            return spread.aligned(self.styles.horizontal(column)).aim(width);
+        }
+        let (padding, horizontal) = self.styles.beside(column);
         Spread::of(&padding, horizontal)?.aim(width)
     }
 
     fn style(&mut self, column: usize) -> Option<CellStyle> {
-        Some(RowStyles::at(self, column))
+        Some(self.styles.at(column))
     }
 }
 

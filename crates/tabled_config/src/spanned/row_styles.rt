@@ -99,6 +99,33 @@ impl<'a> RowStyles<'a> {
             RowStyles::Set(styles) => styles.beside(column),
         }
     }
+
+    /// What is kept free around each text, if it is known to be the same.
+    pub fn shared_padding(&self) -> Option<Sides<Indent>>
+        ensures { IfSome result (λ padding. (column : ℕ) → (style_in self.now column).padding ≡ padding) }
+    {
+        match self {
+            RowStyles::Alike(style) => Some(style.padding),
+            RowStyles::Listed(_) => None,
+            RowStyles::Set(styles) => styles.padding.shared(),
+        }
+    }
+
+    /// Where the text in a column stands among its columns.
+    #[inline(always)]
+    pub fn horizontal(&mut self, column: usize) -> AlignmentHorizontal
+        ensures horizontal { result ≡ (style_in self.old column).horizontal }
+        ensures same { SameStyles self.old self.new }
+    {
+        match self {
+            RowStyles::Alike(style) => style.horizontal,
+            RowStyles::Listed(styles) => match styles.get(column) {
+                Some(style) => style.horizontal,
+                None => plain_style().horizontal,
+            },
+            RowStyles::Set(styles) => *styles.horizontal.at(column),
+        }
+    }
 }
 
 impl SpannedConfig {
