@@ -2,9 +2,9 @@
 use Rattle.std.proofs.Common.{◌≡◌, ◌⊎◌, ℕ, Bool, List, [], ◌∷◌, ◌++◌, Option, Result, Ok, Err, refl, sym, ap, ◌∙◌, subst, append_assoc, inl, inr, ⊎_elim}
 use Rattle.std.specs.Prelude.{MatchResult}
 use Rattle.std.specs.Result.{IsErrAnd}
-use Rattle.tabled_base.specs.TextRows.{text_rows}
 use Rattle.tabled_base.specs.declared.error.TableError.{TableError}
 use Rattle.tabled_base.specs.declared.error.TableError.TheVariants.{Memory, ShortWidths, ShortHeights, Narrow, Range, Writer}
+use Rattle.tabled_lent.specs.TextRows.{text_rows}
 use Rattle.tabled_grid.specs.Picture.{table_text}
 use Rattle.tabled_row.specs.Sent.{IsCause, Sent, Writes}
 use Rattle.tabled.specs.declared.plan.Plan.{Plan}

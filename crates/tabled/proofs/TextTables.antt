@@ -9,10 +9,10 @@ use Rattle.std.proofs.lemmas.List.Splits.{length-slice_split}
 use Rattle.tabled_text.specs.Cut.{IsCut}
 use Rattle.tabled_text.specs.Measure.{lines_of}
 use Rattle.tabled_base.specs.Cells.{IsRectangular, lengthened}
-use Rattle.tabled_base.specs.TextRows.{cells_of, most_cells, row_lines, text_rows, without_last_feed}
 use Rattle.tabled_base.proofs.Lengthening.{length-lengthened}
-use Rattle.tabled_base.proofs.Splitting.{rows-rectangular}
-use Rattle.tabled_base.proofs.TextCells.{text_cells}
+use Rattle.tabled_lent.specs.TextRows.{cells_of, most_cells, row_lines, text_rows, without_last_feed}
+use Rattle.tabled_lent.proofs.Splitting.{rows-rectangular}
+use Rattle.tabled_lent.proofs.TextCells.{text_cells}
 use Rattle.tabled_change.specs.CellChanges.{AreChanged, if_wider, truncating, wrapping}
 use Rattle.tabled_change.specs.declared.suffix.SuffixLimit.TheVariants.{Cut}
 use Rattle.tabled_resize.specs.BestNarrowing.{text_room}

@@ -256,10 +256,11 @@ pub mod grid {
     /// ```
     pub mod records {
         pub use tabled_base::{
-            CellText, ExactRecords, IntoRecords, LentRows, PeekableRecords, Records, RecordsMut,
-            Text, VecRecords, lend_cells,
+            CellText, ExactRecords, IntoRecords, PeekableRecords, Records, RecordsMut, Text,
+            VecRecords,
         };
         pub use tabled_joined::JoinedRecords;
+        pub use tabled_lent::{LentRows, lend_cells};
         pub use tabled_views::{EmptyRecords, IterRecords};
 
         /// Views of records, which are taken row by row.

@@ -5,8 +5,8 @@ ghost use Rattle.tabled_text.specs.Measure.{lines_of};
 ghost use Rattle.tabled_config.specs.Options.{with_style};
 ghost use Rattle.tabled_size.specs.Sheet.{estimated, is_empty};
 ghost use Rattle.tabled_base.specs.declared.error.TableError.TheVariants.{Memory, Range, Writer};
-ghost use Rattle.tabled_base.specs.TextRows.{text_rows};
 ghost use Rattle.tabled_base.specs.Cells.{IsRectangular};
+ghost use Rattle.tabled_lent.specs.TextRows.{text_rows};
 ghost use Rattle.tabled_row.specs.Sent.{Sent};
 ghost use Rattle.tabled_size.specs.TextCells.{AreTexts};
 ghost use Rattle.tabled_table.specs.NewConfig.{new_config};
@@ -17,9 +17,10 @@ use crate::narrowing::{put_shortened, put_wrapped};
 use crate::plan::Plan;
 use crate::streaming::put_streamed;
 use std::alloc::Global;
-use tabled_base::{PeekableRecords, TableError, TableOption, lend_cells, text_rows};
+use tabled_base::{PeekableRecords, TableError, TableOption};
 use tabled_config::{ColoredConfig, Style};
 use tabled_grid::{TextSink, print_estimated};
+use tabled_lent::{lend_cells, text_rows};
 use tabled_table::new_config;
 
 /// The settings of a new table.

@@ -1,17 +1,11 @@
 pub mod ChangedCells
 pub mod Collecting
-pub mod Cutting
 pub mod CopiedRows
 pub mod Giving
 pub mod LengthenedRows
 pub mod Lengthening
-pub mod LentCells
 pub mod LentGiving
 pub mod PickedCells
 pub mod Refusals
 pub mod Rests
 pub mod RowLemmas
-pub mod RowsLeft
-pub mod Spans
-pub mod Splitting
-pub mod TextCells

@@ -2,9 +2,7 @@ pub mod Cells
 pub mod Error
 pub mod Given
 pub mod Laws
-pub mod LentRows
 pub mod Picks
 pub mod PicksLaws
 pub mod RowsGiven
 pub mod ShortOr
-pub mod TextRows

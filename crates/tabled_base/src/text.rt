@@ -57,8 +57,8 @@ impl<S: AsStr> Text<S> {
         }
     }
 
-    /// A text whose columns and lines are known.
-    pub(crate) fn measured(text: S, columns: usize, lines: usize) -> Self
+    /// A text whose columns and lines are known, so that they aren't counted again.
+    pub fn measured(text: S, columns: usize, lines: usize) -> Self
         requires columns { columns ≡ text_columns (S.text text) }
         requires lines { lines ≡ length (lines_of (S.text text)) }
         ensures { result ≡ S.text text }

@@ -8,6 +8,7 @@ use crate::position::Position;
 use crate::records::{CellText, ExactRecords, PeekableRecords, Records, RecordsMut};
 use crate::text::Text;
 use std::alloc::Global;
+use std::borrow::CowStr;
 use std::convert::AsStr;
 use std::marker::Model;
 
@@ -150,6 +151,18 @@ impl<T: CellText> PeekableRecords for VecRecords<T> {
 impl RecordsMut for VecRecords<Text<String>> {
     fn set(&mut self, at: Position, text: String) -> Result<(), TableError> {
         self.put(at, Text::new(text));
+        Ok(())
+    }
+
+    fn allocator(&self) -> Global {
+        *self.rows.allocator()
+    }
+}
+
+/// A cell that lent its text and is set owns its new text. Setting takes no memory.
+impl<'a> RecordsMut for VecRecords<Text<CowStr<'a, Global>>> {
+    fn set(&mut self, at: Position, text: String) -> Result<(), TableError> {
+        self.put(at, Text::new(CowStr::Owned(text)));
         Ok(())
     }
 

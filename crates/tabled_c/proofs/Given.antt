@@ -1,8 +1,8 @@
 -- What is given of a table that was asked for, by what printing it leaves.
 use Rattle.std.proofs.Common.{◌≡◌, ◌∙◌, ℕ, true, List, [], ◌++◌, Some, Err, ap, refl, subst, ⊎_elim}
-use Rattle.tabled_base.specs.TextRows.{text_rows}
 use Rattle.tabled_base.specs.declared.error.TableError.{TableError}
 use Rattle.tabled_base.specs.declared.error.TableError.TheVariants.{Memory, Range}
+use Rattle.tabled_lent.specs.TextRows.{text_rows}
 use Rattle.tabled_config.specs.Options.{with_style}
 use Rattle.tabled_config.specs.declared.style.Style.{Style}
 use Rattle.tabled_grid.specs.Picture.{table_text}

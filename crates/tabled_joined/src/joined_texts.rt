@@ -6,7 +6,8 @@ ghost use Rattle.tabled_text.specs.Measure.{text_columns};
 
 use std::alloc::Global;
 use std::marker::Model;
-use tabled_base::{Pairs, TableError};
+use tabled_base::TableError;
+use tabled_lent::Pairs;
 use tabled_text::tail_measures;
 
 /// Texts that stand one after another in one text, each with its columns and lines.

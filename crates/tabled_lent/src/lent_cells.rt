@@ -1,0 +1,55 @@
+//! Records whose cells lend those of other records until they are set.
+ghost use Rattle.std.specs.Prelude.{◌≡◌, ◌<◌, IfErr, IfOk, length, slice_index_or, []};
+ghost use Rattle.tabled_base.specs.Cells.{IsInside, cell_at, columns};
+ghost use Rattle.tabled_base.specs.declared.error.TableError.TheVariants.{Memory};
+
+use std::alloc::Global;
+use std::borrow::CowStr;
+use tabled_base::{PeekableRecords, Position, TableError, Text, VecRecords};
+
+/// Records of the same texts, whose cells lend those of some records: no text is copied, and none is measured again. A cell
+/// that is set keeps its new text. Refused for memory alone.
+pub fn lend_cells<R: PeekableRecords>(
+    alloc: Global,
+    records: &R,
+) -> Result<VecRecords<Text<CowStr<'_, Global>>>, TableError>
+    ensures ok { IfOk result (λ lent. lent ≡ R.cells records.now) }
+    ensures only { IfErr result (λ e. e ≡ Memory) }
+{
+    let count = records.count_rows();
+    let columns = records.count_columns();
+    let mut rows = Vec::with_capacity(alloc, count)?;
+    'rows: for row in 0..count {
+        rows.push(lend_row(alloc, records, row, columns)?)?;
+    }
+    Ok(VecRecords::new(rows))
+}
+
+/// The cells of a row, which has so many columns.
+fn lend_row<R: PeekableRecords>(
+    alloc: Global,
+    records: &R,
+    row: usize,
+    count: usize,
+) -> Result<Vec<Text<CowStr<'_, Global>>>, TableError>
+    requires row { row < length (R.cells records.now) }
+    requires columns { count ≡ columns (R.cells records.now) }
+    requires long { length (slice_index_or (R.cells records.now) row []) ≡ count }
+    ensures ok { IfOk result (λ lent. lent.items ≡ slice_index_or (R.cells records.now) row []) }
+    ensures only { IfErr result (λ e. e ≡ Memory) }
+{
+    let mut cells = Vec::with_capacity(alloc, count)?;
+    'cells: for column in 0..count {
+        cells.push(lend_cell(records, Position::new(row, column)))?;
+    }
+    Ok(cells)
+}
+
+/// A cell that lends the text of another one, and has its measures.
+fn lend_cell<R: PeekableRecords>(records: &R, at: Position) -> Text<CowStr<'_, Global>>
+    requires { IsInside (R.cells records.now) at.row at.column }
+    ensures { result ≡ cell_at (R.cells records.now) at.row at.column }
+{
+    let (text, columns, lines) = records.get_measured(at);
+    Text::measured(CowStr::Borrowed(text), columns, lines)
+}
