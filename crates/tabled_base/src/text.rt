@@ -1,12 +1,15 @@
 //! A text with its measures.
 ghost use Rattle.std.specs.Prelude.{◌≡◌, ◌<◌, ℕ, List, length, IfErr, IfOk};
+ghost use Rattle.tabled_base.specs.Cells.{IsInside, cell_at};
 ghost use Rattle.tabled_base.specs.declared.error.TableError.TheVariants.{Memory};
 ghost use Rattle.tabled_text.specs.Measure.{lines_of, text_columns};
 
 use crate::error::TableError;
-use crate::records::CellText;
+use crate::position::Position;
+use crate::records::{CellText, PeekableRecords};
 use crate::short_or::{SHORT_TEXT, ShortOr};
 use std::alloc::Global;
+use std::borrow::CowStr;
 use std::convert::AsStr;
 use std::marker::Model;
 use tabled_text::text_measures;
@@ -57,8 +60,8 @@ impl<S: AsStr> Text<S> {
         }
     }
 
-    /// A text whose columns and lines are known, so that they aren't counted again.
-    pub fn measured(text: S, columns: usize, lines: usize) -> Self
+    /// A text whose columns and lines are known.
+    fn measured(text: S, columns: usize, lines: usize) -> Self
         requires columns { columns ≡ text_columns (S.text text) }
         requires lines { lines ≡ length (lines_of (S.text text)) }
         ensures { result ≡ S.text text }
@@ -68,6 +71,17 @@ impl<S: AsStr> Text<S> {
             columns,
             lines,
         }
+    }
+}
+
+impl<'a> Text<CowStr<'a, Global>> {
+    /// The text of a cell of some records, lent with its measures: nothing is copied, and nothing measured again.
+    pub fn lend<R: PeekableRecords>(records: &'a R, at: Position) -> Text<CowStr<'a, Global>>
+        requires inside { IsInside (R.cells records.now) at.row at.column }
+        ensures { result ≡ cell_at (R.cells records.now) at.row at.column }
+    {
+        let (text, columns, lines) = records.get_measured(at);
+        Text::measured(CowStr::Borrowed(text), columns, lines)
     }
 }
 

@@ -1,6 +1,6 @@
 //! Records whose cells lend those of other records until they are set.
 ghost use Rattle.std.specs.Prelude.{◌≡◌, ◌<◌, IfErr, IfOk, length, slice_index_or, []};
-ghost use Rattle.tabled_base.specs.Cells.{IsInside, cell_at, columns};
+ghost use Rattle.tabled_base.specs.Cells.{columns};
 ghost use Rattle.tabled_base.specs.declared.error.TableError.TheVariants.{Memory};
 
 use std::alloc::Global;
@@ -40,16 +40,7 @@ fn lend_row<R: PeekableRecords>(
 {
     let mut cells = Vec::with_capacity(alloc, count)?;
     'cells: for column in 0..count {
-        cells.push(lend_cell(records, Position::new(row, column)))?;
+        cells.push(Text::lend(records, Position::new(row, column)))?;
     }
     Ok(cells)
-}
-
-/// A cell that lends the text of another one, and has its measures.
-fn lend_cell<R: PeekableRecords>(records: &R, at: Position) -> Text<CowStr<'_, Global>>
-    requires { IsInside (R.cells records.now) at.row at.column }
-    ensures { result ≡ cell_at (R.cells records.now) at.row at.column }
-{
-    let (text, columns, lines) = records.get_measured(at);
-    Text::measured(CowStr::Borrowed(text), columns, lines)
 }
