@@ -1,11 +1,11 @@
 -- What a map of changes finds by its places is the latest setting that covers a cell.
-use Rattle.std.proofs.Common.{[], ◌∷◌, suc, refl, arith, ◌≡◌, ℕ, ◌-◌, ◌<◌, List, length, reverse, Option, Some, None, ap, sym, ◌∙◌, subst, get_or}
-use Rattle.std.proofs.lemmas.List.{reverse-reverse, get_or-reverse}
+use Rattle.std.proofs.Common.{cond, [], ◌∷◌, suc, refl, arith, ◌≡◌, ℕ, ◌-◌, ◌<◌, List, length, reverse, Option, Some, None, ap, sym, ◌∙◌, subst, get_or}
+use Rattle.std.proofs.lemmas.List.{length-reverse, reverse-reverse, get_or-reverse}
 use Rattle.tabled_base.specs.declared.position.Entity.{Entity}
 use Rattle.tabled_base.specs.declared.position.Entity.TheVariants.{Global, Row, Column, Cell}
 use Rattle.tabled_entity.specs.declared.places.Places.{Places}
 use Rattle.tabled_entity.specs.Changes.{first_covering, if_unparted}
-use Rattle.tabled_entity.specs.Places.{IsIndexed, found, last_for, later, latest}
+use Rattle.tabled_entity.specs.Places.{IsIndexed, IsPlaced, found, last_for, later, latest, same}
 use Rattle.tabled_entity.proofs.Covering.{IsBelow, latest_place, below-latest_place, said_at, said_at-latest}
 
 module _ {T : Type 0} where
@@ -37,6 +37,17 @@ module _ {T : Type 0} where
   alike-found whole places parts row other column p e =
       sym (said_at-placed whole places parts row column (latest (found places) row column) p (indexed-latest places parts row column p))
       ∙ said_at-placed whole places parts other column (latest (found places) row column) p (e ∙ indexed-latest places parts other column p)
+
+-- one change more
+pub indexed-more : {T : Type 0} (old new : Places) (items : List (Entity × T)) (entity : Entity) (value : T) (place : ℕ)
+    → IsIndexed old (reverse items) → IsPlaced old new entity place → place ≡ length items → IsIndexed new ((entity, value) ∷ reverse items)
+indexed-more old new items entity value place indexed placed is =
+    record {
+      found = λ other.
+          placed.found other
+          ∙ ap (λ n. cond (same entity other) (Some n) (found old other)) (is ∙ sym (length-reverse items))
+          ∙ ap (cond (same entity other) (Some (length (reverse items)))) (indexed.found other);
+    }
 
 pub item-reversed : {X : Type 0} (items : List X) (i : ℕ) (d : X) → i < length (reverse items) → get_or items i d
     ≡ get_or (reverse items) (length (reverse items) - 1 - i) d

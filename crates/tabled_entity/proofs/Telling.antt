@@ -8,7 +8,9 @@ use Rattle.std.specs.declared.vec.Vec.{Vec}
 use Rattle.tabled_base.specs.declared.position.Entity.{Entity}
 use Rattle.tabled_base.specs.declared.position.Entity.TheVariants.{Cell, Column}
 use Rattle.tabled_entity.specs.Changes.{covers, first_covering}
+use Rattle.tabled_entity.specs.RowList.{AreToldRows, TellsRowPut, row_told}
 use Rattle.tabled_entity.specs.Series.{IsTold, TellsLess, TellsNone, TellsPut, TellsSame, numbered, told, value_told}
+use Rattle.tabled_entity.specs.declared.row_list.RowList.{RowList}
 use Rattle.tabled_entity.specs.declared.series.Series.{Series}
 
 is-same : (n : ℕ) → (n == n) ≡ true
@@ -204,23 +206,36 @@ module _ {T : Type 0} where
         at = λ row column. subst (λ o. IfSome o (λ value. value ≡ first_covering whole parts row column)) (sym (none.at row column)) tt;
       }
 
+  set-at : (whole : T) (parts : List (Entity × T)) (entity : Entity) (value : T) (row column : ℕ) (now once : Option T)
+      → (covers entity row column ≡ true → IfSome now (λ x. x ≡ value))
+      → (covers entity row column ≡ false → IfSome now (λ x. once ≡ Some x))
+      → IfSome once (λ x. x ≡ first_covering whole parts row column)
+      → IfSome now (λ x. x ≡ first_covering whole ((entity, value) ∷ parts) row column)
+  set-at whole parts entity value row column None once own others before = tt
+  set-at whole parts entity value row column (Some x) once own others before =
+      elim (cases_Bool (covers entity row column)) [
+        | inl covered ↦ own covered ∙ sym (ap (λ t. if t then value else first_covering whole parts row column) covered)
+        | inr apart ↦
+            subst (λ o. IfSome o (λ y. y ≡ first_covering whole parts row column)) (others apart) before
+            ∙ sym (ap (λ t. if t then value else first_covering whole parts row column) apart)
+      ]
+
   -- what is told is still what was set, where the value that was set is told too
   pub told-set : (whole : T) (parts : List (Entity × T)) (entity : Entity) (value : T) (old new : Series T) → IsTold whole parts old
       → TellsPut entity value old new → IsTold whole ((entity, value) ∷ parts) new
   told-set whole parts entity value old new is put =
       record {
-        at = λ row column. set-at row column (told new row column) (told old row column) (put.own row column) (put.others row column) (is.at row column);
+        at = λ row column.
+            set-at whole parts entity value row column (told new row column) (told old row column) (put.own row column) (put.others row column)
+            (is.at row column);
       }
-    where
-      set-at : (row column : ℕ) (now once : Option T) → (covers entity row column ≡ true → IfSome now (λ x. x ≡ value))
-          → (covers entity row column ≡ false → IfSome now (λ x. once ≡ Some x))
-          → IfSome once (λ x. x ≡ first_covering whole parts row column)
-          → IfSome now (λ x. x ≡ first_covering whole ((entity, value) ∷ parts) row column)
-      set-at row column None once own others before = tt
-      set-at row column (Some x) once own others before =
-          elim (cases_Bool (covers entity row column)) [
-            | inl covered ↦ own covered ∙ sym (ap (λ t. if t then value else first_covering whole parts row column) covered)
-            | inr apart ↦
-                subst (λ o. IfSome o (λ y. y ≡ first_covering whole parts row column)) (others apart) before
-                ∙ sym (ap (λ t. if t then value else first_covering whole parts row column) apart)
-          ]
+
+  -- and so it is of rows
+  pub rows-set : (whole : T) (parts : List (Entity × T)) (entity : Entity) (value : T) (old new : RowList T) → AreToldRows whole parts old
+      → TellsRowPut entity value old new → AreToldRows whole ((entity, value) ∷ parts) new
+  rows-set whole parts entity value old new are put =
+      record {
+        at = λ row column.
+            set-at whole parts entity value row column (row_told new row) (row_told old row) (put.own row column) (put.others row column)
+            (are.at row column);
+      }

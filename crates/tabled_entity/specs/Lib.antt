@@ -1,5 +1,6 @@
 pub mod Ahead
 pub mod Changes
 pub mod Places
+pub mod RowList
 pub mod RowPlaces
 pub mod Series

@@ -5,6 +5,7 @@ ghost use Rattle.tabled_entity.specs.Places.{IsPart, IsWhole, last_for, latest};
 ghost use Rattle.tabled_entity.specs.Series.{AreListed, IsTold};
 
 use crate::places::Places;
+use crate::row_list::RowList;
 use crate::row_values::RowValues;
 use crate::series::{Distinct, Series};
 use std::alloc::{AllocError, Global};
@@ -22,8 +23,10 @@ pub struct EntityMap<T> {
     changes: Vec<(Entity, T)>,
     // Where the latest change for each part stands.
     places: Places,
-    // Those that were set one after another.
+    // Those of cells or columns that were set one after another.
     series: Series<T>,
+    // Those of rows that were.
+    rows: RowList<T>,
 }
 
 /// The values of some changes that were made one after another, as far as they are told.
@@ -48,6 +51,7 @@ impl<T: Drop> Drop for EntityMap<T> {
             changes: _,
             places: _,
             series: _,
+            rows: _,
         } = self;
     }
 }
@@ -56,6 +60,7 @@ impl<T> Model for EntityMap<T> {
     ghost use Rattle.std.specs.Prelude.{reverse};
     ghost use Rattle.tabled_entity.specs.Changes.{Changes};
     ghost use Rattle.tabled_entity.specs.Places.{IsIndexed};
+    ghost use Rattle.tabled_entity.specs.RowList.{AreToldRows};
     ghost use Rattle.tabled_entity.specs.Series.{AreListed, IsTold};
 
     ghost Value = { Changes T };
@@ -63,7 +68,8 @@ impl<T> Model for EntityMap<T> {
     ghost view = { λ m. record { whole = m.whole; parts = reverse m.changes.items } };
 
     ghost invariant = { λ m. IsIndexed m.places (reverse m.changes.items)
-        × (AreListed m.series × IsTold m.whole (reverse m.changes.items) m.series) };
+        × (AreListed m.series × IsTold m.whole (reverse m.changes.items) m.series)
+        × AreToldRows m.whole (reverse m.changes.items) m.rows };
 }
 
 impl<T: Copy> EntityMap<T> {
@@ -76,6 +82,7 @@ impl<T: Copy> EntityMap<T> {
             changes: Vec::new(alloc),
             places: Places::new(alloc),
             series: Series::new(alloc),
+            rows: RowList::new(alloc),
         }
     }
 
@@ -87,6 +94,7 @@ impl<T: Copy> EntityMap<T> {
         self.changes.clear();
         self.places.clear();
         self.series.clear();
+        self.rows.clear();
     }
 
     /// What the settings grow by.
@@ -157,6 +165,9 @@ impl<T: Copy> EntityMap<T> {
         if self.changes.is_empty() {
             return Some(&self.whole);
         }
+        if let Some(value) = self.rows.value(row) {
+            return Some(value);
+        }
         let place = self.places.of_row(row)?;
         Some(self.said(row, 0, place))
     }
@@ -183,6 +194,7 @@ impl<T: Copy + Distinct> EntityMap<T> {
             changes: Vec::from_slice(*self.changes.allocator(), &self.changes)?,
             places: self.places.clone()?,
             series: series_of(*self.changes.allocator(), self.whole, &self.changes),
+            rows: self.rows.clone()?,
         })
     }
 
@@ -197,6 +209,7 @@ impl<T: Copy + Distinct> EntityMap<T> {
         self.places.put(entity, place)?;
         self.changes.push((entity, value))?;
         self.series.put(entity, value);
+        self.rows.put(entity, value);
         Ok(())
     }
 

@@ -4,6 +4,7 @@
 mod ahead;
 mod entity_map;
 mod places;
+mod row_list;
 mod row_places;
 mod row_values;
 mod series;

@@ -1,5 +1,5 @@
-use Rattle.std.proofs.Common.{reverse, sym, ap, ◌∙◌}
-use Rattle.tabled_entity.specs.Changes.{setting_at}
+use Rattle.std.proofs.Common.{◌≡◌, IfSome, reverse, subst, sym, ap, ◌∙◌}
+use Rattle.tabled_entity.specs.Changes.{first_covering, setting_at}
 use Rattle.tabled_entity.proofs.Covering.{latest_place}
 use Rattle.tabled_entity.proofs.Indexed.{indexed-latest, same-found}
 use Rattle.tabled_entity.proofs.entity_map.EntityMap.row_value.Goals as goal
@@ -17,3 +17,10 @@ returns g c = λ column.
     c.said.ensures ∙ sym (ap (λ v. setting_at v c.args.row 0) c.self.view_is)
     ∙ (same-found inside.whole inside.places (reverse inside.changes.items) c.args.row 0 column c.self.invariant.0
     (c.in_ok-place.ensures 0 ∙ sym (c.in_ok-place.ensures column)) ∙ ap (λ v. setting_at v c.args.row column) c.self.view_is)
+
+pub returns-in-Some : goal.returns-in-Some
+returns-in-Some g c = λ column.
+    let inside = c.self.inside in
+    let set = first_covering inside.whole (reverse inside.changes.items) c.args.row column in
+    subst (λ o. IfSome o (λ value. value ≡ set)) c.in-Some.ensures.some (c.self.invariant.2.at c.args.row column)
+    ∙ ap (λ v. setting_at v c.args.row column) c.self.view_is
