@@ -4,7 +4,8 @@
 #![tactic(auto)]
 
 use anyhow::{Result, bail};
-use hostile_uses::{Found, names, stopped_printers, stopped_runs, told, tried, tried_all};
+use hostile_uses::{names, stopped_printers, stopped_runs, told, tried, tried_all};
+use refused_uses::Found;
 use std::alloc::Global;
 use std::{env, io};
 use tabled::TableError;

@@ -1,9 +1,8 @@
 //! Options of tables and of cells, each by itself. A refused one leaves the cells before the refused one changed and the others
 //! not, the configuration as it was, and no size stored.
 
-use crate::found::{Found, refused_if, whole_if};
-use crate::printers::sized_table_of_pairs;
 use case_judge::{Fault, set};
+use refused_uses::{Found, refused_if, sized_table_of_pairs, whole_if};
 use std::alloc::Global;
 use tabled::grid::config::Position;
 use tabled::grid::records::{ExactRecords, PeekableRecords, Text, VecRecords};

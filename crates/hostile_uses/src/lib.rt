@@ -1,22 +1,15 @@
-//! What hostile runs do with tables: they are set by numbers of any size, printed to writers that take little, and their calls are
-//! made where a growth may be refused.
+//! What hostile runs do with tables: they are set, in the words of cases, by numbers of any size and by options of which a growth may
+//! be refused, and printed to writers that stop anywhere. The calls below it, which are made in code, are tried by their names beside
+//! these options.
 #![tactic(auto)]
 
-mod calls;
 mod changes;
-mod drawings;
-mod found;
-mod materials;
 mod meagre;
 mod numbers;
-mod printers;
-mod prints;
 mod sides;
-mod sparing;
 mod trying;
 mod writers;
 
-pub use found::Found;
 pub use numbers::told;
 pub use trying::{names, tried, tried_all};
 pub use writers::{stopped_printers, stopped_runs};

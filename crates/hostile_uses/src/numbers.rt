@@ -1,9 +1,9 @@
 //! Tables that are set by numbers of any size, and printed to a writer with room for 1,000 bytes.
 
 use crate::meagre::{End, Meagre};
-use crate::printers::{PAIRS, table_of_pairs};
 use crate::sides::{new_config, set_sides};
 use case_judge::{Fault, Words, set};
+use refused_uses::{PAIRS, table_of_pairs};
 use std::alloc::Global;
 use tabled::grid::config::{CompactConfig, CompactMultilineConfig};
 use tabled::grid::dimension::ConstSize;

@@ -1,7 +1,7 @@
 //! Writers that stop after any number of bytes.
 
 use crate::meagre::{End, Meagre};
-use crate::printers::{PRINTERS, Printer, picture, put};
+use refused_uses::{PRINTERS, Printer, picture, put};
 use std::alloc::{AllocError, Global};
 use tabled::{IoSink, TableError, run};
 

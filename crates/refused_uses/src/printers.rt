@@ -142,6 +142,10 @@ pub fn sized_table_of_pairs(alloc: Global) -> Result<Table, TableError> {
     Ok(table)
 }
 
+fn put_table<S: TextSink>(alloc: Global, sink: &mut S) -> Result<(), TableError> {
+    table_of_pairs(alloc)?.write_to(sink)
+}
+
 fn put_look<S: TextSink>(alloc: Global, sink: &mut S) -> Result<(), TableError> {
     let table = table_of_pairs(alloc)?;
     table.print_with(sink, Some(16), Some(AlignmentHorizontal::Center), '*')
@@ -158,6 +162,14 @@ fn put_compact<S: TextSink>(sink: &mut S) -> Result<(), TableError> {
         .columns(2)
         .width(ConstSize::List([5, 4]))
         .fmt(sink)
+}
+
+fn put_boxes<S: TextSink>(alloc: Global, sink: &mut S) -> Result<(), TableError> {
+    PoolTable::new(alloc, PAIRS)?.write_to(sink)
+}
+
+fn put_records<S: TextSink>(alloc: Global, sink: &mut S) -> Result<(), TableError> {
+    ExtendedTable::from_rows(alloc, PAIRS)?.write_to(sink)
 }
 
 fn put_plan<S: TextSink>(alloc: Global, printer: Printer, sink: &mut S) -> Result<(), TableError> {
@@ -180,13 +192,13 @@ fn put_plan<S: TextSink>(alloc: Global, printer: Printer, sink: &mut S) -> Resul
 /// Prints the cells.
 pub fn put<S: TextSink>(alloc: Global, printer: Printer, sink: &mut S) -> Result<(), TableError> {
     match printer {
-        Printer::Table => table_of_pairs(alloc)?.write_to(sink),
+        Printer::Table => put_table(alloc, sink),
         Printer::Look => put_look(alloc, sink),
         Printer::Stream => IterTable::new(PAIRS).fmt(alloc, sink),
         Printer::Rows => put_rows(alloc, sink),
         Printer::Compact => put_compact(sink),
-        Printer::Boxes => PoolTable::new(alloc, PAIRS)?.write_to(sink),
-        Printer::Records => ExtendedTable::from_rows(alloc, PAIRS)?.write_to(sink),
+        Printer::Boxes => put_boxes(alloc, sink),
+        Printer::Records => put_records(alloc, sink),
         _ => put_plan(alloc, printer, sink),
     }
 }

@@ -168,14 +168,19 @@ fn compact_to_writer() -> Result<Found, TableError> {
     Ok(whole_if(room.get_ref().starts_with(BARE.as_bytes())))
 }
 
-// Boxes under settings of each kind.
-fn boxed(alloc: Global) -> Result<Found, TableError> {
-    let mut table = PoolTable::new(alloc, PAIRS)?;
+// Settings of each kind for boxes.
+fn set_boxes(table: &mut PoolTable) -> Result<(), TableError> {
     table.with(CompactMultilineConfig::new())?;
     let last = PoolTableDimension::new(DimensionPriority::Last, DimensionPriority::Last);
     table.with(last)?.with(Style::markdown())?;
     table.apply(Padding::new(1, 1, 0, 0))?;
-    table.apply(Margin::new(1, 0, 0, 0))?;
+    table.apply(Margin::new(1, 0, 0, 0))
+}
+
+// Boxes under these settings, which are copied.
+fn boxed(alloc: Global) -> Result<Found, TableError> {
+    let mut table = PoolTable::new(alloc, PAIRS)?;
+    set_boxes(&mut table)?;
     let text = table.clone()?.to_string()?;
     Ok(whole_if(text.as_str() == " | a | bb |\n | ccc |  |"))
 }
