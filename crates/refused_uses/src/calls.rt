@@ -43,16 +43,27 @@ fn printed(table: Result<Table, TableError>) -> Result<String, TableError> {
     table?.to_string()
 }
 
+// What became of a record that was pushed below a and bb, by the picture of what it left.
+fn pushed(answer: Result<(), TableError>, picture: &str, wanted: &str) -> Found {
+    match answer {
+        Ok(()) => whole_if(picture == wanted),
+        Err(error) => refused_if(error == TableError::Memory && picture == ONE_ROW),
+    }
+}
+
 // A builder is as it was where a record was refused.
 fn push(alloc: Global, record: &[&'static str], wanted: &str) -> Result<Found, TableError> {
     let mut builder = Builder::new(alloc);
     builder.push_record(["a", "bb"])?;
     let answer = builder.push_record(record.iter().copied()).map(|_| ());
     let picture = Table::from(builder).to_string()?;
-    match answer {
-        Ok(()) => Ok(whole_if(picture.as_str() == wanted)),
-        Err(error) => Ok(refused_if(error == TableError::Memory && picture.as_str() == ONE_ROW)),
-    }
+    Ok(pushed(answer, picture.as_str(), wanted))
+}
+
+fn joined_picture(alloc: Global, records: &JoinedRecords) -> Result<String, TableError> {
+    let mut picture = String::new(alloc);
+    print_estimated(alloc, &mut picture, records, &new_config(alloc))?;
+    Ok(picture)
 }
 
 // Joined records are as they were where a record was refused.
@@ -60,12 +71,8 @@ fn push_joined(alloc: Global) -> Result<Found, TableError> {
     let mut records = JoinedRecords::new(alloc);
     records.push_record(["a", "bb"])?;
     let answer = records.push_record(["c", "d", "e"]);
-    let mut picture = String::new(alloc);
-    print_estimated(alloc, &mut picture, &records, &new_config(alloc))?;
-    match answer {
-        Ok(()) => Ok(whole_if(picture.as_str() == LONGER)),
-        Err(error) => Ok(refused_if(error == TableError::Memory && picture.as_str() == ONE_ROW)),
-    }
+    let picture = joined_picture(alloc, &records)?;
+    Ok(pushed(answer, picture.as_str(), LONGER))
 }
 
 const ONE_ROW: &str = "\
@@ -174,6 +181,13 @@ fn shown(table: Result<ExtendedTable, TableError>) -> Result<String, TableError>
     table?.to_string()
 }
 
+fn records_made(alloc: Global, name: &str) -> Found {
+    match name {
+        "records new" => made(shown(ExtendedTable::new(alloc, ["a\n", "b"])), ESCAPED),
+        _ => made(shown(ExtendedTable::from_rows(alloc, WIDE)), UNCUT),
+    }
+}
+
 const BOXES: &str = "\
 +---+----+
 | a | bb |
@@ -183,6 +197,10 @@ const BOXES: &str = "\
 
 fn drawn(table: Result<PoolTable, TableError>) -> Result<String, TableError> {
     table?.to_string()
+}
+
+fn drawn_new(alloc: Global) -> Found {
+    made(drawn(PoolTable::new(alloc, PAIRS)), BOXES)
 }
 
 fn drawn_copy(alloc: Global) -> Result<Found, TableError> {
@@ -198,10 +216,9 @@ pub fn called(alloc: Global, name: &str) -> Result<Found, TableError> {
         "push_record joined" => push_joined(alloc),
         "total_width" | "total_height" => measured(alloc, name),
         "clone" => copied(alloc),
-        "records new" => Ok(made(shown(ExtendedTable::new(alloc, ["a\n", "b"])), ESCAPED)),
-        "records from_rows" => Ok(made(shown(ExtendedTable::from_rows(alloc, WIDE)), UNCUT)),
+        "records new" | "records from_rows" => Ok(records_made(alloc, name)),
         "records truncate" => truncated(alloc),
-        "boxes new" => Ok(made(drawn(PoolTable::new(alloc, PAIRS)), BOXES)),
+        "boxes new" => Ok(drawn_new(alloc)),
         "boxes clone" => drawn_copy(alloc),
         _ => Ok(table_made(alloc, name)),
     }

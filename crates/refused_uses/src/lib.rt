@@ -1,5 +1,5 @@
-//! Calls that are made where a growth may be refused: each is made once, in code, and what became of it is told. With them stand the
-//! printers of one small table, and their pictures, which runs over writers that stop use too.
+//! Calls that are made where a growth may be refused: each is made once, in code, and what became of it is told. The printers of one
+//! small table stand here too, with their pictures: prints to writers that stop anywhere use them as well.
 #![tactic(auto)]
 
 mod calls;

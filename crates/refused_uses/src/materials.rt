@@ -3,6 +3,7 @@
 use crate::found::{Found, whole_if};
 use crate::printers::{PAIRS, PICTURE, table_of_pairs};
 use std::alloc::Global;
+use std::borrow::CowStr;
 use tabled::builder::Builder;
 use tabled::grid::config::{
     AlignmentHorizontal, AlignmentVertical, ColoredConfig, Entity, HorizontalLine, Indent,
@@ -131,6 +132,13 @@ fn puts<T: Tabled>(alloc: Global, value: &T, wanted: &str) -> Result<bool, Table
     }
 }
 
+fn begin_with(texts: &[CowStr<'_>], wanted: &str) -> bool {
+    match texts.first() {
+        Some(text) => text.as_str() == wanted,
+        None => false,
+    }
+}
+
 // Whether a value has a field of that name and text.
 fn tells<T: Tabled>(
     alloc: Global,
@@ -138,15 +146,9 @@ fn tells<T: Tabled>(
     name: &str,
     wanted: &str,
 ) -> Result<bool, TableError> {
-    let mut names = T::headers(alloc)?.into_iter();
-    let mut fields = value.fields(alloc)?.into_iter();
-    match (names.next(), fields.next()) {
-        (Some(first), Some(field)) => {
-            let is_right = first.as_str() == name && field.as_str() == wanted;
-            Ok(is_right && puts(alloc, value, wanted)?)
-        }
-        _ => Ok(false),
-    }
+    let is_named = begin_with(&T::headers(alloc)?, name);
+    let is_told = begin_with(&value.fields(alloc)?, wanted);
+    Ok(is_named && is_told && puts(alloc, value, wanted)?)
 }
 
 // What became of calls that each were to answer yes, up to one that is refused.
@@ -233,15 +235,24 @@ fn configured(alloc: Global) -> Result<Found, TableError> {
     Ok(whole_if(is_set && whole.clone()? == same))
 }
 
-fn are_estimated(alloc: Global, table: &Table) -> Result<bool, TableError> {
-    let (records, config) = (table.get_records(), table.get_config());
+fn estimate(alloc: Global, table: &Table) -> Result<CompleteDimension, TableError> {
     let mut sizes = CompleteDimension::new(alloc);
-    sizes.estimate(records, config.as_ref())?;
-    let mut colored = CompleteDimension::new(alloc);
-    colored.estimate(records, config)?;
+    sizes.estimate(table.get_records(), table.get_config().as_ref())?;
+    Ok(sizes)
+}
+
+// The same, by settings with colours.
+fn estimate_colored(alloc: Global, table: &Table) -> Result<CompleteDimension, TableError> {
+    let mut sizes = CompleteDimension::new(alloc);
+    sizes.estimate(table.get_records(), table.get_config())?;
+    Ok(sizes)
+}
+
+fn are_estimated(alloc: Global, table: &Table) -> Result<bool, TableError> {
+    let sizes = estimate(alloc, table)?;
+    let colored = estimate_colored(alloc, table)?;
     let copy = sizes.clone()?;
-    let is_same = copy == colored;
-    Ok(is_same && copy.get_widths() == Some(&[5, 4]) && copy.get_heights() == Some(&[1, 1]))
+    Ok(copy == colored && copy.get_widths() == Some(&[5, 4]) && copy.get_heights() == Some(&[1, 1]))
 }
 
 // Sizes that are estimated, stored and copied.
@@ -250,9 +261,15 @@ fn estimated(alloc: Global) -> Result<Found, TableError> {
     Ok(whole_if(are_estimated(alloc, &table)?))
 }
 
-fn is_listed(alloc: Global, table: &Table) -> Result<bool, TableError> {
+// Sizes of a list, which is copied alone and with them.
+fn listed(alloc: Global) -> Result<StaticDimension, TableError> {
     let list = DimensionValue::List(Vec::from_slice(alloc, &[7, 8])?);
-    let mut sizes = StaticDimension::new(list.clone()?, DimensionValue::Exact(3)).clone()?;
+    let sizes = StaticDimension::new(list.clone()?, DimensionValue::Exact(3));
+    Ok(sizes.clone()?)
+}
+
+fn is_listed(alloc: Global, table: &Table) -> Result<bool, TableError> {
+    let mut sizes = listed(alloc)?;
     sizes.estimate(table.get_records(), table.get_config())?;
     Ok(sizes.has_width(1) && sizes.get_width(1) == 8)
 }
