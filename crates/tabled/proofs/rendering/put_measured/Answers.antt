@@ -1,4 +1,5 @@
 use Rattle.std.proofs.Common.{◌≡◌, true, ap, subst, sym, ⊎_elim}
+use Rattle.tabled_base.specs.Cells.{IsRectangular}
 use Rattle.tabled_config.specs.declared.spanned.SpannedConfig.{SpannedConfig}
 use Rattle.tabled_grid.specs.Printed.{Prints}
 use Rattle.tabled_size.specs.Sheet.{estimated}
@@ -13,8 +14,14 @@ use Rattle.tabled.proofs.rendering.put_measured.Goals as goal
 pub put_wrapped-requires-clause-texts : goal.put_wrapped-requires-clause-texts
 put_wrapped-requires-clause-texts g c = subst AreTexts (sym c.in_ok-lend_cells-in-Wrapped.ensures.ok) c.requires.texts
 
+pub put_wrapped-requires-clause-rectangular : goal.put_wrapped-requires-clause-rectangular
+put_wrapped-requires-clause-rectangular g c = subst IsRectangular (sym c.in_ok-lend_cells-in-Wrapped.ensures.ok) c.requires.rectangular
+
 pub put_shortened-requires-clause-texts : goal.put_shortened-requires-clause-texts
 put_shortened-requires-clause-texts g c = subst AreTexts (sym c.in_ok-lend_cells-in-Shortened.ensures.ok) c.requires.texts
+
+pub put_shortened-requires-clause-rectangular : goal.put_shortened-requires-clause-rectangular
+put_shortened-requires-clause-rectangular g c = subst IsRectangular (sym c.in_ok-lend_cells-in-Shortened.ensures.ok) c.requires.rectangular
 
 pub returns-in-Buffered : goal.returns-in-Buffered
 returns-in-Buffered g c =
