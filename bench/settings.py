@@ -10,7 +10,7 @@ same where printing is linear; then the time that a setting took. Tables are pri
 room from the second round on.
 
 Tables of words have 100 columns. An alignment or a padding was set for each column, for each row or for each cell by itself; in the
-stored ones the estimated sizes were stored. Long cells are of 5 to 15 columns; 1, 60 or 100 of them make a row.
+stored ones the estimated sizes were stored. Long cells are of 5 to 15 columns; 1, 100 or 1,000 of them make a row.
 
 With --instructions the program runs under valgrind and prints tables of 1,000 rows; told are the instructions a cell.
 """
@@ -245,8 +245,7 @@ fn measure_long(rt: &HostRuntime, name: &str, lines: usize, columns: usize) -> R
     let row = vec![in alloc; text.as_str(); columns]?;
     let cells = cells_of(alloc, &row, 1)?;
     let config = settings(alloc)?;
-    let none = CompleteDimension::new(alloc);
-    time(rt, name, &cells, &config, &none, lines, ROUNDS)
+    measure(rt, name, &cells, &config, lines)
 }
 
 fn measure_all(rt: &HostRuntime) -> Result<(), anyhow::Error> {
@@ -257,8 +256,10 @@ fn measure_all(rt: &HostRuntime) -> Result<(), anyhow::Error> {
         measure_long(rt, "1,long", lines, 1)?;
     }
     for lines in [100, 300, 1000, 3000] {
-        measure_long(rt, "60,long", lines, 60)?;
         measure_long(rt, "100,long", lines, 100)?;
+    }
+    for lines in [10, 30, 100, 300] {
+        measure_long(rt, "1000,long", lines, 1000)?;
     }
     Ok(())
 }

@@ -71,18 +71,8 @@ impl<T: Copy> Sides<T> {
     }
 }
 
-/// The same columns or lines of the same character.
-fn is_same(indent: Indent, other: Indent) -> bool
-    ensures { result ≡ true → indent ≡ other }
-{
-    indent.size == other.size && indent.fill == other.fill
-}
-
 impl Distinct for Sides<Indent> {
     fn is_same(&self, other: &Sides<Indent>) -> bool {
-        is_same(self.left, other.left)
-            && is_same(self.right, other.right)
-            && is_same(self.top, other.top)
-            && is_same(self.bottom, other.bottom)
+        *self == *other
     }
 }

@@ -26,22 +26,12 @@ pub enum AlignmentVertical {
 
 impl Distinct for AlignmentHorizontal {
     fn is_same(&self, other: &AlignmentHorizontal) -> bool {
-        match (*self, *other) {
-            (AlignmentHorizontal::Left, AlignmentHorizontal::Left) => true,
-            (AlignmentHorizontal::Center, AlignmentHorizontal::Center) => true,
-            (AlignmentHorizontal::Right, AlignmentHorizontal::Right) => true,
-            _ => false,
-        }
+        *self == *other
     }
 }
 
 impl Distinct for AlignmentVertical {
     fn is_same(&self, other: &AlignmentVertical) -> bool {
-        match (*self, *other) {
-            (AlignmentVertical::Top, AlignmentVertical::Top) => true,
-            (AlignmentVertical::Center, AlignmentVertical::Center) => true,
-            (AlignmentVertical::Bottom, AlignmentVertical::Bottom) => true,
-            _ => false,
-        }
+        *self == *other
     }
 }

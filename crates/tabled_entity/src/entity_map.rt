@@ -14,7 +14,8 @@ use tabled_base::Entity;
 
 /// One setting of a table. The latest one that covers a cell holds there.
 ///
-/// A cell's setting is found by three look-ups among the entities that were set, or by its place where they were set one after another.
+/// A cell's setting is found by three look-ups among the entities that were set. Those of a row's cells are walked by `in_row`, which tells those
+/// that were set one after another by their places.
 #[derive(Debug)]
 pub struct EntityMap<T> {
     // What was set for the whole table.

@@ -4,7 +4,7 @@ ghost use Rattle.std.specs.Prelude.{◌≡◌, ◌+◌, ◌⊎◌, [], ℕ, IfNo
 ghost use Rattle.tabled_base.specs.declared.position.Entity.TheVariants.{Cell, Column};
 ghost use Rattle.tabled_entity.specs.Series.{AreListed, TellsLess, TellsNone, TellsPut, TellsSame, numbered, place_of, told, value_told};
 
-use std::alloc::{AllocError, Global};
+use std::alloc::Global;
 use tabled_base::Entity;
 
 /// The most different values that are listed. Where more are set, the others aren't told.

@@ -7,11 +7,12 @@ ghost use Rattle.tabled_grid.specs.ColumnStyles.{AreStyles};
 ghost use Rattle.tabled_row.specs.Aims.{AreAims};
 ghost use Rattle.tabled_size.specs.Reached.{reached};
 
+use crate::column_aims::ColumnAims;
 use std::alloc::Global;
 use tabled_base::TableError;
 use tabled_config::{CellStyle, SpannedConfig};
 use tabled_row::Aim;
-use tabled_size::{Dimension, check_widths};
+use tabled_size::Dimension;
 
 /// For more columns nothing is kept.
 const MOST: usize = 65_536;
@@ -36,58 +37,34 @@ fn styles_in(
     Ok(styles)
 }
 
-/// Where the texts of so many columns stand in a row, if it is of one line, and each stands between spaces. Refused where a width
-/// isn't there, and for memory.
-fn aims_in<D: Dimension>(
-    alloc: Global,
+/// How the texts of so many columns stand in a row, if memory may be taken for it.
+fn listed_styles(
+    memory: Option<Global>,
     config: &SpannedConfig,
-    dimension: &D,
     row: usize,
     columns: usize,
-) -> Result<Option<Vec<Aim>>, TableError>
-    ensures { IfOk result (λ found. IfSome found (λ aims.
-        AreAims (style_at config.now row) (slice_index (reached (D.width_at dimension.now) columns)) columns aims.items)) }
+) -> Option<Vec<CellStyle>>
+    ensures { IfSome result (λ styles. styles.items ≡ map (style_at config.now row) (range_with_len 0 columns)) }
 {
-    check_widths(dimension, columns)?;
-    let mut aims = Vec::with_capacity(alloc, columns)?;
-    'columns: for column in 0..columns {
-        let Some(aim) = Aim::new(&config.style_at(row, column), dimension.get_width(column)) else {
-            return Ok(None);
-        };
-        aims.push(aim)?;
+    match styles_in(memory?, config, row, columns) {
+        Ok(styles) => Some(styles),
+        Err(_) => None,
     }
-    Ok(Some(aims))
 }
 
 /// How the texts of each column stand in one row, and so in each row that is set like it.
 #[derive(Drop)]
 pub(crate) struct ColumnStyles {
     row: usize,
-    styles: Vec<CellStyle>,
+    // Kept in memory alone.
+    styles: Option<Vec<CellStyle>>,
     // Where they stand in a row of one line, if that is known for all.
-    aims: Option<Vec<Aim>>,
+    aims: Option<ColumnAims>,
 }
 
 impl ColumnStyles {
-    /// How the texts stand in a row of so many columns. Refused where a width isn't there, and for memory.
-    fn new<D: Dimension>(
-        alloc: Global,
-        config: &SpannedConfig,
-        dimension: &D,
-        row: usize,
-        columns: usize,
-    ) -> Result<ColumnStyles, TableError>
-        ensures { IfOk result (AreStyles config.now (slice_index (reached (D.width_at dimension.now) columns)) columns) }
-    {
-        Ok(ColumnStyles {
-            row,
-            styles: styles_in(alloc, config, row, columns)?,
-            aims: aims_in(alloc, config, dimension, row, columns)?,
-        })
-    }
-
-    /// How the texts stand in the row behind so many rows, if memory may be taken, and there are rows enough and few enough columns.
-    /// That it is refused changes what is kept, and not what is printed.
+    /// How the texts stand in the row behind so many rows, if there are rows enough and few enough columns.
+    /// What memory is refused for changes what is kept, and not what is printed.
     pub fn if_kept<D: Dimension>(
         memory: Option<Global>,
         config: &SpannedConfig,
@@ -97,25 +74,24 @@ impl ColumnStyles {
     ) -> Option<ColumnStyles>
         ensures { IfSome result (AreStyles config.now (slice_index (reached (D.width_at dimension.now) columns)) columns) }
     {
-        let alloc = memory?;
         if rows < FEW || columns > MOST {
             return None;
         }
-        match ColumnStyles::new(alloc, config, dimension, rows, columns) {
-            Ok(kept) => Some(kept),
-            Err(_) => None,
-        }
+        Some(ColumnStyles {
+            row: rows,
+            styles: listed_styles(memory, config, rows, columns),
+            aims: ColumnAims::new(memory, config, dimension, rows, columns),
+        })
     }
 
-    /// How the texts stand in a row, if it is known to be set like the one that is kept.
+    /// How the texts stand in a row, if that is kept, and the row is known to be set like the one that is kept.
     pub fn in_row(&self, config: &SpannedConfig, row: usize) -> Option<&[CellStyle]>
         ensures { (width : ℕ → ℕ) (columns : ℕ) → AreStyles config.now width columns self.now
             → IfSome result (λ styles. styles.now ≡ map (style_at config.now row) (range_with_len 0 columns)) }
     {
-        if config.are_alike(row, self.row) {
-            Some(self.styles.as_slice())
-        } else {
-            None
+        match &self.styles {
+            Some(styles) if config.are_alike(row, self.row) => Some(styles.as_slice()),
+            _ => None,
         }
     }
 
@@ -125,7 +101,7 @@ impl ColumnStyles {
             → IfSome result (λ aims. AreAims (style_at config.now row) width columns aims.now) }
     {
         match &self.aims {
-            Some(aims) if config.are_alike(row, self.row) => Some(aims.as_slice()),
+            Some(aims) if config.are_alike(row, self.row) => Some(aims.listed()),
             _ => None,
         }
     }

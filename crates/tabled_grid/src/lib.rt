@@ -6,7 +6,9 @@
 
 mod apart;
 mod checks;
+mod column_aims;
 mod column_styles;
+mod few_aims;
 mod grid;
 pub mod laws;
 mod parts;

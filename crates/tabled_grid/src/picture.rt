@@ -3,7 +3,6 @@ ghost use Rattle.std.specs.Prelude.{◌≡◌, ◌<◌, length};
 ghost use Rattle.std.specs.List.{flat_map, join_with_byte, range_with_len};
 ghost use Rattle.tabled_size.specs.Holds.{IsSized};
 ghost use Rattle.tabled_row.specs.Leading.{WritesLines};
-ghost use Rattle.tabled_row.specs.Marks.{AreClean};
 ghost use Rattle.tabled_row.specs.Sent.{Sent, Writes};
 ghost use Rattle.tabled_lines.specs.Kept.{Keeps};
 ghost use Rattle.std.proofs.Props.{props};
@@ -13,17 +12,14 @@ use crate::grid::Grid;
 use crate::parts::{GridColumns, GridRow};
 use tabled_base::{PeekableRecords, TableError};
 use tabled_lines::Lines;
-use tabled_row::{Marks, TextSink};
+use tabled_row::{Cursor, TextSink};
 use tabled_size::Dimension;
 
 /// The lines of a table while they are printed.
 #[derive(Drop)]
 struct Picture<'a, R: PeekableRecords, D: Dimension> {
     lines: Lines<GridColumns<'a, R, D>>,
-    /// Where the next line of each cell of many lines begins.
-    marks: Marks<'a>,
     ghost kept: { Keeps (columns_of lines.columns.grid.now) lines.kept } by { Prim.hlevel props },
-    ghost clean: { AreClean marks } by { Prim.hlevel props },
 }
 
 impl<'a, R: PeekableRecords, D: Dimension> Picture<'a, R, D> {
@@ -40,7 +36,12 @@ impl<'a, R: PeekableRecords, D: Dimension> Picture<'a, R, D> {
     }
 
     /// A row, with the horizontal line above it.
-    fn put_row_part<S: TextSink>(&mut self, sink: &mut S, row: usize) -> Result<(), TableError>
+    fn put_row_part<S: TextSink>(
+        &mut self,
+        sink: &mut S,
+        row: usize,
+        cursors: &mut [Cursor<'a>],
+    ) -> Result<(), TableError>
         requires row_in { row < length self.old.lines.columns.grid.now.cells }
         ensures printed { WritesLines (S.sent sink.old) self.old.lines.begun result (S.sent sink.new) self.new.lines.begun
             (row_part self.old.lines.columns.grid.now row) }
@@ -48,11 +49,14 @@ impl<'a, R: PeekableRecords, D: Dimension> Picture<'a, R, D> {
     {
         let grid = self.lines.columns.grid;
         self.put_rule(sink, row)?;
-        self.lines
-            .put_row(sink, &GridRow { grid, row }, &mut self.marks)
+        self.lines.put_row(sink, &GridRow { grid, row }, cursors)
     }
 
-    fn put_rows<S: TextSink>(&mut self, sink: &mut S) -> Result<(), TableError>
+    fn put_rows<S: TextSink>(
+        &mut self,
+        sink: &mut S,
+        cursors: &mut [Cursor<'a>],
+    ) -> Result<(), TableError>
         ensures printed { WritesLines (S.sent sink.old) self.old.lines.begun result (S.sent sink.new) self.new.lines.begun
             (flat_map (row_part self.old.lines.columns.grid.now)
             (range_with_len 0 (length self.old.lines.columns.grid.now.cells))) }
@@ -60,38 +64,41 @@ impl<'a, R: PeekableRecords, D: Dimension> Picture<'a, R, D> {
     {
         let grid = self.lines.columns.grid;
         'rows: for row in 0..grid.count_rows() {
-            self.put_row_part(sink, row)?;
+            self.put_row_part(sink, row, cursors)?;
         }
         Ok(())
     }
 
-    fn put_lines<S: TextSink>(&mut self, sink: &mut S, whole: usize) -> Result<(), TableError>
+    fn put_lines<S: TextSink>(
+        &mut self,
+        sink: &mut S,
+        cursors: &mut [Cursor<'a>],
+        whole: usize,
+    ) -> Result<(), TableError>
         ensures { WritesLines (S.sent sink.old) self.old.lines.begun result (S.sent sink.new) self.new.lines.begun
             (filled_picture self.old.lines.columns.grid.now whole) }
     {
         let grid = self.lines.columns.grid;
         let margin = grid.frame().margin;
         self.lines.put_margin(sink, margin.top, whole)?;
-        self.put_rows(sink)?;
+        self.put_rows(sink, cursors)?;
         self.put_rule(sink, grid.count_rows())?;
         self.lines.put_margin(sink, margin.bottom, whole)
     }
 }
 
-/// The lines of a table that takes so many columns, joined by line feeds.
+/// The lines of a table that takes so many columns, joined by line feeds. The cursors are those of its first columns, wherever they stand.
 pub(crate) fn put_picture<'a, R: PeekableRecords, D: Dimension, S: TextSink>(
     sink: &mut S,
     grid: &'a Grid<'a, R, D>,
-    marks: Marks<'a>,
+    cursors: &mut [Cursor<'a>],
     whole: usize,
 ) -> Result<(), TableError>
-    requires sized { IsSized grid.now }
-    requires clean { AreClean marks }
+    requires { IsSized grid.now }
     ensures { Writes (S.sent sink.old) result (S.sent sink.new) (join_with_byte 10 (filled_picture grid.now whole)) }
 {
     let mut picture = Picture {
         lines: Lines::new(GridColumns { grid }, grid.memory),
-        marks,
     };
-    picture.put_lines(sink, whole)
+    picture.put_lines(sink, cursors, whole)
 }

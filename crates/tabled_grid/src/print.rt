@@ -4,7 +4,6 @@ ghost use Rattle.tabled_size.specs.Sheet.{is_empty};
 ghost use Rattle.tabled_grid.specs.Grid.{sheet_by};
 ghost use Rattle.tabled_size.specs.Holds.{Holds, IsSized};
 ghost use Rattle.tabled_grid.specs.Printed.{Prints};
-ghost use Rattle.tabled_row.specs.Marks.{AreClean};
 ghost use Rattle.tabled_row.specs.Sent.{Sent};
 
 use crate::checks::{check_narrow, check_sizes, check_totals};
@@ -12,25 +11,61 @@ use crate::grid::Grid;
 use crate::picture::put_picture;
 use tabled_base::{PeekableRecords, TableError};
 use tabled_config::SpannedConfig;
-use tabled_row::{Marks, TextSink};
+use tabled_row::{Cursor, TextSink};
 use tabled_size::{Dimension, is_empty};
 
-/// Prints a table whose sizes hold its cells. Refused, before the first byte, where a total passes the
-/// greatest `usize`.
+/// A table of so many columns has a cursor for each.
+const FEW: usize = 64;
+
+/// Of a table of more columns, so many have a cursor each in no memory.
+pub(crate) const MANY: usize = 1_024;
+
+/// Prints a table whose sizes hold its cells, of whose first columns these are the cursors. Refused, before the first byte, where a
+/// total passes the greatest `usize`.
 #[tactic(auto, unfolding(crate::specs::Picture::picture))]
-pub(crate) fn print_held<'a, R: PeekableRecords, D: Dimension, S: TextSink>(
+pub(crate) fn print_by<'a, R: PeekableRecords, D: Dimension, S: TextSink>(
     sink: &mut S,
     grid: &'a Grid<'a, R, D>,
-    marks: Marks<'a>,
+    cursors: &mut [Cursor<'a>],
 ) -> Result<(), TableError>
     requires filled { is_empty grid.now.cells ≡ false }
     requires sized { IsSized grid.now }
     requires holds { Holds grid.now }
-    requires clean { AreClean marks }
     ensures { Prints false grid.now (S.sent sink.old) result (S.sent sink.new) }
 {
     let whole = check_totals(grid)?;
-    put_picture(sink, grid, marks, whole)
+    put_picture(sink, grid, cursors, whole)
+}
+
+/// The same with cursors for many columns. They take 24 KiB of the stack, so that this is a call of its own.
+#[inline(never)]
+fn print_many<'a, R: PeekableRecords, D: Dimension, S: TextSink>(
+    sink: &mut S,
+    grid: &'a Grid<'a, R, D>,
+) -> Result<(), TableError>
+    requires filled { is_empty grid.now.cells ≡ false }
+    requires sized { IsSized grid.now }
+    requires holds { Holds grid.now }
+    ensures { Prints false grid.now (S.sent sink.old) result (S.sent sink.new) }
+{
+    print_by(sink, grid, &mut [Cursor::nowhere(); MANY])
+}
+
+/// Prints a table whose sizes hold its cells, in no memory. Refused, before the first byte, where a total passes the
+/// greatest `usize`.
+pub(crate) fn print_held<'a, R: PeekableRecords, D: Dimension, S: TextSink>(
+    sink: &mut S,
+    grid: &'a Grid<'a, R, D>,
+) -> Result<(), TableError>
+    requires filled { is_empty grid.now.cells ≡ false }
+    requires sized { IsSized grid.now }
+    requires holds { Holds grid.now }
+    ensures { Prints false grid.now (S.sent sink.old) result (S.sent sink.new) }
+{
+    if grid.count_columns() > FEW {
+        return print_many(sink, grid);
+    }
+    print_by(sink, grid, &mut [Cursor::nowhere(); FEW])
 }
 
 /// Prints a table piece by piece, in no memory of its own. A table with no row or no column prints
@@ -53,5 +88,5 @@ pub fn print_grid<R: PeekableRecords, D: Dimension, S: TextSink>(
     let grid = Grid::new(records, config, dimension, None);
     check_sizes(&grid)?;
     check_narrow(&grid)?;
-    print_held(sink, &grid, Marks::new())
+    print_held(sink, &grid)
 }

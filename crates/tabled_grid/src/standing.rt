@@ -10,12 +10,12 @@ ghost use Rattle.tabled_row.specs.Sent.{Sent};
 
 use crate::checks::check_stored;
 use crate::grid::Grid;
-use crate::print::print_held;
+use crate::print::{MANY, print_by, print_held};
 use std::alloc::Global;
 use tabled_base::{PeekableRecords, TableError};
 use tabled_config::SpannedConfig;
-use tabled_row::{Marks, TextSink};
-use tabled_size::{CompleteDimension, Estimate, is_empty};
+use tabled_row::{Cursor, TextSink};
+use tabled_size::{CompleteDimension, Dimension, Estimate, is_empty};
 
 /// Prints records under a configuration, with the sizes that are stored, and with those that the texts
 /// ask for where none are stored. Refused, before the first byte and in this order: `ShortWidths` and
@@ -37,7 +37,7 @@ pub fn print_standing<R: PeekableRecords, S: TextSink>(
     check_stored(records, config, stored)?;
     if stored.is_complete() {
         let grid = Grid::new(records, config, stored, None);
-        return print_held(sink, &grid, Marks::new());
+        return print_held(sink, &grid);
     }
     print_copied(sink, records, config, stored)
 }
@@ -59,6 +59,24 @@ fn print_copied<R: PeekableRecords, S: TextSink>(
     print_filled_in(sink, records, config, copy)
 }
 
+/// Prints a table whose sizes hold its cells, with a cursor for each column.
+fn print_in_memory<'a, R: PeekableRecords, D: Dimension, S: TextSink>(
+    alloc: Global,
+    sink: &mut S,
+    grid: &'a Grid<'a, R, D>,
+) -> Result<(), TableError>
+    requires filled { is_empty grid.now.cells ≡ false }
+    requires sized { IsSized grid.now }
+    requires holds { Holds grid.now }
+    ensures { Prints true grid.now (S.sent sink.old) result (S.sent sink.new) }
+{
+    if grid.count_columns() <= MANY {
+        return print_held(sink, grid);
+    }
+    let mut cursors = vec![in alloc; Cursor::nowhere(); grid.count_columns()]?;
+    print_by(sink, grid, &mut cursors)
+}
+
 /// Prints a table with a row and a column, the sizes that aren't stored estimated.
 fn print_filled_in<R: PeekableRecords, S: TextSink>(
     sink: &mut S,
@@ -74,9 +92,8 @@ fn print_filled_in<R: PeekableRecords, S: TextSink>(
 {
     sizes.estimate(records, config)?;
     let alloc = sizes.allocator();
-    let marks = Marks::for_columns(alloc, records.count_columns())?;
     let grid = Grid::new(records, config, &sizes, Some(alloc));
-    print_held(sink, &grid, marks)
+    print_in_memory(alloc, sink, &grid)
 }
 
 /// Prints records under a configuration, with the sizes that their texts ask for. Refused for memory and

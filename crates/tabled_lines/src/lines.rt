@@ -3,7 +3,7 @@ ghost use Rattle.std.specs.Prelude.{◌≡◌, ◌<◌, false, [], ◌∷◌, re
 ghost use Rattle.tabled_row.specs.Fill.{fill};
 ghost use Rattle.tabled_lines.specs.Kept.{Keeps};
 ghost use Rattle.tabled_row.specs.Leading.{WritesLines};
-ghost use Rattle.tabled_row.specs.Marks.{AreClean, AreKept};
+ghost use Rattle.tabled_row.specs.Cursors.{AreCursors};
 ghost use Rattle.tabled_row.specs.Row.{ColumnSheet, RowSheet, row_line, row_lines, rule_if};
 ghost use Rattle.tabled_row.specs.Sent.{Sent, Writes};
 
@@ -12,7 +12,9 @@ use crate::led::put_led;
 use std::alloc::Global;
 use tabled_base::TableError;
 use tabled_config::{HorizontalLine, Indent};
-use tabled_row::{Columns, Marks, Row, TextSink, put_break, put_fill, put_row_line};
+use tabled_row::{
+    Columns, Cursor, Row, TextSink, forget_cursors, put_break, put_fill, put_row_line,
+};
 
 fn put_fill_line<S: TextSink>(
     sink: &mut S,
@@ -48,36 +50,50 @@ fn put_led_line<'a, R: Row<'a>, S: TextSink>(
     sink: &mut S,
     begun: &mut bool,
     row: &R,
-    marks: &mut Marks<'a>,
+    cursors: &mut [Cursor<'a>],
     index: usize,
 ) -> Result<(), TableError>
     requires index_in { index < (R.sheet row.now).height }
-    requires marked { AreKept (R.sheet row.now).text marks.old }
+    requires cursors { AreCursors (R.sheet row.now).text cursors.old }
     ensures printed { WritesLines (S.sent sink.old) begun.old result (S.sent sink.new) begun.new
         (row_line (R.sheet row.now) index ∷ []) }
-    ensures marked { AreKept (R.sheet row.now).text marks.new }
+    ensures cursors { AreCursors (R.sheet row.now).text cursors.new }
 {
     put_break(sink, begun)?;
-    put_row_line(sink, row, marks, index)
+    put_row_line(sink, row, cursors, index)
 }
 
-/// The lines of a row, of whose texts the marks are.
+/// The lines of a row, in whose texts the cursors stand.
 #[tactic(auto, unfolding(tabled_row::specs::Row::row_lines))]
 fn put_row_lines<'a, R: Row<'a>, S: TextSink>(
     sink: &mut S,
     begun: &mut bool,
     row: &R,
-    marks: &mut Marks<'a>,
+    cursors: &mut [Cursor<'a>],
 ) -> Result<(), TableError>
-    requires marked { AreKept (R.sheet row.now).text marks.old }
+    requires cursors { AreCursors (R.sheet row.now).text cursors.old }
     ensures printed { WritesLines (S.sent sink.old) begun.old result (S.sent sink.new) begun.new
         (row_lines (R.sheet row.now)) }
-    ensures marked { AreKept (R.sheet row.now).text marks.new }
+    ensures cursors { AreCursors (R.sheet row.now).text cursors.new }
 {
     'lines: for index in 0..row.height() {
-        put_led_line(sink, begun, row, marks, index)?;
+        put_led_line(sink, begun, row, cursors, index)?;
     }
     Ok(())
+}
+
+/// The lines of a row, with cursors that stood in other texts so far.
+fn put_high_row<'a, R: Row<'a>, S: TextSink>(
+    sink: &mut S,
+    begun: &mut bool,
+    row: &R,
+    cursors: &mut [Cursor<'a>],
+) -> Result<(), TableError>
+    ensures { WritesLines (S.sent sink.old) begun.old result (S.sent sink.new) begun.new
+        (row_lines (R.sheet row.now)) }
+{
+    forget_cursors(cursors);
+    put_row_lines(sink, begun, row, cursors)
 }
 
 /// Lines over the same columns while they are printed: whether a line went before, and what is kept for the next.
@@ -144,28 +160,30 @@ impl<C: Columns> Lines<C> {
         }
     }
 
-    /// The lines of a row over these columns. The marks are those of its cells afterwards, whatever they were.
+    /// The lines of a row over these columns. Columns for which there are cursors, wherever they stand, aren't searched from the start of
+    /// their texts for each line.
     pub fn put_row<'a, R: Row<'a>, S: TextSink>(
         &mut self,
         sink: &mut S,
         row: &R,
-        marks: &mut Marks<'a>,
+        cursors: &mut [Cursor<'a>],
     ) -> Result<(), TableError>
         requires kept { Keeps (C.sheet self.old.columns) self.old.kept }
         requires over { (R.sheet row.now).columns ≡ C.sheet self.old.columns }
-        requires clean { AreClean marks.old }
         ensures printed { WritesLines (S.sent sink.old) self.old.begun result (S.sent sink.new) self.new.begun
             (row_lines (R.sheet row.now)) }
         ensures same { self.new.columns ≡ self.old.columns }
         ensures kept { Keeps (C.sheet self.new.columns) self.new.kept }
-        ensures clean { AreClean marks.new }
     {
         if let Some(laid) = &mut self.kept.row
             && laid.lay_row(&self.columns, row)
         {
             return put_led(sink, &mut self.begun, laid.text());
         }
-        marks.forget();
-        put_row_lines(sink, &mut self.begun, row, marks)
+        if row.height() <= 1 {
+            return put_row_lines(sink, &mut self.begun, row, &mut []);
+        }
+        let count = cursors.len().min(row.count_columns());
+        put_high_row(sink, &mut self.begun, row, &mut cursors[..count])
     }
 }

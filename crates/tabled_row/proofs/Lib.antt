@@ -7,7 +7,7 @@ pub mod Fills
 pub mod Gaps
 pub mod Joined
 pub mod Leading
-pub mod Marking
+pub mod Moving
 pub mod Owing
 pub mod Placing
 pub mod Plains

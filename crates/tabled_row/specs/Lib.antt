@@ -1,10 +1,10 @@
 pub mod Aims
 pub mod Apart
 pub mod Block
+pub mod Cursors
 pub mod Fill
 pub mod Gap
 pub mod Leading
-pub mod Marks
 pub mod Placed
 pub mod Plain
 pub mod Rooms

@@ -3,11 +3,11 @@ ghost use Rattle.std.specs.Prelude.{◌≡◌, ◌≤◌, ◌<◌, ◌-◌, ◌^
 ghost use Rattle.std.specs.List.{slice_index_or};
 ghost use Rattle.tabled_text.specs.Measure.{line_columns};
 ghost use Rattle.tabled_row.specs.Block.{above_text, before_text, block, cell_line, columns_before, fill_above, free_lines, text_room};
-ghost use Rattle.tabled_row.specs.Marks.{IsMarked};
+ghost use Rattle.tabled_row.specs.Cursors.{IsCursor};
 ghost use Rattle.tabled_row.specs.Sent.{Sent, Writes};
 
 use crate::content::Content;
-use crate::marks::Mark;
+use crate::cursors::Cursor;
 use crate::pieces::{put_before, put_behind, put_fill};
 use crate::text_sink::TextSink;
 use tabled_base::TableError;
@@ -125,24 +125,24 @@ impl<'a> CellBlock<'a> {
         self.style.padding.top.size + self.lines_above()
     }
 
-    /// A line of the block. A line of the text is looked for from a mark on.
+    /// A line of the block. A line of the text is looked for from a cursor on.
     pub(crate) fn put_line<S: TextSink>(
         &self,
         sink: &mut S,
-        mark: &mut Mark<'a>,
+        cursor: &mut Cursor<'a>,
         index: usize,
     ) -> Result<(), TableError>
         requires index { index < self.now.height }
-        requires marked { IsMarked self.now.content.text.now mark.old }
+        requires stands { IsCursor self.now.content.text.now cursor.old }
         ensures printed { Writes (S.sent sink.old) result (S.sent sink.new)
             (slice_index_or (block self.now.style self.now.width self.now.height self.now.content.text.now) index []) }
-        ensures marked { IsMarked self.now.content.text.now mark.new }
+        ensures stands { IsCursor self.now.content.text.now cursor.new }
     {
         let above = self.fill_above();
         if index < above {
             return put_fill(sink, self.style.padding.top.fill, self.width);
         }
-        match self.content.line(index - above, mark) {
+        match self.content.line(index - above, cursor) {
             Some((line, columns)) => self.put_text_line(sink, line, columns),
             None => put_fill(sink, self.style.padding.bottom.fill, self.width),
         }

@@ -3,9 +3,9 @@ ghost use Rattle.std.specs.Prelude.{◌≡◌, ◌-◌, ◌<◌, ◌^◌, length
 ghost use Rattle.std.specs.Option.{option_map};
 ghost use Rattle.tabled_text.specs.Measure.{line_columns, lines_of, text_columns};
 ghost use Rattle.tabled_row.specs.Block.{first_line};
-ghost use Rattle.tabled_row.specs.Marks.{IsMarked};
+ghost use Rattle.tabled_row.specs.Cursors.{IsCursor};
 
-use crate::marks::Mark;
+use crate::cursors::Cursor;
 use tabled_text::{count_lines, line_width, split_line, text_width};
 
 /// A text, its columns and its lines.
@@ -43,15 +43,15 @@ impl<'a> Content<'a> {
         (line, line_width(line))
     }
 
-    /// The line at an index with its columns, looked for from a mark on, which moves behind it. A text of
+    /// The line at an index with its columns, looked for from a cursor on, which moves behind it. A text of
     /// one line is that line, and isn't measured again.
-    pub(crate) fn line(&self, index: usize, mark: &mut Mark<'a>) -> Option<(&'a str, usize)>
+    pub(crate) fn line(&self, index: usize, cursor: &mut Cursor<'a>) -> Option<(&'a str, usize)>
         requires index { index < 2 ^ 64 - 1 }
-        requires marked { IsMarked self.now.text.now mark.old }
+        requires stands { IsCursor self.now.text.now cursor.old }
         ensures line { option_map (λ x. x.0.now) result
             ≡ slice_get (lines_of self.now.text.now) index }
         ensures columns { IfSome result (λ x. x.1 ≡ line_columns x.0.now) }
-        ensures marked { IsMarked self.now.text.now mark.new }
+        ensures stands { IsCursor self.now.text.now cursor.new }
     {
         if self.lines == 1 {
             return if index == 0 {
@@ -60,23 +60,23 @@ impl<'a> Content<'a> {
                 None
             };
         }
-        let line = self.line_from(index, mark)?;
+        let line = self.line_from(index, cursor)?;
         Some((line, line_width(line)))
     }
 
     /// The line at an index.
-    fn line_from(&self, index: usize, mark: &mut Mark<'a>) -> Option<&'a str>
+    fn line_from(&self, index: usize, cursor: &mut Cursor<'a>) -> Option<&'a str>
         requires index { index < 2 ^ 64 - 1 }
-        requires marked { IsMarked self.now.text.now mark.old }
+        requires stands { IsCursor self.now.text.now cursor.old }
         ensures line { option_map (λ line. line.now) result ≡ slice_get (lines_of self.now.text.now) index }
-        ensures marked { IsMarked self.now.text.now mark.new }
+        ensures stands { IsCursor self.now.text.now cursor.new }
     {
-        if mark.line > index {
-            *mark = Mark::start(self.text);
+        if cursor.line > index {
+            *cursor = Cursor::start(self.text);
         }
-        'passed: while mark.line < index {
-            mark.next()?;
+        'passed: while cursor.line < index {
+            cursor.next()?;
         }
-        mark.next()
+        cursor.next()
     }
 }

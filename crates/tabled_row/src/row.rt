@@ -3,16 +3,16 @@ ghost use Rattle.std.specs.Prelude.{◌≡◌, ◌<◌, ◌≤◌, ℕ, IfSome, 
 ghost use Rattle.std.specs.List.{flat_map, range_with_len, slice_index_or};
 ghost use Rattle.tabled_config.specs.RowStyles.{style_in};
 ghost use Rattle.tabled_row.specs.Aims.{AreAims, IsSpread};
-ghost use Rattle.tabled_row.specs.Marks.{AreKept};
+ghost use Rattle.tabled_row.specs.Cursors.{AreCursors};
 ghost use Rattle.tabled_row.specs.Row.{RowSheet, cell_block, cell_piece, row_line};
 ghost use Rattle.tabled_row.specs.Sent.{Sent, Writes};
 
 use crate::aim::{Aim, Spread};
 use crate::block::CellBlock;
 use crate::content::Content;
+use crate::cursors::{Cursor, cursor_at, keep_cursor};
 use crate::edges::{put_left, put_piece, put_right};
 use crate::gap::{Gap, GapText};
-use crate::marks::{Mark, Marks};
 use crate::row_aims::{KeptAims, SetAims};
 use crate::spaced::put_spaced_cells;
 use crate::text_sink::TextSink;
@@ -80,11 +80,11 @@ pub trait Row<'a> {
             → cell_piece (sheet self.now) index column ≡ [] };
 }
 
-/// A line of the block of a cell. Where its text has some lines, the next one is marked.
+/// A line of the block of a cell. Where its text has some lines, the cursor at its column moves to the next one.
 fn put_block_line<'a, R: Row<'a>, S: TextSink>(
     sink: &mut S,
     row: &R,
-    marks: &mut Marks<'a>,
+    cursors: &mut [Cursor<'a>],
     style: CellStyle,
     column: usize,
     index: usize,
@@ -92,19 +92,19 @@ fn put_block_line<'a, R: Row<'a>, S: TextSink>(
     requires column_in { column < (R.sheet row.now).columns.count }
     requires style { style ≡ (R.sheet row.now).style column }
     requires index_in { index < (R.sheet row.now).height }
-    requires marked { AreKept (R.sheet row.now).text marks.old }
+    requires cursors { AreCursors (R.sheet row.now).text cursors.old }
     ensures printed { Writes (S.sent sink.old) result (S.sent sink.new)
         (slice_index_or (cell_block (R.sheet row.now) column) index []) }
-    ensures marked { AreKept (R.sheet row.now).text marks.new }
+    ensures cursors { AreCursors (R.sheet row.now).text cursors.new }
 {
     let cell = row.cell(column, style);
     let content = cell.content;
     if content.lines <= 1 {
-        return cell.put_line(sink, &mut Mark::start(content.text), index);
+        return cell.put_line(sink, &mut Cursor::start(content.text), index);
     }
-    let mut mark = marks.at(column, content.text);
-    cell.put_line(sink, &mut mark, index)?;
-    marks.keep(column, mark);
+    let mut cursor = cursor_at(cursors, column, content.text);
+    cell.put_line(sink, &mut cursor, index)?;
+    keep_cursor(cursors, column, cursor);
     Ok(())
 }
 
@@ -112,7 +112,7 @@ fn put_block_line<'a, R: Row<'a>, S: TextSink>(
 pub(crate) fn put_cell<'a, R: Row<'a>, S: TextSink>(
     sink: &mut S,
     row: &R,
-    marks: &mut Marks<'a>,
+    cursors: &mut [Cursor<'a>],
     style: CellStyle,
     column: usize,
     index: usize,
@@ -120,30 +120,30 @@ pub(crate) fn put_cell<'a, R: Row<'a>, S: TextSink>(
     requires column_in { column < (R.sheet row.now).columns.count }
     requires style { style ≡ (R.sheet row.now).style column }
     requires index_in { index < (R.sheet row.now).height }
-    requires marked { AreKept (R.sheet row.now).text marks.old }
+    requires cursors { AreCursors (R.sheet row.now).text cursors.old }
     ensures printed { Writes (S.sent sink.old) result (S.sent sink.new) (cell_piece (R.sheet row.now) index column) }
-    ensures marked { AreKept (R.sheet row.now).text marks.new }
+    ensures cursors { AreCursors (R.sheet row.now).text cursors.new }
 {
     let frame = row.frame();
     put_piece(sink, frame.has_bar(column), frame.inner.main)?;
-    put_block_line(sink, row, marks, style, column, index)
+    put_block_line(sink, row, cursors, style, column, index)
 }
 
 fn put_each_cell<'a, R: Row<'a>, S: TextSink>(
     sink: &mut S,
     row: &R,
-    marks: &mut Marks<'a>,
+    cursors: &mut [Cursor<'a>],
     index: usize,
 ) -> Result<(), TableError>
     requires index_in { index < (R.sheet row.now).height }
-    requires marked { AreKept (R.sheet row.now).text marks.old }
+    requires cursors { AreCursors (R.sheet row.now).text cursors.old }
     ensures printed { Writes (S.sent sink.old) result (S.sent sink.new)
         (flat_map (cell_piece (R.sheet row.now) index) (range_with_len 0 (R.sheet row.now).columns.count)) }
-    ensures marked { AreKept (R.sheet row.now).text marks.new }
+    ensures cursors { AreCursors (R.sheet row.now).text cursors.new }
 {
     let mut styles = row.styles();
     'cells: for column in 0..row.count_drawn() {
-        put_cell(sink, row, marks, styles.at(column), column, index)?;
+        put_cell(sink, row, cursors, styles.at(column), column, index)?;
     }
     Ok(())
 }
@@ -152,22 +152,19 @@ fn put_each_cell<'a, R: Row<'a>, S: TextSink>(
 fn put_spaced<'a, R: Row<'a>, S: TextSink>(
     sink: &mut S,
     row: &R,
-    marks: &mut Marks<'a>,
     gap: GapText<'_>,
 ) -> Result<(), TableError>
     requires height { (R.sheet row.now).height ≡ 1 }
     requires bar { gap.bar ≡ (R.sheet row.now).columns.frame.inner }
-    requires marked { AreKept (R.sheet row.now).text marks.old }
-    ensures printed { Writes (S.sent sink.old) result (S.sent sink.new)
+    ensures { Writes (S.sent sink.old) result (S.sent sink.new)
         (flat_map (cell_piece (R.sheet row.now) 0) (range_with_len 0 (R.sheet row.now).columns.count)) }
-    ensures marked { AreKept (R.sheet row.now).text marks.new }
 {
     if let Some(spread) = row.spread() {
-        return put_spaced_cells(sink, row, marks, spread, gap);
+        return put_spaced_cells(sink, row, spread, gap);
     }
     match row.aims() {
-        Some(kept) => put_spaced_cells(sink, row, marks, KeptAims(kept), gap),
-        None => put_spaced_cells(sink, row, marks, SetAims::new(row.styles()), gap),
+        Some(kept) => put_spaced_cells(sink, row, KeptAims(kept), gap),
+        None => put_spaced_cells(sink, row, SetAims::new(row.styles()), gap),
     }
 }
 
@@ -175,37 +172,37 @@ fn put_spaced<'a, R: Row<'a>, S: TextSink>(
 fn put_cells<'a, R: Row<'a>, S: TextSink>(
     sink: &mut S,
     row: &R,
-    marks: &mut Marks<'a>,
+    cursors: &mut [Cursor<'a>],
     index: usize,
 ) -> Result<(), TableError>
     requires index_in { index < (R.sheet row.now).height }
-    requires marked { AreKept (R.sheet row.now).text marks.old }
+    requires cursors { AreCursors (R.sheet row.now).text cursors.old }
     ensures printed { Writes (S.sent sink.old) result (S.sent sink.new)
         (flat_map (cell_piece (R.sheet row.now) index) (range_with_len 0 (R.sheet row.now).columns.count)) }
-    ensures marked { AreKept (R.sheet row.now).text marks.new }
+    ensures cursors { AreCursors (R.sheet row.now).text cursors.new }
 {
     if row.height() == 1
         && let Some(gap) = row.gap().text()
     {
-        return put_spaced(sink, row, marks, gap);
+        return put_spaced(sink, row, gap);
     }
-    put_each_cell(sink, row, marks, index)
+    put_each_cell(sink, row, cursors, index)
 }
 
-/// A line of a row, of whose texts the marks are.
+/// A line of a row, in whose texts the cursors stand.
 pub fn put_row_line<'a, R: Row<'a>, S: TextSink>(
     sink: &mut S,
     row: &R,
-    marks: &mut Marks<'a>,
+    cursors: &mut [Cursor<'a>],
     index: usize,
 ) -> Result<(), TableError>
     requires index_in { index < (R.sheet row.now).height }
-    requires marked { AreKept (R.sheet row.now).text marks.old }
+    requires cursors { AreCursors (R.sheet row.now).text cursors.old }
     ensures printed { Writes (S.sent sink.old) result (S.sent sink.new) (row_line (R.sheet row.now) index) }
-    ensures marked { AreKept (R.sheet row.now).text marks.new }
+    ensures cursors { AreCursors (R.sheet row.now).text cursors.new }
 {
     let frame = row.frame();
     put_left(sink, frame, frame.left.main)?;
-    put_cells(sink, row, marks, index)?;
+    put_cells(sink, row, cursors, index)?;
     put_right(sink, frame, frame.right.main)
 }

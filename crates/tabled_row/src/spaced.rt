@@ -4,13 +4,11 @@ ghost use Rattle.std.specs.Prelude.{◌≡◌, ◌<◌, ◌++◌};
 ghost use Rattle.std.specs.List.{flat_map, range_with_len};
 ghost use Rattle.tabled_border.specs.Frame.{has_bar};
 ghost use Rattle.tabled_row.specs.Fill.{fill};
-ghost use Rattle.tabled_row.specs.Marks.{AreKept};
 ghost use Rattle.tabled_row.specs.Row.{cell_piece, piece};
 ghost use Rattle.tabled_row.specs.SendsBut.{WritesBut};
 ghost use Rattle.tabled_row.specs.Sent.{Sent, Writes};
 
 use crate::gap::GapText;
-use crate::marks::Marks;
 use crate::pieces::put_spaces;
 use crate::row::{Row, put_cell};
 use crate::row_aims::{TellAims, place, style_of};
@@ -52,7 +50,6 @@ fn put_between<'a, R: Row<'a>, S: TextSink>(
 fn put_next<'a, R: Row<'a>, S: TextSink, A: TellAims>(
     sink: &mut S,
     row: &R,
-    marks: &mut Marks<'a>,
     aims: &mut A,
     line: &SpacedLine<'_>,
     column: usize,
@@ -61,10 +58,8 @@ fn put_next<'a, R: Row<'a>, S: TextSink, A: TellAims>(
     requires height { (R.sheet row.now).height ≡ 1 }
     requires bar { line.now.gap.bar ≡ (R.sheet row.now).columns.frame.inner }
     requires tells { A.tells aims.old (R.sheet row.now) }
-    requires marked { AreKept (R.sheet row.now).text marks.old }
     ensures printed { WritesBut (S.sent sink.old) result (S.sent sink.new) (fill 32 line.now.behind ++ cell_piece (R.sheet row.now) 0 column) }
     ensures tells { A.tells aims.new (R.sheet row.now) }
-    ensures marked { AreKept (R.sheet row.now).text marks.new }
 {
     match place(row, aims, column, row.width(column)) {
         Some(placed) => {
@@ -74,7 +69,8 @@ fn put_next<'a, R: Row<'a>, S: TextSink, A: TellAims>(
         }
         None => {
             put_spaces(sink, line.behind)?;
-            put_cell(sink, row, marks, style_of(row, aims, column), column, 0)?;
+            let style = style_of(row, aims, column);
+            put_cell(sink, row, &mut [], style, column, 0)?;
             Ok(0)
         }
     }
@@ -84,22 +80,19 @@ fn put_next<'a, R: Row<'a>, S: TextSink, A: TellAims>(
 pub(crate) fn put_spaced_cells<'a, R: Row<'a>, S: TextSink, A: TellAims + Drop>(
     sink: &mut S,
     row: &R,
-    marks: &mut Marks<'a>,
     mut aims: A,
     gap: GapText<'_>,
 ) -> Result<(), TableError>
     requires height { (R.sheet row.now).height ≡ 1 }
     requires bar { gap.bar ≡ (R.sheet row.now).columns.frame.inner }
     requires tells { A.tells aims (R.sheet row.now) }
-    requires marked { AreKept (R.sheet row.now).text marks.old }
-    ensures printed { Writes (S.sent sink.old) result (S.sent sink.new)
+    ensures { Writes (S.sent sink.old) result (S.sent sink.new)
         (flat_map (cell_piece (R.sheet row.now) 0) (range_with_len 0 (R.sheet row.now).columns.count)) }
-    ensures marked { AreKept (R.sheet row.now).text marks.new }
 {
     let mut behind = 0;
     'cells: for column in 0..row.count_drawn() {
         let line = SpacedLine { gap, behind };
-        behind = put_next(sink, row, marks, &mut aims, &line, column)?;
+        behind = put_next(sink, row, &mut aims, &line, column)?;
     }
     put_spaces(sink, behind)
 }

@@ -4,7 +4,6 @@ ghost use Rattle.std.specs.List.{slice_index_or};
 ghost use Rattle.tabled_base.specs.declared.error.TableError.TheVariants.{Memory};
 ghost use Rattle.tabled_base.specs.Cells.{lengthened};
 ghost use Rattle.tabled_lines.specs.Kept.{Keeps};
-ghost use Rattle.tabled_row.specs.Marks.{AreClean};
 ghost use Rattle.tabled_row.specs.Sent.{Sent};
 ghost use Rattle.tabled_text.specs.Cut.{IsCut};
 ghost use Rattle.std.proofs.Props.{props};
@@ -17,7 +16,7 @@ use std::borrow::CowStr;
 use tabled_base::{CellText, TableError, Text};
 use tabled_config::{CellStyle, Frame, RowStyles};
 use tabled_lines::Lines;
-use tabled_row::{Aim, CellBlock, Content, Gap, Marks, Row, Spread, TextSink};
+use tabled_row::{Aim, CellBlock, Content, Cursor, Gap, Row, Spread, TextSink};
 use tabled_text::cut_str;
 
 /// A row of a stream whose cells are cut; missing ones are empty.
@@ -117,17 +116,8 @@ fn cut_cells<'a, C: CellText>(
     Ok(cut)
 }
 
-/// Marks for a row of so many cells. Only one of several lines needs them.
-fn marks_for<'a>(alloc: Global, height: usize, columns: usize) -> Result<Marks<'a>, TableError>
-    ensures ok { IfOk result AreClean }
-    ensures only { IfErr result (λ e. e ≡ Memory) }
-{
-    if height > 1 {
-        Marks::for_columns(alloc, columns)
-    } else {
-        Ok(Marks::new())
-    }
-}
+/// In a row of so many cells each has a cursor in no memory.
+const FEW: usize = 64;
 
 /// The lines of a stream while they are printed.
 #[derive(Drop)]
@@ -151,21 +141,22 @@ impl<'a> Stream<'a> {
         }
     }
 
-    /// A row of cut cells, below its horizontal line.
-    fn put_cut<S: TextSink>(
+    /// A row of cut cells, below its horizontal line. The cursors are those of its first columns.
+    fn put_cut<'c, S: TextSink>(
         &mut self,
-        alloc: Global,
         sink: &mut S,
         height: usize,
-        cells: &[Text<CowStr<'_>>],
+        cells: &'c [Text<CowStr<'c>>],
+        cursors: &mut [Cursor<'c>],
     ) -> Result<(), TableError>
+    where
+        'a: 'c,
         ensures printed { PutsCut self.old.lines.columns.layout.now (rule_of self.old.lines.columns.layout.now self.old.first) height cells.now
             (S.sent sink.old) self.old.lines.begun result (S.sent sink.new) self.new.lines.begun }
         ensures same { self.new.lines.columns ≡ self.old.lines.columns }
         ensures first { OnOk result (self.new.first ≡ false) }
     {
         let layout = self.lines.columns.layout;
-        let mut marks = marks_for(alloc, height, cells.len())?;
         let row = CutRow {
             layout,
             cells,
@@ -173,7 +164,33 @@ impl<'a> Stream<'a> {
         };
         self.lines.put_rule(sink, layout.rule(self.first))?;
         self.first = false;
-        self.lines.put_row(sink, &row, &mut marks)
+        self.lines.put_row(sink, &row, cursors)
+    }
+
+    /// The same with a cursor for each column. Only a row of several lines needs them; for more than a few they want memory, which may be
+    /// refused before the first byte.
+    fn put_cells<'c, S: TextSink>(
+        &mut self,
+        alloc: Global,
+        sink: &mut S,
+        height: usize,
+        cells: &'c [Text<CowStr<'c>>],
+    ) -> Result<(), TableError>
+    where
+        'a: 'c,
+        ensures printed { PutsCut self.old.lines.columns.layout.now (rule_of self.old.lines.columns.layout.now self.old.first) height cells.now
+            (S.sent sink.old) self.old.lines.begun result (S.sent sink.new) self.new.lines.begun }
+        ensures same { self.new.lines.columns ≡ self.old.lines.columns }
+        ensures first { OnOk result (self.new.first ≡ false) }
+    {
+        if height <= 1 {
+            return self.put_cut(sink, height, cells, &mut []);
+        }
+        if cells.len() <= FEW {
+            return self.put_cut(sink, height, cells, &mut [Cursor::nowhere(); FEW]);
+        }
+        let mut cursors = vec![in alloc; Cursor::nowhere(); cells.len()]?;
+        self.put_cut(sink, height, cells, &mut cursors)
     }
 
     /// A row of a stream, cut to its columns, below its horizontal line. Refused for memory before its first byte, and for what
@@ -191,6 +208,6 @@ impl<'a> Stream<'a> {
         ensures first { OnOk result (self.new.first ≡ false) }
     {
         let cut = cut_cells(alloc, self.lines.columns.layout, cells)?;
-        self.put_cut(alloc, sink, height, cut.as_slice())
+        self.put_cells(alloc, sink, height, cut.as_slice())
     }
 }

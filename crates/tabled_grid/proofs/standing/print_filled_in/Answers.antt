@@ -1,9 +1,7 @@
-use Rattle.std.proofs.Common.{◌∙◌, false, refl, subst, sym}
+use Rattle.std.proofs.Common.{◌∙◌, true, refl, subst, sym}
 use Rattle.tabled_size.specs.Sheet.{Sheet}
-use Rattle.tabled_size.specs.Standing.{standing}
 use Rattle.tabled_size.specs.Holds.{Holds, IsSized}
 use Rattle.tabled_grid.specs.Printed.{Prints}
-use Rattle.tabled_grid.proofs.Printing.{estimating}
 use Rattle.tabled_grid.proofs.StandingSizes.{answered_filled, refused_unestimated}
 use Rattle.tabled_grid.proofs.standing.print_filled_in.Goals as goal
 
@@ -13,15 +11,15 @@ returns-in_err-estimate g c =
     refl refl c.requires.filled c.requires.sized c.requires.holds
     c.in_err-estimate.ensures.only c.from_residual.ensures.1
 
-pub print_held-requires-clause-sized : goal.print_held-requires-clause-sized
-print_held-requires-clause-sized g c =
+pub print_in_memory-requires-clause-sized : goal.print_in_memory-requires-clause-sized
+print_in_memory-requires-clause-sized g c =
     subst IsSized
     (sym (c.new-grid.ensures ∙ answered_filled (g.R.ExactRecords.cells c.args.records.now) c.args.config.now c.args.sizes c.args.sizes c.estimate.new.self
     refl refl c.in_ok-estimate.ensures.ok))
     c.requires.sized
 
-pub print_held-requires-clause-holds : goal.print_held-requires-clause-holds
-print_held-requires-clause-holds g c =
+pub print_in_memory-requires-clause-holds : goal.print_in_memory-requires-clause-holds
+print_in_memory-requires-clause-holds g c =
     subst Holds
     (sym (c.new-grid.ensures ∙ answered_filled (g.R.ExactRecords.cells c.args.records.now) c.args.config.now c.args.sizes c.args.sizes c.estimate.new.self
     refl refl c.in_ok-estimate.ensures.ok))
@@ -29,9 +27,8 @@ print_held-requires-clause-holds g c =
 
 pub returns : goal.returns
 returns g c =
-    let P : Sheet → Type 0 = λ t. Prints false t (g.S.TextSink.sent c.args.sink.now) c.print_held.result (g.S.TextSink.sent c.print_held.new.sink) in
-    estimating (standing (g.R.ExactRecords.cells c.args.records.now) c.args.config.now c.args.sizes)
-    (g.S.TextSink.sent c.args.sink.now) (g.S.TextSink.sent c.print_held.new.sink) c.print_held.result (subst P
+    let P : Sheet → Type 0 = λ t. Prints true t (g.S.TextSink.sent c.args.sink.now) c.print_in_memory.result (g.S.TextSink.sent c.print_in_memory.new.sink) in
+    subst P
     (c.new-grid.ensures ∙ answered_filled (g.R.ExactRecords.cells c.args.records.now) c.args.config.now c.args.sizes c.args.sizes c.estimate.new.self
     refl refl c.in_ok-estimate.ensures.ok)
-    c.print_held.ensures)
+    c.print_in_memory.ensures

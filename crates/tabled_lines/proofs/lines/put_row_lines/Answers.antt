@@ -18,5 +18,5 @@ pub lines-preserved : goal.lines-preserved
 lines-preserved g c =
     record {
       printed = lines-further c.lines.invariant.printed c.in_ok-put_led_line.ensures.printed (map-more (row_line (g.R.Row.sheet c.args.row.now)) _);
-      marked = c.in_ok-put_led_line.ensures.marked;
+      cursors = c.in_ok-put_led_line.ensures.cursors;
     }

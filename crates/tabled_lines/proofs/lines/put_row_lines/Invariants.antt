@@ -1,7 +1,7 @@
 use Rattle.std.proofs.Common.{map}
 use Rattle.std.specs.List.{range_with_len}
 use Rattle.tabled_row.specs.Leading.{LineSends}
-use Rattle.tabled_row.specs.Marks.{AreKept}
+use Rattle.tabled_row.specs.Cursors.{AreCursors}
 use Rattle.tabled_row.specs.Row.{row_line}
 use Rattle.tabled_lines.proofs.lines.put_row_lines.Given as goal
 
@@ -10,5 +10,5 @@ invariant-lines g l =
     record {
       printed : LineSends (g.S.TextSink.sent l.initial.sink) l.initial.begun (g.S.TextSink.sent l.sink) l.begun
           (map (row_line (g.R.Row.sheet l.row)) (range_with_len 0 l.index));
-      marked : AreKept (g.R.Row.sheet l.row).text l.marks;
+      cursors : AreCursors (g.R.Row.sheet l.row).text l.cursors;
     }

@@ -17,7 +17,7 @@ cells-preserved g c =
     record {
       printed = further c.cells.invariant.printed c.in_ok-put_cell.ensures.printed
           (each-more (cell_piece (g.R.Row.sheet c.args.row.now) c.args.index) _);
-      marked = c.in_ok-put_cell.ensures.marked;
+      cursors = c.in_ok-put_cell.ensures.cursors;
       styles = λ k within. c.at.ensures.same.at k ∙ c.cells.invariant.styles k within;
     }
 

@@ -9,11 +9,10 @@ cells-init g c =
     record {
       printed = owes-start _ refl;
       tells = c.requires.tells;
-      marked = c.requires.marked;
     }
 
-pub returns-in_err-behind-clause-printed : goal.returns-in_err-behind-clause-printed
-returns-in_err-behind-clause-printed g c =
+pub returns-in_err-behind : goal.returns-in_err-behind
+returns-in_err-behind g c =
     let row = g.R.Row.sheet c.args.row.now in
     let drawn = c.count_drawn-column-end.ensures.within in
     let within : c.cells.column < row.columns.count = omega (arith, drawn, c.cells-test.true) in
@@ -25,11 +24,10 @@ cells-preserved g c =
     record {
       printed = owes-further _ c.cells.invariant.printed c.in_ok-behind.ensures.printed (each-more (cell_piece (g.R.Row.sheet c.args.row.now) 0) _);
       tells = c.in_ok-behind.ensures.tells;
-      marked = c.in_ok-behind.ensures.marked;
     }
 
-pub returns-clause-printed : goal.returns-clause-printed
-returns-clause-printed g c =
+pub returns : goal.returns
+returns g c =
     let row = g.R.Row.sheet c.args.row.now in
     let drawn = c.count_drawn-column-end.ensures in
     let few = drawn.within in

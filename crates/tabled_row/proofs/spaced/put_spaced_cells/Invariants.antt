@@ -1,5 +1,4 @@
 use Rattle.std.specs.List.{flat_map, range_with_len}
-use Rattle.tabled_row.specs.Marks.{AreKept}
 use Rattle.tabled_row.specs.Row.{cell_piece}
 use Rattle.tabled_row.specs.SendsBut.{SendsBut}
 use Rattle.tabled_row.proofs.spaced.put_spaced_cells.Given as goal
@@ -10,5 +9,4 @@ invariant-cells g l =
       printed : SendsBut (g.S.TextSink.sent l.initial.sink) (g.S.TextSink.sent l.sink) l.behind
           (flat_map (cell_piece (g.R.Row.sheet l.row) 0) (range_with_len 0 l.column));
       tells : g.A.TellAims.tells l.aims (g.R.Row.sheet l.row);
-      marked : AreKept (g.R.Row.sheet l.row).text l.marks;
     }

@@ -3,7 +3,8 @@ use Rattle.tabled_config.specs.Settings.{style_at}
 use Rattle.tabled_grid.proofs.AlikeRows.{alike-maps}
 use Rattle.tabled_grid.proofs.column_styles.ColumnStyles.in_row.Goals as goal
 
-pub returns-then-are_alike : goal.returns-then-are_alike
-returns-then-are_alike c = λ width columns known.
-    c.as_slice.ensures.value ∙ known.styles ∙ alike-maps (style_at c.args.config.now c.args.self.now.row) (style_at c.args.config.now c.args.row) 0 columns
+pub returns-in-Some : goal.returns-in-Some
+returns-in-Some c = λ width columns known.
+    let kept = rw c.in-Some.is at known.styles in
+    c.as_slice.ensures.value ∙ kept ∙ alike-maps (style_at c.args.config.now c.args.self.now.row) (style_at c.args.config.now c.args.row) 0 columns
     (λ column. sym (c.are_alike.ensures c.if-are_alike.true column))

@@ -1,4 +1,4 @@
-use Rattle.std.proofs.Common.{◌∷◌, [], ap, drop, refl, sym, ◌∙◌}
+use Rattle.std.proofs.Common.{◌∷◌, [], ap, drop, sym, ◌∙◌}
 use Rattle.tabled_lines.proofs.LedLines.{led-parts}
 use Rattle.tabled_lines.proofs.lines.Lines.put_row.Goals as goal
 
@@ -9,6 +9,3 @@ pub returns-clause-printed : goal.returns-clause-printed
 returns-clause-printed g c =
     let same = c.lay_row.ensures.laid c.if-lay_row.true ∙ ap (λ u. drop 1 u ∷ []) (sym c.text.ensures) in
     rw same c.put_led.ensures
-
-pub put_row_lines-requires : goal.put_row_lines-requires
-put_row_lines-requires g c κs = ((refl, tt), c.forget.ensures (g.R.Row.sheet c.args.row.now).text)

@@ -7,7 +7,7 @@ returns-in_err-put_rule-clause-printed g c =
     let stream = c.args.self.now in
     let layout = stream.lines.columns.layout.now in
     cut-stopped layout (rule_of layout stream.first) c.args.height c.args.cells.now _ _ stream.lines.begun _ _ _
-    (rw c.rule.ensures at c.in_err-put_rule.ensures.printed) c.from_residual-in_err-put_rule.ensures.1
+    (rw c.rule.ensures at c.in_err-put_rule.ensures.printed) c.from_residual.ensures.1
 
 pub returns-clause-printed : goal.returns-clause-printed
 returns-clause-printed g c =

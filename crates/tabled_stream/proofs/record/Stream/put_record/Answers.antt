@@ -14,4 +14,4 @@ returns-clause-printed g c =
       each = c.in_ok-cut.ensures.each;
       whole = ap (lengthened layout.count) c.as_slice.ensures.value;
     })
-    c.put_cut.ensures.printed
+    c.put_cells.ensures.printed

@@ -1,0 +1,26 @@
+//! Where the texts of a few columns stand, in a room of fixed size.
+ghost use Rattle.std.specs.Prelude.{◌≡◌, ◌≤◌, take};
+
+use tabled_row::Aim;
+
+/// So many columns are a few.
+pub(crate) const FEW: usize = 128;
+
+/// The aims of a few columns.
+#[derive(Drop)]
+pub(crate) struct FewAims {
+    /// Those of the columns, and what the rest of the room holds.
+    pub aims: [Aim; FEW],
+    /// How many columns there are.
+    pub count: usize,
+    ghost within: { count ≤ 128 },
+}
+
+impl FewAims {
+    /// Where the texts stand, from left to right.
+    pub fn listed(&self) -> &[Aim]
+        ensures { result.now ≡ take self.now.count self.now.aims }
+    {
+        &self.aims[..self.count]
+    }
+}
