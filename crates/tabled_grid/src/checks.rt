@@ -1,8 +1,10 @@
 //! Whether the sizes of a table are there and hold its cells, in the order of the refusals.
 ghost use Rattle.std.specs.Prelude.{◌≡◌, ◌↔◌, ℕ, ◌<◌, ◌≤◌, ◌^◌, IsTrue, length, IfNone, IfOk, IfErr, IfSome, OnOk};
+ghost use Rattle.std.specs.List.{slice_index};
 ghost use Rattle.tabled_base.specs.Cells.{columns};
 ghost use Rattle.tabled_base.specs.declared.error.TableError.TheVariants.{ShortHeights, ShortWidths};
 ghost use Rattle.tabled_config.specs.Settings.{style_at};
+ghost use Rattle.tabled_row.specs.Aims.{AreAims, IsAimed, aim_of};
 ghost use Rattle.tabled_size.specs.Reached.{reached};
 ghost use Rattle.tabled_size.specs.Standing.{standing};
 ghost use Rattle.tabled_size.specs.Totals.{filled_width};
@@ -13,6 +15,7 @@ ghost use Rattle.tabled_grid.specs.Printed.{IsInRange, IsRefused};
 use crate::grid::Grid;
 use tabled_base::{PeekableRecords, Position, TableError};
 use tabled_config::{Indent, Sides, SpannedConfig};
+use tabled_row::Aim;
 use tabled_size::{
     CompleteDimension, Dimension, check_heights, check_widths, filled_height, filled_width,
 };
@@ -36,7 +39,48 @@ fn is_held<R: PeekableRecords, D: Dimension>(
         && used <= width - padding.left.size - padding.right.size
 }
 
-fn narrow_in<R: PeekableRecords, D: Dimension>(grid: &Grid<'_, R, D>, row: usize) -> Option<usize>
+/// Whether a text finds room in its column, in which padding leaves it so much.
+fn has_room<R: PeekableRecords, D: Dimension>(
+    grid: &Grid<'_, R, D>,
+    row: usize,
+    column: usize,
+    aim: Aim,
+) -> bool
+    requires row_in { row < length grid.now.cells }
+    requires column_in { column < columns grid.now.cells }
+    requires aim { aim ≡ aim_of (style_at grid.now.config row column) (slice_index grid.now.widths column) }
+    requires aimed { IsAimed (style_at grid.now.config row column) (slice_index grid.now.widths column) }
+    ensures { IsTrue result ↔ IsHeld grid.now row column }
+{
+    grid.records.get_width(Position { row, column }) <= aim.room
+}
+
+/// The first column of a row that doesn't hold its cell, where it is known where the texts stand.
+fn narrow_aimed<R: PeekableRecords, D: Dimension>(
+    grid: &Grid<'_, R, D>,
+    row: usize,
+    aims: &[Aim],
+) -> Option<usize>
+    requires sized { columns grid.now.cells ≤ length grid.now.widths }
+    requires row_in { row < length grid.now.cells }
+    requires aims { AreAims (style_at grid.now.config row) (slice_index grid.now.widths) (columns grid.now.cells) aims.now }
+    ensures none { IfNone result ((c : ℕ) → c < columns grid.now.cells
+        → IsHeld grid.now row c) }
+    ensures some { IfSome result (IsNarrowIn grid.now row) }
+{
+    'columns: for column in 0..aims.len() {
+        if !has_room(grid, row, column, aims[column]) {
+            return Some(column);
+        }
+    }
+    None
+}
+
+/// The first column of a row that doesn't hold its cell, by the padding of each.
+fn narrow_padded<R: PeekableRecords, D: Dimension>(
+    grid: &Grid<'_, R, D>,
+    row: usize,
+) -> Option<usize>
     requires sized { columns grid.now.cells ≤ length grid.now.widths }
     requires row_in { row < length grid.now.cells }
     ensures none { IfNone result ((c : ℕ) → c < columns grid.now.cells
@@ -50,6 +94,20 @@ fn narrow_in<R: PeekableRecords, D: Dimension>(grid: &Grid<'_, R, D>, row: usize
         }
     }
     None
+}
+
+/// The first column of a row that doesn't hold its cell.
+fn narrow_in<R: PeekableRecords, D: Dimension>(grid: &Grid<'_, R, D>, row: usize) -> Option<usize>
+    requires sized { columns grid.now.cells ≤ length grid.now.widths }
+    requires row_in { row < length grid.now.cells }
+    ensures none { IfNone result ((c : ℕ) → c < columns grid.now.cells
+        → IsHeld grid.now row c) }
+    ensures some { IfSome result (IsNarrowIn grid.now row) }
+{
+    match grid.aims(row) {
+        Some(aims) => narrow_aimed(grid, row, aims),
+        None => narrow_padded(grid, row),
+    }
 }
 
 /// Whether the widths, which have to be there, hold all cells. Refused with `Narrow` at the first one

@@ -10,7 +10,7 @@ ghost use Rattle.tabled_row.specs.Sent.{Sent};
 
 use crate::checks::check_stored;
 use crate::grid::Grid;
-use crate::print::{MANY, print_by, print_held};
+use crate::print::{MANY, print_by, print_grid, print_held};
 use std::alloc::Global;
 use tabled_base::{PeekableRecords, TableError};
 use tabled_config::SpannedConfig;
@@ -34,11 +34,10 @@ pub fn print_standing<R: PeekableRecords, S: TextSink>(
     if is_empty(records) {
         return Ok(());
     }
-    check_stored(records, config, stored)?;
     if stored.is_complete() {
-        let grid = Grid::new(records, config, stored, None);
-        return print_held(sink, &grid);
+        return print_grid(sink, records, config, stored);
     }
+    check_stored(records, config, stored)?;
     print_copied(sink, records, config, stored)
 }
 

@@ -1,7 +1,6 @@
 use Rattle.std.proofs.Common.{◌∙◌, Bool, ap, false, not, subst, sym}
 use Rattle.tabled_size.specs.Sheet.{Sheet}
 use Rattle.tabled_size.specs.Standing.{standing}
-use Rattle.tabled_size.specs.Holds.{Holds, IsSized}
 use Rattle.tabled_grid.specs.Printed.{Prints}
 use Rattle.tabled_grid.proofs.Printing.{prints_nothing}
 use Rattle.tabled_grid.proofs.StandingSizes.{answered_complete}
@@ -11,26 +10,14 @@ pub returns-then-is_empty : goal.returns-then-is_empty
 returns-then-is_empty g c =
     prints_nothing (standing (g.R.ExactRecords.cells c.args.records.now) c.args.config.now c.args.stored.now) _ (sym c.is_empty.ensures.value ∙ c.if-is_empty.true)
 
-pub print_held-requires-clause-sized : goal.print_held-requires-clause-sized
-print_held-requires-clause-sized g c =
-    subst IsSized
-    (sym (c.new-grid.ensures ∙ answered_complete (g.R.ExactRecords.cells c.args.records.now) c.args.config.now c.args.stored.now (sym c.is_complete.ensures ∙ c.if-is_complete.true)))
-    c.in_ok-check_stored.ensures.sized
-
-pub print_held-requires-clause-holds : goal.print_held-requires-clause-holds
-print_held-requires-clause-holds g c =
-    subst Holds
-    (sym (c.new-grid.ensures ∙ answered_complete (g.R.ExactRecords.cells c.args.records.now) c.args.config.now c.args.stored.now (sym c.is_complete.ensures ∙ c.if-is_complete.true)))
-    c.in_ok-check_stored.ensures.holds
-
 pub returns-then-is_complete : goal.returns-then-is_complete
 returns-then-is_complete g c =
     let stored = sym c.is_complete.ensures ∙ c.if-is_complete.true in
-    let P : Sheet → Type 0 = λ t. Prints false t (g.S.TextSink.sent c.args.sink.now) c.print_held.result (g.S.TextSink.sent c.print_held.new.sink) in
+    let P : Sheet → Type 0 = λ t. Prints false t (g.S.TextSink.sent c.args.sink.now) c.print_grid.result (g.S.TextSink.sent c.print_grid.new.sink) in
     let Q : Bool → Type 0 = λ estimates. Prints estimates (standing (g.R.ExactRecords.cells c.args.records.now) c.args.config.now c.args.stored.now)
-    (g.S.TextSink.sent c.args.sink.now) c.print_held.result (g.S.TextSink.sent c.print_held.new.sink) in
+    (g.S.TextSink.sent c.args.sink.now) c.print_grid.result (g.S.TextSink.sent c.print_grid.new.sink) in
     subst Q (ap not (sym stored))
-    (subst P (c.new-grid.ensures ∙ answered_complete (g.R.ExactRecords.cells c.args.records.now) c.args.config.now c.args.stored.now stored) c.print_held.ensures)
+    (subst P (answered_complete (g.R.ExactRecords.cells c.args.records.now) c.args.config.now c.args.stored.now stored) c.print_grid.ensures)
 
 pub returns : goal.returns
 returns g c =
