@@ -13,6 +13,7 @@ use tabled::grid::dimension::{
     CompleteDimension, ConstDimension, ConstSize, Dimension, DimensionValue, Estimate,
     StaticDimension, ZeroDimension,
 };
+use tabled::grid::records::into_records::BufRecords;
 use tabled::grid::records::{CellText, ExactRecords, RecordsMut, Text, VecRecords};
 use tabled::grid::util::string::{cut_str, split_str, wrap_text};
 use tabled::settings::measurement::{Max, Measurement, Min, Percent};
@@ -26,6 +27,7 @@ pub const MATERIALS: &[&str] = &[
     "texts",
     "rows",
     "rows of texts",
+    "rows read ahead",
     "parts",
     "single values",
     "integers",
@@ -97,6 +99,14 @@ fn given(alloc: Global) -> Result<Found, TableError> {
     }
     let picture = Table::from(Builder::from_vec(rows)?).to_string()?;
     Ok(whole_if(picture.as_str() == PICTURE))
+}
+
+// Rows of which the first is read ahead.
+fn buffered(alloc: Global) -> Result<Found, TableError> {
+    let rows = BufRecords::new(alloc, PAIRS, 1)?;
+    let ahead = rows.as_slice().len();
+    let picture = Table::from(Builder::from_iter(alloc, rows)?).to_string()?;
+    Ok(whole_if(ahead == 1 && picture.as_str() == PICTURE))
 }
 
 // Whether parts of the pairs name that.
@@ -333,6 +343,7 @@ pub fn handled(alloc: Global, name: &str) -> Result<Found, TableError> {
         "texts" => narrowed(alloc),
         "rows" => added(alloc),
         "rows of texts" => given(alloc),
+        "rows read ahead" => buffered(alloc),
         "parts" => chosen(alloc),
         "single values" => single(alloc),
         "integers" => integers(alloc),

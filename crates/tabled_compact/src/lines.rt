@@ -10,9 +10,9 @@ ghost use Rattle.tabled_compact.specs.GoesOn.{GoesOn, GoesOnLines};
 
 use crate::columns::CompactColumns;
 use crate::row::put_row_line;
-use crate::rules::{put_margin, put_rule, separator};
+use crate::rules::{put_rule, separator};
 use tabled_base::{CellText, TableError};
-use tabled_row::{TextSink, put_break};
+use tabled_row::{TextSink, put_break, put_margin};
 use tabled_size::Dimension;
 
 /// What stands above the first row: the margin, and the top line.

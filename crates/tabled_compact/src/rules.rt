@@ -1,15 +1,13 @@
-//! The horizontal lines and the margins of a compact table.
-ghost use Rattle.std.specs.Prelude.{◌≡◌, [], ◌∷◌, replicate};
-ghost use Rattle.tabled_border.specs.declared.sides.Indent.{Indent};
-ghost use Rattle.tabled_row.specs.Fill.{fill};
+//! The horizontal lines of a compact table.
+ghost use Rattle.std.specs.Prelude.{◌≡◌, [], ◌∷◌};
 ghost use Rattle.tabled_row.specs.Leading.{WritesLines};
 ghost use Rattle.tabled_row.specs.Row.{ColumnSheet, rule_if, rule_line};
 ghost use Rattle.tabled_row.specs.Sent.{Sent};
 ghost use Rattle.tabled_compact.specs.CompactLines.{separator};
 
 use tabled_base::TableError;
-use tabled_config::{Borders, HorizontalLine, Indent};
-use tabled_row::{Columns, TextSink, put_break, put_fill, put_rule_line};
+use tabled_config::{Borders, HorizontalLine};
+use tabled_row::{Columns, TextSink, put_break, put_rule_line};
 
 /// The line between two rows, if it is there. At its edges stand the characters of the vertical lines.
 pub(crate) fn separator(borders: &Borders<char>) -> Option<HorizontalLine>
@@ -54,33 +52,4 @@ pub(crate) fn put_rule<C: Columns, S: TextSink>(
         Some(line) => put_led_rule(sink, begun, columns, &line),
         None => Ok(()),
     }
-}
-
-fn put_fill_line<S: TextSink>(
-    sink: &mut S,
-    begun: &mut bool,
-    c: char,
-    width: usize,
-) -> Result<(), TableError>
-    ensures { WritesLines (S.sent sink.old) begun.old result (S.sent sink.new) begun.new
-        (fill c width ∷ []) }
-{
-    put_break(sink, begun)?;
-    put_fill(sink, c, width)
-}
-
-/// The lines of a margin, each as wide as the whole.
-pub(crate) fn put_margin<S: TextSink>(
-    sink: &mut S,
-    begun: &mut bool,
-    side: Indent,
-    width: usize,
-) -> Result<(), TableError>
-    ensures { WritesLines (S.sent sink.old) begun.old result (S.sent sink.new) begun.new
-        (replicate side.size (fill side.fill width)) }
-{
-    'lines: for _i in 0..side.size {
-        put_fill_line(sink, begun, side.fill, width)?;
-    }
-    Ok(())
 }

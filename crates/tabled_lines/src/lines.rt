@@ -13,37 +13,8 @@ use std::alloc::Global;
 use tabled_base::TableError;
 use tabled_config::{HorizontalLine, Indent};
 use tabled_row::{
-    Columns, Cursor, Row, TextSink, forget_cursors, put_break, put_fill, put_row_line,
+    Columns, Cursor, Row, TextSink, forget_cursors, put_break, put_margin, put_row_line,
 };
-
-fn put_fill_line<S: TextSink>(
-    sink: &mut S,
-    begun: &mut bool,
-    c: char,
-    width: usize,
-) -> Result<(), TableError>
-    ensures { WritesLines (S.sent sink.old) begun.old result (S.sent sink.new) begun.new
-        (fill c width ∷ []) }
-{
-    put_break(sink, begun)?;
-    put_fill(sink, c, width)
-}
-
-/// The lines of a margin, each as wide as the whole.
-fn put_margin<S: TextSink>(
-    sink: &mut S,
-    begun: &mut bool,
-    side: Indent,
-    width: usize,
-) -> Result<(), TableError>
-    ensures { WritesLines (S.sent sink.old) begun.old result (S.sent sink.new) begun.new
-        (replicate side.size (fill side.fill width)) }
-{
-    'lines: for _i in 0..side.size {
-        put_fill_line(sink, begun, side.fill, width)?;
-    }
-    Ok(())
-}
 
 /// A line of a row, with the line feed before it.
 fn put_led_line<'a, R: Row<'a>, S: TextSink>(

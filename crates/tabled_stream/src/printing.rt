@@ -44,12 +44,12 @@ where
         self.fmt(alloc, &mut sink)
     }
 
-    /// The text of the table. Refused as `fmt` is.
+    /// The text of the table. Refused as `fmt` is; a text never fails to be written to.
     pub fn to_string(self, alloc: Global) -> Result<String, TableError>
         requires { I.ends self.records }
         ensures { (new : Sent) × PrintsStream self.settings self.config (Came (I.begins self.records) I.Cell.text)
             (record { bytes = Some []; failures = 0; grows = true }) result new
-            × IfOk result (λ text. new.bytes ≡ Some (string_bytes text)) }
+            × (new.failures ≡ 0) × IfOk result (λ text. new.bytes ≡ Some (string_bytes text)) }
     {
         let mut text = String::new(alloc);
         match self.fmt(alloc, &mut text) {

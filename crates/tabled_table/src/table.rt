@@ -19,7 +19,7 @@ ghost use Rattle.tabled_size.specs.TextCells.{AreTexts};
 ghost use Rattle.tabled_row.specs.Plain.{EachLineTakes};
 ghost use Rattle.tabled_grid.specs.ApartSheet.{IsApartConfig};
 ghost use Rattle.tabled_grid.specs.PlainSheet.{IsPlainConfig};
-ghost use Rattle.tabled_grid.specs.Printed.{IsRefused, Prints};
+ghost use Rattle.tabled_grid.specs.Printed.{IsPrintable, IsRefused, Prints};
 ghost use Rattle.tabled_row.specs.Sent.{Sent};
 ghost use Rattle.tabled_table.specs.Rows.{string_row};
 
@@ -271,6 +271,7 @@ impl Table {
     /// The text that `write_to` writes. Refused for memory, and for what a table is refused by `write_to`.
     pub fn to_string(&self) -> Result<String, TableError>
         ensures ok { IfOk result (λ text. string_bytes text ≡ table_text (sheet self.now)) }
+        ensures printable { IfOk result (λ _. (is_empty (cells_of self.now) ≡ true) ⊎ IsPrintable (sheet self.now)) }
         ensures err { IfErr result (λ e. (e ≡ Memory) ⊎ ((is_empty (cells_of self.now) ≡ false)
             × IsRefused (sheet self.now) e)) }
     {

@@ -1,6 +1,6 @@
 use Rattle.tabled_row.proofs.Each.{copies-append, copies-rest}
 use Rattle.tabled_row.proofs.Leading.{lines-further, lines-stopped}
-use Rattle.tabled_lines.proofs.lines.put_margin.Goals as goal
+use Rattle.tabled_row.proofs.margin.put_margin.Goals as goal
 
 pub returns-in_err-put_fill_line : goal.returns-in_err-put_fill_line
 returns-in_err-put_fill_line g c =

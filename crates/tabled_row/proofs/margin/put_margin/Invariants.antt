@@ -1,7 +1,7 @@
 use Rattle.std.proofs.Common.{replicate}
 use Rattle.tabled_row.specs.Fill.{fill}
 use Rattle.tabled_row.specs.Leading.{LineSends}
-use Rattle.tabled_compact.proofs.rules.put_margin.Given as goal
+use Rattle.tabled_row.proofs.margin.put_margin.Given as goal
 
 abbrev pub invariant-lines : goal.invariant-lines
 invariant-lines g l =
