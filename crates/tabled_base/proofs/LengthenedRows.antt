@@ -76,3 +76,13 @@ lengthened_rows-more rows row =
     ∙ ap (λ l. l ++ lengthened m row ∷ []) (lengthened-all-twice m n rows (within_longest rows) (omega arith))
     ∙ sym (map-append (lengthened m) rows (row ∷ []))
     ∙ ap (λ k. map (lengthened k) (rows ++ row ∷ [])) (sym (longest-more rows row))
+
+-- the longest of rows of one length has this length
+longest-le : (n : ℕ) (rows : List (List (List ℕ))) → All (λ row. length row ≡ n) rows → longest rows ≤ n
+longest-le n [] h = omega arith
+longest-le n (row ∷ rows) h =
+    omega (arith, All-head (λ r. length r ≡ n) row rows h, longest-le n rows (All-tail (λ r. length r ≡ n) row rows h))
+
+-- rows that are equally long are as long as the longest
+pub rectangular-longest : (rows : List (List (List ℕ))) → IsRectangular rows → All (λ row. longest rows ≤ length row) rows
+rectangular-longest rows h = λ k d l. omega (arith, longest-le (columns rows) rows h, h k d l)

@@ -125,3 +125,8 @@ pub rectangular-after : {T E : Type 0} (r : Result T E) (old new : List (List (L
     → IsRectangular old → OnOk r (new ≡ with_record old row) → OnErr r (new ≡ old) → IsRectangular new
 rectangular-after (Ok x) old new row q ok err = subst IsRectangular (sym ok) (with_record-rectangular old row q)
 rectangular-after (Err e) old new row q ok err = subst IsRectangular (sym err) q
+
+-- what holds is so of a refusal
+pub on-err : {T E P : Type 0} (r : Result T E) → P → OnErr r P
+on-err (Ok x) holds = tt
+on-err (Err e) holds = holds

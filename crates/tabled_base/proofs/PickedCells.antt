@@ -1,9 +1,30 @@
 -- Cells that are picked one after another.
-use Rattle.std.proofs.Common.{◌≡◌, ℕ, ◌+◌, ◌-◌, ◌≤◌, List, [], ◌∷◌, ◌++◌, map, sym, ap, ◌∙◌, arith, append-nil}
+use Rattle.std.proofs.Common.{
+  ◌≡◌,
+  ℕ,
+  zero,
+  suc,
+  ◌+◌,
+  ◌-◌,
+  ◌<◌,
+  ◌≤◌,
+  List,
+  [],
+  ◌∷◌,
+  ◌++◌,
+  length,
+  map,
+  sym,
+  ap,
+  ◌∙◌,
+  arith,
+  append-nil,
+  length-append,
+}
 use Rattle.std.proofs.lemmas.List.{map-id}
 use Rattle.std.proofs.lemmas.List.Concat.{flat_map-append}
-use Rattle.std.proofs.lemmas.List.FromFn.{map-range_with_len_more}
-use Rattle.std.specs.List.{range_with_len}
+use Rattle.std.proofs.lemmas.List.FromFn.{length-map-range_with_len, map-range_with_len_more}
+use Rattle.std.specs.List.{flat_map, range_with_len}
 use Rattle.tabled_base.specs.Picks.{between, block}
 use Rattle.tabled_base.specs.declared.position.Entity.{Entity}
 use Rattle.tabled_base.specs.declared.position.Entity.TheVariants.{Cell}
@@ -27,3 +48,14 @@ block-more from to columns h =
 -- a walk that has come to its end
 pub between-end : (from to end : ℕ) → to - from ≡ end - from → between from to ≡ between from end
 between-end from to end e = ap (range_with_len from) e
+
+-- a list for each of some numbers, of which the first isn't empty
+some-first : (f : ℕ → List Entity) (from count : ℕ) → 0 < count → 0 < length (f from) → 0 < length (flat_map f (range_with_len from count))
+some-first f from zero h k = absurd (omega arith)
+some-first f from (suc count) h k = omega (arith, length-append {A = Entity})
+
+-- some rows and some columns have cells
+pub block-some : (from to first end : ℕ) → from < to → first < end → 0 < length (block (between from to) (between first end))
+block-some from to first end h k =
+    some-first (λ r. map (Cell r) (between first end)) from (to - from) (omega arith)
+    (omega (arith, length-map-range_with_len (Cell from) first (end - first)))

@@ -3,6 +3,7 @@ use Rattle.std.proofs.Common.{
   ◌≡◌,
   ℕ,
   ◌+◌,
+  ◌-◌,
   ◌<◌,
   ◌≤◌,
   List,
@@ -23,6 +24,7 @@ use Rattle.std.proofs.Common.{
 use Rattle.std.proofs.Math.ListN.{set}
 use Rattle.std.proofs.lemmas.List.{get_or-map, map-set, map-id, set-get_or, length-map}
 use Rattle.std.proofs.lemmas.Bool.{cases_eq}
+use Rattle.std.specs.List.{All}
 use Rattle.std.specs.Vec.{vec_capacity}
 use Rattle.std.specs.declared.vec.Vec.{Vec}
 use Rattle.std.specs.declared.alloc.Global.{Global}
@@ -89,3 +91,13 @@ roomy-more n rows i row h before here k d l =
       | inl e ↦ rw e (rw (get_or-set_same rows i row d h) here)
       | inr other ↦ rw (get_or-set_other rows i k row d other) (before k d (omega arith))
     ]
+
+-- a row that has no room to be lengthened is shorter
+pub short_row : (n : ℕ) (rows : List (Vec (List ℕ) Global)) (cells : List (List (List ℕ))) (i : ℕ) (row : Vec (List ℕ) Global)
+    → i < length rows → texts_of (λ t. t) rows ≡ cells → row ≡ slice_index_or rows i row
+    → vec_capacity row < vec_len row + (n - vec_len row) → ¬ All (λ r. n ≤ length r) cells
+short_row n rows cells i row h e r full all =
+    let inside : i < length cells = omega (arith, ap length e, length-map rows (λ row. map (λ t. t) row.items)) in
+    let long = all i [] inside in
+    let own = ap length (ap (λ c. slice_index_or c i []) (sym e) ∙ row_of (λ t. t) rows i row h ∙ ap (λ (v : Vec _ Global). map (λ t. t) v.items) (sym r)) in
+    absurd (omega (arith, long, own, row.ok.0, row.ok.1, length-map row.items (λ (t : List ℕ). t)))

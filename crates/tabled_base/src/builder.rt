@@ -57,9 +57,11 @@ impl Builder {
         })
     }
 
-    /// A builder of rows, the short ones lengthened. Where memory is refused, the rows are dropped.
+    /// A builder of rows, the short ones lengthened. Rows that are equally long take no memory. Where it
+    /// is refused, the rows are dropped.
     pub fn from_vec(mut rows: Vec<Vec<Text<String>>>) -> Result<Builder, TableError>
         ensures ok { IfOk result (λ builder. builder ≡ lengthened_rows (row_texts rows.items)) }
+        ensures unequal { OnErr result (¬ IsRectangular (row_texts rows.items)) }
         ensures only { IfErr result (λ e. e ≡ Memory) }
     {
         lengthen_all(&mut rows)?;
@@ -166,6 +168,7 @@ where
 fn lengthen_all(rows: &mut Vec<Vec<Text<String>>>) -> Result<(), TableError>
     ensures ok { OnOk result
         (row_texts rows.new.items ≡ lengthened_rows (row_texts rows.old.items)) }
+    ensures unequal { OnErr result (¬ IsRectangular (row_texts rows.old.items)) }
     ensures only { IfErr result (λ e. e ≡ Memory) }
 {
     let columns = longest_row(rows.as_slice());
@@ -240,6 +243,7 @@ fn push_shorter(
 fn reserve_rows(rows: &mut [Vec<Text<String>>], columns: usize) -> Result<(), TableError>
     ensures items { row_texts rows.new ≡ row_texts rows.old }
     ensures ok { OnOk result (All (λ row. columns ≤ vec_capacity row) rows.new) }
+    ensures short { OnErr result (¬ All (λ row. columns ≤ length row) (row_texts rows.old)) }
     ensures only { IfErr result (λ e. e ≡ Memory) }
 {
     for row in rows.iter_mut() {

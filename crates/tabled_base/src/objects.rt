@@ -1,5 +1,5 @@
 //! Selections of rows, columns and cells.
-ghost use Rattle.std.specs.Prelude.{◌≡◌, ℕ, IfErr, IfOk, List, length, map};
+ghost use Rattle.std.specs.Prelude.{◌≡◌, ◌<◌, ℕ, IfErr, IfOk, OnErr, List, length, map};
 ghost use Rattle.std.specs.Option.{option_to_list};
 ghost use Rattle.tabled_base.specs.Cells.{columns};
 ghost use Rattle.std.specs.List.{All};
@@ -17,10 +17,13 @@ pub trait Object<R: ExactRecords> {
     // The parts, in order, of so many rows and columns.
     ghost picks: { Self → ℕ → ℕ → List Entity };
 
-    /// The parts, in order; none of them lies outside of the records.
+    /// The parts, in order; none of them lies outside of the records. Memory is refused only where there
+    /// are some.
     fn cells(&self, alloc: Global, records: &R) -> Result<Vec<Entity>, TableError>
         ensures picked { IfOk result (λ all. all.items
             ≡ picks self.now (length (R.cells records.now)) (columns (R.cells records.now))) }
+        ensures some { OnErr result
+            (0 < length (picks self.now (length (R.cells records.now)) (columns (R.cells records.now)))) }
         ensures only { IfErr result (λ e. e ≡ Memory) };
 
     // None of the parts lies outside.

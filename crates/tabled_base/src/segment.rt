@@ -1,5 +1,5 @@
 //! Selections of many cells, or of all.
-ghost use Rattle.std.specs.Prelude.{◌≡◌, ◌++◌, ◌<◌, ◌^◌, ℕ, IfErr, None, OnOk, map};
+ghost use Rattle.std.specs.Prelude.{◌≡◌, ◌++◌, ◌<◌, ◌^◌, ℕ, IfErr, None, OnErr, OnOk, length, map};
 ghost use Rattle.tabled_base.specs.Picks.{between, block, segment, stretch, within};
 ghost use Rattle.tabled_base.specs.declared.error.TableError.TheVariants.{Memory};
 ghost use Rattle.tabled_base.specs.declared.position.Entity.TheVariants.{Cell, Global};
@@ -111,6 +111,8 @@ fn push_block(
 ) -> Result<(), TableError>
     ensures ok { OnOk result (all.new.items
         ≡ all.old.items ++ block (between rows.0 rows.1) (between columns.0 columns.1)) }
+    ensures some { OnErr result
+        (0 < length (block (between rows.0 rows.1) (between columns.0 columns.1))) }
     ensures only { IfErr result (λ e. e ≡ Memory) }
 {
     for row in rows.0..rows.1 {
@@ -123,6 +125,7 @@ fn push_block(
 fn push_row(all: &mut Vec<Entity>, row: usize, columns: (usize, usize)) -> Result<(), TableError>
     ensures ok { OnOk result
         (all.new.items ≡ all.old.items ++ map (Cell row) (between columns.0 columns.1)) }
+    ensures some { OnErr result (columns.0 < columns.1) }
     ensures only { IfErr result (λ e. e ≡ Memory) }
 {
     for column in columns.0..columns.1 {

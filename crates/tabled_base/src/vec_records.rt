@@ -1,5 +1,5 @@
 //! Records in vectors.
-ghost use Rattle.std.specs.Prelude.{◌≡◌, ℕ, List, IfErr, IfOk, map, ⊤};
+ghost use Rattle.std.specs.Prelude.{◌≡◌, ℕ, List, IfErr, IfOk, OnErr, OnOk, map, string_bytes, ⊤};
 ghost use Rattle.tabled_base.specs.Cells.{IsInside, IsRectangular, columns, row_texts, texts_of, with_cell};
 ghost use Rattle.tabled_base.specs.declared.error.TableError.TheVariants.{Memory};
 
@@ -148,8 +148,15 @@ impl<T: CellText> PeekableRecords for VecRecords<T> {
     }
 }
 
+/// Setting takes no memory.
 impl RecordsMut for VecRecords<Text<String>> {
-    fn set(&mut self, at: Position, text: String) -> Result<(), TableError> {
+    fn set(&mut self, at: Position, text: String) -> Result<(), TableError>
+        requires { IsInside self.old at.row at.column }
+        ensures ok { OnOk result (self.new ≡ with_cell self.old at.row at.column (string_bytes text)) }
+        ensures err { OnErr result (self.new ≡ self.old) }
+        ensures only { IfErr result (λ e. e ≡ Memory) }
+        ensures never { OnErr result ⊥ }
+    {
         self.put(at, Text::new(text));
         Ok(())
     }
@@ -161,7 +168,13 @@ impl RecordsMut for VecRecords<Text<String>> {
 
 /// A cell that lent its text and is set owns its new text. Setting takes no memory.
 impl<'a> RecordsMut for VecRecords<Text<CowStr<'a, Global>>> {
-    fn set(&mut self, at: Position, text: String) -> Result<(), TableError> {
+    fn set(&mut self, at: Position, text: String) -> Result<(), TableError>
+        requires { IsInside self.old at.row at.column }
+        ensures ok { OnOk result (self.new ≡ with_cell self.old at.row at.column (string_bytes text)) }
+        ensures err { OnErr result (self.new ≡ self.old) }
+        ensures only { IfErr result (λ e. e ≡ Memory) }
+        ensures never { OnErr result ⊥ }
+    {
         self.put(at, Text::new(CowStr::Owned(text)));
         Ok(())
     }

@@ -1,5 +1,5 @@
 //! The horizontal lines that were set by their index.
-ghost use Rattle.std.specs.Prelude.{◌≡◌, ◌==◌, ℕ, if◌then◌else◌, IfOk, OnErr, OnOk, [], Some};
+ghost use Rattle.std.specs.Prelude.{◌≡◌, ◌==◌, ℕ, if◌then◌else◌, IfOk, OnErr, OnOk, [], None, Some};
 ghost use Rattle.tabled_border.specs.Lines.{line_set, with_line};
 
 use crate::borders::HorizontalLine;
@@ -41,12 +41,13 @@ impl Lines {
         })
     }
 
-    /// Sets the line at an index, in place of the one that was there. Where memory is refused, all is as
-    /// it was.
+    /// Sets the line at an index, in place of the one that was there, which takes no memory. Where memory
+    /// is refused, all is as it was.
     pub fn insert(&mut self, index: usize, line: HorizontalLine) -> Result<(), AllocError>
         ensures ok { OnOk result (self.new ≡ with_line self.old index line) }
         ensures latest { OnOk result ((i : ℕ) → line_set self.new i ≡ (if index == i then Some line else line_set self.old i)) }
         ensures err { OnErr result (self.new ≡ self.old) }
+        ensures absent { OnErr result (line_set self.old index ≡ None) }
     {
         self.lines.insert(index, line)?;
         Ok(())

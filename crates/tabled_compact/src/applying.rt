@@ -2,6 +2,7 @@
 ghost use Rattle.std.specs.Prelude.{◌≡◌, ◌⊎◌, IfErr, IfOk};
 ghost use Rattle.tabled_base.specs.declared.error.TableError.TheVariants.{Memory, Range};
 ghost use Rattle.tabled_compact.specs.NewTable.{no_records};
+ghost use Rattle.tabled_config.specs.declared.compact.CompactConfig.{CompactConfig};
 ghost use Rattle.tabled_views.specs.declared.empty.EmptyRecords.{EmptyRecords};
 
 use crate::table::CompactTable;
@@ -12,7 +13,7 @@ use tabled_views::EmptyRecords;
 impl<I: Drop, D: Drop> CompactTable<I, D> {
     /// Applies an option to the configuration and the dimension, and gives the table back; its rows, and which of them
     /// are shown, stay. The option sees records without rows. Refused for memory, and with `Range` where a sum or product
-    /// of the option passes the greatest `usize`; a refusal drops the table.
+    /// of the option passes the greatest `usize`; a refusal drops the table, as the option left it.
     pub fn with<O: TableOption<EmptyRecords, CompactConfig, D>>(
         self,
         option: O,
@@ -22,6 +23,8 @@ impl<I: Drop, D: Drop> CompactTable<I, D> {
         ensures promised { IfOk result (λ table. (after : EmptyRecords) × O.promises option no_records self.config self.dimension
             after table.config table.dimension) }
         ensures same { IfOk result (λ table. table ≡ record self { config = table.config; dimension = table.dimension }) }
+        ensures err { IfErr result (λ e. (after : EmptyRecords) × (config : CompactConfig) × (sizes : D)
+            × O.refuses option e no_records self.config self.dimension after config sizes) }
         ensures only { IfErr result (λ e. (e ≡ Memory) ⊎ (e ≡ Range)) }
         ensures range { IfErr result (λ e. e ≡ Range → O.out_of_range option no_records self.config self.dimension) }
     {

@@ -57,7 +57,7 @@ where
         self.fmt(&mut sink)
     }
 
-    /// The text of the table. Refused as `fmt` is, and for memory.
+    /// The text of the table. Refused as `fmt` is, and for memory; a text never fails to be written to.
     pub fn to_string(self, alloc: Global) -> Result<String, TableError>
         requires { I.ends self.records }
         ensures ok { IfOk result (λ text. IsPrinted (sheet_by self.config (D.width_at self.dimension) self.columns)
@@ -66,7 +66,7 @@ where
             (record { bytes = Some (string_bytes text); failures = 0; grows = true })) }
         ensures err { IfErr result (λ e. (new : Sent) × IsEnded (sheet_by self.config (D.width_at self.dimension) self.columns)
             (record { skip = self.skip; limit = self.limit }) (Came (I.begins self.records) I.Cell.text)
-            (record { bytes = Some []; failures = 0; grows = true }) e new) }
+            (record { bytes = Some []; failures = 0; grows = true }) e new × (new.failures ≡ 0)) }
     {
         let mut text = String::new(alloc);
         match self.fmt(&mut text) {

@@ -1,5 +1,5 @@
 //! The configuration of a table.
-ghost use Rattle.std.specs.Prelude.{◌≡◌, ◌==◌, ℕ, if◌then◌else◌, IfErr, IfOk, IsOk, OnErr, OnOk, Some, []};
+ghost use Rattle.std.specs.Prelude.{◌≡◌, ◌==◌, ℕ, if◌then◌else◌, IfErr, IfOk, IsOk, IsSome, None, OnErr, OnOk, Some, []};
 ghost use Rattle.tabled_base.specs.declared.error.TableError.TheVariants.{Memory};
 ghost use Rattle.tabled_entity.specs.Changes.{setting_at, with_change};
 ghost use Rattle.tabled_border.specs.Lines.{line_set, with_line};
@@ -302,7 +302,7 @@ impl SpannedConfig {
     }
 
     /// Sets the horizontal line above a row, or below the last one, in place of the borders' line.
-    /// Refused with `Memory` alone, and then all is as it was.
+    /// Refused with `Memory` alone, where no line was set there, and then all is as it was.
     pub fn insert_horizontal_line(
         &mut self,
         row: usize,
@@ -313,6 +313,7 @@ impl SpannedConfig {
         ensures latest { OnOk result ((i : ℕ) → line_set self.new.lines i
             ≡ (if row == i then Some line else line_set self.old.lines i)) }
         ensures err { OnErr result (self.new ≡ self.old) }
+        ensures absent { OnErr result (line_set self.old.lines row ≡ None) }
         ensures only { IfErr result (λ e. e ≡ Memory) }
     {
         self.lines.insert(row, line)?;
@@ -334,10 +335,11 @@ impl SpannedConfig {
     }
 
     /// Sets the borders of a style, and its lines by index in place of all others. Refused with `Memory` alone,
-    /// and then all is as it was.
+    /// where the style sets a line by its index, and then all is as it was.
     pub(crate) fn set_style(&mut self, style: &Style) -> Result<(), TableError>
         ensures ok { OnOk result (self.new ≡ with_style self.old style.now) }
         ensures err { OnErr result (self.new ≡ self.old) }
+        ensures line { OnErr result (IsSome style.now.below_first) }
         ensures only { IfErr result (λ e. e ≡ Memory) }
     {
         let mut lines = Lines::new(self.allocator());

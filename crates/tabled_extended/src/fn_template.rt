@@ -11,7 +11,7 @@ use std::marker::Model;
 use tabled_base::TableError;
 
 /// Gives the texts that a function answers for the indices of the records, from 0.
-#[derive(Drop)]
+#[derive(Debug, Drop)]
 pub struct FnTemplate<G: LabelFn> {
     g: G,
 }

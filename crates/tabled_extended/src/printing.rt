@@ -260,6 +260,7 @@ impl<F: Template> ExtendedTable<F> {
             × (length parts ≡ length (row_texts self.now.records.items))
             × AreRecordLines (F.answers self.now.template) self.now.fields.items (row_texts self.now.records.items) parts
             × (string_bytes text ≡ text_of parts)) }
+        ensures in_range { OnOk result (IsTooWide self.now.fields.items (row_texts self.now.records.items) → ⊥) }
         ensures err { IfErr result (λ e. ((e ≡ Memory) × (0 < length (row_texts self.now.records.items)))
             ⊎ ((e ≡ Range) × IsTooWide self.now.fields.items (row_texts self.now.records.items))) }
     {

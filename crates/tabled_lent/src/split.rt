@@ -1,5 +1,5 @@
 //! The rows and cells of a text.
-ghost use Rattle.std.specs.Prelude.{◌≡◌, ◌≤◌, IfErr, IfOk, map, true};
+ghost use Rattle.std.specs.Prelude.{◌≡◌, ◌<◌, ◌≤◌, IfErr, IfOk, OnErr, length, map, true};
 ghost use Rattle.std.specs.List.{slice_range};
 ghost use Rattle.std.specs.Str.{IsCharBoundary};
 ghost use Rattle.tabled_base.specs.Cells.{lengthened};
@@ -15,10 +15,12 @@ use tabled_base::TableError;
 use tabled_text::{line_width, run_end};
 
 /// The rows of a text by line feeds, with cells by tabs, short rows lengthened with empty cells. A last
-/// line feed ends the last row, and the empty text has no row. Every cell lends the text.
+/// line feed ends the last row, and the empty text has no row. Every cell lends the text. The empty text
+/// takes no memory.
 #[tactic(auto, unfolding(crate::specs::TextRows::text_rows))]
 pub fn text_rows(alloc: Global, text: &str) -> Result<LentRows<'_>, TableError>
     ensures ok { IfOk result (λ rows. rows ≡ text_rows text.now) }
+    ensures some { OnErr result (0 < length text.now) }
     ensures only { IfErr result (λ e. e ≡ Memory) }
 {
     if text.is_empty() {

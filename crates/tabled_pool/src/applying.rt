@@ -4,37 +4,16 @@ ghost use Rattle.tabled_base.specs.declared.error.TableError.TheVariants.{Memory
 ghost use Rattle.tabled_pool.specs.Applied.{IsApplied, WasOutOfRange, WasRefused};
 
 use crate::pool_table::PoolTable;
-use tabled_base::{Entity, TableError, TableOption};
+use tabled_base::{TableError, TableOption};
 use tabled_config::CompactMultilineConfig;
 use tabled_size::PoolTableDimension;
-
-/// What stands for the records of a pool table: its options change settings alone.
-#[derive(Clone, Copy, Debug, PartialEq, Eq)]
-pub struct NoRecords {}
-
-impl TableOption<NoRecords, CompactMultilineConfig, PoolTableDimension> for PoolTableDimension {
-    ghost changes = { λ option r c d r' c' d'. (c' ≡ c) × (d' ≡ option) };
-
-    fn change(
-        self,
-        _records: &mut NoRecords,
-        _cfg: &mut CompactMultilineConfig,
-        dims: &mut PoolTableDimension,
-    ) -> Result<(), TableError> {
-        *dims = self;
-        Ok(())
-    }
-
-    fn hint_change(&self) -> Option<Entity> {
-        Some(Entity::Global)
-    }
-}
+use tabled_views::EmptyRecords;
 
 impl PoolTable {
-    /// Applies an option to the settings. This is `with` for callers that need the table after a refusal: then its
-    /// settings are as the option left them, and its texts as they were. Refused for memory, and with `Range` where
-    /// a sum or product of the option passes the greatest `usize`.
-    pub fn apply<O: TableOption<NoRecords, CompactMultilineConfig, PoolTableDimension>>(
+    /// Applies an option to the settings; it sees records without rows. This is `with` for callers that need the
+    /// table after a refusal: then its settings are as the option left them, and its texts as they were. Refused for
+    /// memory, and with `Range` where a sum or product of the option passes the greatest `usize`.
+    pub fn apply<O: TableOption<EmptyRecords, CompactMultilineConfig, PoolTableDimension>>(
         &mut self,
         option: O,
     ) -> Result<(), TableError>
@@ -43,7 +22,10 @@ impl PoolTable {
         ensures only { IfErr result (λ e. (e ≡ Memory) ⊎ (e ≡ Range)) }
         ensures range { IfErr result (λ e. e ≡ Range → WasOutOfRange (O.out_of_range option) self.old) }
     {
-        let mut records = NoRecords {};
+        let mut records = EmptyRecords {
+            rows: 0,
+            columns: 0,
+        };
         match option.change(&mut records, &mut self.config, &mut self.dimension) {
             Ok(()) => Ok(()),
             Err(error) => Err(error),
@@ -52,7 +34,7 @@ impl PoolTable {
 
     /// Applies an option to the settings, and gives the table back. Refused only as the option is: for memory, and with
     /// `Range` where a sum or product of the option passes the greatest `usize`. `apply` tells what a refusal leaves.
-    pub fn with<O: TableOption<NoRecords, CompactMultilineConfig, PoolTableDimension>>(
+    pub fn with<O: TableOption<EmptyRecords, CompactMultilineConfig, PoolTableDimension>>(
         &mut self,
         option: O,
     ) -> Result<&mut Self, TableError>

@@ -12,6 +12,5 @@ mod near;
 mod plan;
 mod pool_table;
 
-pub use applying::NoRecords;
 pub use pool_table::PoolTable;
 pub use tabled_boxes::TableValue;

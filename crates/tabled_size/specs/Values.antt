@@ -11,6 +11,12 @@ value_at (Exact size) i = Some size
 value_at (Listed sizes) i = entry sizes.items i
 value_at (Partial sizes rest) i = Some (if nat_lt i (length sizes.items) then at sizes.items i else rest)
 
+-- there is a list, which may be of no size
+abbrev pub HasList : DimensionValue → Type 0
+HasList (Exact size) = ⊥
+HasList (Listed sizes) = Unit {0}
+HasList (Partial sizes rest) = Unit {0}
+
 -- the same form, with the same sizes
 abbrev pub IsSameValue : DimensionValue → DimensionValue → Type 0
 IsSameValue (Exact a) (Exact b) = a ≡ b

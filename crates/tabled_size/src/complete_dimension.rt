@@ -1,5 +1,5 @@
 //! Sizes that are stored or estimated.
-ghost use Rattle.std.specs.Prelude.{◌≡◌, ◌&&◌, ℕ, IfErr, IfOk, List, None, Option, Some, is_none, is_some, option_map, true};
+ghost use Rattle.std.specs.Prelude.{◌≡◌, ◌&&◌, ◌⊎◌, ℕ, IfErr, IfOk, IsSome, List, None, OnErr, Option, Some, is_none, is_some, option_map, true};
 ghost use Rattle.tabled_base.specs.declared.error.TableError.TheVariants.{Memory};
 ghost use Rattle.tabled_size.specs.Entries.{clears_heights, clears_widths, stored_at, unless_cleared};
 ghost use Rattle.tabled_size.specs.Stored.{heights_of, is_stored, widths_of};
@@ -121,10 +121,11 @@ impl CompleteDimension {
         self.alloc
     }
 
-    /// The same sizes. Refused for memory.
+    /// The same sizes. Refused for memory, which stored lists alone take.
     pub fn clone(&self) -> Result<Self, TableError>
         ensures widths { IfOk result (λ sizes. widths_of sizes ≡ widths_of self.now) }
         ensures heights { IfOk result (λ sizes. heights_of sizes ≡ heights_of self.now) }
+        ensures stored { OnErr result (IsSome (widths_of self.now) ⊎ IsSome (heights_of self.now)) }
         ensures only { IfErr result (λ e. e ≡ Memory) }
     {
         Ok(CompleteDimension {
@@ -137,6 +138,7 @@ impl CompleteDimension {
 
 fn clone_sizes(sizes: &Option<Vec<usize>>) -> Result<Option<Vec<usize>>, TableError>
     ensures ok { IfOk result (λ copy. option_map (λ v. v.items) copy ≡ option_map (λ v. v.items) sizes.now) }
+    ensures stored { OnErr result (IsSome (option_map (λ v. v.items) sizes.now)) }
     ensures only { IfErr result (λ e. e ≡ Memory) }
 {
     match sizes {

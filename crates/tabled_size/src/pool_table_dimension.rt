@@ -1,6 +1,8 @@
 //! Which boxes of a pool table are widened.
 ghost use Rattle.std.specs.Prelude.{◌≡◌};
 
+use tabled_base::{Entity, TableError, TableOption};
+
 /// Which of the boxes side by side, or below each other, takes what is to be filled up.
 #[derive(Debug, Clone, Copy, PartialEq, Eq, PartialOrd, Ord)]
 pub enum DimensionPriority {
@@ -40,5 +42,24 @@ impl PoolTableDimension {
         ensures { result ≡ self.now.height }
     {
         self.height
+    }
+}
+
+/// It takes the place of the one that a table has; its records and its configuration stay.
+impl<R, C> TableOption<R, C, PoolTableDimension> for PoolTableDimension {
+    ghost changes = { λ option r c d r' c' d'. (r' ≡ r) × ((c' ≡ c) × (d' ≡ option)) };
+
+    fn change(
+        self,
+        _records: &mut R,
+        _cfg: &mut C,
+        dims: &mut PoolTableDimension,
+    ) -> Result<(), TableError> {
+        *dims = self;
+        Ok(())
+    }
+
+    fn hint_change(&self) -> Option<Entity> {
+        Some(Entity::Global)
     }
 }

@@ -1,7 +1,7 @@
 //! Sizes that are given once.
 ghost use Rattle.std.specs.Prelude.{◌≡◌, ◌≤◌, ◌⊎◌, ℕ, IfErr, IfOk, OnErr, OnOk, Some, is_some, true};
 ghost use Rattle.tabled_base.specs.declared.error.TableError.TheVariants.{Memory, Range};
-ghost use Rattle.tabled_size.specs.Values.{value_at, IsSameValue};
+ghost use Rattle.tabled_size.specs.Values.{value_at, HasList, IsSameValue};
 
 use crate::dimension::{Dimension, Estimate};
 use tabled_base::TableError;
@@ -53,9 +53,10 @@ impl DimensionValue {
         }
     }
 
-    /// The same value. Refused for memory.
+    /// The same value. Refused for memory, which one size for all doesn't take.
     pub fn clone(&self) -> Result<Self, TableError>
         ensures ok { IfOk result (IsSameValue self.now) }
+        ensures list { OnErr result (HasList self.now) }
         ensures only { IfErr result (λ e. e ≡ Memory) }
     {
         match self {
@@ -84,10 +85,11 @@ impl StaticDimension {
         StaticDimension { width, height }
     }
 
-    /// The same sizes. Refused for memory.
+    /// The same sizes. Refused for memory, which lists alone take.
     pub fn clone(&self) -> Result<Self, TableError>
         ensures widths { IfOk result (λ sizes. IsSameValue self.now.width sizes.width) }
         ensures heights { IfOk result (λ sizes. IsSameValue self.now.height sizes.height) }
+        ensures list { OnErr result (HasList self.now.width ⊎ HasList self.now.height) }
         ensures only { IfErr result (λ e. e ≡ Memory) }
     {
         Ok(StaticDimension {

@@ -5,7 +5,7 @@ ghost use Rattle.tabled_views.specs.Buffered.{BufBegin, MayGiveLater, buf_cell_s
 
 use crate::reading::take_rows;
 use std::alloc::Global;
-use std::vec;
+use std::{fmt, vec};
 use tabled_base::{IntoRecords, TableError};
 
 /// The rows of records, the first of which were read ahead and are kept.
@@ -16,7 +16,7 @@ pub struct BufRecords<R: IntoRecords> {
 }
 
 /// The cells of a row that was read ahead, or of a later one.
-#[derive(Drop)]
+#[derive(Debug, Drop)]
 pub enum BufCells<C, I> {
     /// A row that was read ahead.
     Kept(vec::IntoIter<C>),
@@ -42,7 +42,7 @@ impl<C: Drop, I: Iterator<Item = C>> Iterator for BufCells<C, I> {
 }
 
 /// The rows that were read ahead, and then those that come of the records.
-#[derive(Drop)]
+#[derive(Debug, Drop)]
 pub struct BufRows<C, I> {
     pub(crate) kept: vec::IntoIter<Vec<C>>,
     pub(crate) later: Option<I>,
@@ -71,6 +71,19 @@ where
             },
             None => None,
         }
+    }
+}
+
+impl<R: IntoRecords> fmt::Debug for BufRecords<R>
+where
+    R::Cell: fmt::Debug,
+    <R::IterRows as IntoIterator>::IntoIter: fmt::Debug,
+{
+    fn fmt<W: fmt::Write>(&self, f: &mut fmt::Formatter<W>) -> fmt::Result {
+        f.debug_struct("BufRecords")
+            .field("ahead", &self.ahead)
+            .field("rows", &self.rows)
+            .finish()
     }
 }
 

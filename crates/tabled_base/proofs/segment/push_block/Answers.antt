@@ -1,7 +1,8 @@
 use Rattle.std.proofs.Common.{◌++◌, map, sym, ap, ◌∙◌, arith, append_assoc}
 use Rattle.tabled_base.specs.Picks.{between, block}
 use Rattle.tabled_base.specs.declared.position.Entity.TheVariants.{Cell}
-use Rattle.tabled_base.proofs.PickedCells.{between-end, block-more}
+use Rattle.tabled_base.proofs.Lengthening.{on-err}
+use Rattle.tabled_base.proofs.PickedCells.{between-end, block-more, block-some}
 use Rattle.tabled_base.proofs.segment.push_block.Goals as goal
 
 pub loop-row-preserved : goal.loop-row-preserved
@@ -24,3 +25,8 @@ returns-clause-ok c =
     let from = c.args.rows.0 in
     let columns = between c.args.columns.0 c.args.columns.1 in
     c.loop-row.invariant.items ∙ ap (λ l. old ++ block l columns) (between-end from c.loop-row.row c.args.rows.1 (omega arith))
+
+pub returns-in_err-push_row-clause-some : goal.returns-in_err-push_row-clause-some
+returns-in_err-push_row-clause-some c =
+    on-err c.from_residual.result
+    (block-some c.args.rows.0 c.args.rows.1 c.args.columns.0 c.args.columns.1 (omega arith) c.in_err-push_row.ensures.some)
