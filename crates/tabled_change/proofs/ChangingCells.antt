@@ -28,6 +28,13 @@ module _ {chosen : ℕ → ℕ → Bool} {change : ℕ → ℕ → List ℕ → 
         column_in = subst (λ n. column < n) (sym (columns-changed h)) inside.column_in;
       }
 
+  pub IsInside-before : {row column : ℕ} → AreChanged chosen change old new → IsInside new row column → IsInside old row column
+  IsInside-before {row} {column} h inside =
+      record {
+        row_in = subst (λ n. row < n) h.rows inside.row_in;
+        column_in = subst (λ n. column < n) (columns-changed h) inside.column_in;
+      }
+
   -- a chosen place
   pub at-chosen : (row column : ℕ) → AreChanged chosen change old new → IsInside old row column → chosen row column ≡ true → change row column (cell_at old row column) (cell_at new row column)
   at-chosen row column h inside taken =

@@ -1,8 +1,8 @@
 -- Cells of which some are changed, and the others stay.
-use Rattle.std.specs.Prelude.{◌≡◌, ◌⊎◌, ℕ, Bool, true, not, ◌&&◌, ◌||◌, ◌==◌, nat_lt, List, [], MatchBool, Option, Some, None, length, slice_index_or}
+use Rattle.std.specs.Prelude.{◌≡◌, ◌⊎◌, ℕ, Bool, true, false, not, ◌&&◌, ◌||◌, ◌==◌, nat_lt, List, [], MatchBool, Option, Some, None, length, slice_index_or}
 use Rattle.tabled_base.specs.Cells.{IsInside, cell_at}
 use Rattle.tabled_base.specs.declared.error.TableError.{TableError}
-use Rattle.tabled_base.specs.declared.error.TableError.TheVariants.{Memory}
+use Rattle.tabled_base.specs.declared.error.TableError.TheVariants.{Memory, Range}
 use Rattle.tabled_base.specs.declared.position.Entity.{Entity}
 use Rattle.tabled_entity.specs.Changes.{covers}
 use Rattle.tabled_text.specs.Measure.{lines_of, text_columns}
@@ -46,6 +46,11 @@ abbrev pub in_room : (ℕ → List ℕ → List ℕ → Type 0) → Option ℕ �
 in_room change None before after = after ≡ before
 in_room change (Some room) before after = change room before after
 
+-- whether a text is changed for the room that it has, if it has one
+abbrev pub is_taken_in : Which → Option ℕ → List ℕ → Bool
+is_taken_in which None text = false
+is_taken_in which (Some room) text = is_taken which room text
+
 -- ---- cells
 
 -- the cells at the chosen places are changed, each as its row and column say, and the others are the old ones
@@ -68,15 +73,23 @@ place_of ByColumn row column = row
 abbrev pub precedes : Order → ℕ → ℕ → ℕ → ℕ → Bool
 precedes order line place row column = nat_lt (line_of order row column) line || (line_of order row column == line && nat_lt (place_of order row column) place)
 
--- where a change stopped: of the chosen cells those before some place are changed, and all others are the old ones
-pub record AreChangedBefore (order : Order) (chosen : ℕ → ℕ → Bool) (change : ℕ → ℕ → List ℕ → List ℕ → Type 0) (old new : List (List (List ℕ))) : Type 0 where
-  pub line : ℕ
-  pub place : ℕ
-  pub changed : AreChanged (λ row column. chosen row column && precedes order line place row column) change old new
+-- where a change stopped: at one of the chosen cells, whose text is one of those that are changed. The chosen cells before it
+-- are changed, and it and all others are the old ones
+pub record AreChangedBefore (order : Order) (chosen : ℕ → ℕ → Bool) (taken : ℕ → ℕ → List ℕ → Bool) (change : ℕ → ℕ → List ℕ → List ℕ → Type 0)
+    (old new : List (List (List ℕ))) : Type 0 where
+  pub row : ℕ
+  pub column : ℕ
+  pub inside : IsInside old row column
+  pub stopped : chosen row column ≡ true
+  pub takes : taken row column (cell_at old row column) ≡ true
+  pub changed : AreChanged (λ r c. chosen r c && precedes order (line_of order row column) (place_of order row column) r c) change old new
 
--- what a refusal leaves: all cells as they were, or for want of memory those before some place changed
-abbrev pub StopsChanging : Order → (ℕ → ℕ → Bool) → (ℕ → ℕ → List ℕ → List ℕ → Type 0) → TableError → List (List (List ℕ)) → List (List (List ℕ)) → Type 0
-StopsChanging order chosen change error old new = (new ≡ old) ⊎ ((error ≡ Memory) × AreChangedBefore order chosen change old new)
+-- what a refusal leaves: all cells as they were where a number passed the range, or for want of memory those before a
+-- refused one changed
+abbrev pub StopsChanging : Order → (ℕ → ℕ → Bool) → (ℕ → ℕ → List ℕ → Bool) → (ℕ → ℕ → List ℕ → List ℕ → Type 0) → TableError
+    → List (List (List ℕ)) → List (List (List ℕ)) → Type 0
+StopsChanging order chosen taken change error old new =
+    ((error ≡ Range) × (new ≡ old)) ⊎ ((error ≡ Memory) × AreChangedBefore order chosen taken change old new)
 
 -- ---- the cells of an entity, all for one room
 
@@ -84,6 +97,7 @@ StopsChanging order chosen change error old new = (new ≡ old) ⊎ ((error ≡ 
 abbrev pub ChangesEntity : (ℕ → List ℕ → List ℕ → Type 0) → ℕ → Entity → List (List (List ℕ)) → List (List (List ℕ)) → Type 0
 ChangesEntity change room entity old new = AreChanged (covers entity) (λ row column. change room) old new
 
--- what a refusal leaves of them, row by row
-abbrev pub StopsEntity : (ℕ → List ℕ → List ℕ → Type 0) → ℕ → Entity → TableError → List (List (List ℕ)) → List (List (List ℕ)) → Type 0
-StopsEntity change room entity error old new = StopsChanging ByRow (covers entity) (λ row column. change room) error old new
+-- what a refusal leaves where those of them are changed that a rule is for, row by row
+abbrev pub StopsEntity : Which → (ℕ → List ℕ → List ℕ → Type 0) → ℕ → Entity → TableError → List (List (List ℕ)) → List (List (List ℕ)) → Type 0
+StopsEntity which change room entity error old new =
+    StopsChanging ByRow (covers entity) (λ row column. is_taken which room) (λ row column. if_taken which change room) error old new

@@ -1,7 +1,7 @@
 -- Cells that are visited line by line: rows or columns, in a band of them.
 use Rattle.std.specs.Prelude.{ℕ, ◌==◌, ◌&&◌, Bool, List, Option, length, nat_le, nat_lt}
 use Rattle.tabled_base.specs.Cells.{columns}
-use Rattle.tabled_change.specs.CellChanges.{if_taken, in_room, line_of, place_of}
+use Rattle.tabled_change.specs.CellChanges.{if_taken, in_room, is_taken_in, line_of, place_of}
 use Rattle.tabled_change.specs.declared.order.Order.{Order}
 use Rattle.tabled_change.specs.declared.order.Order.TheVariants.{ByColumn, ByRow}
 use Rattle.tabled_change.specs.declared.walk.Band.{Band}
@@ -27,3 +27,7 @@ on_line order line places row column = line_of order row column == line && is_wi
 -- what a walk leaves of each cell: one that has a room is changed for it, if its text is one of those that are
 abbrev pub leaves : Which → (ℕ → List ℕ → List ℕ → Type 0) → (ℕ → ℕ → Option ℕ) → ℕ → ℕ → List ℕ → List ℕ → Type 0
 leaves which change rooms row column before after = in_room (if_taken which change) (rooms row column) before after
+
+-- whether a walk changes a text: that of a cell with a room, if it is one of those that are
+abbrev pub takes : Which → (ℕ → ℕ → Option ℕ) → ℕ → ℕ → List ℕ → Bool
+takes which rooms row column text = is_taken_in which (rooms row column) text

@@ -1,11 +1,11 @@
 //! Texts of cells that are changed in place.
-ghost use Rattle.std.specs.Prelude.{◌≡◌, ℕ, IfErr, IfOk, List, OnErr, OnOk, string_bytes};
-ghost use Rattle.tabled_base.specs.Cells.{IsInside};
+ghost use Rattle.std.specs.Prelude.{◌≡◌, ℕ, true, IfErr, IfOk, List, OnErr, OnOk, string_bytes};
+ghost use Rattle.tabled_base.specs.Cells.{IsInside, cell_at};
 ghost use Rattle.tabled_base.specs.declared.error.TableError.TheVariants.{Memory};
 ghost use Rattle.tabled_base.specs.declared.position.Entity.TheVariants.{Cell};
 ghost use Rattle.tabled_entity.specs.Changes.{covers};
 ghost use Rattle.tabled_change.specs.CellChanges.{AreChanged};
-ghost use Rattle.tabled_change.specs.Walking.{leaves};
+ghost use Rattle.tabled_change.specs.Walking.{leaves, takes};
 
 use crate::rooms::Rooms;
 use crate::which::Which;
@@ -33,7 +33,7 @@ pub struct Change<'a, T, M> {
 
 impl<'a, T: TextRule, M: Rooms> Change<'a, T, M> {
     /// Changes a cell that has a room, if its text is one that is changed. The others stay, and all do where
-    /// memory is refused.
+    /// memory is refused, which is wanted for such a text alone.
     pub(crate) fn change_cell<R: RecordsMut>(
         &self,
         records: &mut R,
@@ -44,6 +44,8 @@ impl<'a, T: TextRule, M: Rooms> Change<'a, T, M> {
             (leaves self.now.which (T.makes self.now.rule.now) (M.room_at self.now.rooms.now))
             (R.cells records.old) (R.cells records.new)) }
         ensures err { OnErr result (R.cells records.new ≡ R.cells records.old) }
+        ensures taken { OnErr result (takes self.now.which (M.room_at self.now.rooms.now) at.row at.column
+            (cell_at (R.cells records.old) at.row at.column) ≡ true) }
         ensures only { IfErr result (λ e. e ≡ Memory) }
     {
         let Some(room) = self.rooms.room(at) else {

@@ -3,8 +3,8 @@ ghost use Rattle.std.specs.Prelude.{◌≡◌, ◌≤◌, ◌<◌, ◌==◌, ◌
 ghost use Rattle.tabled_base.specs.Cells.{IsInside};
 ghost use Rattle.tabled_base.specs.declared.error.TableError.TheVariants.{Memory};
 ghost use Rattle.tabled_entity.specs.Changes.{covers};
-ghost use Rattle.tabled_change.specs.CellChanges.{AreChanged, AreChangedBefore, line_of, place_of, precedes};
-ghost use Rattle.tabled_change.specs.Walking.{is_within, leaves, lines_in, on_line, places_in};
+ghost use Rattle.tabled_change.specs.CellChanges.{AreChanged, AreChangedBefore, line_of, place_of};
+ghost use Rattle.tabled_change.specs.Walking.{is_within, leaves, lines_in, on_line, places_in, takes};
 
 use crate::changing::{Change, TextRule};
 use crate::order::Order;
@@ -87,8 +87,8 @@ fn change_line<T: TextRule, M: Rooms, R: RecordsMut>(
     ensures ok { OnOk result (AreChanged (on_line order line band)
         (leaves by.now.which (T.makes by.now.rule.now) (M.room_at by.now.rooms.now))
         (R.cells records.old) (R.cells records.new)) }
-    ensures err { OnErr result ((place : ℕ)
-        × AreChanged (λ r c. on_line order line band r c && precedes order line place r c)
+    ensures err { OnErr result (AreChangedBefore order (on_line order line band)
+        (takes by.now.which (M.room_at by.now.rooms.now))
         (leaves by.now.which (T.makes by.now.rule.now) (M.room_at by.now.rooms.now))
         (R.cells records.old) (R.cells records.new)) }
     ensures only { IfErr result (λ e. e ≡ Memory) }
@@ -100,7 +100,7 @@ fn change_line<T: TextRule, M: Rooms, R: RecordsMut>(
 }
 
 /// Changes the cells of an entity that have a room and whose texts are ones that are changed, in some order. No
-/// other cell is visited. Refused with `Memory` alone, where the cells from the refused one on are the old ones.
+/// other cell is visited. Refused with `Memory` alone, at one of these cells: it and those after it are the old ones.
 pub fn change_cells<T: TextRule, M: Rooms, R: RecordsMut>(
     by: &Change<'_, T, M>,
     records: &mut R,
@@ -111,6 +111,7 @@ pub fn change_cells<T: TextRule, M: Rooms, R: RecordsMut>(
         (leaves by.now.which (T.makes by.now.rule.now) (M.room_at by.now.rooms.now))
         (R.cells records.old) (R.cells records.new)) }
     ensures err { OnErr result (AreChangedBefore order (covers entity)
+        (takes by.now.which (M.room_at by.now.rooms.now))
         (leaves by.now.which (T.makes by.now.rule.now) (M.room_at by.now.rooms.now))
         (R.cells records.old) (R.cells records.new)) }
     ensures only { IfErr result (λ e. e ≡ Memory) }

@@ -1,5 +1,5 @@
 -- Cells of columns that are changed for their rooms.
-use Rattle.std.proofs.Common.{◌≡◌, ℕ, ◌-◌, ◌<◌, Bool, true, false, ◌&&◌, nat_lt, nat_le, MatchBool, List, length, take, Some, None, if◌then◌else◌, refl, sym, ap, subst, ◌∙◌, ⊎_elim, arith}
+use Rattle.std.proofs.Common.{◌≡◌, ℕ, ◌-◌, ◌<◌, Bool, true, false, ◌&&◌, nat_lt, nat_le, MatchBool, List, length, take, Option, Some, None, if◌then◌else◌, refl, sym, ap, subst, ◌∙◌, ⊎_elim, arith}
 use Rattle.std.proofs.lemmas.Bool.{cases_Bool}
 use Rattle.std.proofs.lemmas.Bool.Decides.{nat_tests}
 use Rattle.std.proofs.lemmas.List.{get_or-take}
@@ -7,11 +7,12 @@ use Rattle.tabled_base.specs.Cells.{cell_at}
 use Rattle.tabled_config.specs.declared.spanned.SpannedConfig.{SpannedConfig}
 use Rattle.tabled_priority.specs.Permitted.{at}
 use Rattle.tabled_size.specs.Sheet.{Sheet}
-use Rattle.tabled_change.specs.CellChanges.{AreChanged, AreChangedBefore, in_room}
+use Rattle.tabled_change.specs.CellChanges.{AreChanged, AreChangedBefore, if_taken, in_room, is_taken, is_taken_in}
 use Rattle.tabled_change.specs.declared.order.Order.{Order}
-use Rattle.tabled_resize.specs.ColumnChanges.{for_width, is_permitted}
+use Rattle.tabled_change.specs.declared.which.Which.{Which}
+use Rattle.tabled_resize.specs.ColumnChanges.{for_width, is_permitted, taken_for_width}
 use Rattle.tabled_resize.specs.Minimums.{minimums, side_padding}
-use Rattle.tabled_resize.specs.Narrowed.{for_room}
+use Rattle.tabled_resize.specs.Narrowed.{for_room, taken_for_room}
 use Rattle.tabled_change.proofs.ChangingCells.{AreChanged-as}
 
 -- the test of a column by a list of minimums that goes as far as the widths
@@ -37,8 +38,29 @@ module _ (change : ℕ → List ℕ → List ℕ → Type 0) (config : SpannedCo
       AreChanged-as h
       (λ r c inside taken made. in_room-if change (is_permitted widths mins c) (at widths c - side_padding config r c) (cell_at old r c) (cell_at new r c) made)
 
-  pub widths-before : {order : Order} {chosen : ℕ → ℕ → Bool} {old new : List (List (List ℕ))} → AreChangedBefore order chosen rooms old new → AreChangedBefore order chosen (for_width change config widths mins) old new
-  widths-before h = record { line = h.line; place = h.place; changed = widths-made h.changed }
+-- a text that has a room on a condition, and is taken in it
+taken-if : (which : Which) (b : Bool) (room : ℕ) (text : List ℕ) → is_taken_in which (if b then Some room else None) text ≡ (b && is_taken which room text)
+taken-if which true room text = refl
+taken-if which false room text = refl
+
+-- so where the changes stopped
+module _ (which : Which) (makes : ℕ → List ℕ → List ℕ → Type 0) (config : SpannedConfig) (widths mins : List ℕ) where
+  abbrev room_of : ℕ → ℕ → Option ℕ
+  room_of row column = if is_permitted widths mins column then Some (at widths column - side_padding config row column) else None
+
+  pub widths-before : {order : Order} {chosen : ℕ → ℕ → Bool} {old new : List (List (List ℕ))}
+      → AreChangedBefore order chosen (λ row column. is_taken_in which (room_of row column)) (λ row column. in_room (if_taken which makes) (room_of row column)) old new
+      → AreChangedBefore order chosen (taken_for_width which config widths mins) (for_width (if_taken which makes) config widths mins) old new
+  widths-before {order} {chosen} {old} {new} h = record {
+    row = h.row;
+    column = h.column;
+    inside = h.inside;
+    stopped = h.stopped;
+    takes =
+        sym (taken-if which (is_permitted widths mins h.column) (at widths h.column - side_padding config h.row h.column) (cell_at old h.row h.column))
+        ∙ h.takes;
+    changed = widths-made (if_taken which makes) config widths mins h.changed;
+  }
 
 -- cells that are changed for their widths are changed for their rooms
 pub rooms-made : (leaves : ℕ → List ℕ → List ℕ → Type 0) (t : Sheet) (widths mins : List ℕ) {chosen : ℕ → ℕ → Bool} {old new : List (List (List ℕ))} → mins ≡ take (length widths) (minimums t.cells t.config) → AreChanged chosen (for_width leaves t.config widths mins) old new → AreChanged chosen (for_room leaves t widths) old new
@@ -48,5 +70,17 @@ rooms-made leaves t widths mins {chosen} {old} {new} fits h =
     subst (λ b. MatchBool b (leaves (at widths c - side_padding t.config r c) (cell_at old r c) (cell_at new r c)) (cell_at new r c ≡ cell_at old r c))
     (sym (permitted-room t widths mins c fits)) made)
 
-pub rooms-before : (leaves : ℕ → List ℕ → List ℕ → Type 0) (t : Sheet) (widths mins : List ℕ) {order : Order} {chosen : ℕ → ℕ → Bool} {old new : List (List (List ℕ))} → mins ≡ take (length widths) (minimums t.cells t.config) → AreChangedBefore order chosen (for_width leaves t.config widths mins) old new → AreChangedBefore order chosen (for_room leaves t widths) old new
-rooms-before leaves t widths mins fits h = record { line = h.line; place = h.place; changed = rooms-made leaves t widths mins fits h.changed }
+pub rooms-before : (which : Which) (makes : ℕ → List ℕ → List ℕ → Type 0) (t : Sheet) (widths mins : List ℕ) {order : Order} {chosen : ℕ → ℕ → Bool} {old new : List (List (List ℕ))}
+    → mins ≡ take (length widths) (minimums t.cells t.config)
+    → AreChangedBefore order chosen (taken_for_width which t.config widths mins) (for_width (if_taken which makes) t.config widths mins) old new
+    → AreChangedBefore order chosen (taken_for_room which t widths) (for_room (if_taken which makes) t widths) old new
+rooms-before which makes t widths mins {order} {chosen} {old} {new} fits h = record {
+  row = h.row;
+  column = h.column;
+  inside = h.inside;
+  stopped = h.stopped;
+  takes =
+      ap (λ b. b && is_taken which (at widths h.column - side_padding t.config h.row h.column) (cell_at old h.row h.column)) (permitted-room t widths mins h.column fits)
+      ∙ h.takes;
+  changed = rooms-made (if_taken which makes) t widths mins fits h.changed;
+}

@@ -10,16 +10,17 @@ use Rattle.tabled_base.specs.declared.error.TableError.TheVariants.{Memory, Rang
 use Rattle.tabled_config.specs.declared.spanned.SpannedConfig.{SpannedConfig}
 use Rattle.tabled_size.specs.Estimates.{IsTooWide, estimated_heights, estimated_widths}
 use Rattle.tabled_size.specs.FilledIn.{HasNoEstimate, IsFilledIn}
-use Rattle.tabled_priority.specs.Permitted.{FitsMinimums}
+use Rattle.tabled_priority.specs.Permitted.{FitsMinimums, IsPermitted}
 use Rattle.tabled_size.specs.Sheet.{Sheet, is_empty}
 use Rattle.tabled_size.specs.Standing.{standing, standing_sizes}
 use Rattle.tabled_size.specs.Stored.{heights_of, widths_of}
 use Rattle.tabled_size.specs.Totals.{filled_width, total_width}
 use Rattle.tabled_size.specs.declared.complete_dimension.CompleteDimension.{CompleteDimension}
 use Rattle.tabled_size.proofs.Totalling.{heights_length, widths_length}
-use Rattle.tabled_change.specs.CellChanges.{AreChanged, AreChangedBefore}
+use Rattle.tabled_change.specs.CellChanges.{AreChanged, AreChangedBefore, if_taken}
 use Rattle.tabled_change.specs.declared.order.Order.TheVariants.{ByColumn}
-use Rattle.tabled_resize.specs.ColumnChanges.{for_width}
+use Rattle.tabled_change.specs.declared.which.Which.{Which}
+use Rattle.tabled_resize.specs.ColumnChanges.{for_width, taken_for_width}
 use Rattle.tabled_resize.specs.Minimums.{emptied, minimums}
 use Rattle.tabled_resize.specs.Narrowed.{IsNarrowed, Narrows, StopsNarrowing, WiderOutOfRange}
 use Rattle.tabled_resize.specs.Shrinking.{IsFound, IsShrunkBy}
@@ -29,7 +30,7 @@ use Rattle.tabled_resize.proofs.Emptied.{minimums-length}
 
 -- ---- sizes that are filled in
 
-filled-size : (stored : Option (List ℕ)) (estimates : List ℕ) (count : ℕ) → length estimates ≡ count → standing_sizes (Some (unwrap_or stored estimates)) estimates count ≡ standing_sizes stored estimates count
+pub filled-size : (stored : Option (List ℕ)) (estimates : List ℕ) (count : ℕ) → length estimates ≡ count → standing_sizes (Some (unwrap_or stored estimates)) estimates count ≡ standing_sizes stored estimates count
 filled-size None estimates count long = ap (λ k. take k estimates) (sym long) ∙ take-length estimates
 filled-size (Some sizes) estimates count long = refl
 
@@ -76,6 +77,9 @@ module _ {P : Type 0} (shrinks : P → List ℕ → List ℕ → ℕ → List �
               subst (λ k. shrinks priority t.widths (take (length t.widths) (minimums t.cells t.config)) k new s.last) (b ∙ ap (λ k. k - n) e)
               (subst (λ ms. shrinks priority t.widths ms by new s.last) same
               (subst (λ ws. shrinks priority ws mins by new s.last) w s.shrunk));
+          permitted =
+              subst (λ ms. IsPermitted t.widths ms new) same
+              (subst (λ ws. IsPermitted ws mins new) w s.permitted);
         };
         fits = m ∙ ap (λ k. take k (minimums t.cells t.config)) (sym long);
       }
@@ -102,11 +106,13 @@ module _ {P : Type 0} (shrinks : P → List ℕ → List ℕ → ℕ → List �
         (match-false ((cells' ≡ cells) × IsFilledIn old cells config new) (IsNarrowed shrinks priority change n t cells' new) above
         (record { widths = widths; shrunk = is.shrunk; changed = rooms-made change t widths mins is.fits changed; stored = stored; cleared = cleared }))
 
-    pub stops-some : (cells' : List (List (List ℕ))) (error : TableError) (widths mins : List ℕ) → error ≡ Memory → IsFound shrinks priority n (standing cells config mid) widths mins → AreChangedBefore ByColumn (λ r c. true) (for_width change config widths mins) cells cells' → StopsNarrowing shrinks priority change n error cells config old cells'
-    stops-some cells' error widths mins e found changed =
+    pub stops-some : (which : Which) (cells' : List (List (List ℕ))) (error : TableError) (widths mins : List ℕ) → error ≡ Memory → IsFound shrinks priority n (standing cells config mid) widths mins
+        → AreChangedBefore ByColumn (λ r c. true) (taken_for_width which config widths mins) (for_width (if_taken which change) config widths mins) cells cells'
+        → StopsNarrowing shrinks priority which change n error cells config old cells'
+    stops-some which cells' error widths mins e found changed =
         let t = standing cells config old in
         let is = found-old widths mins found in
-        inr (e, record { wider = is.wider; widths = widths; shrunk = is.shrunk; changed = rooms-before change t widths mins is.fits changed })
+        inr (e, record { wider = is.wider; widths = widths; shrunk = is.shrunk; changed = rooms-before which change t widths mins is.fits changed })
 
 -- ---- what is refused
 

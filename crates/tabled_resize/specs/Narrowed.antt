@@ -1,8 +1,9 @@
 -- Tables whose columns shrink to a total, and whose cells are changed for the rooms that these leave.
-use Rattle.std.specs.Prelude.{◌≡◌, ◌⊎◌, ◌<◌, ◌≤◌, ◌^◌, ℕ, ◌-◌, true, false, nat_le, List, MatchBool, Some, None, length, take}
+use Rattle.std.specs.Prelude.{◌≡◌, ◌⊎◌, ◌<◌, ◌≤◌, ◌^◌, ℕ, ◌-◌, true, false, nat_le, Bool, List, MatchBool, Some, None, length, take}
 use Rattle.tabled_base.specs.declared.error.TableError.{TableError}
 use Rattle.tabled_base.specs.declared.error.TableError.TheVariants.{Memory}
 use Rattle.tabled_config.specs.declared.spanned.SpannedConfig.{SpannedConfig}
+use Rattle.tabled_priority.specs.Permitted.{IsPermitted}
 use Rattle.tabled_size.specs.Estimates.{IsTooWide}
 use Rattle.tabled_size.specs.FilledIn.{HasNoEstimate, IsFilledIn}
 use Rattle.tabled_size.specs.Sheet.{Sheet, is_empty}
@@ -10,20 +11,26 @@ use Rattle.tabled_size.specs.Standing.{standing}
 use Rattle.tabled_size.specs.Stored.{heights_of, widths_of}
 use Rattle.tabled_size.specs.Totals.{total_width}
 use Rattle.tabled_size.specs.declared.complete_dimension.CompleteDimension.{CompleteDimension}
-use Rattle.tabled_change.specs.CellChanges.{AreChanged, AreChangedBefore}
+use Rattle.tabled_change.specs.CellChanges.{AreChanged, AreChangedBefore, if_taken}
 use Rattle.tabled_change.specs.declared.order.Order.TheVariants.{ByColumn}
-use Rattle.tabled_resize.specs.ColumnChanges.{for_width}
+use Rattle.tabled_change.specs.declared.which.Which.{Which}
+use Rattle.tabled_resize.specs.ColumnChanges.{for_width, taken_for_width}
 use Rattle.tabled_resize.specs.Minimums.{emptied, minimums}
 
 -- the widths are a list that the priority may make of those that stand, taking what the total has above n, with the
--- minimums of the columns that stand
+-- minimums of the columns that stand: as many, each between its limits
 pub record IsShrunkTo {P : Type 0} (shrinks : P → List ℕ → List ℕ → ℕ → List ℕ → P → Type 0) (priority : P) (n : ℕ) (t : Sheet) (widths : List ℕ) : Type 0 where
   pub last : P
   pub shrunk : shrinks priority t.widths (take (length t.widths) (minimums t.cells t.config)) (total_width t - n) widths last
+  pub permitted : IsPermitted t.widths (take (length t.widths) (minimums t.cells t.config)) widths
 
 -- a cell of a column that isn't below its minimum is changed for the room that the column leaves it, another stays
 abbrev pub for_room : (ℕ → List ℕ → List ℕ → Type 0) → Sheet → List ℕ → ℕ → ℕ → List ℕ → List ℕ → Type 0
 for_room change t widths = for_width change t.config widths (minimums t.cells t.config)
+
+-- whether it has such a room, and a text that is one of those that are changed
+abbrev pub taken_for_room : Which → Sheet → List ℕ → ℕ → ℕ → List ℕ → Bool
+taken_for_room which t widths = taken_for_width which t.config widths (minimums t.cells t.config)
 
 -- a table wider than n is narrowed: its widths are shrunk and stored, every cell is changed for its room, and its
 -- heights are to be estimated anew
@@ -44,20 +51,20 @@ Narrows shrinks priority change n cells config sizes cells' sizes' =
     (MatchBool (nat_le (total_width (standing cells config sizes)) n) ((cells' ≡ cells) × IsFilledIn sizes cells config sizes')
     (IsNarrowed shrinks priority change n (standing cells config sizes) cells' sizes'))
 
--- memory was refused at some cell of a table wider than n: the cells before it, column by column, are changed, and
--- the others are the old ones
-pub record IsNarrowedBefore {P : Type 0} (shrinks : P → List ℕ → List ℕ → ℕ → List ℕ → P → Type 0) (priority : P)
+-- memory was refused at a cell of a table wider than n that a rule is for: such cells before it, column by column, are
+-- changed, and it and the others are the old ones
+pub record IsNarrowedBefore {P : Type 0} (shrinks : P → List ℕ → List ℕ → ℕ → List ℕ → P → Type 0) (priority : P) (which : Which)
     (change : ℕ → List ℕ → List ℕ → Type 0) (n : ℕ) (t : Sheet) (cells : List (List (List ℕ))) : Type 0 where
   pub wider : n < total_width t
   pub widths : List ℕ
   pub shrunk : IsShrunkTo shrinks priority n t widths
-  pub changed : AreChangedBefore ByColumn (λ row column. true) (for_room change t widths) t.cells cells
+  pub changed : AreChangedBefore ByColumn (λ row column. true) (taken_for_room which t widths) (for_room (if_taken which change) t widths) t.cells cells
 
--- what a refusal leaves: all cells as they were, or for want of memory some first ones changed
-abbrev pub StopsNarrowing : {P : Type 0} → (P → List ℕ → List ℕ → ℕ → List ℕ → P → Type 0) → P → (ℕ → List ℕ → List ℕ → Type 0) → ℕ → TableError
+-- what a refusal leaves: all cells as they were, or for want of memory those before a refused one changed
+abbrev pub StopsNarrowing : {P : Type 0} → (P → List ℕ → List ℕ → ℕ → List ℕ → P → Type 0) → P → Which → (ℕ → List ℕ → List ℕ → Type 0) → ℕ → TableError
     → List (List (List ℕ)) → SpannedConfig → CompleteDimension → List (List (List ℕ)) → Type 0
-StopsNarrowing shrinks priority change n error cells config sizes cells' =
-    (cells' ≡ cells) ⊎ ((error ≡ Memory) × IsNarrowedBefore shrinks priority change n (standing cells config sizes) cells')
+StopsNarrowing shrinks priority which change n error cells config sizes cells' =
+    (cells' ≡ cells) ⊎ ((error ≡ Memory) × IsNarrowedBefore shrinks priority which change n (standing cells config sizes) cells')
 
 -- the total passes the greatest number, or the padding of a cell of a table wider than n
 abbrev pub WiderOutOfRange : ℕ → List (List (List ℕ)) → SpannedConfig → CompleteDimension → Type 0

@@ -28,7 +28,7 @@ pub fn narrow_table<T: TextRule, P: Peaker + Drop, R: RecordsMut>(
     requires { is_empty (R.cells records.old) ≡ false }
     ensures ok { OnOk result (Narrows P.shrinks priority (if_taken which (T.makes rule.now)) n
         (R.cells records.old) config.now sizes.old (R.cells records.new) sizes.new) }
-    ensures err { IfErr result (λ e. StopsNarrowing P.shrinks priority (if_taken which (T.makes rule.now)) n e
+    ensures err { IfErr result (λ e. StopsNarrowing P.shrinks priority which (T.makes rule.now) n e
         (R.cells records.old) config.now sizes.old (R.cells records.new)) }
     ensures only { IfErr result (λ e. (e ≡ Memory) ⊎ ((e ≡ Range)
         × (HasNoEstimate sizes.old (R.cells records.old) config.now

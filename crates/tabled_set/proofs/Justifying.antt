@@ -1,11 +1,10 @@
 -- Cells that are justified: those that have the columns already are.
-use Rattle.std.proofs.Common.{◌≡◌, ℕ, false, nat_lt, List, [], Result, Ok, Err, IfErr, inl, inr, refl, arith, ⊎_elim}
+use Rattle.std.proofs.Common.{◌≡◌, ℕ, false, nat_lt, List, [], refl, arith, ⊎_elim}
 use Rattle.std.proofs.lemmas.Bool.{MatchBool-at_false, MatchBool-at_true, cases_Bool}
 use Rattle.std.proofs.lemmas.Bool.Decides.{nat_tests}
-use Rattle.tabled_base.specs.declared.error.TableError.{TableError}
 use Rattle.tabled_base.specs.declared.position.Entity.{Entity}
 use Rattle.tabled_change.proofs.ChangingCells.{AreChanged-as, match-false}
-use Rattle.tabled_change.specs.CellChanges.{ChangesEntity, StopsEntity, if_taken, is_taken, truncating}
+use Rattle.tabled_change.specs.CellChanges.{ChangesEntity, if_taken, is_taken, truncating}
 use Rattle.tabled_change.specs.Justified.{IsJustified}
 use Rattle.tabled_change.specs.TextLines.{filling}
 use Rattle.tabled_change.specs.declared.suffix.SuffixLimit.TheVariants.{Cut}
@@ -33,20 +32,3 @@ justified-as room before after h = ⊎_elim
 
 pub justified-entity : (room : ℕ) (entity : Entity) (old new : List (List (List ℕ))) → ChangesEntity (if_taken NotAsWide IsJustified) room entity old new → ChangesEntity IsJustified room entity old new
 justified-entity room entity old new h = AreChanged-as h (λ r c inside yes made. justified-as room _ _ made)
-
-pub justified-stops : (room : ℕ) (entity : Entity) (error : TableError) (old new : List (List (List ℕ))) → StopsEntity (if_taken NotAsWide IsJustified) room entity error old new → StopsEntity IsJustified room entity error old new
-justified-stops room entity error old new h = ⊎_elim
-    (λ same. inl same)
-    (λ some. inr (
-      some.0,
-      record {
-        line = some.1.line;
-        place = some.1.place;
-        changed = AreChanged-as some.1.changed (λ r c inside yes made. justified-as room _ _ made);
-      },
-    ))
-    h
-
-pub if_err-weaker : {T : Type 0} {P Q : TableError → Type 0} (r : Result T TableError) → ((e : TableError) → P e → Q e) → IfErr r P → IfErr r Q
-if_err-weaker (Ok x) f h = tt
-if_err-weaker (Err e) f h = f e h

@@ -8,6 +8,7 @@ use Rattle.tabled_priority.specs.Permitted.{IsTakenFrom, at}
 use Rattle.tabled_size.specs.Cleared.{AreCleared}
 use Rattle.tabled_size.specs.Estimates.{estimated_heights, estimated_widths}
 use Rattle.tabled_size.specs.FilledIn.{IsFilledIn}
+use Rattle.tabled_size.specs.Holds.{IsSized}
 use Rattle.tabled_size.specs.Sheet.{Sheet, estimated, is_empty}
 use Rattle.tabled_size.specs.Standing.{standing, standing_sizes}
 use Rattle.tabled_size.specs.Stored.{heights_of, widths_of}
@@ -21,7 +22,7 @@ use Rattle.tabled_resize.specs.Priorities.{AddsTo}
 use Rattle.tabled_resize.proofs.ExactTotals.{changed_empty}
 use Rattle.tabled_resize.proofs.GrowingTables.{full_height}
 use Rattle.tabled_resize.proofs.HeightTotals.{filled_height-frame, grown-sum, shrunk-total, some-lines}
-use Rattle.tabled_resize.proofs.NarrowingTables.{standing-filled}
+use Rattle.tabled_resize.proofs.NarrowingTables.{filled-size, standing-filled}
 use Rattle.tabled_resize.proofs.WidthTotals.{filled_width-short, short-widths, take-all}
 use Rattle.tabled_set.specs.Promised.{HeightensAsPromised, LimitsAsPromised, WidensAsPromised}
 
@@ -133,8 +134,37 @@ module _ {P : Type 0} (grows : P → List ℕ → ℕ → List ℕ → P → Typ
       (cases_Bool (nat_le n (total_width before))))
       (cases_Bool (is_empty cells))
 
+  -- as many widths stand as stood, and the heights that stood
+  same-count : (length after.widths ≡ length before.widths) × (after.heights ≡ before.heights)
+  same-count = ⊎_elim
+      (λ empty.
+      let same : new ≡ old = MatchBool-at_true (new ≡ old) (MatchBool (nat_le n (total_width before)) filled widened) empty h in
+      (ap (λ o. length (standing_sizes o (estimated_widths cells config) (columns cells))) (cleared.widths ∙ ap widths_of same),
+      ap (λ o. standing_sizes o (estimated_heights cells config) (length cells)) (cleared.heights ∙ ap heights_of same)))
+      (λ some.
+      let rest = MatchBool-at_false (new ≡ old) (MatchBool (nat_le n (total_width before)) filled widened) some h in
+      ⊎_elim
+      (λ wide.
+      let is : filled = MatchBool-at_true filled widened wide rest in
+      let e = standing-filled cells config old left (record { widths = cleared.widths ∙ is.widths; heights = cleared.heights ∙ is.heights }) in
+      (ap (λ (t : Sheet). length t.widths) e, ap (λ (t : Sheet). t.heights) e))
+      (λ less.
+      let is : widened = MatchBool-at_false filled widened less rest in
+      (ap length (grown-widths is) ∙ is.grown.kept.same_length,
+      ap (λ o. standing_sizes o (estimated_heights cells config) (length cells)) (cleared.heights ∙ is.heights)
+      ∙ filled-size (heights_of old) (estimated_heights cells config) (length cells) (heights_length cells config)))
+      (cases_Bool (nat_le n (total_width before))))
+      (cases_Bool (is_empty cells))
+
+  stays-sized : IsSized before → IsSized after
+  stays-sized was = record {
+    columns = let e = same-count.0 in let wide = was.columns in omega arith;
+    rows = subst (λ (hs : List ℕ). length cells ≤ length hs) (sym same-count.1) was.rows;
+  }
+
   pub widens : WidensAsPromised grows s n before after
   widens = record {
     exact = exact;
+    sized = stays-sized;
     holds = λ holds row column r c. let was = holds row column r c in let more = no-less column in omega arith;
   }

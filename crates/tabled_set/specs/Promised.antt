@@ -7,7 +7,7 @@ use Rattle.tabled_change.specs.declared.suffix.SuffixLimit.{SuffixLimit}
 use Rattle.tabled_config.specs.declared.spanned.SpannedConfig.{SpannedConfig}
 use Rattle.tabled_resize.specs.HeightFrame.{frame_height}
 use Rattle.tabled_resize.specs.Priorities.{AddsTo, TakesFrom, TakesGreatest}
-use Rattle.tabled_size.specs.Holds.{Holds}
+use Rattle.tabled_size.specs.Holds.{Holds, IsSized}
 use Rattle.tabled_size.specs.Sheet.{Sheet, estimated, is_empty}
 use Rattle.tabled_size.specs.TextCells.{AreTexts}
 use Rattle.tabled_size.specs.Totals.{total_height, total_width}
@@ -34,9 +34,10 @@ pub record TruncatesAsPromised {P : Type 0} (shrinks : P → List ℕ → List �
   pub least : TakesGreatest shrinks s → IsWiderThan n old → HasLeastWidth old new
 
 -- widened to n: by a priority that adds all that is wanted, the total is n where a width isn't zero; whatever the
--- priority is, a table that held its cells does
+-- priority is, sizes that reached to the last column and row do, and a table that held its cells does
 pub record WidensAsPromised {P : Type 0} (grows : P → List ℕ → ℕ → List ℕ → P → Type 0) (s : P) (n : ℕ) (old new : Sheet) : Type 0 where
   pub exact : AddsTo grows s → is_empty old.cells ≡ false → total_width old < n → 0 < sum old.widths → total_width new ≡ n
+  pub sized : IsSized old → IsSized new
   pub holds : Holds old → Holds new
 
 -- heightened to n, by a priority that adds all that is wanted: the total is n

@@ -1,5 +1,5 @@
 //! Increasing to some lines.
-ghost use Rattle.std.specs.Prelude.{◌≡◌, None};
+ghost use Rattle.std.specs.Prelude.{◌≡◌, None, false};
 ghost use Rattle.tabled_change.specs.CellChanges.{ChangesEntity, StopsEntity, if_taken};
 ghost use Rattle.tabled_change.specs.TextLines.{lengthening};
 ghost use Rattle.tabled_change.specs.declared.which.Which.TheVariants.{Lower};
@@ -7,6 +7,7 @@ ghost use Rattle.tabled_resize.specs.Increased.{HeightOutOfRange, IncreasesHeigh
 ghost use Rattle.tabled_set.specs.InTurn.{first_in_turn, grows_in_turn};
 ghost use Rattle.tabled_set.specs.Promised.{HeightensAsPromised};
 ghost use Rattle.tabled_size.specs.Cleared.{AreCleared};
+ghost use Rattle.tabled_size.specs.Sheet.{is_empty};
 ghost use Rattle.tabled_size.specs.Standing.{standing};
 ghost use Rattle.tabled_size.specs.declared.complete_dimension.CompleteDimension.{CompleteDimension};
 
@@ -47,12 +48,12 @@ impl<W> CellHeightIncrease<W> {
 }
 
 /// The entity's cells of fewer lines than the measure get line feeds at their ends, and no other cell changes. Where the
-/// measure is refused, with `Range`, no cell has changed; where memory is, those before some cell have, row by row.
+/// measure is refused, with `Range`, no cell has changed; where memory is, those before the refused one have, row by row.
 impl<W: Measurement<Height>, R: RecordsMut> CellOption<R, ColoredConfig> for CellHeightIncrease<W> {
     ghost changes = { λ s r c e r' c'. ChangesEntity (if_taken Lower lengthening)
         (W.measures s.height (R.cells r) c.config) e (R.cells r) (R.cells r') × (c' ≡ c) };
 
-    ghost refuses = { λ s f r c e r' c'. StopsEntity (if_taken Lower lengthening)
+    ghost refuses = { λ s f r c e r' c'. StopsEntity Lower lengthening
         (W.measures s.height (R.cells r) c.config) e f (R.cells r) (R.cells r') × (c' ≡ c) };
 
     ghost out_of_range = { λ s r c e. W.out_of_range s.height (R.cells r) c.config };
@@ -88,7 +89,8 @@ impl<W: Measurement<Height> + Drop, R: PeekableRecords> TableOption<
     ghost changes = { λ s r c d r' c' d'. IncreasesHeight grows_in_turn first_in_turn
         (W.measures s.height (R.cells r) c.config) (R.cells r) c.config d d' × ((r' ≡ r) × (c' ≡ c)) };
 
-    ghost refuses = { λ s e r c d r' c' d'. (r' ≡ r) × (c' ≡ c) };
+    // Only a table with a row and a column is refused.
+    ghost refuses = { λ s e r c d r' c' d'. (is_empty (R.cells r) ≡ false) × (r' ≡ r) × (c' ≡ c) };
 
     ghost out_of_range = { λ s r c d.
         HeightOutOfRange (W.out_of_range s.height (R.cells r) c.config) (R.cells r) c.config };

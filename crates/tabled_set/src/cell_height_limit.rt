@@ -1,5 +1,5 @@
 //! Limiting to some lines.
-ghost use Rattle.std.specs.Prelude.{◌≡◌, None};
+ghost use Rattle.std.specs.Prelude.{◌≡◌, None, false};
 ghost use Rattle.tabled_change.specs.CellChanges.{ChangesEntity, StopsEntity, if_taken};
 ghost use Rattle.tabled_change.specs.TextLines.{limiting};
 ghost use Rattle.tabled_change.specs.declared.which.Which.TheVariants.{Higher};
@@ -8,6 +8,7 @@ ghost use Rattle.tabled_resize.specs.Limited.{LimitsHeight, StopsLimiting};
 ghost use Rattle.tabled_set.specs.InTurn.{first_in_turn, shrinks_in_turn};
 ghost use Rattle.tabled_set.specs.Promised.{LimitsAsPromised};
 ghost use Rattle.tabled_size.specs.Cleared.{AreCleared};
+ghost use Rattle.tabled_size.specs.Sheet.{is_empty};
 ghost use Rattle.tabled_size.specs.Standing.{standing};
 ghost use Rattle.tabled_size.specs.declared.complete_dimension.CompleteDimension.{CompleteDimension};
 
@@ -47,12 +48,12 @@ impl<W> CellHeightLimit<W> {
 }
 
 /// The entity's cells of more lines than the measure keep as many, the first ones, and no other cell changes. Where the
-/// measure is refused, with `Range`, no cell has changed; where memory is, those before some cell have, row by row.
+/// measure is refused, with `Range`, no cell has changed; where memory is, those before the refused one have, row by row.
 impl<W: Measurement<Height>, R: RecordsMut> CellOption<R, ColoredConfig> for CellHeightLimit<W> {
     ghost changes = { λ s r c e r' c'. ChangesEntity (if_taken Higher limiting)
         (W.measures s.height (R.cells r) c.config) e (R.cells r) (R.cells r') × (c' ≡ c) };
 
-    ghost refuses = { λ s f r c e r' c'. StopsEntity (if_taken Higher limiting)
+    ghost refuses = { λ s f r c e r' c'. StopsEntity Higher limiting
         (W.measures s.height (R.cells r) c.config) e f (R.cells r) (R.cells r') × (c' ≡ c) };
 
     ghost out_of_range = { λ s r c e. W.out_of_range s.height (R.cells r) c.config };
@@ -86,7 +87,9 @@ impl<W: Measurement<Height> + Drop, R: RecordsMut> TableOption<R, ColoredConfig,
     ghost changes = { λ s r c d r' c' d'. LimitsHeight shrinks_in_turn first_in_turn
         (W.measures s.height (R.cells r) c.config) (R.cells r) c.config d (R.cells r') d' × (c' ≡ c) };
 
-    ghost refuses = { λ s e r c d r' c' d'. StopsLimiting shrinks_in_turn first_in_turn
+    // Only a table with a row and a column is refused.
+    ghost refuses = { λ s e r c d r' c' d'. (is_empty (R.cells r) ≡ false)
+        × StopsLimiting shrinks_in_turn first_in_turn
         (W.measures s.height (R.cells r) c.config) e (R.cells r) c.config (R.cells r') × (c' ≡ c) };
 
     ghost out_of_range = { λ s r c d.

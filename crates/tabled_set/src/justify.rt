@@ -3,6 +3,7 @@ ghost use Rattle.std.specs.Prelude.{◌≡◌};
 ghost use Rattle.tabled_base.specs.declared.position.Entity.TheVariants.{Global};
 ghost use Rattle.tabled_change.specs.CellChanges.{ChangesEntity, StopsEntity};
 ghost use Rattle.tabled_change.specs.Justified.{IsJustified};
+ghost use Rattle.tabled_change.specs.declared.which.Which.TheVariants.{NotAsWide};
 
 use crate::max_min::{Max, Min};
 use crate::measured::change_measured;
@@ -43,14 +44,14 @@ impl Justify<Min> {
     }
 }
 
-/// The measure is read once. Where it is refused, with `Range`, no cell has changed; where memory is, those before some
-/// cell have, row by row.
+/// The measure is read once. Where it is refused, with `Range`, no cell has changed; where memory is, those before the
+/// refused one have, row by row.
 impl<W: Measurement<Width> + Drop, R: RecordsMut, D> TableOption<R, ColoredConfig, D>
     for Justify<W> {
     ghost changes = { λ s r c d r' c' d'. ChangesEntity IsJustified (W.measures s.width (R.cells r) c.config) Global
         (R.cells r) (R.cells r') × ((c' ≡ c) × (d' ≡ d)) };
 
-    ghost refuses = { λ s e r c d r' c' d'. StopsEntity IsJustified (W.measures s.width (R.cells r) c.config) Global e
+    ghost refuses = { λ s e r c d r' c' d'. StopsEntity NotAsWide IsJustified (W.measures s.width (R.cells r) c.config) Global e
         (R.cells r) (R.cells r') × ((c' ≡ c) × (d' ≡ d)) };
 
     ghost out_of_range = { λ s r c d. W.out_of_range s.width (R.cells r) c.config };

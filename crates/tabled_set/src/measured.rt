@@ -9,7 +9,7 @@ use tabled_change::{Change, Order, TextRule, Which, change_cells};
 use tabled_config::ColoredConfig;
 
 /// Changes the cells of an entity by a rule, each for the room that is measured once. Refused with `Range` where the
-/// measure is, before a cell has changed, and with `Memory`, where those before some cell have, row by row.
+/// measure is, before a cell has changed, and with `Memory`, where those before the refused one have, row by row.
 pub(crate) fn change_measured<A, W: Measurement<A>, T: TextRule, R: RecordsMut>(
     measure: &W,
     rule: &T,
@@ -21,7 +21,7 @@ pub(crate) fn change_measured<A, W: Measurement<A>, T: TextRule, R: RecordsMut>(
     ensures ok { OnOk result (ChangesEntity (if_taken which (T.makes rule.now))
         (W.measures measure.now (R.cells records.old) cfg.now.config) entity
         (R.cells records.old) (R.cells records.new)) }
-    ensures err { IfErr result (λ e. StopsEntity (if_taken which (T.makes rule.now))
+    ensures err { IfErr result (λ e. StopsEntity which (T.makes rule.now)
         (W.measures measure.now (R.cells records.old) cfg.now.config) entity e
         (R.cells records.old) (R.cells records.new)) }
     ensures only { IfErr result (λ e. (e ≡ Memory)

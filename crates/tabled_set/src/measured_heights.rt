@@ -1,8 +1,9 @@
 //! Whole tables that are heightened or limited for a measure of them.
-ghost use Rattle.std.specs.Prelude.{◌≡◌, ◌⊎◌, IfErr, OnOk};
+ghost use Rattle.std.specs.Prelude.{◌≡◌, ◌⊎◌, IfErr, OnOk, false};
 ghost use Rattle.tabled_base.specs.declared.error.TableError.TheVariants.{Memory, Range};
 ghost use Rattle.tabled_resize.specs.Increased.{HeightOutOfRange, IncreasesHeight};
 ghost use Rattle.tabled_resize.specs.Limited.{LimitsHeight, StopsLimiting};
+ghost use Rattle.tabled_size.specs.Sheet.{is_empty};
 
 use crate::measurement::{Height, Measurement};
 use tabled_base::{PeekableRecords, RecordsMut, TableError};
@@ -26,6 +27,7 @@ pub(crate) fn increase_measured<
     ensures ok { OnOk result (IncreasesHeight P.grows priority
         (W.measures height (R.cells records.now) cfg.now.config)
         (R.cells records.now) cfg.now.config dims.old dims.new) }
+    ensures filled { IfErr result (λ e. is_empty (R.cells records.now) ≡ false) }
     ensures only { IfErr result (λ e. (e ≡ Memory) ⊎ ((e ≡ Range)
         × HeightOutOfRange (W.out_of_range height (R.cells records.now) cfg.now.config)
         (R.cells records.now) cfg.now.config)) }
@@ -53,6 +55,7 @@ pub(crate) fn limit_measured<W: Measurement<Height> + Drop, P: Peaker + Drop, R:
     ensures err { IfErr result (λ e. StopsLimiting P.shrinks priority
         (W.measures height (R.cells records.old) cfg.now.config) e
         (R.cells records.old) cfg.now.config (R.cells records.new)) }
+    ensures filled { IfErr result (λ e. is_empty (R.cells records.old) ≡ false) }
     ensures only { IfErr result (λ e. (e ≡ Memory) ⊎ ((e ≡ Range)
         × HeightOutOfRange (W.out_of_range height (R.cells records.old) cfg.now.config)
         (R.cells records.old) cfg.now.config)) }

@@ -1,9 +1,10 @@
 //! Limiting whole tables to some lines.
-ghost use Rattle.std.specs.Prelude.{◌≡◌, None};
+ghost use Rattle.std.specs.Prelude.{◌≡◌, None, false};
 ghost use Rattle.tabled_resize.specs.Increased.{HeightOutOfRange};
 ghost use Rattle.tabled_resize.specs.Limited.{LimitsHeight, StopsLimiting};
 ghost use Rattle.tabled_set.specs.Promised.{LimitsAsPromised};
 ghost use Rattle.tabled_size.specs.Cleared.{AreCleared};
+ghost use Rattle.tabled_size.specs.Sheet.{is_empty};
 ghost use Rattle.tabled_size.specs.Standing.{standing};
 ghost use Rattle.tabled_size.specs.declared.complete_dimension.CompleteDimension.{CompleteDimension};
 
@@ -57,7 +58,9 @@ impl<W: Measurement<Height> + Drop, P: Peaker + Drop, R: RecordsMut> TableOption
     ghost changes = { λ s r c d r' c' d'. LimitsHeight P.shrinks s.priority
         (W.measures s.height (R.cells r) c.config) (R.cells r) c.config d (R.cells r') d' × (c' ≡ c) };
 
-    ghost refuses = { λ s e r c d r' c' d'. StopsLimiting P.shrinks s.priority
+    // Only a table with a row and a column is refused.
+    ghost refuses = { λ s e r c d r' c' d'. (is_empty (R.cells r) ≡ false)
+        × StopsLimiting P.shrinks s.priority
         (W.measures s.height (R.cells r) c.config) e (R.cells r) c.config (R.cells r') × (c' ≡ c) };
 
     ghost out_of_range = { λ s r c d.

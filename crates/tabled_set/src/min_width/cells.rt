@@ -12,13 +12,13 @@ use tabled_change::Which;
 use tabled_config::ColoredConfig;
 
 /// Each line of the entity's cells that are narrower than the measure is filled up to it, and no other cell changes.
-/// Where the measure is refused, with `Range`, no cell has changed; where memory is, those before some cell have, row by
-/// row.
+/// Where the measure is refused, with `Range`, no cell has changed; where memory is, those before the refused one have, row
+/// by row.
 impl<W: Measurement<Width>, P, R: RecordsMut> CellOption<R, ColoredConfig> for MinWidth<W, P> {
     ghost changes = { λ s r c e r' c'. ChangesEntity (if_taken Narrower (filling s.rule.fill))
         (W.measures s.width (R.cells r) c.config) e (R.cells r) (R.cells r') × (c' ≡ c) };
 
-    ghost refuses = { λ s f r c e r' c'. StopsEntity (if_taken Narrower (filling s.rule.fill))
+    ghost refuses = { λ s f r c e r' c'. StopsEntity Narrower (filling s.rule.fill)
         (W.measures s.width (R.cells r) c.config) e f (R.cells r) (R.cells r') × (c' ≡ c) };
 
     ghost out_of_range = { λ s r c e. W.out_of_range s.width (R.cells r) c.config };

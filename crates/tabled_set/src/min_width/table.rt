@@ -1,8 +1,9 @@
 //! Increasing the columns of whole tables.
-ghost use Rattle.std.specs.Prelude.{◌≡◌, None};
+ghost use Rattle.std.specs.Prelude.{◌≡◌, None, false};
 ghost use Rattle.tabled_resize.specs.Increased.{IncreasesWidth, WidthOutOfRange};
 ghost use Rattle.tabled_set.specs.Promised.{WidensAsPromised};
 ghost use Rattle.tabled_size.specs.Cleared.{AreCleared};
+ghost use Rattle.tabled_size.specs.Sheet.{is_empty};
 ghost use Rattle.tabled_size.specs.Standing.{standing};
 ghost use Rattle.tabled_size.specs.declared.complete_dimension.CompleteDimension.{CompleteDimension};
 
@@ -23,7 +24,8 @@ impl<W: Measurement<Width> + Drop, P: Peaker + Drop, R: PeekableRecords> TableOp
     ghost changes = { λ s r c d r' c' d'. IncreasesWidth P.grows s.priority
         (W.measures s.width (R.cells r) c.config) (R.cells r) c.config d d' × ((r' ≡ r) × (c' ≡ c)) };
 
-    ghost refuses = { λ s e r c d r' c' d'. (r' ≡ r) × (c' ≡ c) };
+    // Only a table with a row and a column is refused.
+    ghost refuses = { λ s e r c d r' c' d'. (is_empty (R.cells r) ≡ false) × (r' ≡ r) × (c' ≡ c) };
 
     ghost out_of_range = { λ s r c d.
         WidthOutOfRange (W.out_of_range s.width (R.cells r) c.config) (R.cells r) c.config d };

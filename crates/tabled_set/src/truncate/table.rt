@@ -1,9 +1,11 @@
 //! Truncating the cells of whole tables.
-ghost use Rattle.std.specs.Prelude.{◌≡◌, None};
+ghost use Rattle.std.specs.Prelude.{◌≡◌, None, false};
 ghost use Rattle.tabled_change.specs.CellChanges.{if_wider, truncating};
+ghost use Rattle.tabled_change.specs.declared.which.Which.TheVariants.{Wider};
 ghost use Rattle.tabled_resize.specs.Narrowed.{Narrows, NarrowingOutOfRange, StopsNarrowing};
 ghost use Rattle.tabled_set.specs.Promised.{TruncatesAsPromised};
 ghost use Rattle.tabled_size.specs.Cleared.{AreCleared};
+ghost use Rattle.tabled_size.specs.Sheet.{is_empty};
 ghost use Rattle.tabled_size.specs.Standing.{standing};
 ghost use Rattle.tabled_size.specs.declared.complete_dimension.CompleteDimension.{CompleteDimension};
 
@@ -28,8 +30,9 @@ impl<'a, W: Measurement<Width> + Drop, P: Peaker + Drop, R: RecordsMut> TableOpt
         Narrows P.shrinks s.priority (if_wider (truncating s.rule.suffix.now s.rule.limit s.rule.multiline))
         (W.measures s.width (R.cells r) c.config) (R.cells r) c.config d (R.cells r') d' × (c' ≡ c) };
 
-    ghost refuses = { λ s e r c d r' c' d'.
-        StopsNarrowing P.shrinks s.priority (if_wider (truncating s.rule.suffix.now s.rule.limit s.rule.multiline))
+    // Only a table with a row and a column is refused.
+    ghost refuses = { λ s e r c d r' c' d'. (is_empty (R.cells r) ≡ false)
+        × StopsNarrowing P.shrinks s.priority Wider (truncating s.rule.suffix.now s.rule.limit s.rule.multiline)
         (W.measures s.width (R.cells r) c.config) e (R.cells r) c.config d (R.cells r') × (c' ≡ c) };
 
     ghost out_of_range = { λ s r c d. NarrowingOutOfRange (W.out_of_range s.width (R.cells r) c.config)

@@ -1,10 +1,12 @@
 //! Wrapping the cells of whole tables.
-ghost use Rattle.std.specs.Prelude.{◌≡◌, Some};
+ghost use Rattle.std.specs.Prelude.{◌≡◌, Some, false};
 ghost use Rattle.tabled_base.specs.declared.position.Entity.TheVariants.{Row};
 ghost use Rattle.tabled_change.specs.CellChanges.{wrapping};
+ghost use Rattle.tabled_change.specs.declared.which.Which.TheVariants.{Every};
 ghost use Rattle.tabled_resize.specs.Narrowed.{Narrows, NarrowingOutOfRange, StopsNarrowing};
 ghost use Rattle.tabled_set.specs.Promised.{WrapsAsPromised};
 ghost use Rattle.tabled_size.specs.Cleared.{AreCleared};
+ghost use Rattle.tabled_size.specs.Sheet.{is_empty};
 ghost use Rattle.tabled_size.specs.Standing.{standing};
 ghost use Rattle.tabled_size.specs.declared.complete_dimension.CompleteDimension.{CompleteDimension};
 
@@ -27,7 +29,9 @@ impl<W: Measurement<Width> + Drop, P: Peaker + Drop, R: RecordsMut> TableOption<
     ghost changes = { λ s r c d r' c' d'. Narrows P.shrinks s.priority (wrapping s.rule.keep_words)
         (W.measures s.width (R.cells r) c.config) (R.cells r) c.config d (R.cells r') d' × (c' ≡ c) };
 
-    ghost refuses = { λ s e r c d r' c' d'. StopsNarrowing P.shrinks s.priority (wrapping s.rule.keep_words)
+    // Only a table with a row and a column is refused.
+    ghost refuses = { λ s e r c d r' c' d'. (is_empty (R.cells r) ≡ false)
+        × StopsNarrowing P.shrinks s.priority Every (wrapping s.rule.keep_words)
         (W.measures s.width (R.cells r) c.config) e (R.cells r) c.config d (R.cells r') × (c' ≡ c) };
 
     ghost out_of_range = { λ s r c d. NarrowingOutOfRange (W.out_of_range s.width (R.cells r) c.config)

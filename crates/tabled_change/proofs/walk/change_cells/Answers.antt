@@ -2,23 +2,15 @@ use Rattle.std.proofs.Common.{arith}
 use Rattle.std.proofs.lemmas.Result.{err_from_is_err_and}
 use Rattle.tabled_entity.specs.Changes.{covers}
 use Rattle.tabled_change.proofs.ChangingCells.{AreChanged-both}
-use Rattle.tabled_change.proofs.WalkLemmas.{lines-more, lines-some}
+use Rattle.tabled_change.proofs.WalkLemmas.{lines-more, stops-later}
 use Rattle.tabled_change.proofs.walk.change_cells.Goals as goal
 
 pub returns-in_err-change_line-clause-err : goal.returns-in_err-change_line-clause-err
 returns-in_err-change_line-clause-err g c =
-    let line = c.lines.line in
     let bands = c.lines_of_entity.result in
-    let begun = c.in_err-change_line.ensures.err in
     let p = err_from_is_err_and c.from_residual.result c.from_residual.ensures.1 in
     rw p.1
-    (record {
-      line = line;
-      place = begun.0;
-      changed =
-          AreChanged-both c.lines.invariant begun.1
-          (λ r k inside. lines-some c.args.order (covers c.args.entity r k) bands.0 bands.1 line begun.0 r k (c.lines_of_entity.ensures.cells r k inside) (omega arith) (omega arith));
-    })
+    (stops-later c.args.order bands.1 (covers c.args.entity) bands.0 c.lines.line c.lines_of_entity.ensures.cells (omega arith) (omega arith) c.lines.invariant c.in_err-change_line.ensures.err)
 
 pub lines-preserved : goal.lines-preserved
 lines-preserved g c =

@@ -33,12 +33,12 @@ pub returns-in_err-change_columns-clause-err : goal.returns-in_err-change_column
 returns-in_err-change_columns-clause-err g c =
     let cells = g.R.ExactRecords.cells c.args.records.now in
     let t = standing cells c.args.config.now c.estimate.new.self in
-    let leaves = if_taken c.args.which (g.T.TextRule.makes c.args.rule.now) in
+    let makes = g.T.TextRule.makes c.args.rule.now in
     if-err
-    (λ e. StopsNarrowing g.P.Peaker.shrinks c.args.priority leaves c.args.n e cells c.args.config.now c.args.sizes.now (g.R.ExactRecords.cells c.change_columns.new.records))
+    (λ e. StopsNarrowing g.P.Peaker.shrinks c.args.priority c.args.which makes c.args.n e cells c.args.config.now c.args.sizes.now (g.R.ExactRecords.cells c.change_columns.new.records))
     c.from_residual-in_err-change_columns.result _ c.from_residual-in_err-change_columns.ensures.1
-    (stops-some g.P.Peaker.shrinks c.args.priority c.args.n leaves cells c.args.config.now
-    c.args.sizes.now c.estimate.new.self c.requires c.in_ok-estimate.ensures.ok
+    (stops-some g.P.Peaker.shrinks c.args.priority c.args.n makes cells c.args.config.now
+    c.args.sizes.now c.estimate.new.self c.requires c.in_ok-estimate.ensures.ok c.args.which
     (g.R.ExactRecords.cells c.change_columns.new.records) _ c.in-Some.found.widths.items c.in-Some.found.mins.items
     c.in_err-change_columns.ensures.only
     (subst (λ (o : Option ColumnWidths). MatchOption o (total_width t ≤ c.args.n) (λ found. IsFound g.P.Peaker.shrinks c.args.priority c.args.n t found.widths.items found.mins.items)) c.in-Some.is c.in_ok-found.ensures.ok)

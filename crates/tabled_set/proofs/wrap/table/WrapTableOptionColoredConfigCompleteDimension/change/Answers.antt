@@ -1,10 +1,12 @@
-use Rattle.std.proofs.Common.{◌≡◌, ℕ, IfErr, refl, rules, subst}
+use Rattle.std.proofs.Common.{◌≡◌, ℕ, IfErr, false, refl, rules, subst}
 use Rattle.std.proofs.lemmas.Result.{on_ok_weaker}
 use Rattle.tabled_config.specs.declared.spanned.SpannedConfig.{SpannedConfig}
 use Rattle.tabled_change.specs.CellChanges.{wrapping}
+use Rattle.tabled_change.specs.declared.which.Which.TheVariants.{Every}
+use Rattle.tabled_size.specs.Sheet.{is_empty}
 use Rattle.tabled_resize.specs.Narrowed.{Narrows, StopsNarrowing}
 use Rattle.tabled_set.proofs.Promises.{wraps}
-use Rattle.tabled_set.proofs.Stopping.{stops-with}
+use Rattle.tabled_set.proofs.Stopping.{if-refused, stops-filled}
 use Rattle.tabled_set.proofs.wrap.table.WrapTableOptionColoredConfigCompleteDimension.change.Goals as goal
 
 pub returns-clause-promised : goal.returns-clause-promised
@@ -28,6 +30,8 @@ returns-clause-err g c =
     let new = g.R.ExactRecords.cells c.narrow_table.new.records in
     let error = c.narrow_table.result in
     let same = c.args.cfg.now ≡ c.args.cfg.now in
-    subst (λ (config : SpannedConfig). IfErr error (λ e. StopsNarrowing g.P.Peaker.shrinks s.priority change (g.W.Measurement.measures s.width cells config) e cells config sizes new × same)) c.as_ref-config.ensures
-    (subst (λ (k : ℕ). IfErr error (λ e. StopsNarrowing g.P.Peaker.shrinks s.priority change k e cells c.as_ref-config.result.now sizes new × same)) c.in_ok-n.ensures.ok
-    (stops-with (λ e. StopsNarrowing g.P.Peaker.shrinks s.priority change c.in_ok-n.n e cells c.as_ref-config.result.now sizes new) same error c.narrow_table.ensures.err refl))
+    let filled = is_empty cells ≡ false in
+    let some : is_empty cells ≡ false = search rules in
+    subst (λ (config : SpannedConfig). IfErr error (λ e. filled × StopsNarrowing g.P.Peaker.shrinks s.priority Every change (g.W.Measurement.measures s.width cells config) e cells config sizes new × same)) c.as_ref-config.ensures
+    (subst (λ (k : ℕ). IfErr error (λ e. filled × StopsNarrowing g.P.Peaker.shrinks s.priority Every change k e cells c.as_ref-config.result.now sizes new × same)) c.in_ok-n.ensures.ok
+    (stops-filled filled (λ e. StopsNarrowing g.P.Peaker.shrinks s.priority Every change c.in_ok-n.n e cells c.as_ref-config.result.now sizes new) same error (if-refused filled error some) c.narrow_table.ensures.err refl))
