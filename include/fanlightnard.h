@@ -1,4 +1,4 @@
-/* Text tables with straight edges, and texts that are measured, cut and wrapped, in buffers of the caller's.
+/* Text tables with straight edges, and texts that are measured, cut and wrapped, in rooms of the caller's.
  *
  * A text is its bytes, in UTF-8, and their count; it needs no byte 0 at its end, and a text of no bytes may be a null pointer.
  * What is asked for goes into a room of so many bytes. The answer is how many bytes it takes: where the room has fewer, nothing

@@ -9,9 +9,10 @@ use tabled::settings::peaker::Priority;
 use tabled::settings::{Style, Width};
 use tabled::{Table, TableError};
 
-/// The columns of the table, and those beside a text.
+/// The columns of the table.
 const WIDTH: usize = 64;
 
+/// Those beside a text.
 const PADDING: usize = 2;
 
 fn main(rt: HostRuntime) -> Result<()> {

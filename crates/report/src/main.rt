@@ -11,11 +11,13 @@ use std::io;
 use tabled::builder::Builder;
 use tabled::{IoSink, Table, TableError, TextSink};
 
-/// The rows of a page below its header, the widths of its columns, and the bytes of a disk.
+/// The rows of a page below its header.
 const ROWS: usize = 2;
 
+/// The widths of its columns.
 const WIDTHS: [usize; 2] = [9, 17];
 
+/// The bytes of a disk.
 const SIZE: usize = 450;
 
 fn main(rt: HostRuntime) -> Result<()> {

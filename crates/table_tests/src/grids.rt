@@ -60,8 +60,8 @@ fn an_empty_grid_is_never_refused(rt: HostRuntime) {
     assert_eq!(rt; answered(rt.alloc(), &EMPTY), (Ok(()), 0));
 }
 
-// More cells of several lines than have a mark of their own in a row.
-const COLUMNS: usize = 70;
+// More cells of several lines than have a cursor in no memory.
+const COLUMNS: usize = 1_030;
 
 const CROWD: Sheet = Sheet {
     rows: &[&["a\nbc\nd"; COLUMNS]],

@@ -164,7 +164,7 @@ where
     Ok(row)
 }
 
-/// Pads the short rows.
+/// Lengthens the short rows.
 fn lengthen_all(rows: &mut Vec<Vec<Text<String>>>) -> Result<(), TableError>
     ensures ok { OnOk result
         (row_texts rows.new.items ≡ lengthened_rows (row_texts rows.old.items)) }
@@ -252,7 +252,7 @@ fn reserve_rows(rows: &mut [Vec<Text<String>>], columns: usize) -> Result<(), Ta
     Ok(())
 }
 
-/// Pads rows that have the room.
+/// Lengthens rows that have the room.
 fn lengthen_rows(rows: &mut [Vec<Text<String>>], columns: usize)
     requires { All (λ row. columns ≤ vec_capacity row) rows.old }
     ensures { row_texts rows.new ≡ map (lengthened columns) (row_texts rows.old) }
@@ -262,7 +262,7 @@ fn lengthen_rows(rows: &mut [Vec<Text<String>>], columns: usize)
     }
 }
 
-/// Pads a row that has the room.
+/// Lengthens a row that has the room.
 fn lengthen_row(row: &mut Vec<Text<String>>, columns: usize)
     requires { columns ≤ vec_capacity row.old }
     ensures items { row.new.items ≡ lengthened columns row.old.items }

@@ -44,6 +44,7 @@ fn place_leaf<'a>(
     Ok(())
 }
 
+/// Adds the place of a line between boxes.
 pub fn place_bar<'a>(
     kind: Kind,
     place: Rectangle,

@@ -1,4 +1,4 @@
-//! A static library for other languages: tables of texts, and texts that are measured, cut and wrapped, in buffers of the
+//! A static library for other languages: tables of texts, and texts that are measured, cut and wrapped, in rooms of the
 //! caller's. `include/fanlightnard.h` declares it.
 //!
 //! A text is its bytes and their count, and has to be UTF-8. What is asked for goes into a room that the caller lends, or nothing

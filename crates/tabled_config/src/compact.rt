@@ -86,7 +86,7 @@ impl CompactConfig {
         Frame::new(&self.borders, self.margin)
     }
 
-    /// Sets the colours of the borders.
+    /// Sets the colours of the borders, which a `PoolTable` alone shows.
     pub fn set_borders_color(self, colors: Borders<ANSIStr<'static>>) -> CompactConfig
         ensures { result ≡ record self { borders_color = colors.entry } }
     {
@@ -103,7 +103,7 @@ impl CompactConfig {
         &self.borders_color
     }
 
-    /// Sets the colours of the margin.
+    /// Sets the colours of the margin, which a `PoolTable` alone shows.
     pub fn set_margin_color(self, colors: Sides<ANSIStr<'static>>) -> CompactConfig
         ensures { result ≡ record self { margin_color = colors.entry } }
     {
@@ -120,7 +120,7 @@ impl CompactConfig {
         &self.margin_color
     }
 
-    /// Sets the colours of the padding.
+    /// Sets the colours of the padding, which a `PoolTable` alone shows.
     pub fn set_padding_color(self, colors: Sides<ANSIStr<'static>>) -> CompactConfig
         ensures { result ≡ record self { padding_color = colors.entry } }
     {

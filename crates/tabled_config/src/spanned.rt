@@ -261,8 +261,8 @@ impl SpannedConfig {
         self.line_alignment.get(at.row, at.column)
     }
 
-    /// Sets whether spaces at the ends of an entity's lines are to go. Refused with `Memory` alone, and then all
-    /// is as it was.
+    /// Sets whether spaces at the ends of an entity's lines are to go, which is stored; no printer here reads it. Refused
+    /// with `Memory` alone, and then all is as it was.
     pub fn set_trim_horizontal(&mut self, entity: Entity, trimmed: bool) -> Result<(), TableError>
         ensures ok { OnOk result (self.new
             ≡ record self.old { trim_horizontal = with_change self.old.trim_horizontal entity trimmed }) }
@@ -281,8 +281,8 @@ impl SpannedConfig {
         self.trim_horizontal.get(at.row, at.column)
     }
 
-    /// Sets whether empty lines at the ends of an entity's texts are to go. Refused with `Memory` alone, and then all
-    /// is as it was.
+    /// Sets whether empty lines at the ends of an entity's texts are to go, which is stored; no printer here reads it.
+    /// Refused with `Memory` alone, and then all is as it was.
     pub fn set_trim_vertical(&mut self, entity: Entity, trimmed: bool) -> Result<(), TableError>
         ensures ok { OnOk result (self.new
             ≡ record self.old { trim_vertical = with_change self.old.trim_vertical entity trimmed }) }

@@ -1,7 +1,7 @@
 //! The picture of a table whose sizes are tested first, written piece by piece to a sink.
 //!
-//! Printing takes no memory where the sizes are given. Rows and horizontal lines go out by the calls of `tabled_row`,
-//! whose sinks stand here too.
+//! Printing takes no memory where the sizes are given. Rows and horizontal lines go out by the calls of `tabled_lines`.
+//! The sinks of `tabled_row` stand here too.
 #![tactic(auto)]
 
 mod apart;

@@ -120,6 +120,7 @@ pub fn put_fill<S: TextSink>(sink: &mut S, c: char, count: usize) -> Result<(), 
     }
 }
 
+/// An indent: its character, as many times as its size.
 pub fn put_indent<S: TextSink>(sink: &mut S, side: Indent) -> Result<(), TableError>
     ensures { Writes (S.sent sink.old) result (S.sent sink.new) (indent side) }
 {

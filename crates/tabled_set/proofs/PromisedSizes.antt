@@ -138,9 +138,10 @@ module _ {P : Type 0} (grows : P → List ℕ → ℕ → List ℕ → P → Typ
   same-count : (length after.widths ≡ length before.widths) × (after.heights ≡ before.heights)
   same-count = ⊎_elim
       (λ empty.
-      let same : new ≡ old = MatchBool-at_true (new ≡ old) (MatchBool (nat_le n (total_width before)) filled widened) empty h in
-      (ap (λ o. length (standing_sizes o (estimated_widths cells config) (columns cells))) (cleared.widths ∙ ap widths_of same),
-      ap (λ o. standing_sizes o (estimated_heights cells config) (length cells)) (cleared.heights ∙ ap heights_of same)))
+      let same : new ≡ old = MatchBool-at_true (new ≡ old) (MatchBool (nat_le n (total_width before)) filled widened) empty h in (
+        ap (λ o. length (standing_sizes o (estimated_widths cells config) (columns cells))) (cleared.widths ∙ ap widths_of same),
+        ap (λ o. standing_sizes o (estimated_heights cells config) (length cells)) (cleared.heights ∙ ap heights_of same),
+      ))
       (λ some.
       let rest = MatchBool-at_false (new ≡ old) (MatchBool (nat_le n (total_width before)) filled widened) some h in
       ⊎_elim
@@ -149,10 +150,11 @@ module _ {P : Type 0} (grows : P → List ℕ → ℕ → List ℕ → P → Typ
       let e = standing-filled cells config old left (record { widths = cleared.widths ∙ is.widths; heights = cleared.heights ∙ is.heights }) in
       (ap (λ (t : Sheet). length t.widths) e, ap (λ (t : Sheet). t.heights) e))
       (λ less.
-      let is : widened = MatchBool-at_false filled widened less rest in
-      (ap length (grown-widths is) ∙ is.grown.kept.same_length,
-      ap (λ o. standing_sizes o (estimated_heights cells config) (length cells)) (cleared.heights ∙ is.heights)
-      ∙ filled-size (heights_of old) (estimated_heights cells config) (length cells) (heights_length cells config)))
+      let is : widened = MatchBool-at_false filled widened less rest in (
+        ap length (grown-widths is) ∙ is.grown.kept.same_length,
+        ap (λ o. standing_sizes o (estimated_heights cells config) (length cells)) (cleared.heights ∙ is.heights)
+            ∙ filled-size (heights_of old) (estimated_heights cells config) (length cells) (heights_length cells config),
+      ))
       (cases_Bool (nat_le n (total_width before))))
       (cases_Bool (is_empty cells))
 

@@ -71,7 +71,7 @@ impl<const N: usize> ConstSize<N> {
     }
 }
 
-/// Widths and heights that stay.
+/// Widths and heights that are arrays, or one number for all. They stay, and take no memory.
 #[derive(Debug, Clone, Copy)]
 pub struct ConstDimension<const COLUMNS: usize, const ROWS: usize> {
     width: ConstSize<COLUMNS>,

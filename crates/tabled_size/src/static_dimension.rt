@@ -69,7 +69,7 @@ impl DimensionValue {
     }
 }
 
-/// Widths and heights that stay.
+/// Widths and heights that are numbers or lists. They stay; a copy of a list may be refused memory.
 #[derive(Debug, Drop)]
 pub struct StaticDimension {
     width: DimensionValue,

@@ -45,7 +45,7 @@ fn has_plain_chars(text: &str) -> bool
 
 /// Whether every character of a text is plain or a line feed. Plain are printable ASCII, the Latin
 /// letters from U+00C0 to U+00FF, the Cyrillic ones from U+0410 to U+044F, dashes, dots and daggers from
-/// U+2010 to U+2027 but the quotes, lines and blocks of boxes from U+2500 to U+259F, braille, the
+/// U+2010 to U+2027 but the quotes ‘ ’ “ ”, lines and blocks of boxes from U+2500 to U+259F, braille, the
 /// ideographs from U+4E00 to U+9FFF and U+FFFD, as far as they take one or two columns.
 pub fn is_plain(text: &str) -> bool
     ensures { IsTrue result ↔ IsPlain text.now }
