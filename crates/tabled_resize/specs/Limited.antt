@@ -19,7 +19,7 @@ use Rattle.tabled_resize.specs.Shrinking.{IsShrunkBy}
 abbrev pub for_height : List ℕ → ℕ → ℕ → List ℕ → List ℕ → Type 0
 for_height heights row column = if_taken Higher limiting (at heights row)
 
--- whether it has more lines
+-- whether a cell has more lines than its row's height
 abbrev pub taken_for_height : List ℕ → ℕ → ℕ → List ℕ → Bool
 taken_for_height heights row column = is_taken Higher (at heights row)
 
