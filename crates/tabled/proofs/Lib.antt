@@ -1,6 +1,7 @@
 pub mod Blocks
 pub mod Failing
 pub mod FittedTables
+pub mod LowTables
 pub mod Narrowings
 pub mod Noting
 pub mod Orders

@@ -24,7 +24,7 @@ use Rattle.tabled.specs.Narrowing.{IsFitted, ShrinksBy}
 use Rattle.tabled.specs.Planned.{Cells}
 use Rattle.tabled.specs.Rendered.{PrintsPlanned}
 use Rattle.tabled.proofs.FittedTables.{fitted, of_new}
-use Rattle.tabled.proofs.PlannedTables.{fitted_holds, fitted_sized, prints_planned, whole_wider}
+use Rattle.tabled.proofs.PlannedTables.{fitted_empty, fitted_holds, fitted_sized, prints_planned, whole_wider}
 
 module _ {P T : Type 0} (shrinks : P → List ℕ → List ℕ → ℕ → List ℕ → P → Type 0) (s : P) (n : ℕ) (cells new : Cells) (config : SpannedConfig)
     (none left last : CompleteDimension) (no_widths : widths_of none ≡ None) (no_heights : heights_of none ≡ None) (takes : TakesFrom shrinks s)
@@ -43,6 +43,7 @@ module _ {P T : Type 0} (shrinks : P → List ℕ → List ℕ → ℕ → List 
       (λ o. WrapsAsPromised shrinks s words n o t) promise in
       let exact : n < total_width (estimated cells config) → HasExactTotal n (estimated cells config) t = λ h. kept.exact takes (whole_wider n cells config h) texts in
       prints_planned (IsFitted shrinks s (wrapping words) n (estimated cells config)) (WrapsAsPromised shrinks s words n (estimated cells config)) (estimated cells config) estimates t old r sent fits kept
+      (fitted_empty (ShrinksBy shrinks s) (wrapping words) n cells config t fits exact)
       (fitted_sized (ShrinksBy shrinks s) (wrapping words) n cells config t fits exact)
       (fitted_holds (ShrinksBy shrinks s) (wrapping words) n cells config t fits exact) prints
 
@@ -62,5 +63,6 @@ module _ {P T : Type 0} (shrinks : P → List ℕ → List ℕ → ℕ → List 
       (λ o. TruncatesAsPromised shrinks s suffix limit multiline n o t) promise in
       let exact : n < total_width (estimated cells config) → HasExactTotal n (estimated cells config) t = λ h. kept.exact takes q l (whole_wider n cells config h) texts in
       prints_planned (IsFitted shrinks s change n (estimated cells config)) (TruncatesAsPromised shrinks s suffix limit multiline n (estimated cells config)) (estimated cells config) estimates t old r sent fits kept
+      (fitted_empty (ShrinksBy shrinks s) change n cells config t fits exact)
       (fitted_sized (ShrinksBy shrinks s) change n cells config t fits exact)
       (fitted_holds (ShrinksBy shrinks s) change n cells config t fits exact) prints

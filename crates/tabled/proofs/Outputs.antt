@@ -78,5 +78,5 @@ pub output_refused : {T : Type 0} (R : Type 0) (plan : Plan) (text : List ℕ) (
 output_refused R plan text old new e r i h =
     let P : Sent → Type 0 = λ s. PutsOutput plan text old.bytes r s.bytes in
     ⊎_elim (λ m. subst P (sym m.1) (output_none plan text old.bytes e r i m.0))
-    (λ k. ⊎_elim (λ q. subst P (sym q.1) (output_over plan text old.bytes e r i q.0 q.2)) (λ b. output_begun plan text old new e r i b) k)
+    (λ k. ⊎_elim (λ q. subst P (sym q.1) (output_over plan text old.bytes e r i q.0 q.2)) (λ b. output_begun plan text old new e r i b) k.1)
     h

@@ -13,6 +13,7 @@ use Rattle.tabled_grid.specs.ApartSheet.{IsApartConfig}
 use Rattle.tabled_grid.specs.Picture.{picture}
 use Rattle.tabled_grid.specs.Printed.{IsRefused, Prints}
 use Rattle.tabled_grid.proofs.EstimatedSizes.{holds_estimated, sized_estimated}
+use Rattle.tabled_resize.proofs.ExactTotals.{changed_empty}
 use Rattle.tabled_resize.specs.ExactTotal.{HasExactTotal}
 use Rattle.tabled_resize.specs.Narrowed.{for_room}
 use Rattle.tabled_resize.specs.Priorities.{TakesFrom, TakesGreatest}
@@ -20,7 +21,7 @@ use Rattle.tabled_row.specs.Plain.{EachLineTakes}
 use Rattle.tabled_row.specs.Sent.{Sent}
 use Rattle.tabled_set.specs.Promised.{IsWiderThan, TruncatesAsPromised, WrapsAsPromised}
 use Rattle.tabled_size.specs.Holds.{Holds, IsSized}
-use Rattle.tabled_size.specs.Sheet.{Sheet, estimated}
+use Rattle.tabled_size.specs.Sheet.{Sheet, estimated, is_empty}
 use Rattle.tabled_config.specs.declared.spanned.SpannedConfig.{SpannedConfig}
 use Rattle.tabled_size.specs.TextCells.{AreTexts}
 use Rattle.tabled_size.specs.Totals.{total_width}
@@ -41,11 +42,15 @@ first_length : (cells : Cells) → length (slice_index_or cells 0 []) ≡ column
 first_length [] = refl
 first_length (row ∷ rows) = refl
 
+pub changed_columns : (chosen : ℕ → ℕ → Bool) (change : ℕ → ℕ → List ℕ → List ℕ → Type 0) (old new : Cells) → AreChanged chosen change old new
+    → columns new ≡ columns old
+changed_columns chosen change old new h = sym (first_length new) ∙ h.row_lengths 0 ∙ first_length old
+
 changed_rectangular : (chosen : ℕ → ℕ → Bool) (change : ℕ → ℕ → List ℕ → List ℕ → Type 0) (old new : Cells) → AreChanged chosen change old new
     → IsRectangular old → IsRectangular new
 changed_rectangular chosen change old new h q = λ k d l.
     let rows = h.rows in
-    let many : columns new ≡ columns old = sym (first_length new) ∙ h.row_lengths 0 ∙ first_length old in
+    let many = changed_columns chosen change old new h in
     ap length (get_or_default new k d [] l) ∙ h.row_lengths k ∙ q k [] (omega arith) ∙ sym many
 
 -- ---- tables that are fitted into n columns
@@ -87,6 +92,11 @@ module _ (shrinks : List ℕ → List ℕ → ℕ → List ℕ → Type 0) (chan
 
   pub fitted_holds : Holds t
   fitted_holds = either Holds (holds_estimated cells config) (λ s e. e.holds)
+
+  pub fitted_empty : is_empty t.cells ≡ is_empty cells
+  fitted_empty =
+      either (λ (u : Sheet). is_empty u.cells ≡ is_empty cells) refl
+      (λ s e. changed_empty (λ row column. true) (for_room change (estimated cells config) t.widths) cells t.cells s.cells)
 
   -- each line takes the total width, where texts are kept apart
   pub fitted_lines : IsRectangular cells → AreTexts cells → KeepsApart config → EachLineTakes (total_width t) (picture t)
@@ -171,55 +181,71 @@ module _ {P : Type 0} {order : Order} {shrinks : P → List ℕ → List ℕ →
 
 -- ---- what was printed
 
--- a table that is planned and holds its cells was printed
+-- a table that is planned and holds its cells, and has a row and a column where the whole one has, was printed
 pub prints_planned : {T : Type 0} (planned best : Sheet → Type 0) (whole : Sheet) (estimates : Bool) (t : Sheet) (old : Sent) (r : Result T TableError) (new : Sent)
-    → planned t → best t → IsSized t → Holds t → Prints estimates t old r new → PrintsPlanned planned best (λ e. ⊥) whole old r new
-prints_planned planned best whole estimates t old (Ok x) new p b sized holds h = record { table = t; is_planned = p; is_best = b; sends = h.1 }
-prints_planned planned best whole estimates t old (Err e) new p b sized holds h =
+    → planned t → best t → is_empty t.cells ≡ is_empty whole.cells → IsSized t → Holds t → Prints estimates t old r new
+    → PrintsPlanned planned best (λ e. ⊥) whole old r new
+prints_planned planned best whole estimates t old (Ok x) new p b same sized holds h = record { table = t; is_planned = p; is_best = b; is_printable = h.0; sends = h.1 }
+prints_planned planned best whole estimates t old (Err e) new p b same sized holds h =
     ⊎_elim (λ r. refused e r.0 r.1)
-    (λ m. ⊎_elim (λ k. inl (k.1, k.2)) (λ k. inr (inr (record {
-      table = t;
-      is_planned = p;
-      is_best = b;
-      front = k.1.front;
-      rest = k.1.rest;
-      whole = k.1.whole;
-      added = k.1.added;
-      cause = inl k.1.cause;
-    }))) m)
+    (λ m. ⊎_elim (λ k. inl (k.1, k.2)) (λ k. inr (
+      sym same ∙ h.0,
+      inr (record {
+        table = t;
+        is_planned = p;
+        is_best = b;
+        is_printable = k.0;
+        front = k.1.front;
+        rest = k.1.rest;
+        whole = k.1.whole;
+        added = k.1.added;
+        cause = inl k.1.cause;
+      }),
+    )) m)
     h.1
   where
     refused : (d : TableError) → IsRefused t d → new ≡ old
-        → ((d ≡ Memory) × (new ≡ old)) ⊎ (((d ≡ Range) × (new ≡ old) × PassesRange planned whole) ⊎ BreaksOff planned best (λ e. ⊥) old d new)
-    refused Memory i same = absurd i
-    refused ShortWidths i same = absurd (let long = sized.columns in omega arith)
-    refused ShortHeights i same = absurd (let long = sized.rows in omega arith)
-    refused (Narrow row column) i same =
+        → ((d ≡ Memory) × (new ≡ old))
+        ⊎ ((is_empty whole.cells ≡ false) × (((d ≡ Range) × (new ≡ old) × PassesRange planned whole) ⊎ BreaksOff planned best (λ e. ⊥) old d new))
+    refused Memory i stays = absurd i
+    refused ShortWidths i stays = absurd (let long = sized.columns in omega arith)
+    refused ShortHeights i stays = absurd (let long = sized.rows in omega arith)
+    refused (Narrow row column) i stays =
         let first = i.1 in
         let held = holds row column first.row_in first.at.column_in in
         absurd (let narrow = first.at.narrow in omega arith)
-    refused Range i same = inr (inl (refl, same, inr (t, p, i.2)))
-    refused Writer i same = absurd i
+    refused Range i stays = inr (sym same ∙ h.0, inl (refl, stays, inr (t, p, i.2)))
+    refused Writer i stays = absurd i
 
 -- what is told by one plan is told by another that asks no more
 pub prints_as : {T : Type 0} (planned best planned' best' : Sheet → Type 0) (halts halts' : TableError → Type 0) (whole : Sheet) (old : Sent)
     (r : Result T TableError) (new : Sent) → ((t : Sheet) → planned t → planned' t) → ((t : Sheet) → planned t → best t → best' t)
     → ((e : TableError) → halts e → halts' e) → PrintsPlanned planned best halts whole old r new → PrintsPlanned planned' best' halts' whole old r new
 prints_as planned best planned' best' halts halts' whole old (Ok x) new gives good stops h =
-    record { table = h.table; is_planned = gives h.table h.is_planned; is_best = good h.table h.is_planned h.is_best; sends = h.sends }
+    record {
+      table = h.table;
+      is_planned = gives h.table h.is_planned;
+      is_best = good h.table h.is_planned h.is_best;
+      is_printable = h.is_printable;
+      sends = h.sends;
+    }
 prints_as planned best planned' best' halts halts' whole old (Err e) new gives good stops h =
     ⊎_elim (λ m. inl m)
     (λ k. ⊎_elim
-    (λ r. inr (inl (r.0, r.1, ⊎_elim (λ o. inl o) (λ o. inr (o.0, gives o.0 o.1, o.2)) r.2)))
-    (λ b. inr (inr (record {
-      table = b.table;
-      is_planned = gives b.table b.is_planned;
-      is_best = good b.table b.is_planned b.is_best;
-      front = b.front;
-      rest = b.rest;
-      whole = b.whole;
-      added = b.added;
-      cause = ⊎_elim (λ c. inl c) (λ c. inr (stops e c)) b.cause;
-    })))
-    k)
+    (λ r. inr (k.0, inl (r.0, r.1, ⊎_elim (λ o. inl o) (λ o. inr (o.0, gives o.0 o.1, o.2)) r.2)))
+    (λ b. inr (
+      k.0,
+      inr (record {
+        table = b.table;
+        is_planned = gives b.table b.is_planned;
+        is_best = good b.table b.is_planned b.is_best;
+        is_printable = b.is_printable;
+        front = b.front;
+        rest = b.rest;
+        whole = b.whole;
+        added = b.added;
+        cause = ⊎_elim (λ c. inl c) (λ c. inr (stops e c)) b.cause;
+      }),
+    ))
+    k.1)
     h

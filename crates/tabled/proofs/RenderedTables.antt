@@ -114,6 +114,7 @@ module _ (cells : Cells) (config : SpannedConfig) (e : is_empty cells ≡ true) 
     table = all;
     is_planned = empty_planned plan;
     is_best = b;
+    is_printable = inl e;
     sends = sends-along old old [] (table_text all) (sends-none old) empty_text;
   }
 
@@ -179,7 +180,7 @@ only_printed : {T : Type 0} (planned best : Sheet → Type 0) (halts : TableErro
 only_printed planned best halts whole old (Ok x) new stops h = tt
 only_printed planned best halts whole old (Err e) new stops h =
     ⊎_elim (λ m. inl m.0)
-    (λ k. ⊎_elim (λ r. inr (inl r.0)) (λ b. ⊎_elim (cause_only e old.grows old.failures new.failures) (λ c. inl (stops e c)) b.cause) k) h
+    (λ k. ⊎_elim (λ r. inr (inl r.0)) (λ b. ⊎_elim (cause_only e old.grows old.failures new.failures) (λ c. inl (stops e c)) b.cause) k.1) h
 
 pub only_rendered : {T : Type 0} (plan : Plan) (cells : Cells) (old : Sent) (r : Result T TableError) (new : Sent) → IsRendered plan cells old r new
     → IfErr r (λ e. (e ≡ Memory) ⊎ ((e ≡ Range) ⊎ (e ≡ Writer)))
@@ -188,9 +189,10 @@ only_rendered plan cells old r new h =
 
 -- a refusal before anything was sent
 pub refused_early : {T : Type 0} (planned best : Sheet → Type 0) (halts : TableError → Type 0) (whole : Sheet) (old : Sent) (r : Result T TableError) (e : TableError)
-    → IsErrAnd r (λ d. d ≡ e) → (e ≡ Memory) ⊎ (e ≡ Range) → (e ≡ Range → PassesRange planned whole) → PrintsPlanned planned best halts whole old r old
+    → IsErrAnd r (λ d. d ≡ e) → (e ≡ Memory) ⊎ (e ≡ Range) → (e ≡ Range → (is_empty whole.cells ≡ false) × PassesRange planned whole)
+    → PrintsPlanned planned best halts whole old r old
 refused_early planned best halts whole old (Ok x) e i c f = absurd i
-refused_early planned best halts whole old (Err d) e i c f = ⊎_elim (λ m. inl (i ∙ m, refl)) (λ r. inr (inl (i ∙ r, refl, f r))) c
+refused_early planned best halts whole old (Err d) e i c f = ⊎_elim (λ m. inl (i ∙ m, refl)) (λ r. let k = f r in inr (k.0, inl (i ∙ r, refl, k.1))) c
 
 -- want of memory before anything was sent
 pub rendered_refused : {T : Type 0} (plan : Plan) (cells : Cells) (old : Sent) (r : Result T TableError) (e : TableError) → IsErrAnd r (λ d. d ≡ e) → e ≡ Memory
@@ -231,7 +233,7 @@ pub whole_printed : {T : Type 0} (cells : Cells) (config : SpannedConfig) → Is
 whole_printed cells config rectangular texts old r new h =
     let t = estimated cells config in
     prints_planned (IsPlannedOf Buffered t) (IsBestOf Buffered t) t true t old r new refl (buffered_best cells config rectangular texts t refl)
-    (sized_estimated cells config) (holds_estimated cells config) h
+    refl (sized_estimated cells config) (holds_estimated cells config) h
 
 -- and the new one
 pub buffered_printed : {T : Type 0} (cells : Cells) → IsRectangular cells → AreTexts cells → (given : Plan) → given ≡ Buffered → (config : SpannedConfig) → config ≡ new_config

@@ -15,6 +15,8 @@ use Rattle.tabled_config.specs.Spanned.{spanned_of_compact}
 use Rattle.tabled_config.specs.declared.compact.CompactConfig.{CompactConfig}
 use Rattle.tabled_config.specs.Settings.{style_at}
 use Rattle.tabled_grid.specs.ApartSheet.{IsApartConfig}
+use Rattle.tabled_grid.specs.Printed.{IsPrintable}
+use Rattle.tabled_grid.proofs.EstimatedSizes.{sized_estimated}
 use Rattle.tabled_priority.specs.Permitted.{at}
 use Rattle.tabled_resize.specs.BestNarrowing.{text_room}
 use Rattle.tabled_resize.specs.Minimums.{side_padding}
@@ -22,7 +24,7 @@ use Rattle.tabled_row.specs.Sent.{IsCause, Sent}
 use Rattle.tabled_size.specs.Estimates.{column_width, estimated_heights, estimated_widths}
 use Rattle.tabled_size.specs.Sheet.{Sheet, is_empty}
 use Rattle.tabled_size.specs.TextCells.{AreTexts}
-use Rattle.tabled_size.specs.Totals.{filled_width}
+use Rattle.tabled_size.specs.Totals.{filled_height, filled_width}
 use Rattle.tabled_size.proofs.Passing.{width_at}
 use Rattle.tabled_stream.specs.GoesOn.{GoesOn}
 use Rattle.tabled_apart.specs.Exact.{IsExactLine}
@@ -30,7 +32,7 @@ use Rattle.tabled_stream.specs.LikeTable.{AreMeasured, IsLikeTable}
 use Rattle.tabled_stream.specs.NewTable.{IsNewConfig, new_settings}
 use Rattle.tabled_stream.specs.Printed.{text_above}
 use Rattle.tabled_stream.specs.Streamed.{IsStreamed, column_count, content_width, sniffed, stream_height, stream_widths, tallest}
-use Rattle.tabled_stream.specs.Streams.{AreSniffed, IsTooHighFirst, PrintsStream, StreamStops, StopsAtEnd, StopsAtRow, StopsEarly, StopsInRows, Streams, stream_total}
+use Rattle.tabled_stream.specs.Streams.{AreSniffed, IsFilled, IsTooHighFirst, PrintsStream, StreamStops, StopsAtEnd, StopsAtRow, StopsEarly, StopsInRows, Streams, stream_total}
 use Rattle.tabled_stream.specs.declared.settings.Settings.{Settings}
 use Rattle.tabled_stream.proofs.SameSheet.{all-sniffed, counted-columns, heights-same, like_table, row-cut, width-same, widths-same}
 use Rattle.tabled_stream.proofs.StreamedTexts.{streamed_holds, streamed_rectangular, streamed_texts}
@@ -46,6 +48,8 @@ use Rattle.tabled.specs.declared.plan.Plan.TheVariants.{Streamed}
 use Rattle.tabled.specs.Headline.{IsBestPlanned}
 use Rattle.tabled.specs.Planned.{Cells, IsPlanned}
 use Rattle.tabled.specs.Rendered.{BreaksOff, Halts, IsRendered, PassesRange}
+use Rattle.tabled.proofs.LowTables.{low_total}
+use Rattle.tabled.proofs.PlannedTables.{changed_columns}
 
 -- ---- the settings of a new stream are those of a new table
 
@@ -196,9 +200,36 @@ module _ (cells : Cells) (full : is_empty cells ≡ false) (rectangular : IsRect
               ∙ ap (λ g. record { cells = cells; config = g; widths = estimated_widths cells g; heights = estimated_heights cells g }) e;
         }
 
+    -- where the width is in range, all is: a row is a line with a line above it, and few enough rows stand in memory
+    streamed_printable : All (All (λ cell. length (lines_of cell) ≡ 1)) cells → length cells < 2 ^ 63
+        → filled_width new_config (columns cells) (estimated_widths cells new_config) < 2 ^ 64
+        → (t : Sheet) → IsStreamed (all_ahead cells) c cells cells t → IsPrintable t
+    streamed_printable lines few within t s =
+        let p = streamed_planned t s in
+        let many : columns t.cells ≡ columns cells =
+        changed_columns (λ row column. true) (λ row column. IsCut (text_room (new_sheet cells) row column)) cells t.cells p.cells in
+        let wide : filled_width t.config (columns t.cells) t.widths ≡ filled_width new_config (columns cells) (estimated_widths cells new_config) =
+        ap (λ g. filled_width g (columns t.cells) t.widths) p.config ∙ ap (λ k. filled_width new_config k t.widths) many
+        ∙ ap (filled_width new_config (columns cells)) p.widths in
+        let high : filled_height t.config (length t.cells) t.heights ≡ filled_height new_config (length cells) t.heights =
+        ap (λ g. filled_height g (length t.cells) t.heights) p.config ∙ ap (λ k. filled_height new_config k t.heights) s.as_many in
+        let low = low_total (length cells) t.heights (λ row b.
+        let same = s.heights row b in
+        let one = low_height cells c n cells row (slice_index_or cells row []) (lines row [] b) in
+        omega arith) in
+        let sized = (sized_estimated cells new_config).columns in
+        let as_wide = ap length p.widths in
+        let as_high = s.as_high in
+        let as_many = s.as_many in
+        record {
+          sized = record { columns = omega arith; rows = omega arith };
+          holds = streamed_holds s;
+          in_range = record { width = omega arith; height = omega arith };
+        }
+
     -- ---- what was printed, where some rows were taken and others are behind them
-    module _ (texts : AreTexts cells) (lines : All (All (λ cell. length (lines_of cell) ≡ 1)) cells) (rows behind : Cells) (whole : Bool)
-        (parts : cells ≡ rows ++ behind) (none : whole ≡ true → behind ≡ []) where
+    module _ (texts : AreTexts cells) (lines : All (All (λ cell. length (lines_of cell) ≡ 1)) cells) (few : length cells < 2 ^ 63) (rows behind : Cells)
+        (whole : Bool) (parts : cells ≡ rows ++ behind) (none : whole ≡ true → behind ≡ []) where
       all_taken : AreSniffed (all_ahead cells) rows whole → rows ≡ cells
       all_taken h =
           let nothing : behind ≡ [] = ⊎_elim none
@@ -213,11 +244,39 @@ module _ (cells : Cells) (full : is_empty cells ≡ false) (rectangular : IsRect
       whole_streamed {t} {shown} e s =
           subst (λ x. IsStreamed (all_ahead cells) c x shown t) (ap (sniffed (all_ahead cells)) e ∙ all-sniffed measured) s
 
+      -- the columns of the stream are those of the new table
+      total_is : rows ≡ cells
+          → stream_total (all_ahead cells) c (sniffed (all_ahead cells) rows) ≡ filled_width new_config (columns cells) (estimated_widths cells new_config)
+      total_is e =
+          let ahead : sniffed (all_ahead cells) rows ≡ cells = ap (sniffed (all_ahead cells)) e ∙ all-sniffed measured in
+          ap (stream_total (all_ahead cells) c) ahead
+          ∙ ap (λ g. filled_width g (column_count (all_ahead cells) cells) (stream_widths (all_ahead cells) c cells)) (new_spanned_is c n)
+          ∙ ap (λ k. filled_width new_config k (stream_widths (all_ahead cells) c cells)) (counted-columns measured)
+          ∙ ap (filled_width new_config (columns cells)) (widths-same measured c ∙ ap (estimated_widths cells) (new_spanned_is c n))
+
+      -- so that it can be printed where they are in range
+      printable : (t : Sheet) → rows ≡ cells → IsStreamed (all_ahead cells) c cells cells t
+          → stream_total (all_ahead cells) c (sniffed (all_ahead cells) rows) < 2 ^ 64 → IsPrintable t
+      printable t e s within = streamed_printable lines few (subst (λ k. k < 2 ^ 64) (total_is e) within) t s
+
+      -- there is a row that is shown, and a column
+      has_cells : rows ≡ cells → IsFilled (all_ahead cells) rows
+      has_cells e = subst (IsFilled (all_ahead cells)) (sym e) (record {
+        shown = (full_rows cells full).0;
+        columns = subst (λ k. 0 < k) (sym (ap (column_count (all_ahead cells)) (all-sniffed measured) ∙ counted-columns measured)) (full_rows cells full).1;
+      })
+
       rendered_ok : {R : Type 0} (x : R) (old new : Sent) → Streams {T = R} (all_ahead cells) c rows whole old (Ok x) new → IsRendered {T = R} Streamed cells old (Ok x) new
       rendered_ok x old new h =
           let e = all_taken (enough_sniffed (all_ahead cells) rows whole h.enough) in
           let s = subst (λ l. IsStreamed (all_ahead cells) c cells l h.sheet) e (whole_streamed e h.streamed.streamed) in
-          record { table = h.sheet; is_planned = streamed_planned h.sheet s; is_best = streamed_best h.sheet s; sends = h.sends }
+          record {
+            table = h.sheet;
+            is_planned = streamed_planned h.sheet s;
+            is_best = streamed_best h.sheet s;
+            is_printable = inr (printable h.sheet e s (h.streamed.width (has_cells e)));
+            sends = h.sends;
+          }
 
       -- the table of the rows that were shown goes on
       further : (t : Sheet) (shown rest : Cells) → rows ≡ cells → rows ≡ shown ++ rest → IsStreamed (all_ahead cells) c (sniffed (all_ahead cells) rows) shown t
@@ -231,10 +290,11 @@ module _ (cells : Cells) (full : is_empty cells ≡ false) (rectangular : IsRect
 
       broken : (t : Sheet) (shown rest : Cells) (old new : Sent) (error : TableError) (front after : List ℕ) → rows ≡ cells → rows ≡ shown ++ rest
           → IsStreamed (all_ahead cells) c (sniffed (all_ahead cells) rows) shown t
+          → stream_total (all_ahead cells) c (sniffed (all_ahead cells) rows) < 2 ^ 64
           → front ++ after ≡ text_above t (column_count (all_ahead cells) (sniffed (all_ahead cells) rows)) (length shown)
           → Appends old.bytes new.bytes front → IsCause error old.grows old.failures new.failures ⊎ Halts Streamed error
           → BreaksOff (IsPlanned Streamed cells) (IsBestPlanned Streamed cells) (Halts Streamed) old error new
-      broken t shown rest old new error front after e p s w added cause =
+      broken t shown rest old new error front after e p s within w added cause =
           let g = further t shown rest e p s in
           let both : cells ≡ shown ++ rest = sym e ∙ p in
           let streamed = subst (λ l. IsStreamed (all_ahead cells) c cells l g.sheet) (sym both) g.streamed in
@@ -244,6 +304,7 @@ module _ (cells : Cells) (full : is_empty cells ≡ false) (rectangular : IsRect
             table = g.sheet;
             is_planned = streamed_planned g.sheet streamed;
             is_best = streamed_best g.sheet streamed;
+            is_printable = printable g.sheet e streamed within;
             front = front;
             rest = after ++ g.more;
             whole = sym (append_assoc front after g.more) ∙ ap (λ l. l ++ g.more) (w ∙ ap (λ k. text_above t k (length shown)) count) ∙ g.text;
@@ -266,13 +327,7 @@ module _ (cells : Cells) (full : is_empty cells ≡ false) (rectangular : IsRect
       stopped_early error old new h = ⊎_elim
           (λ r.
           let e = all_taken r.1 in
-          let ahead : sniffed (all_ahead cells) rows ≡ cells = ap (sniffed (all_ahead cells)) e ∙ all-sniffed measured in
-          let total : stream_total (all_ahead cells) c (sniffed (all_ahead cells) rows) ≡ filled_width new_config (columns cells) (estimated_widths cells new_config) =
-          ap (stream_total (all_ahead cells) c) ahead
-          ∙ ap (λ g. filled_width g (column_count (all_ahead cells) cells) (stream_widths (all_ahead cells) c cells)) (new_spanned_is c n)
-          ∙ ap (λ k. filled_width new_config k (stream_widths (all_ahead cells) c cells)) (counted-columns measured)
-          ∙ ap (filled_width new_config (columns cells)) (widths-same measured c ∙ ap (estimated_widths cells) (new_spanned_is c n)) in
-          let wide : 2 ^ 64 ≤ filled_width new_config (columns cells) (estimated_widths cells new_config) = subst (λ k. 2 ^ 64 ≤ k) total r.3 in
+          let wide : 2 ^ 64 ≤ filled_width new_config (columns cells) (estimated_widths cells new_config) = subst (λ k. 2 ^ 64 ≤ k) (total_is e) r.3 in
           inr (r.0, h.same, inl (inl wide)))
           (λ m. inl (m, h.same)) h.cause
 
@@ -283,13 +338,13 @@ module _ (cells : Cells) (full : is_empty cells ≡ false) (rectangular : IsRect
           let e = all_taken b.read in
           let memory : error ≡ Memory = ⊎_elim (λ r. absurd (never_high h.shown h.rest e b.parts r.1)) (λ m. m) h.cause in
           broken h.sheet h.shown h.rest old new error (text_above h.sheet (column_count (all_ahead cells) (sniffed (all_ahead cells) rows)) (length h.shown)) []
-          e b.parts b.streamed (append-nil _) h.sends.added (inr (refl, memory))
+          e b.parts b.streamed b.width (append-nil _) h.sends.added (inr (refl, memory))
 
       stopped_in_rows : (error : TableError) (old new : Sent) → StopsInRows (all_ahead cells) c rows whole old error new
           → BreaksOff (IsPlanned Streamed cells) (IsBestPlanned Streamed cells) (Halts Streamed) old error new
       stopped_in_rows error old new h =
           let b = h.begun in
-          broken h.sheet h.shown h.rest old new error h.stops.front h.stops.rest (all_taken b.read) b.parts b.streamed h.stops.whole h.stops.added (inl h.stops.cause)
+          broken h.sheet h.shown h.rest old new error h.stops.front h.stops.rest (all_taken b.read) b.parts b.streamed b.width h.stops.whole h.stops.added (inl h.stops.cause)
 
       stopped_at_end : (error : TableError) (old new : Sent) → StopsAtEnd (all_ahead cells) c rows whole old error new
           → BreaksOff (IsPlanned Streamed cells) (IsBestPlanned Streamed cells) (Halts Streamed) old error new
@@ -300,6 +355,7 @@ module _ (cells : Cells) (full : is_empty cells ≡ false) (rectangular : IsRect
             table = h.sheet;
             is_planned = streamed_planned h.sheet s;
             is_best = streamed_best h.sheet s;
+            is_printable = printable h.sheet e s (h.streamed.width (has_cells e));
             front = h.stops.front;
             rest = h.stops.rest;
             whole = h.stops.whole;
@@ -311,24 +367,24 @@ module _ (cells : Cells) (full : is_empty cells ≡ false) (rectangular : IsRect
           → IsRendered {T = R} Streamed cells old (Err error) new
       rendered_err R error old new h =
           ⊎_elim
-          (λ a. ⊎_elim (λ m. inl m) (λ r. inr (inl r)) (stopped_early error old new a))
-          (λ k. inr (inr (⊎_elim (stopped_at_row error old new) (⊎_elim (stopped_in_rows error old new) (stopped_at_end error old new)) k)))
+          (λ a. ⊎_elim (λ m. inl m) (λ r. inr (full, inl r)) (stopped_early error old new a))
+          (λ k. inr (full, inr (⊎_elim (stopped_at_row error old new) (⊎_elim (stopped_in_rows error old new) (stopped_at_end error old new)) k)))
           h
 
     -- a stream of rows of which some came first printed the table that is planned
     pub streamed_rendered : {R : Type 0} (comes : Cells → Bool → Type 0) (old : Sent) (r : Result R TableError) (new : Sent) → AreTexts cells
-        → All (All (λ cell. length (lines_of cell) ≡ 1)) cells → PrintsStream (all_ahead cells) c comes old r new
+        → All (All (λ cell. length (lines_of cell) ≡ 1)) cells → length cells < 2 ^ 63 → PrintsStream (all_ahead cells) c comes old r new
         → ((rows : Cells) (whole : Bool) → comes rows whole → (behind : Cells) × (cells ≡ rows ++ behind) × (whole ≡ true → behind ≡ []))
         → IsRendered Streamed cells old r new
-    streamed_rendered comes old (Ok x) new texts lines p first =
-        let b = first p.rows p.whole p.came in rendered_ok texts lines p.rows b.0 p.whole b.1 b.2 x old new p.streams
-    streamed_rendered {R} comes old (Err e) new texts lines p first =
-        let b = first p.rows p.whole p.came in rendered_err texts lines p.rows b.0 p.whole b.1 b.2 R e old new p.streams
+    streamed_rendered comes old (Ok x) new texts lines few p first =
+        let b = first p.rows p.whole p.came in rendered_ok texts lines few p.rows b.0 p.whole b.1 b.2 x old new p.streams
+    streamed_rendered {R} comes old (Err e) new texts lines few p first =
+        let b = first p.rows p.whole p.came in rendered_err texts lines few p.rows b.0 p.whole b.1 b.2 R e old new p.streams
 
     -- where the settings say that all rows are read ahead
     pub streamed_by : {R : Type 0} (settings : Settings) (comes : Cells → Bool → Type 0) (old : Sent) (r : Result R TableError) (new : Sent) → settings ≡ all_ahead cells
-        → AreTexts cells → All (All (λ cell. length (lines_of cell) ≡ 1)) cells → PrintsStream settings c comes old r new
+        → AreTexts cells → All (All (λ cell. length (lines_of cell) ≡ 1)) cells → length cells < 2 ^ 63 → PrintsStream settings c comes old r new
         → ((rows : Cells) (whole : Bool) → comes rows whole → (behind : Cells) × (cells ≡ rows ++ behind) × (whole ≡ true → behind ≡ []))
         → IsRendered Streamed cells old r new
-    streamed_by settings comes old r new e texts lines p first =
-        streamed_rendered comes old r new texts lines (subst (λ s. PrintsStream s c comes old r new) e p) first
+    streamed_by settings comes old r new e texts lines few p first =
+        streamed_rendered comes old r new texts lines few (subst (λ s. PrintsStream s c comes old r new) e p) first

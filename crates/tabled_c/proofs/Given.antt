@@ -60,7 +60,7 @@ module _ (text style : List ℕ) (kind order columns : ℕ) (name : StyleName) (
   out_of_range : (T : Type 0) (old new : Sent) (p : Plan) (whole : Sheet) → IsRenderedOf {T = T} p whole old (Err Range) new → PassesRange (IsPlannedOf p whole) whole
   out_of_range T old new p whole h =
       ⊎_elim (λ m. absurd (let no : Range ≡ Memory = m.0 in cc))
-      (λ r. ⊎_elim (λ passes. passes.2) (λ b. ⊎_elim (λ cause. absurd cause) (λ never. absurd never) b.cause) r)
+      (λ r. ⊎_elim (λ passes. passes.2) (λ b. ⊎_elim (λ cause. absurd cause) (λ never. absurd never) b.cause) r.1)
       h
 
   pub passed : (T : Type 0) (old new : Sent) (error : TableError) → error ≡ Range → IsRenderedOf {T = T} (measured plan) printed old (Err error) new

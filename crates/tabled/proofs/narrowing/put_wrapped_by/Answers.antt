@@ -22,7 +22,9 @@ pub returns-in_err-change : goal.returns-in_err-change
 returns-in_err-change g c =
     let cells = g.R.ExactRecords.cells c.args.records.now in
     refused_early _ _ _ (estimated cells c.args.config.config) _ _ _ c.from_residual.ensures.1 c.in_err-change.ensures.only
-    (λ r. inl (passes _ cells c.args.config.config c.new-sizes.result c.new-sizes.ensures.widths c.new-sizes.ensures.heights (c.in_err-change.ensures.range r)))
+    (λ r.
+    let over = c.in_err-change.ensures.range r in
+    (over.0, inl (passes _ cells c.args.config.config c.new-sizes.result c.new-sizes.ensures.widths c.new-sizes.ensures.heights over)))
 
 pub returns : goal.returns
 returns g c =
