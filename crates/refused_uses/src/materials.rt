@@ -91,19 +91,23 @@ fn texts_of(alloc: Global, row: [&str; 2]) -> Result<Vec<Text<String>>, TableErr
     Ok(texts)
 }
 
-// Rows that are given at once, as measured texts.
-fn given(alloc: Global) -> Result<Found, TableError> {
+fn rows_of_texts(alloc: Global) -> Result<Vec<Vec<Text<String>>>, TableError> {
     let mut rows = Vec::new(alloc);
     for row in PAIRS {
         rows.push(texts_of(alloc, row)?)?;
     }
-    let picture = Table::from(Builder::from_vec(rows)?).to_string()?;
+    Ok(rows)
+}
+
+// Rows that are given at once, as measured texts.
+fn given(alloc: Global) -> Result<Found, TableError> {
+    let picture = Table::from(Builder::from_vec(rows_of_texts(alloc)?)?).to_string()?;
     Ok(whole_if(picture.as_str() == PICTURE))
 }
 
 // Rows of which the first is read ahead.
 fn buffered(alloc: Global) -> Result<Found, TableError> {
-    let rows = BufRecords::new(alloc, PAIRS, 1)?;
+    let rows = BufRecords::new(alloc, rows_of_texts(alloc)?, 1)?;
     let ahead = rows.as_slice().len();
     let picture = Table::from(Builder::from_iter(alloc, rows)?).to_string()?;
     Ok(whole_if(ahead == 1 && picture.as_str() == PICTURE))
