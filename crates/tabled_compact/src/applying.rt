@@ -13,7 +13,7 @@ use tabled_views::EmptyRecords;
 impl<I: Drop, D: Drop> CompactTable<I, D> {
     /// Applies an option to the configuration and the dimension, and gives the table back; its rows, and which of them
     /// are shown, stay. The option sees records without rows. Refused for memory, and with `Range` where a sum or product
-    /// of the option passes the greatest `usize`; a refusal drops the table, as the option left it.
+    /// of the option passes the greatest `usize`; a refusal drops the table.
     pub fn with<O: TableOption<EmptyRecords, CompactConfig, D>>(
         self,
         option: O,
