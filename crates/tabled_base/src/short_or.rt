@@ -32,6 +32,18 @@ impl<S: AsStr> ShortOr<S> {
     }
 }
 
+impl<S: AsStr + Drop> ShortOr<S> {
+    /// A text, which is let go where it is short.
+    pub fn kept(text: S) -> ShortOr<S>
+        ensures { bytes_of S.text result ≡ S.text text }
+    {
+        match ArrayString::from(text.as_str()) {
+            Ok(short) => ShortOr::Short(short),
+            Err(_) => ShortOr::Other(text),
+        }
+    }
+}
+
 impl ShortOr<String> {
     /// A copy of a text. Only one that isn't short takes memory.
     pub fn copied(alloc: Global, text: &str) -> Result<ShortOr<String>, TableError>

@@ -47,19 +47,21 @@ impl<S: AsStr> Model for Text<S> {
         × (t.lines ≡ length (lines_of (bytes_of S.text t.text))) };
 }
 
-impl<S: AsStr> Text<S> {
-    /// Measures the text.
+impl<S: AsStr + Drop> Text<S> {
+    /// Measures the text. One of at most 16 bytes is let go, since a copy of it stands in the value itself.
     pub fn new(text: S) -> Self
         ensures { result ≡ S.text text }
     {
         let (columns, lines) = text_measures(text.as_str());
         Text {
-            text: ShortOr::Other(text),
+            text: ShortOr::kept(text),
             columns,
             lines,
         }
     }
+}
 
+impl<S: AsStr> Text<S> {
     /// A text whose columns and lines are known.
     fn measured(text: S, columns: usize, lines: usize) -> Self
         requires columns { columns ≡ text_columns (S.text text) }

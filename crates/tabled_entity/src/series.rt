@@ -8,7 +8,7 @@ use std::alloc::Global;
 use tabled_base::Entity;
 
 /// The most different values that are listed. Where more are set, the others aren't told.
-const MOST: u8 = 16;
+const MOST_VALUES: u8 = 16;
 
 /// Values that can be told apart.
 pub trait Distinct {
@@ -65,7 +65,7 @@ impl<'a, T> RowSeries<'a, T> {
 fn number_of<T: Distinct>(distinct: &[T], value: &T) -> Option<u8>
     ensures { IfSome result (λ number. slice_get distinct.now number ≡ Some value.now) }
 {
-    'numbers: for number in 0..MOST {
+    'numbers: for number in 0..MOST_VALUES {
         if let Some(listed) = distinct.get(number as usize)
             && listed.is_same(value)
         {
@@ -81,7 +81,7 @@ fn list<T: Copy>(distinct: &mut Vec<T>, value: T) -> Option<u8>
     ensures others { (number : ℕ) (listed : T) → slice_get distinct.old.items number ≡ Some listed → slice_get distinct.new.items number ≡ Some listed }
 {
     let count = distinct.len();
-    if count >= MOST as usize {
+    if count >= MOST_VALUES as usize {
         return None;
     }
     distinct.push(value).ok()?;

@@ -6,7 +6,7 @@ ghost use Rattle.tabled_grid.specs.ColumnStyles.{aims_of};
 ghost use Rattle.tabled_row.specs.Aims.{AreAims};
 ghost use Rattle.tabled_size.specs.Reached.{reached};
 
-use crate::few_aims::{FEW, FewAims};
+use crate::few_aims::{FEW_COLUMNS, FewAims};
 use std::alloc::Global;
 use tabled_config::{AlignmentHorizontal, SpannedConfig};
 use tabled_row::Aim;
@@ -54,12 +54,12 @@ impl ColumnAims {
         row: usize,
         columns: usize,
     ) -> Option<ColumnAims>
-        requires few { columns ≤ FEW }
+        requires few { columns ≤ FEW_COLUMNS }
         requires there { columns ≤ length (reached (D.width_at dimension.now) columns) }
         ensures { IfSome result (λ kept.
             AreAims (style_at config.now row) (slice_index (reached (D.width_at dimension.now) columns)) columns (aims_of kept)) }
     {
-        let mut aims = [NO_AIM; FEW];
+        let mut aims = [NO_AIM; FEW_COLUMNS];
         if !put_aims(&mut aims[..columns], config, dimension, row) {
             return None;
         }
@@ -105,7 +105,7 @@ impl ColumnAims {
         if check_widths(dimension, columns).is_err() {
             return None;
         }
-        if columns <= FEW {
+        if columns <= FEW_COLUMNS {
             return ColumnAims::few(config, dimension, row, columns);
         }
         ColumnAims::each(memory?, config, dimension, row, columns)

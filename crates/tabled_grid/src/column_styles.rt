@@ -15,10 +15,10 @@ use tabled_row::Aim;
 use tabled_size::Dimension;
 
 /// For more columns nothing is kept.
-const MOST: usize = 65_536;
+const MOST_COLUMNS: usize = 65_536;
 
 /// For fewer rows nothing is kept either, since they would gain too little by it.
-const FEW: usize = 4;
+const FEWEST_ROWS: usize = 4;
 
 /// How the texts of so many columns stand in a row. Refused for memory alone.
 fn styles_in(
@@ -74,7 +74,7 @@ impl ColumnStyles {
     ) -> Option<ColumnStyles>
         ensures { IfSome result (AreStyles config.now (slice_index (reached (D.width_at dimension.now) columns)) columns) }
     {
-        if rows < FEW || columns > MOST {
+        if rows < FEWEST_ROWS || columns > MOST_COLUMNS {
             return None;
         }
         Some(ColumnStyles {

@@ -4,13 +4,13 @@ ghost use Rattle.std.specs.Prelude.{◌≡◌, ◌≤◌, take};
 use tabled_row::Aim;
 
 /// So many columns are a few.
-pub(crate) const FEW: usize = 128;
+pub(crate) const FEW_COLUMNS: usize = 128;
 
 /// The aims of a few columns.
 #[derive(Drop)]
 pub(crate) struct FewAims {
     /// Those of the columns, and what the rest of the room holds.
-    pub aims: [Aim; FEW],
+    pub aims: [Aim; FEW_COLUMNS],
     /// How many columns there are.
     pub count: usize,
     ghost within: { count ≤ 128 },

@@ -11,14 +11,8 @@ use crate::grid::Grid;
 use crate::picture::put_picture;
 use tabled_base::{PeekableRecords, TableError};
 use tabled_config::SpannedConfig;
-use tabled_row::{Cursor, TextSink};
+use tabled_row::{Cursor, FEW_CURSORS, MANY_CURSORS, TextSink};
 use tabled_size::{Dimension, is_empty};
-
-/// A table of so many columns has a cursor for each.
-const FEW: usize = 64;
-
-/// Of a table of more columns, so many have a cursor each in no memory.
-pub(crate) const MANY: usize = 1_024;
 
 /// Prints a table whose sizes hold its cells, of whose first columns these are the cursors. Refused, before the first byte, where a
 /// total passes the greatest `usize`.
@@ -48,7 +42,7 @@ fn print_many<'a, R: PeekableRecords, D: Dimension, S: TextSink>(
     requires holds { Holds grid.now }
     ensures { Prints false grid.now (S.sent sink.old) result (S.sent sink.new) }
 {
-    print_by(sink, grid, &mut [Cursor::nowhere(); MANY])
+    print_by(sink, grid, &mut [Cursor::nowhere(); MANY_CURSORS])
 }
 
 /// Prints a table whose sizes hold its cells, in no memory. Refused, before the first byte, where a total passes the
@@ -62,10 +56,10 @@ pub(crate) fn print_held<'a, R: PeekableRecords, D: Dimension, S: TextSink>(
     requires holds { Holds grid.now }
     ensures { Prints false grid.now (S.sent sink.old) result (S.sent sink.new) }
 {
-    if grid.count_columns() > FEW {
+    if grid.count_columns() > FEW_CURSORS {
         return print_many(sink, grid);
     }
-    print_by(sink, grid, &mut [Cursor::nowhere(); FEW])
+    print_by(sink, grid, &mut [Cursor::nowhere(); FEW_CURSORS])
 }
 
 /// Prints a table piece by piece, in no memory of its own. A table with no row or no column prints

@@ -10,11 +10,11 @@ ghost use Rattle.tabled_row.specs.Sent.{Sent};
 
 use crate::checks::check_stored;
 use crate::grid::Grid;
-use crate::print::{MANY, print_by, print_grid, print_held};
+use crate::print::{print_by, print_grid, print_held};
 use std::alloc::Global;
 use tabled_base::{PeekableRecords, TableError};
 use tabled_config::SpannedConfig;
-use tabled_row::{Cursor, TextSink};
+use tabled_row::{Cursor, MANY_CURSORS, TextSink};
 use tabled_size::{CompleteDimension, Dimension, Estimate, is_empty};
 
 /// Prints records under a configuration, with the sizes that are stored, and with those that the texts
@@ -69,7 +69,7 @@ fn print_in_memory<'a, R: PeekableRecords, D: Dimension, S: TextSink>(
     requires holds { Holds grid.now }
     ensures { Prints true grid.now (S.sent sink.old) result (S.sent sink.new) }
 {
-    if grid.count_columns() <= MANY {
+    if grid.count_columns() <= MANY_CURSORS {
         return print_held(sink, grid);
     }
     let mut cursors = vec![in alloc; Cursor::nowhere(); grid.count_columns()]?;

@@ -18,11 +18,11 @@ const TRIES: usize = 16;
 
 /// The most columns that a blank row takes, but for its vertical lines. A longer one isn't worth its memory, of which there may
 /// not be enough for a row of a table that is as wide as a number can be.
-const MOST: usize = 65_536;
+const MOST_COLUMNS: usize = 65_536;
 
 /// Whether the columns are few enough for a blank row, and what they and the margin at their sides take. This says what is kept, not what is printed.
 fn is_short<C: Columns>(columns: &C) -> bool {
-    if columns.count_columns() > MOST {
+    if columns.count_columns() > MOST_COLUMNS {
         return false;
     }
     let margin = columns.frame().margin;
@@ -30,7 +30,7 @@ fn is_short<C: Columns>(columns: &C) -> bool {
     for column in 0..columns.count_columns() {
         taken = taken.saturating_add(columns.width(column));
     }
-    taken <= MOST
+    taken <= MOST_COLUMNS
 }
 
 /// The characters of a blank row: those of a horizontal line of spaces, with the vertical lines where it meets them.

@@ -52,11 +52,10 @@ fn lay_texts<'a, R: Row<'a>, A: TellAims + Drop>(
     ensures utf8 { IsUtf8 line.old → IsUtf8 line.new }
 {
     'texts: for column in 0..spots.len() {
-        let spot = spots[column];
-        let Some(placed) = place(row, &mut aims, column, spot.width) else {
+        let Some(placed) = place(row, &mut aims, column, spots[column].width) else {
             return false;
         };
-        if !lay_text(line, spot, &placed) {
+        if !lay_text(line, spots[column], &placed) {
             return false;
         }
     }

@@ -5,6 +5,7 @@ use Rattle.tabled_border.specs.declared.sides.Indent.{Indent}
 use Rattle.tabled_border.specs.declared.sides.Sides.{Sides}
 use Rattle.tabled_config.specs.declared.spanned.CellStyle.{CellStyle}
 use Rattle.tabled_row.specs.Block.{text_room}
+use Rattle.tabled_row.specs.Row.{RowSheet}
 use Rattle.tabled_row.specs.declared.aim.Aim.{Aim}
 use Rattle.tabled_row.specs.declared.aim.Spread.{Spread}
 
@@ -45,3 +46,9 @@ pub record IsSpread (style : CellStyle) (spread : Spread) : Type 0 where
 -- so is the padding of a style, whatever its alignment
 abbrev pub IsPadded : CellStyle → Spread → Type 0
 IsPadded style spread = IsSpread style (record spread { horizontal = style.horizontal })
+
+-- a column of a row of which something is told
+pub record IsToldOf (tells : RowSheet → Type 0) (column : ℕ) : Type 0 where
+  pub row : RowSheet
+  pub told : tells row
+  pub inside : column < row.columns.count

@@ -6,6 +6,12 @@ ghost use Rattle.tabled_row.specs.Cursors.{AreCursors, IsCursor, nowhere};
 
 use tabled_text::split_line;
 
+/// In a row of so many cells each has a cursor in no memory.
+pub const FEW_CURSORS: usize = 64;
+
+/// Of a row of more cells, so many first ones have a cursor each in no memory.
+pub const MANY_CURSORS: usize = 1_024;
+
 /// A line of a text by its number, and the text from there on; there is none past the last line.
 #[derive(Clone, Copy)]
 pub struct Cursor<'a> {

@@ -27,7 +27,7 @@ pub use aim::{Aim, Spread};
 pub use block::CellBlock;
 pub use columns::{Columns, count_drawn, put_rule_line, put_rule_pieces};
 pub use content::Content;
-pub use cursors::{Cursor, forget_cursors};
+pub use cursors::{Cursor, FEW_CURSORS, MANY_CURSORS, forget_cursors};
 pub use edges::{put_left, put_piece, put_right};
 pub use gap::Gap;
 pub use io_sink::IoSink;

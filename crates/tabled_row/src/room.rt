@@ -8,16 +8,16 @@ use std::alloc::Global;
 use tabled_base::TableError;
 
 /// The bytes that a room in no memory takes.
-const ROOM: usize = 4096;
+const FIXED_BYTES: usize = 4096;
 
 /// The most bytes that a room in memory takes. A longer line isn't worth its memory, of which there may not be enough for a line
 /// of a table that is as wide as a number can be.
-const MOST: usize = 1_048_576;
+const MOST_BYTES: usize = 1_048_576;
 
 /// A room of fixed size as a sink. A text that doesn't fit is refused for memory.
 #[derive(Drop)]
 pub struct FixedRoom {
-    bytes: [u8; ROOM],
+    bytes: [u8; FIXED_BYTES],
     used: usize,
     ghost within: { used ≤ 4096 },
 }
@@ -28,7 +28,7 @@ impl FixedRoom {
         ensures { result.used ≡ 0 }
     {
         FixedRoom {
-            bytes: [0; ROOM],
+            bytes: [0; FIXED_BYTES],
             used: 0,
         }
     }
@@ -57,7 +57,7 @@ impl TextSink for FixedRoom {
             (record { bytes = Some (take self.new.used self.new.bytes); failures = 0; grows = true }) text.now }
         ensures only { IfErr result (λ e. e ≡ Memory) }
     {
-        if text.len() > ROOM - self.used {
+        if text.len() > FIXED_BYTES - self.used {
             return Err(TableError::Memory);
         }
         let end = self.used + text.len();
@@ -118,7 +118,7 @@ impl TextSink for Room {
     fn write_text(&mut self, text: &str) -> Result<(), TableError> {
         match self {
             Room::Fixed(room) => room.write_text(text),
-            Room::Grown(grown) if text.len() > MOST.saturating_sub(grown.len()) => {
+            Room::Grown(grown) if text.len() > MOST_BYTES.saturating_sub(grown.len()) => {
                 Err(TableError::Memory)
             }
             Room::Grown(grown) => grown.write_text(text),

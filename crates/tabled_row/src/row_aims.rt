@@ -1,5 +1,5 @@
 //! Where the texts of a row of one line stand, from left to right.
-ghost use Rattle.std.specs.Prelude.{◌≡◌, ◌<◌, ℕ, IfSome};
+ghost use Rattle.std.specs.Prelude.{◌≡◌, ◌<◌, ℕ, IfSome, Some, length, slice_get};
 ghost use Rattle.tabled_config.specs.RowStyles.{style_in};
 ghost use Rattle.tabled_row.specs.Aims.{IsAimed, IsPadded, aim_of};
 ghost use Rattle.tabled_row.specs.Row.{RowSheet};
@@ -25,6 +25,7 @@ pub struct Placed<'a> {
 
 /// What tells where the texts of a row of one line stand, from left to right.
 pub trait TellAims {
+    ghost use Rattle.tabled_row.specs.Aims.{IsToldOf};
     ghost use Rattle.tabled_row.specs.Row.{RowSheet};
 
     // What is told of a row is right.
@@ -32,6 +33,7 @@ pub trait TellAims {
 
     /// Where the text of a column of some width stands, if it stands between spaces, and its padding fits.
     fn at(&mut self, column: usize, width: usize) -> Option<Aim>
+        requires { IsToldOf (tells self.old) column }
         ensures aim { (row : RowSheet) → tells self.old row → column < row.columns.count → width ≡ row.columns.width column
             → IfSome result (λ aim. (aim ≡ aim_of (row.style column) width) × IsAimed (row.style column) width) }
         ensures same { (row : RowSheet) → tells self.old row → tells self.new row };
@@ -47,6 +49,17 @@ pub trait TellAims {
 #[derive(Drop)]
 pub struct KeptAims<'a>(pub &'a [Aim]);
 
+impl<'a> KeptAims<'a> {
+    /// Where the text of a column stands.
+    #[inline(always)]
+    fn aim(&self, column: usize) -> Aim
+        requires { column < length self.now.0.now }
+        ensures { slice_get self.now.0.now column ≡ Some result }
+    {
+        self.0[column]
+    }
+}
+
 impl<'a> TellAims for KeptAims<'a> {
     ghost use Rattle.tabled_row.specs.Aims.{AreAims};
 
@@ -54,10 +67,7 @@ impl<'a> TellAims for KeptAims<'a> {
 
     #[inline(always)]
     fn at(&mut self, column: usize, _width: usize) -> Option<Aim> {
-        match self.0.get(column) {
-            Some(aim) => Some(*aim),
-            None => None,
-        }
+        Some(self.aim(column))
     }
 
     fn style(&mut self, _column: usize) -> Option<CellStyle> {

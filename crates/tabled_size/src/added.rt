@@ -11,7 +11,7 @@ use tabled_config::{Indent, Sides, SpannedConfig};
 use tabled_entity::RowValues;
 
 /// For more columns nothing is listed.
-const MOST: usize = 65_536;
+const MOST_COLUMNS: usize = 65_536;
 
 /// So many columns and lines: those that padding adds to a text, or those that a cell needs.
 #[derive(Clone, Copy)]
@@ -151,7 +151,7 @@ impl KnownAdded {
             return KnownAdded::Alike(extent);
         }
         // For the row behind the last hardly anything is set, so that most rows are padded like it.
-        if rows < 2 || columns > MOST || !config.are_padded_alike(rows, rows) {
+        if rows < 2 || columns > MOST_COLUMNS || !config.are_padded_alike(rows, rows) {
             return KnownAdded::Unlike(None);
         }
         match listed_in(alloc, config, rows, columns) {

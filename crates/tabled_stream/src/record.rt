@@ -16,7 +16,7 @@ use std::borrow::CowStr;
 use tabled_base::{CellText, TableError, Text};
 use tabled_config::{CellStyle, Frame, RowStyles};
 use tabled_lines::Lines;
-use tabled_row::{Aim, CellBlock, Content, Cursor, Gap, Row, Spread, TextSink};
+use tabled_row::{Aim, CellBlock, Content, Cursor, FEW_CURSORS, Gap, Row, Spread, TextSink};
 use tabled_text::cut_str;
 
 /// A row of a stream whose cells are cut; missing ones are empty.
@@ -116,9 +116,6 @@ fn cut_cells<'a, C: CellText>(
     Ok(cut)
 }
 
-/// In a row of so many cells each has a cursor in no memory.
-const FEW: usize = 64;
-
 /// The lines of a stream while they are printed.
 #[derive(Drop)]
 pub(crate) struct Stream<'a> {
@@ -186,8 +183,8 @@ impl<'a> Stream<'a> {
         if height <= 1 {
             return self.put_cut(sink, height, cells, &mut []);
         }
-        if cells.len() <= FEW {
-            return self.put_cut(sink, height, cells, &mut [Cursor::nowhere(); FEW]);
+        if cells.len() <= FEW_CURSORS {
+            return self.put_cut(sink, height, cells, &mut [Cursor::nowhere(); FEW_CURSORS]);
         }
         let mut cursors = vec![in alloc; Cursor::nowhere(); cells.len()]?;
         self.put_cut(sink, height, cells, &mut cursors)

@@ -1,8 +1,8 @@
 use Rattle.tabled_grid.proofs.Printing.{estimating}
 use Rattle.tabled_grid.proofs.standing.print_in_memory.Goals as goal
 
-pub returns-then-count_columns-le-MANY : goal.returns-then-count_columns-le-MANY
-returns-then-count_columns-le-MANY g c =
+pub returns-then-count_columns-le-MANY_CURSORS : goal.returns-then-count_columns-le-MANY_CURSORS
+returns-then-count_columns-le-MANY_CURSORS g c =
     estimating c.args.grid.now (g.S.TextSink.sent c.args.sink.now) (g.S.TextSink.sent c.print_held.new.sink) c.print_held.result c.print_held.ensures
 
 pub returns : goal.returns
