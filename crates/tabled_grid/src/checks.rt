@@ -10,12 +10,13 @@ ghost use Rattle.tabled_size.specs.Standing.{standing};
 ghost use Rattle.tabled_size.specs.Totals.{filled_width};
 ghost use Rattle.tabled_size.specs.Holds.{Holds, IsHeld, IsSized};
 ghost use Rattle.tabled_grid.specs.Narrow.{IsNarrow, IsNarrowIn};
+ghost use Rattle.tabled_grid.specs.Picture.{columns_of};
 ghost use Rattle.tabled_grid.specs.Printed.{IsInRange, IsRefused};
 
 use crate::grid::Grid;
 use tabled_base::{PeekableRecords, Position, TableError};
 use tabled_config::{Indent, Sides, SpannedConfig};
-use tabled_row::Aim;
+use tabled_row::{Aim, CellAim};
 use tabled_size::{
     CompleteDimension, Dimension, check_heights, check_widths, filled_height, filled_width,
 };
@@ -59,17 +60,17 @@ fn has_room<R: PeekableRecords, D: Dimension>(
 fn narrow_aimed<R: PeekableRecords, D: Dimension>(
     grid: &Grid<'_, R, D>,
     row: usize,
-    aims: &[Aim],
+    aims: &[CellAim],
 ) -> Option<usize>
     requires sized { columns grid.now.cells ≤ length grid.now.widths }
     requires row_in { row < length grid.now.cells }
-    requires aims { AreAims (style_at grid.now.config row) (slice_index grid.now.widths) (columns grid.now.cells) aims.now }
+    requires aims { AreAims (style_at grid.now.config row) (columns_of grid.now) aims.now }
     ensures none { IfNone result ((c : ℕ) → c < columns grid.now.cells
         → IsHeld grid.now row c) }
     ensures some { IfSome result (IsNarrowIn grid.now row) }
 {
     'columns: for column in 0..aims.len() {
-        if !has_room(grid, row, column, aims[column]) {
+        if !has_room(grid, row, column, aims[column].aim) {
             return Some(column);
         }
     }

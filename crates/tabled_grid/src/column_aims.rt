@@ -2,48 +2,59 @@
 ghost use Rattle.std.specs.Prelude.{◌≡◌, ◌≤◌, IfSome, length, true};
 ghost use Rattle.std.specs.List.{slice_index};
 ghost use Rattle.tabled_config.specs.Settings.{style_at};
-ghost use Rattle.tabled_grid.specs.ColumnStyles.{aims_of};
+ghost use Rattle.tabled_grid.specs.ColumnStyles.{aims_of, columns_in};
 ghost use Rattle.tabled_row.specs.Aims.{AreAims};
 ghost use Rattle.tabled_size.specs.Reached.{reached};
 
 use crate::few_aims::{FEW_COLUMNS, FewAims};
 use std::alloc::Global;
 use tabled_config::{AlignmentHorizontal, SpannedConfig};
-use tabled_row::Aim;
+use tabled_row::{Aim, CellAim, bar_length, next_place};
 use tabled_size::{Dimension, check_widths};
 
 /// An aim that is none yet.
-const NO_AIM: Aim = Aim {
-    before: 0,
-    room: 0,
-    horizontal: AlignmentHorizontal::Left,
+const NO_AIM: CellAim = CellAim {
+    place: 0,
+    aim: Aim {
+        before: 0,
+        room: 0,
+        horizontal: AlignmentHorizontal::Left,
+    },
 };
 
-/// Tells where the texts of a row stand if it is of one line. Answers whether each stands between spaces, and its padding fits.
+/// Tells where the cells of a row begin and their texts stand if it is of one line. Answers whether each text stands between spaces, its padding
+/// fits, and numbers can say where the cells begin.
 fn put_aims<D: Dimension>(
-    aims: &mut [Aim],
+    aims: &mut [CellAim],
     config: &SpannedConfig,
     dimension: &D,
     row: usize,
 ) -> bool
     requires { length aims.old ≤ length (reached (D.width_at dimension.now) (length aims.old)) }
-    ensures { result ≡ true → AreAims (style_at config.now row) (slice_index (reached (D.width_at dimension.now) (length aims.old)))
-        (length aims.old) aims.new }
+    ensures { result ≡ true → AreAims (style_at config.now row)
+        (columns_in config.now (slice_index (reached (D.width_at dimension.now) (length aims.old))) (length aims.old)) aims.new }
 {
+    let bar = bar_length(config.frame().inner);
+    let mut place = 0;
     'columns: for column in 0..aims.len() {
-        let Some(aim) = Aim::new(&config.style_at(row, column), dimension.get_width(column)) else {
+        let width = dimension.get_width(column);
+        let Some(aim) = Aim::new(&config.style_at(row, column), width) else {
             return false;
         };
-        aims[column] = aim;
+        let Some(next) = next_place(place, width, bar) else {
+            return false;
+        };
+        aims[column] = CellAim { place, aim };
+        place = next;
     }
     true
 }
 
-/// Where the texts of all columns stand: of a few in a room of fixed size, and else in memory.
+/// Where the cells of all columns begin and their texts stand: of a few in a room of fixed size, and else in memory.
 #[derive(Drop)]
 pub(crate) enum ColumnAims {
     Few(FewAims),
-    Each(Vec<Aim>),
+    Each(Vec<CellAim>),
 }
 
 impl ColumnAims {
@@ -57,7 +68,7 @@ impl ColumnAims {
         requires few { columns ≤ FEW_COLUMNS }
         requires there { columns ≤ length (reached (D.width_at dimension.now) columns) }
         ensures { IfSome result (λ kept.
-            AreAims (style_at config.now row) (slice_index (reached (D.width_at dimension.now) columns)) columns (aims_of kept)) }
+            AreAims (style_at config.now row) (columns_in config.now (slice_index (reached (D.width_at dimension.now) columns)) columns) (aims_of kept)) }
     {
         let mut aims = [NO_AIM; FEW_COLUMNS];
         if !put_aims(&mut aims[..columns], config, dimension, row) {
@@ -79,7 +90,7 @@ impl ColumnAims {
     ) -> Option<ColumnAims>
         requires { columns ≤ length (reached (D.width_at dimension.now) columns) }
         ensures { IfSome result (λ kept.
-            AreAims (style_at config.now row) (slice_index (reached (D.width_at dimension.now) columns)) columns (aims_of kept)) }
+            AreAims (style_at config.now row) (columns_in config.now (slice_index (reached (D.width_at dimension.now) columns)) columns) (aims_of kept)) }
     {
         let Ok(mut aims) = vec![in alloc; NO_AIM; columns] else {
             return None;
@@ -100,7 +111,7 @@ impl ColumnAims {
         columns: usize,
     ) -> Option<ColumnAims>
         ensures { IfSome result (λ kept.
-            AreAims (style_at config.now row) (slice_index (reached (D.width_at dimension.now) columns)) columns (aims_of kept)) }
+            AreAims (style_at config.now row) (columns_in config.now (slice_index (reached (D.width_at dimension.now) columns)) columns) (aims_of kept)) }
     {
         if check_widths(dimension, columns).is_err() {
             return None;
@@ -112,7 +123,7 @@ impl ColumnAims {
     }
 
     /// Where they stand, from left to right.
-    pub fn listed(&self) -> &[Aim]
+    pub fn listed(&self) -> &[CellAim]
         ensures { result.now ≡ aims_of self.now }
     {
         match self {

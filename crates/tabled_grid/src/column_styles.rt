@@ -3,7 +3,7 @@ ghost use Rattle.std.specs.Prelude.{◌≡◌, ℕ, IfErr, IfOk, IfSome, map};
 ghost use Rattle.std.specs.List.{range_with_len, slice_index};
 ghost use Rattle.tabled_base.specs.declared.error.TableError.TheVariants.{Memory};
 ghost use Rattle.tabled_config.specs.Settings.{style_at};
-ghost use Rattle.tabled_grid.specs.ColumnStyles.{AreStyles};
+ghost use Rattle.tabled_grid.specs.ColumnStyles.{AreStyles, columns_in};
 ghost use Rattle.tabled_row.specs.Aims.{AreAims};
 ghost use Rattle.tabled_size.specs.Reached.{reached};
 
@@ -11,7 +11,7 @@ use crate::column_aims::ColumnAims;
 use std::alloc::Global;
 use tabled_base::TableError;
 use tabled_config::{CellStyle, SpannedConfig};
-use tabled_row::Aim;
+use tabled_row::CellAim;
 use tabled_size::Dimension;
 
 /// For more columns nothing is kept.
@@ -96,9 +96,9 @@ impl ColumnStyles {
     }
 
     /// Where the texts stand in a row of one line, if that is kept, and the row is known to be set like the one that is kept.
-    pub fn aims_in_row(&self, config: &SpannedConfig, row: usize) -> Option<&[Aim]>
+    pub fn aims_in_row(&self, config: &SpannedConfig, row: usize) -> Option<&[CellAim]>
         ensures { (width : ℕ → ℕ) (columns : ℕ) → AreStyles config.now width columns self.now
-            → IfSome result (λ aims. AreAims (style_at config.now row) width columns aims.now) }
+            → IfSome result (λ aims. AreAims (style_at config.now row) (columns_in config.now width columns) aims.now) }
     {
         match &self.aims {
             Some(aims) if config.are_alike(row, self.row) => Some(aims.listed()),

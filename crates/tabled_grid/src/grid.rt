@@ -7,6 +7,7 @@ ghost use Rattle.tabled_config.specs.RowStyles.{style_in};
 ghost use Rattle.tabled_config.specs.Settings.{frame, rule_at, style_at};
 ghost use Rattle.tabled_grid.specs.ColumnStyles.{AreStyles};
 ghost use Rattle.tabled_grid.specs.Grid.{sheet_by};
+ghost use Rattle.tabled_grid.specs.Picture.{columns_of};
 ghost use Rattle.tabled_row.specs.Aims.{AreAims, IsSpread};
 ghost use Rattle.tabled_size.specs.Holds.{IsSized};
 ghost use Rattle.tabled_size.specs.Reached.{reached};
@@ -17,7 +18,7 @@ use std::alloc::Global;
 use std::marker::Model;
 use tabled_base::{PeekableRecords, Position};
 use tabled_config::{CellStyle, Frame, HorizontalLine, RowStyles, SpannedConfig};
-use tabled_row::{Aim, CellBlock, Content, Gap, Spread};
+use tabled_row::{CellAim, CellBlock, Content, Gap, Spread};
 use tabled_size::Dimension;
 
 /// Records, how they are set, and their sizes. Contracts see the sheet that they make.
@@ -136,10 +137,9 @@ impl<'a, R: PeekableRecords, D: Dimension> Grid<'a, R, D> {
         self.config.styles_in(row)
     }
 
-    /// Where the texts of a row stand if it is of one line, if that is known for all of them.
-    pub fn aims(&self, row: usize) -> Option<&[Aim]>
-        ensures { IfSome result (λ aims.
-            AreAims (style_at self.now.config row) (slice_index self.now.widths) (columns self.now.cells) aims.now) }
+    /// Where the cells of a row begin and their texts stand if it is of one line, if that is known for all of them.
+    pub fn aims(&self, row: usize) -> Option<&[CellAim]>
+        ensures { IfSome result (λ aims. AreAims (style_at self.now.config row) (columns_of self.now) aims.now) }
     {
         self.by_column.as_ref()?.aims_in_row(self.config, row)
     }

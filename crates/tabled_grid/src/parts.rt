@@ -6,7 +6,7 @@ ghost use Rattle.tabled_size.specs.Holds.{IsSized};
 use crate::grid::Grid;
 use tabled_base::{PeekableRecords, Position};
 use tabled_config::{CellStyle, Frame, RowStyles};
-use tabled_row::{Aim, CellBlock, Columns, Content, Gap, Row, Spread};
+use tabled_row::{CellAim, CellBlock, Columns, Content, Gap, Row, Spread};
 use tabled_size::Dimension;
 
 /// The columns of a table whose sizes are there.
@@ -71,7 +71,7 @@ impl<'a, R: PeekableRecords, D: Dimension> Row<'a> for GridRow<'a, R, D> {
         self.grid.styles(self.row)
     }
 
-    fn aims(&self) -> Option<&[Aim]> {
+    fn aims(&self) -> Option<&[CellAim]> {
         self.grid.aims(self.row)
     }
 

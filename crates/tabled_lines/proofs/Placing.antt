@@ -1,7 +1,8 @@
 -- Rows whose texts are laid where the cells stand.
-use Rattle.std.proofs.Common.{◌≡◌, ℕ, suc, ◌+◌, ◌<◌, List, length, get_or, refl, sym, ◌∙◌, ap, subst, arith}
+use Rattle.std.proofs.Common.{◌≡◌, ℕ, zero, suc, ◌+◌, ◌<◌, List, length, get_or, refl, sym, ◌∙◌, ap, subst, arith}
 use Rattle.std.proofs.lemmas.List.FromFn.{get_or-map-range_with_len, length-map-range_with_len}
 use Rattle.tabled_row.specs.Fill.{fill}
+use Rattle.tabled_row.specs.Places.{place_from}
 use Rattle.tabled_row.specs.Row.{ColumnSheet, RowSheet, piece, row_line}
 use Rattle.tabled_lines.specs.Laid.{StandsAt, blank_row, first_place}
 use Rattle.tabled_lines.specs.Spots.{AreSpots, place_at, spot_at}
@@ -18,6 +19,11 @@ pub spot-is : (columns : ColumnSheet) (spots : List Spot) (column : ℕ) → Are
 spot-is columns spots column are within =
     ap (λ s. get_or s column (record { place = 0; width = 0 })) are
     ∙ get_or-map-range_with_len (spot_at columns) 0 columns.count column column (record { place = 0; width = 0 }) within (omega arith)
+
+-- a cell begins as far behind the first one wherever that begins
+pub place-behind : (first : ℕ) (columns : ColumnSheet) (column : ℕ) → first + place_from 0 columns column ≡ place_from first columns column
+place-behind first columns zero = omega arith
+place-behind first columns (suc column) = omega (arith, place-behind first columns column)
 
 -- ---- a row while its texts are laid, up to a column whose cell stands at its spot
 

@@ -1,11 +1,11 @@
 //! The texts of a row of one line, laid over a blank one where they stand.
-ghost use Rattle.std.specs.Prelude.{◌≡◌, List, ℕ, ◌+◌, ◌≤◌, ◌++◌, IsUtf8, drop, length, take, true};
-ghost use Rattle.tabled_lines.specs.Laid.{StandsAt, blank_row};
-ghost use Rattle.tabled_lines.specs.Spots.{AreSpots};
+ghost use Rattle.std.specs.Prelude.{◌≡◌, List, ℕ, ◌+◌, ◌≤◌, ◌<◌, ◌^◌, ◌++◌, IsUtf8, drop, length, take, true};
+ghost use Rattle.tabled_lines.specs.Laid.{StandsAt, blank_row, first_place};
+ghost use Rattle.tabled_lines.specs.Spots.{AreSpots, place_at, spot_at};
 ghost use Rattle.tabled_row.specs.Fill.{fill};
 ghost use Rattle.tabled_row.specs.Row.{row_line};
 
-use crate::spots::Spot;
+use crate::spots::{Spot, first_place};
 use tabled_row::{KeptAims, Placed, Row, SetAims, TellAims, place};
 
 /// Copies a text over some bytes of its length.
@@ -17,6 +17,32 @@ fn copy_at(line: &mut [u8], place: usize, text: &str)
 {
     let end = place + text.len();
     line[place..end].copy_from_slice(text.as_bytes());
+}
+
+/// Where the cell of a column stands: as it is told beside its aim, or else as it is listed.
+#[inline(always)]
+fn spot_of<'a, R: Row<'a>, A: TellAims>(
+    row: &R,
+    aims: &A,
+    listed: Spot,
+    first: usize,
+    column: usize,
+) -> Spot
+    requires tells { A.tells aims.now (R.sheet row.now) }
+    requires inside { column < (R.sheet row.now).columns.count }
+    requires listed { listed ≡ spot_at (R.sheet row.now).columns column }
+    requires first { first ≡ first_place (R.sheet row.now).columns }
+    requires fits { place_at (R.sheet row.now).columns column < 2 ^ 64 }
+    ensures { result ≡ spot_at (R.sheet row.now).columns column }
+{
+    let _row = row;
+    match aims.cell_place(column) {
+        Some(behind) => Spot {
+            place: first + behind,
+            ..listed
+        },
+        None => listed,
+    }
 }
 
 /// Lays a text over the blank columns of its cell. Answers whether it could be laid: only a text that takes as many bytes as columns is.
@@ -51,11 +77,13 @@ fn lay_texts<'a, R: Row<'a>, A: TellAims + Drop>(
     ensures laid { result ≡ true → line.new ≡ row_line (R.sheet row.now) 0 }
     ensures utf8 { IsUtf8 line.old → IsUtf8 line.new }
 {
+    let first = first_place(spots);
     'texts: for column in 0..spots.len() {
         let Some(placed) = place(row, &mut aims, column, spots[column].width) else {
             return false;
         };
-        if !lay_text(line, spots[column], &placed) {
+        let spot = spot_of(row, &aims, spots[column], first, column);
+        if !lay_text(line, spot, &placed) {
             return false;
         }
     }

@@ -1,3 +1,4 @@
+pub mod Aiming
 pub mod ApartLines
 pub mod Bars
 pub mod Blocks

@@ -5,8 +5,10 @@ use Rattle.tabled_border.specs.declared.sides.Indent.{Indent}
 use Rattle.tabled_border.specs.declared.sides.Sides.{Sides}
 use Rattle.tabled_config.specs.declared.spanned.CellStyle.{CellStyle}
 use Rattle.tabled_row.specs.Block.{text_room}
-use Rattle.tabled_row.specs.Row.{RowSheet}
+use Rattle.tabled_row.specs.Places.{place_from}
+use Rattle.tabled_row.specs.Row.{ColumnSheet, RowSheet}
 use Rattle.tabled_row.specs.declared.aim.Aim.{Aim}
+use Rattle.tabled_row.specs.declared.aim.CellAim.{CellAim}
 use Rattle.tabled_row.specs.declared.aim.Spread.{Spread}
 
 -- texts that are padded so stand between spaces, with no line above them
@@ -33,10 +35,14 @@ pub record IsAimed (style : CellStyle) (width : ℕ) : Type 0 where
   pub spaced : IsSpaced style.padding
   pub fits : style.padding.left.size + style.padding.right.size ≤ width
 
+-- where the cell of a column begins behind the left edge, and where its text stands
+abbrev pub cell_aim : (ℕ → CellStyle) → ColumnSheet → ℕ → CellAim
+cell_aim style columns column = record { place = place_from 0 columns column; aim = aim_of (style column) (columns.width column) }
+
 -- those of all columns
-pub record AreAims (style : ℕ → CellStyle) (width : ℕ → ℕ) (count : ℕ) (aims : List Aim) : Type 0 where
-  pub listed : aims ≡ map (λ column. aim_of (style column) (width column)) (range_with_len 0 count)
-  pub aimed : (column : ℕ) → column < count → IsAimed (style column) (width column)
+pub record AreAims (style : ℕ → CellStyle) (columns : ColumnSheet) (aims : List CellAim) : Type 0 where
+  pub listed : aims ≡ map (cell_aim style columns) (range_with_len 0 columns.count)
+  pub aimed : (column : ℕ) → column < columns.count → IsAimed (style column) (columns.width column)
 
 -- a style is one of texts between spaces, and how these stand is told
 pub record IsSpread (style : CellStyle) (spread : Spread) : Type 0 where

@@ -6,6 +6,7 @@ pub mod Fill
 pub mod Gap
 pub mod Leading
 pub mod Placed
+pub mod Places
 pub mod Plain
 pub mod Rooms
 pub mod Row

@@ -16,6 +16,13 @@ pub struct Aim {
     pub horizontal: AlignmentHorizontal,
 }
 
+/// Where a cell of a row of one line begins, in bytes behind the left edge if it and those before it are blank, and where its text stands.
+#[derive(Clone, Copy)]
+pub struct CellAim {
+    pub place: usize,
+    pub aim: Aim,
+}
+
 /// Whether texts that are padded so stand between spaces, with no line above.
 #[inline(always)]
 fn is_spaced(padding: &Sides<Indent>) -> bool

@@ -7,7 +7,7 @@ ghost use Rattle.tabled_row.specs.Cursors.{AreCursors};
 ghost use Rattle.tabled_row.specs.Row.{RowSheet, cell_block, cell_piece, row_line};
 ghost use Rattle.tabled_row.specs.Sent.{Sent, Writes};
 
-use crate::aim::{Aim, Spread};
+use crate::aim::{CellAim, Spread};
 use crate::block::CellBlock;
 use crate::content::Content;
 use crate::cursors::{Cursor, cursor_at, keep_cursor};
@@ -50,9 +50,9 @@ pub trait Row<'a> {
         ensures { (column : ℕ) → column < (sheet self.now).columns.count
             → style_in result column ≡ (sheet self.now).style column };
 
-    /// Where the texts of the columns stand if the row takes one line, if that is known for all of them.
-    fn aims(&self) -> Option<&[Aim]>
-        ensures { IfSome result (λ aims. AreAims (sheet self.now).style (sheet self.now).columns.width (sheet self.now).columns.count aims.now) };
+    /// Where the cells of the columns begin and their texts stand if the row takes one line, if that is known for all of them.
+    fn aims(&self) -> Option<&[CellAim]>
+        ensures { IfSome result (λ aims. AreAims (sheet self.now).style (sheet self.now).columns aims.now) };
 
     /// How many text columns a column takes, padding included.
     fn width(&self, column: usize) -> usize

@@ -5,7 +5,7 @@ ghost use Rattle.tabled_row.specs.Aims.{IsAimed, IsPadded, aim_of};
 ghost use Rattle.tabled_row.specs.Row.{RowSheet};
 ghost use Rattle.tabled_row.specs.Placed.{IsPlaced};
 
-use crate::aim::{Aim, Spread};
+use crate::aim::{Aim, CellAim, Spread};
 use crate::block::before_text;
 use crate::row::Row;
 use tabled_config::{AlignmentHorizontal, CellStyle, RowStyles};
@@ -26,6 +26,7 @@ pub struct Placed<'a> {
 /// What tells where the texts of a row of one line stand, from left to right.
 pub trait TellAims {
     ghost use Rattle.tabled_row.specs.Aims.{IsToldOf};
+    ghost use Rattle.tabled_row.specs.Places.{place_from};
     ghost use Rattle.tabled_row.specs.Row.{RowSheet};
 
     // What is told of a row is right.
@@ -38,6 +39,12 @@ pub trait TellAims {
             → IfSome result (λ aim. (aim ≡ aim_of (row.style column) width) × IsAimed (row.style column) width) }
         ensures same { (row : RowSheet) → tells self.old row → tells self.new row };
 
+    /// Where the cell of a column begins behind the left edge in a blank row, in bytes, if that is at hand.
+    fn cell_place(&self, column: usize) -> Option<usize>
+        requires { IsToldOf (tells self.now) column }
+        ensures { (row : RowSheet) → tells self.now row → column < row.columns.count
+            → IfSome result (λ place. place ≡ place_from 0 row.columns column) };
+
     /// How the text of a column stands, if that is at hand.
     fn style(&mut self, column: usize) -> Option<CellStyle>
         ensures style { (row : RowSheet) → tells self.old row → column < row.columns.count
@@ -45,14 +52,14 @@ pub trait TellAims {
         ensures same { (row : RowSheet) → tells self.old row → tells self.new row };
 }
 
-/// Where the texts of the columns stand, as it is kept for rows set alike.
+/// Where the cells of the columns begin and their texts stand, as it is kept for rows set alike.
 #[derive(Drop)]
-pub struct KeptAims<'a>(pub &'a [Aim]);
+pub struct KeptAims<'a>(pub &'a [CellAim]);
 
 impl<'a> KeptAims<'a> {
-    /// Where the text of a column stands.
+    /// Where the cell of a column begins, and its text stands.
     #[inline(always)]
-    fn aim(&self, column: usize) -> Aim
+    fn cell(&self, column: usize) -> CellAim
         requires { column < length self.now.0.now }
         ensures { slice_get self.now.0.now column ≡ Some result }
     {
@@ -63,11 +70,16 @@ impl<'a> KeptAims<'a> {
 impl<'a> TellAims for KeptAims<'a> {
     ghost use Rattle.tabled_row.specs.Aims.{AreAims};
 
-    ghost tells = { λ kept row. AreAims row.style row.columns.width row.columns.count kept.0.now };
+    ghost tells = { λ kept row. AreAims row.style row.columns kept.0.now };
 
     #[inline(always)]
     fn at(&mut self, column: usize, _width: usize) -> Option<Aim> {
-        Some(self.aim(column))
+        Some(self.cell(column).aim)
+    }
+
+    #[inline(always)]
+    fn cell_place(&self, column: usize) -> Option<usize> {
+        Some(self.cell(column).place)
     }
 
     fn style(&mut self, _column: usize) -> Option<CellStyle> {
@@ -85,6 +97,10 @@ impl TellAims for Spread {
     #[inline(always)]
     fn at(&mut self, _column: usize, width: usize) -> Option<Aim> {
         self.aim(width)
+    }
+
+    fn cell_place(&self, _column: usize) -> Option<usize> {
+        None
     }
 
     fn style(&mut self, _column: usize) -> Option<CellStyle> {
@@ -134,6 +150,10 @@ impl<'a> TellAims for SetAims<'a> {
         }
         let (padding, horizontal) = self.styles.beside(column);
         Spread::of(&padding, horizontal)?.aim(width)
+    }
+
+    fn cell_place(&self, _column: usize) -> Option<usize> {
+        None
     }
 
     fn style(&mut self, column: usize) -> Option<CellStyle> {

@@ -16,7 +16,7 @@ use std::borrow::CowStr;
 use tabled_base::{CellText, TableError, Text};
 use tabled_config::{CellStyle, Frame, RowStyles};
 use tabled_lines::Lines;
-use tabled_row::{Aim, CellBlock, Content, Cursor, FEW_CURSORS, Gap, Row, Spread, TextSink};
+use tabled_row::{CellAim, CellBlock, Content, Cursor, FEW_CURSORS, Gap, Row, Spread, TextSink};
 use tabled_text::cut_str;
 
 /// A row of a stream whose cells are cut; missing ones are empty.
@@ -59,7 +59,7 @@ impl<'a> Row<'a> for CutRow<'a> {
         RowStyles::Alike(self.layout.style)
     }
 
-    fn aims(&self) -> Option<&[Aim]> {
+    fn aims(&self) -> Option<&[CellAim]> {
         None
     }
 
