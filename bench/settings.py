@@ -1,7 +1,7 @@
 #!/usr/bin/env python3
 """Times the printing of tables with settings of their columns, rows or cells, of long cells, and with stored sizes.
 
-usage: settings.py [--instructions] [FOLDER]
+usage: settings.py [--instructions | --shares] [FOLDER]
 
 A small program is written into FOLDER (else a temporary folder) beside copies of the crates, built with
 `rt run`, and run. Printed are the medians and the shortest of its rounds: the time a printed byte, which may grow with no more
@@ -12,10 +12,13 @@ room from the second round on.
 Tables of words have 100 columns. An alignment or a padding was set for each column, for each row or for each cell by itself; in the
 stored ones the estimated sizes were stored. Long cells are of 5 to 15 columns; 1, 100 or 1,000 of them make a row.
 
-With --instructions the program runs under valgrind and prints tables of 1,000 rows; told are the instructions a cell.
+With --instructions the program runs under valgrind and prints tables of 1,000 rows; told are the instructions a cell. With --shares it
+prints them in interleaved runs, and the medians of their processor times are told as shares of that with nothing set: so what other machines of
+the same host take of its time doesn't count.
 """
 
 import collections
+import os
 import statistics
 import subprocess
 import sys
@@ -314,15 +317,37 @@ def tell_instructions(program):
             print(f"{kind:15} {sizes:9} {more / 2 / 1000 / COLUMNS:7.1f} instructions a cell")
 
 
+def processor_time(program, kind, sizes, rounds):
+    """The seconds of a processor that a run takes."""
+    child = os.fork()
+    if child == 0:
+        os.dup2(os.open(os.devnull, os.O_WRONLY), 1)
+        os.execv(program, [program, kind, sizes, str(rounds)])
+    _, status, usage = os.wait4(child, 0)
+    if status != 0:
+        sys.exit(f"{kind} {sizes} ended with {os.waitstatus_to_exitcode(status)}")
+    return usage.ru_utime + usage.ru_stime
+
+
+def tell_shares(program):
+    for sizes in ("estimated", "stored"):
+        found = collections.defaultdict(list)
+        for _ in range(9):
+            for kind in KINDS:
+                time = processor_time(program, kind, sizes, 220) - processor_time(program, kind, sizes, 20)
+                found[kind].append(time)
+        for kind in KINDS:
+            share = statistics.median(time / bare for time, bare in zip(found[kind], found["nothing"]))
+            print(f"{kind:15} {sizes:9} {share:5.2f} of the processor time of nothing set")
+
+
 def main():
-    counts = "--instructions" in sys.argv
-    sys.argv = [word for word in sys.argv if word != "--instructions"]
+    ways = {"--instructions": tell_instructions, "--shares": tell_shares}
+    asked = [word for word in sys.argv if word in ways]
+    sys.argv = [word for word in sys.argv if word not in ways]
     crates = building.standing_on("tabled_grid")
     with building.program(__doc__, "setting_times", crates, {"src/main.rt": PROGRAM}, USED) as program:
-        if counts:
-            tell_instructions(program)
-        else:
-            tell_times(program)
+        ways.get(asked[0] if asked else "", tell_times)(program)
 
 
 main()
