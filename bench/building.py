@@ -37,7 +37,8 @@ def build(folder, name, crates, files, used):
     (folder / "crates.txt").write_text("\n".join([*wanted, f"{name}: {' '.join(used)} anyhow"]) + "\n")
     shutil.copy(TOP / "HANDLES", folder)
     for crate in crates:
-        shutil.copytree(TOP / "crates" / crate, folder / "crates" / crate, dirs_exist_ok=True)
+        copy = folder / "crates" / crate
+        shutil.copytree(TOP / "crates" / crate, copy, ignore=shutil.ignore_patterns("out"), dirs_exist_ok=True)
     own = folder / "crates" / name
     for path, text in files.items():
         (own / path).parent.mkdir(parents=True, exist_ok=True)
