@@ -10,6 +10,12 @@ fn a_text_is_as_wide_as_its_widest_line(rt: HostRuntime) {
         ("a\nbcd\n", 3),
         ("😳", 2),
         ("e\u{301}", 1),
+        ("año 1", 5),
+        ("север ς", 7),
+        ("\u{430}\u{483}", 1),
+        ("\u{A0}山水", 5),
+        ("한글", 4),
+        ("中\u{3099}", 2),
     ];
     for (text, columns) in cases {
         assert_eq!(rt; text_width(text), columns, "at {text}");

@@ -22,8 +22,8 @@ const NO_AIM: CellAim = CellAim {
     },
 };
 
-/// Tells where the cells of a row begin and their texts stand if it is of one line. Answers whether each text stands between spaces, its padding
-/// fits, and numbers can say where the cells begin.
+/// Tells where the texts of a row stand if it is of one line. Answers whether each stands between spaces, its padding fits, and numbers can say
+/// where the cells begin.
 fn put_aims<D: Dimension>(
     aims: &mut [CellAim],
     config: &SpannedConfig,
@@ -44,13 +44,16 @@ fn put_aims<D: Dimension>(
         let Some(next) = next_place(place, width, bar) else {
             return false;
         };
-        aims[column] = CellAim { place, aim };
+        aims[column] = CellAim {
+            place: place + aim.before,
+            aim,
+        };
         place = next;
     }
     true
 }
 
-/// Where the cells of all columns begin and their texts stand: of a few in a room of fixed size, and else in memory.
+/// Where the texts of all columns stand: of a few in a room of fixed size, and else in memory.
 #[derive(Drop)]
 pub(crate) enum ColumnAims {
     Few(FewAims),

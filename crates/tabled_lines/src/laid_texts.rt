@@ -3,6 +3,7 @@ ghost use Rattle.std.specs.Prelude.{◌≡◌, List, ℕ, ◌+◌, ◌≤◌, �
 ghost use Rattle.tabled_lines.specs.Laid.{StandsAt, blank_row, first_place};
 ghost use Rattle.tabled_lines.specs.Spots.{AreSpots, place_at, spot_at};
 ghost use Rattle.tabled_row.specs.Fill.{fill};
+ghost use Rattle.tabled_row.specs.Placed.{IsPlaced};
 ghost use Rattle.tabled_row.specs.Row.{row_line};
 
 use crate::spots::{Spot, first_place};
@@ -19,35 +20,36 @@ fn copy_at(line: &mut [u8], place: usize, text: &str)
     line[place..end].copy_from_slice(text.as_bytes());
 }
 
-/// Where the cell of a column stands: as it is told beside its aim, or else as it is listed.
+/// Where the text of a column begins: in the columns that are told beside its aim, or else in its cell.
 #[inline(always)]
-fn spot_of<'a, R: Row<'a>, A: TellAims>(
+fn text_start<'a, R: Row<'a>, A: TellAims>(
     row: &R,
     aims: &A,
     listed: Spot,
     first: usize,
     column: usize,
-) -> Spot
+    placed: &Placed<'_>,
+) -> usize
     requires tells { A.tells aims.now (R.sheet row.now) }
     requires inside { column < (R.sheet row.now).columns.count }
     requires listed { listed ≡ spot_at (R.sheet row.now).columns column }
     requires first { first ≡ first_place (R.sheet row.now).columns }
-    requires fits { place_at (R.sheet row.now).columns column < 2 ^ 64 }
-    ensures { result ≡ spot_at (R.sheet row.now).columns column }
+    requires placed { IsPlaced (R.sheet row.now) column placed.now }
+    requires fits { place_at (R.sheet row.now).columns column + placed.now.before < 2 ^ 64 }
+    ensures { result ≡ place_at (R.sheet row.now).columns column + placed.now.before }
 {
     let _row = row;
-    match aims.cell_place(column) {
-        Some(behind) => Spot {
-            place: first + behind,
-            ..listed
-        },
-        None => listed,
+    match aims.room_place(column) {
+        Some(room) => first + room + placed.shift,
+        None => listed.place + placed.before,
     }
 }
 
-/// Lays a text over the blank columns of its cell. Answers whether it could be laid: only a text that takes as many bytes as columns is.
+/// Lays a text over the blank columns of its cell, from where it begins. Answers whether it could be laid: only a text that takes as many bytes as
+/// columns is.
 #[inline(always)]
-fn lay_text(line: &mut [u8], spot: Spot, placed: &Placed<'_>) -> bool
+fn lay_text(line: &mut [u8], spot: Spot, start: usize, placed: &Placed<'_>) -> bool
+    requires start { start ≡ spot.place + placed.now.before }
     requires whole { placed.now.before + (placed.now.columns + placed.now.behind) ≡ spot.width }
     requires blank { StandsAt line.old spot.place (fill 32 spot.width) }
     ensures laid { result ≡ true → (front back : List ℕ) → line.old ≡ front ++ (fill 32 spot.width ++ back) → spot.place ≡ length front
@@ -55,10 +57,11 @@ fn lay_text(line: &mut [u8], spot: Spot, placed: &Placed<'_>) -> bool
     ensures size { result ≡ true → length placed.now.text.now ≡ placed.now.columns }
     ensures utf8 { IsUtf8 line.old → IsUtf8 line.new }
 {
+    let _spot = spot;
     if placed.text.len() != placed.columns {
         return false;
     }
-    copy_at(line, spot.place + placed.before, placed.text);
+    copy_at(line, start, placed.text);
     true
 }
 
@@ -82,8 +85,9 @@ fn lay_texts<'a, R: Row<'a>, A: TellAims + Drop>(
         let Some(placed) = place(row, &mut aims, column, spots[column].width) else {
             return false;
         };
-        let spot = spot_of(row, &aims, spots[column], first, column);
-        if !lay_text(line, spot, &placed) {
+        let spot = spots[column];
+        let start = text_start(row, &aims, spot, first, column, &placed);
+        if !lay_text(line, spot, start, &placed) {
             return false;
         }
     }

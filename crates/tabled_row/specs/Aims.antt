@@ -35,9 +35,10 @@ pub record IsAimed (style : CellStyle) (width : ℕ) : Type 0 where
   pub spaced : IsSpaced style.padding
   pub fits : style.padding.left.size + style.padding.right.size ≤ width
 
--- where the cell of a column begins behind the left edge, and where its text stands
+-- where the columns that the padding leaves to a text begin behind the left edge, in bytes, and where the text stands
 abbrev pub cell_aim : (ℕ → CellStyle) → ColumnSheet → ℕ → CellAim
-cell_aim style columns column = record { place = place_from 0 columns column; aim = aim_of (style column) (columns.width column) }
+cell_aim style columns column =
+    record { place = place_from 0 columns column + (style column).padding.left.size; aim = aim_of (style column) (columns.width column) }
 
 -- those of all columns
 pub record AreAims (style : ℕ → CellStyle) (columns : ColumnSheet) (aims : List CellAim) : Type 0 where

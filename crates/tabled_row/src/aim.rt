@@ -16,7 +16,8 @@ pub struct Aim {
     pub horizontal: AlignmentHorizontal,
 }
 
-/// Where a cell of a row of one line begins, in bytes behind the left edge if it and those before it are blank, and where its text stands.
+/// Where the columns that the padding leaves to a text of a row of one line begin, in bytes behind the left edge if its cell and those before it are
+/// blank, and where the text stands.
 #[derive(Clone, Copy)]
 pub struct CellAim {
     pub place: usize,

@@ -1,5 +1,5 @@
 //! Where the texts of a row of one line stand, from left to right.
-ghost use Rattle.std.specs.Prelude.{◌≡◌, ◌<◌, ℕ, IfSome, Some, length, slice_get};
+ghost use Rattle.std.specs.Prelude.{◌≡◌, ◌+◌, ◌<◌, ℕ, IfSome, Some, length, slice_get};
 ghost use Rattle.tabled_config.specs.RowStyles.{style_in};
 ghost use Rattle.tabled_row.specs.Aims.{IsAimed, IsPadded, aim_of};
 ghost use Rattle.tabled_row.specs.Row.{RowSheet};
@@ -15,6 +15,8 @@ use tabled_config::{AlignmentHorizontal, CellStyle, RowStyles};
 pub struct Placed<'a> {
     /// The spaces before it.
     pub before: usize,
+    /// Those of them that stand behind the padding.
+    pub shift: usize,
     /// The line.
     pub text: &'a str,
     /// The columns that it takes.
@@ -39,11 +41,11 @@ pub trait TellAims {
             → IfSome result (λ aim. (aim ≡ aim_of (row.style column) width) × IsAimed (row.style column) width) }
         ensures same { (row : RowSheet) → tells self.old row → tells self.new row };
 
-    /// Where the cell of a column begins behind the left edge in a blank row, in bytes, if that is at hand.
-    fn cell_place(&self, column: usize) -> Option<usize>
+    /// Where the columns that the padding leaves to the text of a column begin behind the left edge in a blank row, in bytes, if that is at hand.
+    fn room_place(&self, column: usize) -> Option<usize>
         requires { IsToldOf (tells self.now) column }
         ensures { (row : RowSheet) → tells self.now row → column < row.columns.count
-            → IfSome result (λ place. place ≡ place_from 0 row.columns column) };
+            → IfSome result (λ place. place ≡ place_from 0 row.columns column + (row.style column).padding.left.size) };
 
     /// How the text of a column stands, if that is at hand.
     fn style(&mut self, column: usize) -> Option<CellStyle>
@@ -52,12 +54,12 @@ pub trait TellAims {
         ensures same { (row : RowSheet) → tells self.old row → tells self.new row };
 }
 
-/// Where the cells of the columns begin and their texts stand, as it is kept for rows set alike.
+/// Where the texts of the columns stand, as it is kept for rows set alike.
 #[derive(Drop)]
 pub struct KeptAims<'a>(pub &'a [CellAim]);
 
 impl<'a> KeptAims<'a> {
-    /// Where the cell of a column begins, and its text stands.
+    /// Where the text of a column stands.
     #[inline(always)]
     fn cell(&self, column: usize) -> CellAim
         requires { column < length self.now.0.now }
@@ -78,7 +80,7 @@ impl<'a> TellAims for KeptAims<'a> {
     }
 
     #[inline(always)]
-    fn cell_place(&self, column: usize) -> Option<usize> {
+    fn room_place(&self, column: usize) -> Option<usize> {
         Some(self.cell(column).place)
     }
 
@@ -99,7 +101,7 @@ impl TellAims for Spread {
         self.aim(width)
     }
 
-    fn cell_place(&self, _column: usize) -> Option<usize> {
+    fn room_place(&self, _column: usize) -> Option<usize> {
         None
     }
 
@@ -152,7 +154,7 @@ impl<'a> TellAims for SetAims<'a> {
         Spread::of(&padding, horizontal)?.aim(width)
     }
 
-    fn cell_place(&self, _column: usize) -> Option<usize> {
+    fn room_place(&self, _column: usize) -> Option<usize> {
         None
     }
 
@@ -183,9 +185,11 @@ pub fn place<'c, R: Row<'c>, A: TellAims>(
         return None;
     }
     let free = aim.room.checked_sub(columns)?;
-    let before = aim.before + before_text(aim.horizontal, free);
+    let shift = before_text(aim.horizontal, free);
+    let before = aim.before + shift;
     Some(Placed {
         before,
+        shift,
         text,
         columns,
         behind: width - before - columns,

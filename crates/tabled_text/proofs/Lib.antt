@@ -10,6 +10,7 @@ pub mod FewestLines
 pub mod Filling
 pub mod FitLemmas
 pub mod JoinLemmas
+pub mod LetterLemmas
 pub mod LongestLemmas
 pub mod OwnBreaking
 pub mod PlainLemmas

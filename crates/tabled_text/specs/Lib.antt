@@ -1,6 +1,7 @@
 pub mod Breaking
 pub mod Cut
 pub mod Expected
+pub mod Letters
 pub mod Lines
 pub mod Longest
 pub mod Measure

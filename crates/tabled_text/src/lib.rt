@@ -10,6 +10,7 @@ mod character;
 mod cut;
 mod fullest;
 pub mod laws;
+mod letters;
 mod line;
 mod measure;
 mod plain;

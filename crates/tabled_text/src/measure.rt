@@ -5,16 +5,20 @@ ghost use Rattle.std.specs.List.{list_all};
 ghost use Rattle.std.specs.Str.{IsCharBoundary};
 ghost use Rattle.tabled_text.specs.Measure.{lines_of, line_columns, text_columns};
 
+use crate::letters::letters_width;
 use crate::line::lines;
 use crate::runs::{BLOCK, is_run};
 use unicode_width::UnicodeWidthStr;
 
-/// The columns of a line, by `unicode_width`. The text is taken as one line, line feeds and all.
+/// The columns of a line, by `unicode_width`. The text is taken as one line, line feeds and all. Of letters alone they are told without a table.
 pub fn line_width(line: &str) -> usize
     ensures value { result ≡ line_columns line.now }
     ensures bound { result ≤ 2 * length line.now }
 {
-    line.width()
+    match letters_width(line) {
+        Some(columns) => columns,
+        None => line.width(),
+    }
 }
 
 /// The columns of a text: those of its widest line.

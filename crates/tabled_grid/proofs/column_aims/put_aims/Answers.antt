@@ -20,6 +20,11 @@ get_width-width-requires g c =
     let reaches : count ≤ length (reached (g.D.Dimension.width_at c.args.dimension.now) count) = c.requires in
     reached_there (g.D.Dimension.width_at c.args.dimension.now) count c.columns.column (omega (arith, reaches, c.columns-test.true))
 
+pub overflow_add-aims : goal.overflow_add-aims
+overflow_add-aims g c =
+    let found = c.in-Some.ensures in
+    omega (arith, ap (λ a. a.before) found.0, found.1.fits, c.in-Some-next_place.ensures)
+
 pub columns-preserved : goal.columns-preserved
 columns-preserved g c =
     let column = c.columns.column in
@@ -38,17 +43,20 @@ columns-preserved g c =
     found.0 ∙ ap (λ s. aim_of s c.get_width-width.result) c.style_at.ensures ∙ ap (aim_of (style column)) width in
     let own : IsAimed (style column) (slice_index widths column) =
     subst (IsAimed (style column)) width (subst (λ s. IsAimed s c.get_width-width.result) c.style_at.ensures found.1) in
-    let cell : at c.columns.place c.in-Some.aim ≡ f column =
-    ap (λ place. at place c.in-Some.aim) c.columns.invariant.next ∙ ap (at (place_from 0 sheet column)) aim in
+    let room : ℕ = c.columns.place + c.in-Some.aim.before in
+    let padding : c.in-Some.aim.before ≡ (style column).padding.left.size = ap (λ a. a.before) aim in
+    let begins : room ≡ place_from 0 sheet column + (style column).padding.left.size = omega (arith, c.columns.invariant.next, padding) in
+    let cell : at room c.in-Some.aim ≡ f column =
+    ap (λ place. at place c.in-Some.aim) begins ∙ ap (at (place_from 0 sheet column + (style column).padding.left.size)) aim in
     let bar : c.bar_length-bar.result ≡ length (piece sheet.frame.inner.there sheet.frame.inner.main) =
     c.bar_length-bar.ensures ∙ ap (λ f. length (piece f.inner.there f.inner.main)) c.frame.ensures in
     let further : column + 1 ≡ suc column = omega arith in
     let more : place_from 0 sheet (column + 1) ≡ place_from 0 sheet column + sheet.width column + length (piece sheet.frame.inner.there sheet.frame.inner.main) =
     ap (place_from 0 sheet) further in
     record {
-      same = length-set c.columns.aims column (at c.columns.place c.in-Some.aim) ∙ c.columns.invariant.same;
-      listed = take_more_set c.columns.aims column (at c.columns.place c.in-Some.aim) inside
-          ∙ ap (λ xs. xs ++ at c.columns.place c.in-Some.aim ∷ []) c.columns.invariant.listed
+      same = length-set c.columns.aims column (at room c.in-Some.aim) ∙ c.columns.invariant.same;
+      listed = take_more_set c.columns.aims column (at room c.in-Some.aim) inside
+          ∙ ap (λ xs. xs ++ at room c.in-Some.aim ∷ []) c.columns.invariant.listed
           ∙ ap (λ a. map f (range_with_len 0 column) ++ a ∷ []) cell ∙ sym (map-range_with_len_more f 0 column column (omega arith));
       aimed = λ k l. elim (cases_lt k column) [
         | inl lt ↦ c.columns.invariant.aimed k lt

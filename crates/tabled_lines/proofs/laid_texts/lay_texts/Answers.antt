@@ -21,21 +21,23 @@ place-requires g c = λ κs.
     let spot = spot-is rs.columns c.args.spots.now c.texts.column c.requires.spots within in
     ((refl, tt), (c.texts.invariant.tells, (within, (ap (λ s. s.width) spot, c.requires.height))))
 
-pub spot_of-spot-requires : goal.spot_of-spot-requires
-spot_of-spot-requires g c = λ κs.
+pub text_start-start-requires : goal.text_start-start-requires
+text_start-start-requires g c = λ κs.
     let rs = g.R.Row.sheet c.args.row.now in
     let within : c.texts.column < rs.columns.count = omega (arith, c.texts-test.true, spots-count rs.columns c.args.spots.now c.requires.spots) in
     let listed = spot-is rs.columns c.args.spots.now c.texts.column c.requires.spots within in
     let first = c.first_place-first.ensures rs.columns c.requires.spots (omega (arith, within)) in
     let long = stands-long _ (spot-stands c.texts.invariant.laid within) in
-    ((refl, tt), (c.in-Some.ensures.tells, (within, (listed, (first, omega (arith, long))))))
+    let known = c.in-Some.ensures.placed in
+    ((refl, tt), (c.in-Some.ensures.tells, (within, (listed, (first, (known, omega (arith, long, known.whole)))))))
 
 pub lay_text-requires : goal.lay_text-requires
 lay_text-requires g c =
     let rs = g.R.Row.sheet c.args.row.now in
     let within : c.texts.column < rs.columns.count = omega (arith, c.texts-test.true, spots-count rs.columns c.args.spots.now c.requires.spots) in
-    let spot = c.spot_of-spot.ensures in
+    let spot = spot-is rs.columns c.args.spots.now c.texts.column c.requires.spots within in
     record {
+      start = c.text_start-start.ensures ∙ ap (λ s. s.place + c.in-Some.placed.before) (sym spot);
       whole = c.in-Some.ensures.placed.whole ∙ sym (ap (λ s. s.width) spot);
       blank = subst (λ s. StandsAt c.texts.line s.place (fill 32 s.width)) (sym spot) (spot-stands c.texts.invariant.laid within);
     }
@@ -45,7 +47,7 @@ texts-preserved g c =
     let rs = g.R.Row.sheet c.args.row.now in
     let column = c.texts.column in
     let within : column < rs.columns.count = omega (arith, c.texts-test.true, spots-count rs.columns c.args.spots.now c.requires.spots) in
-    let spot = c.spot_of-spot.ensures in
+    let spot = spot-is rs.columns c.args.spots.now column c.requires.spots within in
     let begun = c.texts.invariant.laid in
     let placed = c.in-Some.placed in
     let known = c.in-Some.ensures.placed in

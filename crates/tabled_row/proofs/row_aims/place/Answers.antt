@@ -21,16 +21,17 @@ returns-clause-placed g c =
     let room : c.in_ok-aim.aim.room ≡ text_room style width = ap (λ a. a.room) aim.0 ∙ ap (text_room style) c.requires.width in
     let fits = c.in_ok-free.ensures in
     let free : c.in_ok-free.free ≡ free_of style width line = omega (arith, fits.0, fits.1, room, taken) in
-    let before : c.before_text.result ≡ before_text style.horizontal (free_of style width line) =
-    c.before_text.ensures ∙ ap (λ h. before_text h c.in_ok-free.free) (ap (λ a. a.horizontal) aim.0) ∙ ap (before_text style.horizontal) free in
-    let here : c.in_ok-aim.aim.before + c.before_text.result ≡ left_of style width line = omega (arith, pad, before) in
+    let before : c.before_text-shift.result ≡ before_text style.horizontal (free_of style width line) =
+    c.before_text-shift.ensures ∙ ap (λ h. before_text h c.in_ok-free.free) (ap (λ a. a.horizontal) aim.0) ∙ ap (before_text style.horizontal) free in
+    let here : c.in_ok-aim.aim.before + c.before_text-shift.result ≡ left_of style width line = omega (arith, pad, before) in
     let within = before-within style.horizontal (free_of style width line) in
-    let behind : c.args.width - (c.in_ok-aim.aim.before + c.before_text.result) - c.first_line-columns.result.1 ≡ right_of style width line =
+    let behind : c.args.width - (c.in_ok-aim.aim.before + c.before_text-shift.result) - c.first_line-columns.result.1 ≡ right_of style width line =
     omega (arith, here, within, taken, room, fits.0, aim.1.fits, c.requires.width) in
     record {
       line = first-spaced rs c.args.column c.requires.height aim.1.spaced widest
           ∙ ap (λ n. fill 32 n ++ (line ++ fill 32 (right_of style width line))) (sym here)
-          ∙ ap (λ n. fill 32 (c.in_ok-aim.aim.before + c.before_text.result) ++ (line ++ fill 32 n)) (sym behind)
-          ∙ ap (λ t. fill 32 (c.in_ok-aim.aim.before + c.before_text.result) ++ (t ++ fill 32 (c.args.width - (c.in_ok-aim.aim.before + c.before_text.result) - c.first_line-columns.result.1))) (sym same);
+          ∙ ap (λ n. fill 32 (c.in_ok-aim.aim.before + c.before_text-shift.result) ++ (line ++ fill 32 n)) (sym behind)
+          ∙ ap (λ t. fill 32 (c.in_ok-aim.aim.before + c.before_text-shift.result) ++ (t ++ fill 32 (c.args.width - (c.in_ok-aim.aim.before + c.before_text-shift.result) - c.first_line-columns.result.1))) (sym same);
       whole = omega (arith, behind, here, within, taken, room, fits.0, aim.1.fits, c.requires.width);
+      shifted = ap (λ n. n + c.before_text-shift.result) pad;
     }

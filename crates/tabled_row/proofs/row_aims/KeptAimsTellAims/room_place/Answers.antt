@@ -1,6 +1,6 @@
 use Rattle.std.proofs.Common.{ap}
 use Rattle.tabled_row.proofs.Aiming.{cell-told, told-within}
-use Rattle.tabled_row.proofs.row_aims.KeptAimsTellAims.cell_place.Goals as goal
+use Rattle.tabled_row.proofs.row_aims.KeptAimsTellAims.room_place.Goals as goal
 
 pub cell-requires : goal.cell-requires
 cell-requires c = told-within c.requires.told c.requires.inside

@@ -1,0 +1,225 @@
+-- What letters take, by the tables of `unicode_width`.
+use Rattle.std.proofs.Common.{◌≡◌, ℕ, ◌+◌, ◌-◌, ◌*◌, ◌/◌, ◌≤◌, ◌<◌, Bool, true, false, cond, not, ◌||◌, ◌&&◌, nat_le, nat_lt, List, [], ◌∷◌, ◌++◌, get_or, refl, inl, inr, ap, sym, ◌∙◌, arith, lit<, ⊎_elim}
+use Rattle.std.specs.Char.{encode_utf8}
+use Rattle.std.specs.Int.{is_in_range}
+use Rattle.std.proofs.lemmas.Bool.{and_from, and_parts, cases_lt, le-leb, leb-true, lt-ltb, or_cases, or_left, or_right}
+use Rattle.std.proofs.lemmas.Bool.Decides.{nat_tests}
+use Rattle.ucd_table.specs.Rows.{Range, in_ranges}
+use Rattle.ucd_table.proofs.Computing.{tables}
+use Rattle.ucd_table.proofs.Facts.{Stepped-always}
+use Rattle.ucd_table.proofs.Stepped.{of_ranges, zip_stepped}
+use Rattle.unicode_width.specs.declared.kind.Kind.{Kind}
+use Rattle.unicode_width.specs.declared.kind.Kind.TheVariants.{Narrow, Wide, Ambiguous}
+use Rattle.unicode_width.specs.Kind.{kind}
+use Rattle.unicode_width.specs.Width.{alone, char_width, of_kind}
+use Rattle.unicode_width.proofs.KindLemmas.{kind_stepped}
+use Rattle.unicode_width.proofs.Rules.{is_simple, is_simple_kind}
+use Rattle.tabled_text.specs.Letters.{IsLetter, is_narrow_lead, is_wide_lead, lead_byte}
+use Rattle.tabled_text.specs.Measure.{char_columns}
+
+is_narrow : Kind → Bool
+is_narrow Narrow = true
+is_narrow Ambiguous = true
+is_narrow _ = false
+
+is_wide : Kind → Bool
+is_wide Wide = true
+is_wide _ = false
+
+abbrev narrow_ranges : List Range
+narrow_ranges = (0xC0, 0x2FF) ∷ (0x380, 0x47F) ∷ []
+
+abbrev wide_ranges : List Range
+wide_ranges = (0x4000, 0x9FFF) ∷ []
+
+are-narrow : (c : ℕ) → c ≤ 0x10_FFFF → (not (in_ranges narrow_ranges c) || is_narrow (kind c)) ≡ true
+unfolding tables kind_stepped is_narrow
+are-narrow c within =
+    Stepped-always (λ c. not (in_ranges narrow_ranges c) || is_narrow (kind c))
+    (zip_stepped (λ inside k. not inside || is_narrow k) (in_ranges narrow_ranges) kind (of_ranges narrow_ranges refl) kind_stepped) refl c within
+
+are-wide : (c : ℕ) → c ≤ 0x10_FFFF → (not (in_ranges wide_ranges c) || is_wide (kind c)) ≡ true
+unfolding tables kind_stepped is_wide
+are-wide c within =
+    Stepped-always (λ c. not (in_ranges wide_ranges c) || is_wide (kind c))
+    (zip_stepped (λ inside k. not inside || is_wide k) (in_ranges wide_ranges) kind (of_ranges wide_ranges refl) kind_stepped) refl c within
+
+-- what a test of ranges lets through
+passed : (inside ok : Bool) → (not inside || ok) ≡ true → inside ≡ true → ok ≡ true
+passed true ok h i = h
+passed false ok h i = cc
+
+narrow-columns : (c : ℕ) (k : Kind) → is_narrow k ≡ true → (of_kind false c k).0 ≡ 1
+unfolding is_narrow
+narrow-columns c Narrow h = refl
+narrow-columns c Ambiguous h = refl
+narrow-columns c _ h = cc
+
+wide-columns : (c : ℕ) (k : Kind) → is_wide k ≡ true → (of_kind false c k).0 ≡ 2
+unfolding is_wide
+wide-columns c Wide h = refl
+wide-columns c _ h = cc
+
+narrow-simple : (k : Kind) → is_narrow k ≡ true → is_simple_kind k ≡ true
+unfolding is_narrow
+narrow-simple Narrow h = refl
+narrow-simple Ambiguous h = refl
+narrow-simple _ h = cc
+
+wide-simple : (k : Kind) → is_wide k ≡ true → is_simple_kind k ≡ true
+unfolding is_wide
+wide-simple Wide h = refl
+wide-simple _ h = cc
+
+simple-high : (c : ℕ) → 0xA0 < c → is_simple_kind (kind c) ≡ true → is_simple c ≡ true
+simple-high c high simple =
+    or_right (is_in_range 0x20 0x7E c) (nat_lt 0xA0 c && is_simple_kind (kind c))
+    (and_from (nat_lt 0xA0 c) (is_simple_kind (kind c)) (lt-ltb 0xA0 c high) simple)
+
+-- the columns of a character above U+00A0 are those of its kind
+columns-high : (c : ℕ) → 0xA0 < c → char_columns c ≡ (of_kind false c (kind c)).0
+unfolding char_width alone
+columns-high c high = grind (arith, nat_tests)
+
+printable : (c : ℕ) → is_in_range 0x20 0x7E c ≡ true → char_columns c ≡ 1
+unfolding char_width
+printable c h = grind (arith, nat_tests)
+
+-- the first byte of a character, alone and before others
+lead-is : (c : ℕ) → lead_byte c ≡ cond (nat_lt c 128) c (cond (nat_lt c 2048) (192 + c / 64) (cond (nat_lt c 65536) (224 + c / 4096) (240 + c / 262144)))
+unfolding encode_utf8
+lead-is c = join (nat_lt c 128) (nat_lt c 2048) (nat_lt c 65536) c (192 + c / 64) (224 + c / 4096) (240 + c / 262144) _ _ _
+  where
+    join : (x y z : Bool) (i j k l : ℕ) (js ks ls : List ℕ)
+        → get_or (cond x (i ∷ []) (cond y (j ∷ js) (cond z (k ∷ ks) (l ∷ ls)))) 0 0 ≡ cond x i (cond y j (cond z k l))
+    join true y z i j k l js ks ls = refl
+    join false true z i j k l js ks ls = refl
+    join false false true i j k l js ks ls = refl
+    join false false false i j k l js ks ls = refl
+
+pub lead-here : (c : ℕ) (rest : List ℕ) → get_or (encode_utf8 c ++ rest) 0 0 ≡ lead_byte c
+unfolding encode_utf8
+lead-here c rest = join (nat_lt c 128) (nat_lt c 2048) (nat_lt c 65536) _ _ _ _ _ _ _
+  where
+    join : (x y z : Bool) (i j k l : ℕ) (js ks ls : List ℕ)
+        → get_or (cond x (i ∷ []) (cond y (j ∷ js) (cond z (k ∷ ks) (l ∷ ls))) ++ rest) 0 0
+        ≡ get_or (cond x (i ∷ []) (cond y (j ∷ js) (cond z (k ∷ ks) (l ∷ ls)))) 0 0
+    join true y z i j k l js ks ls = refl
+    join false true z i j k l js ks ls = refl
+    join false false true i j k l js ks ls = refl
+    join false false false i j k l js ks ls = refl
+
+not-below : (m n : ℕ) → n ≤ m → nat_lt m n ≡ false
+not-below m n h = grind (arith, nat_tests)
+
+-- how many bytes a character takes tells its first one
+record IsLed (c lead : ℕ) : Type 0 where
+  one : c < 128 → lead ≡ c
+  two : 128 ≤ c → c < 2048 → lead ≡ 192 + c / 64
+  three : 2048 ≤ c → c < 65536 → lead ≡ 224 + c / 4096
+  four : 65536 ≤ c → 240 ≤ lead
+
+led : (c : ℕ) → IsLed c (lead_byte c)
+led c =
+    record {
+      one = λ a. lead-is c ∙ ap (λ t. cond t c (cond (nat_lt c 2048) (192 + c / 64) (cond (nat_lt c 65536) (224 + c / 4096) (240 + c / 262144)))) (lt-ltb c 128 a);
+      two = λ a b. past c a ∙ ap (λ t. cond t (192 + c / 64) (cond (nat_lt c 65536) (224 + c / 4096) (240 + c / 262144))) (lt-ltb c 2048 b);
+      three = λ a b. past_two c a ∙ ap (λ t. cond t (224 + c / 4096) (240 + c / 262144)) (lt-ltb c 65536 b);
+      four = λ a. (let e = past_two c (omega arith) ∙ ap (λ t. cond t (224 + c / 4096) (240 + c / 262144)) (not-below c 65536 a) in omega (arith, e));
+    }
+  where
+    past : (c : ℕ) → 128 ≤ c → lead_byte c ≡ cond (nat_lt c 2048) (192 + c / 64) (cond (nat_lt c 65536) (224 + c / 4096) (240 + c / 262144))
+    past c a =
+        lead-is c ∙ ap (λ t. cond t c (cond (nat_lt c 2048) (192 + c / 64) (cond (nat_lt c 65536) (224 + c / 4096) (240 + c / 262144)))) (not-below c 128 a)
+
+    past_two : (c : ℕ) → 2048 ≤ c → lead_byte c ≡ cond (nat_lt c 65536) (224 + c / 4096) (240 + c / 262144)
+    past_two c a =
+        past c (omega arith) ∙ ap (λ t. cond t (192 + c / 64) (cond (nat_lt c 65536) (224 + c / 4096) (240 + c / 262144))) (not-below c 2048 a)
+
+-- printable ASCII is its first byte
+ascii-led : (c lead : ℕ) → IsLed c lead → lead < 128 → lead ≡ c
+ascii-led c lead h a = elim (cases_lt c 128) [
+  | inl lt ↦ h.one lt
+  | inr ge ↦ elim (cases_lt c 2048) [
+    | inl below ↦ omega (arith, h.two ge below, a)
+    | inr above ↦ elim (cases_lt c 65536) [
+      | inl below ↦ omega (arith, h.three above below, a)
+      | inr most ↦ omega (arith, h.four most, a)
+    ]
+  ]
+]
+
+-- the first of two bytes tells 64 characters
+two-led : (c lead : ℕ) → IsLed c lead → 192 ≤ lead → lead < 224 → ((lead - 192) * 64 ≤ c) × (c < (lead - 191) * 64)
+two-led c lead h low high = elim (cases_lt c 128) [
+  | inl lt ↦ (omega (arith, h.one lt, low, lt), omega (arith, h.one lt, low, lt))
+  | inr ge ↦ elim (cases_lt c 2048) [
+    | inl below ↦ (omega (arith, h.two ge below), omega (arith, h.two ge below))
+    | inr above ↦ elim (cases_lt c 65536) [
+      | inl below ↦ (omega (arith, h.three above below, high), omega (arith, h.three above below, high))
+      | inr most ↦ (omega (arith, h.four most, high), omega (arith, h.four most, high))
+    ]
+  ]
+]
+
+-- and that of three 4,096
+three-led : (c lead : ℕ) → IsLed c lead → 224 ≤ lead → lead < 240 → ((lead - 224) * 4096 ≤ c) × (c < (lead - 223) * 4096)
+three-led c lead h low high = elim (cases_lt c 128) [
+  | inl lt ↦ (omega (arith, h.one lt, low, lt), omega (arith, h.one lt, low, lt))
+  | inr ge ↦ elim (cases_lt c 2048) [
+    | inl below ↦ (omega (arith, h.two ge below, low, below), omega (arith, h.two ge below, low, below))
+    | inr above ↦ elim (cases_lt c 65536) [
+      | inl below ↦ (omega (arith, h.three above below), omega (arith, h.three above below))
+      | inr most ↦ (omega (arith, h.four most, high), omega (arith, h.four most, high))
+    ]
+  ]
+]
+
+narrow-high : (c : ℕ) → in_ranges narrow_ranges c ≡ true → 0xA0 < c → c ≤ 0x10_FFFF → IsLetter c 1
+narrow-high c inside high within =
+    let is = passed (in_ranges narrow_ranges c) (is_narrow (kind c)) (are-narrow c within) inside in
+    record { simple = simple-high c high (narrow-simple (kind c) is); columns = columns-high c high ∙ narrow-columns c (kind c) is; few = lit< tt }
+
+in-first : (a b x : ℕ) (rest : List Range) → a ≤ x → x ≤ b → in_ranges ((a, b) ∷ rest) x ≡ true
+unfolding in_ranges
+in-first a b x rest low high = or_left (is_in_range a b x) (in_ranges rest x) (and_from (nat_le a x) (nat_le x b) (le-leb a x low) (le-leb x b high))
+
+in-later : (r : Range) (rest : List Range) (x : ℕ) → in_ranges rest x ≡ true → in_ranges (r ∷ rest) x ≡ true
+unfolding in_ranges
+in-later r rest x h = or_right (is_in_range r.0 r.1 x) (in_ranges rest x) h
+
+pub narrow-letter : (c : ℕ) → is_narrow_lead (lead_byte c) ≡ true → IsLetter c 1
+narrow-letter c h =
+    let lead = lead_byte c in
+    ⊎_elim (λ ascii.
+    let parts = and_parts (nat_le 0x20 lead) (nat_le lead 0x7E) ascii in
+    let m = leb-true lead 0x7E parts.1 in
+    let same = ascii-led c lead (led c) (omega arith) in
+    let printed : is_in_range 0x20 0x7E c ≡ true = sym (ap (is_in_range 0x20 0x7E) same) ∙ ascii in
+    record { simple = or_left (is_in_range 0x20 0x7E c) (nat_lt 0xA0 c && is_simple_kind (kind c)) printed; columns = printable c printed; few = lit< tt })
+    (λ above. ⊎_elim (λ latin.
+    let parts = and_parts (nat_le 0xC3 lead) (nat_le lead 0xCB) latin in
+    let l = leb-true 0xC3 lead parts.0 in
+    let m = leb-true lead 0xCB parts.1 in
+    let ends = two-led c lead (led c) (omega arith) (omega arith) in
+    narrow-high c (in-first 0xC0 0x2FF c ((0x380, 0x47F) ∷ []) (omega (arith, ends)) (omega (arith, ends))) (omega (arith, ends)) (omega (arith, ends)))
+    (λ later.
+    let parts = and_parts (nat_le 0xCE lead) (nat_le lead 0xD1) later in
+    let l = leb-true 0xCE lead parts.0 in
+    let m = leb-true lead 0xD1 parts.1 in
+    let ends = two-led c lead (led c) (omega arith) (omega arith) in
+    narrow-high c (in-later (0xC0, 0x2FF) ((0x380, 0x47F) ∷ []) c (in-first 0x380 0x47F c [] (omega (arith, ends)) (omega (arith, ends)))) (omega (arith, ends)) (omega (arith, ends)))
+    (or_cases (is_in_range 0xC3 0xCB lead) (is_in_range 0xCE 0xD1 lead) above))
+    (or_cases (is_in_range 0x20 0x7E lead) (is_in_range 0xC3 0xCB lead || is_in_range 0xCE 0xD1 lead) h)
+
+pub wide-letter : (c : ℕ) → is_wide_lead (lead_byte c) ≡ true → IsLetter c 2
+wide-letter c h =
+    let lead = lead_byte c in
+    let parts = and_parts (nat_le 0xE4 lead) (nat_le lead 0xE9) h in
+    let l = leb-true 0xE4 lead parts.0 in
+    let m = leb-true lead 0xE9 parts.1 in
+    let ends = three-led c lead (led c) (omega arith) (omega arith) in
+    let high : 0xA0 < c = omega (arith, ends) in
+    let is = passed (in_ranges wide_ranges c) (is_wide (kind c)) (are-wide c (omega (arith, ends)))
+    (in-first 0x4000 0x9FFF c [] (omega (arith, ends)) (omega (arith, ends))) in
+    record { simple = simple-high c high (wide-simple (kind c) is); columns = columns-high c high ∙ wide-columns c (kind c) is; few = lit< tt }

@@ -1,0 +1,24 @@
+-- Letters that take the same columns wherever they stand, and what their first bytes tell of them.
+use Rattle.std.specs.Prelude.{◌≡◌, ◌≤◌, ◌||◌, ℕ, Bool, true, encode_utf8}
+use Rattle.std.specs.Int.{is_in_range}
+use Rattle.std.specs.List.{slice_index_or}
+use Rattle.unicode_width.proofs.Rules.{is_simple}
+use Rattle.tabled_text.specs.Measure.{char_columns}
+
+-- the first byte of a character
+abbrev pub lead_byte : ℕ → ℕ
+lead_byte c = slice_index_or (encode_utf8 c) 0 0
+
+-- one of printable ASCII, or of the Latin, Greek and Cyrillic letters from U+00C0 to U+02FF and from U+0380 to U+047F
+abbrev pub is_narrow_lead : ℕ → Bool
+is_narrow_lead lead = is_in_range 0x20 0x7E lead || (is_in_range 0xC3 0xCB lead || is_in_range 0xCE 0xD1 lead)
+
+-- one of the ideographs from U+4000 to U+9FFF
+abbrev pub is_wide_lead : ℕ → Bool
+is_wide_lead lead = is_in_range 0xE4 0xE9 lead
+
+-- a character that ends no special sequence of `unicode_width` takes n columns
+pub record IsLetter (c n : ℕ) : Type 0 where
+  pub simple : is_simple c ≡ true
+  pub columns : char_columns c ≡ n
+  pub few : n ≤ 2
