@@ -5,10 +5,10 @@ usage: compare.py [--rounds N] [--baseline PROGRAM] [--plans] [--with NAME=COMMA
 
 PROGRAM is the built `tabprint`, FOLDER holds the files of generate.py. Each program reads a file on
 standard input; its output goes to the null device. Printed are, for each file, the shortest and the
-median of the processor time (user and system) and the median of the peak memory, and the first and the
-last of them as multiples of the baseline's, a program written by hand for this one job, or of PROGRAM's
-where none is given; then whether the bars hold: at least five times as fast as `column`, at most the
-bytes of the input, 48 bytes a cell and 16 MB of memory, and the shares of the baseline below. With
+median of the processor time (user and system) and the median of the peak memory, each as a multiple of the
+baseline's, a program written by hand for this one job, or of PROGRAM's where none is given; then whether the
+bars hold, by the medians: at least five times as fast as `column`, at most the bytes of the input, 48 bytes a
+cell and 16 MB of memory, and the shares of the baseline below. With
 --plans PROGRAM runs under each of its plans too: wrapped, wrapped with words kept, and cut to half of
 the columns that the table takes by itself, and streamed.
 """
@@ -24,7 +24,7 @@ import tempfile
 
 COLUMN = ["column", "-t", "-s", "\t"]
 
-# The shares of the baseline's processor time that PROGRAM may take, and that of its peak memory.
+# The shares of the baseline's processor time that PROGRAM may take by the medians, and that of its peak memory.
 TIMES = {"short": 0.60, "long": 0.75, "mixed": 0.80, "wide": 0.60}
 MEMORY = 0.60
 
@@ -101,13 +101,13 @@ def rounds_of(launch, path, programs, rounds):
 
 def holds(path, found):
     """Whether the bars hold that the given programs allow to judge."""
-    shortest, median, peak = found["tabprint"]
+    _, median, peak = found["tabprint"]
     answers = {
         "five times as fast as column": found["column"][1] >= 5 * median,
         "memory": peak <= path.stat().st_size + 48 * cells(path) + 16_000_000,
     }
     if "baseline" in found:
-        answers["time to the baseline"] = shortest <= TIMES.get(path.stem, 1) * found["baseline"][0]
+        answers["time to the baseline"] = median <= TIMES.get(path.stem, 1) * found["baseline"][1]
         answers["memory to the baseline"] = peak <= MEMORY * found["baseline"][2]
     print("  " + "; ".join(f"{bar}: {'yes' if kept else 'NO'}" for bar, kept in answers.items()))
     return all(answers.values())
@@ -140,7 +140,7 @@ def compare(launch, path, programs, rounds):
     print(f"{path.name}: {path.stat().st_size} bytes, {cells(path)} cells")
     for name, (shortest, median, peak) in found.items():
         print(
-            f"  {name:12} {shortest * 1e3:8.1f} ms  x{shortest / unit[0]:6.2f}  median {median * 1e3:8.1f} ms"
+            f"  {name:12} {shortest * 1e3:8.1f} ms  x{shortest / unit[0]:6.2f}  median {median * 1e3:8.1f} ms  x{median / unit[1]:6.2f}"
             f"  {peak / 1e6:8.1f} MB  x{peak / unit[2]:6.2f}"
         )
     return holds(path, found)
@@ -148,7 +148,7 @@ def compare(launch, path, programs, rounds):
 
 def main():
     parser = argparse.ArgumentParser()
-    parser.add_argument("--rounds", type=int, default=9)
+    parser.add_argument("--rounds", type=int, default=15)
     parser.add_argument("--baseline")
     parser.add_argument("--plans", action="store_true")
     parser.add_argument("--with", action="append", default=[], dest="others")

@@ -1,7 +1,7 @@
 #!/usr/bin/env python3
 """Times the printing of tables with settings of their columns, rows or cells, of long cells, and with stored sizes.
 
-usage: settings.py [--instructions | --shares] [FOLDER]
+usage: settings.py [--instructions | --shares] [--columns N] [FOLDER]
 
 A small program is written into FOLDER (else a temporary folder) beside copies of the crates, built with
 `rt run`, and run. Printed are the medians and the shortest of its rounds: the time a printed byte, which may grow with no more
@@ -9,12 +9,12 @@ than the logarithm of the settings, and the time a row of the table or a line of
 same where printing is linear; then the time that a setting took. Tables are printed into a text that has
 room from the second round on.
 
-Tables of words have 100 columns. An alignment or a padding was set for each column, for each row or for each cell by itself; in the
-stored ones the estimated sizes were stored. Long cells are of 5 to 15 columns; 1, 100 or 1,000 of them make a row.
+Tables of words have N columns, 100 if nothing is said. An alignment or a padding was set for each column, for each row or for each cell by itself, or one of 3 or 4
+columns for all cells; in the stored ones the estimated sizes were stored. Long cells are of 5 to 15 columns; 1, 100 or 1,000 of them make a row.
 
 With --instructions the program runs under valgrind and prints tables of 1,000 rows; told are the instructions a cell. With --shares it
-prints them in interleaved runs, and the medians of their processor times are told as shares of that with nothing set: so what other machines of
-the same host take of its time doesn't count.
+prints them in interleaved runs, and the medians of their processor times are told as shares of that of the table with nothing set for a part that
+prints as many bytes: so what other machines of the same host take of its time doesn't count.
 """
 
 import collections
@@ -25,9 +25,24 @@ import sys
 
 import building
 
-# Of the tables of words, and what is set in them; the program has the same.
+# The columns of the tables of words, if nothing is said.
 COLUMNS = 100
-KINDS = ("nothing", "aligned,columns", "padded,columns", "aligned,rows", "padded,rows", "aligned,cells", "padded,cells")
+
+# What is set in them; the program has the same.
+KINDS = (
+    "nothing",
+    "all,3",
+    "all,4",
+    "aligned,columns",
+    "padded,columns",
+    "aligned,rows",
+    "padded,rows",
+    "aligned,cells",
+    "padded,cells",
+)
+
+# The table with nothing set for a part, only a padding of so many columns for all cells, that prints as many bytes.
+ALIKE = {"padded,columns": "all,3", "padded,rows": "all,4", "padded,cells": "all,4"}
 
 # The crates that the program names.
 USED = ("tabled_grid", "tabled_size", "tabled_config", "tabled_border", "tabled_base")
@@ -47,10 +62,12 @@ use tabled_size::{CompleteDimension, Estimate};
 
 const ROUNDS: usize = 15;
 
-const COLUMNS: usize = 100;
+const COLUMNS: usize = @COLUMNS@;
 
-const KINDS: [&str; 7] = [
+const KINDS: [&str; 9] = [
     "nothing",
+    "all,3",
+    "all,4",
     "aligned,columns",
     "padded,columns",
     "aligned,rows",
@@ -81,9 +98,12 @@ fn cells_of(alloc: Global, row: &[&str], rows: usize) -> Result<Cells, TableErro
     Ok(builder.build())
 }
 
+fn between(left: usize, right: usize) -> Sides<Indent> {
+    Sides::new(Indent::spaced(left), Indent::spaced(right), Indent::zero(), Indent::zero())
+}
+
 fn spaced(size: usize) -> Sides<Indent> {
-    let side = Indent::spaced(size);
-    Sides::new(side, side, Indent::zero(), Indent::zero())
+    between(size, size)
 }
 
 /// The settings of a new table.
@@ -153,6 +173,8 @@ fn set_rows(config: &mut SpannedConfig, rows: usize, padded: bool) -> Result<(),
 fn configured(alloc: Global, kind: &str, rows: usize) -> Result<SpannedConfig, TableError> {
     let mut config = settings(alloc)?;
     match kind {
+        "all,3" => config.set_padding(Entity::Global, between(1, 2))?,
+        "all,4" => config.set_padding(Entity::Global, between(2, 2))?,
         "aligned,columns" => set_columns(&mut config, COLUMNS, false)?,
         "padded,columns" => set_columns(&mut config, COLUMNS, true)?,
         "aligned,rows" => set_rows(&mut config, rows, false)?,
@@ -278,7 +300,7 @@ fn main(rt: HostRuntime) -> Result<(), anyhow::Error> {
 """
 
 
-def tell_times(program):
+def tell_times(program, columns):
     run = subprocess.run([program], stdin=subprocess.DEVNULL, capture_output=True, check=True)
     found = collections.defaultdict(list)
     stored = ""
@@ -292,7 +314,7 @@ def tell_times(program):
     for (name, rows, size), times in sorted(found.items()):
         time = statistics.median(times)
         if name == "setting":
-            print(f"{name:23} {rows:13,} {'':10} {time / 1e6:8.2f} {'':8} {time / rows / COLUMNS:9.1f} ns a setting")
+            print(f"{name:23} {rows:13,} {'':10} {time / 1e6:8.2f} {'':8} {time / rows / columns:9.1f} ns a setting")
         else:
             least = min(times)
             print(f"{name:23} {rows:13,} {size:10,} {time / 1e6:8.2f} {least / 1e6:8.2f} {time / size:9.2f} {time / rows / 1000:9.3f}")
@@ -310,11 +332,11 @@ def instructions(program, kind, sizes, rounds):
     return int(told.split()[-1])
 
 
-def tell_instructions(program):
+def tell_instructions(program, columns):
     for sizes in ("estimated", "stored"):
         for kind in KINDS:
             more = instructions(program, kind, sizes, 4) - instructions(program, kind, sizes, 2)
-            print(f"{kind:15} {sizes:9} {more / 2 / 1000 / COLUMNS:7.1f} instructions a cell")
+            print(f"{kind:15} {sizes:9} {more / 2 / 1000 / columns:7.1f} instructions a cell")
 
 
 def processor_time(program, kind, sizes, rounds):
@@ -329,7 +351,7 @@ def processor_time(program, kind, sizes, rounds):
     return usage.ru_utime + usage.ru_stime
 
 
-def tell_shares(program):
+def tell_shares(program, _columns):
     for sizes in ("estimated", "stored"):
         found = collections.defaultdict(list)
         for _ in range(9):
@@ -337,17 +359,24 @@ def tell_shares(program):
                 time = processor_time(program, kind, sizes, 220) - processor_time(program, kind, sizes, 20)
                 found[kind].append(time)
         for kind in KINDS:
-            share = statistics.median(time / bare for time, bare in zip(found[kind], found["nothing"]))
-            print(f"{kind:15} {sizes:9} {share:5.2f} of the processor time of nothing set")
+            bare = ALIKE.get(kind, "nothing")
+            share = statistics.median(time / alone for time, alone in zip(found[kind], found[bare]))
+            print(f"{kind:15} {sizes:9} {share:5.2f} of the processor time of {bare}")
 
 
 def main():
     ways = {"--instructions": tell_instructions, "--shares": tell_shares}
     asked = [word for word in sys.argv if word in ways]
     sys.argv = [word for word in sys.argv if word not in ways]
+    columns = COLUMNS
+    if "--columns" in sys.argv:
+        place = sys.argv.index("--columns")
+        columns = int(sys.argv[place + 1])
+        del sys.argv[place : place + 2]
+    source = PROGRAM.replace("@COLUMNS@", str(columns))
     crates = building.standing_on("tabled_grid")
-    with building.program(__doc__, "setting_times", crates, {"src/main.rt": PROGRAM}, USED) as program:
-        ways.get(asked[0] if asked else "", tell_times)(program)
+    with building.program(__doc__, "setting_times", crates, {"src/main.rt": source}, USED) as program:
+        ways.get(asked[0] if asked else "", tell_times)(program, columns)
 
 
 main()

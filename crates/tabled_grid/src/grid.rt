@@ -76,15 +76,11 @@ impl<'a, R: PeekableRecords, D: Dimension> Grid<'a, R, D> {
         let around = config.frame();
         let between = config.borders.line_at(2, 1);
         let spread = spread_of_all(config);
-        let by_column = match &spread {
+        let rows = records.count_rows();
+        // Where settings were made for rows alone, each row is asked for its own.
+        let by_column = match config.row_style(rows) {
             Some(_) => None,
-            None => ColumnStyles::if_kept(
-                memory,
-                config,
-                dimension,
-                records.count_rows(),
-                records.count_columns(),
-            ),
+            None => ColumnStyles::if_kept(memory, config, dimension, rows, records.count_columns()),
         };
         Grid {
             records,

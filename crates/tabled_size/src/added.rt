@@ -150,8 +150,12 @@ impl KnownAdded {
         if let Some(extent) = shared_added(config) {
             return KnownAdded::Alike(extent);
         }
+        // Where padding was set for rows alone, each row is asked for its own.
+        if rows < 2 || columns > MOST_COLUMNS || row_added(config, rows).is_some() {
+            return KnownAdded::Unlike(None);
+        }
         // For the row behind the last hardly anything is set, so that most rows are padded like it.
-        if rows < 2 || columns > MOST_COLUMNS || !config.are_padded_alike(rows, rows) {
+        if !config.are_padded_alike(rows, rows) {
             return KnownAdded::Unlike(None);
         }
         match listed_in(alloc, config, rows, columns) {
