@@ -102,11 +102,11 @@ pub(crate) fn lay_all<'a, R: Row<'a>>(line: &mut [u8], spots: &[Spot], row: &R) 
     ensures laid { result ≡ true → line.new ≡ row_line (R.sheet row.now) 0 }
     ensures utf8 { IsUtf8 line.old → IsUtf8 line.new }
 {
-    if let Some(spread) = row.spread() {
-        return lay_texts(line, spots, row, spread);
+    if let Some(kept) = row.aims() {
+        return lay_texts(line, spots, row, KeptAims(kept));
     }
-    match row.aims() {
-        Some(kept) => lay_texts(line, spots, row, KeptAims(kept)),
+    match row.spread() {
+        Some(spread) => lay_texts(line, spots, row, spread),
         None => lay_texts(line, spots, row, SetAims::new(row.styles())),
     }
 }

@@ -159,11 +159,11 @@ fn put_spaced<'a, R: Row<'a>, S: TextSink>(
     ensures { Writes (S.sent sink.old) result (S.sent sink.new)
         (flat_map (cell_piece (R.sheet row.now) 0) (range_with_len 0 (R.sheet row.now).columns.count)) }
 {
-    if let Some(spread) = row.spread() {
-        return put_spaced_cells(sink, row, spread, gap);
+    if let Some(kept) = row.aims() {
+        return put_spaced_cells(sink, row, KeptAims(kept), gap);
     }
-    match row.aims() {
-        Some(kept) => put_spaced_cells(sink, row, KeptAims(kept), gap),
+    match row.spread() {
+        Some(spread) => put_spaced_cells(sink, row, spread, gap),
         None => put_spaced_cells(sink, row, SetAims::new(row.styles()), gap),
     }
 }

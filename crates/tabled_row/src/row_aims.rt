@@ -128,6 +128,7 @@ fn shared_spread(styles: &RowStyles<'_>) -> Option<Spread>
 
 impl<'a> SetAims<'a> {
     /// What these styles say.
+    #[inline(always)]
     pub fn new(styles: RowStyles<'a>) -> SetAims<'a>
         ensures styles { result.styles ≡ styles.entry }
         ensures alike { IfSome result.alike (λ spread. (column : ℕ) → IsPadded (style_in styles.entry column) spread) }
