@@ -5,3 +5,4 @@ pub mod RowStyles
 pub mod Settings
 pub mod Spanned
 pub mod Styles
+pub mod ToldSides

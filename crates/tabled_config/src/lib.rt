@@ -18,6 +18,6 @@ pub use colored::ColoredConfig;
 pub use compact::CompactConfig;
 pub use compact_multiline::CompactMultilineConfig;
 pub use formatting::Formatting;
-pub use spanned::{CellStyle, RowStyles, SetStyles, SpannedConfig};
+pub use spanned::{CellStyle, RowStyles, SetStyles, SpannedConfig, ToldSides};
 pub use style::Style;
 pub use tabled_border::{Borders, Frame, HorizontalLine, Indent, Sides, VerticalLine};

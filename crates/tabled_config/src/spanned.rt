@@ -7,12 +7,14 @@ ghost use Rattle.tabled_entity.specs.Places.{IsWhole};
 
 mod alike;
 mod row_styles;
+mod told_sides;
 
 use crate::alignment::{AlignmentHorizontal, AlignmentVertical};
 use crate::compact::CompactConfig;
 use crate::compact_multiline::CompactMultilineConfig;
 use crate::style::Style;
 pub use row_styles::{RowStyles, SetStyles};
+pub use told_sides::ToldSides;
 use std::alloc::Global;
 use tabled_base::{Entity, Position, TableError};
 use tabled_border::{Borders, Frame, HorizontalLine, Indent, Lines, Sides};

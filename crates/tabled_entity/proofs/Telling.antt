@@ -1,5 +1,5 @@
 -- What is told of cells, while values are listed and put behind each other.
-use Rattle.std.proofs.Common.{◌≡◌, ◌⊎◌, ℕ, Bool, true, false, if◌then◌else◌, ◌==◌, ◌&&◌, zero, suc, ◌+◌, ◌-◌, ◌<◌, ◌++◌, [], ◌∷◌, List, Option, None, Some, IfSome, ap, arith, inl, inr, is_some, length, nat_lt, refl, slice_get, slice_set, subst, sym, ◌∙◌}
+use Rattle.std.proofs.Common.{◌≡◌, ◌⊎◌, ℕ, Bool, true, false, if◌then◌else◌, ◌==◌, ◌&&◌, zero, suc, ◌+◌, ◌-◌, ◌<◌, ◌++◌, [], ◌∷◌, List, Option, None, Some, IfSome, IsSome, ap, arith, inl, inr, is_some, length, nat_lt, refl, slice_get, slice_set, subst, sym, ◌∙◌}
 use Rattle.std.proofs.lemmas.Bool.{and_parts, both_ways, cases_Bool, eqb-false, eqb-true, ltb-false}
 use Rattle.std.proofs.lemmas.Option.{slice_get_cases, slice_get_within}
 use Rattle.std.specs.Option.{option_and_then, unwrap_or}
@@ -9,7 +9,7 @@ use Rattle.tabled_base.specs.declared.position.Entity.{Entity}
 use Rattle.tabled_base.specs.declared.position.Entity.TheVariants.{Cell, Column}
 use Rattle.tabled_entity.specs.Changes.{covers, first_covering}
 use Rattle.tabled_entity.specs.RowList.{AreToldRows, TellsRowPut, row_told}
-use Rattle.tabled_entity.specs.Series.{IsTold, TellsLess, TellsNone, TellsPut, TellsSame, numbered, told, value_told}
+use Rattle.tabled_entity.specs.Series.{AreListed, IsTold, TellsLess, TellsNone, TellsPut, TellsSame, number_told, numbered, place_of, told, value_told}
 use Rattle.tabled_entity.specs.declared.row_list.RowList.{RowList}
 use Rattle.tabled_entity.specs.declared.series.Series.{Series}
 
@@ -239,3 +239,27 @@ module _ {T : Type 0} where
             set-at whole parts entity value row column (row_told new row) (row_told old row) (put.own row column) (put.others row column)
             (are.at row column);
       }
+
+  -- where a row's numbers reach so far, a value is told, if each number is that of a value that is listed
+  pub told-within : (series : Series T) (row place column : ℕ) (numbers : Vec ℕ Global) → place_of series row ≡ Some place
+      → slice_get series.rows.items place ≡ Some numbers → AreListed series → column < length numbers.items
+      → IsSome (told series row column)
+  told-within series row place column numbers stands there listed within =
+      elim (slice_get_cases numbers.items column).1 [
+        | inl (number, _, at, _) ↦
+            let stood : number_told series place column ≡ Some number =
+            ap (option_and_then (λ ns. slice_get ns.items column)) there ∙ at in
+            elim (slice_get_cases series.distinct.items number).1 [
+              | inl (value, _, is, _) ↦
+                  ap (λ o. is_some (option_and_then (λ p. value_told series p column) o)) stands
+                  ∙ ap (λ o. is_some (option_and_then (λ ns. numbered series.distinct.items ns.items column) o)) there
+                  ∙ ap (λ o. is_some (option_and_then (slice_get series.distinct.items) o)) at ∙ ap is_some is
+              | inr (past, _) ↦ absurd (omega (arith, past, listed.at place column number stood))
+            ]
+        | inr (past, _) ↦ absurd (omega (arith, past, within))
+      ]
+
+  -- the values that are told in a row's first columns are those that were set
+  pub told-first : (whole value : T) (o : Option T) → IsSome o → IfSome o (λ x. x ≡ value) → unwrap_or o whole ≡ value
+  told-first whole value None some is = absurd (both_ways false refl some)
+  told-first whole value (Some x) some is = is

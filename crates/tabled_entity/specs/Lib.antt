@@ -4,3 +4,4 @@ pub mod Places
 pub mod RowList
 pub mod RowPlaces
 pub mod Series
+pub mod ToldValues

@@ -1,13 +1,15 @@
 //! One setting of a table: for the whole of it, for rows, for columns and for cells.
-ghost use Rattle.std.specs.Prelude.{◌≡◌, ℕ, IfOk, IfSome, IsOk, OnErr, OnOk, reverse, true};
+ghost use Rattle.std.specs.Prelude.{◌≡◌, ◌<◌, ℕ, IfOk, IfSome, IsOk, OnErr, OnOk, reverse, true};
 ghost use Rattle.tabled_entity.specs.Changes.{for_all, setting_at, shared, with_change};
 ghost use Rattle.tabled_entity.specs.Places.{IsPart, IsWhole, last_for, latest};
 ghost use Rattle.tabled_entity.specs.Series.{AreListed, IsTold};
+ghost use Rattle.tabled_entity.specs.ToldValues.{told_value};
 
 use crate::places::Places;
 use crate::row_list::RowList;
 use crate::row_values::RowValues;
 use crate::series::{Distinct, Series};
+use crate::told_values::ToldValues;
 use std::alloc::{AllocError, Global};
 use std::marker::Model;
 use tabled_base::Entity;
@@ -160,6 +162,7 @@ impl<T: Copy> EntityMap<T> {
     }
 
     /// The value of all cells of a row, if nothing was set for a column or a cell.
+    #[inline]
     pub fn row_value(&self, row: usize) -> Option<&T>
         ensures { IfSome result (λ value. (column : ℕ) → value.now ≡ setting_at self.now row column) }
     {
@@ -171,6 +174,22 @@ impl<T: Copy> EntityMap<T> {
         }
         let place = self.places.of_row(row)?;
         Some(self.said(row, 0, place))
+    }
+
+    /// The values of a row's first columns, if all are known to be one, or each is told by its place.
+    #[inline(always)]
+    pub fn told_in(&self, row: usize, columns: usize) -> Option<ToldValues<'_, T>>
+        ensures { IfSome result (λ values. (column : ℕ) → column < columns
+            → told_value values column ≡ setting_at self.now row column) }
+    {
+        if let Some(value) = self.row_value(row) {
+            return Some(ToldValues::alike(value));
+        }
+        let series = self.series.row(row)?;
+        if series.len() < columns {
+            return None;
+        }
+        Some(ToldValues::each(series, &self.whole))
     }
 
     /// The values of a row's cells, from left to right: each takes a step, and no look-up among the cells.

@@ -8,7 +8,9 @@ mod row_list;
 mod row_places;
 mod row_values;
 mod series;
+mod told_values;
 
 pub use entity_map::EntityMap;
 pub use row_values::RowValues;
 pub use series::Distinct;
+pub use told_values::ToldValues;

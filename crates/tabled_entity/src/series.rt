@@ -1,6 +1,6 @@
 //! Values that were set one after another: for cells, row by row and each row from its first column on, or for columns. Those that are set
 //! one by one mostly are, and then the value of a cell is found by its place.
-ghost use Rattle.std.specs.Prelude.{◌≡◌, ◌+◌, ◌⊎◌, [], ℕ, IfNone, IfSome, None, Some, false, length, slice_get, suc, true};
+ghost use Rattle.std.specs.Prelude.{◌≡◌, ◌+◌, ◌<◌, ◌⊎◌, [], ℕ, IfNone, IfSome, IsSome, None, Some, false, length, slice_get, suc, true};
 ghost use Rattle.tabled_base.specs.declared.position.Entity.TheVariants.{Cell, Column};
 ghost use Rattle.tabled_entity.specs.Series.{AreListed, TellsLess, TellsNone, TellsPut, TellsSame, numbered, place_of, told, value_told};
 
@@ -48,16 +48,25 @@ impl<'a, T> RowSeries<'a, T> {
     #[inline(always)]
     pub fn value(&self, column: usize) -> Option<&'a T>
         ensures some { IfSome result (λ value. numbered self.now.distinct.now self.now.numbers.now column ≡ Some value.now) }
+        ensures none { IfNone result (numbered self.now.distinct.now self.now.numbers.now column ≡ None) }
     {
         let number = *self.numbers.get(column)?;
         self.distinct.get(number as usize)
+    }
+
+    /// How many first columns are told.
+    #[inline(always)]
+    pub fn len(&self) -> usize
+        ensures { result ≡ length self.now.numbers.now }
+    {
+        self.numbers.len()
     }
 
     /// Whether a value is told in a column.
     fn is_told(&self, column: usize) -> bool
         ensures { result ≡ false → numbered self.now.distinct.now self.now.numbers.now column ≡ None }
     {
-        column < self.numbers.len()
+        column < self.len()
     }
 }
 
@@ -132,6 +141,8 @@ impl<T: Copy> Series<T> {
     pub fn row(&self, row: usize) -> Option<RowSeries<'_, T>>
         ensures some { IfSome result (λ kept. (column : ℕ) → numbered kept.distinct.now kept.numbers.now column ≡ told self.now row column) }
         ensures none { IfNone result ((column : ℕ) → told self.now row column ≡ None) }
+        ensures all { AreListed self.now → IfSome result (λ kept. (column : ℕ) → column < length kept.numbers.now
+            → IsSome (told self.now row column)) }
     {
         let numbers = self.rows.get(self.place_of(row)?)?;
         Some(RowSeries {

@@ -5,6 +5,7 @@ ghost use Rattle.tabled_base.specs.Cells.{IsInside, cell_at, columns};
 ghost use Rattle.tabled_border.specs.Frame.{if_any, inner_line};
 ghost use Rattle.tabled_config.specs.RowStyles.{style_in};
 ghost use Rattle.tabled_config.specs.Settings.{frame, rule_at, style_at};
+ghost use Rattle.tabled_config.specs.ToldSides.{TellsSides};
 ghost use Rattle.tabled_grid.specs.ColumnStyles.{AreStyles};
 ghost use Rattle.tabled_grid.specs.Grid.{sheet_by};
 ghost use Rattle.tabled_grid.specs.Picture.{columns_of};
@@ -17,7 +18,7 @@ use crate::column_styles::ColumnStyles;
 use std::alloc::Global;
 use std::marker::Model;
 use tabled_base::{PeekableRecords, Position};
-use tabled_config::{CellStyle, Frame, HorizontalLine, RowStyles, SpannedConfig};
+use tabled_config::{CellStyle, Frame, HorizontalLine, RowStyles, SpannedConfig, ToldSides};
 use tabled_row::{CellAim, CellBlock, Content, Gap, Spread};
 use tabled_size::Dimension;
 
@@ -109,15 +110,32 @@ impl<'a, R: PeekableRecords, D: Dimension> Grid<'a, R, D> {
         &self.gap
     }
 
+    /// How all texts of a row stand between spaces, if nothing of that was set for columns or cells.
+    #[inline(always)]
+    fn row_spread(&self, row: usize) -> Option<Spread>
+        ensures { IfSome result (λ spread. (column : ℕ) → IsSpread (style_at self.now.config row column) spread) }
+    {
+        let (padding, horizontal) = self.config.row_sides(row)?;
+        Spread::of(padding, horizontal)
+    }
+
     /// How all texts of a row stand between spaces, if it is known that they stand alike, and so.
+    #[inline(always)]
     pub fn spread(&self, row: usize) -> Option<Spread>
         ensures { IfSome result (λ spread. (column : ℕ) → IsSpread (style_at self.now.config row column) spread) }
     {
-        if self.spread.is_some() {
-            return self.spread;
+        match self.spread {
+            Some(spread) => Some(spread),
+            None => self.row_spread(row),
         }
-        let style = self.config.row_style(row)?;
-        Spread::new(&style)
+    }
+
+    /// The padding and the alignment of each text of a row, if they are told by its place.
+    #[inline(always)]
+    pub fn sides(&self, row: usize) -> Option<ToldSides<'_>>
+        ensures { IfSome result (λ sides. TellsSides sides (columns self.now.cells) (style_at self.now.config row)) }
+    {
+        self.config.told_sides(row, self.count_columns())
     }
 
     /// How the texts of a row stand, from left to right.

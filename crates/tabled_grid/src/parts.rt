@@ -5,7 +5,7 @@ ghost use Rattle.tabled_size.specs.Holds.{IsSized};
 
 use crate::grid::Grid;
 use tabled_base::{PeekableRecords, Position};
-use tabled_config::{CellStyle, Frame, RowStyles};
+use tabled_config::{CellStyle, Frame, RowStyles, ToldSides};
 use tabled_row::{CellAim, CellBlock, Columns, Content, Gap, Row, Spread};
 use tabled_size::Dimension;
 
@@ -63,8 +63,14 @@ impl<'a, R: PeekableRecords, D: Dimension> Row<'a> for GridRow<'a, R, D> {
         self.grid.gap()
     }
 
+    #[inline(always)]
     fn spread(&self) -> Option<Spread> {
         self.grid.spread(self.row)
+    }
+
+    #[inline(always)]
+    fn sides(&self) -> Option<ToldSides<'_>> {
+        self.grid.sides(self.row)
     }
 
     fn styles(&self) -> RowStyles<'_> {

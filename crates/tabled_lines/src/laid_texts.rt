@@ -7,7 +7,7 @@ ghost use Rattle.tabled_row.specs.Placed.{IsPlaced};
 ghost use Rattle.tabled_row.specs.Row.{row_line};
 
 use crate::spots::{Spot, first_place};
-use tabled_row::{KeptAims, Placed, Row, SetAims, TellAims, place};
+use tabled_row::{KeptAims, Placed, Row, SetAims, TellAims, ToldAims, place};
 
 /// Copies a text over some bytes of its length.
 #[inline(always)]
@@ -94,6 +94,18 @@ fn lay_texts<'a, R: Row<'a>, A: TellAims + Drop>(
     true
 }
 
+/// Lays the texts of a row of one line over a blank row, of which each stands as it was set. Answers whether all could be laid.
+#[inline(never)]
+fn lay_set<'a, R: Row<'a>>(line: &mut [u8], spots: &[Spot], row: &R) -> bool
+    requires height { (R.sheet row.now).height ≡ 1 }
+    requires blank { line.old ≡ blank_row (R.sheet row.now).columns }
+    requires spots { AreSpots (R.sheet row.now).columns spots.now }
+    ensures laid { result ≡ true → line.new ≡ row_line (R.sheet row.now) 0 }
+    ensures utf8 { IsUtf8 line.old → IsUtf8 line.new }
+{
+    lay_texts(line, spots, row, SetAims::new(row.styles()))
+}
+
 /// Lays the texts of a row of one line over a blank row. Answers whether all could be laid.
 pub(crate) fn lay_all<'a, R: Row<'a>>(line: &mut [u8], spots: &[Spot], row: &R) -> bool
     requires height { (R.sheet row.now).height ≡ 1 }
@@ -105,8 +117,11 @@ pub(crate) fn lay_all<'a, R: Row<'a>>(line: &mut [u8], spots: &[Spot], row: &R) 
     if let Some(kept) = row.aims() {
         return lay_texts(line, spots, row, KeptAims(kept));
     }
-    match row.spread() {
-        Some(spread) => lay_texts(line, spots, row, spread),
-        None => lay_texts(line, spots, row, SetAims::new(row.styles())),
+    if let Some(spread) = row.spread() {
+        return lay_texts(line, spots, row, spread);
+    }
+    match row.sides() {
+        Some(sides) => lay_texts(line, spots, row, ToldAims::new(sides)),
+        None => lay_set(line, spots, row),
     }
 }

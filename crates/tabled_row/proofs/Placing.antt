@@ -1,5 +1,5 @@
 -- The pieces of a cell whose text stands between spaces.
-use Rattle.std.proofs.Common.{◌≡◌, ℕ, List, ◌++◌, ◌∙◌, IfSome, None, Option, Some, ap, append_assoc, refl, sym}
+use Rattle.std.proofs.Common.{◌≡◌, ◌<◌, ℕ, List, ◌++◌, ◌∙◌, IfSome, None, Option, Some, ap, append_assoc, refl, sym}
 use Rattle.tabled_border.specs.Frame.{has_bar}
 use Rattle.tabled_border.specs.declared.sides.Indent.{Indent}
 use Rattle.tabled_border.specs.declared.sides.Sides.{Sides}
@@ -24,12 +24,27 @@ spaced-parts row column placed n h =
     regroup : (a b c d : List ℕ) → a ++ (b ++ (c ++ d)) ≡ (a ++ (b ++ c)) ++ d
     regroup a b c d = simp append_assoc
 
+-- a text that is padded as is told stands so but for its alignment
+padded-own : (style : CellStyle) (padding : Sides Indent) (spread : Spread)
+    → ((style : CellStyle) → padding ≡ style.padding → Left ≡ style.horizontal → IsSpread style spread)
+    → style.padding ≡ padding → IsPadded style spread
+padded-own style padding spread is alike =
+    let own = is (record style { horizontal = Left }) (sym alike) refl in
+    record { spaced = own.spaced; spread_is = ap {A = Spread} (λ s. record s { horizontal = style.horizontal }) own.spread_is }
+
 -- texts that are padded alike stand alike but for their alignments
 pub padded-alike : (styles : ℕ → CellStyle) (padding : Sides Indent) (told : Option Spread)
     → ((style : CellStyle) → padding ≡ style.padding → Left ≡ style.horizontal → IfSome told (IsSpread style))
     → ((column : ℕ) → (styles column).padding ≡ padding)
     → IfSome told (λ spread. (column : ℕ) → IsPadded (styles column) spread)
 padded-alike styles padding None is alike = tt
-padded-alike styles padding (Some spread) is alike = λ column.
-    let own = is (record (styles column) { horizontal = Left }) (sym (alike column)) refl in
-    record { spaced = own.spaced; spread_is = ap {A = Spread} (λ s. record s { horizontal = (styles column).horizontal }) own.spread_is }
+padded-alike styles padding (Some spread) is alike = λ column. padded-own (styles column) padding spread is (alike column)
+
+-- and so do those of the first columns
+pub padded-first : (styles : ℕ → CellStyle) (columns : ℕ) (padding : Sides Indent) (told : Option Spread)
+    → ((style : CellStyle) → padding ≡ style.padding → Left ≡ style.horizontal → IfSome told (IsSpread style))
+    → ((column : ℕ) → column < columns → (styles column).padding ≡ padding)
+    → IfSome told (λ spread. (column : ℕ) → column < columns → IsPadded (styles column) spread)
+padded-first styles columns padding None is alike = tt
+padded-first styles columns padding (Some spread) is alike = λ column within.
+    padded-own (styles column) padding spread is (alike column within)

@@ -38,5 +38,5 @@ pub use pieces::{put_char, put_fill, put_indent};
 pub use places::{bar_length, next_place};
 pub use room::Room;
 pub use row::{Row, put_row_line};
-pub use row_aims::{KeptAims, Placed, SetAims, TellAims, place};
+pub use row_aims::{KeptAims, Placed, SetAims, TellAims, ToldAims, place};
 pub use text_sink::TextSink;

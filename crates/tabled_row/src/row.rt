@@ -2,6 +2,7 @@
 ghost use Rattle.std.specs.Prelude.{◌≡◌, ◌<◌, ◌≤◌, ℕ, IfSome, []};
 ghost use Rattle.std.specs.List.{flat_map, range_with_len, slice_index_or};
 ghost use Rattle.tabled_config.specs.RowStyles.{style_in};
+ghost use Rattle.tabled_config.specs.ToldSides.{TellsSides};
 ghost use Rattle.tabled_row.specs.Aims.{AreAims, IsSpread};
 ghost use Rattle.tabled_row.specs.Cursors.{AreCursors};
 ghost use Rattle.tabled_row.specs.Row.{RowSheet, cell_block, cell_piece, row_line};
@@ -13,11 +14,11 @@ use crate::content::Content;
 use crate::cursors::{Cursor, cursor_at, keep_cursor};
 use crate::edges::{put_left, put_piece, put_right};
 use crate::gap::{Gap, GapText};
-use crate::row_aims::{KeptAims, SetAims};
+use crate::row_aims::{KeptAims, SetAims, ToldAims};
 use crate::spaced::put_spaced_cells;
 use crate::text_sink::TextSink;
 use tabled_base::TableError;
-use tabled_config::{CellStyle, Frame, RowStyles};
+use tabled_config::{CellStyle, Frame, RowStyles, ToldSides};
 
 /// A row of cells as it is printed: the blocks of the cells, and what stands around and between them.
 pub trait Row<'a> {
@@ -44,6 +45,10 @@ pub trait Row<'a> {
     fn spread(&self) -> Option<Spread>
         ensures { IfSome result (λ spread. (column : ℕ) → column < (sheet self.now).columns.count
             → IsSpread ((sheet self.now).style column) spread) };
+
+    /// The padding and the alignment of the text in each column, if they are told by its place.
+    fn sides(&self) -> Option<ToldSides<'_>>
+        ensures { IfSome result (λ sides. TellsSides sides (sheet self.now).columns.count (sheet self.now).style) };
 
     /// How the texts of the columns stand, from left to right.
     fn styles(&self) -> RowStyles<'_>
@@ -148,6 +153,21 @@ fn put_each_cell<'a, R: Row<'a>, S: TextSink>(
     Ok(())
 }
 
+/// The cells of a row of one line, of which each text stands as it was set.
+#[inline(never)]
+fn put_set_cells<'a, R: Row<'a>, S: TextSink>(
+    sink: &mut S,
+    row: &R,
+    gap: GapText<'_>,
+) -> Result<(), TableError>
+    requires height { (R.sheet row.now).height ≡ 1 }
+    requires bar { gap.bar ≡ (R.sheet row.now).columns.frame.inner }
+    ensures { Writes (S.sent sink.old) result (S.sent sink.new)
+        (flat_map (cell_piece (R.sheet row.now) 0) (range_with_len 0 (R.sheet row.now).columns.count)) }
+{
+    put_spaced_cells(sink, row, SetAims::new(row.styles()), gap)
+}
+
 /// The cells of a row of one line, as it is known where its texts stand.
 fn put_spaced<'a, R: Row<'a>, S: TextSink>(
     sink: &mut S,
@@ -162,9 +182,12 @@ fn put_spaced<'a, R: Row<'a>, S: TextSink>(
     if let Some(kept) = row.aims() {
         return put_spaced_cells(sink, row, KeptAims(kept), gap);
     }
-    match row.spread() {
-        Some(spread) => put_spaced_cells(sink, row, spread, gap),
-        None => put_spaced_cells(sink, row, SetAims::new(row.styles()), gap),
+    if let Some(spread) = row.spread() {
+        return put_spaced_cells(sink, row, spread, gap);
+    }
+    match row.sides() {
+        Some(sides) => put_spaced_cells(sink, row, ToldAims::new(sides), gap),
+        None => put_set_cells(sink, row, gap),
     }
 }
 

@@ -1,6 +1,8 @@
 //! Where the texts of a row of one line stand, from left to right.
 ghost use Rattle.std.specs.Prelude.{◌≡◌, ◌+◌, ◌<◌, ℕ, IfSome, Some, length, slice_get};
 ghost use Rattle.tabled_config.specs.RowStyles.{style_in};
+ghost use Rattle.tabled_config.specs.ToldSides.{TellsSides};
+ghost use Rattle.tabled_config.specs.declared.spanned.CellStyle.{CellStyle};
 ghost use Rattle.tabled_row.specs.Aims.{IsAimed, IsPadded, aim_of};
 ghost use Rattle.tabled_row.specs.Row.{RowSheet};
 ghost use Rattle.tabled_row.specs.Placed.{IsPlaced};
@@ -8,7 +10,7 @@ ghost use Rattle.tabled_row.specs.Placed.{IsPlaced};
 use crate::aim::{Aim, CellAim, Spread};
 use crate::block::before_text;
 use crate::row::Row;
-use tabled_config::{AlignmentHorizontal, CellStyle, RowStyles};
+use tabled_config::{AlignmentHorizontal, CellStyle, RowStyles, ToldSides};
 
 /// The first line of a text where it stands between spaces.
 #[derive(Clone, Copy)]
@@ -101,6 +103,64 @@ impl TellAims for Spread {
         self.aim(width)
     }
 
+    fn room_place(&self, _column: usize) -> Option<usize> {
+        None
+    }
+
+    fn style(&mut self, _column: usize) -> Option<CellStyle> {
+        None
+    }
+}
+
+/// Each text stands as its padding and its alignment are told.
+#[derive(Drop)]
+pub struct ToldAims<'a> {
+    sides: ToldSides<'a>,
+    // How the texts stand but for their alignments, if all are padded alike.
+    alike: Option<Spread>,
+}
+
+/// How the texts of a row stand but for their alignments, if all are told to be padded alike, and stand between spaces.
+#[inline(always)]
+fn told_spread(sides: &ToldSides<'_>) -> Option<Spread>
+    ensures { (columns : ℕ) (style : ℕ → CellStyle) → TellsSides sides.now columns style
+        → IfSome result (λ spread. (column : ℕ) → column < columns → IsPadded (style column) spread) }
+{
+    let padding = sides.shared_padding()?;
+    Spread::of(padding, AlignmentHorizontal::Left)
+}
+
+impl<'a> ToldAims<'a> {
+    /// What these paddings and alignments say.
+    #[inline(always)]
+    pub fn new(sides: ToldSides<'a>) -> ToldAims<'a>
+        ensures sides { result.sides ≡ sides.entry }
+        ensures alike { (columns : ℕ) (style : ℕ → CellStyle) → TellsSides sides.entry columns style
+            → IfSome result.alike (λ spread. (column : ℕ) → column < columns → IsPadded (style column) spread) }
+    {
+        let alike = told_spread(&sides);
+        ToldAims { sides, alike }
+    }
+}
+
+impl<'a> TellAims for ToldAims<'a> {
+    ghost use Rattle.std.specs.Prelude.{◌<◌, ℕ, IfSome};
+    ghost use Rattle.tabled_config.specs.ToldSides.{TellsSides};
+    ghost use Rattle.tabled_row.specs.Aims.{IsPadded};
+
+    ghost tells = { λ aims row. TellsSides aims.sides row.columns.count row.style
+        × IfSome aims.alike (λ spread. (column : ℕ) → column < row.columns.count → IsPadded (row.style column) spread) };
+
+    #[inline(always)]
+    fn at(&mut self, column: usize, width: usize) -> Option<Aim> {
+        let horizontal = self.sides.horizontal(column);
+        match self.alike {
+            Some(spread) => spread.aligned(horizontal).aim(width),
+            None => Spread::of(self.sides.padding(column), horizontal)?.aim(width),
+        }
+    }
+
+    #[inline(always)]
     fn room_place(&self, _column: usize) -> Option<usize> {
         None
     }

@@ -3,12 +3,13 @@ ghost use Rattle.std.specs.Prelude.{◌≡◌, ℕ, IfNone, IfSome, map};
 ghost use Rattle.std.specs.List.{range_with_len, slice_index_or};
 ghost use Rattle.tabled_config.specs.Settings.{style_at};
 ghost use Rattle.tabled_entity.specs.Changes.{value_at};
+ghost use Rattle.tabled_entity.specs.ToldValues.{told_value};
 ghost use Rattle.tabled_size.specs.Added.{KnowsAdded, PassesRange, added_at, added_by, nothing};
 
 use std::alloc::Global;
 use tabled_base::Position;
 use tabled_config::{Indent, Sides, SpannedConfig};
-use tabled_entity::RowValues;
+use tabled_entity::{RowValues, ToldValues};
 
 /// For more columns nothing is listed.
 const MOST_COLUMNS: usize = 65_536;
@@ -76,12 +77,20 @@ fn shared_added(config: &SpannedConfig) -> Option<Extent>
 }
 
 /// What padding adds to each text of a row, where all are known to be padded alike, and numbers can say it.
-#[inline(never)]
-pub(crate) fn row_added(config: &SpannedConfig, row: usize) -> Option<Extent>
+fn row_added(config: &SpannedConfig, row: usize) -> Option<Extent>
     ensures { IfSome result (λ extent. (column : ℕ) → extent ≡ added_at config.now row column) }
 {
     let padding = config.row_padding(row)?;
     added_by(padding)
+}
+
+/// What padding adds to each text in a row's first columns, where all are known to be padded alike, and numbers can say it.
+#[inline(always)]
+pub(crate) fn told_added(paddings: &ToldValues<'_, Sides<Indent>>) -> Option<Extent>
+    ensures { IfSome result (λ extent. (column : ℕ) → extent ≡ added_by (told_value paddings.now column)) }
+{
+    let padding = paddings.shared()?;
+    added_by(*padding)
 }
 
 /// What padding adds to the texts in so many columns of a row, if numbers can say it, and memory isn't refused.
@@ -123,6 +132,16 @@ impl<'a> TellAdded for Listed<'a> {
                 lines: 0,
             }),
         }
+    }
+}
+
+/// To each text as its padding is told.
+impl<'a> TellAdded for ToldValues<'a, Sides<Indent>> {
+    ghost told = { λ paddings column. added_by (told_value paddings column) };
+
+    #[inline(always)]
+    fn at(&mut self, column: usize) -> Option<Extent> {
+        added_by(*ToldValues::at(self, column))
     }
 }
 

@@ -3,13 +3,15 @@ ghost use Rattle.std.specs.Prelude.{◌≡◌, ◌⊎◌, ◌+◌, ◌<◌, ◌�
 ghost use Rattle.tabled_base.specs.Cells.{IsInside, columns};
 ghost use Rattle.tabled_base.specs.declared.error.TableError.TheVariants.{Memory, Range};
 ghost use Rattle.tabled_config.specs.Settings.{style_at};
+ghost use Rattle.tabled_entity.specs.ToldValues.{told_value};
 ghost use Rattle.tabled_size.specs.Added.{KnowsAdded, TellsAdded, added_at};
 ghost use Rattle.tabled_size.specs.Estimates.{IsTooHigh, IsTooWide, estimated_heights, estimated_widths, needed_height, needed_width, raised, row_height};
 
-use crate::added::{Extent, KnownAdded, Listed, TellAdded, row_added};
+use crate::added::{Extent, KnownAdded, Listed, TellAdded, told_added};
 use std::alloc::Global;
 use tabled_base::{PeekableRecords, Position, TableError};
 use tabled_config::{Indent, Sides, SpannedConfig};
+use tabled_entity::ToldValues;
 
 /// The columns that a cell needs, if a number can say them.
 pub(crate) fn needed_width<R: PeekableRecords>(
@@ -196,6 +198,46 @@ fn measure_row<R: PeekableRecords, A: TellAdded + Drop>(
     Some(most)
 }
 
+/// Makes room for the cells of a row, and answers the lines that they need, if numbers can say both. The padding of each text is told.
+#[inline]
+fn measure_told<R: PeekableRecords>(
+    records: &R,
+    config: &SpannedConfig,
+    row: usize,
+    widths: &mut [usize],
+    paddings: ToldValues<'_, Sides<Indent>>,
+) -> Option<usize>
+    requires row_in { row < length (R.cells records.now) }
+    requires columns { length widths.old ≡ columns (R.cells records.now) }
+    requires told { (column : ℕ) → column < columns (R.cells records.now)
+        → told_value paddings column ≡ (style_at config.now row column).padding }
+    ensures widths { IfSome result (λ _. widths.new ≡ raised widths.old (R.cells records.now) config.now row) }
+    ensures lines { IfSome result (λ n. n ≡ row_height (R.cells records.now) config.now row) }
+    ensures none { IfNone result (IsTooWide (R.cells records.now) config.now ⊎ IsTooHigh (R.cells records.now) config.now) }
+{
+    match told_added(&paddings) {
+        Some(extent) => measure_row(records, config, row, widths, extent),
+        None => measure_row(records, config, row, widths, paddings),
+    }
+}
+
+/// Makes room for the cells of a row, and answers the lines that they need, if numbers can say both. Each text is padded as it was set.
+#[inline(never)]
+fn measure_set<R: PeekableRecords>(
+    records: &R,
+    config: &SpannedConfig,
+    row: usize,
+    widths: &mut [usize],
+) -> Option<usize>
+    requires row_in { row < length (R.cells records.now) }
+    requires columns { length widths.old ≡ columns (R.cells records.now) }
+    ensures widths { IfSome result (λ _. widths.new ≡ raised widths.old (R.cells records.now) config.now row) }
+    ensures lines { IfSome result (λ n. n ≡ row_height (R.cells records.now) config.now row) }
+    ensures none { IfNone result (IsTooWide (R.cells records.now) config.now ⊎ IsTooHigh (R.cells records.now) config.now) }
+{
+    measure_row(records, config, row, widths, config.paddings_in(row))
+}
+
 /// Makes room for the cells of a row, and answers the lines that they need, if numbers can say both. What padding adds to their
 /// texts is known, or else asked for.
 #[inline]
@@ -224,9 +266,9 @@ fn measure_known<R: PeekableRecords>(
                 Listed(listed.extents.as_slice()),
             )
         }
-        _ => match row_added(config, row) {
-            Some(extent) => measure_row(records, config, row, widths, extent),
-            None => measure_row(records, config, row, widths, config.paddings_in(row)),
+        _ => match config.told_paddings(row, records.count_columns()) {
+            Some(paddings) => measure_told(records, config, row, widths, paddings),
+            None => measure_set(records, config, row, widths),
         },
     }
 }

@@ -14,7 +14,7 @@ use crate::layout::Layout;
 use std::alloc::Global;
 use std::borrow::CowStr;
 use tabled_base::{CellText, TableError, Text};
-use tabled_config::{CellStyle, Frame, RowStyles};
+use tabled_config::{CellStyle, Frame, RowStyles, ToldSides};
 use tabled_lines::Lines;
 use tabled_row::{CellAim, CellBlock, Content, Cursor, FEW_CURSORS, Gap, Row, Spread, TextSink};
 use tabled_text::cut_str;
@@ -53,6 +53,10 @@ impl<'a> Row<'a> for CutRow<'a> {
 
     fn spread(&self) -> Option<Spread> {
         self.layout.spread
+    }
+
+    fn sides(&self) -> Option<ToldSides<'_>> {
+        None
     }
 
     fn styles(&self) -> RowStyles<'_> {

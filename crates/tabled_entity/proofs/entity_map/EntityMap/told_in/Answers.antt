@@ -1,0 +1,16 @@
+use Rattle.std.proofs.Common.{rules, ◌≡◌, IfSome, ap, subst, ◌∙◌}
+use Rattle.std.specs.Option.{unwrap_or}
+use Rattle.tabled_entity.specs.Changes.{setting_at}
+use Rattle.tabled_entity.specs.Series.{told}
+use Rattle.tabled_entity.proofs.Telling.{told-first}
+use Rattle.tabled_entity.proofs.entity_map.EntityMap.told_in.Goals as goal
+
+-- src/entity_map.rt:180:5
+pub returns : goal.returns
+returns g c = λ column within.
+    let series = c.self.inside.series in
+    let set = subst (λ changes. IfSome (told series c.args.row column) (λ value. value ≡ setting_at changes c.args.row column))
+    c.self.view_is (c.self.invariant.1.1.at c.args.row column) in
+    c.each.ensures column ∙ ap (λ o. unwrap_or o c.self.inside.whole) (c.in_ok-series.ensures.some column)
+    ∙ told-first c.self.inside.whole (setting_at c.args.self.now c.args.row column) (told series c.args.row column)
+    (c.in_ok-series.ensures.all c.self.invariant.1.0 column (search rules)) set
