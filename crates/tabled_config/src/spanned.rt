@@ -14,11 +14,11 @@ use crate::compact::CompactConfig;
 use crate::compact_multiline::CompactMultilineConfig;
 use crate::style::Style;
 pub use row_styles::{RowStyles, SetStyles};
-pub use told_sides::ToldSides;
 use std::alloc::Global;
 use tabled_base::{Entity, Position, TableError};
 use tabled_border::{Borders, Frame, HorizontalLine, Indent, Lines, Sides};
 use tabled_entity::EntityMap;
+pub use told_sides::ToldSides;
 
 /// How the text of a cell stands in its place.
 #[derive(Clone, Copy, Debug)]

@@ -9,11 +9,11 @@ use Rattle.tabled_text.specs.Measure.{char_columns}
 abbrev pub lead_byte : ℕ → ℕ
 lead_byte c = slice_index_or (encode_utf8 c) 0 0
 
--- one of printable ASCII, or of the Latin, Greek and Cyrillic letters from U+00C0 to U+02FF and from U+0380 to U+047F
+-- one of printable ASCII, or of the characters from U+00C0 to U+02FF and from U+0380 to U+047F: Latin, Greek and Cyrillic letters, × and ÷
 abbrev pub is_narrow_lead : ℕ → Bool
 is_narrow_lead lead = is_in_range 0x20 0x7E lead || (is_in_range 0xC3 0xCB lead || is_in_range 0xCE 0xD1 lead)
 
--- one of the ideographs from U+4000 to U+9FFF
+-- one of the characters from U+4000 to U+9FFF: ideographs, and the hexagrams among them
 abbrev pub is_wide_lead : ℕ → Bool
 is_wide_lead lead = is_in_range 0xE4 0xE9 lead
 

@@ -21,8 +21,8 @@ fn is_wide_lead(lead: u8) -> bool
     matches!(lead, 0xE4..=0xE9)
 }
 
-/// The columns of a character by its first byte, if that tells them: one of printable ASCII and of Latin, Greek and Cyrillic letters, and two of
-/// ideographs.
+/// The columns of a character by its first byte, if that tells them: one of printable ASCII and of what stands among Latin, Greek
+/// and Cyrillic letters, and two of what stands among ideographs.
 #[inline(always)]
 fn led_width(lead: u8) -> Option<usize>
     ensures { (c : ℕ) → lead ≡ lead_byte c → IfSome result (IsLetter c) }
