@@ -4,6 +4,7 @@ ghost use Rattle.std.specs.List.{slice_index};
 ghost use Rattle.tabled_base.specs.Cells.{columns};
 ghost use Rattle.tabled_base.specs.declared.error.TableError.TheVariants.{ShortHeights, ShortWidths};
 ghost use Rattle.tabled_config.specs.Settings.{style_at};
+ghost use Rattle.tabled_entity.specs.ToldValues.{told_value};
 ghost use Rattle.tabled_row.specs.Aims.{AreAims, IsAimed, aim_of};
 ghost use Rattle.tabled_size.specs.Reached.{reached};
 ghost use Rattle.tabled_size.specs.Standing.{standing};
@@ -16,6 +17,7 @@ ghost use Rattle.tabled_grid.specs.Printed.{IsInRange, IsRefused};
 use crate::grid::Grid;
 use tabled_base::{PeekableRecords, Position, TableError};
 use tabled_config::{Indent, Sides, SpannedConfig};
+use tabled_entity::ToldValues;
 use tabled_row::{Aim, CellAim};
 use tabled_size::{
     CompleteDimension, Dimension, check_heights, check_widths, filled_height, filled_width,
@@ -77,11 +79,31 @@ fn narrow_aimed<R: PeekableRecords, D: Dimension>(
     None
 }
 
-/// The first column of a row that doesn't hold its cell, by the padding of each.
-fn narrow_padded<R: PeekableRecords, D: Dimension>(
+/// The first column of a row that doesn't hold its cell, by the padding that is told of each.
+fn narrow_told<R: PeekableRecords, D: Dimension>(
     grid: &Grid<'_, R, D>,
     row: usize,
+    paddings: ToldValues<'_, Sides<Indent>>,
 ) -> Option<usize>
+    requires sized { columns grid.now.cells ≤ length grid.now.widths }
+    requires row_in { row < length grid.now.cells }
+    requires told { (column : ℕ) → column < columns grid.now.cells
+        → told_value paddings column ≡ (style_at grid.now.config row column).padding }
+    ensures none { IfNone result ((c : ℕ) → c < columns grid.now.cells
+        → IsHeld grid.now row c) }
+    ensures some { IfSome result (IsNarrowIn grid.now row) }
+{
+    'columns: for column in 0..grid.count_columns() {
+        if !is_held(grid, row, column, *paddings.at(column)) {
+            return Some(column);
+        }
+    }
+    None
+}
+
+/// The first column of a row that doesn't hold its cell, by the padding that was set for each.
+#[inline(never)]
+fn narrow_set<R: PeekableRecords, D: Dimension>(grid: &Grid<'_, R, D>, row: usize) -> Option<usize>
     requires sized { columns grid.now.cells ≤ length grid.now.widths }
     requires row_in { row < length grid.now.cells }
     ensures none { IfNone result ((c : ℕ) → c < columns grid.now.cells
@@ -105,9 +127,12 @@ fn narrow_in<R: PeekableRecords, D: Dimension>(grid: &Grid<'_, R, D>, row: usize
         → IsHeld grid.now row c) }
     ensures some { IfSome result (IsNarrowIn grid.now row) }
 {
-    match grid.aims(row) {
-        Some(aims) => narrow_aimed(grid, row, aims),
-        None => narrow_padded(grid, row),
+    if let Some(aims) = grid.aims(row) {
+        return narrow_aimed(grid, row, aims);
+    }
+    match grid.config.told_paddings(row, grid.count_columns()) {
+        Some(paddings) => narrow_told(grid, row, paddings),
+        None => narrow_set(grid, row),
     }
 }
 

@@ -2,7 +2,7 @@ use Rattle.std.proofs.Common.{ℕ, ◌≡◌, ◌<◌}
 use Rattle.tabled_config.specs.Settings.{style_at}
 use Rattle.tabled_entity.specs.Changes.{value_at}
 use Rattle.tabled_size.specs.Holds.{IsHeld}
-use Rattle.tabled_grid.proofs.checks.narrow_padded.Given as goal
+use Rattle.tabled_grid.proofs.checks.narrow_set.Given as goal
 
 abbrev pub invariant-columns : goal.invariant-columns
 invariant-columns g l = record {
