@@ -1,7 +1,7 @@
 #!/usr/bin/env python3
 """Times the printing of tables with settings of their columns, rows or cells, of long cells, and with stored sizes.
 
-usage: settings.py [--instructions | --shares] [--columns N] [FOLDER]
+usage: settings.py [--instructions | --shares] [--columns N] [--tall] [FOLDER]
 
 A small program is written into FOLDER (else a temporary folder) beside copies of the crates, built with
 `rt run`, and run. Printed are the medians and the shortest of its rounds: the time a printed byte, which may grow with no more
@@ -10,7 +10,7 @@ same where printing is linear; then the time that a setting took. Tables are pri
 room from the second round on.
 
 Tables of words have N columns, 100 if nothing is said. An alignment or a padding was set for each column, for each row or for each cell by itself, or one of 3 or 4
-columns for all cells; in the stored ones the estimated sizes were stored. Long cells are of 5 to 15 columns; 1, 100 or 1,000 of them make a row.
+columns for all cells; in the stored ones the estimated sizes were stored. With --tall one word of five has two lines, and so has each row of 3 columns and more. Long cells are of 5 to 15 columns; 1, 100 or 1,000 of them make a row.
 
 With --instructions the program runs under valgrind and prints tables of 1,000 rows; told are the instructions a cell. With --shares it
 prints them in interleaved runs, and the medians of their processor times are told as shares of that of the table with nothing set for a part that
@@ -76,7 +76,7 @@ const KINDS: [&str; 9] = [
     "padded,cells",
 ];
 
-const WORDS: [&str; 5] = ["amber", "cedar", "fjord and inlet", "oasis", "a weir"];
+const WORDS: [&str; 5] = ["amber", "cedar", "fjord and@SPACE@inlet", "oasis", "a weir"];
 
 fn words(alloc: Global, columns: usize) -> Result<Vec<&'static str>, AllocError>
     ensures { IfOk result (λ v. vec_len v ≡ columns) }
@@ -351,12 +351,13 @@ def processor_time(program, kind, sizes, rounds):
     return usage.ru_utime + usage.ru_stime
 
 
-def tell_shares(program, _columns):
+def tell_shares(program, columns):
+    rounds = max(200, 6000 // columns)
     for sizes in ("estimated", "stored"):
         found = collections.defaultdict(list)
         for _ in range(9):
             for kind in KINDS:
-                time = processor_time(program, kind, sizes, 220) - processor_time(program, kind, sizes, 20)
+                time = processor_time(program, kind, sizes, 20 + rounds) - processor_time(program, kind, sizes, 20)
                 found[kind].append(time)
         for kind in KINDS:
             bare = ALIKE.get(kind, "nothing")
@@ -373,7 +374,9 @@ def main():
         place = sys.argv.index("--columns")
         columns = int(sys.argv[place + 1])
         del sys.argv[place : place + 2]
-    source = PROGRAM.replace("@COLUMNS@", str(columns))
+    space = "\\n" if "--tall" in sys.argv else " "
+    sys.argv = [word for word in sys.argv if word != "--tall"]
+    source = PROGRAM.replace("@COLUMNS@", str(columns)).replace("@SPACE@", space)
     crates = building.standing_on("tabled_grid")
     with building.program(__doc__, "setting_times", crates, {"src/main.rt": source}, USED) as program:
         ways.get(asked[0] if asked else "", tell_times)(program, columns)
