@@ -10,7 +10,7 @@ same where printing is linear; then the time that a setting took. Tables are pri
 room from the second round on.
 
 Tables of words have N columns, 100 if nothing is said. An alignment or a padding was set for each column, for each row or for each cell by itself, or one of 3 or 4
-columns for all cells; in the stored ones the estimated sizes were stored. With --tall one word of five has two lines, and so has each row of 3 columns and more. Long cells are of 5 to 15 columns; 1, 100 or 1,000 of them make a row.
+columns for all cells; an even one is the same of 4 columns for each, so that what is printed is that of the one for all; in the stored ones the estimated sizes were stored. With --tall one word of five has two lines, and so has each row of 3 columns and more. Long cells are of 5 to 15 columns; 1, 100 or 1,000 of them make a row.
 
 With --instructions the program runs under valgrind and prints tables of 1,000 rows; told are the instructions a cell. With --shares it
 prints them in interleaved runs, and the medians of their processor times are told as shares of that of the table with nothing set for a part that
@@ -39,10 +39,20 @@ KINDS = (
     "padded,rows",
     "aligned,cells",
     "padded,cells",
+    "even,columns",
+    "even,rows",
+    "even,cells",
 )
 
 # The table with nothing set for a part, only a padding of so many columns for all cells, that prints as many bytes.
-ALIKE = {"padded,columns": "all,3", "padded,rows": "all,4", "padded,cells": "all,4"}
+ALIKE = {
+    "padded,columns": "all,3",
+    "padded,rows": "all,4",
+    "padded,cells": "all,4",
+    "even,columns": "all,4",
+    "even,rows": "all,4",
+    "even,cells": "all,4",
+}
 
 # The crates that the program names.
 USED = ("tabled_grid", "tabled_size", "tabled_config", "tabled_border", "tabled_base")
@@ -64,7 +74,7 @@ const ROUNDS: usize = 15;
 
 const COLUMNS: usize = @COLUMNS@;
 
-const KINDS: [&str; 9] = [
+const KINDS: [&str; 12] = [
     "nothing",
     "all,3",
     "all,4",
@@ -74,6 +84,9 @@ const KINDS: [&str; 9] = [
     "padded,rows",
     "aligned,cells",
     "padded,cells",
+    "even,columns",
+    "even,rows",
+    "even,cells",
 ];
 
 const WORDS: [&str; 5] = ["amber", "cedar", "fjord and@SPACE@inlet", "oasis", "a weir"];
@@ -170,6 +183,31 @@ fn set_rows(config: &mut SpannedConfig, rows: usize, padded: bool) -> Result<(),
     Ok(())
 }
 
+/// The same padding for each of some parts.
+fn pad_evenly(config: &mut SpannedConfig, kind: &str, rows: usize) -> Result<(), TableError> {
+    match kind {
+        "even,columns" => {
+            for column in 0..COLUMNS {
+                config.set_padding(Entity::Column(column), spaced(2))?;
+            }
+        }
+        "even,rows" => {
+            for row in 0..rows {
+                config.set_padding(Entity::Row(row), spaced(2))?;
+            }
+        }
+        "even,cells" => {
+            for row in 0..rows {
+                for column in 0..COLUMNS {
+                    config.set_padding(Entity::Cell(row, column), spaced(2))?;
+                }
+            }
+        }
+        _ => {}
+    }
+    Ok(())
+}
+
 fn configured(alloc: Global, kind: &str, rows: usize) -> Result<SpannedConfig, TableError> {
     let mut config = settings(alloc)?;
     match kind {
@@ -181,7 +219,7 @@ fn configured(alloc: Global, kind: &str, rows: usize) -> Result<SpannedConfig, T
         "padded,rows" => set_rows(&mut config, rows, true)?,
         "aligned,cells" => align_cells(&mut config, rows, COLUMNS)?,
         "padded,cells" => pad_cells(&mut config, rows, COLUMNS)?,
-        _ => {}
+        _ => pad_evenly(&mut config, kind, rows)?,
     }
     Ok(config)
 }
