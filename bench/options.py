@@ -1,19 +1,22 @@
 #!/usr/bin/env python3
 """Times the options of whole tables, over the files that `generate.py` writes and parts of them.
 
-usage: options.py [FOLDER]
+usage: options.py [--narrowing] [FOLDER]
 
 A small program is written into FOLDER (else a temporary folder) beside copies of the crates, built with `rt run`, and
-run on the first tenth and third of the rows of each file, and on all of them. Each table is narrowed to half of its
-total width and widened to twice of it, made half and twice as high, its texts are made 8 columns wide, lists of sizes
+run on the first tenth and third of the rows of each file, and on all of them, in interleaved rounds. Each table is narrowed to
+half of its total width and widened to twice of it, made half and twice as high, its texts are made 8 columns wide, lists of sizes
 are stored, and padding and a margin are set. The greatest columns shrink first, and the least grow first; rows change one
-after the other, and by their heights too. The copies that are changed are made beforehand.
-Printed are the shortest times of the rounds: milliseconds, and nanoseconds a byte of the texts, which stay the same where
-a call is linear in them.
+after the other, and by their heights too. The copies that are changed are made beforehand, and let go behind a call's time.
+Printed are the processor times of the thread (user and system), as Linux keeps them: the shortest in milliseconds, and the median in
+nanoseconds a byte of the texts, which stays the same where a call is linear in them; and whether the bar holds: narrowing all rows of
+short cells takes at most a third more time a byte than the first tenth of them, by the median over the rounds of the shares of the shortest times.
+With --narrowing the tables of short cells are narrowed, in more rounds, and nothing else is done.
 """
 
 import collections
 import pathlib
+import statistics
 import subprocess
 import sys
 import tempfile
@@ -22,6 +25,11 @@ import building
 
 FILES = ("long.tsv", "short.tsv", "wide.tsv", "mixed.tsv")
 PARTS = (10, 3, 1)
+ROUNDS = 5
+NARROWING_ROUNDS = 25
+
+# The calls for which a bar is set.
+NARROWING = ("wrap", "truncate")
 
 PROGRAM = """\
 //! Times options on the table of tab-separated rows on standard input.
@@ -30,8 +38,9 @@ PROGRAM = """\
 ghost use Rattle.std.specs.Prelude.{◌*◌, ◌<◌, ◌^◌};
 
 use std::alloc::Global;
+use std::env;
+use std::fs;
 use std::io;
-use std::time::Instant;
 use tabled::builder::Builder;
 use tabled::grid::config::ColoredConfig;
 use tabled::grid::dimension::CompleteDimension;
@@ -41,6 +50,14 @@ use tabled::settings::{Height, Margin, Padding, TableOption, Width};
 use tabled::{Table, TableError};
 
 const ROUNDS: usize = 3;
+
+/// The processor time of the thread so far, in nanoseconds. Reading the first file brings the second up to date.
+fn processor_time(rt: &HostRuntime) -> Result<u64, anyhow::Error> {
+    let _stat = fs::read_to_string(rt, "/proc/self/stat")?;
+    let times = fs::read_to_string(rt, "/proc/self/schedstat")?;
+    let time = times.split(' ').next().unwrap_or("0");
+    Ok(time.parse().unwrap_or(0))
+}
 
 fn table_of(alloc: Global, text: &str) -> Result<Table, TableError> {
     let mut builder = Builder::new(alloc);
@@ -60,9 +77,9 @@ where
     O: TableOption<VecRecords<Text<String>>, ColoredConfig, CompleteDimension> + Drop,
 {
     let mut copy = table.clone()?;
-    let start = Instant::now(rt)?;
+    let start = processor_time(rt)?;
     copy.apply(option)?;
-    let time = start.elapsed(rt)?.as_nanos();
+    let time = processor_time(rt)?.saturating_sub(start);
     println!(rt; "{name} {time}")?;
     Ok(())
 }
@@ -118,8 +135,12 @@ fn main(rt: HostRuntime) -> Result<(), anyhow::Error> {
     if width > usize::MAX / 2 || height > usize::MAX / 2 {
         return Ok(());
     }
+    let alone = env::args(&rt)?.count() > 1;
     for _round in 0..ROUNDS {
         narrow(&rt, &table, width / 2)?;
+        if alone {
+            continue;
+        }
         widen(&rt, &table, width * 2)?;
         raise(&rt, &table, height)?;
         level(&rt, &table, height)?;
@@ -137,28 +158,57 @@ def part(data, divisor):
     return b"".join(rows[: len(rows) // divisor])
 
 
-def times(program, data):
-    """The shortest time of each call in nanoseconds."""
-    run = subprocess.run([program], input=data, capture_output=True, check=True)
+def measure(program, data, words):
+    """The times of each call in one run, in nanoseconds."""
+    run = subprocess.run([program, *words], input=data, capture_output=True, check=True)
     found = collections.defaultdict(list)
     for row in run.stdout.decode().splitlines():
         name, time = row.split()
         found[name].append(int(time))
-    return {name: min(all_times) for name, all_times in found.items()}
+    return found
+
+
+def measured(program, data, words, rounds):
+    """The rows of each part, and the times of each call over them, for each round."""
+    parts = {divisor: (part(data, divisor), []) for divisor in PARTS}
+    for _ in range(rounds):
+        for rows, found in parts.values():
+            found.append(measure(program, rows, words))
+    return parts
+
+
+def tell(file, parts):
+    for rows, found in parts.values():
+        for name in found[0]:
+            times = [time for of_round in found for time in of_round[name]]
+            median = statistics.median(times) / len(rows)
+            print(f"{file:10} {len(rows):10,} {name:14} {min(times) / 1e6:8.2f} {median:9.2f}")
+
+
+def judge(parts):
+    """Whether all rows of short cells are narrowed in hardly more time a byte than some of them."""
+    few_rows, few = parts[PARTS[0]]
+    all_rows, everything = parts[PARTS[-1]]
+    for call in NARROWING:
+        share = statistics.median(min(many[call]) / min(some[call]) for some, many in zip(few, everything))
+        share *= len(few_rows) / len(all_rows)
+        print(f"{call} takes at most a third more time a byte: {'yes' if share <= 4 / 3 else 'NO'} ({share:.2f})")
 
 
 def main():
     here = pathlib.Path(__file__).resolve().parent
+    alone = "--narrowing" in sys.argv
+    sys.argv = [word for word in sys.argv if word != "--narrowing"]
+    files, words, rounds = (("short.tsv",), ("narrowing",), NARROWING_ROUNDS) if alone else (FILES, (), ROUNDS)
     with tempfile.TemporaryDirectory() as data_folder:
         subprocess.run([sys.executable, here / "generate.py", data_folder], check=True)
         with building.program(__doc__, "option_times", building.TABLED, {"src/main.rt": PROGRAM}) as program:
             print(f"{'file':10} {'bytes':>10} {'call':14} {'ms':>8} {'ns a byte':>9}")
-            for file in FILES:
-                data = (pathlib.Path(data_folder) / file).read_bytes()
-                for divisor in PARTS:
-                    rows = part(data, divisor)
-                    for name, time in times(program, rows).items():
-                        print(f"{file:10} {len(rows):10,} {name:14} {time / 1e6:8.2f} {time / len(rows):9.2f}")
+            for file in files:
+                parts = measured(program, (pathlib.Path(data_folder) / file).read_bytes(), words, rounds)
+                tell(file, parts)
+                if file == "short.tsv":
+                    judge(parts)
 
 
 main()

@@ -13,8 +13,8 @@ Tables of words have N columns, 100 if nothing is said. An alignment or a paddin
 columns for all cells; an even one is the same of 4 columns for each, so that what is printed is that of the one for all; in the stored ones the estimated sizes were stored. With --tall one word of five has two lines, and so has each row of 3 columns and more. Long cells are of 5 to 15 columns; 1, 100 or 1,000 of them make a row.
 
 With --instructions the program runs under valgrind and prints tables of 1,000 rows; told are the instructions a cell. With --shares it
-prints them in interleaved runs, and the medians of their processor times are told as shares of that of the table with nothing set for a part that
-prints as many bytes: so what other machines of the same host take of its time doesn't count.
+prints them in interleaved runs, and their processor times are told as shares of that of the table with nothing set for a part that
+prints as many bytes, the median of the shares and the share of the shortest times: so what other machines of the same host take of its time hardly counts.
 """
 
 import collections
@@ -400,7 +400,8 @@ def tell_shares(program, columns):
         for kind in KINDS:
             bare = ALIKE.get(kind, "nothing")
             share = statistics.median(time / alone for time, alone in zip(found[kind], found[bare]))
-            print(f"{kind:15} {sizes:9} {share:5.2f} of the processor time of {bare}")
+            least = min(found[kind]) / min(found[bare])
+            print(f"{kind:15} {sizes:9} {share:5.2f} of the processor time of {bare}, {least:5.2f} of the shortest")
 
 
 def main():

@@ -11,5 +11,6 @@ module _ {T : Type 0} where
   told_by None whole column = whole
   told_by (Some series) whole column = unwrap_or (numbered series.distinct.now series.numbers.now column) whole
 
+  -- the same of what keeps both
   abbrev pub told_value : ToldValues T → ℕ → T
   told_value values column = told_by values.each values.whole.now column

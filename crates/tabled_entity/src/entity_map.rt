@@ -130,6 +130,13 @@ impl<T: Copy> EntityMap<T> {
         self.places.are_alike(row, other)
     }
 
+    /// Whether the cells of all rows are known to have the same values, column by column: where nothing was set for a row, nor for a cell.
+    pub fn are_all_alike(&self) -> bool
+        ensures { result ≡ true → (row other column : ℕ) → setting_at self.now row column ≡ setting_at self.now other column }
+    {
+        self.places.are_all_alike()
+    }
+
     /// The value of a cell for which the latest change stands at a place, if there is one.
     #[inline]
     pub(crate) fn said(&self, row: usize, column: usize, place: Option<usize>) -> &T

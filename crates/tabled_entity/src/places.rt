@@ -136,6 +136,13 @@ impl Places {
         self.cells.is_empty() && self.rows.get(&row).is_none() && self.rows.get(&other).is_none()
     }
 
+    /// Whether the latest places in all rows are known to be the same, column by column: where none is kept for a row, nor for a cell.
+    pub fn are_all_alike(&self) -> bool
+        ensures { result ≡ true → (row other column : ℕ) → latest (found self.now) row column ≡ latest (found self.now) other column }
+    {
+        self.cells.is_empty() && self.rows.is_empty()
+    }
+
     /// The latest place of all cells of a row, where none is kept for a column, nor for a cell.
     #[inline]
     pub fn of_row(&self, row: usize) -> Option<Option<usize>>

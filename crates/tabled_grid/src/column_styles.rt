@@ -1,5 +1,5 @@
 //! How the texts of each column stand, looked up once for the rows that are set alike.
-ghost use Rattle.std.specs.Prelude.{◌≡◌, ℕ, IfErr, IfOk, IfSome, map};
+ghost use Rattle.std.specs.Prelude.{◌≡◌, ℕ, IfErr, IfOk, IfSome, map, true};
 ghost use Rattle.std.specs.List.{range_with_len, slice_index};
 ghost use Rattle.tabled_base.specs.declared.error.TableError.TheVariants.{Memory};
 ghost use Rattle.tabled_config.specs.Settings.{style_at};
@@ -56,6 +56,8 @@ fn listed_styles(
 #[derive(Drop)]
 pub(crate) struct ColumnStyles {
     row: usize,
+    // Whether all rows are known to be set like it.
+    everywhere: bool,
     // Kept in memory alone.
     styles: Option<Vec<CellStyle>>,
     // Where they stand in a row of one line, if that is known for all.
@@ -79,9 +81,19 @@ impl ColumnStyles {
         }
         Some(ColumnStyles {
             row: rows,
+            everywhere: config.are_all_alike(),
             styles: listed_styles(memory, config, rows, columns),
             aims: ColumnAims::new(memory, config, dimension, rows, columns),
         })
+    }
+
+    /// Whether a row is known to be set like the one that is kept.
+    #[inline(always)]
+    fn is_set_in(&self, config: &SpannedConfig, row: usize) -> bool
+        ensures { (width : ℕ → ℕ) (columns : ℕ) → AreStyles config.now width columns self.now → result ≡ true
+            → (column : ℕ) → style_at config.now row column ≡ style_at config.now self.now.row column }
+    {
+        self.everywhere || config.are_alike(row, self.row)
     }
 
     /// How the texts stand in a row, if that is kept, and the row is known to be set like the one that is kept.
@@ -90,7 +102,7 @@ impl ColumnStyles {
             → IfSome result (λ styles. styles.now ≡ map (style_at config.now row) (range_with_len 0 columns)) }
     {
         match &self.styles {
-            Some(styles) if config.are_alike(row, self.row) => Some(styles.as_slice()),
+            Some(styles) if self.is_set_in(config, row) => Some(styles.as_slice()),
             _ => None,
         }
     }
@@ -101,7 +113,7 @@ impl ColumnStyles {
             → IfSome result (λ aims. AreAims (style_at config.now row) (columns_in config.now width columns) aims.now) }
     {
         match &self.aims {
-            Some(aims) if config.are_alike(row, self.row) => Some(aims.listed()),
+            Some(aims) if self.is_set_in(config, row) => Some(aims.listed()),
             _ => None,
         }
     }

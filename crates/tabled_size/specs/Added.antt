@@ -1,5 +1,5 @@
 -- What padding adds to the texts of a row.
-use Rattle.std.specs.Prelude.{◌≡◌, ℕ, ◌+◌, ◌<◌, ◌≤◌, ◌^◌, ◌⊎◌, Some, None, map}
+use Rattle.std.specs.Prelude.{◌≡◌, ℕ, ◌+◌, ◌<◌, ◌≤◌, ◌^◌, ◌⊎◌, Some, None, map, true}
 use Rattle.std.specs.List.{range_with_len}
 use Rattle.tabled_border.specs.declared.sides.Indent.{Indent}
 use Rattle.tabled_border.specs.declared.sides.Sides.{Sides}
@@ -7,6 +7,7 @@ use Rattle.tabled_config.specs.declared.spanned.SpannedConfig.{SpannedConfig}
 use Rattle.tabled_config.specs.Settings.{style_at}
 use Rattle.tabled_size.specs.declared.added.Extent.{Extent}
 use Rattle.tabled_size.specs.declared.added.KnownAdded.{KnownAdded}
+use Rattle.tabled_size.specs.declared.added.ListedRow.{ListedRow}
 use Rattle.tabled_size.specs.declared.added.KnownAdded.TheVariants as known
 
 -- what padding adds to a text
@@ -33,11 +34,16 @@ nothing = record { columns = 0; lines = 0 }
 pub record TellsAdded (told : ℕ → Extent) (config : SpannedConfig) (row columns : ℕ) : Type 0 where
   pub at : (column : ℕ) → column < columns → told column ≡ added_at config row column
 
+-- what is listed of so many columns is what padding adds in the row of its number, and all rows are padded so if it says so
+pub record IsListed (config : SpannedConfig) (columns : ℕ) (listed : ListedRow) : Type 0 where
+  pub extents : listed.extents.items ≡ map (added_at config listed.reference) (range_with_len 0 columns)
+  pub everywhere : listed.everywhere ≡ true → (row column : ℕ)
+      → (style_at config row column).padding ≡ (style_at config listed.reference column).padding
+
 -- what is known of the texts in so many columns
 abbrev pub known_of : KnownAdded → SpannedConfig → ℕ → Type 0
 known_of (known.Alike extent) config columns = (row column : ℕ) → extent ≡ added_at config row column
-known_of (known.Unlike (Some listed)) config columns =
-    listed.extents.items ≡ map (added_at config listed.reference) (range_with_len 0 columns)
+known_of (known.Unlike (Some listed)) config columns = IsListed config columns listed
 known_of (known.Unlike None) config columns = Unit
 
 -- what is known of the texts in so many columns is what their padding adds

@@ -1,10 +1,10 @@
 //! What padding adds to the texts of a row's cells.
-ghost use Rattle.std.specs.Prelude.{◌≡◌, ℕ, IfNone, IfSome, map};
+ghost use Rattle.std.specs.Prelude.{◌≡◌, ℕ, IfNone, IfSome, map, true};
 ghost use Rattle.std.specs.List.{range_with_len, slice_index_or};
 ghost use Rattle.tabled_config.specs.Settings.{style_at};
 ghost use Rattle.tabled_entity.specs.Changes.{value_at};
 ghost use Rattle.tabled_entity.specs.ToldValues.{told_value};
-ghost use Rattle.tabled_size.specs.Added.{KnowsAdded, PassesRange, added_at, added_by, nothing};
+ghost use Rattle.tabled_size.specs.Added.{IsListed, KnowsAdded, PassesRange, added_at, added_by, nothing};
 
 use std::alloc::Global;
 use tabled_base::Position;
@@ -43,6 +43,8 @@ pub(crate) struct Listed<'a>(pub(crate) &'a [Extent]);
 #[derive(Drop)]
 pub(crate) struct ListedRow {
     pub(crate) reference: usize,
+    // Whether all rows are known to be padded like it.
+    pub(crate) everywhere: bool,
     pub(crate) extents: Vec<Extent>,
 }
 
@@ -155,6 +157,17 @@ impl<'a> TellAdded for RowValues<'a, Sides<Indent>> {
     }
 }
 
+impl ListedRow {
+    /// Whether the texts of a row are known to be padded like those of the listed one.
+    #[inline(always)]
+    pub(crate) fn is_padded_in(&self, config: &SpannedConfig, row: usize) -> bool
+        ensures { (columns : ℕ) → IsListed config.now columns self.now → result ≡ true → (column : ℕ)
+            → (style_at config.now row column).padding ≡ (style_at config.now self.now.reference column).padding }
+    {
+        self.everywhere || config.are_padded_alike(row, self.reference)
+    }
+}
+
 impl KnownAdded {
     /// What padding adds to the texts of a table with so many rows and columns. It is listed where there are few enough columns,
     /// and padding was set for no cell. That memory for the list is refused changes what is kept, and not what is told.
@@ -180,6 +193,7 @@ impl KnownAdded {
         match listed_in(alloc, config, rows, columns) {
             Some(extents) => KnownAdded::Unlike(Some(ListedRow {
                 reference: rows,
+                everywhere: config.are_all_padded_alike(),
                 extents,
             })),
             None => KnownAdded::Unlike(None),

@@ -257,7 +257,7 @@ fn measure_known<R: PeekableRecords>(
 {
     match known {
         KnownAdded::Alike(extent) => measure_row(records, config, row, widths, *extent),
-        KnownAdded::Unlike(Some(listed)) if config.are_padded_alike(row, listed.reference) => {
+        KnownAdded::Unlike(Some(listed)) if listed.is_padded_in(config, row) => {
             measure_row(
                 records,
                 config,

@@ -19,6 +19,17 @@ impl SpannedConfig {
             && self.line_alignment.are_alike(row, other)
     }
 
+    /// Whether the texts of all rows are known to stand alike, column by column: where nothing was set for a row, nor for a cell.
+    #[tactic(auto, unfolding(crate::specs::Settings::style_at))]
+    pub fn are_all_alike(&self) -> bool
+        ensures { result ≡ true → (row other column : ℕ) → style_at self.now row column ≡ style_at self.now other column }
+    {
+        self.padding.are_all_alike()
+            && self.alignment_horizontal.are_all_alike()
+            && self.alignment_vertical.are_all_alike()
+            && self.line_alignment.are_all_alike()
+    }
+
     /// Whether the cells of two rows are known to be padded alike, column by column: where no padding was set for either of the
     /// rows, nor for a cell.
     #[inline]
@@ -27,6 +38,15 @@ impl SpannedConfig {
         ensures { result ≡ true → (column : ℕ) → (style_at self.now row column).padding ≡ (style_at self.now other column).padding }
     {
         self.padding.are_alike(row, other)
+    }
+
+    /// Whether the cells of all rows are known to be padded alike, column by column: where no padding was set for a row, nor for a cell.
+    #[tactic(auto, unfolding(crate::specs::Settings::style_at))]
+    pub fn are_all_padded_alike(&self) -> bool
+        ensures { result ≡ true → (row other column : ℕ)
+            → (style_at self.now row column).padding ≡ (style_at self.now other column).padding }
+    {
+        self.padding.are_all_alike()
     }
 
     /// How the texts of all cells stand, where nothing was set for parts of the table.

@@ -12,7 +12,7 @@ measure_row-requires-in-Unlike-Some-clause-told g c = record {
       let known = rw c.in-Unlike-Some.is at c.requires.known.is in
       let some = rw c.in-Unlike-Some.is at c.in-Unlike-Some.field-0-is in
       let listed = rw some at known in
-      ap (λ extents. slice_index_or extents column nothing) (c.as_slice.ensures.value ∙ listed)
+      ap (λ extents. slice_index_or extents column nothing) (c.as_slice.ensures.value ∙ listed.extents)
       ∙ get_or-map-range_with_len (added_at c.args.config.now c.in-Unlike-Some.listed.reference) 0 count column column nothing inside (omega arith)
-      ∙ ap added_by (sym (c.are_padded_alike.ensures c.if-are_padded_alike.true column));
+      ∙ ap added_by (sym (c.is_padded_in.ensures count listed c.if-is_padded_in.true column));
 }

@@ -5,7 +5,7 @@ use Rattle.tabled_entity.specs.Series.{told}
 use Rattle.tabled_entity.proofs.Telling.{told-first}
 use Rattle.tabled_entity.proofs.entity_map.EntityMap.told_in.Goals as goal
 
--- src/entity_map.rt:180:5
+-- where enough columns are listed, the value that is listed for each is the one that was set
 pub returns : goal.returns
 returns g c = λ column within.
     let series = c.self.inside.series in

@@ -3,7 +3,7 @@ use Rattle.std.proofs.lemmas.Option.{slice_get-get_or}
 use Rattle.tabled_entity.proofs.Telling.{told-within}
 use Rattle.tabled_entity.proofs.series.Series.row.Goals as goal
 
--- src/series.rt:141:5
+-- in each column that is listed a value is told
 pub returns-clause-all : goal.returns-clause-all
 returns-clause-all g c = λ listed column within.
     let place = c.in_ok-place_of.field-0 in

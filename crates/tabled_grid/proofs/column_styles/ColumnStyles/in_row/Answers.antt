@@ -7,4 +7,4 @@ pub returns-in-Some : goal.returns-in-Some
 returns-in-Some c = λ width columns known.
     let kept = rw c.in-Some.is at known.styles in
     c.as_slice.ensures.value ∙ kept ∙ alike-maps (style_at c.args.config.now c.args.self.now.row) (style_at c.args.config.now c.args.row) 0 columns
-    (λ column. sym (c.are_alike.ensures c.if-are_alike.true column))
+    (λ column. sym (c.is_set_in.ensures width columns known c.if-is_set_in.true column))

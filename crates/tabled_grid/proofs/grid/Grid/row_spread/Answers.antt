@@ -11,7 +11,7 @@ each-spread : (styles : ℕ → CellStyle) (o : Option Spread) → ((column : �
 each-spread styles None each = tt
 each-spread styles (Some spread) each = each
 
--- src/grid.rt:113:5
+-- how texts with the row's padding and alignment stand is how each of the row stands
 pub returns : goal.returns
 returns g c =
     let config = c.self.inside.config.now in

@@ -1,7 +1,7 @@
 use Rattle.std.proofs.Common.{◌∙◌}
 use Rattle.tabled_row.proofs.row_aims.ToldAimsTellAims.at.Goals as goal
 
--- src/row_aims.rt:154:5
+-- where the paddings differ, the text stands as the one of its column says
 pub returns-in_ok-of-in-None-clause-aim : goal.returns-in_ok-of-in-None-clause-aim
 returns-in_ok-of-in-None-clause-aim c = λ row tells within width.
     let style = row.style c.args.column in
