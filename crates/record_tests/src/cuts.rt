@@ -1,6 +1,6 @@
 //! Where texts are cut.
 use std::test::Fail;
-use tabled_text::{cut_str, split_str};
+use tabled_text::{cut_length, cut_str, split_str};
 
 #[test]
 fn a_cut_stops_at_a_full_line(rt: HostRuntime) -> Result<(), Fail> {
@@ -61,6 +61,23 @@ fn what_follows_a_cut_lacks_the_dropped_character(rt: HostRuntime) -> Result<(),
         let parts = split_str(rt.alloc(), text, n)?;
         assert_eq!(rt; &*parts.0, front, "{text} at {n}");
         assert_eq!(rt; parts.1, after, "{text} at {n}");
+    }
+    Ok(())
+}
+
+#[test]
+fn a_cut_without_filling_is_a_beginning(rt: HostRuntime) -> Result<(), Fail> {
+    for (text, n, want) in [
+        ("123\n456789", 4, Some(8)),
+        ("123\n45", 3, Some(3)),
+        ("😳😳😳😳😳", 4, Some(8)),
+        ("😳😳😳😳😳", 3, None),
+        ("中", 1, None),
+        ("ﾃｽﾄﾃｽﾄ", 4, Some(12)),
+        ("abc", 0, Some(0)),
+        ("", 5, Some(0)),
+    ] {
+        assert_eq!(rt; cut_length(text, n), want, "{text} at {n}");
     }
     Ok(())
 }

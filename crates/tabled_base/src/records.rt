@@ -1,5 +1,6 @@
 //! What records of cells offer.
-ghost use Rattle.std.specs.Prelude.{◌≡◌, ℕ, List, IfErr, OnErr, OnOk, length, string_bytes};
+ghost use Rattle.std.specs.Prelude.{◌≡◌, ℕ, List, IfErr, OnErr, OnOk, length, string_bytes, take};
+ghost use Rattle.std.specs.Str.{IsCharBoundary};
 ghost use Rattle.tabled_base.specs.Cells.{IsInside, IsRectangular, cell_at, columns, with_cell};
 ghost use Rattle.tabled_base.specs.declared.error.TableError.TheVariants.{Memory};
 ghost use Rattle.tabled_text.specs.Measure.{lines_of, text_columns};
@@ -136,6 +137,13 @@ pub trait RecordsMut: PeekableRecords {
             ≡ with_cell (Self.cells self.old) at.row at.column (string_bytes text)) }
         ensures err { OnErr result (Self.cells self.new ≡ Self.cells self.old) }
         ensures only { IfErr result (λ e. e ≡ Memory) };
+
+    /// Lets the text of a cell end after so many bytes, which takes no memory. The other cells stay.
+    fn shorten(&mut self, at: Position, length: usize)
+        requires inside { IsInside (Self.cells self.old) at.row at.column }
+        requires boundary { IsCharBoundary (cell_at (Self.cells self.old) at.row at.column) length }
+        ensures { Self.cells self.new ≡ with_cell (Self.cells self.old) at.row at.column
+            (take length (cell_at (Self.cells self.old) at.row at.column)) };
 
     /// What the records grow by.
     fn allocator(&self) -> Global;

@@ -1,11 +1,13 @@
 //! A text of few bytes, which stands in a value itself, or a text of another type.
-ghost use Rattle.std.specs.Prelude.{◌≡◌, ◌<◌, IfErr, IfOk, length, string_bytes};
+ghost use Rattle.std.specs.Prelude.{◌≡◌, ◌<◌, IfErr, IfOk, length, string_bytes, take};
+ghost use Rattle.std.specs.Str.{IsCharBoundary};
 ghost use Rattle.tabled_base.specs.ShortOr.{bytes_of};
 ghost use Rattle.tabled_base.specs.declared.error.TableError.TheVariants.{Memory};
 
 use crate::error::TableError;
 use arrayvec::ArrayString;
 use std::alloc::Global;
+use std::borrow::CowStr;
 use std::convert::AsStr;
 use std::fmt;
 
@@ -19,6 +21,32 @@ pub(crate) enum ShortOr<S> {
     Other(S),
 }
 
+/// A text that can end before its end.
+pub(crate) trait Shorten: AsStr {
+    /// Lets the text end after so many bytes, which takes no memory.
+    fn shorten(&mut self, length: usize)
+        requires { IsCharBoundary (Self.AsStr.text self.old) length }
+        ensures { Self.AsStr.text self.new ≡ take length (Self.AsStr.text self.old) };
+}
+
+impl Shorten for String {
+    fn shorten(&mut self, length: usize) {
+        self.truncate(length);
+    }
+}
+
+impl<'a> Shorten for CowStr<'a, Global> {
+    fn shorten(&mut self, length: usize) {
+        match self {
+            CowStr::Borrowed(text) => {
+                let (front, _) = text.split_at(length);
+                *text = front;
+            }
+            CowStr::Owned(text) => text.truncate(length),
+        }
+    }
+}
+
 impl<S: AsStr> ShortOr<S> {
     /// The text.
     #[inline(always)]
@@ -28,6 +56,19 @@ impl<S: AsStr> ShortOr<S> {
         match self {
             ShortOr::Short(short) => short.as_str(),
             ShortOr::Other(other) => other.as_str(),
+        }
+    }
+}
+
+impl<S: Shorten> ShortOr<S> {
+    /// Lets the text end after so many bytes.
+    pub fn shorten(&mut self, length: usize)
+        requires { IsCharBoundary (bytes_of S.AsStr.text self.old) length }
+        ensures { bytes_of S.AsStr.text self.new ≡ take length (bytes_of S.AsStr.text self.old) }
+    {
+        match self {
+            ShortOr::Short(short) => short.truncate(length),
+            ShortOr::Other(other) => other.shorten(length),
         }
     }
 }

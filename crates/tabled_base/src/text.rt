@@ -1,5 +1,6 @@
 //! A text with its measures.
-ghost use Rattle.std.specs.Prelude.{◌≡◌, ◌<◌, ℕ, List, length, IfErr, IfOk};
+ghost use Rattle.std.specs.Prelude.{◌≡◌, ◌<◌, ℕ, List, length, take, IfErr, IfOk};
+ghost use Rattle.std.specs.Str.{IsCharBoundary};
 ghost use Rattle.tabled_base.specs.Cells.{IsInside, cell_at};
 ghost use Rattle.tabled_base.specs.declared.error.TableError.TheVariants.{Memory};
 ghost use Rattle.tabled_text.specs.Measure.{lines_of, text_columns};
@@ -7,7 +8,7 @@ ghost use Rattle.tabled_text.specs.Measure.{lines_of, text_columns};
 use crate::error::TableError;
 use crate::position::Position;
 use crate::records::{CellText, PeekableRecords};
-use crate::short_or::{SHORT_TEXT, ShortOr};
+use crate::short_or::{SHORT_TEXT, ShortOr, Shorten};
 use std::alloc::Global;
 use std::borrow::CowStr;
 use std::convert::AsStr;
@@ -58,6 +59,19 @@ impl<S: AsStr + Drop> Text<S> {
             columns,
             lines,
         }
+    }
+}
+
+impl<S: Shorten> Text<S> {
+    /// Lets the text end after so many bytes.
+    pub(crate) fn shorten(&mut self, length: usize)
+        requires { IsCharBoundary self.old length }
+        ensures { self.new ≡ take length self.old }
+    {
+        self.text.shorten(length);
+        let (columns, lines) = text_measures(self.text.as_str());
+        self.columns = columns;
+        self.lines = lines;
     }
 }
 

@@ -1,11 +1,13 @@
 //! Records in vectors.
-ghost use Rattle.std.specs.Prelude.{◌≡◌, ℕ, List, IfErr, IfOk, OnErr, OnOk, map, string_bytes, ⊤};
-ghost use Rattle.tabled_base.specs.Cells.{IsInside, IsRectangular, columns, row_texts, texts_of, with_cell};
+ghost use Rattle.std.specs.Prelude.{◌≡◌, ℕ, List, IfErr, IfOk, OnErr, OnOk, map, string_bytes, take, ⊤};
+ghost use Rattle.std.specs.Str.{IsCharBoundary};
+ghost use Rattle.tabled_base.specs.Cells.{IsInside, IsRectangular, cell_at, columns, row_texts, texts_of, with_cell};
 ghost use Rattle.tabled_base.specs.declared.error.TableError.TheVariants.{Memory};
 
 use crate::error::TableError;
 use crate::position::Position;
 use crate::records::{CellText, ExactRecords, PeekableRecords, Records, RecordsMut};
+use crate::short_or::Shorten;
 use crate::text::Text;
 use std::alloc::Global;
 use std::borrow::CowStr;
@@ -64,6 +66,18 @@ impl<S: AsStr + Drop> VecRecords<Text<S>> {
     {
         let row = &mut self.rows[at.row];
         row[at.column] = text;
+    }
+}
+
+impl<S: Shorten> VecRecords<Text<S>> {
+    /// Lets the text of a cell end after so many bytes.
+    fn shorten_cell(&mut self, at: Position, length: usize)
+        requires inside { IsInside self.old at.row at.column }
+        requires boundary { IsCharBoundary (cell_at self.old at.row at.column) length }
+        ensures { self.new ≡ with_cell self.old at.row at.column (take length (cell_at self.old at.row at.column)) }
+    {
+        let row = &mut self.rows[at.row];
+        row[at.column].shorten(length);
     }
 }
 
@@ -161,6 +175,10 @@ impl RecordsMut for VecRecords<Text<String>> {
         Ok(())
     }
 
+    fn shorten(&mut self, at: Position, length: usize) {
+        self.shorten_cell(at, length);
+    }
+
     fn allocator(&self) -> Global {
         *self.rows.allocator()
     }
@@ -177,6 +195,10 @@ impl<'a> RecordsMut for VecRecords<Text<CowStr<'a, Global>>> {
     {
         self.put(at, Text::new(CowStr::Owned(text)));
         Ok(())
+    }
+
+    fn shorten(&mut self, at: Position, length: usize) {
+        self.shorten_cell(at, length);
     }
 
     fn allocator(&self) -> Global {

@@ -30,7 +30,7 @@ IsCut-nothing text =
       characters = chars-nil ∙ ap (λ n. replicate n 0xFFFD) (sym (missing-none (chars text)));
     }
 
-no_columns : suffix_columns [] ≡ 0
+pub no_columns : suffix_columns [] ≡ 0
 no_columns = let e = plain_line-nil.columns in let s = sum_by-cons line_columns [] [] in omega (arith, e, s)
 
 IsCut-bare : (n left : ℕ) (used text answer : List ℕ) → used ≡ [] → left ≡ suc n → IsEnded left used text answer → IsCut (suc n) text answer

@@ -1,5 +1,5 @@
 -- Line feeds, encoded.
-use Rattle.std.proofs.Common.{◌≡◌, ℕ, zero, suc, ◌++◌, ◌∷◌, [], ap, ◌∙◌, refl, encode_utf8, encode_utf8_all, lit<, replicate}
+use Rattle.std.proofs.Common.{◌≡◌, ℕ, zero, suc, ◌++◌, ◌∷◌, ap, ◌∙◌, refl, encode_utf8_all, lit<, replicate}
 use Rattle.std.proofs.lemmas.Str.{encode_ascii}
 
 pub copied_feeds : (n : ℕ) → encode_utf8_all (replicate n 10) ≡ replicate n 10

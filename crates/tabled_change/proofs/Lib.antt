@@ -1,4 +1,5 @@
 pub mod Bare
+pub mod Beginnings
 pub mod ChangingCells
 pub mod CopiedFeeds
 pub mod Endings

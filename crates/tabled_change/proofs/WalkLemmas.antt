@@ -1,13 +1,14 @@
 -- Cells that are visited line by line, in bands of lines and of places.
-use Rattle.std.proofs.Common.{◌≡◌, ℕ, ◌+◌, ◌<◌, ◌≤◌, ◌==◌, Bool, true, false, ◌&&◌, ◌||◌, List, nat_lt, ap, subst, sym, ◌∙◌, arith}
+use Rattle.std.proofs.Common.{◌≡◌, ℕ, ◌+◌, ◌<◌, ◌≤◌, ◌==◌, Bool, true, false, ◌&&◌, ◌||◌, List, Option, nat_lt, ap, subst, sym, ◌∙◌, arith}
 use Rattle.tabled_base.specs.Cells.{IsInside, cell_at}
 use Rattle.tabled_base.specs.declared.position.Entity.TheVariants.{Cell}
 use Rattle.tabled_entity.specs.Changes.{covers}
 use Rattle.tabled_change.specs.CellChanges.{AreChanged, AreChangedBefore, line_of, place_of, precedes}
-use Rattle.tabled_change.specs.Walking.{is_within, lines_in, on_line, places_in}
+use Rattle.tabled_change.specs.Walking.{AreShortened, IsShortened, is_within, lines_in, on_line, places_in}
 use Rattle.tabled_change.specs.declared.order.Order.{Order}
 use Rattle.tabled_change.specs.declared.order.Order.TheVariants.{ByColumn, ByRow}
 use Rattle.tabled_change.specs.declared.walk.Band.{Band}
+use Rattle.tabled_change.specs.declared.which.Which.{Which}
 use Rattle.tabled_change.proofs.ChangingCells.{AreChanged-both, AreChanged-same, IsEither, IsInside-before, at-other}
 
 -- a cell on one of the lines is inside
@@ -110,3 +111,21 @@ module _ (order : Order) (band : Band) {taken : ℕ → ℕ → List ℕ → Boo
             subst (λ l. IsEither (covers r c && precedes order l y r c) (covers r c && precedes order line 0 r c) (on_line order line band r c && precedes order l y r c)) (sym here)
             (lines-some order (covers r c) lines band line y r c (is r c i) from to));
       }
+
+-- ---- cells of which beginnings are left
+
+module _ (order : Order) (band : Band) {change : ℕ → ℕ → List ℕ → List ℕ → Type 0} {old between : List (List (List ℕ))} (which : Which) (shortens : ℕ → List ℕ → Type 0) (rooms : ℕ → ℕ → Option ℕ) where
+  -- behind other lines a line has only such cells, if only they are walked
+  pub shortened-later : (covers : ℕ → ℕ → Bool) (lines : Band) (line : ℕ) → ((r c : ℕ) → IsInside old r c → covers r c ≡ (is_within lines (line_of order r c) && is_within band (place_of order r c)))
+      → lines.first ≤ line → line < lines.end
+      → AreChanged (λ r c. covers r c && precedes order line 0 r c) change old between
+      → AreShortened covers which shortens rooms old
+      → AreShortened (on_line order line band) which shortens rooms between
+  shortened-later covers lines line is from to h all = λ row column inside on.
+      let x = line_of order row column in
+      let y = place_of order row column in
+      let within = IsInside-before h inside in
+      let here : x ≡ line = on_line-line line x y band on in
+      subst (IsShortened which shortens rooms row column)
+      (sym (at-other row column h within (first-free (covers row column) line x y here)))
+      (all row column within (covered-there (covers row column) lines band line x y (is row column within) from to on))

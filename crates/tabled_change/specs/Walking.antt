@@ -1,7 +1,7 @@
 -- Cells that are visited line by line: rows or columns, in a band of them.
-use Rattle.std.specs.Prelude.{ℕ, ◌==◌, ◌&&◌, Bool, List, Option, length, nat_le, nat_lt}
-use Rattle.tabled_base.specs.Cells.{columns}
-use Rattle.tabled_change.specs.CellChanges.{if_taken, in_room, is_taken_in, line_of, place_of}
+use Rattle.std.specs.Prelude.{◌≡◌, ℕ, ◌==◌, ◌&&◌, Bool, IfSome, List, Option, length, nat_le, nat_lt, true}
+use Rattle.tabled_base.specs.Cells.{IsInside, cell_at, columns}
+use Rattle.tabled_change.specs.CellChanges.{if_taken, in_room, is_taken, is_taken_in, line_of, place_of}
 use Rattle.tabled_change.specs.declared.order.Order.{Order}
 use Rattle.tabled_change.specs.declared.order.Order.TheVariants.{ByColumn, ByRow}
 use Rattle.tabled_change.specs.declared.walk.Band.{Band}
@@ -31,3 +31,12 @@ leaves which change rooms row column before after = in_room (if_taken which chan
 -- whether a walk changes a text: that of a cell with a room, if it is one of those that are
 abbrev pub takes : Which → (ℕ → ℕ → Option ℕ) → ℕ → ℕ → List ℕ → Bool
 takes which rooms row column text = is_taken_in which (rooms row column) text
+
+-- a walk leaves a beginning of a text, for which it wants no memory, if it changes it
+abbrev pub IsShortened : Which → (ℕ → List ℕ → Type 0) → (ℕ → ℕ → Option ℕ) → ℕ → ℕ → List ℕ → Type 0
+IsShortened which shortens rooms row column text = IfSome (rooms row column) (λ room. is_taken which room text ≡ true → shortens room text)
+
+-- so it does of the texts of all cells that are chosen
+abbrev pub AreShortened : (ℕ → ℕ → Bool) → Which → (ℕ → List ℕ → Type 0) → (ℕ → ℕ → Option ℕ) → List (List (List ℕ)) → Type 0
+AreShortened chosen which shortens rooms cells =
+    (row column : ℕ) → IsInside cells row column → chosen row column ≡ true → IsShortened which shortens rooms row column (cell_at cells row column)

@@ -1,21 +1,32 @@
 //! Texts of cells that are changed in place.
-ghost use Rattle.std.specs.Prelude.{◌≡◌, ℕ, true, IfErr, IfOk, List, OnErr, OnOk, string_bytes};
+ghost use Rattle.std.specs.Prelude.{◌≡◌, ℕ, true, IfErr, IfNone, IfOk, IfSome, List, OnErr, OnOk, string_bytes, take};
+ghost use Rattle.std.specs.Str.{IsCharBoundary};
 ghost use Rattle.tabled_base.specs.Cells.{IsInside, cell_at};
 ghost use Rattle.tabled_base.specs.declared.error.TableError.TheVariants.{Memory};
 ghost use Rattle.tabled_base.specs.declared.position.Entity.TheVariants.{Cell};
 ghost use Rattle.tabled_entity.specs.Changes.{covers};
 ghost use Rattle.tabled_change.specs.CellChanges.{AreChanged};
-ghost use Rattle.tabled_change.specs.Walking.{leaves, takes};
+ghost use Rattle.tabled_change.specs.Walking.{IsShortened, leaves, takes};
 
 use crate::rooms::Rooms;
 use crate::which::Which;
 use std::alloc::Global;
-use tabled_base::{Position, RecordsMut, TableError};
+use tabled_base::{PeekableRecords, Position, RecordsMut, TableError};
 
 /// A rule for one text: what is made of it in a room, a number of columns or of lines.
 pub trait TextRule {
     // Holds of the room, a text, and what may be made of it.
     ghost makes: { Self → ℕ → List ℕ → List ℕ → Type 0 };
+
+    // Holds of a room and a text of which a beginning is left, for which no memory is wanted.
+    ghost shortens: { Self → ℕ → List ℕ → Type 0 };
+
+    /// How long the beginning is that is left of a text, in bytes, if one is.
+    fn beginning(&self, text: &str, room: usize) -> Option<usize>
+        ensures made { IfSome result (λ length. makes self.now room text.now (take length text.now)) }
+        ensures boundary { IfSome result (λ length. IsCharBoundary text.now length) }
+        ensures some { IfSome result (λ _. shortens self.now room text.now) }
+        ensures none { IfNone result (shortens self.now room text.now → ⊥) };
 
     /// The other text. Refused with `Memory` alone.
     fn changed_text(&self, alloc: Global, text: &str, room: usize) -> Result<String, TableError>
@@ -32,8 +43,22 @@ pub struct Change<'a, T, M> {
 }
 
 impl<'a, T: TextRule, M: Rooms> Change<'a, T, M> {
+    /// Whether a cell stays, or a beginning of its text is left.
+    pub(crate) fn is_shortened<R: PeekableRecords>(&self, records: &R, at: Position) -> bool
+        requires { IsInside (R.cells records.now) at.row at.column }
+        ensures { result ≡ true → IsShortened self.now.which (T.shortens self.now.rule.now) (M.room_at self.now.rooms.now)
+            at.row at.column (cell_at (R.cells records.now) at.row at.column) }
+    {
+        match self.rooms.room(at) {
+            Some(room) if self.which.takes(records, at, room) => {
+                self.rule.beginning(records.get_text(at), room).is_some()
+            }
+            _ => true,
+        }
+    }
+
     /// Changes a cell that has a room, if its text is one that is changed. The others stay, and all do where
-    /// memory is refused, which is wanted for such a text alone.
+    /// memory is refused, which is wanted for such a text alone, and only if more than a beginning of it is left.
     pub(crate) fn change_cell<R: RecordsMut>(
         &self,
         records: &mut R,
@@ -46,6 +71,8 @@ impl<'a, T: TextRule, M: Rooms> Change<'a, T, M> {
         ensures err { OnErr result (R.cells records.new ≡ R.cells records.old) }
         ensures taken { OnErr result (takes self.now.which (M.room_at self.now.rooms.now) at.row at.column
             (cell_at (R.cells records.old) at.row at.column) ≡ true) }
+        ensures longer { OnErr result (IsShortened self.now.which (T.shortens self.now.rule.now) (M.room_at self.now.rooms.now)
+            at.row at.column (cell_at (R.cells records.old) at.row at.column) → ⊥) }
         ensures only { IfErr result (λ e. e ≡ Memory) }
     {
         let Some(room) = self.rooms.room(at) else {
@@ -69,9 +96,14 @@ fn set_changed<T: TextRule, R: RecordsMut>(
     ensures ok { OnOk result (AreChanged (covers (Cell at.row at.column)) (λ row column. T.makes rule.now room)
         (R.cells records.old) (R.cells records.new)) }
     ensures err { OnErr result (R.cells records.new ≡ R.cells records.old) }
+    ensures longer { OnErr result (T.shortens rule.now room (cell_at (R.cells records.old) at.row at.column) → ⊥) }
     ensures only { IfErr result (λ e. e ≡ Memory) }
 {
     let _columns = records.count_columns();
+    if let Some(length) = rule.beginning(records.get_text(at), room) {
+        records.shorten(at, length);
+        return Ok(());
+    }
     let text = rule.changed_text(records.allocator(), records.get_text(at), room)?;
     records.set(at, text)
 }

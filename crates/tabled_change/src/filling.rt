@@ -17,6 +17,12 @@ pub struct Filling {
 impl TextRule for Filling {
     ghost makes = { λ s. filling s.fill };
 
+    ghost shortens = { λ s room text. ⊥ };
+
+    fn beginning(&self, _text: &str, _room: usize) -> Option<usize> {
+        None
+    }
+
     fn changed_text(&self, alloc: Global, text: &str, room: usize) -> Result<String, TableError> {
         let mut answer = String::new(alloc);
         let mut begun = false;

@@ -17,6 +17,12 @@ pub struct Justifying;
 impl TextRule for Justifying {
     ghost makes = { λ s. IsJustified };
 
+    ghost shortens = { λ s room text. ⊥ };
+
+    fn beginning(&self, _text: &str, _room: usize) -> Option<usize> {
+        None
+    }
+
     fn changed_text(&self, alloc: Global, text: &str, room: usize) -> Result<String, TableError> {
         let filled = if text_width(text) < room {
             Filling { fill: ' ' }.changed_text(alloc, text, room)?

@@ -14,6 +14,12 @@ pub struct Lengthening;
 impl TextRule for Lengthening {
     ghost makes = { λ s. lengthening };
 
+    ghost shortens = { λ s room text. ⊥ };
+
+    fn beginning(&self, _text: &str, _room: usize) -> Option<usize> {
+        None
+    }
+
     fn changed_text(&self, alloc: Global, text: &str, room: usize) -> Result<String, TableError> {
         let mut answer = String::from_str(alloc, text)?;
         push_copies(&mut answer, '\n', room.saturating_sub(count_lines(text)))?;
@@ -27,6 +33,12 @@ pub struct Limiting;
 
 impl TextRule for Limiting {
     ghost makes = { λ s. limiting };
+
+    ghost shortens = { λ s room text. ⊥ };
+
+    fn beginning(&self, _text: &str, _room: usize) -> Option<usize> {
+        None
+    }
 
     fn changed_text(&self, alloc: Global, text: &str, room: usize) -> Result<String, TableError> {
         let mut answer = String::new(alloc);

@@ -1,14 +1,15 @@
 //! The rule by which a text is truncated.
-ghost use Rattle.std.specs.Prelude.{◌≡◌, IfOk, OnOk, string_bytes};
+ghost use Rattle.std.specs.Prelude.{◌≡◌, [], IfOk, OnOk, false, string_bytes};
 ghost use Rattle.std.specs.Cow.{cow_str_bytes};
 ghost use Rattle.tabled_change.specs.CellChanges.{truncating};
 ghost use Rattle.tabled_change.specs.Truncated.{AddsEnded, HasEndedLines};
+ghost use Rattle.tabled_text.specs.Cut.{NeedsFill};
 
 use crate::changing::TextRule;
 use crate::suffix::{SuffixLimit, UsedSuffix, used_suffix};
 use std::alloc::{AllocError, Global};
 use tabled_base::TableError;
-use tabled_text::{cut_str, lines};
+use tabled_text::{cut_length, cut_str, lines};
 
 /// Truncates a text to the columns of its room. Where the suffix leaves columns of the room, the text is cut to these
 /// and the suffix follows; else the limit says what stands there. In no column stands nothing.
@@ -24,6 +25,18 @@ pub struct Truncating<'a> {
 
 impl<'a> TextRule for Truncating<'a> {
     ghost makes = { λ s. truncating s.suffix.now s.limit s.multiline };
+
+    ghost shortens = { λ s room text. (s.suffix.now ≡ []) × (s.multiline ≡ false) × (NeedsFill room text → ⊥) };
+
+    fn beginning(&self, text: &str, room: usize) -> Option<usize> {
+        if self.multiline || !self.suffix.is_empty() {
+            None
+        } else if room == 0 {
+            Some(0)
+        } else {
+            cut_length(text, room)
+        }
+    }
 
     fn changed_text(&self, alloc: Global, text: &str, room: usize) -> Result<String, TableError> {
         let used = used_suffix(alloc, self.suffix, self.limit, room)?;

@@ -1,15 +1,16 @@
 //! The cells of an entity, changed one after another.
-ghost use Rattle.std.specs.Prelude.{◌≡◌, ◌≤◌, ◌<◌, ◌==◌, ◌&&◌, ℕ, IfErr, OnErr, OnOk};
-ghost use Rattle.tabled_base.specs.Cells.{IsInside};
+ghost use Rattle.std.specs.Prelude.{◌≡◌, ◌≤◌, ◌<◌, ◌==◌, ◌&&◌, ℕ, IfErr, OnErr, OnOk, length, true};
+ghost use Rattle.tabled_base.specs.Cells.{IsInside, columns};
 ghost use Rattle.tabled_base.specs.declared.error.TableError.TheVariants.{Memory};
 ghost use Rattle.tabled_entity.specs.Changes.{covers};
 ghost use Rattle.tabled_change.specs.CellChanges.{AreChanged, AreChangedBefore, line_of, place_of};
-ghost use Rattle.tabled_change.specs.Walking.{is_within, leaves, lines_in, on_line, places_in, takes};
+ghost use Rattle.tabled_change.specs.Walking.{AreShortened, is_within, leaves, lines_in, on_line, places_in, takes};
+ghost use Rattle.tabled_change.specs.declared.order.Order.TheVariants.{ByRow};
 
 use crate::changing::{Change, TextRule};
 use crate::order::Order;
 use crate::rooms::Rooms;
-use tabled_base::{Entity, ExactRecords, RecordsMut, TableError};
+use tabled_base::{Entity, ExactRecords, Position, RecordsMut, TableError};
 
 /// Rows or columns beside each other: the first of them, and the one after the last.
 #[derive(Clone, Copy)]
@@ -91,6 +92,8 @@ fn change_line<T: TextRule, M: Rooms, R: RecordsMut>(
         (takes by.now.which (M.room_at by.now.rooms.now))
         (leaves by.now.which (T.makes by.now.rule.now) (M.room_at by.now.rooms.now))
         (R.cells records.old) (R.cells records.new)) }
+    ensures longer { OnErr result (AreShortened (on_line order line band) by.now.which (T.shortens by.now.rule.now)
+        (M.room_at by.now.rooms.now) (R.cells records.old) → ⊥) }
     ensures only { IfErr result (λ e. e ≡ Memory) }
 {
     'places: for place in band.first..band.end {
@@ -99,8 +102,72 @@ fn change_line<T: TextRule, M: Rooms, R: RecordsMut>(
     Ok(())
 }
 
+/// Changes the cells of an entity that have a room and whose texts are ones that are changed, in some order.
+fn walk_cells<T: TextRule, M: Rooms, R: RecordsMut>(
+    by: &Change<'_, T, M>,
+    records: &mut R,
+    order: Order,
+    entity: Entity,
+) -> Result<(), TableError>
+    ensures ok { OnOk result (AreChanged (covers entity)
+        (leaves by.now.which (T.makes by.now.rule.now) (M.room_at by.now.rooms.now))
+        (R.cells records.old) (R.cells records.new)) }
+    ensures err { OnErr result (AreChangedBefore order (covers entity)
+        (takes by.now.which (M.room_at by.now.rooms.now))
+        (leaves by.now.which (T.makes by.now.rule.now) (M.room_at by.now.rooms.now))
+        (R.cells records.old) (R.cells records.new)) }
+    ensures longer { OnErr result (AreShortened (covers entity) by.now.which (T.shortens by.now.rule.now)
+        (M.room_at by.now.rooms.now) (R.cells records.old) → ⊥) }
+    ensures only { IfErr result (λ e. e ≡ Memory) }
+{
+    let (lines, places) = lines_of_entity(entity, order, records);
+    'lines: for line in lines.first..lines.end {
+        change_line(by, records, order, line, places)?;
+    }
+    Ok(())
+}
+
+/// Whether the cells of a row that stand in a band of columns stay, or beginnings of their texts are left.
+fn are_shortened_in<T: TextRule, M: Rooms, R: RecordsMut>(
+    by: &Change<'_, T, M>,
+    records: &R,
+    row: usize,
+    band: Band,
+) -> bool
+    requires row_in { row < length (R.cells records.now) }
+    requires columns_in { band.end ≤ columns (R.cells records.now) }
+    ensures { result ≡ true → AreShortened (on_line ByRow row band) by.now.which (T.shortens by.now.rule.now)
+        (M.room_at by.now.rooms.now) (R.cells records.now) }
+{
+    'columns: for column in band.first..band.end {
+        if !by.is_shortened(records, Position { row, column }) {
+            return false;
+        }
+    }
+    true
+}
+
+/// Whether the cells of an entity stay, or beginnings of their texts are left, so that no memory is wanted for any of them.
+fn are_shortened<T: TextRule, M: Rooms, R: RecordsMut>(
+    by: &Change<'_, T, M>,
+    records: &R,
+    entity: Entity,
+) -> bool
+    ensures { result ≡ true → AreShortened (covers entity) by.now.which (T.shortens by.now.rule.now)
+        (M.room_at by.now.rooms.now) (R.cells records.now) }
+{
+    let (rows, columns) = bands_of(entity, records.count_rows(), records.count_columns());
+    'rows: for row in rows.first..rows.end {
+        if !are_shortened_in(by, records, row, columns) {
+            return false;
+        }
+    }
+    true
+}
+
 /// Changes the cells of an entity that have a room and whose texts are ones that are changed, in some order. No
 /// other cell is visited. Refused with `Memory` alone, at one of these cells: it and those after it are the old ones.
+/// Where only beginnings of texts are left, none is refused: then cells are changed row by row, as they stand in memory.
 pub fn change_cells<T: TextRule, M: Rooms, R: RecordsMut>(
     by: &Change<'_, T, M>,
     records: &mut R,
@@ -116,9 +183,10 @@ pub fn change_cells<T: TextRule, M: Rooms, R: RecordsMut>(
         (R.cells records.old) (R.cells records.new)) }
     ensures only { IfErr result (λ e. e ≡ Memory) }
 {
-    let (lines, places) = lines_of_entity(entity, order, records);
-    'lines: for line in lines.first..lines.end {
-        change_line(by, records, order, line, places)?;
+    match order {
+        Order::ByColumn if are_shortened(by, records, entity) => {
+            walk_cells(by, records, Order::ByRow, entity)
+        }
+        _ => walk_cells(by, records, order, entity),
     }
-    Ok(())
 }

@@ -17,6 +17,12 @@ pub struct Wrapping {
 impl TextRule for Wrapping {
     ghost makes = { λ s. wrapping s.keep_words };
 
+    ghost shortens = { λ s room text. ⊥ };
+
+    fn beginning(&self, _text: &str, _room: usize) -> Option<usize> {
+        None
+    }
+
     fn changed_text(&self, alloc: Global, text: &str, room: usize) -> Result<String, TableError> {
         Ok(wrap_text(alloc, text, room, self.keep_words)?)
     }

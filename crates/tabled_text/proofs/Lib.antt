@@ -3,6 +3,7 @@ pub mod BoundLemmas
 pub mod Bridge
 pub mod CheckLemmas
 pub mod CutLemmas
+pub mod CutOnce
 pub mod CutRoom
 pub mod Each
 pub mod FewestGroups

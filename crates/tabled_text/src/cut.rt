@@ -1,5 +1,6 @@
 //! Cutting a text to some columns.
-ghost use Rattle.std.specs.Prelude.{◌≡◌, ◌++◌, ◌<◌, chars, replicate, encode_utf8_all, IfOk, OnErr, OnOk, IsUtf8, string_bytes};
+ghost use Rattle.std.specs.Prelude.{◌≡◌, ◌++◌, ◌<◌, chars, length, replicate, take, encode_utf8_all, IfNone, IfOk, IfSome, OnErr, OnOk, IsUtf8, string_bytes};
+ghost use Rattle.std.specs.Str.{IsCharBoundary};
 ghost use Rattle.std.specs.Cow.{cow_str_bytes, IsOwnedStr};
 ghost use Rattle.tabled_text.specs.Cut.{IsCut, IsSplit, IsParted, NeedsFill};
 
@@ -21,6 +22,8 @@ fn part(text: &str, n: usize) -> Parts<'_>
     ensures parted { IsParted n (chars text.now) (chars result.front.now) result.missing (chars result.after.now) }
     ensures front { IsUtf8 result.front.now }
     ensures after { IsUtf8 result.after.now }
+    ensures beginning { take (length result.front.now) text.now ≡ result.front.now }
+    ensures boundary { IsCharBoundary text.now (length result.front.now) }
 {
     let mut rest = text;
     let mut columns = 0;
@@ -78,6 +81,21 @@ pub fn cut_str(alloc: Global, text: &str, n: usize) -> Result<CowStr<'_, Global>
 {
     let parts = part(text, n);
     fill(alloc, parts.front, parts.missing)
+}
+
+/// How many bytes `cut_str` leaves of a text where they are a beginning of it, in which no U+FFFD stands for a column.
+pub fn cut_length(text: &str, n: usize) -> Option<usize>
+    ensures cut { IfSome result (λ length. IsCut n text.now (take length text.now)) }
+    ensures boundary { IfSome result (λ length. IsCharBoundary text.now length) }
+    ensures some { IfSome result (λ _. NeedsFill n text.now → ⊥) }
+    ensures none { IfNone result (NeedsFill n text.now) }
+{
+    let parts = part(text, n);
+    if parts.missing == 0 {
+        Some(parts.front.len())
+    } else {
+        None
+    }
 }
 
 /// A text as `cut_str` cuts it, and what follows its beginning and a dropped character. Refused as `cut_str` is.

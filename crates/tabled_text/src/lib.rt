@@ -18,7 +18,7 @@ mod runs;
 mod sink;
 mod wrap;
 
-pub use cut::{cut_str, split_str};
+pub use cut::{cut_length, cut_str, split_str};
 pub use fullest::is_fullest;
 pub use line::{TextLines, lines, split_line};
 pub use measure::{count_lines, line_width, tail_measures, text_measures, text_width};

@@ -1,5 +1,6 @@
 use Rattle.std.proofs.Common.{◌+◌, ◌≤◌, ◌<◌, arith, chars, sym, ◌∙◌, subst}
 use Rattle.std.proofs.lemmas.Str.{IsUtf8-past_char}
+use Rattle.std.specs.Str.{IsCharBoundary}
 use Rattle.tabled_text.specs.Measure.{char_count}
 use Rattle.tabled_text.specs.Cut.{IsParted}
 use Rattle.tabled_text.proofs.CutLemmas.{
@@ -75,3 +76,11 @@ returns-clause-parted c =
       | in-Some+then-columns-n b ↦ IsParted-full front w b.if-columns-n.true at
       | in_default b ↦ IsParted-end front w b.in_default.ensures at
     ])
+
+pub returns-then-count-n-clause-boundary : goal.returns-then-count-n-clause-boundary
+returns-then-count-n-clause-boundary c =
+    subst (IsCharBoundary c.args.text.now) (sym c.split_at.ensures.front_len) (front_boundary c.loop-c.invariant.0 c.loop-c.invariant.1)
+
+pub returns-clause-boundary : goal.returns-clause-boundary
+returns-clause-boundary c =
+    subst (IsCharBoundary c.args.text.now) (sym c.split_at-2.ensures.front_len) (front_boundary c.loop-c.invariant.0 c.loop-c.invariant.1)

@@ -1,4 +1,4 @@
-use Rattle.std.proofs.Common.{◌≡◌, ◌++◌, ◌∙◌, ap, false, map}
+use Rattle.std.proofs.Common.{◌++◌, ◌∙◌, ap, false, map}
 use Rattle.std.specs.List.{join_with_byte}
 use Rattle.tabled_text.specs.Lines.{lines_left}
 use Rattle.tabled_change.specs.TextLines.{filled_line}

@@ -1,4 +1,4 @@
-use Rattle.std.proofs.Common.{◌≡◌, ℕ, ◌++◌, ◌-◌, ◌∙◌, ap, encode_utf8_all, replicate, string_bytes}
+use Rattle.std.proofs.Common.{ℕ, ◌++◌, ◌-◌, ◌∙◌, ap, encode_utf8_all, replicate}
 use Rattle.tabled_change.proofs.CopiedFeeds.{copied_feeds}
 use Rattle.tabled_change.proofs.line_counts.LengtheningTextRule.changed_text.Goals as goal
 

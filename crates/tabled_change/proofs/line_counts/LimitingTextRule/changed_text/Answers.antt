@@ -1,7 +1,6 @@
-use Rattle.std.proofs.Common.{◌≡◌, ◌++◌, ◌∙◌, ◌∷◌, [], ap, arith, cond, false, lit<, sym, string_bytes, take, nat_lt, nat_eq, true, ℕ, suc, zero, List, append-nil, ◌<◌, ◌-◌, ◌≤◌, refl}
+use Rattle.std.proofs.Common.{◌≡◌, ◌++◌, ◌∙◌, ◌∷◌, [], ap, arith, cond, false, lit<, sym, string_bytes, take, nat_lt, true, ℕ, suc, zero, List, append-nil, ◌<◌, ◌-◌}
 use Rattle.std.proofs.lemmas.Bool.Decides.{nat_tests}
 use Rattle.std.proofs.lemmas.Str.{encode_ascii}
-use Rattle.std.proofs.Math.Seq.{take-length}
 use Rattle.std.specs.List.{join_with_byte}
 use Rattle.tabled_text.specs.Lines.{lines_left}
 use Rattle.tabled_change.proofs.JoinedLines.{appended, appended-all, appended-more}

@@ -2,7 +2,7 @@ use Rattle.std.proofs.Common.{◌&&◌}
 use Rattle.tabled_entity.specs.Changes.{covers}
 use Rattle.tabled_change.specs.CellChanges.{AreChanged, precedes}
 use Rattle.tabled_change.specs.Walking.{leaves}
-use Rattle.tabled_change.proofs.walk.change_cells.Given as goal
+use Rattle.tabled_change.proofs.walk.walk_cells.Given as goal
 
 abbrev pub invariant-lines : goal.invariant-lines
 invariant-lines g l =
