@@ -29,7 +29,7 @@ ROUNDS = 5
 NARROWING_ROUNDS = 25
 
 # The calls for which a bar is set.
-NARROWING = ("wrap", "truncate")
+NARROWING = ("wrap", "truncate", "truncate,ended")
 
 PROGRAM = """\
 //! Times options on the table of tab-separated rows on standard input.
@@ -89,7 +89,9 @@ fn narrow(rt: &HostRuntime, table: &Table, width: usize) -> Result<(), anyhow::E
     measure(rt, "wrap", table, Width::wrap(width).priority(greatest))?;
     let words = Width::wrap(width).keep_words(true);
     measure(rt, "wrap,words", table, words.priority(greatest))?;
-    measure(rt, "truncate", table, Width::truncate(width).priority(greatest))
+    measure(rt, "truncate", table, Width::truncate(width).priority(greatest))?;
+    let ended = Width::truncate(width).suffix(".");
+    measure(rt, "truncate,ended", table, ended.priority(greatest))
 }
 
 fn widen(rt: &HostRuntime, table: &Table, width: usize) -> Result<(), anyhow::Error> {
