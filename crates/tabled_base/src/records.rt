@@ -1,7 +1,8 @@
 //! What records of cells offer.
-ghost use Rattle.std.specs.Prelude.{◌≡◌, ℕ, List, IfErr, OnErr, OnOk, length, string_bytes, take};
+ghost use Rattle.std.specs.Prelude.{◌≡◌, ◌++◌, ℕ, List, IfErr, OnErr, OnOk, length, string_bytes, take};
 ghost use Rattle.std.specs.Str.{IsCharBoundary};
 ghost use Rattle.tabled_base.specs.Cells.{IsInside, IsRectangular, cell_at, columns, with_cell};
+ghost use Rattle.tabled_base.specs.ShortOr.{FitsBehind};
 ghost use Rattle.tabled_base.specs.declared.error.TableError.TheVariants.{Memory};
 ghost use Rattle.tabled_text.specs.Measure.{lines_of, text_columns};
 
@@ -138,12 +139,14 @@ pub trait RecordsMut: PeekableRecords {
         ensures err { OnErr result (Self.cells self.new ≡ Self.cells self.old) }
         ensures only { IfErr result (λ e. e ≡ Memory) };
 
-    /// Lets the text of a cell end after so many bytes, which takes no memory. The other cells stay.
-    fn shorten(&mut self, at: Position, length: usize)
+    /// Lets the text of a cell end after so many bytes, and puts an ending behind them. That takes no memory, as with an
+    /// ending the text has at most 16 bytes. The other cells stay.
+    fn shorten(&mut self, at: Position, bytes: usize, ending: &str)
         requires inside { IsInside (Self.cells self.old) at.row at.column }
-        requires boundary { IsCharBoundary (cell_at (Self.cells self.old) at.row at.column) length }
+        requires boundary { IsCharBoundary (cell_at (Self.cells self.old) at.row at.column) bytes }
+        requires fits { FitsBehind bytes ending.now }
         ensures { Self.cells self.new ≡ with_cell (Self.cells self.old) at.row at.column
-            (take length (cell_at (Self.cells self.old) at.row at.column)) };
+            (take bytes (cell_at (Self.cells self.old) at.row at.column) ++ ending.now) };
 
     /// What the records grow by.
     fn allocator(&self) -> Global;

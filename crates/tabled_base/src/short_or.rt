@@ -1,5 +1,5 @@
 //! A text of few bytes, which stands in a value itself, or a text of another type.
-ghost use Rattle.std.specs.Prelude.{◌≡◌, ◌<◌, IfErr, IfOk, length, string_bytes, take};
+ghost use Rattle.std.specs.Prelude.{◌≡◌, ◌+◌, ◌++◌, ◌<◌, ◌≤◌, IfErr, IfOk, length, string_bytes, take};
 ghost use Rattle.std.specs.Str.{IsCharBoundary};
 ghost use Rattle.tabled_base.specs.ShortOr.{bytes_of};
 ghost use Rattle.tabled_base.specs.declared.error.TableError.TheVariants.{Memory};
@@ -74,6 +74,19 @@ impl<S: Shorten> ShortOr<S> {
 }
 
 impl<S: AsStr + Drop> ShortOr<S> {
+    /// Puts an ending behind so many bytes of the text, which together are few.
+    pub fn end_with(&mut self, bytes: usize, ending: &str)
+        requires boundary { IsCharBoundary (bytes_of S.text self.old) bytes }
+        requires few { bytes + length ending.now ≤ SHORT_TEXT }
+        ensures { bytes_of S.text self.new ≡ take bytes (bytes_of S.text self.old) ++ ending.now }
+    {
+        let (front, _) = self.as_str().split_at(bytes);
+        let mut short = ArrayString::new();
+        short.push_str(front);
+        short.push_str(ending);
+        *self = ShortOr::Short(short);
+    }
+
     /// A text, which is let go where it is short.
     pub fn kept(text: S) -> ShortOr<S>
         ensures { bytes_of S.text result ≡ S.text text }

@@ -1,7 +1,8 @@
 //! A text with its measures.
-ghost use Rattle.std.specs.Prelude.{◌≡◌, ◌<◌, ℕ, List, length, take, IfErr, IfOk};
+ghost use Rattle.std.specs.Prelude.{◌≡◌, ◌++◌, ◌<◌, ℕ, List, length, take, IfErr, IfOk};
 ghost use Rattle.std.specs.Str.{IsCharBoundary};
 ghost use Rattle.tabled_base.specs.Cells.{IsInside, cell_at};
+ghost use Rattle.tabled_base.specs.ShortOr.{FitsBehind};
 ghost use Rattle.tabled_base.specs.declared.error.TableError.TheVariants.{Memory};
 ghost use Rattle.tabled_text.specs.Measure.{lines_of, text_columns};
 
@@ -62,13 +63,18 @@ impl<S: AsStr + Drop> Text<S> {
     }
 }
 
-impl<S: Shorten> Text<S> {
-    /// Lets the text end after so many bytes.
-    pub(crate) fn shorten(&mut self, length: usize)
-        requires { IsCharBoundary self.old length }
-        ensures { self.new ≡ take length self.old }
+impl<S: Shorten + Drop> Text<S> {
+    /// Lets the text end after so many bytes, and puts an ending behind them.
+    pub(crate) fn shorten(&mut self, bytes: usize, ending: &str)
+        requires boundary { IsCharBoundary self.old bytes }
+        requires fits { FitsBehind bytes ending.now }
+        ensures { self.new ≡ take bytes self.old ++ ending.now }
     {
-        self.text.shorten(length);
+        if ending.is_empty() {
+            self.text.shorten(bytes);
+        } else {
+            self.text.end_with(bytes, ending);
+        }
         let (columns, lines) = text_measures(self.text.as_str());
         self.columns = columns;
         self.lines = lines;

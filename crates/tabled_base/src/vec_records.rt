@@ -1,7 +1,8 @@
 //! Records in vectors.
-ghost use Rattle.std.specs.Prelude.{◌≡◌, ℕ, List, IfErr, IfOk, OnErr, OnOk, map, string_bytes, take, ⊤};
+ghost use Rattle.std.specs.Prelude.{◌≡◌, ◌++◌, ℕ, List, IfErr, IfOk, OnErr, OnOk, map, string_bytes, take, ⊤};
 ghost use Rattle.std.specs.Str.{IsCharBoundary};
 ghost use Rattle.tabled_base.specs.Cells.{IsInside, IsRectangular, cell_at, columns, row_texts, texts_of, with_cell};
+ghost use Rattle.tabled_base.specs.ShortOr.{FitsBehind};
 ghost use Rattle.tabled_base.specs.declared.error.TableError.TheVariants.{Memory};
 
 use crate::error::TableError;
@@ -69,15 +70,17 @@ impl<S: AsStr + Drop> VecRecords<Text<S>> {
     }
 }
 
-impl<S: Shorten> VecRecords<Text<S>> {
-    /// Lets the text of a cell end after so many bytes.
-    fn shorten_cell(&mut self, at: Position, length: usize)
+impl<S: Shorten + Drop> VecRecords<Text<S>> {
+    /// Lets the text of a cell end after so many bytes, and puts an ending behind them.
+    fn shorten_cell(&mut self, at: Position, bytes: usize, ending: &str)
         requires inside { IsInside self.old at.row at.column }
-        requires boundary { IsCharBoundary (cell_at self.old at.row at.column) length }
-        ensures { self.new ≡ with_cell self.old at.row at.column (take length (cell_at self.old at.row at.column)) }
+        requires boundary { IsCharBoundary (cell_at self.old at.row at.column) bytes }
+        requires fits { FitsBehind bytes ending.now }
+        ensures { self.new ≡ with_cell self.old at.row at.column
+            (take bytes (cell_at self.old at.row at.column) ++ ending.now) }
     {
         let row = &mut self.rows[at.row];
-        row[at.column].shorten(length);
+        row[at.column].shorten(bytes, ending);
     }
 }
 
@@ -175,8 +178,8 @@ impl RecordsMut for VecRecords<Text<String>> {
         Ok(())
     }
 
-    fn shorten(&mut self, at: Position, length: usize) {
-        self.shorten_cell(at, length);
+    fn shorten(&mut self, at: Position, bytes: usize, ending: &str) {
+        self.shorten_cell(at, bytes, ending);
     }
 
     fn allocator(&self) -> Global {
@@ -197,8 +200,8 @@ impl<'a> RecordsMut for VecRecords<Text<CowStr<'a, Global>>> {
         Ok(())
     }
 
-    fn shorten(&mut self, at: Position, length: usize) {
-        self.shorten_cell(at, length);
+    fn shorten(&mut self, at: Position, bytes: usize, ending: &str) {
+        self.shorten_cell(at, bytes, ending);
     }
 
     fn allocator(&self) -> Global {

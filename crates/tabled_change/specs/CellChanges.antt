@@ -97,6 +97,12 @@ StopsChanging order chosen taken change error old new =
 abbrev pub ChangesEntity : (ℕ → List ℕ → List ℕ → Type 0) → ℕ → Entity → List (List (List ℕ)) → List (List (List ℕ)) → Type 0
 ChangesEntity change room entity old new = AreChanged (covers entity) (λ row column. change room) old new
 
+-- each of them that a rule is for is one of which a beginning is left in its place
+abbrev pub AreLeftInPlace : Which → (ℕ → List ℕ → Type 0) → ℕ → Entity → List (List (List ℕ)) → Type 0
+AreLeftInPlace which in_place room entity cells =
+    (row column : ℕ) → IsInside cells row column → covers entity row column ≡ true
+    → is_taken which room (cell_at cells row column) ≡ true → in_place room (cell_at cells row column)
+
 -- what a refusal leaves where those of them are changed that a rule is for, row by row
 abbrev pub StopsEntity : Which → (ℕ → List ℕ → List ℕ → Type 0) → ℕ → Entity → TableError → List (List (List ℕ)) → List (List (List ℕ)) → Type 0
 StopsEntity which change room entity error old new =

@@ -1,4 +1,5 @@
 pub mod CellChanges
+pub mod InPlace
 pub mod Justified
 pub mod LongestLines
 pub mod PlainEnding

@@ -1,11 +1,13 @@
 //! Texts of cells that are changed in place.
-ghost use Rattle.std.specs.Prelude.{◌≡◌, ℕ, true, IfErr, IfNone, IfOk, IfSome, List, OnErr, OnOk, string_bytes, take};
+ghost use Rattle.std.specs.Prelude.{◌≡◌, ℕ, true, IfErr, IfNone, IfOk, IfSome, List, OnErr, OnOk, string_bytes};
 ghost use Rattle.std.specs.Str.{IsCharBoundary};
 ghost use Rattle.tabled_base.specs.Cells.{IsInside, cell_at};
+ghost use Rattle.tabled_base.specs.ShortOr.{FitsBehind};
 ghost use Rattle.tabled_base.specs.declared.error.TableError.TheVariants.{Memory};
 ghost use Rattle.tabled_base.specs.declared.position.Entity.TheVariants.{Cell};
 ghost use Rattle.tabled_entity.specs.Changes.{covers};
 ghost use Rattle.tabled_change.specs.CellChanges.{AreChanged};
+ghost use Rattle.tabled_change.specs.InPlace.{ended_text};
 ghost use Rattle.tabled_change.specs.Walking.{IsShortened, leaves, takes};
 
 use crate::rooms::Rooms;
@@ -13,18 +15,26 @@ use crate::which::Which;
 use std::alloc::Global;
 use tabled_base::{PeekableRecords, Position, RecordsMut, TableError};
 
+/// What is left of a text in its place: a beginning of so many bytes, and an ending behind it.
+#[derive(Clone, Copy, Debug)]
+pub struct Beginning<'a> {
+    pub bytes: usize,
+    pub ending: &'a str,
+}
+
 /// A rule for one text: what is made of it in a room, a number of columns or of lines.
 pub trait TextRule {
     // Holds of the room, a text, and what may be made of it.
     ghost makes: { Self → ℕ → List ℕ → List ℕ → Type 0 };
 
-    // Holds of a room and a text of which a beginning is left, for which no memory is wanted.
+    // Holds of a room and a text of which a beginning is left in its place, for which no memory is wanted.
     ghost shortens: { Self → ℕ → List ℕ → Type 0 };
 
-    /// How long the beginning is that is left of a text, in bytes, if one is.
-    fn beginning(&self, text: &str, room: usize) -> Option<usize>
-        ensures made { IfSome result (λ length. makes self.now room text.now (take length text.now)) }
-        ensures boundary { IfSome result (λ length. IsCharBoundary text.now length) }
+    /// What is left of a text in its place, if no memory is wanted for it.
+    fn beginning(&self, text: &str, room: usize) -> Option<Beginning<'_>>
+        ensures made { IfSome result (λ kept. makes self.now room text.now (ended_text kept text.now)) }
+        ensures boundary { IfSome result (λ kept. IsCharBoundary text.now kept.bytes) }
+        ensures fits { IfSome result (λ kept. FitsBehind kept.bytes kept.ending.now) }
         ensures some { IfSome result (λ _. shortens self.now room text.now) }
         ensures none { IfNone result (shortens self.now room text.now → ⊥) };
 
@@ -43,7 +53,7 @@ pub struct Change<'a, T, M> {
 }
 
 impl<'a, T: TextRule, M: Rooms> Change<'a, T, M> {
-    /// Whether a cell stays, or a beginning of its text is left.
+    /// Whether a cell stays, or a beginning of its text is left in its place.
     pub(crate) fn is_shortened<R: PeekableRecords>(&self, records: &R, at: Position) -> bool
         requires { IsInside (R.cells records.now) at.row at.column }
         ensures { result ≡ true → IsShortened self.now.which (T.shortens self.now.rule.now) (M.room_at self.now.rooms.now)
@@ -100,8 +110,8 @@ fn set_changed<T: TextRule, R: RecordsMut>(
     ensures only { IfErr result (λ e. e ≡ Memory) }
 {
     let _columns = records.count_columns();
-    if let Some(length) = rule.beginning(records.get_text(at), room) {
-        records.shorten(at, length);
+    if let Some(kept) = rule.beginning(records.get_text(at), room) {
+        records.shorten(at, kept.bytes, kept.ending);
         return Ok(());
     }
     let text = rule.changed_text(records.allocator(), records.get_text(at), room)?;

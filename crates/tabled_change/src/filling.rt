@@ -2,7 +2,7 @@
 ghost use Rattle.std.specs.Prelude.{◌≡◌};
 ghost use Rattle.tabled_change.specs.TextLines.{filling};
 
-use crate::changing::TextRule;
+use crate::changing::{Beginning, TextRule};
 use std::alloc::Global;
 use tabled_base::TableError;
 use tabled_text::{line_width, lines, push_copies};
@@ -19,7 +19,7 @@ impl TextRule for Filling {
 
     ghost shortens = { λ s room text. ⊥ };
 
-    fn beginning(&self, _text: &str, _room: usize) -> Option<usize> {
+    fn beginning(&self, _text: &str, _room: usize) -> Option<Beginning<'_>> {
         None
     }
 

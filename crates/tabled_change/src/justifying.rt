@@ -2,7 +2,7 @@
 ghost use Rattle.std.specs.Prelude.{◌≡◌};
 ghost use Rattle.tabled_change.specs.Justified.{IsJustified};
 
-use crate::changing::TextRule;
+use crate::changing::{Beginning, TextRule};
 use crate::filling::Filling;
 use crate::suffix::SuffixLimit;
 use crate::truncating::Truncating;
@@ -19,7 +19,7 @@ impl TextRule for Justifying {
 
     ghost shortens = { λ s room text. ⊥ };
 
-    fn beginning(&self, _text: &str, _room: usize) -> Option<usize> {
+    fn beginning(&self, _text: &str, _room: usize) -> Option<Beginning<'_>> {
         None
     }
 

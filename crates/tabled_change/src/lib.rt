@@ -14,7 +14,7 @@ mod walk;
 mod which;
 mod wrapping;
 
-pub use changing::{Change, TextRule};
+pub use changing::{Beginning, Change, TextRule};
 pub use filling::Filling;
 pub use justifying::Justifying;
 pub use line_counts::{Lengthening, Limiting};

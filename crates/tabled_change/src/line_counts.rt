@@ -2,7 +2,7 @@
 ghost use Rattle.std.specs.Prelude.{◌≡◌};
 ghost use Rattle.tabled_change.specs.TextLines.{lengthening, limiting};
 
-use crate::changing::TextRule;
+use crate::changing::{Beginning, TextRule};
 use std::alloc::Global;
 use tabled_base::TableError;
 use tabled_text::{count_lines, lines, push_copies};
@@ -16,7 +16,7 @@ impl TextRule for Lengthening {
 
     ghost shortens = { λ s room text. ⊥ };
 
-    fn beginning(&self, _text: &str, _room: usize) -> Option<usize> {
+    fn beginning(&self, _text: &str, _room: usize) -> Option<Beginning<'_>> {
         None
     }
 
@@ -36,7 +36,7 @@ impl TextRule for Limiting {
 
     ghost shortens = { λ s room text. ⊥ };
 
-    fn beginning(&self, _text: &str, _room: usize) -> Option<usize> {
+    fn beginning(&self, _text: &str, _room: usize) -> Option<Beginning<'_>> {
         None
     }
 

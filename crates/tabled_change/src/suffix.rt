@@ -1,11 +1,12 @@
 //! What stands for a suffix where a text is truncated.
-ghost use Rattle.std.specs.Prelude.{◌≡◌, ◌-◌, IfOk, None, Some, if◌then◌else◌, nat_lt};
+ghost use Rattle.std.specs.Prelude.{◌≡◌, ◌-◌, IfNone, IfOk, IfSome, None, Some, if◌then◌else◌, nat_lt};
 ghost use Rattle.std.specs.Cow.{cow_str_bytes};
+ghost use Rattle.tabled_change.specs.InPlace.{IsMade, IsMadeFor};
 ghost use Rattle.tabled_change.specs.Truncated.{IsLimited, IsUsed, suffix_columns};
 
 use std::alloc::{AllocError, Global};
 use std::borrow::CowStr;
-use tabled_text::{copies, cut_str, line_width, lines};
+use tabled_text::{copies, cut_length, cut_str, line_width, lines};
 
 /// What is done with a suffix that takes its whole room, or more.
 #[derive(Clone, Copy, Debug, PartialEq, Eq, PartialOrd, Ord)]
@@ -25,6 +26,13 @@ pub(crate) struct UsedSuffix<'a> {
     pub left: usize,
 }
 
+/// What stands for a suffix in a room and is a part of it, and the columns that it leaves to the text.
+#[derive(Clone, Copy)]
+pub(crate) struct LentSuffix<'a> {
+    pub text: &'a str,
+    pub left: usize,
+}
+
 /// The columns that a suffix leaves of a room, if it leaves any.
 fn columns_beside(suffix: &str, room: usize) -> Option<usize>
     ensures { result
@@ -38,29 +46,57 @@ fn columns_beside(suffix: &str, room: usize) -> Option<usize>
     Some(left + 1)
 }
 
-/// What stands for a suffix that takes its whole room, or more.
-fn limited(
+/// What stands for a suffix that takes its whole room, or more, if it is a part of it.
+fn lent_limited(suffix: &str, limit: SuffixLimit, room: usize) -> Option<LentSuffix<'_>>
+    ensures used { IfSome result (λ lent. IsLimited room suffix.now limit lent.text.now lent.left) }
+    ensures some { IfSome result (λ _. IsMadeFor room suffix.now limit → ⊥) }
+    ensures none { IfNone result (IsMadeFor room suffix.now limit) }
+{
+    match limit {
+        SuffixLimit::Cut => {
+            let bytes = cut_length(suffix, room)?;
+            let (text, _) = suffix.split_at(bytes);
+            Some(LentSuffix { text, left: 0 })
+        }
+        SuffixLimit::Ignore => Some(LentSuffix {
+            text: "",
+            left: room,
+        }),
+        SuffixLimit::Replace(_) => None,
+    }
+}
+
+/// What stands for a suffix in a room of so many columns, if it is a part of it, which takes no memory.
+pub(crate) fn lent_suffix(suffix: &str, limit: SuffixLimit, room: usize) -> Option<LentSuffix<'_>>
+    ensures used { IfSome result (λ lent. IsUsed room suffix.now limit lent.text.now lent.left) }
+    ensures some { IfSome result (λ _. IsMade room suffix.now limit → ⊥) }
+    ensures none { IfNone result (IsMade room suffix.now limit) }
+{
+    if room == 0 {
+        return Some(LentSuffix { text: "", left: 0 });
+    }
+    match columns_beside(suffix, room) {
+        Some(left) => Some(LentSuffix { text: suffix, left }),
+        None => lent_limited(suffix, limit, room),
+    }
+}
+
+/// What stands for a suffix and is no part of it.
+fn made_suffix(
     alloc: Global,
     suffix: &str,
     limit: SuffixLimit,
     room: usize,
 ) -> Result<UsedSuffix<'_>, AllocError>
-    ensures { IfOk result (λ used. IsLimited room suffix.now limit (cow_str_bytes used.text) used.left) }
+    requires { IsMade room suffix.now limit }
+    ensures { IfOk result (λ used. IsUsed room suffix.now limit (cow_str_bytes used.text) used.left) }
 {
-    match limit {
-        SuffixLimit::Cut => Ok(UsedSuffix {
-            text: cut_str(alloc, suffix, room)?,
-            left: 0,
-        }),
-        SuffixLimit::Ignore => Ok(UsedSuffix {
-            text: CowStr::Borrowed(""),
-            left: room,
-        }),
-        SuffixLimit::Replace(c) => Ok(UsedSuffix {
-            text: CowStr::Owned(copies(alloc, c, room)?),
-            left: 0,
-        }),
-    }
+    let text = match limit {
+        SuffixLimit::Cut => cut_str(alloc, suffix, room)?,
+        SuffixLimit::Ignore => unreachable!(),
+        SuffixLimit::Replace(c) => CowStr::Owned(copies(alloc, c, room)?),
+    };
+    Ok(UsedSuffix { text, left: 0 })
 }
 
 /// What stands for a suffix in a room of so many columns.
@@ -72,17 +108,11 @@ pub(crate) fn used_suffix(
 ) -> Result<UsedSuffix<'_>, AllocError>
     ensures { IfOk result (λ used. IsUsed room suffix.now limit (cow_str_bytes used.text) used.left) }
 {
-    if room == 0 {
-        return Ok(UsedSuffix {
-            text: CowStr::Borrowed(""),
-            left: 0,
-        });
-    }
-    match columns_beside(suffix, room) {
-        Some(left) => Ok(UsedSuffix {
-            text: CowStr::Borrowed(suffix),
+    match lent_suffix(suffix, limit, room) {
+        Some(LentSuffix { text, left }) => Ok(UsedSuffix {
+            text: CowStr::Borrowed(text),
             left,
         }),
-        None => limited(alloc, suffix, limit, room),
+        None => made_suffix(alloc, suffix, limit, room),
     }
 }

@@ -1,15 +1,16 @@
 //! The rule by which a text is truncated.
-ghost use Rattle.std.specs.Prelude.{◌≡◌, [], IfOk, OnOk, false, string_bytes};
+ghost use Rattle.std.specs.Prelude.{◌≡◌, ◌≢◌, IfNone, IfOk, IfSome, OnOk, string_bytes};
 ghost use Rattle.std.specs.Cow.{cow_str_bytes};
 ghost use Rattle.tabled_change.specs.CellChanges.{truncating};
+ghost use Rattle.tabled_change.specs.InPlace.{IsLeftAt, truncating_in_place};
 ghost use Rattle.tabled_change.specs.Truncated.{AddsEnded, HasEndedLines};
 ghost use Rattle.tabled_text.specs.Cut.{NeedsFill};
 
-use crate::changing::TextRule;
-use crate::suffix::{SuffixLimit, UsedSuffix, used_suffix};
+use crate::changing::{Beginning, TextRule};
+use crate::suffix::{SuffixLimit, UsedSuffix, lent_suffix, used_suffix};
 use std::alloc::{AllocError, Global};
-use tabled_base::TableError;
-use tabled_text::{cut_length, cut_str, lines};
+use tabled_base::{SHORT_TEXT, TableError};
+use tabled_text::{count_lines, cut_length, cut_str, lines};
 
 /// Truncates a text to the columns of its room. Where the suffix leaves columns of the room, the text is cut to these
 /// and the suffix follows; else the limit says what stands there. In no column stands nothing.
@@ -26,16 +27,21 @@ pub struct Truncating<'a> {
 impl<'a> TextRule for Truncating<'a> {
     ghost makes = { λ s. truncating s.suffix.now s.limit s.multiline };
 
-    ghost shortens = { λ s room text. (s.suffix.now ≡ []) × (s.multiline ≡ false) × (NeedsFill room text → ⊥) };
+    ghost shortens = { λ s. truncating_in_place s.suffix.now s.limit s.multiline };
 
-    fn beginning(&self, text: &str, room: usize) -> Option<usize> {
-        if self.multiline || !self.suffix.is_empty() {
-            None
-        } else if room == 0 {
-            Some(0)
-        } else {
-            cut_length(text, room)
+    fn beginning(&self, text: &str, room: usize) -> Option<Beginning<'_>> {
+        if self.multiline && count_lines(text) > 1 {
+            return None;
         }
+        let used = lent_suffix(self.suffix, self.limit, room)?;
+        let bytes = length_left(text, used.left)?;
+        if used.text.len() > SHORT_TEXT.saturating_sub(bytes) {
+            return None;
+        }
+        Some(Beginning {
+            bytes,
+            ending: used.text,
+        })
     }
 
     fn changed_text(&self, alloc: Global, text: &str, room: usize) -> Result<String, TableError> {
@@ -46,6 +52,18 @@ impl<'a> TextRule for Truncating<'a> {
         let mut answer = String::new(alloc);
         push_ended(&mut answer, text, &used)?;
         Ok(answer)
+    }
+}
+
+/// How many bytes are left of a text in some columns, where no U+FFFD stands behind them.
+fn length_left(text: &str, columns: usize) -> Option<usize>
+    ensures some { IfSome result (λ bytes. IsLeftAt columns text.now bytes) }
+    ensures none { IfNone result ((columns ≢ 0) × NeedsFill columns text.now) }
+{
+    if columns == 0 {
+        Some(0)
+    } else {
+        cut_length(text, columns)
     }
 }
 

@@ -127,7 +127,7 @@ fn walk_cells<T: TextRule, M: Rooms, R: RecordsMut>(
     Ok(())
 }
 
-/// Whether the cells of a row that stand in a band of columns stay, or beginnings of their texts are left.
+/// Whether the cells of a row that stand in a band of columns stay, or beginnings of their texts are left in their place.
 fn are_shortened_in<T: TextRule, M: Rooms, R: RecordsMut>(
     by: &Change<'_, T, M>,
     records: &R,
@@ -147,7 +147,7 @@ fn are_shortened_in<T: TextRule, M: Rooms, R: RecordsMut>(
     true
 }
 
-/// Whether the cells of an entity stay, or beginnings of their texts are left, so that no memory is wanted for any of them.
+/// Whether the cells of an entity stay, or beginnings of their texts are left in their place, so that no memory is wanted for any of them.
 fn are_shortened<T: TextRule, M: Rooms, R: RecordsMut>(
     by: &Change<'_, T, M>,
     records: &R,
@@ -167,7 +167,7 @@ fn are_shortened<T: TextRule, M: Rooms, R: RecordsMut>(
 
 /// Changes the cells of an entity that have a room and whose texts are ones that are changed, in some order. No
 /// other cell is visited. Refused with `Memory` alone, at one of these cells: it and those after it are the old ones.
-/// Where only beginnings of texts are left, none is refused: then cells are changed row by row, as they stand in memory.
+/// Where only beginnings of texts are left in their place, none is refused: then cells are changed row by row, as they stand in memory.
 pub fn change_cells<T: TextRule, M: Rooms, R: RecordsMut>(
     by: &Change<'_, T, M>,
     records: &mut R,
@@ -181,6 +181,8 @@ pub fn change_cells<T: TextRule, M: Rooms, R: RecordsMut>(
         (takes by.now.which (M.room_at by.now.rooms.now))
         (leaves by.now.which (T.makes by.now.rule.now) (M.room_at by.now.rooms.now))
         (R.cells records.old) (R.cells records.new)) }
+    ensures longer { OnErr result (AreShortened (covers entity) by.now.which (T.shortens by.now.rule.now)
+        (M.room_at by.now.rooms.now) (R.cells records.old) → ⊥) }
     ensures only { IfErr result (λ e. e ≡ Memory) }
 {
     match order {

@@ -2,7 +2,7 @@
 ghost use Rattle.std.specs.Prelude.{◌≡◌};
 ghost use Rattle.tabled_change.specs.CellChanges.{wrapping};
 
-use crate::changing::TextRule;
+use crate::changing::{Beginning, TextRule};
 use std::alloc::Global;
 use tabled_base::TableError;
 use tabled_text::wrap_text;
@@ -19,7 +19,7 @@ impl TextRule for Wrapping {
 
     ghost shortens = { λ s room text. ⊥ };
 
-    fn beginning(&self, _text: &str, _room: usize) -> Option<usize> {
+    fn beginning(&self, _text: &str, _room: usize) -> Option<Beginning<'_>> {
         None
     }
 

@@ -1,7 +1,7 @@
 //! Cells of an entity that are changed for a measure of their table.
 ghost use Rattle.std.specs.Prelude.{◌≡◌, ◌⊎◌, IfErr, OnOk};
 ghost use Rattle.tabled_base.specs.declared.error.TableError.TheVariants.{Memory, Range};
-ghost use Rattle.tabled_change.specs.CellChanges.{ChangesEntity, StopsEntity, if_taken};
+ghost use Rattle.tabled_change.specs.CellChanges.{AreLeftInPlace, ChangesEntity, StopsEntity, if_taken};
 
 use crate::measurement::Measurement;
 use tabled_base::{Entity, RecordsMut, TableError};
@@ -24,6 +24,8 @@ pub(crate) fn change_measured<A, W: Measurement<A>, T: TextRule, R: RecordsMut>(
     ensures err { IfErr result (λ e. StopsEntity which (T.makes rule.now)
         (W.measures measure.now (R.cells records.old) cfg.now.config) entity e
         (R.cells records.old) (R.cells records.new)) }
+    ensures longer { IfErr result (λ e. e ≡ Memory → AreLeftInPlace which (T.shortens rule.now)
+        (W.measures measure.now (R.cells records.old) cfg.now.config) entity (R.cells records.old) → ⊥) }
     ensures only { IfErr result (λ e. (e ≡ Memory)
         ⊎ ((e ≡ Range) × W.out_of_range measure.now (R.cells records.old) cfg.now.config)) }
 {

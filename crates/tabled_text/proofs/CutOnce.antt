@@ -1,7 +1,8 @@
--- Of the beginnings of a text that are reached only one is the longest.
-use Rattle.std.proofs.Common.{◌≡◌, ℕ, ◌≤◌, List, length, take, drop, refl, sym, ap, ◌∙◌, subst, arith, chars, length-append}
+-- Of the beginnings of a text that are reached only one is the longest, so that it is cut in one way.
+use Rattle.std.proofs.Common.{◌≡◌, ℕ, ◌≤◌, List, ◌++◌, length, take, drop, replicate, refl, sym, ap, ◌∙◌, subst, arith, chars, encode_utf8_all, length-append}
 use Rattle.std.proofs.lemmas.List.{take_at, drop_at}
-use Rattle.tabled_text.specs.Cut.{IsReached, IsLongestReached, IsParted, NeedsFill, missing_columns}
+use Rattle.std.proofs.lemmas.Str.{encodes-chars}
+use Rattle.tabled_text.specs.Cut.{IsCut, IsReached, IsLongestReached, IsParted, NeedsFill, missing_columns}
 
 -- no other one is longer
 not_longer : (n : ℕ) (text front rest front' rest' : List ℕ) → IsLongestReached n text front rest → IsLongestReached n text front' rest'
@@ -25,12 +26,16 @@ taken_front n text front rest one = ap (take (length front)) one.parts ∙ take_
 dropped_front : (n : ℕ) (text front rest : List ℕ) → IsLongestReached n text front rest → drop (length front) text ≡ rest
 dropped_front n text front rest one = ap (drop (length front)) one.parts ∙ drop_at front rest (length front) refl
 
+same_fronts : (n : ℕ) (text front rest front' rest' : List ℕ) → IsLongestReached n text front rest → IsLongestReached n text front' rest' → front ≡ front'
+same_fronts n text front rest front' rest' one other =
+    sym (taken_front n text front rest one) ∙ ap (λ k. take k text) (same_front n text front rest front' rest' one other) ∙ taken_front n text front' rest' other
+
 -- as many columns are left behind each
 same_missing : (n : ℕ) (text front rest front' rest' : List ℕ) → IsLongestReached n text front rest → IsLongestReached n text front' rest'
     → missing_columns n front rest ≡ missing_columns n front' rest'
 same_missing n text front rest front' rest' one other =
     let same = same_front n text front rest front' rest' one other in
-    let fronts : front ≡ front' = sym (taken_front n text front rest one) ∙ ap (λ k. take k text) same ∙ taken_front n text front' rest' other in
+    let fronts = same_fronts n text front rest front' rest' one other in
     let rests : rest ≡ rest' = sym (dropped_front n text front rest one) ∙ ap (λ k. drop k text) same ∙ dropped_front n text front' rest' other in
     ap (λ f. missing_columns n f rest) fronts ∙ ap (missing_columns n front') rests
 
@@ -41,3 +46,13 @@ no_fill {n} {text} {front} parted needs =
     let none = parted.columns in
     let some = needs.missing in
     omega arith
+
+-- two cut texts are the same
+pub cut-once : {n : ℕ} {text answer answer' : List ℕ} → IsCut n text answer → IsCut n text answer' → answer ≡ answer'
+cut-once {n} {text} {answer} {answer'} one other =
+    let fronts = same_fronts n (chars text) one.front one.rest other.front other.rest one.longest other.longest in
+    let missing = same_missing n (chars text) one.front one.rest other.front other.rest one.longest other.longest in
+    let characters : chars answer ≡ chars answer' =
+    one.characters ∙ ap (λ f. f ++ replicate (missing_columns n one.front one.rest) 0xFFFD) fronts ∙ ap (λ k. other.front ++ replicate k 0xFFFD) missing
+    ∙ sym other.characters in
+    sym (encodes-chars answer one.utf8) ∙ ap encode_utf8_all characters ∙ encodes-chars answer' other.utf8

@@ -1,4 +1,4 @@
-use Rattle.std.proofs.Common.{◌≡◌, ◌∙◌, ap, subst, sym, ◌<◌, length, take}
+use Rattle.std.proofs.Common.{◌≡◌, ◌∙◌, ◌++◌, ap, subst, sym, ◌<◌, length, take}
 use Rattle.std.proofs.lemmas.List.{length-map}
 use Rattle.tabled_base.specs.Cells.{IsRectangular, cell_at, texts_of, with_cell}
 use Rattle.tabled_base.proofs.ChangedCells.{texts_after, with_cell-rectangular}
@@ -24,4 +24,4 @@ returns g c =
     c.index_mut-row.ensures.value c.index_mut.ensures.value in
     texts_after (λ t. t) rows at.row at.column c.index_mut-row.result.now c.shorten.new.self there c.index_mut-row.ensures.value
     ∙ (ap (λ cells. with_cell cells at.row at.column c.shorten.new.self) c.self.view_is
-    ∙ ap (with_cell c.args.self.now at.row at.column) (c.shorten.ensures ∙ ap (take c.args.length) before))
+    ∙ ap (with_cell c.args.self.now at.row at.column) (c.shorten.ensures ∙ ap (λ text. take c.args.bytes text ++ c.args.ending.now) before))

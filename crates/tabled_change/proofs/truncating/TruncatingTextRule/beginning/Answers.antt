@@ -1,41 +1,59 @@
-use Rattle.std.proofs.Common.{◌≡◌, ◌==◌, ℕ, [], ◌∷◌, List, IfSome, None, Option, Some, length, arith, refl, take, true}
-use Rattle.tabled_text.specs.Cut.{IsCut}
-use Rattle.tabled_change.specs.Truncated.{IsTruncated}
+use Rattle.std.proofs.Common.{◌≡◌, ◌==◌, true, false, ◌∷◌, [], List, ℕ, length, ◌≤◌, zero, suc, arith, sym, subst}
+use Rattle.std.proofs.Math.Dec.{eqb-suc-zero}
+use Rattle.std.proofs.lemmas.Bool.{MatchBool-at_false}
+use Rattle.std.proofs.lemmas.List.Splits.{length-slice_split}
 use Rattle.std.proofs.lemmas.Str.{IsCharBoundary-start}
-use Rattle.tabled_change.proofs.Beginnings.{truncated-cut, truncated-nothing}
+use Rattle.std.specs.Str.{IsCharBoundary, IsUtf8}
+use Rattle.tabled_text.specs.Measure.{lines_of}
+use Rattle.tabled_text.proofs.Bridge.{lines_of-one}
+use Rattle.tabled_change.specs.InPlace.{IsCutAt, IsLeftAt}
+use Rattle.tabled_change.proofs.Beginnings.{in_place-fits, truncated-in_place}
 use Rattle.tabled_change.proofs.truncating.TruncatingTextRule.beginning.Goals as goal
-use Rattle.tabled_change.proofs.truncating.TruncatingTextRule.beginning.Goals.{then-self, else-self}
+use Rattle.tabled_change.proofs.truncating.TruncatingTextRule.beginning.Goals.{else-self-via-then-self+else-count_lines-gt1, else-self-via-else-self}
 
-empty : (suffix : List ℕ) → (length suffix == 0) ≡ true → suffix ≡ []
-empty [] e = refl
-empty (x ∷ xs) e = absurd (grind (arith, e))
+only_line : (text : List ℕ) → length (lines_of text) ≤ 1 → lines_of text ≡ text ∷ []
+only_line text few = let some = length-slice_split (λ c. c == 10) text in lines_of-one text (omega (arith, some))
 
-cut_some : (o : Option ℕ) (P Q : ℕ → Type 0) → ((length : ℕ) → P length → Q length) → IfSome o P → IfSome o Q
-cut_some None P Q so h = h
-cut_some (Some n) P Q so h = so n h
+boundary_at : (left : ℕ) (text : List ℕ) (bytes : ℕ) → IsUtf8 text → IsLeftAt left text bytes → IsCharBoundary text bytes
+boundary_at zero text bytes utf8 none = subst (IsCharBoundary text) (sym none) (IsCharBoundary-start text utf8)
+boundary_at (suc k) text bytes utf8 kept =
+    let at = MatchBool-at_false (bytes ≡ 0) (IsCutAt (suc k) text bytes) (eqb-suc-zero k) kept in
+    at.boundary
 
-pub returns-then-room-eq0-clause-made : goal.returns-then-room-eq0-clause-made
-returns-then-room-eq0-clause-made c = elim c.if-self.branch [
-  | then-self w ↦ absurd (grind (arith, w.value-is, w.if-self.true, c.if-not-is_empty.false))
-  | else-self w ↦
-      let is_empty : (length c.args.self.now.suffix.now == 0) ≡ true = grind (arith, w.value-is, w.is_empty.ensures, c.if-not-is_empty.false) in
-      rw c.if-room-eq0.true
-      (truncated-nothing c.args.self.now.suffix.now c.args.self.now.limit c.args.self.now.multiline c.args.text.now
-      (empty c.args.self.now.suffix.now is_empty) w.if-self.false)
-]
+pub returns-then-used-saturating_sub-clause-none :
+    goal.returns-then-used-saturating_sub-clause-none
+returns-then-used-saturating_sub-clause-none c = λ h.
+    let fits = in_place-fits h c.in_ok-used.used.text.now c.in_ok-used.used.left c.in_ok-bytes.bytes c.in_ok-used.ensures.used c.in_ok-bytes.ensures.some in
+    omega (arith, fits)
 
-pub returns-then-room-eq0-clause-boundary : goal.returns-then-room-eq0-clause-boundary
-returns-then-room-eq0-clause-boundary c = IsCharBoundary-start c.args.text.now c.utf8.text
+pub returns-clause-made : goal.returns-clause-made
+returns-clause-made c =
+    let rule = c.args.self.now in
+    let text = c.args.text.now in
+    let one : rule.multiline ≡ true → lines_of text ≡ text ∷ [] = elim c.else-self.branch [
+      | else-self-via-then-self+else-count_lines-gt1 w ↦ λ e. only_line text (omega arith)
+      | else-self-via-else-self w ↦ λ e. absurd (cc (e, w.if-self.false))
+    ] in
+    truncated-in_place c.args.room rule.suffix.now rule.limit rule.multiline text c.in_ok-used.used.text.now c.in_ok-used.used.left c.in_ok-bytes.bytes one
+    c.in_ok-used.ensures.used c.in_ok-bytes.ensures.some
 
-pub returns-else-room-eq0-clause-made : goal.returns-else-room-eq0-clause-made
-returns-else-room-eq0-clause-made c = elim c.if-self.branch [
-  | then-self w ↦ absurd (grind (arith, w.value-is, w.if-self.true, c.if-not-is_empty.false))
-  | else-self w ↦
-      let rule = c.args.self.now in
-      let text = c.args.text.now in
-      let is_empty : (length rule.suffix.now == 0) ≡ true = grind (arith, w.value-is, w.is_empty.ensures, c.if-not-is_empty.false) in
-      cut_some c.cut_length.result (λ length. IsCut c.args.room text (take length text))
-      (λ length. IsTruncated c.args.room rule.suffix.now rule.limit rule.multiline text (take length text))
-      (λ length cut. truncated-cut c.args.room rule.suffix.now rule.limit rule.multiline text (take length text)
-      (empty rule.suffix.now is_empty) w.if-self.false c.if-room-eq0.false cut) c.cut_length.ensures.cut
-]
+pub returns-clause-boundary : goal.returns-clause-boundary
+returns-clause-boundary c = boundary_at c.in_ok-used.used.left c.args.text.now c.in_ok-bytes.bytes c.utf8.text c.in_ok-bytes.ensures.some
+
+pub returns-clause-some : goal.returns-clause-some
+returns-clause-some c =
+    let rule = c.args.self.now in
+    let text = c.args.text.now in
+    record {
+      one_line = elim c.else-self.branch [
+        | else-self-via-then-self+else-count_lines-gt1 w ↦ λ e. only_line text (omega arith)
+        | else-self-via-else-self w ↦ λ e. absurd (cc (e, w.if-self.false))
+      ];
+      used = c.in_ok-used.used.text.now;
+      left = c.in_ok-used.used.left;
+      suffix_used = c.in_ok-used.ensures.used;
+      lent = c.in_ok-used.ensures.some;
+      bytes = c.in_ok-bytes.bytes;
+      kept = c.in_ok-bytes.ensures.some;
+      fits = omega arith;
+    }
