@@ -17,6 +17,8 @@ mod references;
 #[cfg(test)]
 mod rows;
 #[cfg(test)]
+mod shortened;
+#[cfg(test)]
 mod shown;
 #[cfg(test)]
 mod stepwise;

@@ -5,10 +5,9 @@ use crate::shown::{Rows, assert_text, records_of, shown};
 use std::alloc::Global;
 use std::test::Fail;
 use tabled_base::{
-    CellOption, Entity, ExactRecords, PeekableRecords, Position, TableError, Text, VecRecords,
+    CellOption, Entity, ExactRecords, PeekableRecords, TableError, Text, VecRecords,
 };
 use tabled_config::{ColoredConfig, SpannedConfig};
-use tabled_lent::lend_cells;
 use tabled_set::{Height, Measurement, Width, Wrap};
 
 // Four cells.
@@ -148,43 +147,4 @@ fn a_refused_cell_leaves_those_from_it_on(rt: HostRuntime) -> Result<(), Fail> {
             Ok(())
         }
     }
-}
-
-// The greatest columns and lines of the cells, as they are kept beside their texts.
-fn greatest<R: PeekableRecords>(records: &R) -> (usize, usize) {
-    let mut greatest = (0, 0);
-    for row in 0..records.count_rows() {
-        for column in 0..records.count_columns() {
-            let (_, columns, lines) = records.get_measured(Position { row, column });
-            greatest = (columns.max(greatest.0), lines.max(greatest.1));
-        }
-    }
-    greatest
-}
-
-#[test]
-fn owned_and_lent_texts_are_cut_alike(rt: HostRuntime) -> Result<(), Fail> {
-    let alloc = rt.alloc();
-    for (room, want, lines) in [
-        (5, "2x2 [123\n45678][a lin] [中文�][fgh]", 2),
-        (4, "2x2 [123\n4567][a li] [中文][fgh]", 2),
-        (3, "2x2 [123][a l] [中�][fgh]", 1),
-        (0, "2x2 [][] [][]", 1),
-    ] {
-        let mut owned = records_of(
-            alloc,
-            &[&["123\n456789", "a line of many letters"], &["中文字", "fgh"]],
-        )?;
-        let copy = owned.clone()?;
-        let mut lent = lend_cells(alloc, &copy)?;
-        let mut config = ColoredConfig::new(SpannedConfig::new(alloc));
-        let cut = Width::truncate(room);
-        cut.change(&mut owned, &mut config, Entity::Global)?;
-        cut.change(&mut lent, &mut config, Entity::Global)?;
-        assert_eq!(rt; shown(alloc, &owned)?.as_str(), want);
-        assert_eq!(rt; shown(alloc, &lent)?.as_str(), want);
-        assert_eq!(rt; greatest(&owned), (room, lines));
-        assert_eq!(rt; greatest(&lent), (room, lines));
-    }
-    Ok(())
 }
