@@ -72,8 +72,11 @@ pub(crate) fn lent_suffix(suffix: &str, limit: SuffixLimit, room: usize) -> Opti
     ensures some { IfSome result (λ _. IsMade room suffix.now limit → ⊥) }
     ensures none { IfNone result (IsMade room suffix.now limit) }
 {
-    if room == 0 {
-        return Some(LentSuffix { text: "", left: 0 });
+    if room == 0 || suffix.is_empty() {
+        return Some(LentSuffix {
+            text: "",
+            left: room,
+        });
     }
     match columns_beside(suffix, room) {
         Some(left) => Some(LentSuffix { text: suffix, left }),

@@ -1,4 +1,4 @@
-use Rattle.std.proofs.Common.{◌≡◌, ◌==◌, true, false, ◌∷◌, [], List, ℕ, length, ◌≤◌, zero, suc, arith, sym, subst}
+use Rattle.std.proofs.Common.{◌≡◌, ◌==◌, true, ◌∷◌, [], List, ℕ, length, ◌≤◌, zero, suc, arith, sym, subst}
 use Rattle.std.proofs.Math.Dec.{eqb-suc-zero}
 use Rattle.std.proofs.lemmas.Bool.{MatchBool-at_false}
 use Rattle.std.proofs.lemmas.List.Splits.{length-slice_split}
