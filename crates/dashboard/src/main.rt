@@ -16,7 +16,7 @@ fn main(rt: HostRuntime) -> Result<()> {
     let text = io::read_to_string(rt.alloc(), rt.stdin()).context("reading the input")?;
     let mut table = table_of(rt.alloc(), &text, width)?;
     table.apply(Style::modern())?;
-    println!(rt; "{}", table.to_string()?)?;
+    println!(rt; "{}", table.to_text()?)?;
     Ok(())
 }
 

@@ -53,6 +53,7 @@ fn main(rt: HostRuntime) -> Result<()> {
     put_rows(&rt)?;
     put_texts(&rt)?;
     put_from_tabled(&rt)?;
+    put_chained(&rt)?;
     put_changed(&rt)
 }
 
@@ -150,7 +151,11 @@ fn put_from_tabled(rt: &HostRuntime) -> Result<()> {
     draw!(rt; from_tabled::languages, from_tabled::built, from_tabled::continued, from_tabled::written)
 }
 
+fn put_chained(rt: &HostRuntime) -> Result<()> {
+    draw!(rt; from_tabled::chained, from_tabled::as_records, from_tabled::counted)
+}
+
 fn put_changed(rt: &HostRuntime) -> Result<()> {
     show!(rt, of_cities;
-        from_tabled::dressed, from_tabled::rounded, from_tabled::renamed)
+        from_tabled::dressed, from_tabled::rounded, from_tabled::one_line, from_tabled::renamed)
 }

@@ -4,10 +4,12 @@ ghost use Rattle.std.specs.Prelude.{◌∷◌, [], codes, ⊤};
 use std::alloc::Global;
 use std::borrow::CowStr;
 use tabled::builder::Builder;
-use tabled::grid::config::{Borders, Position};
+use tabled::grid::config::{AlignmentHorizontal, Borders, Entity, HorizontalLine, Position};
 use tabled::grid::records::{ExactRecords, PeekableRecords, RecordsMut};
+use tabled::grid::util::string::line_width;
 use tabled::settings::peaker::Priority;
 use tabled::settings::{Padding, Style, Width};
+use tabled::tables::ExtendedTable;
 use tabled::{IoSink, Table, TableError, Tabled};
 
 /// A language and its year.
@@ -56,7 +58,7 @@ pub fn languages(alloc: Global) -> Result<String, TableError> {
         },
     ];
     let table = Table::new(alloc, languages)?;
-    table.to_string()
+    table.to_text()
 }
 
 /// The same row by row, under a style.
@@ -68,7 +70,28 @@ pub fn built(alloc: Global) -> Result<String, TableError> {
 
     let mut table = Table::from(builder);
     table.with(Style::psql())?;
+    table.to_text()
+}
+
+/// A chain, from rows to the text.
+pub fn chained(alloc: Global) -> Result<String, TableError> {
+    let rows = [["name", "year"], ["C", "1972"], ["Go", "2009"]];
+    Table::from_iter(alloc, rows)?
+        .with(Style::psql())?
+        .to_text()
+}
+
+/// Values as records.
+pub fn as_records(alloc: Global) -> Result<String, TableError> {
+    let values = [("C", 1972u16), ("Go", 2009u16)];
+    let table = ExtendedTable::new(alloc, values)?;
     table.to_string()
+}
+
+/// How many fields a value has, and how many columns a line takes.
+pub fn counted(alloc: Global) -> Result<String, TableError> {
+    let (fields, columns) = (Language::length(), line_width("北京"));
+    Ok(format!(in alloc; "{fields} fields, {columns} columns")?)
 }
 
 /// Rows behind those of values.
@@ -76,7 +99,7 @@ pub fn continued(alloc: Global) -> Result<String, TableError> {
     let mut builder = Table::builder(alloc, [("C", 1972u16)])?;
     builder.push_record(["Go", "2009"])?;
     let table = Table::from(builder);
-    table.to_string()
+    table.to_text()
 }
 
 /// Options, one after the other.
@@ -99,6 +122,26 @@ pub fn rounded(table: &mut Table) -> Result<(), TableError> {
         ..Style::modern().get_borders()
     });
     Ok(())
+}
+
+/// A frame, one horizontal line, below the header, and numbers at the right.
+pub fn one_line(table: &mut Table) -> Result<(), TableError> {
+    let config = table.get_config_mut().as_mut();
+    config.set_borders(Borders {
+        left_intersection: None,
+        horizontal: None,
+        intersection: None,
+        right_intersection: None,
+        ..Style::modern().get_borders()
+    });
+    let below_header = HorizontalLine {
+        main: Some('─'),
+        left: Some('├'),
+        intersection: Some('┼'),
+        right: Some('┤'),
+    };
+    config.insert_horizontal_line(1, below_header)?;
+    config.set_alignment_horizontal(Entity::Column(1), AlignmentHorizontal::Right)
 }
 
 /// A text that is changed by hand. What is stored of sizes is forgotten by `clear`.

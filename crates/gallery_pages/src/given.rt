@@ -12,7 +12,7 @@ fn picture<F: FnOnce(&mut Table) -> Result<(), TableError>>(
     requires { F.IsAlwaysCallable change }
 {
     change(&mut table)?;
-    table.to_string()
+    table.to_text()
 }
 
 /// A table of cities and people, to which something was done.

@@ -39,13 +39,13 @@ pub fn asked_for(alloc: Global) -> Result<String, TableError> {
 /// `Table::new` puts names above values.
 pub fn named(alloc: Global) -> Result<String, TableError> {
     let table = Table::new(alloc, [("Ada", 1815u16), ("Grace", 1906u16)])?;
-    table.to_string()
+    table.to_text()
 }
 
 /// `Table::kv` has a row of name and text for each field.
 pub fn key_values(alloc: Global) -> Result<String, TableError> {
     let table = Table::kv(alloc, [("Ada", 1815u16)])?;
-    table.to_string()
+    table.to_text()
 }
 
 /// Records of rows, the first of which names the fields.
@@ -68,7 +68,7 @@ pub fn pool(alloc: Global) -> Result<String, TableError> {
     rows.push(vec![in alloc; "three capitals of Europe"]?)?;
     let mut table = PoolTable::new(alloc, rows)?;
     table.with(Style::modern())?;
-    table.to_string()
+    table.to_text()
 }
 
 /// Boxes side by side in a `Row`, one below the other in a `Column`. What a row has too much of goes to all of its parts.
@@ -78,7 +78,7 @@ pub fn boxes(alloc: Global) -> Result<String, TableError> {
     let all = pair(alloc, title, TableValue::Row(beside))?;
     let mut table = PoolTable::from_value(TableValue::Column(all));
     table.with(Style::modern())?;
-    table.to_string()
+    table.to_text()
 }
 
 /// It goes to the last part; `DimensionPriority::First` is there as well.
@@ -89,7 +89,7 @@ pub fn boxes_last(alloc: Global) -> Result<String, TableError> {
     let mut table = PoolTable::from_value(TableValue::Column(all));
     let last = PoolTableDimension::new(DimensionPriority::Last, DimensionPriority::Last);
     table.with(last)?.with(Padding::zero())?;
-    table.to_string()
+    table.to_text()
 }
 
 /// Marks of colours around padding; they take no columns. In a terminal they would be escape sequences.
@@ -100,5 +100,5 @@ pub fn marked(alloc: Global) -> Result<String, TableError> {
     config.set_padding_color(Sides::filled(ANSIStr::new("<b>", "</b>")));
     let mut table = PoolTable::new(alloc, [["Paris", "Rome"]])?;
     table.with(config)?;
-    table.to_string()
+    table.to_text()
 }

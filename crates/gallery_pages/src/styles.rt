@@ -27,7 +27,7 @@ pub fn markdown(table: &mut Table) -> Result<(), TableError> {
     Ok(())
 }
 
-/// As `psql` prints it.
+/// In the style of `psql`.
 pub fn psql(table: &mut Table) -> Result<(), TableError> {
     table.with(Style::psql())?;
     Ok(())

@@ -18,7 +18,7 @@ fn main(rt: HostRuntime) -> Result<()> {
     let text = io::read_to_string(rt.alloc(), rt.stdin()).context("reading the input")?;
     let mut table = table_of(rt.alloc(), &text)?;
     table.apply(Style::modern())?;
-    let text = table.to_string()?;
+    let text = table.to_text()?;
     if !text.is_empty() {
         println!(rt; "{text}")?;
     }

@@ -25,7 +25,7 @@ fn main(rt: HostRuntime) -> Result<()> {
             "the other columns leave none for the message"
         );
     }
-    println!(rt; "{}", table.to_string()?)?;
+    println!(rt; "{}", table.to_text()?)?;
     Ok(())
 }
 

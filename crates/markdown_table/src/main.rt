@@ -13,7 +13,7 @@ fn main(rt: HostRuntime) -> Result<()> {
     let text = io::read_to_string(alloc, rt.stdin()).context("reading the input")?;
     let mut table = Table::from(rows_of(alloc, &text)?);
     table.apply(Style::markdown())?;
-    println!(rt; "{}", table.to_string()?)?;
+    println!(rt; "{}", table.to_text()?)?;
     Ok(())
 }
 

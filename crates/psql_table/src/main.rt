@@ -1,4 +1,4 @@
-//! Prints tab-separated rows as `psql` prints the answer of a query, once all of them are read.
+//! Prints tab-separated rows in the style of `psql`, once all of them are read.
 #![tactic(auto)]
 
 use anyhow::{Context, Result, ensure};
@@ -13,7 +13,7 @@ fn main(rt: HostRuntime) -> Result<()> {
     let text = io::read_to_string(alloc, rt.stdin()).context("reading the input")?;
     let mut table = Table::from(rows_of(alloc, &text)?);
     table.apply(Style::psql())?;
-    println!(rt; "{}", table.to_string()?)?;
+    println!(rt; "{}", table.to_text()?)?;
     match table.count_rows() {
         0 | 1 => println!(rt; "(0 rows)")?,
         2 => println!(rt; "(1 row)")?,

@@ -101,7 +101,7 @@ where
 {
     table.with(Style::markdown())?;
     table.with(config)?;
-    Ok((*table).to_string()?.as_str() == BARE)
+    Ok(table.to_text()?.as_str() == BARE)
 }
 
 fn are_replaced(alloc: Global, table: &mut Table) -> Result<bool, TableError> {

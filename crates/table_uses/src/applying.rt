@@ -55,7 +55,7 @@ pub fn hinted(alloc: Global, sheet: &Sheet, entity: Option<Entity>) -> Result<St
 // The picture of a table whose configuration was replaced.
 fn configure(table: &mut Table, config: ColoredConfig) -> Result<String, TableError> {
     table.apply(config)?;
-    (*table).to_string()
+    table.to_text()
 }
 
 /// The picture of a sheet whose configuration was replaced by a new one.
@@ -115,7 +115,7 @@ pub fn broken_off(
 // What is printed then.
 fn broken_picture(table: &mut Table) -> Result<String, TableError> {
     let _answer = break_off(table);
-    (*table).to_string()
+    table.to_text()
 }
 
 /// What is printed after that option.

@@ -3,8 +3,7 @@
 //!
 //! ```rust
 //! let rows = [("Ada", 1815), ("Grace", 1906)];
-//! let table = Table::nohead(alloc, rows)?;
-//! table.to_string()
+//! Table::nohead(alloc, rows)?.to_text()
 //! ```
 //!
 //! Each module below says what it is for and has an example of lines that the programs `tour` and `gallery` run.

@@ -146,7 +146,7 @@ impl Table {
     }
 }
 
-/// The text that `to_string` gives; `fmt::Error` where that is refused, or a writer fails.
+/// The text that `to_text` returns; `fmt::Error` where that is refused, or a writer fails.
 impl fmt::Display for Table {
     ghost use Rattle.tabled_table.specs.TableSheet.{sheet};
     ghost use Rattle.tabled_grid.specs.Picture.{table_text};
@@ -154,7 +154,7 @@ impl fmt::Display for Table {
     ghost output = { λ table. Some (table_text (sheet table)) };
 
     fn fmt<W: fmt::Write>(&self, f: &mut fmt::Formatter<W>) -> fmt::Result {
-        match self.to_string() {
+        match self.to_text() {
             Ok(text) => f.write_str(&text),
             Err(_) => Err(fmt::Error),
         }

@@ -268,16 +268,37 @@ impl Table {
         print_standing(sink, &self.records, self.config.as_ref(), &self.dimension)
     }
 
-    /// The text that `write_to` writes. Refused for memory, and for what a table is refused by `write_to`.
-    pub fn to_string(&self) -> Result<String, TableError>
+    /// The printed text. Fails with `Memory`, and for each cause for which `write_to` fails before
+    /// its first byte.
+    ///
+    /// It is what `to_string` returns. On a `&mut Table`, as `with` returns one, the name
+    /// `to_string` means std's method, which reports each failure as one of allocation; `to_text`
+    /// means the same everywhere.
+    ///
+    /// ```rust
+    /// Table::from_iter(alloc, rows)?.with(Style::modern())?.to_text()
+    /// ```
+    pub fn to_text(&self) -> Result<String, TableError>
         ensures ok { IfOk result (λ text. string_bytes text ≡ table_text (sheet self.now)) }
-        ensures printable { IfOk result (λ _. (is_empty (cells_of self.now) ≡ true) ⊎ IsPrintable (sheet self.now)) }
+        ensures printable { IfOk result (λ _. (is_empty (cells_of self.now) ≡ true)
+            ⊎ IsPrintable (sheet self.now)) }
         ensures err { IfErr result (λ e. (e ≡ Memory) ⊎ ((is_empty (cells_of self.now) ≡ false)
             × IsRefused (sheet self.now) e)) }
     {
         let mut text = String::new(self.records.allocator());
         self.write_to(&mut text)?;
         Ok(text)
+    }
+
+    /// The printed text, by the crate's name; see `to_text`.
+    pub fn to_string(&self) -> Result<String, TableError>
+        ensures ok { IfOk result (λ text. string_bytes text ≡ table_text (sheet self.now)) }
+        ensures printable { IfOk result (λ _. (is_empty (cells_of self.now) ≡ true)
+            ⊎ IsPrintable (sheet self.now)) }
+        ensures err { IfErr result (λ e. (e ≡ Memory) ⊎ ((is_empty (cells_of self.now) ≡ false)
+            × IsRefused (sheet self.now) e)) }
+    {
+        self.to_text()
     }
 }
 

@@ -7,16 +7,15 @@ use tabled::builder::Builder;
 use tabled::{Plan, Table, TableError, render};
 
 pub const CITIES: &str =
-    "City,Country,People\nParis,France,2103778\n\"Vaduz, the capital\",Liechtenstein,5774\n北京,China,21893095\n";
+    "City,Country,People\n\"Vaduz, the capital\",Liechtenstein,5774\n北京,China,21893095\n";
 
-/// A row a value. `Table::new` puts the names of the fields above them.
+/// A row for each value; here a value is a pair.
 pub fn from_values(alloc: Global) -> Result<String, TableError> {
     let rows = [("Ada", 1815), ("Grace", 1906)];
-    let table = Table::nohead(alloc, rows)?;
-    table.to_string()
+    Table::nohead(alloc, rows)?.to_text()
 }
 
-/// A row a line, a cell between tabs; no cell is copied.
+/// A row for each line, a cell between tabs. No cell is copied.
 pub fn from_text(alloc: Global) -> Result<String, TableError> {
     let mut out = String::new(alloc);
     let rows = "Name\tBorn\nAda\t1815\nGrace\t1906\n";
@@ -24,7 +23,7 @@ pub fn from_text(alloc: Global) -> Result<String, TableError> {
     Ok(out)
 }
 
-/// Rows that another crate reads, with quoted cells.
+/// A row for each record of the kit's CSV reader.
 pub fn from_csv(alloc: Global, text: &str) -> anyhow::Result<Table> {
     let mut builder = Builder::new(alloc);
     let mut reader = ReaderBuilder::new();

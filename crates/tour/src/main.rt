@@ -15,7 +15,7 @@ fn main(rt: HostRuntime) -> Result<()> {
     let table = made::from_csv(alloc, made::CITIES)?;
     println!(rt; "{}\n", narrow::dressed(table)?)?;
     println!(rt; "{}\n", streamed::as_they_come(alloc)?)?;
-    println!(rt; "{}", refused::told(alloc)?)?;
+    println!(rt; "{}", refused::too_narrow(alloc)?)?;
     println!(rt; "{:?}", refused::columns())?;
     Ok(())
 }

@@ -5,13 +5,13 @@ use tabled::settings::peaker::Priority;
 use tabled::settings::{Style, Width};
 use tabled::{Table, TableError};
 
-/// At most 36 columns a line: the widest columns give way first, and words stay whole where they can.
+/// At most 44 columns: the widest column gives way first, and lines break between words.
 pub fn dressed(mut table: Table) -> Result<String, TableError> {
     let config = table.get_config_mut().as_mut();
     config.set_alignment_horizontal(Entity::Column(2), AlignmentHorizontal::Right)?;
-    let narrow = Width::wrap(36).keep_words(true);
+    let narrow = Width::wrap(44).keep_words(true);
     table
         .with(Style::modern())?
-        .with(narrow.priority(Priority::max(true)))?;
-    table.to_string()
+        .with(narrow.priority(Priority::max(true)))?
+        .to_text()
 }

@@ -1,23 +1,22 @@
-//! What a refusal looks like, and what a column is.
+//! What an error looks like, and what a column is.
 
 use std::alloc::Global;
 use tabled::grid::util::string::text_width;
+use tabled::settings::Width;
 use tabled::{Table, TableError};
 
-/// Stored widths have to hold the cells. The cause of a refusal is told, and nothing was written.
-pub fn told(alloc: Global) -> Result<&'static str, TableError> {
+/// The second column is stored as 2 columns wide, and its first cell needs 4.
+pub fn too_narrow(alloc: Global) -> Result<&'static str, TableError> {
+    let widths = Width::list(alloc, [5, 2])?;
     let mut table = Table::nohead(alloc, [("a", "bb"), ("ccc", "")])?;
-    table
-        .get_dimension_mut()
-        .set_widths(Vec::from_slice(alloc, &[5, 2])?);
-    match table.to_string() {
+    match table.with(widths)?.to_text() {
         Err(TableError::Narrow { row: 0, column: 1 }) => Ok("the second column is too narrow"),
         Err(other) => Err(other),
         Ok(_) => Ok("printed"),
     }
 }
 
-/// A column is what a character takes in a terminal, by `unicode_width`.
+/// The columns that texts take in a terminal, by `unicode_width`.
 pub fn columns() -> [usize; 4] {
     [
         text_width("Paris"),
