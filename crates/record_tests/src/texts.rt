@@ -1,5 +1,7 @@
 //! What texts take, and which are plain.
-use tabled_text::{count_lines, is_plain, is_plain_column, lines, text_width};
+use tabled_text::{
+    count_lines, is_additive, is_additive_column, is_plain, is_plain_column, lines, text_width,
+};
 
 #[test]
 fn a_text_is_as_wide_as_its_widest_line(rt: HostRuntime) {
@@ -41,8 +43,21 @@ fn an_empty_line_is_a_line(rt: HostRuntime) {
 #[test]
 fn listed_characters_and_line_feeds_are_plain(rt: HostRuntime) {
     assert!(rt; is_plain(""));
-    assert!(rt; is_plain("Hello, мир 中文 ─│┼ ÀÿÑ \u{FFFD}\n"));
-    assert!(rt; is_plain("‐‗‚‛„‧†•… ▀▟ \u{2800}⣿"));
+    assert!(rt; is_plain("Hello, мир 中文 ─│┼╿ ÀÿÑ \u{FFFD}\n"));
+}
+
+// Dashes, dots, daggers, blocks and braille. `…` and `▀` take one column, as most fills do.
+#[test]
+fn what_borders_and_fills_are_drawn_with_is_additive_but_not_plain(rt: HostRuntime) {
+    for text in [
+        "‐", "‗", "‚", "‛", "„", "‧", "†", "•", "…", "▀", "▟", "\u{2800}", "⣿",
+    ] {
+        assert!(rt; !is_plain(text), "at {text}");
+        assert!(rt; is_additive(text), "at {text}");
+    }
+    for c in ['…', '▀', '⣿', '─', 'a', '#'] {
+        assert!(rt; is_additive_column(c), "at {c}");
+    }
 }
 
 #[test]
@@ -50,7 +65,7 @@ fn other_characters_are_not_plain(rt: HostRuntime) {
     for text in [
         "a\tb", "e\u{301}", "あ", "😳", "\u{200F}", "‘", "’", "“", "”", "\u{2028}", "■", "⤀",
     ] {
-        assert!(rt; !is_plain(text), "at {text}");
+        assert!(rt; !is_plain(text) && !is_additive(text), "at {text}");
     }
 }
 
@@ -63,7 +78,7 @@ fn plain_characters_of_one_column(rt: HostRuntime) {
 
 #[test]
 fn wide_and_other_characters_are_no_plain_columns(rt: HostRuntime) {
-    for c in ['中', 'あ', '\t', '\n'] {
+    for c in ['中', 'あ', '\t', '\n', '…', '▀'] {
         assert!(rt; !is_plain_column(c), "at {c:?}");
     }
 }

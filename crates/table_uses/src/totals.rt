@@ -6,7 +6,7 @@ ghost use Rattle.tabled_set.specs.Promised.{IsWiderThan};
 ghost use Rattle.tabled_size.specs.TextCells.{AreTexts};
 ghost use Rattle.tabled_size.specs.Totals.{total_width};
 ghost use Rattle.tabled_table.specs.TableSheet.{cells_of, sheet};
-ghost use Rattle.tabled_text.specs.Plain.{IsPlain};
+ghost use Rattle.tabled_text.specs.Plain.{IsAdditive};
 
 use crate::sheet::{PAIRS, table_of};
 use std::alloc::Global;
@@ -31,7 +31,7 @@ fn wrap_level(table: &mut Table, n: usize) -> Result<(), TableError>
 
 // Truncates each line by the greatest widths, with a suffix.
 fn truncate_level(table: &mut Table, n: usize, suffix: &str) -> Result<(), TableError>
-    ensures total { OnOk result (IsPlain suffix.now → IsWiderThan n (sheet table.old)
+    ensures total { OnOk result (IsAdditive suffix.now → IsWiderThan n (sheet table.old)
         → AreTexts (cells_of table.old) → total_width (sheet table.new) ≡ max n (empty_width (sheet table.old))) }
     ensures best { OnOk result (suffix.now ≡ [] → IsWiderThan n (sheet table.old)
         → IsBestCut true (sheet table.old) (sheet table.new)) }

@@ -3,7 +3,7 @@ use Rattle.std.proofs.Common.{◌≡◌, ℕ, ◌<◌, Bool, List, Some, None, r
 use Rattle.tabled_base.specs.declared.error.TableError.{TableError}
 use Rattle.tabled_base.specs.declared.position.Entity.TheVariants.{Row}
 use Rattle.tabled_change.specs.CellChanges.{if_wider, truncating, wrapping}
-use Rattle.tabled_change.specs.PlainEnding.{IsPlainLimit}
+use Rattle.tabled_change.specs.PlainEnding.{IsAdditiveLimit}
 use Rattle.tabled_change.specs.declared.suffix.SuffixLimit.{SuffixLimit}
 use Rattle.tabled_config.specs.declared.spanned.SpannedConfig.{SpannedConfig}
 use Rattle.tabled_grid.specs.Printed.{Prints}
@@ -19,7 +19,7 @@ use Rattle.tabled_size.specs.Stored.{heights_of, widths_of}
 use Rattle.tabled_size.specs.TextCells.{AreTexts}
 use Rattle.tabled_size.specs.Totals.{total_width}
 use Rattle.tabled_size.specs.declared.complete_dimension.CompleteDimension.{CompleteDimension}
-use Rattle.tabled_text.specs.Plain.{IsPlain}
+use Rattle.tabled_text.specs.Plain.{IsAdditive}
 use Rattle.tabled.specs.Narrowing.{IsFitted, ShrinksBy}
 use Rattle.tabled.specs.Planned.{Cells}
 use Rattle.tabled.specs.Rendered.{PrintsPlanned}
@@ -48,7 +48,7 @@ module _ {P T : Type 0} (shrinks : P → List ℕ → List ℕ → ℕ → List 
       (fitted_holds (ShrinksBy shrinks s) (wrapping words) n cells config t fits exact) prints
 
   -- a table that was truncated
-  pub truncated : (suffix : List ℕ) (limit : SuffixLimit) (multiline : Bool) → IsPlain suffix → IsPlainLimit limit
+  pub truncated : (suffix : List ℕ) (limit : SuffixLimit) (multiline : Bool) → IsAdditive suffix → IsAdditiveLimit limit
       → Narrows shrinks s (if_wider (truncating suffix limit multiline)) n cells config none new left → AreCleared None left last
       → TruncatesAsPromised shrinks s suffix limit multiline n (standing cells config none) (standing new config last)
       → Prints estimates (standing new config last) old r sent

@@ -26,8 +26,8 @@ use Rattle.tabled_config.specs.declared.spanned.SpannedConfig.{SpannedConfig}
 use Rattle.tabled_size.specs.TextCells.{AreTexts}
 use Rattle.tabled_size.specs.Totals.{total_width}
 use Rattle.tabled_table.proofs.Sheets.{sheet_lines, sheet_texts}
-use Rattle.tabled_text.specs.Plain.{IsPlain}
-use Rattle.tabled_text.proofs.StayLemmas.{IsPlain-stays, StaysWithin-none}
+use Rattle.tabled_text.specs.Plain.{IsAdditive}
+use Rattle.tabled_text.proofs.StayLemmas.{IsAdditive-stays, StaysWithin-none}
 use Rattle.tabled.specs.declared.plan.Order.{Order}
 use Rattle.tabled.specs.declared.plan.Order.TheVariants.{Greatest}
 use Rattle.tabled.specs.declared.plan.Plan.TheVariants.{Buffered, Wrapped, Shortened}
@@ -108,8 +108,8 @@ module _ (shrinks : List ℕ → List ℕ → ℕ → List ℕ → Type 0) (chan
       e.texts e.holds)
 
 -- the empty text is plain
-pub no_text_plain : IsPlain []
-no_text_plain = IsPlain-stays (StaysWithin-none {n = 0})
+pub no_text_plain : IsAdditive []
+no_text_plain = IsAdditive-stays (StaysWithin-none {n = 0})
 
 -- ---- the plans
 
@@ -163,11 +163,11 @@ module _ {P : Type 0} {order : Order} {shrinks : P → List ℕ → List ℕ →
       alike = tt;
     }
 
-    shortened_exact : IsPlain [] → TruncatesAsPromised shrinks s [] Cut false n (estimated cells config) t → n < total_width (estimated cells config)
+    shortened_exact : IsAdditive [] → TruncatesAsPromised shrinks s [] Cut false n (estimated cells config) t → n < total_width (estimated cells config)
         → HasExactTotal n (estimated cells config) t
     shortened_exact q p h = p.exact meets.takes q tt (whole_wider n cells config h) texts
 
-    pub shortened_best : IsPlain [] → IsFitted shrinks s (if_wider (truncating [] Cut false)) n (estimated cells config) t
+    pub shortened_best : IsAdditive [] → IsFitted shrinks s (if_wider (truncating [] Cut false)) n (estimated cells config) t
         → TruncatesAsPromised shrinks s [] Cut false n (estimated cells config) t → IsBestOf (Shortened n order) (estimated cells config) t
     shortened_best q fits p = record {
       edges = fitted_lines (ShrinksBy shrinks s) (if_wider (truncating [] Cut false)) n cells config t fits (shortened_exact q p) rectangular texts;

@@ -300,8 +300,8 @@ pub mod grid {
         pub mod string {
             pub use tabled_apart::is_separator_column;
             pub use tabled_text::{
-                TextLines, count_lines, cut_str, is_fullest, is_plain, is_plain_column, line_width,
-                lines, split_str, text_width, wrap_text,
+                TextLines, count_lines, cut_str, is_additive, is_additive_column, is_fullest,
+                is_plain, is_plain_column, line_width, lines, split_str, text_width, wrap_text,
             };
         }
     }

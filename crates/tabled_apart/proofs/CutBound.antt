@@ -4,7 +4,7 @@ use Rattle.std.specs.Str.{IsUtf8}
 use Rattle.std.proofs.lemmas.Str.{IsUtf8-append, chars-append}
 use Rattle.std.proofs.lemmas.List.Elements.{All-head, All-tail}
 use Rattle.tabled_text.specs.Measure.{lines_of, count_of, text_columns, line_columns}
-use Rattle.tabled_text.specs.Plain.{IsPlain}
+use Rattle.tabled_text.specs.Plain.{IsAdditive}
 use Rattle.tabled_text.specs.Room.{stays}
 use Rattle.tabled_text.proofs.StayLemmas.{stays-suffix}
 use Rattle.tabled_text.specs.Cut.{last_of, last_line, missing_columns, IsCut}
@@ -55,6 +55,6 @@ cut_followed n w text answer tail le cut u h =
     (subst (λ t. Within w (lines_of t)) (sym (chars-append answer tail cut.utf8))
     (Within-followed n w le (chars answer) (chars tail) (Within-cut n text answer cut) h))
 
-pub cut_suffixed : (n w : ℕ) (text answer suffix : List ℕ) → IsPlain suffix → n + sum_by line_columns (lines_of suffix) ≤ w → IsCut n text answer
+pub cut_suffixed : (n w : ℕ) (text answer suffix : List ℕ) → IsAdditive suffix → n + sum_by line_columns (lines_of suffix) ≤ w → IsCut n text answer
     → text_columns (answer ++ suffix) ≤ w
 cut_suffixed n w text answer suffix p le cut = cut_followed n w text answer suffix (omega arith) cut p.utf8 (λ k l. stays-suffix w k suffix p (omega arith))

@@ -9,7 +9,7 @@ use Rattle.unicode_width.specs.Width.{str_width}
 use Rattle.tabled_text.specs.Measure.{line_columns, columns_of}
 use Rattle.tabled_apart.specs.Lines.{is_no_feed, EndsApart, IsFrame, IsLine}
 use Rattle.unicode_width.proofs.Rules.{is_simple}
-use Rattle.tabled_text.specs.Plain.{is_listed, has_plain_width, is_plain_character, IsPlainColumn}
+use Rattle.tabled_text.specs.Plain.{is_listed_or_drawn, has_plain_width, is_additive, IsAdditiveColumn}
 use Rattle.tabled_apart.specs.Separators.{is_keycap_base, is_separator, begins_with_selector, stands_before, begins_apart, ends_before}
 use Rattle.tabled_apart.proofs.LineLaws.{chars-one, line-append, line-one}
 use Rattle.tabled_apart.proofs.SeparatorLaws.{begins_apart-separators, ends_before-separators}
@@ -127,33 +127,33 @@ opens-begins {text} o = record { begins = subst (λ t. begins_apart t ≡ true) 
 
 -- ---- a plain character before what begins apart
 
-not_selector : (c : ℕ) → is_listed c ≡ true → (c == 0xFE0F) ≡ false
+not_selector : (c : ℕ) → is_listed_or_drawn c ≡ true → (c == 0xFE0F) ≡ false
 not_selector c h = grind (arith, nat_tests)
 
 no_selector : (cs : List ℕ) → begins_apart cs ≡ true → begins_with_selector cs ≡ false
 no_selector [] h = refl
 no_selector (c ∷ cs) h =
-    let parts = and_parts (is_plain_character c) (not (is_keycap_base c && begins_with_selector cs)) h in
-    not_selector c (and_parts (is_listed c) (has_plain_width c && is_simple c) parts.0).0
+    let parts = and_parts (is_additive c) (not (is_keycap_base c && begins_with_selector cs)) h in
+    not_selector c (and_parts (is_listed_or_drawn c) (has_plain_width c && is_simple c) parts.0).0
 
-stands-plain : (c : ℕ) (back : List ℕ) → is_plain_character c ≡ true → begins_apart back ≡ true → stands_before c back ≡ true
+stands-plain : (c : ℕ) (back : List ℕ) → is_additive c ≡ true → begins_apart back ≡ true → stands_before c back ≡ true
 stands-plain c back h b =
-    and_from (is_plain_character c) (not (is_keycap_base c && begins_with_selector back)) h
+    and_from (is_additive c) (not (is_keycap_base c && begins_with_selector back)) h
     (ap (λ s. not (is_keycap_base c && s)) (no_selector back b) ∙ nothing (is_keycap_base c))
   where
     nothing : (k : Bool) → not (k && false) ≡ true
     nothing true = refl
     nothing false = refl
 
-chars-first : (c : ℕ) (text : List ℕ) → IsPlainColumn c → chars (encode_utf8 c ++ text) ≡ c ∷ chars text
+chars-first : (c : ℕ) (text : List ℕ) → IsAdditiveColumn c → chars (encode_utf8 c ++ text) ≡ c ∷ chars text
 chars-first c text p = chars-append (encode_utf8 c) text (line-one c p).utf8 ∙ ap (λ t. t ++ chars text) (chars-one c p)
 
-pub begins-one : (c : ℕ) (text : List ℕ) → IsPlainColumn c → BeginsApart text → BeginsApart (encode_utf8 c ++ text)
+pub begins-one : (c : ℕ) (text : List ℕ) → IsAdditiveColumn c → BeginsApart text → BeginsApart (encode_utf8 c ++ text)
 begins-one c text p b = record {
   begins = subst (λ t. begins_apart t ≡ true) (sym (chars-first c text p)) (stands-plain c (chars text) p.character b.begins);
 }
 
-pub opens-one : (c : ℕ) (text : List ℕ) → IsPlainColumn c → Opens text → Opens (encode_utf8 c ++ text)
+pub opens-one : (c : ℕ) (text : List ℕ) → IsAdditiveColumn c → Opens text → Opens (encode_utf8 c ++ text)
 opens-one c text p o = record {
   opens = λ back. subst (λ t. begins_apart (t ++ back) ≡ true) (sym (chars-first c text p))
       (stands-plain c (chars text ++ back) p.character (o.opens back));

@@ -12,7 +12,7 @@ use Rattle.std.proofs.lemmas.Str.{encodes-chars}
 use Rattle.tabled_text.specs.Cut.{IsCut, IsReached, last_line, last_of, missing_columns}
 use Rattle.tabled_text.specs.Longest.{IsLongestCut}
 use Rattle.tabled_text.specs.Measure.{char_count, columns_of, count_of, greatest, line_columns, lines_of, text_columns}
-use Rattle.tabled_text.specs.Plain.{IsPlain, is_plain_character}
+use Rattle.tabled_text.specs.Plain.{IsAdditive, is_additive}
 use Rattle.tabled_text.proofs.JoinLemmas.{lines_of-join}
 use Rattle.tabled_text.proofs.LongestLemmas.{longest_counted}
 use Rattle.tabled_text.proofs.PlainLemmas.{columns_of-plain, count_of-plain}
@@ -74,10 +74,10 @@ exact-kept n text answer e room cut =
     sym (encodes-chars answer cut.utf8) ∙ ap encode_utf8_all same ∙ encodes-chars text e.utf8
 
 -- a plain line is such
-pub plain_exact : (text : List ℕ) → IsPlain text → length (lines_of text) ≡ 1 → IsExactLine text
+pub plain_exact : (text : List ℕ) → IsAdditive text → length (lines_of text) ≡ 1 → IsExactLine text
 plain_exact text p h =
     let first : slice_index_or (lines_of text) 0 [] ≡ text = ap (λ ls. slice_index_or ls 0 []) (one-line text h) in
-    let L : List ℕ → Type 0 = λ l. (list_all is_plain_character (chars l) ≡ true) × (text_columns l ≡ line_columns l) in
+    let L : List ℕ → Type 0 = λ l. (list_all is_additive (chars l) ≡ true) × (text_columns l ≡ line_columns l) in
     let plain = plain_line-each text p 0 (omega arith) in
     let own = subst L first (plain.characters, text_columns-plain_line plain) in
     record { utf8 = p.utf8; one = h; counted = count_of-plain (chars text) own.0 ∙ sym (columns_of-plain (chars text) own.0) ∙ sym own.1 }

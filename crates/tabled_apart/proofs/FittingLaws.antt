@@ -6,7 +6,7 @@ use Rattle.std.proofs.lemmas.List.Elements.{All-head, All-tail}
 use Rattle.std.proofs.lemmas.Str.{IsUtf8-append, IsUtf8-nil}
 use Rattle.tabled_text.specs.Cut.{IsCut}
 use Rattle.tabled_text.specs.Measure.{line_columns, lines_of, text_columns}
-use Rattle.tabled_text.specs.Plain.{IsPlain, IsPlainColumn}
+use Rattle.tabled_text.specs.Plain.{IsAdditive, IsAdditiveColumn}
 use Rattle.tabled_text.specs.Room.{stays}
 use Rattle.tabled_text.specs.Wrapping.{IsWrapped}
 use Rattle.tabled_text.proofs.Bridge.{greatest-le}
@@ -20,7 +20,7 @@ use Rattle.tabled_apart.proofs.WrapBound.{wrap_bound}
 pub fits-cut : (n : ℕ) (text answer : List ℕ) → IsCut n text answer → FitsIn n answer
 fits-cut n text answer c = record { utf8 = c.utf8; columns = cut_bound n text answer c }
 
-pub fits-suffix : (n w : ℕ) (text answer suffix : List ℕ) → IsPlain suffix → n + sum_by line_columns (lines_of suffix) ≤ w → IsCut n text answer
+pub fits-suffix : (n w : ℕ) (text answer suffix : List ℕ) → IsAdditive suffix → n + sum_by line_columns (lines_of suffix) ≤ w → IsCut n text answer
     → FitsIn w (answer ++ suffix)
 fits-suffix n w text answer suffix p le c = record { utf8 = IsUtf8-append answer suffix c.utf8 p.utf8; columns = cut_suffixed n w text answer suffix p le c }
 
@@ -48,5 +48,5 @@ fits-joined n texts h = record {
 pub fits-none : (n : ℕ) → FitsIn n []
 fits-none n = record { utf8 = IsUtf8-nil; columns = text_columns-stays (StaysWithin-none {n = n}) }
 
-pub fits-filled : (n k c : ℕ) → k ≤ n → IsPlainColumn c → FitsIn n (encode_utf8_all (replicate k c))
+pub fits-filled : (n k c : ℕ) → k ≤ n → IsAdditiveColumn c → FitsIn n (encode_utf8_all (replicate k c))
 fits-filled n k c le p = let s = StaysWithin-filled {n = n} k c le p in record { utf8 = s.utf8; columns = text_columns-stays s }

@@ -39,7 +39,7 @@ use Rattle.std.proofs.Math.Utf8.{scalar}
 use Rattle.std.proofs.lemmas.Str.{IsUtf8-append, chars-append, chars-encodes}
 use Rattle.unicode_width.proofs.Rules.{is_simple}
 use Rattle.tabled_text.specs.Measure.{lines_of, line_columns, columns_of}
-use Rattle.tabled_text.specs.Plain.{is_listed, has_plain_width, is_plain_character, IsPlainColumn}
+use Rattle.tabled_text.specs.Plain.{is_listed_or_drawn, has_plain_width, is_additive, IsAdditiveColumn}
 use Rattle.tabled_text.proofs.Bridge.{each_in_lines, lines_of-chars, utf8_lines}
 use Rattle.tabled_text.proofs.PlainLines.{plain_line-one, scalar-listed}
 use Rattle.tabled_text.proofs.WrapRoom.{not_break}
@@ -69,7 +69,7 @@ no_feed-plain : (cs : List ℕ) → list_all is_separator cs ≡ true → list_a
 no_feed-plain [] h = refl
 no_feed-plain (c ∷ cs) h =
     let parts = and_parts (is_separator c) (list_all is_separator cs) h in
-    let own = and_parts (is_plain_character c) (not (is_keycap_base c)) parts.0 in
+    let own = and_parts (is_additive c) (not (is_keycap_base c)) parts.0 in
     and_from (is_no_feed c) (list_all is_no_feed cs) (ap not (not_break c own.0)) (no_feed-plain cs parts.1)
 
 pub line-frame : {text : List ℕ} {n : ℕ} → IsFrame text n → IsLine text n
@@ -87,13 +87,13 @@ frame-append {front} {back} {m} {n} p q =
       columns = (line-append (line-frame p) (line-frame q) met).columns;
     }
 
-pub chars-one : (c : ℕ) → IsPlainColumn c → chars (encode_utf8 c) ≡ c ∷ []
+pub chars-one : (c : ℕ) → IsAdditiveColumn c → chars (encode_utf8 c) ≡ c ∷ []
 chars-one c h =
-    let scalar_one : scalar c ≡ true = scalar-listed c (and_parts (is_listed c) (has_plain_width c && is_simple c) h.character).0 in
+    let scalar_one : scalar c ≡ true = scalar-listed c (and_parts (is_listed_or_drawn c) (has_plain_width c && is_simple c) h.character).0 in
     ap chars (sym (append-nil (encode_utf8 c))) ∙ chars-encodes (c ∷ []) (ap (λ b. b && true) scalar_one)
 
 -- a plain character of one column by itself
-pub line-one : (c : ℕ) → IsPlainColumn c → IsLine (encode_utf8 c) 1
+pub line-one : (c : ℕ) → IsAdditiveColumn c → IsLine (encode_utf8 c) 1
 line-one c h =
     let p = plain_line-one c h in record {
       utf8 = p.utf8;
@@ -103,9 +103,9 @@ line-one c h =
 
 pub frame-one : (c : ℕ) → IsSeparatorColumn c → IsFrame (encode_utf8 c) 1
 frame-one c own =
-    let h = own.plain in
+    let h = own.additive in
     let p = plain_line-one c h in
-    let s = and_from (is_plain_character c) (not (is_keycap_base c)) h.character (ap not own.steady) in
+    let s = and_from (is_additive c) (not (is_keycap_base c)) h.character (ap not own.steady) in
     record {
       utf8 = p.utf8;
       separators = ap (list_all is_separator) (chars-one c h) ∙ and_from (is_separator c) true s refl;

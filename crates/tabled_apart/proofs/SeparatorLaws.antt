@@ -22,18 +22,24 @@ use Rattle.std.proofs.Common.{
   suc,
   add_comm,
   zero-add,
+  ◌⊎◌,
   ⊎_elim,
+  inl,
+  inr,
   append_assoc,
 }
+use Rattle.std.specs.Prelude.{◌↔◌}
 use Rattle.std.specs.List.{list_all}
 use Rattle.std.proofs.lemmas.Bool.{and_parts, and_from, or_cases, cases_Bool}
 use Rattle.unicode_width.specs.Width.{plain, Reading, step, read_before, str_width}
 use Rattle.unicode_width.proofs.Rules.{is_simple, str_width-append_simple}
 use Rattle.tabled_text.specs.Measure.{char_columns, columns_of}
-use Rattle.tabled_text.specs.Plain.{is_plain_character}
+use Rattle.tabled_text.specs.Plain.{is_additive, IsAdditiveColumn, IsPlainColumn}
+use Rattle.tabled_text.proofs.PlainLines.{additive_column-plain, only_plain-printable}
 use Rattle.tabled_text.proofs.WrapRoom.{plain_space}
 use Rattle.tabled_apart.specs.Separators.{is_keycap_base, is_separator, begins_with_selector, stands_before, begins_apart, ends_before, meet}
-use Rattle.tabled_apart.proofs.SeparatorSteps.{step-separator, step-keycap, step-flag}
+use Rattle.tabled_apart.proofs.SeparatorSteps.{keycap-printable, step-separator, step-keycap, step-flag}
+use Rattle.tabled_apart.specs.Lines.{IsSeparatorColumn}
 
 -- ---- texts that leave no state
 
@@ -85,7 +91,7 @@ read_before-apart : (c : ℕ) (back : List ℕ) → stands_before c back ≡ tru
 unfolding str_width
 read_before-apart c back h =
     let r = read_before false back (0, plain) in
-    let parts = and_parts (is_plain_character c) (not (is_keycap_base c && begins_with_selector back)) h in
+    let parts = and_parts (is_additive c) (not (is_keycap_base c && begins_with_selector back)) h in
     let other = not-true (is_keycap_base c && begins_with_selector back) parts.1 in
     ⊎_elim (λ y. step-keycap c r.0 r.1 y (no_selector-flag back (and-first (is_keycap_base c) (begins_with_selector back) other y)))
     (λ n. step-separator c r.0 r.1 parts.0 n) (cases_Bool (is_keycap_base c))
@@ -102,9 +108,9 @@ columns-around c front back h =
 
 stands_before-separator : (c : ℕ) (back : List ℕ) → is_separator c ≡ true → stands_before c back ≡ true
 stands_before-separator c back h =
-    let parts = and_parts (is_plain_character c) (not (is_keycap_base c)) h in
+    let parts = and_parts (is_additive c) (not (is_keycap_base c)) h in
     let e = not-true (is_keycap_base c) parts.1 in
-    and_from (is_plain_character c) (not (is_keycap_base c && begins_with_selector back)) parts.0 (ap (λ b. not (b && begins_with_selector back)) e)
+    and_from (is_additive c) (not (is_keycap_base c && begins_with_selector back)) parts.0 (ap (λ b. not (b && begins_with_selector back)) e)
 
 pub columns-separator : (c : ℕ) (back : List ℕ) → is_separator c ≡ true → columns_of (c ∷ back) ≡ char_columns c + columns_of back
 columns-separator c back h = columns-first c back (stands_before-separator c back h)
@@ -132,8 +138,8 @@ has_end c (d ∷ cs) back h = let e = has_end d cs back h in record { rest = c �
 
 stands_before-nil : (c : ℕ) (back : List ℕ) → stands_before c back ≡ true → stands_before c [] ≡ true
 stands_before-nil c back h =
-    and_from (is_plain_character c) (not (is_keycap_base c && false))
-    (and_parts (is_plain_character c) (not (is_keycap_base c && begins_with_selector back)) h).0 (nothing (is_keycap_base c))
+    and_from (is_additive c) (not (is_keycap_base c && false))
+    (and_parts (is_additive c) (not (is_keycap_base c && begins_with_selector back)) h).0 (nothing (is_keycap_base c))
   where
     nothing : (b : Bool) → not (b && false) ≡ true
     nothing true = refl
@@ -164,3 +170,13 @@ pub ends_before-separators : (cs back : List ℕ) → list_all is_separator cs �
 ends_before-separators [] back h = refl
 ends_before-separators (c ∷ []) back h = stands_before-separator c back (and_parts (is_separator c) true h).0
 ends_before-separators (c ∷ d ∷ cs) back h = ends_before-separators (d ∷ cs) back (and_parts (is_separator c) (list_all is_separator (d ∷ cs)) h).1
+
+-- ---- additive characters of one column
+
+-- a keycap base is printable ASCII, which is plain
+pub additive_column-splits : (c : ℕ) → IsAdditiveColumn c ↔ (IsPlainColumn c ⊎ IsSeparatorColumn c)
+additive_column-splits c = (
+  λ h. ⊎_elim (λ y. inl (only_plain-printable c (keycap-printable c y))) (λ n. inr (record { additive = h; steady = n }))
+  (cases_Bool (is_keycap_base c)),
+  λ either. ⊎_elim (additive_column-plain c) (λ s. s.additive) either,
+)

@@ -107,7 +107,7 @@ use Rattle.unicode_width.specs.Width.{
 }
 use Rattle.unicode_width.proofs.Rules.{is_simple, is_simple_kind}
 use Rattle.tabled_text.specs.Measure.{char_columns}
-use Rattle.tabled_text.specs.Plain.{is_listed, has_plain_width, is_plain_character}
+use Rattle.tabled_text.specs.Plain.{is_listed_or_drawn, has_plain_width, is_additive}
 use Rattle.tabled_apart.specs.Separators.{is_keycap_base}
 use Rattle.tabled_apart.proofs.Missed.{IsUnmarked, unmarked-listed}
 
@@ -119,7 +119,7 @@ is_clear c =
     is_in_range 0xA1 0x5CF c || (is_in_range 0x2010 0x2017 c || (is_in_range 0x201A 0x201B c || (is_in_range 0x201E 0x2027 c
     || (is_in_range 0x2100 0x2CFF c || (is_in_range 0x2E00 0x9FFF c || is_in_range 0xFE20 0xFFFF c)))))
 
-clear-listed : (c : ℕ) → is_listed c ≡ true → is_in_range 0x20 0x7E c ≡ false → is_clear c ≡ true
+clear-listed : (c : ℕ) → is_listed_or_drawn c ≡ true → is_in_range 0x20 0x7E c ≡ false → is_clear c ≡ true
 clear-listed c h k = grind (arith, nat_tests)
 
 not_named : (c k : ℕ) → is_clear c ≡ true → is_clear k ≡ false → (c == k) ≡ false
@@ -308,9 +308,9 @@ not_zero n h = grind (arith, nat_tests)
 high-simple : (c : ℕ) → is_in_range 0x20 0x7E c ≡ false → is_simple c ≡ true → is_simple_kind (kind c) ≡ true
 high-simple c p h = (and_parts (nat_lt 0xA0 c) (is_simple_kind (kind c)) (subst (λ b. (b || (nat_lt 0xA0 c && is_simple_kind (kind c))) ≡ true) p h)).1
 
-calm-listed : (c : ℕ) → is_plain_character c ≡ true → is_keycap_base c ≡ false → is_in_range 0x20 0x7E c ≡ false → IsCalm c
+calm-listed : (c : ℕ) → is_additive c ≡ true → is_keycap_base c ≡ false → is_in_range 0x20 0x7E c ≡ false → IsCalm c
 calm-listed c h k p =
-    let parts = and_parts (is_listed c) (has_plain_width c && is_simple c) h in
+    let parts = and_parts (is_listed_or_drawn c) (has_plain_width c && is_simple c) h in
     let own = and_parts (has_plain_width c) (is_simple c) parts.1 in
     let clear = clear-listed c parts.0 p in
     record {
@@ -321,14 +321,14 @@ calm-listed c h k p =
     }
 
 -- a separator adds its own columns to every reading, and leaves the plain state
-pub step-separator : (c total : ℕ) (s : State) → is_plain_character c ≡ true → is_keycap_base c ≡ false
+pub step-separator : (c total : ℕ) (s : State) → is_additive c ≡ true → is_keycap_base c ≡ false
     → step false c (total, s) ≡ (total + char_columns c, plain)
 step-separator c total s h k =
-    let listed = (and_parts (is_listed c) (has_plain_width c && is_simple c) h).0 in
+    let listed = (and_parts (is_listed_or_drawn c) (has_plain_width c && is_simple c) h).0 in
     ⊎_elim (λ y. step-printable c total s (unmarked-listed c listed k).variation y)
     (λ n. step-calm c total s (calm-listed c h k n)) (cases_Bool (is_in_range 0x20 0x7E c))
 
-keycap-printable : (c : ℕ) → is_keycap_base c ≡ true → is_in_range 0x20 0x7E c ≡ true
+pub keycap-printable : (c : ℕ) → is_keycap_base c ≡ true → is_in_range 0x20 0x7E c ≡ true
 keycap-printable c h = grind (arith, nat_tests)
 
 -- so does a keycap base where no U+FE0F follows

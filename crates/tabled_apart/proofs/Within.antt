@@ -42,7 +42,7 @@ use Rattle.tabled_text.specs.Measure.{lines_of, columns_of, text_columns, greate
 use Rattle.tabled_text.proofs.Bridge.{some_line, text_columns-chars}
 use Rattle.tabled_text.proofs.PlainLemmas.{is_simple-plain, line_columns-plain}
 use Rattle.tabled_text.specs.Cut.{last_of}
-use Rattle.tabled_text.specs.Plain.{is_plain_character}
+use Rattle.tabled_text.specs.Plain.{is_additive}
 use Rattle.tabled_text.specs.Room.{stays}
 use Rattle.tabled_text.proofs.WrapRoom.{Lines, replacements}
 use Rattle.tabled_apart.specs.Lines.{is_no_feed}
@@ -149,14 +149,14 @@ Within-more : (n w : ℕ) (ls : List (List ℕ)) → n ≤ w → Within n ls →
 Within-more n w [] le h = tt
 Within-more n w (l ∷ ls) le h = ((let a = h.0 in omega arith), Within-more n w ls le h.1)
 
-columns-plain_end : (cs xs : List ℕ) → list_all is_plain_character xs ≡ true → columns_of (cs ++ xs) ≡ columns_of cs + sum_by char_columns xs
+columns-plain_end : (cs xs : List ℕ) → list_all is_additive xs ≡ true → columns_of (cs ++ xs) ≡ columns_of cs + sum_by char_columns xs
 columns-plain_end cs xs h = str_width-append_simple false cs xs (is_simple-plain xs h) ∙ ap (λ n. columns_of cs + n) (line_columns-plain xs h)
 
 Within-plain : (w : ℕ) (ls : List (List ℕ)) → Lines w 0 ls → Within w ls
 Within-plain w [] h = tt
 Within-plain w (l ∷ ls) h = ((let a = h.1 in let e = line_columns-plain l h.0 in omega arith), Within-plain w ls h.2)
 
-Within-added : (n w : ℕ) → n ≤ w → (ls : List (List ℕ)) (xs : List ℕ) → 0 < length ls → Within n ls → list_all is_plain_character xs ≡ true
+Within-added : (n w : ℕ) → n ≤ w → (ls : List (List ℕ)) (xs : List ℕ) → 0 < length ls → Within n ls → list_all is_additive xs ≡ true
     → columns_of (last_of ls) + sum_by char_columns xs ≤ w → Within w (add_last ls xs)
 Within-added n w le [] xs some h p room = absurd (omega arith)
 Within-added n w le (l ∷ []) xs some h p room = ((let e = columns-plain_end l xs p in omega arith), tt)
@@ -172,23 +172,23 @@ Within-spliced n w le ls [] some h t = Within-more n w ls le h
 Within-spliced n w le ls (t ∷ ts) some h lines =
     Within-append w (add_last ls t) ts (Within-added n w le ls t some h lines.0 lines.1) (Within-plain w ts lines.2)
 
-Lines-onto : (n used c : ℕ) (ls : List (List ℕ)) → is_plain_character c ≡ true → Lines n (used + char_columns c) ls → used + char_columns c ≤ n
+Lines-onto : (n used c : ℕ) (ls : List (List ℕ)) → is_additive c ≡ true → Lines n (used + char_columns c) ls → used + char_columns c ≤ n
     → Lines n used (onto_first c ls)
-Lines-onto n used c [] h l le = (and_from (is_plain_character c) true h refl, omega (arith, sum_by-cons char_columns c []), tt)
+Lines-onto n used c [] h l le = (and_from (is_additive c) true h refl, omega (arith, sum_by-cons char_columns c []), tt)
 Lines-onto n used c (x ∷ ls) h l le =
-    (and_from (is_plain_character c) (list_all is_plain_character x) h l.0, (let a = l.1 in omega (arith, sum_by-cons char_columns c x)), l.2)
+    (and_from (is_additive c) (list_all is_additive x) h l.0, (let a = l.1 in omega (arith, sum_by-cons char_columns c x)), l.2)
 
 -- the lines of a text that stays, and the columns used before it
 Lines-stays : (n used : ℕ) (cs : List ℕ) → stays n used cs ≡ true → (used ≤ n) × Lines n used (lines_of cs)
 Lines-stays n used [] h = let l = leb-true used n h in (l, (refl, omega arith, tt))
 Lines-stays n used (c ∷ cs) h = ⊎_elim
-    (λ y. let t = subst (λ b. cond b (nat_le used n && stays n 0 cs) (is_plain_character c && stays n (used + char_columns c) cs) ≡ true) y h in
+    (λ y. let t = subst (λ b. cond b (nat_le used n && stays n 0 cs) (is_additive c && stays n (used + char_columns c) cs) ≡ true) y h in
     let parts = and_parts (nat_le used n) (stays n 0 cs) t in
     let l = leb-true used n parts.0 in
     let own : Lines n used ([] ∷ lines_of cs) = (refl, omega arith, (Lines-stays n 0 cs parts.1).1) in
     (l, subst (λ b. Lines n used (cond b ([] ∷ lines_of cs) (onto_first c (lines_of cs)))) (sym y) own))
-    (λ no. let t = subst (λ b. cond b (nat_le used n && stays n 0 cs) (is_plain_character c && stays n (used + char_columns c) cs) ≡ true) no h in
-    let parts = and_parts (is_plain_character c) (stays n (used + char_columns c) cs) t in
+    (λ no. let t = subst (λ b. cond b (nat_le used n && stays n 0 cs) (is_additive c && stays n (used + char_columns c) cs) ≡ true) no h in
+    let parts = and_parts (is_additive c) (stays n (used + char_columns c) cs) t in
     let rest = Lines-stays n (used + char_columns c) cs parts.1 in
     let own = Lines-onto n used c (lines_of cs) parts.0 rest.1 rest.0 in
     (let l = rest.0 in omega arith, subst (λ b. Lines n used (cond b ([] ∷ lines_of cs) (onto_first c (lines_of cs)))) (sym no) own))

@@ -3,7 +3,7 @@ use Rattle.std.specs.Prelude.{◌≡◌, ℕ, Bool, true, false, not, ◌==◌, 
 use Rattle.std.specs.List.{list_all}
 use Rattle.std.specs.Str.{IsUtf8}
 use Rattle.tabled_text.specs.Measure.{line_columns}
-use Rattle.tabled_text.specs.Plain.{IsPlainColumn}
+use Rattle.tabled_text.specs.Plain.{IsAdditiveColumn}
 use Rattle.tabled_apart.specs.Separators.{is_keycap_base, is_separator, ends_before}
 
 abbrev pub is_no_feed : ℕ → Bool
@@ -11,7 +11,7 @@ is_no_feed c = not (c == 10)
 
 -- a separator of one column
 pub record IsSeparatorColumn (c : ℕ) : Type 0 where
-  pub plain : IsPlainColumn c
+  pub additive : IsAdditiveColumn c
   pub steady : is_keycap_base c ≡ false
 
 -- a text without line feeds, of any other characters, that takes n columns

@@ -1,11 +1,11 @@
 //! Laws of lines, each the contract of a function.
-ghost use Rattle.std.specs.Prelude.{◌≡◌, ◌<◌, ◌≤◌, ℕ, Bool, true, false, List, [], ◌∷◌, ◌++◌, ◌+◌, All, chars, encode_utf8, encode_utf8_all, length, replicate, sum_by, take};
+ghost use Rattle.std.specs.Prelude.{◌≡◌, ◌↔◌, ◌⊎◌, ◌<◌, ◌≤◌, ℕ, Bool, true, false, List, [], ◌∷◌, ◌++◌, ◌+◌, All, chars, encode_utf8, encode_utf8_all, length, replicate, sum_by, take};
 ghost use Rattle.std.specs.List.{flat_map, join_with_byte, slice_index_or};
 ghost use Rattle.std.specs.Str.{IsUtf8};
 ghost use Rattle.tabled_text.specs.Cut.{IsCut};
 ghost use Rattle.tabled_text.specs.Longest.{IsLongestCut};
 ghost use Rattle.tabled_text.specs.Measure.{char_columns, columns_of, count_of, line_columns, lines_of, text_columns};
-ghost use Rattle.tabled_text.specs.Plain.{IsPlain, IsPlainColumn};
+ghost use Rattle.tabled_text.specs.Plain.{IsAdditive, IsAdditiveColumn, IsPlainColumn};
 ghost use Rattle.tabled_text.specs.Room.{stays};
 ghost use Rattle.tabled_text.specs.Wrapping.{IsWrapped};
 ghost use Rattle.tabled_apart.specs.Exact.{IsExactLine};
@@ -14,8 +14,9 @@ ghost use Rattle.tabled_apart.specs.Lines.{EndsApart, IsFrame, IsLine, IsSeparat
 ghost use Rattle.tabled_apart.specs.Separators.{begins_apart, is_separator, meet};
 
 /// A separator adds its own columns, whatever stands before and after it. The columns of two texts add up where one
-/// stands apart from the other.
+/// stands apart from the other. An additive character of one column is plain, or a separator.
 pub fn separators()
+    ensures additive { (c : ℕ) → IsAdditiveColumn c ↔ (IsPlainColumn c ⊎ IsSeparatorColumn c) }
     ensures first { (c : ℕ) (back : List ℕ) → is_separator c ≡ true
         → columns_of (c ∷ back) ≡ char_columns c + columns_of back }
     ensures between { (c : ℕ) (front back : List ℕ) → is_separator c ≡ true
@@ -32,7 +33,7 @@ pub fn count_is_bound()
 /// Lines whose characters count as many as their columns, as plain ones do: the characters of each beginning do so too. Cut, such
 /// a line is the longest beginning that finds room, filled up, and stays where it finds room itself.
 pub fn exact_lines()
-    ensures plain { (text : List ℕ) → IsPlain text → length (lines_of text) ≡ 1 → IsExactLine text }
+    ensures plain { (text : List ℕ) → IsAdditive text → length (lines_of text) ≡ 1 → IsExactLine text }
     ensures beginnings { (line : List ℕ) → columns_of line ≡ count_of line
         → (k : ℕ) → columns_of (take k line) ≡ count_of (take k line) }
     ensures longest { (n : ℕ) (line answer : List ℕ) → IsExactLine line → IsCut n line answer
@@ -61,16 +62,16 @@ pub fn lines_of_any_text()
         → IsLine (slice_index_or (lines_of text) k []) (line_columns (slice_index_or (lines_of text) k [])) }
 {}
 
-/// Texts of any characters that take at most some columns: what is cut, also with a plain suffix or another text behind
-/// it that stays in the room, what is wrapped, what is joined of such texts, no text, and copies of a plain character.
+/// Texts of any characters that take at most some columns: what is cut, also with an additive suffix or another text behind
+/// it that stays in the room, what is wrapped, what is joined of such texts, no text, and copies of an additive character.
 pub fn texts_that_fit()
     ensures cut { (n : ℕ) (text answer : List ℕ) → IsCut n text answer → FitsIn n answer }
-    ensures suffix { (n w : ℕ) (text answer suffix : List ℕ) → IsPlain suffix
+    ensures suffix { (n w : ℕ) (text answer suffix : List ℕ) → IsAdditive suffix
         → n + sum_by line_columns (lines_of suffix) ≤ w → IsCut n text answer → FitsIn w (answer ++ suffix) }
     ensures followed { (n w : ℕ) (text answer tail : List ℕ) → n ≤ w → IsCut n text answer → IsUtf8 tail
         → ((k : ℕ) → k ≤ n → stays w k (chars tail) ≡ true) → FitsIn w (answer ++ tail) }
     ensures wrapped { (n : ℕ) (words : Bool) (text answer : List ℕ) → IsWrapped n words text answer → FitsIn n answer }
     ensures joined { (n : ℕ) (texts : List (List ℕ)) → All (FitsIn n) texts → FitsIn n (join_with_byte 10 texts) }
     ensures none { (n : ℕ) → FitsIn n [] }
-    ensures filled { (n k c : ℕ) → k ≤ n → IsPlainColumn c → FitsIn n (encode_utf8_all (replicate k c)) }
+    ensures filled { (n k c : ℕ) → k ≤ n → IsAdditiveColumn c → FitsIn n (encode_utf8_all (replicate k c)) }
 {}

@@ -3,7 +3,7 @@ ghost use Rattle.std.specs.Prelude.{◌≡◌, ◌↔◌, IsTrue};
 ghost use Rattle.tabled_apart.specs.Lines.{IsSeparatorColumn};
 ghost use Rattle.tabled_apart.specs.Separators.{is_keycap_base};
 
-use tabled_text::is_plain_column;
+use tabled_text::is_additive_column;
 
 fn is_keycap_base(c: char) -> bool
     ensures { result ≡ is_keycap_base c }
@@ -11,9 +11,10 @@ fn is_keycap_base(c: char) -> bool
     matches!(c, '#' | '*' | '0'..='9')
 }
 
-/// Whether a character takes one column and stands apart from any text.
+/// Whether a character takes one column and stands apart from any text: additive ones do, except for `#`, `*` and
+/// digits.
 pub fn is_separator_column(c: char) -> bool
     ensures { IsTrue result ↔ IsSeparatorColumn c }
 {
-    is_plain_column(c) && !is_keycap_base(c)
+    is_additive_column(c) && !is_keycap_base(c)
 }

@@ -111,14 +111,15 @@ impl ShortOr<String> {
         }
     }
 
-    /// The same text, in memory of its own.
+    /// The same text. Only one that isn't short allocates.
     pub fn clone(&self) -> Result<ShortOr<String>, TableError>
         ensures ok { IfOk result (λ copy. bytes_of string_bytes copy ≡ bytes_of string_bytes self.now) }
         ensures only { IfErr result (λ e. e ≡ Memory) }
+        ensures long { IfErr result (λ _. SHORT_TEXT < length (bytes_of string_bytes self.now)) }
     {
         match self {
             ShortOr::Short(short) => Ok(ShortOr::Short(*short)),
-            ShortOr::Other(other) => Ok(ShortOr::Other(other.clone()?)),
+            ShortOr::Other(other) => ShortOr::copied(*other.allocator(), other.as_str()),
         }
     }
 }

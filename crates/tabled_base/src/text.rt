@@ -139,10 +139,11 @@ impl Text<String> {
         })
     }
 
-    /// The same text, in memory of its own.
+    /// The same text. One of at most 16 bytes is stored inline, so only a longer one may fail with `Memory`.
     pub fn clone(&self) -> Result<Text<String>, TableError>
         ensures ok { IfOk result (λ copy. copy ≡ self.now) }
         ensures only { IfErr result (λ e. e ≡ Memory) }
+        ensures long { IfErr result (λ _. SHORT_TEXT < length self.now) }
     {
         let Text {
             text,

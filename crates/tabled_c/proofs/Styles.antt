@@ -14,7 +14,7 @@ use Rattle.tabled_row.specs.Apart.{ArePaddedLeft, IsApartStyle}
 use Rattle.tabled_row.specs.Plain.{IsPlainRule}
 use Rattle.tabled_table.specs.NewConfig.{new_config}
 use Rattle.tabled_text.specs.Measure.{char_columns}
-use Rattle.tabled_text.specs.Plain.{IsPlainColumn, has_plain_width, is_listed}
+use Rattle.tabled_text.specs.Plain.{IsAdditiveColumn, has_plain_width, is_listed_or_drawn}
 use Rattle.tabled_text.proofs.PlainLemmas.{is_simple-listed}
 use Rattle.tabled_text.proofs.PlainLines.{plain_column-printable, plain_column-space}
 use Rattle.unicode_width.proofs.Computing.{unicode_width}
@@ -47,7 +47,7 @@ set_rules (Some ruled) i border h k = placed (is_eq (nat_cmp i 1))
 -- ---- what stands beside texts
 
 separator-space : IsSeparatorColumn 32
-separator-space = record { plain = plain_column-space; steady = refl }
+separator-space = record { additive = plain_column-space; steady = refl }
 
 style_apart : (style : Style) (row column : ℕ) → IsApartStyle (style_at (with_style new_config style) row column)
 unfolding style_at new_config
@@ -69,8 +69,8 @@ module _ (style : Style) (below : AreRules style.below_first) (top : AreRules (i
   unfolding rule_at new_config
   rules rows i = set_rules style.below_first i (border_at style.borders rows i) below (bordered (i == 0) (i == rows))
 
-  keeps_apart : IsPlainColumn (unwrap_or style.borders.vertical 32) → IsPlainColumn (unwrap_or style.borders.left 32)
-      → IsPlainColumn (unwrap_or style.borders.right 32) → KeepsApart (with_style new_config style)
+  keeps_apart : IsAdditiveColumn (unwrap_or style.borders.vertical 32) → IsAdditiveColumn (unwrap_or style.borders.left 32)
+      → IsAdditiveColumn (unwrap_or style.borders.right 32) → KeepsApart (with_style new_config style)
   unfolding new_config
   keeps_apart vertical left right rows count = record {
     margin_top = plain_column-space;
@@ -86,29 +86,29 @@ module _ (style : Style) (below : AreRules style.below_first) (top : AreRules (i
 
 -- ---- the characters
 
-plain : (c : ℕ) → is_listed c ≡ true → char_columns c ≡ 1 → IsPlainColumn c
+plain : (c : ℕ) → is_listed_or_drawn c ≡ true → char_columns c ≡ 1 → IsAdditiveColumn c
 plain c h one = record {
-  character = and_from (is_listed c) (has_plain_width c && is_simple c) h
+  character = and_from (is_listed_or_drawn c) (has_plain_width c && is_simple c) h
       (and_from (has_plain_width c) (is_simple c) (or_left (char_columns c == 1) (char_columns c == 2) (eq-eqb (char_columns c) 1 one)) (is_simple-listed c h));
   columns = one;
 }
 
-bar : IsPlainColumn 0x7c
+bar : IsAdditiveColumn 0x7c
 bar = plain_column-printable 0x7c refl
 
-dash : IsPlainColumn 0x2d
+dash : IsAdditiveColumn 0x2d
 dash = plain_column-printable 0x2d refl
 
-plus : IsPlainColumn 0x2b
+plus : IsAdditiveColumn 0x2b
 plus = plain_column-printable 0x2b refl
 
 -- a line of four characters, each of one column
-drawn : (left main intersection right : ℕ) → IsPlainColumn left → IsPlainColumn main → IsPlainColumn intersection → IsPlainColumn right
+drawn : (left main intersection right : ℕ) → IsAdditiveColumn left → IsAdditiveColumn main → IsAdditiveColumn intersection → IsAdditiveColumn right
     → AreRules (Some (line left main intersection right))
 drawn left main intersection right l m i r = a_rule (line left main intersection right) (record { main = m; left = l; intersection = i; right = r })
 
 -- and one of boxes
-boxes : (left main intersection right : ℕ) → is_listed left ≡ true → is_listed main ≡ true → is_listed intersection ≡ true → is_listed right ≡ true
+boxes : (left main intersection right : ℕ) → is_listed_or_drawn left ≡ true → is_listed_or_drawn main ≡ true → is_listed_or_drawn intersection ≡ true → is_listed_or_drawn right ≡ true
     → char_columns left ≡ 1 → char_columns main ≡ 1 → char_columns intersection ≡ 1 → char_columns right ≡ 1
     → AreRules (Some (line left main intersection right))
 boxes left main intersection right l m i r cl cm ci cr =

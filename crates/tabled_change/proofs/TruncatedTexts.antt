@@ -7,11 +7,11 @@ use Rattle.std.proofs.lemmas.Bool.{MatchBool-at_true, MatchBool-at_false, cases_
 use Rattle.std.proofs.lemmas.List.Elements.{All-cons, All-nil}
 use Rattle.tabled_text.specs.Cut.{IsCut}
 use Rattle.tabled_text.specs.Measure.{lines_of, text_columns}
-use Rattle.tabled_text.specs.Plain.{IsPlain}
+use Rattle.tabled_text.specs.Plain.{IsAdditive}
 use Rattle.tabled_change.specs.CellChanges.{if_wider, truncating}
 use Rattle.tabled_change.specs.declared.suffix.SuffixLimit.{SuffixLimit}
 use Rattle.tabled_change.specs.declared.suffix.SuffixLimit.TheVariants.{Cut, Ignore, Replace}
-use Rattle.tabled_change.specs.PlainEnding.{IsPlainLimit}
+use Rattle.tabled_change.specs.PlainEnding.{IsAdditiveLimit}
 use Rattle.tabled_change.specs.Truncated.{IsCutBefore, IsEnded, IsLimited, IsTruncated, IsUsed, suffix_columns}
 use Rattle.tabled_apart.specs.Fitting.{FitsIn}
 use Rattle.tabled_apart.proofs.FittingLaws.{fits-cut, fits-suffix, fits-joined, fits-none, fits-filled}
@@ -32,12 +32,12 @@ ends-nothing room left used none whole =
 ends-alone : (room left : ℕ) (used : List ℕ) → left ≡ 0 → FitsIn room used → Ends room left used
 ends-alone room left used none fits = record { alone = λ _. fits; after = λ some text front cut. absurd (some none) }
 
-ends-limited : (room : ℕ) (suffix : List ℕ) (limit : SuffixLimit) (used : List ℕ) (left : ℕ) → IsPlainLimit limit → IsLimited room suffix limit used left → Ends room left used
+ends-limited : (room : ℕ) (suffix : List ℕ) (limit : SuffixLimit) (used : List ℕ) (left : ℕ) → IsAdditiveLimit limit → IsLimited room suffix limit used left → Ends room left used
 ends-limited room suffix Cut used left q h = ends-alone room left used h.1 (fits-cut room suffix used h.0)
 ends-limited room suffix Ignore used left q h = ends-nothing room left used h.0 h.1
 ends-limited room suffix (Replace c) used left q h = ends-alone room left used h.1 (subst (FitsIn room) (sym h.0) (fits-filled room room c (omega arith) q))
 
-ends-whole : (room : ℕ) (suffix used : List ℕ) (left : ℕ) → IsPlain suffix → suffix_columns suffix < room → used ≡ suffix → left ≡ room - suffix_columns suffix → Ends room left used
+ends-whole : (room : ℕ) (suffix used : List ℕ) (left : ℕ) → IsAdditive suffix → suffix_columns suffix < room → used ≡ suffix → left ≡ room - suffix_columns suffix → Ends room left used
 ends-whole room suffix used left p below whole rest =
     record {
       alone = λ none. absurd (omega (arith, none, below, rest));
@@ -45,7 +45,7 @@ ends-whole room suffix used left p below whole rest =
           subst (λ l. FitsIn room (front ++ l)) (sym whole) (fits-suffix left room text front suffix p (omega (arith, below, rest)) cut);
     }
 
-ends-used : (room : ℕ) (suffix : List ℕ) (limit : SuffixLimit) (used : List ℕ) (left : ℕ) → IsPlain suffix → IsPlainLimit limit → IsUsed room suffix limit used left → Ends room left used
+ends-used : (room : ℕ) (suffix : List ℕ) (limit : SuffixLimit) (used : List ℕ) (left : ℕ) → IsAdditive suffix → IsAdditiveLimit limit → IsUsed room suffix limit used left → Ends room left used
 ends-used zero suffix limit used left p q h = ends-nothing 0 left used h.0 h.1
 ends-used (suc r) suffix limit used left p q h =
     let room = suc r in
@@ -71,7 +71,7 @@ each-ended room left used (line ∷ lines) (answer ∷ answers) ends h =
     All-cons (FitsIn room) answer answers (fits-ended room left used line answer ends h.0) (each-ended room left used lines answers ends h.1)
 
 -- a truncated text stays in its room, whatever its characters are
-pub fits-truncated : (room : ℕ) (suffix : List ℕ) (limit : SuffixLimit) (multiline : Bool) (text answer : List ℕ) → IsPlain suffix → IsPlainLimit limit → IsTruncated room suffix limit multiline text answer → FitsIn room answer
+pub fits-truncated : (room : ℕ) (suffix : List ℕ) (limit : SuffixLimit) (multiline : Bool) (text answer : List ℕ) → IsAdditive suffix → IsAdditiveLimit limit → IsTruncated room suffix limit multiline text answer → FitsIn room answer
 fits-truncated room suffix limit false text answer p q h =
     fits-ended room h.left h.used text answer (ends-used room suffix limit h.used h.left p q h.suffix_used) h.answered
 fits-truncated room suffix limit true text answer p q h =
@@ -80,7 +80,7 @@ fits-truncated room suffix limit true text answer p q h =
     subst (FitsIn room) (sym lines.joined) (fits-joined room lines.lines (each-ended room h.left h.used (lines_of text) lines.lines ends lines.each))
 
 -- so does a text that is truncated only where it is wider than its room
-pub fits-if_wider : (room : ℕ) (suffix : List ℕ) (limit : SuffixLimit) (multiline : Bool) (before after : List ℕ) → IsPlain suffix → IsPlainLimit limit → IsUtf8 before
+pub fits-if_wider : (room : ℕ) (suffix : List ℕ) (limit : SuffixLimit) (multiline : Bool) (before after : List ℕ) → IsAdditive suffix → IsAdditiveLimit limit → IsUtf8 before
     → if_wider (truncating suffix limit multiline) room before after → FitsIn room after
 fits-if_wider room suffix limit multiline before after p q u w =
     let ended = IsTruncated room suffix limit multiline before after in

@@ -32,7 +32,7 @@ use Rattle.std.proofs.Common.{
 use Rattle.std.specs.List.{flat_map, range_with_len, slice_index}
 use Rattle.std.specs.Str.{IsUtf8}
 use Rattle.tabled_text.specs.Measure.{line_columns}
-use Rattle.tabled_text.specs.Plain.{IsPlainColumn}
+use Rattle.tabled_text.specs.Plain.{IsAdditiveColumn}
 use Rattle.tabled_base.specs.Cells.{IsRectangular, cell_at, columns}
 use Rattle.tabled_border.specs.declared.borders.HorizontalLine.{HorizontalLine}
 use Rattle.tabled_config.specs.Settings.{frame, rule_at}
@@ -76,7 +76,7 @@ row_takes t row index p r m = row_line_takes (row_of t row) index (apart-row t r
 rule_takes : (t : Sheet) (line : HorizontalLine) → IsApartSheet t → IsPlainRule line
     → line_columns (rule_line (columns_of t) line) ≡ filled_width t.config (columns t.cells) t.widths
 unfolding filled_width line_total
-rule_takes t line p q = (plain_rule_line (columns_of t) line p.config.frame.margin_left.plain p.config.frame.margin_right.plain q).columns
+rule_takes t line p q = (plain_rule_line (columns_of t) line p.config.frame.margin_left.additive p.config.frame.margin_right.additive q).columns
 
 -- ---- lists of lines
 
@@ -130,7 +130,7 @@ each-row t row p l =
     each-append n (rule t row) (map line (range_with_len 0 (slice_index t.heights row))) (each-rule t row p (omega arith))
     (each-mapped n line (slice_index t.heights row) (λ i m. row_takes t row i p l m))
 
-fill-takes : (c n : ℕ) → IsPlainColumn c → line_columns (fill c n) ≡ n
+fill-takes : (c n : ℕ) → IsAdditiveColumn c → line_columns (fill c n) ≡ n
 fill-takes c n h = (plain-fill c n h).columns
 
 each-filled : (t : Sheet) → IsApartSheet t

@@ -4,9 +4,9 @@ use Rattle.std.specs.List.{flat_map, range_with_len, slice_index}
 use Rattle.std.proofs.lemmas.Bool.{cases_lt}
 use Rattle.std.proofs.lemmas.Option.{slice_get_cases, slice_get-get_or}
 use Rattle.tabled_text.specs.Measure.{lines_of, text_columns, line_columns}
-use Rattle.tabled_text.specs.Plain.{IsPlain, IsPlainLine}
+use Rattle.tabled_text.specs.Plain.{IsAdditive, IsAdditiveLine}
 use Rattle.tabled_text.proofs.Bridge.{line_columns-le}
-use Rattle.tabled_text.proofs.PlainLines.{plain_line-append, plain_line-as, plain_line-each, plain_column-space}
+use Rattle.tabled_text.proofs.PlainLines.{additive-plain, plain_line-append, plain_line-as, plain_line-each, plain_column-space}
 use Rattle.tabled_base.specs.Cells.{IsRectangular, cell_at, columns}
 use Rattle.tabled_config.specs.declared.spanned.CellStyle.{CellStyle}
 use Rattle.tabled_border.specs.declared.borders.HorizontalLine.{HorizontalLine}
@@ -19,7 +19,7 @@ use Rattle.tabled_row.specs.Block.{text_room, columns_before, cell_line, block, 
 use Rattle.tabled_size.specs.Holds.{Holds}
 use Rattle.tabled_row.specs.Row.{cell_piece, row_line, rule_line}
 use Rattle.tabled_grid.specs.Picture.{columns_of, row_of}
-use Rattle.tabled_size.specs.PlainCells.{ArePlain}
+use Rattle.tabled_size.specs.PlainCells.{AreAdditive, ArePlain}
 use Rattle.tabled_row.specs.Plain.{IsPlainRule, IsPlainStyle}
 use Rattle.tabled_grid.specs.PlainSheet.{IsPlainConfig}
 use Rattle.tabled_row.proofs.Blocks.{block-above, block-text, block-below}
@@ -28,14 +28,19 @@ use Rattle.tabled_row.proofs.Bars.{bar-sum}
 use Rattle.tabled_row.proofs.Plains.{plain-each, plain-fill, plain-left, plain-piece, plain-right, plain_rule_line}
 use Rattle.tabled_row.specs.Apart.{line_total}
 
+-- plain cells are additive
+pub additive_cells : (cells : List (List (List ℕ))) → ArePlain cells → AreAdditive cells
+additive_cells cells h row d within column e inside =
+    additive-plain (get_or (get_or cells row d) column e) (h row d within column e inside)
+
 -- what the columns of a picture rest on
 pub record IsPlainSheet (t : Sheet) : Type 0 where
   pub config : IsPlainConfig t.config (length t.cells) (columns t.cells)
-  pub texts : ArePlain t.cells
+  pub texts : AreAdditive t.cells
   pub rectangular : IsRectangular t.cells
   pub holds : Holds t
 
-plain-cell : (t : Sheet) (row column : ℕ) → IsPlainSheet t → row < length t.cells → column < columns t.cells → IsPlain (cell_at t.cells row column)
+plain-cell : (t : Sheet) (row column : ℕ) → IsPlainSheet t → row < length t.cells → column < columns t.cells → IsAdditive (cell_at t.cells row column)
 plain-cell t row column p r c =
     let long : length (get_or t.cells row []) ≡ columns t.cells = p.rectangular row [] r in
     p.texts row [] r column [] (omega arith)
@@ -45,11 +50,11 @@ plain-cell t row column p r c =
 -- a column holds a cell's text and its padding
 record IsPlainCell (s : CellStyle) (w : ℕ) (text : List ℕ) : Type 0 where
   style : IsPlainStyle s
-  plain : IsPlain text
+  plain : IsAdditive text
   fits : text_columns text + (s.padding.left.size + s.padding.right.size) ≤ w
 
 plain-cell_line : (s : CellStyle) (w : ℕ) (text : List ℕ) (j : ℕ) → IsPlainCell s w text → j < length (lines_of text)
-    → IsPlainLine (cell_line s w text (get_or (lines_of text) j [])) w
+    → IsAdditiveLine (cell_line s w text (get_or (lines_of text) j [])) w
 unfolding cell_line
 plain-cell_line s w text j p l =
     let line = get_or (lines_of text) j [] in
@@ -69,9 +74,9 @@ plain-cell_line s w text j p l =
 -- ---- a line of a block, by where it stands
 
 plain-at_text : (s : CellStyle) (w h k : ℕ) (text : List ℕ) → IsPlainCell s w text → k < h → fill_above s h text ≤ k
-    → IsPlainLine (get_or (block s w h text) k []) w
+    → IsAdditiveLine (get_or (block s w h text) k []) w
 plain-at_text s w h k text p l m =
-    let P : List ℕ → Type 0 = λ bs. IsPlainLine bs w in
+    let P : List ℕ → Type 0 = λ bs. IsAdditiveLine bs w in
     let j = k - fill_above s h text in
     ⊎_elim
     (λ x. subst P
@@ -81,9 +86,9 @@ plain-at_text s w h k text p l m =
     (λ x. subst P (sym (block-below s w h text k l m (sym x.1))) (plain-fill s.padding.bottom.fill w p.style.bottom))
     (slice_get_cases (lines_of text) j).1
 
-plain-block : (s : CellStyle) (w h k : ℕ) (text : List ℕ) → IsPlainCell s w text → k < h → IsPlainLine (get_or (block s w h text) k []) w
+plain-block : (s : CellStyle) (w h k : ℕ) (text : List ℕ) → IsPlainCell s w text → k < h → IsAdditiveLine (get_or (block s w h text) k []) w
 plain-block s w h k text p l =
-    let P : List ℕ → Type 0 = λ bs. IsPlainLine bs w in
+    let P : List ℕ → Type 0 = λ bs. IsAdditiveLine bs w in
     ⊎_elim
     (λ m. subst P (sym (block-above s w h text k l m)) (plain-fill s.padding.top.fill w p.style.top))
     (λ m. plain-at_text s w h k text p l m)
@@ -92,7 +97,7 @@ plain-block s w h k text p l =
 -- ---- lines of a table
 
 plain-cells : (t : Sheet) (row index : ℕ) → IsPlainSheet t → row < length t.cells → index < slice_index t.heights row
-    → IsPlainLine (flat_map (cell_piece (row_of t row) index) (range_with_len 0 (columns t.cells)))
+    → IsAdditiveLine (flat_map (cell_piece (row_of t row) index) (range_with_len 0 (columns t.cells)))
     (sum_below (slice_index t.widths) (columns t.cells) + (columns t.cells - 1) * one_if (frame t.config).inner.there)
 unfolding cell_piece
 plain-cells t row index p l m =
@@ -104,7 +109,7 @@ plain-cells t row index p l m =
     (bar-sum (frame t.config) (slice_index t.widths) (columns t.cells))
 
 pub plain-row_line : (t : Sheet) (row index : ℕ) → IsPlainSheet t → row < length t.cells → index < slice_index t.heights row
-    → IsPlainLine (row_line (row_of t row) index) (filled_width t.config (columns t.cells) t.widths)
+    → IsAdditiveLine (row_line (row_of t row) index) (filled_width t.config (columns t.cells) t.widths)
 unfolding row_line filled_width
 plain-row_line t row index p l m =
     let f = frame t.config in
@@ -113,6 +118,6 @@ plain-row_line t row index p l m =
     (plain_line-append (plain-cells t row index p l m) (plain-right f f.right.main q.margin_right q.right))
 
 pub plain-rule_line : (t : Sheet) (line : HorizontalLine) → IsPlainSheet t → IsPlainRule line
-    → IsPlainLine (rule_line (columns_of t) line) (filled_width t.config (columns t.cells) t.widths)
+    → IsAdditiveLine (rule_line (columns_of t) line) (filled_width t.config (columns t.cells) t.widths)
 unfolding filled_width line_total
 plain-rule_line t line p q = plain_rule_line (columns_of t) line p.config.frame.margin_left p.config.frame.margin_right q

@@ -3,7 +3,7 @@ use Rattle.std.proofs.Common.{◌≡◌, ℕ, zero, suc, ◌+◌, ◌<◌, ◌�
 use Rattle.std.specs.List.{flat_map, range_with_len, slice_index}
 use Rattle.std.proofs.lemmas.List.{length-replicate}
 use Rattle.std.proofs.lemmas.List.FromFn.{length-map-range_with_len}
-use Rattle.tabled_text.specs.Plain.{IsPlainLine}
+use Rattle.tabled_text.specs.Plain.{IsAdditiveLine}
 use Rattle.tabled_base.specs.Cells.{IsRectangular, columns}
 use Rattle.tabled_border.specs.declared.borders.HorizontalLine.{HorizontalLine}
 use Rattle.tabled_config.specs.Settings.{rule_at}
@@ -14,7 +14,7 @@ use Rattle.tabled_row.specs.Fill.{fill}
 use Rattle.tabled_size.specs.Holds.{Holds}
 use Rattle.tabled_row.specs.Row.{row_line, row_lines, rule_if}
 use Rattle.tabled_grid.specs.Picture.{columns_of, filled_picture, picture, row_of, row_part, rule}
-use Rattle.tabled_size.specs.PlainCells.{ArePlain}
+use Rattle.tabled_size.specs.PlainCells.{AreAdditive}
 use Rattle.tabled_row.specs.Plain.{EachLineTakes}
 use Rattle.tabled_grid.specs.PlainSheet.{IsPlainConfig}
 use Rattle.tabled_row.proofs.Each.{each-more, map-more}
@@ -24,17 +24,17 @@ use Rattle.tabled_grid.proofs.Measuring.{IsPlainSheet, plain-row_line, plain-rul
 -- each line is plain and takes n columns
 abbrev EachPlain : ℕ → List (List ℕ) → Type 0
 EachPlain n [] = Unit {0}
-EachPlain n (l ∷ ls) = IsPlainLine l n × EachPlain n ls
+EachPlain n (l ∷ ls) = IsAdditiveLine l n × EachPlain n ls
 
 each-append : (n : ℕ) (xs ys : List (List ℕ)) → EachPlain n xs → EachPlain n ys → EachPlain n (xs ++ ys)
 each-append n [] ys p q = q
 each-append n (x ∷ xs) ys p q = (p.0, each-append n xs ys p.1 q)
 
-each-copies : (n k : ℕ) (l : List ℕ) → IsPlainLine l n → EachPlain n (replicate k l)
+each-copies : (n k : ℕ) (l : List ℕ) → IsAdditiveLine l n → EachPlain n (replicate k l)
 each-copies n zero l h = tt
 each-copies n (suc k) l h = (h, each-copies n k l h)
 
-each-mapped : (n : ℕ) (f : ℕ → List ℕ) (k : ℕ) → ((i : ℕ) → i < k → IsPlainLine (f i) n) → EachPlain n (map f (range_with_len 0 k))
+each-mapped : (n : ℕ) (f : ℕ → List ℕ) (k : ℕ) → ((i : ℕ) → i < k → IsAdditiveLine (f i) n) → EachPlain n (map f (range_with_len 0 k))
 each-mapped n f zero h = tt
 each-mapped n f (suc k) h =
     let P : List (List ℕ) → Type 0 = EachPlain n in
@@ -86,7 +86,7 @@ either-takes true n ls h k d l = absurd (omega arith)
 either-takes false n ls h k d l = h k d l
 
 -- each line of the picture of a plain table that holds its cells takes the table's columns
-pub picture_columns : (t : Sheet) → IsPlainConfig t.config (length t.cells) (columns t.cells) → ArePlain t.cells → IsRectangular t.cells → Holds t → EachLineTakes (total_width t) (picture t)
+pub picture_columns : (t : Sheet) → IsPlainConfig t.config (length t.cells) (columns t.cells) → AreAdditive t.cells → IsRectangular t.cells → Holds t → EachLineTakes (total_width t) (picture t)
 unfolding picture
 picture_columns t config texts rectangular holds =
     let n = filled_width t.config (columns t.cells) t.widths in

@@ -1,6 +1,6 @@
 -- Tables whose settings keep the texts of their cells apart, whatever these are.
 use Rattle.std.specs.Prelude.{◌≡◌, ℕ, ◌<◌, ◌≤◌, Some}
-use Rattle.tabled_text.specs.Plain.{IsPlainColumn}
+use Rattle.tabled_text.specs.Plain.{IsAdditiveColumn}
 use Rattle.tabled_border.specs.declared.borders.HorizontalLine.{HorizontalLine}
 use Rattle.tabled_config.specs.declared.spanned.SpannedConfig.{SpannedConfig}
 use Rattle.tabled_config.specs.Settings.{frame, rule_at, style_at}
@@ -8,10 +8,10 @@ use Rattle.tabled_row.specs.Apart.{AreApartCells, IsApartFrame}
 use Rattle.tabled_row.specs.Plain.{IsPlainRule}
 
 -- of a table with so many rows and columns: what stands beside the cells of each row keeps them apart, and horizontal
--- lines and the lines of margins are plain
+-- lines and the lines of margins are of additive characters
 pub record IsApartConfig (config : SpannedConfig) (rows count : ℕ) : Type 0 where
-  pub margin_top : IsPlainColumn (frame config).margin.top.fill
-  pub margin_bottom : IsPlainColumn (frame config).margin.bottom.fill
+  pub margin_top : IsAdditiveColumn (frame config).margin.top.fill
+  pub margin_bottom : IsAdditiveColumn (frame config).margin.bottom.fill
   pub rules : (i : ℕ) → i ≤ rows → (line : HorizontalLine) → rule_at config rows i ≡ Some line → IsPlainRule line
   pub cells : (row : ℕ) → row < rows → AreApartCells (frame config) count (style_at config row)
   pub frame : IsApartFrame (frame config)

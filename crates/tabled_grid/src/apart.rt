@@ -1,6 +1,6 @@
 //! Whether the settings of a table keep the texts of its cells apart, so that all its lines take the same columns.
 ghost use Rattle.std.specs.Prelude.{◌≡◌, ◌↔◌, ◌<◌, ◌≤◌, ◌⊎◌, ℕ, IsTrue, Some, true};
-ghost use Rattle.tabled_text.specs.Plain.{IsPlainColumn};
+ghost use Rattle.tabled_text.specs.Plain.{IsAdditiveColumn};
 ghost use Rattle.tabled_apart.specs.Lines.{IsSeparatorColumn};
 ghost use Rattle.tabled_config.specs.Settings.{frame, rule_at, style_at};
 ghost use Rattle.tabled_border.specs.declared.borders.HorizontalLine.{HorizontalLine};
@@ -11,14 +11,14 @@ ghost use Rattle.tabled_grid.specs.ApartSheet.{IsApartConfig};
 use crate::plain::are_plain_rules;
 use tabled_apart::is_separator_column;
 use tabled_config::{CellStyle, Frame, SpannedConfig};
-use tabled_text::is_plain_column;
+use tabled_text::is_additive_column;
 
 fn is_apart_frame(frame: Frame) -> bool
     ensures { IsTrue result ↔ IsApartFrame frame }
 {
-    is_plain_column(frame.inner.main)
-        && is_plain_column(frame.left.main)
-        && is_plain_column(frame.right.main)
+    is_additive_column(frame.inner.main)
+        && is_additive_column(frame.left.main)
+        && is_additive_column(frame.right.main)
         && is_separator_column(frame.margin.left.fill)
         && is_separator_column(frame.margin.right.fill)
 }
@@ -112,17 +112,17 @@ fn are_apart_rows(config: &SpannedConfig, rows: usize, columns: usize) -> bool
     true
 }
 
-/// Whether what stands around the cells is: separators beside them, plain characters above and below.
+/// Whether what stands around the cells is: separators beside them, additive characters above and below.
 fn is_apart_around(frame: Frame) -> bool
-    ensures { IsTrue result ↔ (IsApartFrame frame × IsPlainColumn frame.margin.top.fill
-        × IsPlainColumn frame.margin.bottom.fill) }
+    ensures { IsTrue result ↔ (IsApartFrame frame × IsAdditiveColumn frame.margin.top.fill
+        × IsAdditiveColumn frame.margin.bottom.fill) }
 {
     is_apart_frame(frame)
-        && is_plain_column(frame.margin.top.fill)
-        && is_plain_column(frame.margin.bottom.fill)
+        && is_additive_column(frame.margin.top.fill)
+        && is_additive_column(frame.margin.bottom.fill)
 }
 
-/// Whether the horizontal lines are plain, and the texts of each row are kept apart.
+/// Whether the horizontal lines are of additive characters, and the texts of each row are kept apart.
 fn are_apart_places(config: &SpannedConfig, rows: usize, columns: usize) -> bool
     ensures { IsTrue result ↔ (((i : ℕ) → i ≤ rows → (line : HorizontalLine)
         → rule_at config.now rows i ≡ Some line → IsPlainRule line)

@@ -1,7 +1,7 @@
-//! Whether a table is made of plain characters, so that all its lines take the same columns.
+//! Whether a table is made of plain and other additive characters, so that all its lines take the same columns.
 ghost use Rattle.std.specs.Prelude.{◌≡◌, ◌↔◌, ◌<◌, ◌≤◌, ℕ, IsTrue, Some, [], length, slice_index_or};
 ghost use Rattle.std.specs.List.{All};
-ghost use Rattle.tabled_text.specs.Plain.{IsPlain, IsPlainColumn};
+ghost use Rattle.tabled_text.specs.Plain.{IsAdditiveColumn, IsPlain};
 ghost use Rattle.tabled_config.specs.Settings.{rule_at, style_at};
 ghost use Rattle.tabled_border.specs.declared.borders.HorizontalLine.{HorizontalLine};
 ghost use Rattle.tabled_size.specs.PlainCells.{ArePlain};
@@ -10,12 +10,12 @@ ghost use Rattle.tabled_grid.specs.PlainSheet.{IsPlainConfig};
 
 use tabled_base::{PeekableRecords, Position};
 use tabled_config::{CellStyle, Frame, HorizontalLine, Indent, Sides, SpannedConfig};
-use tabled_text::{is_plain, is_plain_column};
+use tabled_text::{is_additive_column, is_plain};
 
 fn is_plain_piece(piece: Option<char>) -> bool
     ensures { IsTrue result ↔ IsPlainPiece piece }
 {
-    is_plain_column(piece.unwrap_or(' '))
+    is_additive_column(piece.unwrap_or(' '))
 }
 
 fn is_plain_rule(line: HorizontalLine) -> bool
@@ -30,13 +30,13 @@ fn is_plain_rule(line: HorizontalLine) -> bool
 fn is_plain_style(style: CellStyle) -> bool
     ensures { IsTrue result ↔ IsPlainStyle style }
 {
-    is_plain_column(style.padding.left.fill)
-        && is_plain_column(style.padding.right.fill)
-        && is_plain_column(style.padding.top.fill)
-        && is_plain_column(style.padding.bottom.fill)
+    is_additive_column(style.padding.left.fill)
+        && is_additive_column(style.padding.right.fill)
+        && is_additive_column(style.padding.top.fill)
+        && is_additive_column(style.padding.bottom.fill)
 }
 
-/// Whether the line at an index is plain, if there is one.
+/// Whether the line at an index is of additive characters, if there is one.
 fn is_plain_rule_at(config: &SpannedConfig, rows: usize, index: usize) -> bool
     ensures { IsTrue result ↔ ((line : HorizontalLine) → rule_at config.now rows index ≡ Some line
         → IsPlainRule line) }
@@ -47,7 +47,7 @@ fn is_plain_rule_at(config: &SpannedConfig, rows: usize, index: usize) -> bool
     }
 }
 
-/// Whether the lines above the rows, and the one below the last, are plain.
+/// Whether the lines above the rows, and the one below the last, are of additive characters.
 pub(crate) fn are_plain_rules(config: &SpannedConfig, rows: usize) -> bool
     ensures { IsTrue result ↔ ((i : ℕ) → i ≤ rows → (line : HorizontalLine)
         → rule_at config.now rows i ≡ Some line → IsPlainRule line) }
@@ -60,7 +60,7 @@ pub(crate) fn are_plain_rules(config: &SpannedConfig, rows: usize) -> bool
     is_plain_rule_at(config, rows, rows)
 }
 
-/// Whether the cells of a row are padded by plain characters.
+/// Whether the cells of a row are padded by additive characters.
 fn are_plain_styles_in(config: &SpannedConfig, row: usize, columns: usize) -> bool
     ensures { IsTrue result ↔ ((column : ℕ) → column < columns
         → IsPlainStyle (style_at config.now row column)) }
@@ -86,26 +86,26 @@ fn are_plain_styles(config: &SpannedConfig, rows: usize, columns: usize) -> bool
 }
 
 fn is_plain_margin(margin: Sides<Indent>) -> bool
-    ensures { IsTrue result ↔ (IsPlainColumn margin.left.fill × IsPlainColumn margin.right.fill
-        × IsPlainColumn margin.top.fill × IsPlainColumn margin.bottom.fill) }
+    ensures { IsTrue result ↔ (IsAdditiveColumn margin.left.fill × IsAdditiveColumn margin.right.fill
+        × IsAdditiveColumn margin.top.fill × IsAdditiveColumn margin.bottom.fill) }
 {
-    is_plain_column(margin.left.fill)
-        && is_plain_column(margin.right.fill)
-        && is_plain_column(margin.top.fill)
-        && is_plain_column(margin.bottom.fill)
+    is_additive_column(margin.left.fill)
+        && is_additive_column(margin.right.fill)
+        && is_additive_column(margin.top.fill)
+        && is_additive_column(margin.bottom.fill)
 }
 
-/// Whether what stands around and between the cells is plain.
+/// Whether what stands around and between the cells is additive.
 fn is_plain_frame(frame: Frame) -> bool
     ensures { IsTrue result ↔ IsPlainFrame frame }
 {
-    is_plain_column(frame.inner.main)
-        && is_plain_column(frame.left.main)
-        && is_plain_column(frame.right.main)
+    is_additive_column(frame.inner.main)
+        && is_additive_column(frame.left.main)
+        && is_additive_column(frame.right.main)
         && is_plain_margin(frame.margin)
 }
 
-/// Whether the horizontal lines and the paddings are plain, as far as the table goes.
+/// Whether the horizontal lines and the paddings are of additive characters, as far as the table goes.
 fn are_plain_places(config: &SpannedConfig, rows: usize, columns: usize) -> bool
     ensures { IsTrue result ↔ (((i : ℕ) → i ≤ rows → (line : HorizontalLine)
         → rule_at config.now rows i ≡ Some line → IsPlainRule line)
@@ -115,9 +115,9 @@ fn are_plain_places(config: &SpannedConfig, rows: usize, columns: usize) -> bool
     are_plain_rules(config, rows) && are_plain_styles(config, rows, columns)
 }
 
-/// Whether the borders, fills and margins of a table with so many rows and columns are plain characters
-/// of one column, also where they take no room. A missing character is a space. Horizontal lines and
-/// paddings count as far as the table goes.
+/// Whether the borders, fills and margins of a table with `rows` and `columns` are additive characters of
+/// one column: plain ones, or separators. Those that take no columns count too, and a missing character is
+/// a space. Horizontal lines and paddings count as far as the table goes.
 pub fn is_plain_config(config: &SpannedConfig, rows: usize, columns: usize) -> bool
     ensures { IsTrue result ↔ IsPlainConfig config.now rows columns }
 {

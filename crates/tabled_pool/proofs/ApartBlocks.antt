@@ -19,7 +19,7 @@ use Rattle.tabled_panels.proofs.PoolBlocks.{block-above, block-top, block-text, 
 use Rattle.tabled_pool.proofs.PlainBlocks.{bare, columns_before-fits}
 
 pub separator-space : IsSeparatorColumn 32
-separator-space = record { plain = plain_column-space; steady = refl }
+separator-space = record { additive = plain_column-space; steady = refl }
 
 pub frame-fill : (c n : ℕ) → IsSeparatorColumn c → IsFrame (fill c n) n
 frame-fill c zero h = frame-nil

@@ -3,7 +3,7 @@ use Rattle.std.proofs.Common.{ℕ, ◌+◌, ◌-◌, ◌<◌, ◌≤◌, ltb, tr
 use Rattle.std.proofs.lemmas.Bool.{cases_lt}
 use Rattle.std.proofs.lemmas.Option.{slice_get_cases, slice_get-get_or}
 use Rattle.tabled_text.specs.Measure.{lines_of, text_columns, line_columns}
-use Rattle.tabled_text.specs.Plain.{IsPlain, IsPlainLine}
+use Rattle.tabled_text.specs.Plain.{IsAdditive, IsAdditiveLine}
 use Rattle.tabled_text.proofs.Bridge.{line_columns-le}
 use Rattle.tabled_text.proofs.PlainLines.{plain_line-append, plain_line-as, plain_line-each, plain_column-space}
 use Rattle.tabled_config.specs.declared.alignment.AlignmentHorizontal.{AlignmentHorizontal}
@@ -35,11 +35,11 @@ columns_before-fits s room text line l m =
 -- a box holds a plain text and its padding
 pub record IsPlainBox (s : CellStyle) (w : ℕ) (text : List ℕ) : Type 0 where
   pub style : IsPlainStyle s
-  pub plain : IsPlain text
+  pub plain : IsAdditive text
   pub fits : text_columns text + (s.padding.left.size + s.padding.right.size) ≤ w
 
 plain-cell_line : (s : CellStyle) (w : ℕ) (text : List ℕ) (j : ℕ) → IsPlainBox s w text → j < length (lines_of text)
-    → IsPlainLine (cell_line s w text (get_or (lines_of text) j [])) w
+    → IsAdditiveLine (cell_line s w text (get_or (lines_of text) j [])) w
 unfolding cell_line
 plain-cell_line s w text j p l =
     let line = get_or (lines_of text) j [] in
@@ -57,14 +57,14 @@ plain-cell_line s w text j p l =
     (omega arith)
 
 -- a run without a colour
-pub plain-run : {run : List ℕ} {n : ℕ} → IsPlainLine run n → IsPlainLine (coloured no_mark run) n
-plain-run {run = run} {n = n} p = subst (λ bs. IsPlainLine bs n) (sym (append-nil run)) p
+pub plain-run : {run : List ℕ} {n : ℕ} → IsAdditiveLine run n → IsAdditiveLine (coloured no_mark run) n
+plain-run {run = run} {n = n} p = subst (λ bs. IsAdditiveLine bs n) (sym (append-nil run)) p
 
 abbrev pub bare : Sides Mark
 bare = each_side no_mark
 
 plain-text_line : (s : CellStyle) (w : ℕ) (text : List ℕ) (j : ℕ) → IsPlainBox s w text → j < length (lines_of text)
-    → IsPlainLine (text_line s bare w text (get_or (lines_of text) j [])) w
+    → IsAdditiveLine (text_line s bare w text (get_or (lines_of text) j [])) w
 plain-text_line s w text j p l =
     let fits = p.fits in
     let inner : IsPlainBox (without_sides s) (text_room s w) text = record {
@@ -78,17 +78,17 @@ plain-text_line s w text j p l =
     (plain-run (plain-fill s.padding.right.fill s.padding.right.size p.style.right))))
     (omega arith)
 
-plain-below : (s : CellStyle) (w k : ℕ) → IsPlainStyle s → IsPlainLine (line_below s bare w k) w
+plain-below : (s : CellStyle) (w k : ℕ) → IsPlainStyle s → IsAdditiveLine (line_below s bare w k) w
 plain-below s w k p =
-    elim (ltb k s.padding.bottom.size) as (λ b. IsPlainLine (cond b (coloured no_mark (fill s.padding.bottom.fill w)) (fill 32 w)) w) [
+    elim (ltb k s.padding.bottom.size) as (λ b. IsAdditiveLine (cond b (coloured no_mark (fill s.padding.bottom.fill w)) (fill 32 w)) w) [
       | true ↦ plain-run (plain-fill s.padding.bottom.fill w p.bottom)
       | false ↦ plain-fill 32 w plain_column-space
     ]
 
 plain-padded : (s : CellStyle) (w h k : ℕ) (text : List ℕ) → IsPlainBox s w text → k < h → lines_above s h text ≤ k
-    → s.padding.top.size ≤ k - lines_above s h text → IsPlainLine (get_or (pool_block s bare w h text) k []) w
+    → s.padding.top.size ≤ k - lines_above s h text → IsAdditiveLine (get_or (pool_block s bare w h text) k []) w
 plain-padded s w h k text p n l m =
-    let P : List ℕ → Type 0 = λ bs. IsPlainLine bs w in
+    let P : List ℕ → Type 0 = λ bs. IsAdditiveLine bs w in
     let j = k - lines_above s h text - s.padding.top.size in
     ⊎_elim
     (λ x. subst P
@@ -99,9 +99,9 @@ plain-padded s w h k text p n l m =
     (plain-below s w (j - length (lines_of text)) p.style))
     (slice_get_cases (lines_of text) j).1
 
-pub plain-pool_block : (s : CellStyle) (w h k : ℕ) (text : List ℕ) → IsPlainBox s w text → k < h → IsPlainLine (get_or (pool_block s bare w h text) k []) w
+pub plain-pool_block : (s : CellStyle) (w h k : ℕ) (text : List ℕ) → IsPlainBox s w text → k < h → IsAdditiveLine (get_or (pool_block s bare w h text) k []) w
 plain-pool_block s w h k text p n =
-    let P : List ℕ → Type 0 = λ bs. IsPlainLine bs w in
+    let P : List ℕ → Type 0 = λ bs. IsAdditiveLine bs w in
     ⊎_elim
     (λ l. subst P (sym (block-above s bare w h text k l)) (plain-fill 32 w plain_column-space))
     (λ l. ⊎_elim

@@ -1,6 +1,6 @@
 -- A tree of plain texts is drawable.
 use Rattle.std.proofs.Common.{◌≡◌, ℕ, ◌-◌, List, [], ◌∷◌, Some, get_or, sym, ◌∙◌, subst, arith, ⊎_elim}
-use Rattle.tabled_text.specs.Plain.{IsPlainColumn, IsPlainLine}
+use Rattle.tabled_text.specs.Plain.{IsAdditiveColumn, IsAdditiveLine}
 use Rattle.tabled_text.proofs.PlainLines.{plain_column-space, plain_line-append, plain_line-nil, plain_line-one}
 use Rattle.tabled_boxes.specs.declared.gaps.Gaps.{Gaps}
 use Rattle.tabled_boxes.specs.declared.pieces.Kind.TheVariants.{Leaf}
@@ -25,12 +25,12 @@ owner-fits g (q ∷ ps) x y p f h = ⊎_elim
     (is-1 (within q.place x y))
 
 leaf-measured : (g : Gaps) (t : Plan) → PlainTree g t → (x y : ℕ) (p : Part) → owner t.parts x y ≡ Some p → p.kind
-    ≡ Leaf → IsPlainLine (leaf_line t p (y - p.place.y)) p.place.width
+    ≡ Leaf → IsAdditiveLine (leaf_line t p (y - p.place.y)) p.place.width
 unfolding leaf_line
 leaf-measured g t h x y p o e =
     let i = within-inside p.place x y (owner-inside t.parts x y p o) in
     let f = owner-fits g t.parts x y p h.fits o e in
-    subst (λ ms. IsPlainLine (get_or (pool_block t.style ms p.place.width p.place.height p.text) (y - p.place.y) []) p.place.width)
+    subst (λ ms. IsAdditiveLine (get_or (pool_block t.style ms p.place.width p.place.height p.text) (y - p.place.y) []) p.place.width)
     (sym h.padding_marks)
     (plain-pool_block t.style p.place.width p.place.height (y - p.place.y) p.text
     (record { style = h.style; plain = h.texts x y p o e; fits = omega (arith, f.wide, h.left, h.right) })
@@ -38,7 +38,7 @@ leaf-measured g t h x y p o e =
 
 -- a plain line
 abbrev pub PlainOut : ℕ → ℕ → List ℕ → ℕ → Type 0
-PlainOut y x out n = IsPlainLine out n
+PlainOut y x out n = IsAdditiveLine out n
 
 pub plain_drawable : (g : Gaps) (t : Plan) → PlainTree g t → IsDrawable t PlainOut
 plain_drawable g t h = record {
@@ -46,7 +46,7 @@ plain_drawable g t h = record {
   bare = around-bare t h.line_marks;
   columns = λ y x out n l. l.columns;
   none = λ y. plain_line-nil;
-  border = λ y x k p out n o l. plain_line-append l (plain_line-one _ (char-kind IsPlainColumn t plain_column-space h.borders k p.place x y));
+  border = λ y x k p out n o l. plain_line-append l (plain_line-one _ (char-kind IsAdditiveColumn t plain_column-space h.borders k p.place x y));
   leaf = λ y x p out n o e s l. plain_line-append l (leaf-measured g t h x y p o e);
   goes = λ y x p out n o e l. l;
 }

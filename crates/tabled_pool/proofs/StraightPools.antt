@@ -4,7 +4,7 @@ use Rattle.std.specs.List.{All}
 use Rattle.std.proofs.lemmas.List.Elements.{All-append, All-map, All-replicate}
 use Rattle.std.proofs.lemmas.List.FromFn.{length-map-range_with_len, get_or-map-range_with_len}
 use Rattle.tabled_text.specs.Measure.{line_columns}
-use Rattle.tabled_text.specs.Plain.{IsPlainLine, IsPlainColumn}
+use Rattle.tabled_text.specs.Plain.{IsAdditiveLine, IsAdditiveColumn}
 use Rattle.tabled_text.proofs.PlainLines.{plain_line-append, plain_line-as}
 use Rattle.tabled_apart.specs.Lines.{IsLine}
 use Rattle.tabled_apart.proofs.LineLaws.{line-frame, line-framed}
@@ -160,12 +160,12 @@ bare-margin t h =
 -- ---- plain margins
 
 record PlainMargin (m : Sides Indent) : Type 0 where
-  left : IsPlainColumn m.left.fill
-  right : IsPlainColumn m.right.fill
-  top : IsPlainColumn m.top.fill
-  bottom : IsPlainColumn m.bottom.fill
+  left : IsAdditiveColumn m.left.fill
+  right : IsAdditiveColumn m.right.fill
+  top : IsAdditiveColumn m.top.fill
+  bottom : IsAdditiveColumn m.bottom.fill
 
-plain-within : (m : Sides Indent) (w : ℕ) (line : List ℕ) → PlainMargin m → IsPlainLine line w
+plain-within : (m : Sides Indent) (w : ℕ) (line : List ℕ) → PlainMargin m → IsAdditiveLine line w
     → line_columns (within_margin m bare line) ≡ m.left.size + w + m.right.size
 plain-within m w line p l =
     (plain_line-as
@@ -183,7 +183,7 @@ plain-columns t m h p =
     margin-takes m w _ (drawn (plan t))
     (plain-within m w _ p (plain-run (plain-fill m.top.fill w p.top))) (plain-within m w _ p (plain-run (plain-fill m.bottom.fill w p.bottom)))
     (drawn-each (plan t) (λ x. line_columns (within_margin m bare x) ≡ m.left.size + framed_width t + m.right.size)
-    (λ y v. plain-within m w _ p (subst (IsPlainLine (drawn_line (plan t) y)) (plan-width t) (line-measured (plan t) (plain-drawable t h) y v))))
+    (λ y v. plain-within m w _ p (subst (IsAdditiveLine (drawn_line (plan t) y)) (plan-width t) (line-measured (plan t) (plain-drawable t h) y v))))
 
 -- ---- margins of separators
 

@@ -38,6 +38,6 @@ pub record IsApartPool (t : PoolTable) : Type 0 where
   pub margin : IsApartMargin t.config.config.margin
   pub uncoloured : IsUncoloured t
 
--- the columns of what is drawn add up: the settings keep any texts apart, or texts and settings are plain
+-- the columns of what is drawn add up: the settings keep any texts apart, or texts and settings are additive
 abbrev pub IsStraightPool : PoolTable → Type 0
 IsStraightPool t = IsApartPool t ⊎ IsPlainPool t

@@ -1,6 +1,6 @@
--- Trees of plain texts under plain borders.
+-- Trees of additive texts, as plain ones are, under additive borders.
 use Rattle.std.specs.Prelude.{◌≡◌, ℕ, Some}
-use Rattle.tabled_text.specs.Plain.{IsPlain, IsPlainColumn}
+use Rattle.tabled_text.specs.Plain.{IsAdditive, IsAdditiveColumn}
 use Rattle.tabled_config.specs.Compact.{each_side}
 use Rattle.tabled_row.specs.Plain.{IsPlainStyle}
 use Rattle.tabled_boxes.specs.declared.gaps.Gaps.{Gaps}
@@ -13,7 +13,7 @@ use Rattle.tabled_pool.specs.Owner.{owner}
 use Rattle.tabled_pool.specs.Characters.{EachCharacter}
 use Rattle.tabled_pool.specs.Whole.{whole}
 
--- parts that tile the whole, with room for their plain texts
+-- parts that tile the whole, with room for their additive texts
 pub record PlainTree (g : Gaps) (t : Plan) : Type 0 where
   pub once : AreTiles t.parts (whole t)
   pub fits : EachFits g t.parts
@@ -21,8 +21,8 @@ pub record PlainTree (g : Gaps) (t : Plan) : Type 0 where
   pub right : g.padding.right ≡ t.style.padding.right.size
   pub top : g.padding.top ≡ t.style.padding.top.size
   pub bottom : g.padding.bottom ≡ t.style.padding.bottom.size
-  pub borders : EachCharacter IsPlainColumn t.borders
+  pub borders : EachCharacter IsAdditiveColumn t.borders
   pub style : IsPlainStyle t.style
-  pub texts : (x y : ℕ) (p : Part) → owner t.parts x y ≡ Some p → p.kind ≡ Leaf → IsPlain p.text
+  pub texts : (x y : ℕ) (p : Part) → owner t.parts x y ≡ Some p → p.kind ≡ Leaf → IsAdditive p.text
   pub padding_marks : t.padding_marks ≡ each_side no_mark
   pub line_marks : t.line_marks ≡ no_line_marks

@@ -3,7 +3,7 @@ use Rattle.std.specs.Prelude.{◌≡◌, ℕ, ◌+◌, ◌^◌, ◌<◌, ◌≤�
 use Rattle.std.specs.List.{join_with_byte}
 use Rattle.tabled_base.specs.declared.error.TableError.{TableError}
 use Rattle.tabled_base.specs.declared.error.TableError.TheVariants.{Memory, Range}
-use Rattle.tabled_text.specs.Plain.{IsPlain, IsPlainColumn}
+use Rattle.tabled_text.specs.Plain.{IsAdditive, IsAdditiveColumn}
 use Rattle.tabled_priority.specs.Sums.{one_if}
 use Rattle.tabled_border.specs.declared.borders.Borders.{Borders}
 use Rattle.tabled_config.specs.declared.compact_multiline.CompactMultilineConfig.{CompactMultilineConfig}
@@ -145,15 +145,16 @@ WritesPool t old (Err e) new =
     ((e ≡ Range) × IsOutOfRange t × (new ≡ old))
     ⊎ (IsInRange t × (((e ≡ Memory) × (new ≡ old)) ⊎ Stops old e new (pool_text t)))
 
--- the texts are plain, lines, fills and margins are plain characters of one column, and nothing is coloured
+-- the texts are additive, as plain ones are; lines, fills and margins are additive characters of one column, plain ones or
+-- separators; and nothing is coloured
 pub record IsPlainPool (t : PoolTable) : Type 0 where
-  pub texts : (x y : ℕ) (p : Part) → owner (plan t).parts x y ≡ Some p → p.kind ≡ Leaf → IsPlain p.text
-  pub borders : EachCharacter IsPlainColumn (borders_of t)
+  pub texts : (x y : ℕ) (p : Part) → owner (plan t).parts x y ≡ Some p → p.kind ≡ Leaf → IsAdditive p.text
+  pub borders : EachCharacter IsAdditiveColumn (borders_of t)
   pub style : IsPlainStyle (style_of t.config)
-  pub margin_left : IsPlainColumn t.config.config.margin.left.fill
-  pub margin_right : IsPlainColumn t.config.config.margin.right.fill
-  pub margin_top : IsPlainColumn t.config.config.margin.top.fill
-  pub margin_bottom : IsPlainColumn t.config.config.margin.bottom.fill
+  pub margin_left : IsAdditiveColumn t.config.config.margin.left.fill
+  pub margin_right : IsAdditiveColumn t.config.config.margin.right.fill
+  pub margin_top : IsAdditiveColumn t.config.config.margin.top.fill
+  pub margin_bottom : IsAdditiveColumn t.config.config.margin.bottom.fill
   pub borders_color : line_marks_of t.config.config.borders_color ≡ no_line_marks
   pub padding_color : marks_of t.config.config.padding_color ≡ each_side no_mark
   pub margin_color : marks_of t.config.config.margin_color ≡ each_side no_mark

@@ -7,7 +7,7 @@ use Rattle.std.proofs.lemmas.Bool.{MatchBool-at_true, MatchBool-at_false, and_fr
 use Rattle.std.proofs.lemmas.List.{get_or_default}
 use Rattle.std.specs.List.{All}
 use Rattle.std.specs.Str.{IsUtf8}
-use Rattle.tabled_text.specs.Plain.{IsPlain}
+use Rattle.tabled_text.specs.Plain.{IsAdditive}
 use Rattle.tabled_apart.specs.Fitting.{FitsIn}
 use Rattle.tabled_base.specs.Cells.{IsRectangular, cell_at, columns}
 use Rattle.tabled_config.specs.declared.spanned.SpannedConfig.{SpannedConfig}
@@ -31,7 +31,7 @@ use Rattle.tabled_resize.specs.ExactTotal.{HasExactTotal, empty_width}
 use Rattle.tabled_resize.specs.Priorities.{TakesFrom, TakesGreatest}
 use Rattle.tabled_resize.proofs.Emptied.{emptied-columns, emptied-empty, minimums-le, minimums-length, side_padding-le}
 use Rattle.tabled_size.specs.Holds.{Holds, IsSized}
-use Rattle.tabled_size.specs.PlainCells.{ArePlain}
+use Rattle.tabled_size.specs.PlainCells.{AreAdditive}
 use Rattle.tabled_size.specs.TextCells.{AreTexts}
 
 -- a text that is changed for a room fits in it
@@ -40,7 +40,7 @@ FindsRoom change = (room : ℕ) (before after : List ℕ) → IsUtf8 before → 
 
 -- and is plain where it was
 abbrev pub KeepsPlain : (ℕ → List ℕ → List ℕ → Type 0) → Type 0
-KeepsPlain change = (room : ℕ) (before after : List ℕ) → IsPlain before → change room before after → IsPlain after
+KeepsPlain change = (room : ℕ) (before after : List ℕ) → IsAdditive before → change room before after → IsAdditive after
 
 -- ---- cells that are changed
 -- the columns of equally long rows are the cells of each
@@ -188,12 +188,12 @@ module _ {P : Type 0} (shrinks : P → List ℕ → List ℕ → ℕ → List �
         let r' : row < length cells = subst (λ k. row < k) h.changed.rows r in
         (stays row column r' (old_column row column r' c)).utf8)
 
-    new_plain : ArePlain cells → ArePlain new
-    new_plain plain = cells_of IsPlain new (λ row column r c.
+    new_plain : AreAdditive cells → AreAdditive new
+    new_plain plain = cells_of IsAdditive new (λ row column r c.
         let r' : row < length cells = subst (λ k. row < k) h.changed.rows r in
         let c' = old_column row column r' c in
         keeps (at h.widths column - side_padding config row column) (cell_at cells row column) (cell_at new row column)
-        (cell_of IsPlain cells row column rectangular plain r' c') (changed_cell row column r' c'))
+        (cell_of IsAdditive cells row column rectangular plain r' c') (changed_cell row column r' c'))
 
     full : is_empty cells ≡ false
     full = full_wider (standing cells config sizes) n wider
@@ -228,5 +228,5 @@ module _ {P : Type 0} (shrinks : P → List ℕ → List ℕ → ℕ → List �
           sized = new_sized;
           holds = new_holds;
           texts = new_texts;
-          plain = new_plain;
+          additive = new_plain;
         }

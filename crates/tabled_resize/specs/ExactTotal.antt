@@ -3,7 +3,7 @@ use Rattle.std.specs.Prelude.{◌≡◌, ℕ, max}
 use Rattle.tabled_resize.specs.Minimums.{emptied}
 use Rattle.tabled_size.specs.Estimates.{estimated_widths}
 use Rattle.tabled_size.specs.Holds.{Holds, IsSized}
-use Rattle.tabled_size.specs.PlainCells.{ArePlain}
+use Rattle.tabled_size.specs.PlainCells.{AreAdditive}
 use Rattle.tabled_size.specs.Sheet.{Sheet, estimated}
 use Rattle.tabled_size.specs.TextCells.{AreTexts}
 use Rattle.tabled_size.specs.Totals.{total_width}
@@ -17,10 +17,10 @@ abbrev pub empty_width : Sheet → ℕ
 empty_width t = total_width (estimated (emptied t.cells) t.config)
 
 -- a table narrowed to n: its total is n, or that of the empty table where this is greater, and it holds its cells,
--- which are texts, and plain where they were
+-- which are texts, and additive where they were
 pub record HasExactTotal (n : ℕ) (old new : Sheet) : Type 0 where
   pub total : total_width new ≡ max n (empty_width old)
   pub sized : IsSized new
   pub holds : Holds new
   pub texts : AreTexts new.cells
-  pub plain : ArePlain old.cells → ArePlain new.cells
+  pub additive : AreAdditive old.cells → AreAdditive new.cells

@@ -6,7 +6,7 @@ use Rattle.std.proofs.lemmas.Bool.{cases_lt}
 use Rattle.std.proofs.lemmas.Option.{slice_get_cases, slice_get-get_or}
 use Rattle.tabled_text.specs.Measure.{lines_of, text_columns, line_columns}
 use Rattle.tabled_text.proofs.Bridge.{line_columns-le}
-use Rattle.tabled_text.specs.Plain.{IsPlainColumn}
+use Rattle.tabled_text.specs.Plain.{IsAdditiveColumn}
 use Rattle.tabled_text.proofs.PlainLines.{plain_column-space}
 use Rattle.tabled_apart.specs.Lines.{IsFrame, IsLine, IsSeparatorColumn}
 use Rattle.tabled_apart.proofs.LineLaws.{frame-one, frame-append, line-one, line-frame, line-each}
@@ -48,7 +48,7 @@ use Rattle.tabled_row.proofs.Joined.{each-begins, each-closes}
 -- ---- frames
 
 separator-space : IsSeparatorColumn 32
-separator-space = record { plain = plain_column-space; steady = refl }
+separator-space = record { additive = plain_column-space; steady = refl }
 
 frame-fill : (c n : ℕ) → IsSeparatorColumn c → IsFrame (fill c n) n
 frame-fill c zero h = frame-nil
@@ -150,19 +150,19 @@ block-line s w h k text p l =
 
 -- ---- vertical lines
 
-piece-line : (b : Bool) (c : ℕ) → IsPlainColumn c → IsLine (piece b c) (one_if b)
+piece-line : (b : Bool) (c : ℕ) → IsAdditiveColumn c → IsLine (piece b c) (one_if b)
 piece-line true c p = line-one c p
 piece-line false c p = line-nil
 
 -- a plain character before what begins apart
-plain_bar-line : (b : Bool) (c w : ℕ) (line : List ℕ) → IsPlainColumn c → BeginsApart line → IsLine line w → IsLine (piece b c ++ line) (one_if b + w)
+plain_bar-line : (b : Bool) (c w : ℕ) (line : List ℕ) → IsAdditiveColumn c → BeginsApart line → IsLine line w → IsLine (piece b c ++ line) (one_if b + w)
 plain_bar-line b c w line p a l = line-begins (piece-line b c p) l a
 
-plain_bar-begins : (b : Bool) (c : ℕ) (line : List ℕ) → IsPlainColumn c → BeginsApart line → BeginsApart (piece b c ++ line)
+plain_bar-begins : (b : Bool) (c : ℕ) (line : List ℕ) → IsAdditiveColumn c → BeginsApart line → BeginsApart (piece b c ++ line)
 plain_bar-begins true c line p a = begins-one c line p a
 plain_bar-begins false c line p a = a
 
-plain_bar-opens : (b : Bool) (c : ℕ) (line : List ℕ) → IsPlainColumn c → Opens line → Opens (piece b c ++ line)
+plain_bar-opens : (b : Bool) (c : ℕ) (line : List ℕ) → IsAdditiveColumn c → Opens line → Opens (piece b c ++ line)
 plain_bar-opens true c line p o = opens-one c line p o
 plain_bar-opens false c line p o = o
 
@@ -247,7 +247,7 @@ frame-left : (r : Frame) (c : ℕ) → IsSeparatorColumn r.margin.left.fill → 
 unfolding left_edge
 frame-left r c p q = frame-append (frame-fill r.margin.left.fill r.margin.left.size p) (frame-piece r.left.there c q)
 
-line-left : (r : Frame) (c : ℕ) → IsSeparatorColumn r.margin.left.fill → IsPlainColumn c
+line-left : (r : Frame) (c : ℕ) → IsSeparatorColumn r.margin.left.fill → IsAdditiveColumn c
     → IsLine (left_edge r c) (r.margin.left.size + one_if r.left.there)
 unfolding left_edge
 line-left r c p q = let f = frame-fill r.margin.left.fill r.margin.left.size p in line-closes (line-frame f) (piece-line r.left.there c q) (closes-frame f)
@@ -257,7 +257,7 @@ record IsRightEdge (r : Frame) (c : ℕ) : Type 0 where
   line : IsLine (right_edge r c) (one_if r.right.there + r.margin.right.size)
   begins : BeginsApart (right_edge r c)
 
-edge-right : (r : Frame) (c : ℕ) → IsSeparatorColumn r.margin.right.fill → IsPlainColumn c → IsRightEdge r c
+edge-right : (r : Frame) (c : ℕ) → IsSeparatorColumn r.margin.right.fill → IsAdditiveColumn c → IsRightEdge r c
 unfolding right_edge
 edge-right r c p q =
     let f = frame-fill r.margin.right.fill r.margin.right.size p in

@@ -2,7 +2,7 @@
 use Rattle.std.specs.Prelude.{◌≡◌, ℕ, ◌+◌, ◌-◌, ◌*◌, ◌<◌, ◌≤◌, ◌⊎◌, true}
 use Rattle.std.specs.Str.{IsUtf8}
 use Rattle.tabled_text.specs.Measure.{text_columns}
-use Rattle.tabled_text.specs.Plain.{IsPlainColumn}
+use Rattle.tabled_text.specs.Plain.{IsAdditiveColumn}
 use Rattle.tabled_apart.specs.Lines.{IsSeparatorColumn}
 use Rattle.tabled_border.specs.declared.frame.Frame.{Frame}
 use Rattle.tabled_config.specs.declared.spanned.CellStyle.{CellStyle}
@@ -23,11 +23,11 @@ pub record IsApartStyle (style : CellStyle) : Type 0 where
   pub top : IsSeparatorColumn style.padding.top.fill
   pub bottom : IsSeparatorColumn style.padding.bottom.fill
 
--- the vertical lines are plain, and the side margins separators
+-- the vertical lines are additive, and the side margins separators
 pub record IsApartFrame (frame : Frame) : Type 0 where
-  pub inner : IsPlainColumn frame.inner.main
-  pub left : IsPlainColumn frame.left.main
-  pub right : IsPlainColumn frame.right.main
+  pub inner : IsAdditiveColumn frame.inner.main
+  pub left : IsAdditiveColumn frame.left.main
+  pub right : IsAdditiveColumn frame.right.main
   pub margin_left : IsSeparatorColumn frame.margin.left.fill
   pub margin_right : IsSeparatorColumn frame.margin.right.fill
 

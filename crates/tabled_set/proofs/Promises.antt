@@ -2,10 +2,10 @@
 use Rattle.std.proofs.Common.{◌≡◌, ℕ, ◌<◌, Bool, true, false, List, [], Option, Some, None, nat_lt, refl, sym, ap, ◌∙◌, subst, ⊎_elim}
 use Rattle.std.proofs.lemmas.Bool.{MatchBool-at_true, MatchBool-at_false, cases_Bool, lt-ltb}
 use Rattle.tabled_text.specs.Measure.{text_columns}
-use Rattle.tabled_text.specs.Plain.{IsPlain}
+use Rattle.tabled_text.specs.Plain.{IsAdditive}
 use Rattle.tabled_text.proofs.FewestLines.{fewest-wrapped}
 use Rattle.tabled_text.proofs.OwnBreaking.{old_text}
-use Rattle.tabled_text.proofs.StayLemmas.{IsPlain-stays, StaysWithin-wrapped}
+use Rattle.tabled_text.proofs.StayLemmas.{IsAdditive-stays, StaysWithin-wrapped}
 use Rattle.tabled_apart.proofs.FittingLaws.{fits-wrapped}
 use Rattle.tabled_base.specs.Cells.{IsInside, IsRectangular, cell_at}
 use Rattle.tabled_base.specs.declared.position.Entity.{Entity}
@@ -21,7 +21,7 @@ use Rattle.tabled_resize.specs.BestNarrowing.{HasLeastWidth, IsBestCut, text_roo
 use Rattle.tabled_change.specs.CellChanges.{if_wider, truncating, wrapping}
 use Rattle.tabled_resize.specs.ExactTotal.{HasExactTotal}
 use Rattle.tabled_resize.specs.Narrowed.{IsNarrowed, Narrows}
-use Rattle.tabled_change.specs.PlainEnding.{IsPlainLimit}
+use Rattle.tabled_change.specs.PlainEnding.{IsAdditiveLimit}
 use Rattle.tabled_resize.specs.Priorities.{TakesFrom, TakesGreatest}
 use Rattle.tabled_set.specs.Promised.{IsWiderThan, TruncatesAsPromised, WrapsAsPromised}
 use Rattle.tabled_change.specs.Truncated.{IsTruncated}
@@ -35,24 +35,24 @@ use Rattle.tabled_change.proofs.TruncatedTexts.{fits-if_wider}
 FindsRoom-wrapping : (words : Bool) → FindsRoom (wrapping words)
 FindsRoom-wrapping words room before after p w = fits-wrapped room words before after w
 
-FindsRoom-truncating : (suffix : List ℕ) (limit : SuffixLimit) (multiline : Bool) → IsPlain suffix → IsPlainLimit limit
+FindsRoom-truncating : (suffix : List ℕ) (limit : SuffixLimit) (multiline : Bool) → IsAdditive suffix → IsAdditiveLimit limit
     → FindsRoom (if_wider (truncating suffix limit multiline))
 FindsRoom-truncating suffix limit multiline q l room before after p w = fits-if_wider room suffix limit multiline before after q l p w
 
 -- ---- and plain where they were
 KeepsPlain-wrapping : (words : Bool) → KeepsPlain (wrapping words)
-KeepsPlain-wrapping words room before after p w = IsPlain-stays (StaysWithin-wrapped {n = room} p w)
+KeepsPlain-wrapping words room before after p w = IsAdditive-stays (StaysWithin-wrapped {n = room} p w)
 
-KeepsPlain-truncating : (suffix : List ℕ) (limit : SuffixLimit) (multiline : Bool) → IsPlain suffix → IsPlainLimit limit
+KeepsPlain-truncating : (suffix : List ℕ) (limit : SuffixLimit) (multiline : Bool) → IsAdditive suffix → IsAdditiveLimit limit
     → KeepsPlain (if_wider (truncating suffix limit multiline))
 KeepsPlain-truncating suffix limit multiline q l room before after p w =
     let ended = IsTruncated room suffix limit multiline before after in
     let stays = after ≡ before in
     ⊎_elim
-    (λ y. IsPlain-stays (StaysWithin-truncated room suffix limit multiline before after q l p (MatchBool-at_true ended stays y w)))
+    (λ y. IsAdditive-stays (StaysWithin-truncated room suffix limit multiline before after q l p (MatchBool-at_true ended stays y w)))
     (λ no.
     let same : after ≡ before = MatchBool-at_false ended stays no w in
-    subst IsPlain (sym same) p)
+    subst IsAdditive (sym same) p)
     (cases_Bool (nat_lt room (text_columns before)))
 
 -- ---- a table that was narrowed, once what is hinted was forgotten, the widths never

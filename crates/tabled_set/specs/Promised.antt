@@ -2,7 +2,7 @@
 use Rattle.std.specs.Prelude.{◌≡◌, ◌<◌, ℕ, Bool, List, [], false, length, max, sum}
 use Rattle.tabled_resize.specs.BestNarrowing.{HasLeastWidth, IsBestCut, IsBestWrapped}
 use Rattle.tabled_resize.specs.ExactTotal.{HasEstimatedWidths, HasExactTotal}
-use Rattle.tabled_change.specs.PlainEnding.{IsPlainLimit}
+use Rattle.tabled_change.specs.PlainEnding.{IsAdditiveLimit}
 use Rattle.tabled_change.specs.declared.suffix.SuffixLimit.{SuffixLimit}
 use Rattle.tabled_config.specs.declared.spanned.SpannedConfig.{SpannedConfig}
 use Rattle.tabled_resize.specs.HeightFrame.{frame_height}
@@ -11,7 +11,7 @@ use Rattle.tabled_size.specs.Holds.{Holds, IsSized}
 use Rattle.tabled_size.specs.Sheet.{Sheet, estimated, is_empty}
 use Rattle.tabled_size.specs.TextCells.{AreTexts}
 use Rattle.tabled_size.specs.Totals.{total_height, total_width}
-use Rattle.tabled_text.specs.Plain.{IsPlain}
+use Rattle.tabled_text.specs.Plain.{IsAdditive}
 
 -- widths that are estimated and take more than n in all
 pub record IsWiderThan (n : ℕ) (t : Sheet) : Type 0 where
@@ -26,10 +26,10 @@ pub record WrapsAsPromised {P : Type 0} (shrinks : P → List ℕ → List ℕ �
   pub best : TakesFrom shrinks s → IsWiderThan n old → IsBestWrapped words old new
   pub least : TakesGreatest shrinks s → IsWiderThan n old → HasLeastWidth old new
 
--- truncated to n: the same totals, where the suffix is plain; without a suffix the longest beginnings
+-- truncated to n: the same totals, where the suffix is additive; without a suffix the longest beginnings
 pub record TruncatesAsPromised {P : Type 0} (shrinks : P → List ℕ → List ℕ → ℕ → List ℕ → P → Type 0) (s : P) (suffix : List ℕ) (limit : SuffixLimit)
     (multiline : Bool) (n : ℕ) (old new : Sheet) : Type 0 where
-  pub exact : TakesFrom shrinks s → IsPlain suffix → IsPlainLimit limit → IsWiderThan n old → AreTexts old.cells → HasExactTotal n old new
+  pub exact : TakesFrom shrinks s → IsAdditive suffix → IsAdditiveLimit limit → IsWiderThan n old → AreTexts old.cells → HasExactTotal n old new
   pub best : TakesFrom shrinks s → suffix ≡ [] → IsWiderThan n old → IsBestCut multiline old new
   pub least : TakesGreatest shrinks s → IsWiderThan n old → HasLeastWidth old new
 

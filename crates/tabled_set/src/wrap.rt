@@ -1,5 +1,5 @@
 //! Wrapping to some columns.
-ghost use Rattle.std.specs.Prelude.{◌≡◌, ◌<◌, IfErr, IfOk, OnErr, false, string_bytes};
+ghost use Rattle.std.specs.Prelude.{◌≡◌, ◌<◌, IfErr, IfOk, OnErr, false, length, string_bytes};
 ghost use Rattle.tabled_base.specs.declared.error.TableError.TheVariants.{Memory};
 ghost use Rattle.tabled_text.specs.Breaking.{EachUnitFits, HasFewestLines, IsLeastBreaking};
 ghost use Rattle.tabled_text.specs.Wrapping.{IsWrapped};
@@ -66,7 +66,8 @@ impl<W, P: Drop> Wrap<W, P> {
 
 impl Wrap<(), ()> {
     /// A text in lines of at most `width` columns, with words kept or not, as `tabled_text::wrap_text`
-    /// writes it; empty for no columns. No other breaking has fewer lines. Refused with `Memory` alone.
+    /// writes it; empty for no columns. No other breaking has fewer lines. Fails only with `Memory`, and never for
+    /// no columns or an empty text.
     pub fn wrap(
         alloc: Global,
         text: &str,
@@ -77,7 +78,7 @@ impl Wrap<(), ()> {
         ensures fewest { IfOk result (λ answer. HasFewestLines width keep_words text.now (string_bytes answer)) }
         ensures least { 0 < width → EachUnitFits width keep_words text.now
             → IfOk result (λ answer. IsLeastBreaking width keep_words text.now (string_bytes answer)) }
-        ensures memory { OnErr result (0 < width) }
+        ensures memory { OnErr result ((0 < width) × (0 < length text.now)) }
         ensures only { IfErr result (λ e. e ≡ Memory) }
     {
         Ok(wrap_text(alloc, text, width, keep_words)?)

@@ -3,7 +3,7 @@ ghost use Rattle.std.specs.Prelude.{◌≡◌, ◌<◌, ℕ, List, ◌++◌, All
 ghost use Rattle.std.specs.Str.{IsUtf8};
 ghost use Rattle.tabled_text.specs.Cut.{IsCut};
 ghost use Rattle.tabled_text.specs.Measure.{lines_of};
-ghost use Rattle.tabled_text.specs.Plain.{IsPlain};
+ghost use Rattle.tabled_text.specs.Plain.{IsAdditive};
 ghost use Rattle.tabled_apart.specs.Exact.{IsExactLine};
 ghost use Rattle.tabled_base.specs.Cells.{IsRectangular};
 ghost use Rattle.tabled_config.specs.declared.compact.CompactConfig.{CompactConfig};
@@ -23,7 +23,7 @@ ghost use Rattle.tabled_stream.specs.Streamed.{IsCutRow, IsStreamed, column_coun
 pub fn streams_like_tables()
     ensures sheet { (settings : Settings) (config : CompactConfig) (rows : List (List (List ℕ))) (t : Sheet) → IsLikeTable settings rows
         → IsStreamed settings config (sniffed settings rows) (limited settings.rows rows) t → t ≡ estimated rows (spanned_of_compact config) }
-    ensures plain { (text : List ℕ) → IsPlain text → length (lines_of text) ≡ 1 → IsExactLine text }
+    ensures plain { (text : List ℕ) → IsAdditive text → length (lines_of text) ≡ 1 → IsExactLine text }
 {}
 
 /// Every text can be cut at any count, and so can every row of texts for columns that leave any counts to texts.

@@ -23,7 +23,7 @@ use Rattle.std.proofs.Common.{
   subst,
   ◌∙◌,
 }
-use Rattle.tabled_text.specs.Plain.{IsPlainColumn}
+use Rattle.tabled_text.specs.Plain.{IsAdditiveColumn}
 use Rattle.tabled_text.proofs.PlainLines.{plain_column-printable, plain_column-space}
 use Rattle.tabled_base.specs.Cells.{IsRectangular, columns}
 use Rattle.tabled_border.specs.declared.borders.HorizontalLine.{HorizontalLine}
@@ -38,7 +38,7 @@ use Rattle.tabled_size.specs.Totals.{filled_height, part_height, total_height, t
 use Rattle.tabled_priority.proofs.Sums.{sum_step}
 use Rattle.tabled_size.specs.Holds.{Holds}
 use Rattle.tabled_grid.specs.Picture.{picture}
-use Rattle.tabled_size.specs.PlainCells.{ArePlain}
+use Rattle.tabled_size.specs.PlainCells.{AreAdditive}
 use Rattle.tabled_row.specs.Plain.{EachLineTakes, IsPlainRule, IsPlainStyle}
 use Rattle.tabled_grid.specs.PlainSheet.{IsPlainConfig}
 use Rattle.tabled_grid.proofs.EstimatedSizes.{holds_estimated}
@@ -53,13 +53,13 @@ use Rattle.tabled_table.specs.NewTable.{IsNew}
 use Rattle.tabled_table.specs.TableSheet.{new_sheet, sheet}
 use Rattle.tabled_table.specs.declared.table.Table.{Table}
 
-plus : IsPlainColumn 43
+plus : IsAdditiveColumn 43
 plus = plain_column-printable 43 refl
 
-dash : IsPlainColumn 45
+dash : IsAdditiveColumn 45
 dash = plain_column-printable 45 refl
 
-bar : IsPlainColumn 124
+bar : IsAdditiveColumn 124
 bar = plain_column-printable 124 refl
 
 -- every horizontal line is of dashes, with plus signs at the vertical lines
@@ -107,10 +107,10 @@ new_plain rows count = record {
 
 -- bars and spaces are separators
 separator-bar : IsSeparatorColumn 124
-separator-bar = record { plain = bar; steady = refl }
+separator-bar = record { additive = bar; steady = refl }
 
 separator-space : IsSeparatorColumn 32
-separator-space = record { plain = plain_column-space; steady = refl }
+separator-space = record { additive = plain_column-space; steady = refl }
 
 style_apart : (row column : ℕ) → IsApartStyle (style_at new_config row column)
 unfolding style_at new_config
@@ -139,7 +139,7 @@ new_texts cells h texts =
     apart_columns (new_sheet cells) (new_apart (length cells) (columns cells)) texts h (holds_estimated cells new_config)
 
 -- each line of a new table of plain texts takes as many columns as the whole
-pub new_columns : (cells : List (List (List ℕ))) → IsRectangular cells → ArePlain cells
+pub new_columns : (cells : List (List (List ℕ))) → IsRectangular cells → AreAdditive cells
     → EachLineTakes (total_width (new_sheet cells)) (picture (new_sheet cells))
 new_columns cells h plain =
     picture_columns (new_sheet cells) (new_plain (length cells) (columns cells)) plain h (holds_estimated cells new_config)

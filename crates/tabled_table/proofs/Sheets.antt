@@ -5,7 +5,7 @@ use Rattle.tabled_size.specs.Sheet.{Sheet}
 use Rattle.tabled_size.specs.Totals.{total_height, total_width}
 use Rattle.tabled_size.specs.Holds.{Holds}
 use Rattle.tabled_grid.specs.Picture.{picture}
-use Rattle.tabled_size.specs.PlainCells.{ArePlain}
+use Rattle.tabled_size.specs.PlainCells.{AreAdditive}
 use Rattle.tabled_row.specs.Plain.{EachLineTakes}
 use Rattle.tabled_grid.specs.ApartSheet.{IsApartConfig}
 use Rattle.tabled_grid.specs.PlainSheet.{IsPlainConfig}
@@ -20,7 +20,7 @@ sheet_texts t rectangular config texts holds = apart_columns t config texts rect
 
 -- and so where characters are plain
 pub sheet_columns : (t : Sheet) → IsRectangular t.cells → IsPlainConfig t.config (length t.cells) (columns t.cells)
-    → ArePlain t.cells → Holds t → EachLineTakes (total_width t) (picture t)
+    → AreAdditive t.cells → Holds t → EachLineTakes (total_width t) (picture t)
 sheet_columns t rectangular config texts holds = picture_columns t config texts rectangular holds
 
 -- they are as many as the whole has

@@ -25,7 +25,7 @@ use Rattle.std.proofs.Common.{
   ◌∙◌,
 }
 use Rattle.std.proofs.lemmas.Bool.{eqb-true}
-use Rattle.tabled_text.specs.Plain.{IsPlainColumn}
+use Rattle.tabled_text.specs.Plain.{IsAdditiveColumn}
 use Rattle.tabled_apart.specs.Lines.{IsSeparatorColumn}
 use Rattle.tabled_base.specs.Cells.{columns}
 use Rattle.tabled_border.specs.declared.sides.Indent.{Indent}
@@ -140,17 +140,17 @@ module _ (config : SpannedConfig) (align : Option AlignmentHorizontal) (fill mis
   apart_style row column h = record { left = h.left; right = h.right; top = h.top; bottom = h.bottom }
 
   -- settings of plain characters stay so with a plain fill
-  pub shown_plain : (rows count : ℕ) → IsPlainConfig config rows count → IsPlainColumn (shown_fill fill) → IsPlainConfig changed rows count
+  pub shown_plain : (rows count : ℕ) → IsPlainConfig config rows count → IsAdditiveColumn (shown_fill fill) → IsPlainConfig changed rows count
   unfolding rule_at
   shown_plain rows count h new = record {
     frame = record {
       vertical = h.frame.vertical;
       left = h.frame.left;
       right = h.frame.right;
-      margin_left = left_fill config.margin align fill missing IsPlainColumn h.frame.margin_left new;
-      margin_right = right_fill config.margin align fill missing IsPlainColumn h.frame.margin_right new;
-      margin_top = subst (λ i. IsPlainColumn i.fill) (sym (top_same config.margin align fill missing)) h.frame.margin_top;
-      margin_bottom = subst (λ i. IsPlainColumn i.fill) (sym (bottom_same config.margin align fill missing)) h.frame.margin_bottom;
+      margin_left = left_fill config.margin align fill missing IsAdditiveColumn h.frame.margin_left new;
+      margin_right = right_fill config.margin align fill missing IsAdditiveColumn h.frame.margin_right new;
+      margin_top = subst (λ i. IsAdditiveColumn i.fill) (sym (top_same config.margin align fill missing)) h.frame.margin_top;
+      margin_bottom = subst (λ i. IsAdditiveColumn i.fill) (sym (bottom_same config.margin align fill missing)) h.frame.margin_bottom;
     };
     rules = λ i b line e. h.rules i b line e;
     styles = λ row column p q. plain_style row column (h.styles row column p q);
@@ -164,8 +164,8 @@ module _ (config : SpannedConfig) (align : Option AlignmentHorizontal) (fill mis
   pub shown_apart : (rows count : ℕ) → IsApartConfig config rows count → IsSeparatorColumn (shown_fill fill) → IsApartConfig changed rows count
   unfolding rule_at
   shown_apart rows count h new = record {
-    margin_top = subst (λ i. IsPlainColumn i.fill) (sym (top_same config.margin align fill missing)) h.margin_top;
-    margin_bottom = subst (λ i. IsPlainColumn i.fill) (sym (bottom_same config.margin align fill missing)) h.margin_bottom;
+    margin_top = subst (λ i. IsAdditiveColumn i.fill) (sym (top_same config.margin align fill missing)) h.margin_top;
+    margin_bottom = subst (λ i. IsAdditiveColumn i.fill) (sym (bottom_same config.margin align fill missing)) h.margin_bottom;
     rules = λ i b line e. h.rules i b line e;
     cells = λ row k. apart_cells count row (h.cells row k);
     frame = record {

@@ -37,7 +37,7 @@ use Rattle.std.proofs.Common.{
 }
 use Rattle.std.specs.Result.{IsErrAnd}
 use Rattle.std.proofs.lemmas.Bool.{ltb-false}
-use Rattle.tabled_text.specs.Plain.{IsPlainColumn}
+use Rattle.tabled_text.specs.Plain.{IsAdditiveColumn}
 use Rattle.tabled_apart.specs.Lines.{IsSeparatorColumn}
 use Rattle.tabled_base.specs.Cells.{IsRectangular, columns}
 use Rattle.tabled_base.specs.declared.error.TableError.{TableError}
@@ -45,7 +45,7 @@ use Rattle.tabled_base.specs.declared.error.TableError.TheVariants.{Memory, Shor
 use Rattle.tabled_config.specs.declared.alignment.AlignmentHorizontal.{AlignmentHorizontal}
 use Rattle.tabled_config.specs.declared.spanned.SpannedConfig.{SpannedConfig}
 use Rattle.tabled_size.specs.Holds.{Holds}
-use Rattle.tabled_size.specs.PlainCells.{ArePlain}
+use Rattle.tabled_size.specs.PlainCells.{AreAdditive}
 use Rattle.tabled_size.specs.Sheet.{Sheet, is_empty}
 use Rattle.tabled_size.specs.Standing.{standing}
 use Rattle.tabled_size.specs.Stored.{heights_of, is_stored, widths_of}
@@ -100,7 +100,7 @@ module _ (table : Table) (width : Option ℕ) (align : Option AlignmentHorizonta
 
   -- and where characters are plain
   pub columns_of_shown : IsRectangular (cells_of table) → IsPlainConfig (sheet table).config (length (cells_of table)) (columns (cells_of table))
-      → ArePlain (cells_of table) → Holds (sheet table) → IsPlainColumn (shown_fill fill)
+      → AreAdditive (cells_of table) → Holds (sheet table) → IsAdditiveColumn (shown_fill fill)
       → EachLineTakes (total_width (shown table width align fill)) (picture (shown table width align fill))
   columns_of_shown rectangular config texts holds new =
       sheet_columns (shown table width align fill) rectangular

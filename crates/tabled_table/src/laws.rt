@@ -9,7 +9,7 @@ ghost use Rattle.tabled_table.specs.TableSheet.{new_sheet, sheet};
 ghost use Rattle.tabled_table.specs.declared.table.Table.{Table};
 
 /// A new table has the sizes that its texts ask for, which hold its cells. Its settings keep texts apart: so each of its
-/// lines takes exactly the total width, whatever its texts are. Its borders, fills and margins are plain too.
+/// lines takes exactly the total width, whatever its texts are. Its borders, fills and margins are additive too.
 #[tactic(auto, using(crate::proofs::NewTables::new_stands, crate::proofs::NewTables::new_holds, crate::proofs::NewTables::new_is_apart))]
 pub fn new_tables()
     ensures sizes { (cells : List (List (List ℕ))) (table : Table) → IsNew cells table

@@ -1,11 +1,11 @@
 //! A table that is printed with a width and an alignment of its own.
 ghost use Rattle.std.specs.Prelude.{◌≡◌, ◌⊎◌, ◌||◌, ◌+◌, ◌<◌, ◌^◌, IfErr, IfOk, None, Some, false, is_some, length, max, nat_lt};
 ghost use Rattle.tabled_apart.specs.Lines.{IsSeparatorColumn};
-ghost use Rattle.tabled_text.specs.Plain.{IsPlainColumn};
+ghost use Rattle.tabled_text.specs.Plain.{IsAdditiveColumn};
 ghost use Rattle.tabled_base.specs.Cells.{columns};
 ghost use Rattle.tabled_base.specs.declared.error.TableError.TheVariants.{Memory, Range, ShortWidths};
 ghost use Rattle.tabled_size.specs.Holds.{Holds};
-ghost use Rattle.tabled_size.specs.PlainCells.{ArePlain};
+ghost use Rattle.tabled_size.specs.PlainCells.{AreAdditive};
 ghost use Rattle.tabled_size.specs.Sheet.{is_empty};
 ghost use Rattle.tabled_size.specs.Stored.{is_stored, widths_of};
 ghost use Rattle.tabled_size.specs.TextCells.{AreTexts};
@@ -131,7 +131,7 @@ impl Table {
             → AreTexts (cells_of self.now) → Holds (sheet self.now) → IsSeparatorColumn (shown_fill fill)
             → EachLineTakes (total_width (shown self.now width align fill)) (picture (shown self.now width align fill)) }
         ensures columns { IsPlainConfig (sheet self.now).config (length (cells_of self.now)) (columns (cells_of self.now))
-            → ArePlain (cells_of self.now) → Holds (sheet self.now) → IsPlainColumn (shown_fill fill)
+            → AreAdditive (cells_of self.now) → Holds (sheet self.now) → IsAdditiveColumn (shown_fill fill)
             → EachLineTakes (total_width (shown self.now width align fill)) (picture (shown self.now width align fill)) }
     {
         if is_empty(&self.records) {

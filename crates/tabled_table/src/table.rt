@@ -14,7 +14,7 @@ ghost use Rattle.tabled_size.specs.Stored.{heights_of, is_stored, widths_of};
 ghost use Rattle.tabled_size.specs.Totals.{total_height, total_width};
 ghost use Rattle.tabled_size.specs.Holds.{Holds};
 ghost use Rattle.tabled_grid.specs.Picture.{picture, table_text};
-ghost use Rattle.tabled_size.specs.PlainCells.{ArePlain};
+ghost use Rattle.tabled_size.specs.PlainCells.{AreAdditive, ArePlain};
 ghost use Rattle.tabled_size.specs.TextCells.{AreTexts};
 ghost use Rattle.tabled_row.specs.Plain.{EachLineTakes};
 ghost use Rattle.tabled_grid.specs.ApartSheet.{IsApartConfig};
@@ -196,9 +196,9 @@ impl Table {
     }
 
     /// Whether the settings keep the texts apart, whatever these are: what stands beside cells are separators of one column
-    /// (a space, lines, blocks and dots, printable ASCII but `#`, `*` and digits), or vertical lines of any plain characters
+    /// (a space, lines, blocks and dots, printable ASCII but `#`, `*` and digits), or vertical lines of any additive characters
     /// with left padding behind them; a vertical line or padding stands between each two cells of a row; and horizontal lines
-    /// and the lines of margins are of plain characters. Then each printed line takes `total_width` columns, if the widths hold
+    /// and the lines of margins are of additive characters. Then each printed line takes `total_width` columns, if the widths hold
     /// the texts, as estimated ones do.
     pub fn is_apart(&self) -> bool
         ensures { IsTrue result ↔ IsApartConfig (sheet self.now).config (length (cells_of self.now))
@@ -211,8 +211,8 @@ impl Table {
         )
     }
 
-    /// Whether the texts, borders, fills and margins are plain characters, and all but the texts of one
-    /// column. Then each printed line takes `total_width` columns, if the widths hold the texts, as
+    /// Whether the texts are plain, and the borders, fills and margins plain characters or separators of
+    /// one column. Then each printed line takes `total_width` columns, if the widths hold the texts, as
     /// estimated ones do, also where cells touch.
     pub fn is_plain(&self) -> bool
         ensures { IsTrue result ↔ (IsPlainConfig (sheet self.now).config (length (cells_of self.now))
@@ -236,7 +236,7 @@ impl Table {
             → AreTexts (cells_of self.now) → Holds (sheet self.now)
             → EachLineTakes (total_width (sheet self.now)) (picture (sheet self.now)) }
         ensures columns { IsPlainConfig (sheet self.now).config (length (cells_of self.now)) (columns (cells_of self.now))
-            → ArePlain (cells_of self.now) → Holds (sheet self.now)
+            → AreAdditive (cells_of self.now) → Holds (sheet self.now)
             → EachLineTakes (total_width (sheet self.now)) (picture (sheet self.now)) }
     {
         total_width(&self.records, self.config.as_ref(), &self.dimension)

@@ -8,7 +8,7 @@ use Rattle.std.proofs.lemmas.List.Sums.{sum_by-cons, count_by-le-length}
 use Rattle.std.proofs.lemmas.Str.{encodes-chars, length-le-encodes}
 use Rattle.unicode_width.proofs.Rules.{is_simple}
 use Rattle.tabled_text.specs.Measure.{lines_of, line_columns, text_columns, char_columns}
-use Rattle.tabled_text.specs.Plain.{is_listed, has_plain_width, is_plain_character, IsPlain, IsPlainLine}
+use Rattle.tabled_text.specs.Plain.{is_listed_or_drawn, has_plain_width, is_additive, IsAdditive, IsAdditiveLine}
 use Rattle.tabled_text.proofs.Bridge.{lines_length, greatest-le}
 use Rattle.tabled_text.proofs.PlainLemmas.{line_columns-plain}
 use Rattle.tabled_text.proofs.PlainLines.{plain_line-each}
@@ -20,21 +20,21 @@ count_lines-le text = omega (arith, length-slice_split (λ c. c == 10) text, cou
 plain_width-le : (w : ℕ) → ((w == 1) || (w == 2)) ≡ true → w ≤ 2
 plain_width-le w h = ⊎_elim (λ a. let e = eqb-true w 1 a in omega arith) (λ a. let e = eqb-true w 2 a in omega arith) (or_cases _ _ h)
 
-sum-le : (cs : List ℕ) → list_all is_plain_character cs ≡ true → sum_by char_columns cs ≤ 2 * length cs
+sum-le : (cs : List ℕ) → list_all is_additive cs ≡ true → sum_by char_columns cs ≤ 2 * length cs
 sum-le [] h = omega arith
 sum-le (c ∷ cs) h =
-    let parts = and_parts (is_plain_character c) (list_all is_plain_character cs) h in
-    let own = and_parts (has_plain_width c) (is_simple c) (and_parts (is_listed c) (has_plain_width c && is_simple c) parts.0).1 in
+    let parts = and_parts (is_additive c) (list_all is_additive cs) h in
+    let own = and_parts (has_plain_width c) (is_simple c) (and_parts (is_listed_or_drawn c) (has_plain_width c && is_simple c) parts.0).1 in
     omega (arith, plain_width-le (char_columns c) own.0, sum-le cs parts.1, sum_by-cons char_columns c cs)
 
 -- a plain line takes at most two columns a byte
-pub line_columns-le_bytes : (line : List ℕ) (n : ℕ) → IsPlainLine line n → line_columns line ≤ 2 * length line
+pub line_columns-le_bytes : (line : List ℕ) (n : ℕ) → IsAdditiveLine line n → line_columns line ≤ 2 * length line
 line_columns-le_bytes line n p =
     let cs = chars line in
     omega (arith, line_columns-plain cs p.characters, sum-le cs p.characters, length-le-encodes cs, ap length (encodes-chars line p.utf8))
 
 -- and so does a plain text
-pub text_columns-le_bytes : (text : List ℕ) → IsPlain text → text_columns text ≤ 2 * length text
+pub text_columns-le_bytes : (text : List ℕ) → IsAdditive text → text_columns text ≤ 2 * length text
 text_columns-le_bytes text p =
     let lines = lines_of text in
     greatest-le line_columns (2 * length text) lines (λ k d h.

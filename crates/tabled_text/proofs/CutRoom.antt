@@ -33,8 +33,8 @@ use Rattle.std.proofs.lemmas.List.Elements.{All-head, All-tail}
 use Rattle.std.proofs.lemmas.List.Sums.{sum_by-cons}
 use Rattle.std.proofs.lemmas.Bool.{and_parts, and_from}
 use Rattle.tabled_text.specs.Measure.{lines_of, columns_of, char_columns, count_of}
-use Rattle.tabled_text.specs.Plain.{is_plain_character, is_plain_or_feed}
-use Rattle.tabled_text.specs.Room.{is_plain_text}
+use Rattle.tabled_text.specs.Plain.{is_additive, is_additive_or_feed}
+use Rattle.tabled_text.specs.Room.{is_additive_text}
 use Rattle.tabled_text.specs.Cut.{last_of, last_line, missing_columns, IsCut}
 use Rattle.tabled_text.specs.Room.{stays}
 use Rattle.tabled_text.proofs.PlainLemmas.{columns_of-plain, count_of-plain}
@@ -97,12 +97,12 @@ list_all-front p [] ys h = refl
 list_all-front p (x ∷ xs) ys h = let parts = and_parts (p x) (list_all p (xs ++ ys)) h in
     and_from (p x) (list_all p xs) parts.0 (list_all-front p xs ys parts.1)
 
-pub copies : (c k : ℕ) → is_plain_character c ≡ true → char_columns c ≡ 1
-    → (list_all is_plain_character (replicate k c) ≡ true) × (sum_by char_columns (replicate k c) ≡ k)
+pub copies : (c k : ℕ) → is_additive c ≡ true → char_columns c ≡ 1
+    → (list_all is_additive (replicate k c) ≡ true) × (sum_by char_columns (replicate k c) ≡ k)
 copies c zero h e = (refl, refl)
 copies c (suc k) h e =
     let r = copies c k h e in (
-      and_from (is_plain_character c) (list_all is_plain_character (replicate k c)) h r.0,
+      and_from (is_additive c) (list_all is_additive (replicate k c)) h r.0,
       sum_by-cons char_columns c (replicate k c) ∙ (let b = r.1 in
           let f : char_columns c + sum_by char_columns (replicate k c) ≡ suc k = omega arith in f),
     )
@@ -112,12 +112,12 @@ missing-le n front [] = omega arith
 missing-le n front (c ∷ rest) = omega arith
 
 -- a cut plain text stays in its columns, and what follows begins within them
-pub stays-cut_before : (n w : ℕ) → n ≤ w → (text answer tail : List ℕ) → is_plain_text (chars text) ≡ true → IsCut n text answer
+pub stays-cut_before : (n w : ℕ) → n ≤ w → (text answer tail : List ℕ) → is_additive_text (chars text) ≡ true → IsCut n text answer
     → ((k : ℕ) → k ≤ n → stays w k tail ≡ true) → stays w 0 (chars answer ++ tail) ≡ true
 stays-cut_before n w le text answer tail plain cut h =
     let front = cut.front in
     let rest = cut.rest in
-    let own = list_all-front is_plain_or_feed front rest (subst (λ t. is_plain_text t ≡ true) cut.longest.parts plain) in
+    let own = list_all-front is_additive_or_feed front rest (subst (λ t. is_additive_text t ≡ true) cut.longest.parts plain) in
     let each = EachPlain-lines front own in
     let lines = Lines-counted n (lines_of front) each cut.longest.reached.fits in
     let last = last_used-last (lines_of front) (lines_some front) each in
@@ -132,12 +132,12 @@ stays-cut_before n w le text answer tail plain cut h =
     (stays-line w (last_used 0 (lines_of front)) filled tail fill.0 (h (last_used 0 (lines_of front) + sum_by char_columns filled) (omega arith)))))
 
 -- a cut plain text stays in its columns
-pub stays-cut : (n : ℕ) (text answer : List ℕ) → is_plain_text (chars text) ≡ true → IsCut n text answer → stays n 0 (chars answer) ≡ true
+pub stays-cut : (n : ℕ) (text answer : List ℕ) → is_additive_text (chars text) ≡ true → IsCut n text answer → stays n 0 (chars answer) ≡ true
 stays-cut n text answer plain cut =
     subst (λ t. stays n 0 t ≡ true) (append-nil (chars answer)) (stays-cut_before n n (omega arith) text answer [] plain cut (stays-nothing n))
 
 -- a plain text stays from a column on if there is room for the columns of all its lines
-pub stays-whole : (w k : ℕ) (s tail : List ℕ) → is_plain_text s ≡ true → k + sum_by columns_of (lines_of s) ≤ w
+pub stays-whole : (w k : ℕ) (s tail : List ℕ) → is_additive_text s ≡ true → k + sum_by columns_of (lines_of s) ≤ w
     → ((j : ℕ) → j ≤ w → stays w j tail ≡ true) → stays w k (s ++ tail) ≡ true
 stays-whole w k s tail plain le h =
     let each = EachPlain-lines s plain in

@@ -36,17 +36,17 @@ use Rattle.std.proofs.lemmas.List.Sums.{sum_by-cons}
 use Rattle.std.proofs.lemmas.Bool.{and_parts, and_from}
 use Rattle.std.proofs.lemmas.Str.{encodes-chars}
 use Rattle.tabled_text.specs.Measure.{columns_of, count_of, char_count, lines_of}
-use Rattle.tabled_text.specs.Plain.{is_plain_character}
+use Rattle.tabled_text.specs.Plain.{is_additive}
 use Rattle.tabled_text.specs.Cut.{last_of, last_line, IsLongestReached, IsCut, missing_columns}
 use Rattle.tabled_text.specs.Longest.{IsLongestFitting, IsLongestCut}
 use Rattle.tabled_text.proofs.PlainLemmas.{columns_of-plain, count_of-plain}
 use Rattle.tabled_text.proofs.PlainLines.{one_line}
 
-plain-take : (k : ℕ) (cs : List ℕ) → list_all is_plain_character cs ≡ true → list_all is_plain_character (take k cs) ≡ true
+plain-take : (k : ℕ) (cs : List ℕ) → list_all is_additive cs ≡ true → list_all is_additive (take k cs) ≡ true
 plain-take zero cs h = refl
 plain-take (suc k) [] h = refl
-plain-take (suc k) (c ∷ cs) h = let parts = and_parts (is_plain_character c) (list_all is_plain_character cs) h in
-    and_from (is_plain_character c) (list_all is_plain_character (take k cs)) parts.0 (plain-take k cs parts.1)
+plain-take (suc k) (c ∷ cs) h = let parts = and_parts (is_additive c) (list_all is_additive cs) h in
+    and_from (is_additive c) (list_all is_additive (take k cs)) parts.0 (plain-take k cs parts.1)
 
 take-length : (xs : List ℕ) → take (length xs) xs ≡ xs
 take-length [] = refl
@@ -61,7 +61,7 @@ more-take (suc j) (suc k) (c ∷ cs) l r =
     let more = more-take j k cs (omega arith) (omega arith) in
     omega (arith, sum_by-cons char_count c (take k cs), sum_by-cons char_count c (take j cs))
 
-width-count : (cs : List ℕ) → list_all is_plain_character cs ≡ true → columns_of cs ≡ count_of cs
+width-count : (cs : List ℕ) → list_all is_additive cs ≡ true → columns_of cs ≡ count_of cs
 width-count cs h = columns_of-plain cs h ∙ sym (count_of-plain cs h)
 
 -- where each beginning is a line that takes the columns of its count, the longest that is reached is the longest that finds room
@@ -91,13 +91,13 @@ longest_counted n line front rest one counted s =
           });
     }
 
-pub longest_fitting : (n : ℕ) (line front rest : List ℕ) → list_all is_plain_character line ≡ true
+pub longest_fitting : (n : ℕ) (line front rest : List ℕ) → list_all is_additive line ≡ true
     → IsLongestReached n line front rest → IsLongestFitting n line front
 longest_fitting n line front rest plain =
     longest_counted n line front rest (λ k. one_line (take k line) (plain-take k line plain)) (λ k. width-count (take k line) (plain-take k line plain))
 
 -- a cut plain line is its longest beginning that finds room, filled up
-pub cut_longest : (n : ℕ) (line answer : List ℕ) → list_all is_plain_character (chars line) ≡ true → IsCut n line answer → IsLongestCut n line answer
+pub cut_longest : (n : ℕ) (line answer : List ℕ) → list_all is_additive (chars line) ≡ true → IsCut n line answer → IsLongestCut n line answer
 cut_longest n line answer plain cut = record {
   front = cut.front;
   rest = cut.rest;
@@ -111,7 +111,7 @@ no_rest front [] h = refl
 no_rest front (c ∷ rest) h = absurd (omega (arith, length-append front (c ∷ rest)))
 
 -- a plain line that finds room is not cut
-pub cut_kept : (n : ℕ) (line answer : List ℕ) → IsUtf8 line → list_all is_plain_character (chars line) ≡ true
+pub cut_kept : (n : ℕ) (line answer : List ℕ) → IsUtf8 line → list_all is_additive (chars line) ≡ true
     → columns_of (chars line) ≤ n → IsCut n line answer → answer ≡ line
 cut_kept n line answer u plain room cut =
     let cs : List ℕ = chars line in

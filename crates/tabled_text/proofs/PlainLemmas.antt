@@ -26,7 +26,7 @@ use Rattle.unicode_width.specs.Kind.{
 }
 use Rattle.unicode_width.specs.Width.{str_width}
 use Rattle.unicode_width.proofs.Rules.{is_simple, is_simple_kind, str_width-simple}
-use Rattle.tabled_text.specs.Plain.{is_listed, has_plain_width, is_plain_character}
+use Rattle.tabled_text.specs.Plain.{is_listed, is_drawn, is_listed_or_drawn, has_plain_width, is_plain_character, is_additive}
 use Rattle.tabled_text.specs.Measure.{char_columns, columns_of, char_count, count_of}
 use Rattle.tabled_text.proofs.Tables.{in_ranges-missed, misses, misses_rows, value_in-missed}
 
@@ -74,9 +74,13 @@ missed-dots : IsMissed 0x201E 0x2027
 unfolding regional_indicator_ranges emoji_modifier_ranges emoji_presentation_ranges joining_group_rows named_rows
 missed-dots = record { indicators = refl; modifiers = refl; emoji = refl; joining = refl; named = refl }
 
-missed-boxes : IsMissed 0x2500 0x259F
+missed-boxes : IsMissed 0x2500 0x257F
 unfolding regional_indicator_ranges emoji_modifier_ranges emoji_presentation_ranges joining_group_rows named_rows
 missed-boxes = record { indicators = refl; modifiers = refl; emoji = refl; joining = refl; named = refl }
+
+missed-blocks : IsMissed 0x2580 0x259F
+unfolding regional_indicator_ranges emoji_modifier_ranges emoji_presentation_ranges joining_group_rows named_rows
+missed-blocks = record { indicators = refl; modifiers = refl; emoji = refl; joining = refl; named = refl }
 
 missed-braille : IsMissed 0x2800 0x28FF
 unfolding regional_indicator_ranges emoji_modifier_ranges emoji_presentation_ranges joining_group_rows named_rows
@@ -98,55 +102,73 @@ is_simple-high low high m h c e =
     or_right (is_in_range 0x20 0x7E c) (nat_lt 0xA0 c && is_simple_kind (kind c))
     (and_from (nat_lt 0xA0 c) (is_simple_kind (kind c)) (lt-ltb 0xA0 c (omega arith)) k)
 
-pub is_simple-listed : (c : ℕ) → is_listed c ≡ true → is_simple c ≡ true
-is_simple-listed c h =
+pub is_simple-list : (c : ℕ) → is_listed c ≡ true → is_simple c ≡ true
+is_simple-list c h =
     ⊎_elim (λ a. or_left (is_in_range 0x20 0x7E c) (nat_lt 0xA0 c && is_simple_kind (kind c)) a)
     (λ h₁. ⊎_elim (is_simple-high 0xC0 0xFF missed-latin (lit< tt) c)
     (λ h₂. ⊎_elim (is_simple-high 0x410 0x44F missed-cyrillic (lit< tt) c)
-    (λ h₃. ⊎_elim (is_simple-high 0x2010 0x2017 missed-dashes (lit< tt) c)
-    (λ h₄. ⊎_elim (is_simple-high 0x201A 0x201B missed-low_quotes (lit< tt) c)
-    (λ h₅. ⊎_elim (is_simple-high 0x201E 0x2027 missed-dots (lit< tt) c)
-    (λ h₆. ⊎_elim (is_simple-high 0x2500 0x259F missed-boxes (lit< tt) c)
-    (λ h₇. ⊎_elim (is_simple-high 0x2800 0x28FF missed-braille (lit< tt) c)
-    (λ h₈. ⊎_elim (is_simple-high 0x4E00 0x9FFF missed-ideographs (lit< tt) c)
+    (λ h₃. ⊎_elim (is_simple-high 0x2500 0x257F missed-boxes (lit< tt) c)
+    (λ h₄. ⊎_elim (is_simple-high 0x4E00 0x9FFF missed-ideographs (lit< tt) c)
     (λ a. is_simple-high 0xFFFD 0xFFFD missed-replacement (lit< tt) c
     (subst (λ x. is_in_range 0xFFFD 0xFFFD x ≡ true) (sym (eqb-true c 0xFFFD a)) refl))
-    (or_cases _ _ h₈)) (or_cases _ _ h₇)) (or_cases _ _ h₆)) (or_cases _ _ h₅)) (or_cases _ _ h₄)) (or_cases _ _ h₃)) (or_cases _ _ h₂))
+    (or_cases _ _ h₄)) (or_cases _ _ h₃)) (or_cases _ _ h₂))
     (or_cases _ _ h₁)) (or_cases _ _ h)
+
+is_simple-drawn : (c : ℕ) → is_drawn c ≡ true → is_simple c ≡ true
+is_simple-drawn c h =
+    ⊎_elim (is_simple-high 0x2010 0x2017 missed-dashes (lit< tt) c)
+    (λ h₁. ⊎_elim (is_simple-high 0x201A 0x201B missed-low_quotes (lit< tt) c)
+    (λ h₂. ⊎_elim (is_simple-high 0x201E 0x2027 missed-dots (lit< tt) c)
+    (λ h₃. ⊎_elim (is_simple-high 0x2580 0x259F missed-blocks (lit< tt) c)
+    (is_simple-high 0x2800 0x28FF missed-braille (lit< tt) c)
+    (or_cases _ _ h₃)) (or_cases _ _ h₂)) (or_cases _ _ h₁)) (or_cases _ _ h)
+
+pub is_simple-listed : (c : ℕ) → is_listed_or_drawn c ≡ true → is_simple c ≡ true
+is_simple-listed c h = ⊎_elim (is_simple-list c) (is_simple-drawn c) (or_cases _ _ h)
+
+width-simple : (a b w : Bool) → a ≡ true → b ≡ true → w ≡ (a && (w && b))
+width-simple true true true h s = refl
+width-simple true true false h s = refl
+width-simple true false w h s = cc
+width-simple false b w h s = cc
 
 -- that a listed character ends no sequence needs no test
 pub is_plain-listed : (c : ℕ) → is_listed c ≡ true → has_plain_width c ≡ is_plain_character c
-is_plain-listed c h = let s = is_simple-listed c h in join (is_listed c) (is_simple c) (has_plain_width c) h s
-  where
-    join : (a b w : Bool) → a ≡ true → b ≡ true → w ≡ (a && (w && b))
-    join true true true h s = refl
-    join true true false h s = refl
-    join true false w h s = cc
-    join false b w h s = cc
+is_plain-listed c h = width-simple (is_listed c) (is_simple c) (has_plain_width c) h (is_simple-list c h)
 
-pub is_simple-plain : (cs : List ℕ) → list_all is_plain_character cs ≡ true → list_all is_simple cs ≡ true
+-- nor does that of one that is drawn
+pub is_additive-listed : (c : ℕ) → is_listed_or_drawn c ≡ true → has_plain_width c ≡ is_additive c
+is_additive-listed c h = width-simple (is_listed_or_drawn c) (is_simple c) (has_plain_width c) h (is_simple-listed c h)
+
+-- plain characters are additive
+pub is_additive-plain : (c : ℕ) → is_plain_character c ≡ true → is_additive c ≡ true
+is_additive-plain c h =
+    let parts = and_parts (is_listed c) (has_plain_width c && is_simple c) h in
+    and_from (is_listed_or_drawn c) (has_plain_width c && is_simple c) (or_left (is_listed c) (is_drawn c) parts.0) parts.1
+
+pub is_simple-plain : (cs : List ℕ) → list_all is_additive cs ≡ true → list_all is_simple cs ≡ true
 is_simple-plain [] h = refl
 is_simple-plain (c ∷ cs) h =
-    let parts = and_parts (is_plain_character c) (list_all is_plain_character cs) h in
-    let own = and_parts (has_plain_width c) (is_simple c) (and_parts (is_listed c) (has_plain_width c && is_simple c) parts.0).1 in
+    let parts = and_parts (is_additive c) (list_all is_additive cs) h in
+    let own = and_parts (has_plain_width c) (is_simple c) (and_parts (is_listed_or_drawn c) (has_plain_width c && is_simple c) parts.0).1 in
     and_from (is_simple c) (list_all is_simple cs) own.1 (is_simple-plain cs parts.1)
 
 -- characters that are plain take as many columns as they do one by one
-pub line_columns-plain : (cs : List ℕ) → list_all is_plain_character cs ≡ true → str_width false cs ≡ sum_by char_columns cs
+pub line_columns-plain : (cs : List ℕ) → list_all is_additive cs ≡ true → str_width false cs ≡ sum_by char_columns cs
 line_columns-plain cs h = str_width-simple false cs (is_simple-plain cs h)
 
 -- the same by another name
-pub columns_of-plain : (cs : List ℕ) → list_all is_plain_character cs ≡ true → columns_of cs ≡ sum_by char_columns cs
+pub columns_of-plain : (cs : List ℕ) → list_all is_additive cs ≡ true → columns_of cs ≡ sum_by char_columns cs
 columns_of-plain cs h = line_columns-plain cs h
 
 pub char_count-plain : (w : ℕ) → ((w == 1) || (w == 2)) ≡ true → max 1 w ≡ w
 char_count-plain w h = ⊎_elim (λ a. let e = eqb-true w 1 a in omega arith) (λ a. let e = eqb-true w 2 a in omega arith) (or_cases _ _ h)
 
 -- and count as much
-pub count_of-plain : (cs : List ℕ) → list_all is_plain_character cs ≡ true → count_of cs ≡ sum_by char_columns cs
+pub count_of-plain : (cs : List ℕ) → list_all is_additive cs ≡ true → count_of cs ≡ sum_by char_columns cs
 count_of-plain [] h = refl
 count_of-plain (c ∷ cs) h =
-    let parts = and_parts (is_plain_character c) (list_all is_plain_character cs) h in
-    let own = and_parts (has_plain_width c) (is_simple c) (and_parts (is_listed c) (has_plain_width c && is_simple c) parts.0).1 in
+    let parts = and_parts (is_additive c) (list_all is_additive cs) h in
+    let own = and_parts (has_plain_width c) (is_simple c) (and_parts (is_listed_or_drawn c) (has_plain_width c && is_simple c) parts.0).1 in
     let e : char_count c ≡ char_columns c = char_count-plain (char_columns c) own.0 in
     omega (arith, e, count_of-plain cs parts.1, sum_by-cons char_count c cs, sum_by-cons char_columns c cs)

@@ -45,7 +45,7 @@ use Rattle.std.proofs.Math.Utf8.{scalar, scalars}
 use Rattle.unicode_width.proofs.Rules.{is_simple}
 use Rattle.tabled_text.specs.Measure.{lines_of, line_columns, text_columns, columns_of, char_columns, greatest}
 use Rattle.tabled_text.specs.Cut.{IsCut}
-use Rattle.tabled_text.specs.Plain.{is_listed, has_plain_width, is_plain_character, IsPlain, IsPlainColumn}
+use Rattle.tabled_text.specs.Plain.{is_listed_or_drawn, has_plain_width, is_additive, IsAdditive, IsAdditiveColumn}
 use Rattle.tabled_text.specs.Room.{stays, StaysWithin}
 use Rattle.tabled_text.specs.Wrapping.{IsWrapped}
 use Rattle.tabled_text.proofs.Bridge.{text_columns-chars, lines_of-chars}
@@ -61,14 +61,14 @@ use Rattle.tabled_text.proofs.WrapRoom.{
   stays-wrapped,
   stays-nothing,
   columns-stays,
-  is_plain_text-stays,
+  is_additive_text-stays,
 }
 
 -- ---- what they are
 
 -- the text is plain
-pub IsPlain-stays : {n : ℕ} {text : List ℕ} → StaysWithin n text → IsPlain text
-IsPlain-stays {n} {text} s = record { utf8 = s.utf8; characters = is_plain_text-stays n 0 (chars text) s.stays }
+pub IsAdditive-stays : {n : ℕ} {text : List ℕ} → StaysWithin n text → IsAdditive text
+IsAdditive-stays {n} {text} s = record { utf8 = s.utf8; characters = is_additive_text-stays n 0 (chars text) s.stays }
 
 -- and takes at most n columns
 pub text_columns-stays : {n : ℕ} {text : List ℕ} → StaysWithin n text → text_columns text ≤ n
@@ -79,7 +79,7 @@ Lines-greatest n [] p h = tt
 Lines-greatest n (l ∷ ls) p h = let e = columns_of-plain l p.0 in (p.0, omega arith, Lines-greatest n ls p.1 (omega arith))
 
 -- a plain text that takes at most n columns stays in them
-pub StaysWithin-from : {n : ℕ} {text : List ℕ} → IsPlain text → text_columns text ≤ n → StaysWithin n text
+pub StaysWithin-from : {n : ℕ} {text : List ℕ} → IsAdditive text → text_columns text ≤ n → StaysWithin n text
 StaysWithin-from {n} {text} p h =
     let cs = chars text in
     let lines = Lines-greatest n (lines_of cs) (EachPlain-lines cs p.characters) (subst (λ k. k ≤ n) (text_columns-chars text p.utf8) h) in
@@ -92,15 +92,15 @@ StaysWithin-from {n} {text} p h =
 -- ---- what is cut and wrapped
 
 -- a wrapped plain text stays in its columns
-pub StaysWithin-wrapped : {n : ℕ} {words : Bool} {text answer : List ℕ} → IsPlain text → IsWrapped n words text answer → StaysWithin n answer
+pub StaysWithin-wrapped : {n : ℕ} {words : Bool} {text answer : List ℕ} → IsAdditive text → IsWrapped n words text answer → StaysWithin n answer
 StaysWithin-wrapped {n} {words} {text} {answer} p w = record { utf8 = w.utf8; stays = stays-wrapped n words text answer p.characters w }
 
 -- a cut plain text stays in its columns
-pub StaysWithin-cut : {n : ℕ} {text answer : List ℕ} → IsPlain text → IsCut n text answer → StaysWithin n answer
+pub StaysWithin-cut : {n : ℕ} {text answer : List ℕ} → IsAdditive text → IsCut n text answer → StaysWithin n answer
 StaysWithin-cut {n} {text} {answer} p c = record { utf8 = c.utf8; stays = stays-cut n text answer p.characters c }
 
 -- so does a cut plain text with what follows it, if that does from each column on at which it may begin
-pub StaysWithin-cut_before : {n w : ℕ} {text answer tail : List ℕ} → n ≤ w → IsPlain text → IsCut n text answer → IsUtf8 tail
+pub StaysWithin-cut_before : {n w : ℕ} {text answer tail : List ℕ} → n ≤ w → IsAdditive text → IsCut n text answer → IsUtf8 tail
     → ((k : ℕ) → k ≤ n → stays w k (chars tail) ≡ true) → StaysWithin w (answer ++ tail)
 StaysWithin-cut_before {n} {w} {text} {answer} {tail} le p c u h = record {
   utf8 = IsUtf8-append answer tail c.utf8 u;
@@ -112,7 +112,7 @@ sum-chars [] = refl
 sum-chars (l ∷ ls) = omega (arith, sum-chars ls, sum_by-cons line_columns l ls, sum_by-cons columns_of (chars l) (map chars ls))
 
 -- a plain text stays from a column on if there is room for the columns of all its lines
-pub stays-suffix : (w k : ℕ) (suffix : List ℕ) → IsPlain suffix → k + sum_by line_columns (lines_of suffix) ≤ w → stays w k (chars suffix) ≡ true
+pub stays-suffix : (w k : ℕ) (suffix : List ℕ) → IsAdditive suffix → k + sum_by line_columns (lines_of suffix) ≤ w → stays w k (chars suffix) ≡ true
 stays-suffix w k suffix p h =
     let cs = chars suffix in
     let e : sum_by line_columns (lines_of suffix) ≡ sum_by columns_of (lines_of cs) = sum-chars (lines_of suffix) ∙ ap
@@ -120,7 +120,7 @@ stays-suffix w k suffix p h =
     subst (λ t. stays w k t ≡ true) (append-nil cs) (stays-whole w k cs [] p.characters (omega arith) (stays-nothing w))
 
 -- a cut plain text and a suffix for which there is room
-pub StaysWithin-suffix : {n w : ℕ} {text answer suffix : List ℕ} → IsPlain text → IsPlain suffix
+pub StaysWithin-suffix : {n w : ℕ} {text answer suffix : List ℕ} → IsAdditive text → IsAdditive suffix
     → n + sum_by line_columns (lines_of suffix) ≤ w → IsCut n text answer → StaysWithin w (answer ++ suffix)
 StaysWithin-suffix {n} {w} {suffix = suffix} p q h c = StaysWithin-cut_before (omega arith) p c q.utf8
     (λ k le. stays-suffix w k suffix q (omega arith))
@@ -131,17 +131,17 @@ stays-feed : (n used : ℕ) (front back : List ℕ) → stays n used front ≡ t
 stays-feed n used [] back f b = and_from (nat_le used n) (stays n 0 back) f b
 stays-feed n used (c ∷ front) back f b = ⊎_elim
     (λ y.
-    let t = subst (λ b. cond b (nat_le used n && stays n 0 front) (is_plain_character c && stays n (used + char_columns c) front) ≡ true) y f in
+    let t = subst (λ b. cond b (nat_le used n && stays n 0 front) (is_additive c && stays n (used + char_columns c) front) ≡ true) y f in
     let parts = and_parts (nat_le used n) (stays n 0 front) t in
     let rest = front ++ 10 ∷ back in
-    subst (λ b. cond b (nat_le used n && stays n 0 rest) (is_plain_character c && stays n (used + char_columns c) rest) ≡ true) (sym y)
+    subst (λ b. cond b (nat_le used n && stays n 0 rest) (is_additive c && stays n (used + char_columns c) rest) ≡ true) (sym y)
     (and_from (nat_le used n) (stays n 0 rest) parts.0 (stays-feed n 0 front back parts.1 b)))
     (λ no.
-    let t = subst (λ b. cond b (nat_le used n && stays n 0 front) (is_plain_character c && stays n (used + char_columns c) front) ≡ true) no f in
-    let parts = and_parts (is_plain_character c) (stays n (used + char_columns c) front) t in
+    let t = subst (λ b. cond b (nat_le used n && stays n 0 front) (is_additive c && stays n (used + char_columns c) front) ≡ true) no f in
+    let parts = and_parts (is_additive c) (stays n (used + char_columns c) front) t in
     let rest = front ++ 10 ∷ back in
-    subst (λ b. cond b (nat_le used n && stays n 0 rest) (is_plain_character c && stays n (used + char_columns c) rest) ≡ true) (sym no)
-    (and_from (is_plain_character c) (stays n (used + char_columns c) rest) parts.0 (stays-feed n (used + char_columns c) front back parts.1 b)))
+    subst (λ b. cond b (nat_le used n && stays n 0 rest) (is_additive c && stays n (used + char_columns c) rest) ≡ true) (sym no)
+    (and_from (is_additive c) (stays n (used + char_columns c) rest) parts.0 (stays-feed n (used + char_columns c) front back parts.1 b)))
     (cases_Bool (c == 10))
 
 -- texts that stay, one below the other
@@ -168,10 +168,10 @@ scalars-copies : (c k : ℕ) → scalar c ≡ true → scalars (replicate k c) �
 scalars-copies c zero h = refl
 scalars-copies c (suc k) h = and_from (scalar c) (scalars (replicate k c)) h (scalars-copies c k h)
 
-pub StaysWithin-filled : {n : ℕ} (k c : ℕ) → k ≤ n → IsPlainColumn c → StaysWithin n (encode_utf8_all (replicate k c))
+pub StaysWithin-filled : {n : ℕ} (k c : ℕ) → k ≤ n → IsAdditiveColumn c → StaysWithin n (encode_utf8_all (replicate k c))
 StaysWithin-filled {n} k c le p =
     let cs : List ℕ = replicate k c in
-    let own : scalars cs ≡ true = scalars-copies c k (scalar-listed c (and_parts (is_listed c) (has_plain_width c && is_simple c) p.character).0) in
+    let own : scalars cs ≡ true = scalars-copies c k (scalar-listed c (and_parts (is_listed_or_drawn c) (has_plain_width c && is_simple c) p.character).0) in
     let all = copies c k p.character p.columns in
     let wide : sum_by char_columns cs ≡ k = all.1 in
     let line : stays n 0 (cs ++ []) ≡ true = stays-line n 0 cs [] all.0 (le-leb (0 + sum_by char_columns cs) n (omega arith)) in

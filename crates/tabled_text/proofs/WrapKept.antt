@@ -32,7 +32,7 @@ use Rattle.std.proofs.lemmas.List.Sums.{sum_by-append, sum_by-cons}
 use Rattle.std.proofs.lemmas.List.Splits.{join_with_byte-slice_split}
 use Rattle.std.proofs.lemmas.Str.{encodes-chars}
 use Rattle.tabled_text.specs.Measure.{lines_of, columns_of, char_columns, greatest, text_columns}
-use Rattle.tabled_text.specs.Plain.{is_plain_character, IsPlain}
+use Rattle.tabled_text.specs.Plain.{is_additive, IsAdditive}
 use Rattle.tabled_text.specs.Units.{TextUnit, units, text_of, width_of}
 use Rattle.tabled_text.specs.Wrapping.{Fits, text_from, text_of_groups, IsFullest, IsFullestText, IsWrapped}
 use Rattle.tabled_text.specs.Walk.{put_all}
@@ -56,7 +56,7 @@ width-good (u ∷ us) h =
     omega (arith, h.0.1, width-good us h.1, sum_by-cons (λ (v : TextUnit). v.width) u us, sum_by-append char_columns u.text (text_of us))
 
 -- a line that finds room is one group
-line_kept : (n : ℕ) (words : Bool) (line : List ℕ) → list_all is_plain_character line ≡ true → columns_of line ≤ n
+line_kept : (n : ℕ) (words : Bool) (line : List ℕ) → list_all is_additive line ≡ true → columns_of line ≤ n
     → put_all n 0 (units n words line) ≡ line
 line_kept n words line plain room =
     let us : List TextUnit = units n words line in
@@ -81,7 +81,7 @@ lines_kept n words pos (l ∷ ls) (g ∷ gs) p h f =
     ap (λ t. t ∷ map (text_of_groups n) gs) (text_is n pos (units n words l) g f.0 ∙ line_kept n words l p.0 (omega arith))
     ∙ ap (λ ts. l ∷ ts) (lines_kept n words pos ls gs p.1 (omega arith) f.1)
 
-pub wrap_kept : (n : ℕ) (words : Bool) (text answer : List ℕ) → 0 < n → IsPlain text → text_columns text ≤ n
+pub wrap_kept : (n : ℕ) (words : Bool) (text answer : List ℕ) → 0 < n → IsAdditive text → text_columns text ≤ n
     → IsWrapped n words text answer → answer ≡ text
 wrap_kept n words text answer pos p room w =
     let cs : List ℕ = chars text in

@@ -41,8 +41,8 @@ use Rattle.std.proofs.lemmas.Bool.{and_parts, and_from, leb-true, le-leb, eqb-tr
 use Rattle.std.proofs.lemmas.Bool.Decides.{nat_tests}
 use Rattle.unicode_width.proofs.Computing.{unicode_width}
 use Rattle.tabled_text.specs.Measure.{lines_of, columns_of, char_columns, greatest, char_count}
-use Rattle.tabled_text.specs.Plain.{is_listed, has_plain_width, is_plain_character, is_plain_or_feed}
-use Rattle.tabled_text.specs.Room.{is_plain_text}
+use Rattle.tabled_text.specs.Plain.{is_listed_or_drawn, has_plain_width, is_additive, is_additive_or_feed, IsPlainColumn}
+use Rattle.tabled_text.specs.Room.{is_additive_text}
 use Rattle.tabled_text.specs.Units.{TextUnit, unit_of_char, space, units_of_word, words_of, units_of_words, units}
 use Rattle.tabled_text.specs.Wrapping.{needed, shown, text_of_groups, text_of_lines, IsFullest, IsFullestText, IsWrapped}
 use Rattle.tabled_text.specs.Walk.{put_text, put_used, put_all}
@@ -53,32 +53,36 @@ use Rattle.tabled_text.proofs.PlainLemmas.{columns_of-plain, char_count-plain}
 use Rattle.tabled_text.proofs.Filling.{text_is, put_text-fits, put_text-breaks}
 
 -- ---- single characters
-pub plain_replacement : (is_plain_character 0xFFFD ≡ true) × (char_columns 0xFFFD ≡ 1)
+pub plain_replacement : (is_additive 0xFFFD ≡ true) × (char_columns 0xFFFD ≡ 1)
 unfolding unicode_width
 plain_replacement = (refl, refl)
 
-pub plain_space : (is_plain_character 32 ≡ true) × (char_columns 32 ≡ 1)
+pub only_plain_replacement : IsPlainColumn 0xFFFD
+unfolding unicode_width
+only_plain_replacement = record { character = refl; columns = refl }
+
+pub plain_space : (is_additive 32 ≡ true) × (char_columns 32 ≡ 1)
 unfolding unicode_width
 plain_space = (refl, refl)
 
-pub not_break : (c : ℕ) → is_plain_character c ≡ true → (c == 10) ≡ false
+pub not_break : (c : ℕ) → is_additive c ≡ true → (c == 10) ≡ false
 not_break c h = ⊎_elim
-    (λ y. let z : is_plain_character 10 ≡ true = subst (λ k. is_plain_character k ≡ true) (eqb-true c 10 y) h in
+    (λ y. let z : is_additive 10 ≡ true = subst (λ k. is_additive k ≡ true) (eqb-true c 10 y) h in
     absurd (let w : false ≡ true = z in cc))
     (λ n. n) (cases_Bool (c == 10))
 
 -- ---- what stays in n columns
-stays-char : (n used c : ℕ) (rest : List ℕ) → is_plain_character c ≡ true → stays n (used + char_columns c) rest
+stays-char : (n used c : ℕ) (rest : List ℕ) → is_additive c ≡ true → stays n (used + char_columns c) rest
     ≡ true → stays n used (c ∷ rest) ≡ true
 stays-char n used c rest h s =
-    subst (λ b. cond b (nat_le used n && stays n 0 rest) (is_plain_character c && stays n (used + char_columns c) rest) ≡ true) (sym (not_break c h))
-    (and_from (is_plain_character c) (stays n (used + char_columns c) rest) h s)
+    subst (λ b. cond b (nat_le used n && stays n 0 rest) (is_additive c && stays n (used + char_columns c) rest) ≡ true) (sym (not_break c h))
+    (and_from (is_additive c) (stays n (used + char_columns c) rest) h s)
 
-pub stays-line : (n used : ℕ) (xs rest : List ℕ) → list_all is_plain_character xs ≡ true
+pub stays-line : (n used : ℕ) (xs rest : List ℕ) → list_all is_additive xs ≡ true
     → stays n (used + sum_by char_columns xs) rest ≡ true → stays n used (xs ++ rest) ≡ true
 stays-line n used [] rest h s = subst (λ k. stays n k rest ≡ true) (let e : used + 0 ≡ used = omega arith in e) s
 stays-line n used (c ∷ xs) rest h s =
-    let parts = and_parts (is_plain_character c) (list_all is_plain_character xs) h in
+    let parts = and_parts (is_additive c) (list_all is_additive xs) h in
     stays-char n used c (xs ++ rest) parts.0 (stays-line n (used + char_columns c) xs rest parts.1
     (subst (λ k. stays n k rest ≡ true) (let e : used + sum_by char_columns (c ∷ xs)
     ≡ used + char_columns c + sum_by char_columns xs = omega (arith, sum_by-cons char_columns c xs) in e) s))
@@ -86,12 +90,12 @@ stays-line n used (c ∷ xs) rest h s =
 pub stays-break : (n used : ℕ) (rest : List ℕ) → used ≤ n → stays n 0 rest ≡ true → stays n used (10 ∷ rest) ≡ true
 stays-break n used rest h s = and_from (nat_le used n) (stays n 0 rest) (le-leb used n h) s
 
-pub replacements : (k : ℕ) → (list_all is_plain_character (replicate k 0xFFFD) ≡ true) × (sum_by char_columns (replicate k 0xFFFD) ≡ k)
+pub replacements : (k : ℕ) → (list_all is_additive (replicate k 0xFFFD) ≡ true) × (sum_by char_columns (replicate k 0xFFFD) ≡ k)
 replacements zero = (refl, refl)
 replacements (suc k) =
     let r = replacements k in
     let p = plain_replacement in (
-      and_from (is_plain_character 0xFFFD) (list_all is_plain_character (replicate k 0xFFFD)) p.0 r.0,
+      and_from (is_additive 0xFFFD) (list_all is_additive (replicate k 0xFFFD)) p.0 r.0,
       sum_by-cons char_columns 0xFFFD (replicate k 0xFFFD) ∙ (let a = p.1 in let b = r.1 in
           let e : char_columns 0xFFFD + sum_by char_columns (replicate k 0xFFFD) ≡ suc k = omega arith in e),
     )
@@ -99,13 +103,13 @@ replacements (suc k) =
 -- its lines, with what the first one has already
 abbrev pub Lines : ℕ → ℕ → List (List ℕ) → Type 0
 Lines n used [] = ⊤
-Lines n used (l ∷ ls) = (list_all is_plain_character l ≡ true) × (used + sum_by char_columns l ≤ n) × Lines n 0 ls
+Lines n used (l ∷ ls) = (list_all is_additive l ≡ true) × (used + sum_by char_columns l ≤ n) × Lines n 0 ls
 
-Lines-onto : (n used c : ℕ) (ls : List (List ℕ)) → is_plain_character c ≡ true → Lines n (used + char_columns c) ls
+Lines-onto : (n used c : ℕ) (ls : List (List ℕ)) → is_additive c ≡ true → Lines n (used + char_columns c) ls
     → used + char_columns c ≤ n → Lines n used (onto_first c ls)
-Lines-onto n used c [] h l le = (and_from (is_plain_character c) true h refl, omega (arith, sum_by-cons char_columns c []), tt)
+Lines-onto n used c [] h l le = (and_from (is_additive c) true h refl, omega (arith, sum_by-cons char_columns c []), tt)
 Lines-onto n used c (x ∷ ls) h l le = (
-  and_from (is_plain_character c) (list_all is_plain_character x) h
+  and_from (is_additive c) (list_all is_additive x) h
       l.0,
   (let a = l.1 in omega (arith, sum_by-cons char_columns c x)),
   l.2,
@@ -114,21 +118,21 @@ Lines-onto n used c (x ∷ ls) h l le = (
 stays-le : (n used : ℕ) (cs : List ℕ) → stays n used cs ≡ true → used ≤ n
 stays-le n used [] h = leb-true used n h
 stays-le n used (c ∷ cs) h = ⊎_elim
-    (λ y. let t = subst (λ b. cond b (nat_le used n && stays n 0 cs) (is_plain_character c && stays n (used + char_columns c) cs) ≡ true) y h in
+    (λ y. let t = subst (λ b. cond b (nat_le used n && stays n 0 cs) (is_additive c && stays n (used + char_columns c) cs) ≡ true) y h in
     leb-true used n (and_parts (nat_le used n) (stays n 0 cs) t).0)
-    (λ no. let t = subst (λ b. cond b (nat_le used n && stays n 0 cs) (is_plain_character c && stays n (used + char_columns c) cs) ≡ true) no h in
-    let r = stays-le n (used + char_columns c) cs (and_parts (is_plain_character c) (stays n (used + char_columns c) cs) t).1 in omega arith)
+    (λ no. let t = subst (λ b. cond b (nat_le used n && stays n 0 cs) (is_additive c && stays n (used + char_columns c) cs) ≡ true) no h in
+    let r = stays-le n (used + char_columns c) cs (and_parts (is_additive c) (stays n (used + char_columns c) cs) t).1 in omega arith)
     (cases_Bool (c == 10))
 
 Lines-stays : (n used : ℕ) (cs : List ℕ) → stays n used cs ≡ true → Lines n used (lines_of cs)
 Lines-stays n used [] h = (refl, (let l = leb-true used n h in omega arith), tt)
 Lines-stays n used (c ∷ cs) h = ⊎_elim
-    (λ y. let t = subst (λ b. cond b (nat_le used n && stays n 0 cs) (is_plain_character c && stays n (used + char_columns c) cs) ≡ true) y h in
+    (λ y. let t = subst (λ b. cond b (nat_le used n && stays n 0 cs) (is_additive c && stays n (used + char_columns c) cs) ≡ true) y h in
     let parts = and_parts (nat_le used n) (stays n 0 cs) t in
     let own : Lines n used ([] ∷ lines_of cs) = (refl, (let l = leb-true used n parts.0 in omega arith), Lines-stays n 0 cs parts.1) in
     subst (λ b. Lines n used (cond b ([] ∷ lines_of cs) (onto_first c (lines_of cs)))) (sym y) own)
-    (λ no. let t = subst (λ b. cond b (nat_le used n && stays n 0 cs) (is_plain_character c && stays n (used + char_columns c) cs) ≡ true) no h in
-    let parts = and_parts (is_plain_character c) (stays n (used + char_columns c) cs) t in
+    (λ no. let t = subst (λ b. cond b (nat_le used n && stays n 0 cs) (is_additive c && stays n (used + char_columns c) cs) ≡ true) no h in
+    let parts = and_parts (is_additive c) (stays n (used + char_columns c) cs) t in
     let own = Lines-onto n used c (lines_of cs) parts.0 (Lines-stays n (used + char_columns c) cs parts.1)
     (stays-le n (used + char_columns c) cs parts.1) in
     subst (λ b. Lines n used (cond b ([] ∷ lines_of cs) (onto_first c (lines_of cs)))) (sym no) own)
@@ -147,21 +151,21 @@ pub columns-stays : (n : ℕ) (cs : List ℕ) → stays n 0 cs ≡ true → grea
 columns-stays n cs h = Lines-greatest n 0 (lines_of cs) (Lines-stays n 0 cs h)
 
 -- and is plain
-pub is_plain_text-stays : (n used : ℕ) (cs : List ℕ) → stays n used cs ≡ true → is_plain_text cs ≡ true
-is_plain_text-stays n used [] h = refl
-is_plain_text-stays n used (c ∷ cs) h = ⊎_elim
-    (λ y. let t = subst (λ b. cond b (nat_le used n && stays n 0 cs) (is_plain_character c && stays n (used + char_columns c) cs) ≡ true) y h in
+pub is_additive_text-stays : (n used : ℕ) (cs : List ℕ) → stays n used cs ≡ true → is_additive_text cs ≡ true
+is_additive_text-stays n used [] h = refl
+is_additive_text-stays n used (c ∷ cs) h = ⊎_elim
+    (λ y. let t = subst (λ b. cond b (nat_le used n && stays n 0 cs) (is_additive c && stays n (used + char_columns c) cs) ≡ true) y h in
     let parts = and_parts (nat_le used n) (stays n 0 cs) t in
-    subst (λ b. ((b || is_plain_character c) && is_plain_text cs) ≡ true) (sym y) (is_plain_text-stays n 0 cs parts.1))
-    (λ no. let t = subst (λ b. cond b (nat_le used n && stays n 0 cs) (is_plain_character c && stays n (used + char_columns c) cs) ≡ true) no h in
-    let parts = and_parts (is_plain_character c) (stays n (used + char_columns c) cs) t in
-    subst (λ b. ((b || is_plain_character c) && is_plain_text cs) ≡ true) (sym no)
-    (and_from (is_plain_character c) (is_plain_text cs) parts.0 (is_plain_text-stays n (used + char_columns c) cs parts.1)))
+    subst (λ b. ((b || is_additive c) && is_additive_text cs) ≡ true) (sym y) (is_additive_text-stays n 0 cs parts.1))
+    (λ no. let t = subst (λ b. cond b (nat_le used n && stays n 0 cs) (is_additive c && stays n (used + char_columns c) cs) ≡ true) no h in
+    let parts = and_parts (is_additive c) (stays n (used + char_columns c) cs) t in
+    subst (λ b. ((b || is_additive c) && is_additive_text cs) ≡ true) (sym no)
+    (and_from (is_additive c) (is_additive_text cs) parts.0 (is_additive_text-stays n (used + char_columns c) cs parts.1)))
     (cases_Bool (c == 10))
 
 -- ---- units that are plain and as wide as they say
 abbrev pub Good : TextUnit → Type 0
-Good p = (list_all is_plain_character p.text ≡ true) × (p.width ≡ sum_by char_columns p.text)
+Good p = (list_all is_additive p.text ≡ true) × (p.width ≡ sum_by char_columns p.text)
 
 abbrev pub EachGood : List TextUnit → Type 0
 EachGood [] = ⊤
@@ -171,38 +175,38 @@ EachGood-append : (xs ys : List TextUnit) → EachGood xs → EachGood ys → Ea
 EachGood-append [] ys f g = g
 EachGood-append (x ∷ xs) ys f g = (f.0, EachGood-append xs ys f.1 g)
 
-Good-char : (c : ℕ) → is_plain_character c ≡ true → Good (unit_of_char c)
+Good-char : (c : ℕ) → is_additive c ≡ true → Good (unit_of_char c)
 Good-char c h =
-    let own = and_parts (has_plain_width c) _ (and_parts (is_listed c) _ h).1 in
+    let own = and_parts (has_plain_width c) _ (and_parts (is_listed_or_drawn c) _ h).1 in
     let e : char_count c ≡ char_columns c = char_count-plain (char_columns c) own.0 in (
-      and_from (is_plain_character c) true h refl,
+      and_from (is_additive c) true h refl,
       e ∙
           (let z : char_columns c ≡ sum_by char_columns (c ∷ []) = omega (arith, sum_by-cons char_columns c []) in z),
     )
 
-EachGood-chars : (cs : List ℕ) → list_all is_plain_character cs ≡ true → EachGood (map unit_of_char cs)
+EachGood-chars : (cs : List ℕ) → list_all is_additive cs ≡ true → EachGood (map unit_of_char cs)
 EachGood-chars [] h = tt
-EachGood-chars (c ∷ cs) h = let parts = and_parts (is_plain_character c) (list_all is_plain_character cs) h in
+EachGood-chars (c ∷ cs) h = let parts = and_parts (is_additive c) (list_all is_additive cs) h in
     (Good-char c parts.0, EachGood-chars cs parts.1)
 
 EachGood-cond : (b : Bool) (xs ys : List TextUnit) → EachGood xs → EachGood ys → EachGood (cond b xs ys)
 EachGood-cond true xs ys f g = f
 EachGood-cond false xs ys f g = g
 
-EachGood-word : (n : ℕ) (word : List ℕ) → list_all is_plain_character word ≡ true → EachGood (units_of_word n word)
+EachGood-word : (n : ℕ) (word : List ℕ) → list_all is_additive word ≡ true → EachGood (units_of_word n word)
 EachGood-word n [] h = tt
 EachGood-word n (c ∷ cs) h =
     EachGood-cond (nat_le (columns_of (c ∷ cs)) n) (record { text = c ∷ cs; width = columns_of (c ∷ cs) } ∷ []) (map unit_of_char (c ∷ cs))
     ((h, columns_of-plain (c ∷ cs) h), tt) (EachGood-chars (c ∷ cs) h)
 
 Good-space : Good space
-Good-space = let p = plain_space in (and_from (is_plain_character 32) true p.0 refl, (let e = p.1 in omega (arith, sum_by-cons char_columns 32 [])))
+Good-space = let p = plain_space in (and_from (is_additive 32) true p.0 refl, (let e = p.1 in omega (arith, sum_by-cons char_columns 32 [])))
 
 abbrev pub EachPlain : List (List ℕ) → Type 0
-EachPlain ls = Each is_plain_character ls
+EachPlain ls = Each is_additive ls
 
-pub EachPlain-lines : (cs : List ℕ) → is_plain_text cs ≡ true → EachPlain (lines_of cs)
-EachPlain-lines cs h = Each-lines is_plain_character is_plain_or_feed (λ c a b. subst (λ x. (x || is_plain_character c) ≡ true) b a) cs h
+pub EachPlain-lines : (cs : List ℕ) → is_additive_text cs ≡ true → EachPlain (lines_of cs)
+EachPlain-lines cs h = Each-lines is_additive is_additive_or_feed (λ c a b. subst (λ x. (x || is_additive c) ≡ true) b a) cs h
 
 EachGood-words : (n : ℕ) (words : List (List ℕ)) → EachPlain words → EachGood (units_of_words n words)
 EachGood-words n [] h = tt
@@ -211,9 +215,9 @@ EachGood-words n (w ∷ x ∷ ws) h =
     let more : EachGood (space ∷ units_of_words n (x ∷ ws)) = (Good-space, EachGood-words n (x ∷ ws) h.1) in
     EachGood-append (units_of_word n w) (space ∷ units_of_words n (x ∷ ws)) (EachGood-word n w h.0) more
 
-pub EachGood-units : (n : ℕ) (words : Bool) (line : List ℕ) → list_all is_plain_character line ≡ true → EachGood (units n words line)
+pub EachGood-units : (n : ℕ) (words : Bool) (line : List ℕ) → list_all is_additive line ≡ true → EachGood (units n words line)
 EachGood-units n false line h = EachGood-chars line h
-EachGood-units n true line h = EachGood-words n (words_of line) (Each-split (λ c. c == 32) is_plain_character is_plain_character (λ c a b. a) line h)
+EachGood-units n true line h = EachGood-words n (words_of line) (Each-split (λ c. c == 32) is_additive is_additive (λ c a b. a) line h)
 
 -- ---- a unit that is shown stays in the line
 shown-wide : (n used : ℕ) (p : TextUnit) (rest : List ℕ) → Good p → used + needed n p ≤ n
@@ -274,7 +278,7 @@ pub stays-nothing : (n k : ℕ) → k ≤ n → stays n k [] ≡ true
 stays-nothing n k h = le-leb k n h
 
 stays-broken : (n : ℕ) (words : Bool) → 0 < n → (line : List ℕ) (groups : List (List TextUnit)) (rest : List ℕ)
-    → list_all is_plain_character line ≡ true → IsFullest n (units n words line) groups
+    → list_all is_additive line ≡ true → IsFullest n (units n words line) groups
     → ((k : ℕ) → k ≤ n → stays n k rest ≡ true) → stays n 0 (text_of_groups n groups ++ rest) ≡ true
 stays-broken n words pos line groups rest plain f h =
     let all = stays-put_all n 0 (units n words line) rest pos (EachGood-units n words line plain) h in
@@ -295,7 +299,7 @@ stays-lines n words pos (l ∷ m ∷ ls) (g ∷ h ∷ gs) p f =
     stays-broken n words pos l g (10 ∷ text_of_lines n (h ∷ gs)) p.0 f.0 (λ k le. stays-break n k (text_of_lines n (h ∷ gs)) le rest)
 
 -- a wrapped plain text stays in n columns, whatever its characters' widths
-pub stays-wrapped : (n : ℕ) (words : Bool) (text answer : List ℕ) → is_plain_text (chars text) ≡ true
+pub stays-wrapped : (n : ℕ) (words : Bool) (text answer : List ℕ) → is_additive_text (chars text) ≡ true
     → IsWrapped n words text answer → stays n 0 (chars answer) ≡ true
 stays-wrapped n words text answer plain w = ⊎_elim
     (λ y.

@@ -29,11 +29,13 @@ use Rattle.std.proofs.Common.{
   replicate,
   ◌==◌,
   MatchBool,
+  ◌⊎◌,
+  ⊎_elim,
 }
 use Rattle.std.specs.Str.{IsUtf8, chars}
 use Rattle.std.proofs.lemmas.List.{append_assoc, append-nil, nil_from_length, replicate_more}
 use Rattle.std.proofs.lemmas.Str.{encodes-append, encodes-chars, encode_ascii, chars-nil, chars_from_encodes, IsUtf8-nil}
-use Rattle.std.proofs.lemmas.Bool.{le-leb, lt-leb, eqb-true, eqb-false, eq-eqb, ne_eqb}
+use Rattle.std.proofs.lemmas.Bool.{le-leb, lt-leb, eqb-true, eqb-false, eq-eqb, ne_eqb, cases_Bool}
 use Rattle.tabled_text.specs.Units.{TextUnit, unit_of_char, units_of_word, units_of_words, space, words_of, units}
 use Rattle.tabled_text.specs.Wrapping.{IsFullest, IsFullestText, IsWrapped, text_of_groups, text_of_lines}
 use Rattle.std.specs.List.{slice_split, onto_first, AllZip}
@@ -173,6 +175,24 @@ IsWrapped-none n words text out z e = record {
   utf8 = subst IsUtf8 (sym e) IsUtf8-nil;
   wrapped = subst (λ b. MatchBool b (out ≡ []) (IsFullestText n words (chars text) (chars out))) (sym (eq-eqb n 0 z)) e;
 }
+
+-- nothing is written of the empty text
+pending-empty : (n : ℕ) (words : Bool) → pending n words false ([] ∷ []) ≡ []
+pending-empty n true = refl
+pending-empty n false = refl
+
+IsWrapped-empty : (n : ℕ) (words : Bool) (text out : List ℕ) → (n ≡ 0 → ⊥) → text ≡ [] → out ≡ [] → IsWrapped n words text out
+IsWrapped-empty n words text out pos t e =
+    let same : chars text ≡ [] = ap chars t ∙ chars-nil in
+    let written : encode_utf8_all (pending n words false (lines_of (chars text))) ≡ [] =
+        ap (λ cs. encode_utf8_all (pending n words false (lines_of cs))) same ∙ ap encode_utf8_all (pending-empty n words) in
+    IsWrapped-written n words text out pos (subst IsUtf8 (sym e) IsUtf8-nil) (e ∙ sym written)
+
+-- nor for no columns
+pub IsWrapped-nothing : (n : ℕ) (words : Bool) (text out : List ℕ) → (n ≡ 0) ⊎ (text ≡ []) → out ≡ [] → IsWrapped n words text out
+IsWrapped-nothing n words text out none e = ⊎_elim (λ z. IsWrapped-none n words text out z e)
+    (λ t. ⊎_elim (λ z. IsWrapped-none n words text out (eqb-true n 0 z) e)
+    (λ pos. IsWrapped-empty n words text out (eqb-false n 0 pos) t e) (cases_Bool (n == 0))) none
 
 -- ---- the same as equations of texts, for any sink
 pub encodes-word : (n used width : ℕ) (word : List ℕ) → width ≤ n → IsUtf8 word → begin_text n used width ++ word

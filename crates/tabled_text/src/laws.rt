@@ -8,48 +8,55 @@ ghost use Rattle.tabled_text.specs.Cut.{IsCut};
 ghost use Rattle.tabled_text.specs.Longest.{IsLongestCut};
 ghost use Rattle.tabled_text.specs.Measure.{char_columns, count_of, greatest, line_columns, lines_of, text_columns};
 ghost use Rattle.tabled_text.specs.OldText.{HasOldText, finds_room};
-ghost use Rattle.tabled_text.specs.Plain.{is_listed, has_plain_width, is_plain_character, IsPlain, IsPlainColumn, IsPlainLine};
+ghost use Rattle.tabled_text.specs.Plain.{is_listed, is_drawn, has_plain_width, is_plain_character, IsPlain, IsPlainColumn};
+ghost use Rattle.tabled_text.specs.Plain.{is_additive, IsAdditive, IsAdditiveColumn, IsAdditiveLine};
 ghost use Rattle.tabled_text.specs.Room.{stays, StaysWithin};
 ghost use Rattle.tabled_text.specs.Units.{TextUnit, text_of, units};
 ghost use Rattle.tabled_text.specs.Wrapping.{IsWrapped};
 
 use crate::measure::line_width;
 
-/// A line of plain characters takes as many columns as its characters do, each by itself.
+/// A line of additive characters, as plain ones are, takes as many columns as its characters do, each by itself.
 pub fn plain_line_width(line: &str) -> usize
-    requires { IsTrue (list_all is_plain_character (chars line.now)) }
+    requires { IsTrue (list_all is_additive (chars line.now)) }
     ensures { result ≡ sum_by char_columns (chars line.now) }
 {
     line_width(line)
 }
 
-/// Listed characters of one or two columns are plain, and printable ASCII takes one column.
+/// Listed characters of one or two columns are plain, as U+FFFD and printable ASCII are, which take one column. Plain
+/// characters and texts are additive, and so are drawn characters of one or two columns.
 pub fn plain_characters()
     ensures listed { (c : ℕ) → is_listed c ≡ true → has_plain_width c ≡ true → is_plain_character c ≡ true }
     ensures printable { (c : ℕ) → is_in_range 0x20 0x7E c ≡ true → IsPlainColumn c }
-{}
-
-/// Plain lines are made of plain pieces, and the columns of the pieces add up.
-pub fn plain_lines()
-    ensures one { (c : ℕ) → IsPlainColumn c → IsPlainLine (encode_utf8 c) 1 }
-    ensures joined { (front back : List ℕ) (m n : ℕ) → IsPlainLine front m → IsPlainLine back n → IsPlainLine (front ++ back) (m + n) }
-    ensures each { (text : List ℕ) → IsPlain text → (k : ℕ) → k < length (lines_of text)
-        → IsPlainLine (slice_index_or (lines_of text) k []) (line_columns (slice_index_or (lines_of text) k [])) }
-{}
-
-/// What a plain line takes, as a law of lists: its characters' columns add up, and its count is as great.
-pub fn plain_columns()
-    ensures sum { (line : List ℕ) → list_all is_plain_character (chars line) ≡ true
-        → line_columns line ≡ sum_by char_columns (chars line) }
-    ensures count { (line : List ℕ) → list_all is_plain_character (chars line) ≡ true
-        → line_columns line ≡ count_of (chars line) }
     ensures replacement { IsPlainColumn 0xFFFD }
+    ensures drawn { (c : ℕ) → is_drawn c ≡ true → has_plain_width c ≡ true → is_additive c ≡ true }
+    ensures additive { (c : ℕ) → is_plain_character c ≡ true → is_additive c ≡ true }
+    ensures columns { (c : ℕ) → IsPlainColumn c → IsAdditiveColumn c }
+    ensures texts { (text : List ℕ) → IsPlain text → IsAdditive text }
+{}
+
+/// Additive lines, as plain ones are, are made of additive pieces, and the columns of the pieces add up.
+pub fn plain_lines()
+    ensures one { (c : ℕ) → IsAdditiveColumn c → IsAdditiveLine (encode_utf8 c) 1 }
+    ensures joined { (front back : List ℕ) (m n : ℕ) → IsAdditiveLine front m → IsAdditiveLine back n → IsAdditiveLine (front ++ back) (m + n) }
+    ensures each { (text : List ℕ) → IsAdditive text → (k : ℕ) → k < length (lines_of text)
+        → IsAdditiveLine (slice_index_or (lines_of text) k []) (line_columns (slice_index_or (lines_of text) k [])) }
+{}
+
+/// What an additive line takes, as a law of lists: its characters' columns add up, and its count is as great.
+pub fn plain_columns()
+    ensures sum { (line : List ℕ) → list_all is_additive (chars line) ≡ true
+        → line_columns line ≡ sum_by char_columns (chars line) }
+    ensures count { (line : List ℕ) → list_all is_additive (chars line) ≡ true
+        → line_columns line ≡ count_of (chars line) }
+    ensures replacement { IsAdditiveColumn 0xFFFD }
 {}
 
 /// Bounds by the bytes of a text, which keep sums in range.
 pub fn text_bounds()
     ensures lines { (text : List ℕ) → length (lines_of text) ≤ length text + 1 }
-    ensures columns { (text : List ℕ) → IsPlain text → text_columns text ≤ 2 * length text }
+    ensures columns { (text : List ℕ) → IsAdditive text → text_columns text ≤ 2 * length text }
 {}
 
 /// A line feed between two texts ends a line, so the lines of both stand one after another, and the wider
@@ -66,29 +73,29 @@ pub fn joined_lines()
         → text_columns (join_with_byte 10 texts) ≡ greatest (map text_columns texts) }
 {}
 
-/// Plain texts of which no line passes n columns: what is joined of them, no text, and copies of a character.
+/// Additive texts of which no line passes n columns: what is joined of them, no text, and copies of a character.
 pub fn texts_that_stay()
-    ensures plain { (n : ℕ) (text : List ℕ) → StaysWithin n text → IsPlain text × (text_columns text ≤ n) }
-    ensures from { (n : ℕ) (text : List ℕ) → IsPlain text → text_columns text ≤ n → StaysWithin n text }
+    ensures additive { (n : ℕ) (text : List ℕ) → StaysWithin n text → IsAdditive text × (text_columns text ≤ n) }
+    ensures from { (n : ℕ) (text : List ℕ) → IsAdditive text → text_columns text ≤ n → StaysWithin n text }
     ensures joined { (n : ℕ) (texts : List (List ℕ)) → 0 < length texts → All (StaysWithin n) texts
         → StaysWithin n (join_with_byte 10 texts) }
     ensures none { (n : ℕ) → StaysWithin n [] }
-    ensures filled { (n k c : ℕ) → k ≤ n → IsPlainColumn c → StaysWithin n (encode_utf8_all (replicate k c)) }
+    ensures filled { (n k c : ℕ) → k ≤ n → IsAdditiveColumn c → StaysWithin n (encode_utf8_all (replicate k c)) }
 {}
 
-/// A cut plain text stays in its columns, alone and with what follows it. It has no more lines than the text, and of
-/// a plain line it is the longest beginning that finds room, and the line itself where that does.
+/// A cut additive text stays in its columns, alone and with what follows it. It has no more lines than the text, and of
+/// an additive line it is the longest beginning that finds room, and the line itself where that does.
 pub fn cut_texts()
-    ensures room { (n : ℕ) (text answer : List ℕ) → IsPlain text → IsCut n text answer → StaysWithin n answer }
-    ensures suffix { (n w : ℕ) (text answer suffix : List ℕ) → IsPlain text → IsPlain suffix
+    ensures room { (n : ℕ) (text answer : List ℕ) → IsAdditive text → IsCut n text answer → StaysWithin n answer }
+    ensures suffix { (n w : ℕ) (text answer suffix : List ℕ) → IsAdditive text → IsAdditive suffix
         → n + sum_by line_columns (lines_of suffix) ≤ w → IsCut n text answer → StaysWithin w (answer ++ suffix) }
-    ensures followed { (n w : ℕ) (text answer tail : List ℕ) → n ≤ w → IsPlain text
+    ensures followed { (n w : ℕ) (text answer tail : List ℕ) → n ≤ w → IsAdditive text
         → IsCut n text answer → IsUtf8 tail → ((k : ℕ) → k ≤ n → stays w k (chars tail) ≡ true) → StaysWithin w (answer ++ tail) }
     ensures lines { (n : ℕ) (text answer : List ℕ) → IsUtf8 text → IsCut n text answer
         → length (lines_of answer) ≤ length (lines_of text) }
-    ensures longest { (n : ℕ) (line answer : List ℕ) → list_all is_plain_character (chars line) ≡ true
+    ensures longest { (n : ℕ) (line answer : List ℕ) → list_all is_additive (chars line) ≡ true
         → IsCut n line answer → IsLongestCut n line answer }
-    ensures kept { (n m : ℕ) (line answer : List ℕ) → IsPlainLine line m → m ≤ n → IsCut n line answer
+    ensures kept { (n m : ℕ) (line answer : List ℕ) → IsAdditiveLine line m → m ≤ n → IsCut n line answer
         → answer ≡ line }
 {}
 
@@ -104,11 +111,11 @@ pub fn breakings()
         → EachUnitFits n words text }
 {}
 
-/// A wrapped plain text stays in its columns, whatever its characters take, and is the old text where that does. No
+/// A wrapped additive text stays in its columns, whatever its characters take, and is the old text where that does. No
 /// breaking has fewer lines. Where each unit finds room, a wrapped text is the text of a breaking, and without the
 /// line feeds that were put in the old text.
 pub fn wrapped_texts()
-    ensures room { (n : ℕ) (words : Bool) (text answer : List ℕ) → IsPlain text → IsWrapped n words text answer
+    ensures room { (n : ℕ) (words : Bool) (text answer : List ℕ) → IsAdditive text → IsWrapped n words text answer
         → StaysWithin n answer }
     ensures fewest { (n : ℕ) (words : Bool) (text answer : List ℕ) → IsWrapped n words text answer
         → HasFewestLines n words text answer }
@@ -116,6 +123,6 @@ pub fn wrapped_texts()
         → IsWrapped n words text answer → IsLeastBreaking n words text answer }
     ensures whole { (n : ℕ) (words : Bool) (text answer : List ℕ) → 0 < n → EachUnitFits n words text
         → IsWrapped n words text answer → HasOldText text answer }
-    ensures kept { (n : ℕ) (words : Bool) (text answer : List ℕ) → 0 < n → IsPlain text → text_columns text ≤ n
+    ensures kept { (n : ℕ) (words : Bool) (text answer : List ℕ) → 0 < n → IsAdditive text → text_columns text ≤ n
         → IsWrapped n words text answer → answer ≡ text }
 {}

@@ -1,7 +1,8 @@
-//! Plain characters, whose columns add up.
+//! Plain and additive characters. The columns of additive ones add up.
 ghost use Rattle.std.specs.Prelude.{◌≡◌, ◌↔◌, IsTrue, chars};
 ghost use Rattle.std.specs.List.{list_all};
-ghost use Rattle.tabled_text.specs.Plain.{is_listed, has_plain_width, is_plain_character, is_plain_or_feed, IsPlain, IsPlainColumn};
+ghost use Rattle.tabled_text.specs.Plain.{is_listed, is_drawn, has_plain_width, is_plain_character, is_plain_or_feed, IsPlain, IsPlainColumn};
+ghost use Rattle.tabled_text.specs.Plain.{is_listed_or_drawn, is_additive, is_additive_or_feed, IsAdditive, IsAdditiveColumn};
 
 use unicode_width::UnicodeWidthChar;
 
@@ -10,17 +11,27 @@ fn is_listed(c: char) -> bool
 {
     matches!(
         c,
-        ' '..='~'
-            | 'À'..='ÿ'
-            | 'А'..='я'
-            | '\u{2010}'..='\u{2017}'
+        ' '..='~' | 'À'..='ÿ' | 'А'..='я' | '─'..='╿' | '\u{4E00}'..='\u{9FFF}' | '\u{FFFD}'
+    )
+}
+
+fn is_drawn(c: char) -> bool
+    ensures { result ≡ is_drawn c }
+{
+    matches!(
+        c,
+        '\u{2010}'..='\u{2017}'
             | '\u{201A}'..='\u{201B}'
             | '\u{201E}'..='\u{2027}'
-            | '─'..='▟'
+            | '▀'..='▟'
             | '\u{2800}'..='⣿'
-            | '\u{4E00}'..='\u{9FFF}'
-            | '\u{FFFD}'
     )
+}
+
+fn is_listed_or_drawn(c: char) -> bool
+    ensures { result ≡ is_listed_or_drawn c }
+{
+    is_listed(c) || is_drawn(c)
 }
 
 fn has_plain_width(c: char) -> bool
@@ -37,26 +48,66 @@ fn is_plain_char(c: char) -> bool
     is_listed(c) && has_plain_width(c)
 }
 
+/// Nor do they name one that borders are drawn with.
+fn is_additive_char(c: char) -> bool
+    ensures { result ≡ is_additive c }
+{
+    is_listed_or_drawn(c) && has_plain_width(c)
+}
+
 fn has_plain_chars(text: &str) -> bool
     ensures { result ≡ list_all is_plain_or_feed (chars text.now) }
 {
     text.chars().all(|c| c == '\n' || is_plain_char(c))
 }
 
-/// Whether every character of a text is plain or a line feed. Plain are printable ASCII, the Latin
-/// letters from U+00C0 to U+00FF, the Cyrillic ones from U+0410 to U+044F, dashes, dots and daggers from
-/// U+2010 to U+2027 but the quotes ‘ ’ “ ”, lines and blocks of boxes from U+2500 to U+259F, braille, the
-/// ideographs from U+4E00 to U+9FFF and U+FFFD, as far as they take one or two columns.
+fn has_additive_chars(text: &str) -> bool
+    ensures { result ≡ list_all is_additive_or_feed (chars text.now) }
+{
+    text.chars().all(|c| c == '\n' || is_additive_char(c))
+}
+
+/// Whether every character of a text is plain or a line feed.
+///
+/// These characters are plain, if they take one or two columns:
+///
+/// - printable ASCII;
+/// - the Latin letters and signs from U+00C0 to U+00FF;
+/// - the Cyrillic letters from U+0410 to U+044F;
+/// - the box-drawing lines from U+2500 to U+257F;
+/// - the ideographs from U+4E00 to U+9FFF;
+/// - U+FFFD.
 pub fn is_plain(text: &str) -> bool
     ensures { IsTrue result ↔ IsPlain text.now }
 {
     has_plain_chars(text)
 }
 
-/// Whether a character is plain and takes one column. Borders, fills and margins of such characters are
-/// as wide as they are long.
+/// Whether a character is plain and takes one column.
 pub fn is_plain_column(c: char) -> bool
     ensures { IsTrue result ↔ IsPlainColumn c }
 {
     is_plain_char(c) && c.width() == Some(1)
+}
+
+/// Whether every character of a text is additive or a line feed. A line of additive characters takes
+/// the sum of their columns.
+///
+/// Plain characters are additive, and these too, if they take one or two columns:
+///
+/// - dashes, dots and daggers from U+2010 to U+2027, except for the quotes ‘ ’ “ ”;
+/// - blocks from U+2580 to U+259F;
+/// - braille from U+2800 to U+28FF.
+pub fn is_additive(text: &str) -> bool
+    ensures { IsTrue result ↔ IsAdditive text.now }
+{
+    has_additive_chars(text)
+}
+
+/// Whether a character is additive and takes one column. Borders, fills and margins of such characters
+/// are as wide as they are long.
+pub fn is_additive_column(c: char) -> bool
+    ensures { IsTrue result ↔ IsAdditiveColumn c }
+{
+    is_additive_char(c) && c.width() == Some(1)
 }

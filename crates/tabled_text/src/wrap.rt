@@ -166,17 +166,17 @@ pub(crate) fn put_lines<S: Sink>(
 /// A text in lines of at most n columns, empty for no columns. Each line takes units while they fit. Units are
 /// the characters, each counted by itself (1 at least), or with `words` the spaces, the words of at most n
 /// columns, measured as lines, and the characters of longer words. A character that is wider than n is written
-/// as U+FFFD in the columns that are left, at least one. No other breaking has fewer lines. Refused only where
-/// memory is, and never for no columns.
+/// as U+FFFD in the columns that are left, at least one. No other breaking has fewer lines. Fails only if an
+/// allocation fails. For no columns or an empty text nothing is allocated.
 pub fn wrap_text(alloc: Global, text: &str, n: usize, words: bool) -> Result<String, AllocError>
     ensures wrapped { IfOk result (λ answer. IsWrapped n words text.now (string_bytes answer)) }
     ensures fewest { IfOk result (λ answer. HasFewestLines n words text.now (string_bytes answer)) }
     ensures least { 0 < n → EachUnitFits n words text.now
         → IfOk result (λ answer. IsLeastBreaking n words text.now (string_bytes answer)) }
-    ensures memory { OnErr result (0 < n) }
+    ensures memory { OnErr result ((0 < n) × (0 < length text.now)) }
 {
     let mut out = String::new(alloc);
-    if n == 0 {
+    if n == 0 || text.is_empty() {
         return Ok(out);
     }
     put_lines(&mut out, n, words, text)?;

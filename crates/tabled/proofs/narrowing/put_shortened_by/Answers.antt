@@ -1,7 +1,7 @@
 use Rattle.std.proofs.Common.{◌≡◌, ◌∙◌, ℕ, Bool, List, [], None, ap, inl, refl, sym, subst}
 use Rattle.tabled_config.specs.declared.colored.ColoredConfig.{ColoredConfig}
 use Rattle.tabled_change.specs.CellChanges.{if_wider, truncating}
-use Rattle.tabled_change.specs.PlainEnding.{IsPlainLimit}
+use Rattle.tabled_change.specs.PlainEnding.{IsAdditiveLimit}
 use Rattle.tabled_change.specs.declared.suffix.SuffixLimit.{SuffixLimit}
 use Rattle.tabled_change.specs.declared.suffix.SuffixLimit.TheVariants.{Cut}
 use Rattle.tabled_resize.specs.Priorities.{TakesFrom}
@@ -12,7 +12,7 @@ use Rattle.tabled_size.specs.Stored.{is_stored}
 use Rattle.std.specs.Prelude.{not}
 use Rattle.tabled_grid.specs.Printed.{Prints}
 use Rattle.tabled_size.specs.Sheet.{estimated}
-use Rattle.tabled_text.specs.Plain.{IsPlain}
+use Rattle.tabled_text.specs.Plain.{IsAdditive}
 use Rattle.tabled.specs.Narrowing.{IsFitted}
 use Rattle.tabled.specs.Rendered.{PrintsPlanned}
 use Rattle.tabled.proofs.FittedTables.{passes}
@@ -48,8 +48,8 @@ returns g c =
     let F : g.row.P.Denot → ℕ → List ℕ → SuffixLimit → Bool → Type 0 = λ p n x l m.
     PrintsPlanned (IsFitted g.P.Peaker.shrinks p (if_wider (truncating x l m)) n (estimated cells config)) (TruncatesAsPromised g.P.Peaker.shrinks p x l m n (estimated cells config)) (λ e. ⊥) (estimated cells config)
     (g.S.TextSink.sent c.args.sink.now) c.print_standing.result (g.S.TextSink.sent c.print_standing.new.sink) in
-    let plain : IsPlain w.rule.suffix.now = subst IsPlain (sym is.suffix) no_text_plain in
-    let limit : IsPlainLimit w.rule.limit = subst IsPlainLimit (sym is.limit) tt in
+    let plain : IsAdditive w.rule.suffix.now = subst IsAdditive (sym is.suffix) no_text_plain in
+    let limit : IsAdditiveLimit w.rule.limit = subst IsAdditiveLimit (sym is.limit) tt in
     let whole : F w.priority w.width w.rule.suffix.now w.rule.limit w.rule.multiline =
     truncated g.P.Peaker.shrinks w.priority w.width cells after config none last last c.new-sizes.ensures.widths c.new-sizes.ensures.heights takes c.requires.texts
     (not (is_stored last)) _ c.print_standing.result _ w.rule.suffix.now w.rule.limit w.rule.multiline plain limit

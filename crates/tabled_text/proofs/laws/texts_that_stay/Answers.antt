@@ -1,9 +1,9 @@
-use Rattle.tabled_text.proofs.StayLemmas.{IsPlain-stays, text_columns-stays, StaysWithin-from, StaysWithin-join, StaysWithin-none, StaysWithin-filled}
+use Rattle.tabled_text.proofs.StayLemmas.{IsAdditive-stays, text_columns-stays, StaysWithin-from, StaysWithin-join, StaysWithin-none, StaysWithin-filled}
 use Rattle.tabled_text.proofs.laws.texts_that_stay.Goals as goal
 
 pub returns : goal.returns
 returns g = record {
-  plain = λ n text s. (IsPlain-stays s, text_columns-stays s);
+  additive = λ n text s. (IsAdditive-stays s, text_columns-stays s);
   from = λ n text p h. StaysWithin-from p h;
   joined = λ n texts some h. StaysWithin-join texts some h;
   none = λ n. StaysWithin-none;

@@ -1,16 +1,37 @@
-use Rattle.std.proofs.Common.{◌++◌, ◌∙◌, ap, false, chars, string_bytes, encode_utf8_all}
+use Rattle.std.proofs.Common.{◌++◌, ◌∙◌, ap, false, chars, length, string_bytes, encode_utf8_all, arith, inl, inr}
+use Rattle.std.proofs.lemmas.Bool.{eqb-true}
+use Rattle.std.proofs.lemmas.List.{nil_from_length}
 use Rattle.std.proofs.lemmas.Str.{IsUtf8-string_bytes}
 use Rattle.tabled_text.specs.Measure.{lines_of}
 use Rattle.tabled_text.specs.Walk.{pending}
 use Rattle.tabled_text.specs.Wrapping.{IsWrapped}
 use Rattle.tabled_text.proofs.FewestLines.{fewest-wrapped}
 use Rattle.tabled_text.proofs.OwnBreaking.{least_breaking}
-use Rattle.tabled_text.proofs.WriteLemmas.{IsWrapped-written, IsWrapped-none}
+use Rattle.tabled_text.proofs.WriteLemmas.{IsWrapped-written, IsWrapped-nothing}
 use Rattle.tabled_text.proofs.wrap.wrap_text.Goals as goal
+use Rattle.tabled_text.proofs.wrap.wrap_text.Goals.{then-n-eq0-via-then-n-eq0, then-n-eq0-via-else-n-eq0+then-is_empty}
+
+nothing : (c : goal.Joined-then-n-eq0) → IsWrapped c.args.n c.args.words c.args.text.now (string_bytes c.new-out.result)
+nothing c =
+    IsWrapped-nothing c.args.n c.args.words c.args.text.now (string_bytes c.new-out.result)
+    (elim c.then-n-eq0.branch [
+      | then-n-eq0-via-then-n-eq0 w ↦ inl w.if-n-eq0.true
+      | then-n-eq0-via-else-n-eq0+then-is_empty w ↦
+          inr (nil_from_length c.args.text.now
+          (eqb-true (length c.args.text.now) 0 (grind (arith, w.is_empty.ensures, w.if-is_empty.true))))
+    ])
+    c.new-out.ensures.bytes
 
 pub returns-then-n-eq0-clause-wrapped : goal.returns-then-n-eq0-clause-wrapped
-returns-then-n-eq0-clause-wrapped c = IsWrapped-none c.args.n c.args.words c.args.text.now
-    (string_bytes c.new-out.result) c.if-n-eq0.true c.new-out.ensures.bytes
+returns-then-n-eq0-clause-wrapped c = nothing c
+
+pub returns-then-n-eq0-clause-fewest : goal.returns-then-n-eq0-clause-fewest
+returns-then-n-eq0-clause-fewest c =
+    fewest-wrapped c.args.n c.args.words c.args.text.now (string_bytes c.new-out.result) (nothing c)
+
+pub returns-then-n-eq0-clause-least : goal.returns-then-n-eq0-clause-least
+returns-then-n-eq0-clause-least c = λ pos fits.
+    least_breaking c.args.n c.args.words c.args.text.now (string_bytes c.new-out.result) pos fits (nothing c)
 
 written : (c : goal.In_ok-put_lines) → IsWrapped c.args.n c.args.words c.args.text.now (string_bytes c.put_lines.new.out)
 written c =
