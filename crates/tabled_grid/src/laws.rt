@@ -15,7 +15,7 @@ ghost use Rattle.tabled_grid.specs.PlainSheet.{IsPlainConfig};
 /// exactly the table's total width in columns: for cells of any text where separators stand beside them and between each
 /// two. For additive texts, as plain ones are, it does so also where cells touch, if borders, fills and margins are additive
 /// characters of one column.
-#[tactic(auto, using(crate::proofs::Measuring::additive_cells, crate::proofs::ApartPictures::apart_columns, crate::proofs::Whole::picture_columns, crate::proofs::Whole::picture_lines))]
+#[tactic(auto, using(crate::proofs::ApartPictures::apart_columns, crate::proofs::Whole::picture_columns, crate::proofs::Whole::picture_lines))]
 pub fn pictures()
     ensures texts { (t : Sheet) → IsApartConfig t.config (length t.cells) (columns t.cells)
         → AreTexts t.cells → IsRectangular t.cells → Holds t
