@@ -1,10 +1,10 @@
 -- Cells that are visited line by line, in bands of lines and of places.
-use Rattle.std.proofs.Common.{◌≡◌, ℕ, ◌+◌, ◌<◌, ◌≤◌, ◌==◌, Bool, true, false, ◌&&◌, ◌||◌, List, Option, nat_lt, ap, subst, sym, ◌∙◌, arith}
+use Rattle.std.proofs.Common.{◌≡◌, ℕ, ◌+◌, ◌<◌, ◌≤◌, ◌==◌, Bool, true, false, ◌&&◌, ◌||◌, List, Option, Some, nat_lt, ap, subst, sym, ◌∙◌, arith}
 use Rattle.tabled_base.specs.Cells.{IsInside, cell_at}
 use Rattle.tabled_base.specs.declared.position.Entity.TheVariants.{Cell}
 use Rattle.tabled_entity.specs.Changes.{covers}
-use Rattle.tabled_change.specs.CellChanges.{AreChanged, AreChangedBefore, line_of, place_of, precedes}
-use Rattle.tabled_change.specs.Walking.{AreShortened, IsShortened, is_within, lines_in, on_line, places_in}
+use Rattle.tabled_change.specs.CellChanges.{AreChanged, AreChangedBefore, NeedsMemoryIn, is_taken, line_of, place_of, precedes}
+use Rattle.tabled_change.specs.Walking.{is_within, lines_in, on_line, places_in}
 use Rattle.tabled_change.specs.declared.order.Order.{Order}
 use Rattle.tabled_change.specs.declared.order.Order.TheVariants.{ByColumn, ByRow}
 use Rattle.tabled_change.specs.declared.walk.Band.{Band}
@@ -62,13 +62,13 @@ covered-there covered lines band line x y is from to on = grind arith
 first-free : (covered : Bool) (line x y : ℕ) → x ≡ line → (covered && before line 0 x y) ≡ false
 first-free covered line x y e = grind arith
 
-module _ (order : Order) (band : Band) {taken : ℕ → ℕ → List ℕ → Bool} {change : ℕ → ℕ → List ℕ → List ℕ → Type 0} {old between new : List (List (List ℕ))} where
+module _ (order : Order) (band : Band) {wants : ℕ → ℕ → List ℕ → Type 0} {change : ℕ → ℕ → List ℕ → List ℕ → Type 0} {old between new : List (List (List ℕ))} where
   -- a walk along a line stops at a place of it
   pub stops-there : (line place row column : ℕ) → line_of order row column ≡ line → place_of order row column ≡ place → line < lines_in order old → band.end ≤ places_in order old → band.first ≤ place → place < band.end
       → AreChanged (λ r c. on_line order line band r c && precedes order line place r c) change old between
-      → new ≡ between → taken row column (cell_at between row column) ≡ true
-      → AreChangedBefore order (on_line order line band) taken change old new
-  stops-there line place row column a b in_lines in_places from to h same taken_there =
+      → new ≡ between → wants row column (cell_at between row column)
+      → AreChangedBefore order (on_line order line band) wants change old new
+  stops-there line place row column a b in_lines in_places from to h same needed =
       let below : place < places_in order old = omega (arith, to, in_places) in
       let inside = inside_line order old row column line place a b in_lines below in
       let free = on_line-itself order row column line place band a b in
@@ -78,7 +78,7 @@ module _ (order : Order) (band : Band) {taken : ℕ → ℕ → List ℕ → Boo
         column = column;
         inside = inside;
         stopped = on_line-there line place (line_of order row column) (place_of order row column) band a b from to;
-        takes = subst (λ t. taken row column t ≡ true) (at-other row column h inside free) taken_there;
+        wanting = subst (wants row column) (at-other row column h inside free) needed;
         changed =
             subst (AreChanged chosen change old) (sym same)
             (AreChanged-same h
@@ -90,8 +90,8 @@ module _ (order : Order) (band : Band) {taken : ℕ → ℕ → List ℕ → Boo
   pub stops-later : (covers : ℕ → ℕ → Bool) (lines : Band) (line : ℕ) → ((r c : ℕ) → IsInside old r c → covers r c ≡ (is_within lines (line_of order r c) && is_within band (place_of order r c)))
       → lines.first ≤ line → line < lines.end
       → AreChanged (λ r c. covers r c && precedes order line 0 r c) change old between
-      → AreChangedBefore order (on_line order line band) taken change between new
-      → AreChangedBefore order covers taken change old new
+      → AreChangedBefore order (on_line order line band) wants change between new
+      → AreChangedBefore order covers wants change old new
   stops-later covers lines line is from to h s =
       let row = s.row in
       let column = s.column in
@@ -104,7 +104,7 @@ module _ (order : Order) (band : Band) {taken : ℕ → ℕ → List ℕ → Boo
         column = column;
         inside = inside;
         stopped = covered-there (covers row column) lines band line x y (is row column inside) from to s.stopped;
-        takes = subst (λ t. taken row column t ≡ true) (at-other row column h inside (first-free (covers row column) line x y here)) s.takes;
+        wanting = subst (wants row column) (at-other row column h inside (first-free (covers row column) line x y here)) s.wanting;
         changed =
             AreChanged-both h s.changed
             (λ r c i.
@@ -112,20 +112,10 @@ module _ (order : Order) (band : Band) {taken : ℕ → ℕ → List ℕ → Boo
             (lines-some order (covers r c) lines band line y r c (is r c i) from to));
       }
 
--- ---- cells of which beginnings are left
+-- ---- texts that need memory
 
-module _ (order : Order) (band : Band) {change : ℕ → ℕ → List ℕ → List ℕ → Type 0} {old between : List (List (List ℕ))} (which : Which) (shortens : ℕ → List ℕ → Type 0) (rooms : ℕ → ℕ → Option ℕ) where
-  -- behind other lines a line has only such cells, if only they are walked
-  pub shortened-later : (covers : ℕ → ℕ → Bool) (lines : Band) (line : ℕ) → ((r c : ℕ) → IsInside old r c → covers r c ≡ (is_within lines (line_of order r c) && is_within band (place_of order r c)))
-      → lines.first ≤ line → line < lines.end
-      → AreChanged (λ r c. covers r c && precedes order line 0 r c) change old between
-      → AreShortened covers which shortens rooms old
-      → AreShortened (on_line order line band) which shortens rooms between
-  shortened-later covers lines line is from to h all = λ row column inside on.
-      let x = line_of order row column in
-      let y = place_of order row column in
-      let within = IsInside-before h inside in
-      let here : x ≡ line = on_line-line line x y band on in
-      subst (IsShortened which shortens rooms row column)
-      (sym (at-other row column h within (first-free (covers row column) line x y here)))
-      (all row column within (covered-there (covers row column) lines band line x y (is row column within) from to on))
+-- a text needs memory where it is changed for its room, and not in its place
+pub needs-made : (which : Which) (in_place : ℕ → List ℕ → Type 0) (o : Option ℕ) (room : ℕ) (text : List ℕ) → o ≡ Some room
+    → is_taken which room text ≡ true → (in_place room text → ⊥) → NeedsMemoryIn which in_place o text
+needs-made which in_place o room text e taken apart =
+    subst (λ (p : Option ℕ). NeedsMemoryIn which in_place p text) (sym e) (record { taken = taken; apart = apart })

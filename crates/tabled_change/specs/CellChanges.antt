@@ -46,10 +46,19 @@ abbrev pub in_room : (ℕ → List ℕ → List ℕ → Type 0) → Option ℕ �
 in_room change None before after = after ≡ before
 in_room change (Some room) before after = change room before after
 
--- whether a text is changed for the room that it has, if it has one
-abbrev pub is_taken_in : Which → Option ℕ → List ℕ → Bool
-is_taken_in which None text = false
-is_taken_in which (Some room) text = is_taken which room text
+-- a text can't be changed without memory: it is changed for a room, and not in its place
+pub record NeedsMemory (which : Which) (in_place : ℕ → List ℕ → Type 0) (room : ℕ) (text : List ℕ) : Type 0 where
+  pub taken : is_taken which room text ≡ true
+  pub apart : in_place room text → ⊥
+
+-- so for the room that it has, if it has one
+abbrev pub NeedsMemoryIn : Which → (ℕ → List ℕ → Type 0) → Option ℕ → List ℕ → Type 0
+NeedsMemoryIn which in_place None text = ⊥
+NeedsMemoryIn which in_place (Some room) text = NeedsMemory which in_place room text
+
+-- a rule that changes no text in its place
+abbrev pub never_in_place : ℕ → List ℕ → Type 0
+never_in_place = λ room text. ⊥
 
 -- ---- cells
 
@@ -73,23 +82,23 @@ place_of ByColumn row column = row
 abbrev pub precedes : Order → ℕ → ℕ → ℕ → ℕ → Bool
 precedes order line place row column = nat_lt (line_of order row column) line || (line_of order row column == line && nat_lt (place_of order row column) place)
 
--- where a change stopped: at one of the chosen cells, whose text is one of those that are changed. The chosen cells before it
+-- where a change stopped: at one of the chosen cells, whose text can't be changed without memory. The chosen cells before it
 -- are changed, and it and all others are the old ones
-pub record AreChangedBefore (order : Order) (chosen : ℕ → ℕ → Bool) (taken : ℕ → ℕ → List ℕ → Bool) (change : ℕ → ℕ → List ℕ → List ℕ → Type 0)
+pub record AreChangedBefore (order : Order) (chosen : ℕ → ℕ → Bool) (needs : ℕ → ℕ → List ℕ → Type 0) (change : ℕ → ℕ → List ℕ → List ℕ → Type 0)
     (old new : List (List (List ℕ))) : Type 0 where
   pub row : ℕ
   pub column : ℕ
   pub inside : IsInside old row column
   pub stopped : chosen row column ≡ true
-  pub takes : taken row column (cell_at old row column) ≡ true
+  pub wanting : needs row column (cell_at old row column)
   pub changed : AreChanged (λ r c. chosen r c && precedes order (line_of order row column) (place_of order row column) r c) change old new
 
--- what a refusal leaves: all cells as they were where a number passed the range, or for want of memory those before a
--- refused one changed
-abbrev pub StopsChanging : Order → (ℕ → ℕ → Bool) → (ℕ → ℕ → List ℕ → Bool) → (ℕ → ℕ → List ℕ → List ℕ → Type 0) → TableError
+-- what a failure leaves: with `Range` all cells as they were, and with `Memory` the cells before the one at which it stopped
+-- changed
+abbrev pub StopsChanging : Order → (ℕ → ℕ → Bool) → (ℕ → ℕ → List ℕ → Type 0) → (ℕ → ℕ → List ℕ → List ℕ → Type 0) → TableError
     → List (List (List ℕ)) → List (List (List ℕ)) → Type 0
-StopsChanging order chosen taken change error old new =
-    ((error ≡ Range) × (new ≡ old)) ⊎ ((error ≡ Memory) × AreChangedBefore order chosen taken change old new)
+StopsChanging order chosen needs change error old new =
+    ((error ≡ Range) × (new ≡ old)) ⊎ ((error ≡ Memory) × AreChangedBefore order chosen needs change old new)
 
 -- ---- the cells of an entity, all for one room
 
@@ -97,13 +106,8 @@ StopsChanging order chosen taken change error old new =
 abbrev pub ChangesEntity : (ℕ → List ℕ → List ℕ → Type 0) → ℕ → Entity → List (List (List ℕ)) → List (List (List ℕ)) → Type 0
 ChangesEntity change room entity old new = AreChanged (covers entity) (λ row column. change room) old new
 
--- each of them that a rule is for is one of which a beginning is left in its place
-abbrev pub AreLeftInPlace : Which → (ℕ → List ℕ → Type 0) → ℕ → Entity → List (List (List ℕ)) → Type 0
-AreLeftInPlace which in_place room entity cells =
-    (row column : ℕ) → IsInside cells row column → covers entity row column ≡ true
-    → is_taken which room (cell_at cells row column) ≡ true → in_place room (cell_at cells row column)
-
--- what a refusal leaves where those of them are changed that a rule is for, row by row
-abbrev pub StopsEntity : Which → (ℕ → List ℕ → List ℕ → Type 0) → ℕ → Entity → TableError → List (List (List ℕ)) → List (List (List ℕ)) → Type 0
-StopsEntity which change room entity error old new =
-    StopsChanging ByRow (covers entity) (λ row column. is_taken which room) (λ row column. if_taken which change room) error old new
+-- what a failure leaves where those of them are changed that a rule is for, row by row, some of them in their place
+abbrev pub StopsEntity : Which → (ℕ → List ℕ → Type 0) → (ℕ → List ℕ → List ℕ → Type 0) → ℕ → Entity → TableError → List (List (List ℕ))
+    → List (List (List ℕ)) → Type 0
+StopsEntity which in_place change room entity error old new =
+    StopsChanging ByRow (covers entity) (λ row column. NeedsMemory which in_place room) (λ row column. if_taken which change room) error old new

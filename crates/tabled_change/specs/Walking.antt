@@ -1,7 +1,7 @@
 -- Cells that are visited line by line: rows or columns, in a band of them.
 use Rattle.std.specs.Prelude.{◌≡◌, ℕ, ◌==◌, ◌&&◌, Bool, IfSome, List, Option, length, nat_le, nat_lt, true}
 use Rattle.tabled_base.specs.Cells.{IsInside, cell_at, columns}
-use Rattle.tabled_change.specs.CellChanges.{if_taken, in_room, is_taken, is_taken_in, line_of, place_of}
+use Rattle.tabled_change.specs.CellChanges.{NeedsMemoryIn, if_taken, in_room, is_taken, line_of, place_of}
 use Rattle.tabled_change.specs.declared.order.Order.{Order}
 use Rattle.tabled_change.specs.declared.order.Order.TheVariants.{ByColumn, ByRow}
 use Rattle.tabled_change.specs.declared.walk.Band.{Band}
@@ -28,9 +28,9 @@ on_line order line places row column = line_of order row column == line && is_wi
 abbrev pub leaves : Which → (ℕ → List ℕ → List ℕ → Type 0) → (ℕ → ℕ → Option ℕ) → ℕ → ℕ → List ℕ → List ℕ → Type 0
 leaves which change rooms row column before after = in_room (if_taken which change) (rooms row column) before after
 
--- whether a walk changes a text: that of a cell with a room, if it is one of those that are
-abbrev pub takes : Which → (ℕ → ℕ → Option ℕ) → ℕ → ℕ → List ℕ → Bool
-takes which rooms row column text = is_taken_in which (rooms row column) text
+-- a walk can't change a text without memory: that of a cell with a room
+abbrev pub needs : Which → (ℕ → List ℕ → Type 0) → (ℕ → ℕ → Option ℕ) → ℕ → ℕ → List ℕ → Type 0
+needs which in_place rooms row column text = NeedsMemoryIn which in_place (rooms row column) text
 
 -- a walk leaves a beginning of a text, for which it wants no memory, if it changes it
 abbrev pub IsShortened : Which → (ℕ → List ℕ → Type 0) → (ℕ → ℕ → Option ℕ) → ℕ → ℕ → List ℕ → Type 0

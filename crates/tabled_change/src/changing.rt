@@ -8,7 +8,7 @@ ghost use Rattle.tabled_base.specs.declared.position.Entity.TheVariants.{Cell};
 ghost use Rattle.tabled_entity.specs.Changes.{covers};
 ghost use Rattle.tabled_change.specs.CellChanges.{AreChanged};
 ghost use Rattle.tabled_change.specs.InPlace.{ended_text};
-ghost use Rattle.tabled_change.specs.Walking.{IsShortened, leaves, takes};
+ghost use Rattle.tabled_change.specs.Walking.{IsShortened, leaves, needs};
 
 use crate::rooms::Rooms;
 use crate::which::Which;
@@ -67,8 +67,8 @@ impl<'a, T: TextRule, M: Rooms> Change<'a, T, M> {
         }
     }
 
-    /// Changes a cell that has a room, if its text is one that is changed. The others stay, and all do where
-    /// memory is refused, which is wanted for such a text alone, and only if more than a beginning of it is left.
+    /// Changes a cell that has a room, if its text is one that is changed. The others stay, and all do on an error.
+    /// Fails with `Memory` alone, and only where the text is changed, and more than a beginning of it is left.
     pub(crate) fn change_cell<R: RecordsMut>(
         &self,
         records: &mut R,
@@ -79,10 +79,8 @@ impl<'a, T: TextRule, M: Rooms> Change<'a, T, M> {
             (leaves self.now.which (T.makes self.now.rule.now) (M.room_at self.now.rooms.now))
             (R.cells records.old) (R.cells records.new)) }
         ensures err { OnErr result (R.cells records.new ≡ R.cells records.old) }
-        ensures taken { OnErr result (takes self.now.which (M.room_at self.now.rooms.now) at.row at.column
-            (cell_at (R.cells records.old) at.row at.column) ≡ true) }
-        ensures longer { OnErr result (IsShortened self.now.which (T.shortens self.now.rule.now) (M.room_at self.now.rooms.now)
-            at.row at.column (cell_at (R.cells records.old) at.row at.column) → ⊥) }
+        ensures needed { OnErr result (needs self.now.which (T.shortens self.now.rule.now) (M.room_at self.now.rooms.now)
+            at.row at.column (cell_at (R.cells records.old) at.row at.column)) }
         ensures only { IfErr result (λ e. e ≡ Memory) }
     {
         let Some(room) = self.rooms.room(at) else {

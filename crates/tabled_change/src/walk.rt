@@ -4,7 +4,7 @@ ghost use Rattle.tabled_base.specs.Cells.{IsInside, columns};
 ghost use Rattle.tabled_base.specs.declared.error.TableError.TheVariants.{Memory};
 ghost use Rattle.tabled_entity.specs.Changes.{covers};
 ghost use Rattle.tabled_change.specs.CellChanges.{AreChanged, AreChangedBefore, line_of, place_of};
-ghost use Rattle.tabled_change.specs.Walking.{AreShortened, is_within, leaves, lines_in, on_line, places_in, takes};
+ghost use Rattle.tabled_change.specs.Walking.{AreShortened, is_within, leaves, lines_in, needs, on_line, places_in};
 ghost use Rattle.tabled_change.specs.declared.order.Order.TheVariants.{ByRow};
 
 use crate::changing::{Change, TextRule};
@@ -89,11 +89,9 @@ fn change_line<T: TextRule, M: Rooms, R: RecordsMut>(
         (leaves by.now.which (T.makes by.now.rule.now) (M.room_at by.now.rooms.now))
         (R.cells records.old) (R.cells records.new)) }
     ensures err { OnErr result (AreChangedBefore order (on_line order line band)
-        (takes by.now.which (M.room_at by.now.rooms.now))
+        (needs by.now.which (T.shortens by.now.rule.now) (M.room_at by.now.rooms.now))
         (leaves by.now.which (T.makes by.now.rule.now) (M.room_at by.now.rooms.now))
         (R.cells records.old) (R.cells records.new)) }
-    ensures longer { OnErr result (AreShortened (on_line order line band) by.now.which (T.shortens by.now.rule.now)
-        (M.room_at by.now.rooms.now) (R.cells records.old) → ⊥) }
     ensures only { IfErr result (λ e. e ≡ Memory) }
 {
     'places: for place in band.first..band.end {
@@ -113,11 +111,9 @@ fn walk_cells<T: TextRule, M: Rooms, R: RecordsMut>(
         (leaves by.now.which (T.makes by.now.rule.now) (M.room_at by.now.rooms.now))
         (R.cells records.old) (R.cells records.new)) }
     ensures err { OnErr result (AreChangedBefore order (covers entity)
-        (takes by.now.which (M.room_at by.now.rooms.now))
+        (needs by.now.which (T.shortens by.now.rule.now) (M.room_at by.now.rooms.now))
         (leaves by.now.which (T.makes by.now.rule.now) (M.room_at by.now.rooms.now))
         (R.cells records.old) (R.cells records.new)) }
-    ensures longer { OnErr result (AreShortened (covers entity) by.now.which (T.shortens by.now.rule.now)
-        (M.room_at by.now.rooms.now) (R.cells records.old) → ⊥) }
     ensures only { IfErr result (λ e. e ≡ Memory) }
 {
     let (lines, places) = lines_of_entity(entity, order, records);
@@ -166,8 +162,9 @@ fn are_shortened<T: TextRule, M: Rooms, R: RecordsMut>(
 }
 
 /// Changes the cells of an entity that have a room and whose texts are ones that are changed, in some order. No
-/// other cell is visited. Refused with `Memory` alone, at one of these cells: it and those after it are the old ones.
-/// Where only beginnings of texts are left in their place, none is refused: then cells are changed row by row, as they stand in memory.
+/// other cell is visited. Fails with `Memory` alone, at one of these cells of which more than a beginning is left: it and
+/// those after it are the old ones. Where only beginnings are left, none fails: then cells are changed row by row, as they
+/// stand in memory.
 pub fn change_cells<T: TextRule, M: Rooms, R: RecordsMut>(
     by: &Change<'_, T, M>,
     records: &mut R,
@@ -178,11 +175,9 @@ pub fn change_cells<T: TextRule, M: Rooms, R: RecordsMut>(
         (leaves by.now.which (T.makes by.now.rule.now) (M.room_at by.now.rooms.now))
         (R.cells records.old) (R.cells records.new)) }
     ensures err { OnErr result (AreChangedBefore order (covers entity)
-        (takes by.now.which (M.room_at by.now.rooms.now))
+        (needs by.now.which (T.shortens by.now.rule.now) (M.room_at by.now.rooms.now))
         (leaves by.now.which (T.makes by.now.rule.now) (M.room_at by.now.rooms.now))
         (R.cells records.old) (R.cells records.new)) }
-    ensures longer { OnErr result (AreShortened (covers entity) by.now.which (T.shortens by.now.rule.now)
-        (M.room_at by.now.rooms.now) (R.cells records.old) → ⊥) }
     ensures only { IfErr result (λ e. e ≡ Memory) }
 {
     match order {

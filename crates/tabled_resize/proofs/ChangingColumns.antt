@@ -7,12 +7,12 @@ use Rattle.tabled_base.specs.Cells.{cell_at}
 use Rattle.tabled_config.specs.declared.spanned.SpannedConfig.{SpannedConfig}
 use Rattle.tabled_priority.specs.Permitted.{at}
 use Rattle.tabled_size.specs.Sheet.{Sheet}
-use Rattle.tabled_change.specs.CellChanges.{AreChanged, AreChangedBefore, if_taken, in_room, is_taken, is_taken_in}
+use Rattle.tabled_change.specs.CellChanges.{AreChanged, AreChangedBefore, NeedsMemory, NeedsMemoryIn, if_taken, in_room}
 use Rattle.tabled_change.specs.declared.order.Order.{Order}
 use Rattle.tabled_change.specs.declared.which.Which.{Which}
-use Rattle.tabled_resize.specs.ColumnChanges.{for_width, is_permitted, taken_for_width}
+use Rattle.tabled_resize.specs.ColumnChanges.{for_width, is_permitted, needs_for_width}
 use Rattle.tabled_resize.specs.Minimums.{minimums, side_padding}
-use Rattle.tabled_resize.specs.Narrowed.{for_room, taken_for_room}
+use Rattle.tabled_resize.specs.Narrowed.{for_room, needs_for_room}
 use Rattle.tabled_change.proofs.ChangingCells.{AreChanged-as}
 
 -- the test of a column by a list of minimums that goes as far as the widths
@@ -38,27 +38,28 @@ module _ (change : ℕ → List ℕ → List ℕ → Type 0) (config : SpannedCo
       AreChanged-as h
       (λ r c inside taken made. in_room-if change (is_permitted widths mins c) (at widths c - side_padding config r c) (cell_at old r c) (cell_at new r c) made)
 
--- a text that has a room on a condition, and is taken in it
-taken-if : (which : Which) (b : Bool) (room : ℕ) (text : List ℕ) → is_taken_in which (if b then Some room else None) text ≡ (b && is_taken which room text)
-taken-if which true room text = refl
-taken-if which false room text = refl
+-- a text that has a room on a condition, and can't be changed for it without memory
+needs-if : (which : Which) (in_place : ℕ → List ℕ → Type 0) (b : Bool) (room : ℕ) (text : List ℕ)
+    → NeedsMemoryIn which in_place (if b then Some room else None) text → (b ≡ true) × NeedsMemory which in_place room text
+needs-if which in_place true room text h = (refl, h)
+needs-if which in_place false room text h = absurd h
 
 -- so where the changes stopped
-module _ (which : Which) (makes : ℕ → List ℕ → List ℕ → Type 0) (config : SpannedConfig) (widths mins : List ℕ) where
+module _ (which : Which) (in_place : ℕ → List ℕ → Type 0) (makes : ℕ → List ℕ → List ℕ → Type 0) (config : SpannedConfig) (widths mins : List ℕ) where
   abbrev room_of : ℕ → ℕ → Option ℕ
   room_of row column = if is_permitted widths mins column then Some (at widths column - side_padding config row column) else None
 
   pub widths-before : {order : Order} {chosen : ℕ → ℕ → Bool} {old new : List (List (List ℕ))}
-      → AreChangedBefore order chosen (λ row column. is_taken_in which (room_of row column)) (λ row column. in_room (if_taken which makes) (room_of row column)) old new
-      → AreChangedBefore order chosen (taken_for_width which config widths mins) (for_width (if_taken which makes) config widths mins) old new
+      → AreChangedBefore order chosen (λ row column. NeedsMemoryIn which in_place (room_of row column)) (λ row column. in_room (if_taken which makes) (room_of row column)) old new
+      → AreChangedBefore order chosen (needs_for_width which in_place config widths mins) (for_width (if_taken which makes) config widths mins) old new
   widths-before {order} {chosen} {old} {new} h = record {
     row = h.row;
     column = h.column;
     inside = h.inside;
     stopped = h.stopped;
-    takes =
-        sym (taken-if which (is_permitted widths mins h.column) (at widths h.column - side_padding config h.row h.column) (cell_at old h.row h.column))
-        ∙ h.takes;
+    wanting =
+        needs-if which in_place (is_permitted widths mins h.column) (at widths h.column - side_padding config h.row h.column)
+        (cell_at old h.row h.column) h.wanting;
     changed = widths-made (if_taken which makes) config widths mins h.changed;
   }
 
@@ -70,17 +71,15 @@ rooms-made leaves t widths mins {chosen} {old} {new} fits h =
     subst (λ b. MatchBool b (leaves (at widths c - side_padding t.config r c) (cell_at old r c) (cell_at new r c)) (cell_at new r c ≡ cell_at old r c))
     (sym (permitted-room t widths mins c fits)) made)
 
-pub rooms-before : (which : Which) (makes : ℕ → List ℕ → List ℕ → Type 0) (t : Sheet) (widths mins : List ℕ) {order : Order} {chosen : ℕ → ℕ → Bool} {old new : List (List (List ℕ))}
+pub rooms-before : (which : Which) (in_place : ℕ → List ℕ → Type 0) (makes : ℕ → List ℕ → List ℕ → Type 0) (t : Sheet) (widths mins : List ℕ) {order : Order} {chosen : ℕ → ℕ → Bool} {old new : List (List (List ℕ))}
     → mins ≡ take (length widths) (minimums t.cells t.config)
-    → AreChangedBefore order chosen (taken_for_width which t.config widths mins) (for_width (if_taken which makes) t.config widths mins) old new
-    → AreChangedBefore order chosen (taken_for_room which t widths) (for_room (if_taken which makes) t widths) old new
-rooms-before which makes t widths mins {order} {chosen} {old} {new} fits h = record {
+    → AreChangedBefore order chosen (needs_for_width which in_place t.config widths mins) (for_width (if_taken which makes) t.config widths mins) old new
+    → AreChangedBefore order chosen (needs_for_room which in_place t widths) (for_room (if_taken which makes) t widths) old new
+rooms-before which in_place makes t widths mins {order} {chosen} {old} {new} fits h = record {
   row = h.row;
   column = h.column;
   inside = h.inside;
   stopped = h.stopped;
-  takes =
-      ap (λ b. b && is_taken which (at widths h.column - side_padding t.config h.row h.column) (cell_at old h.row h.column)) (permitted-room t widths mins h.column fits)
-      ∙ h.takes;
+  wanting = (permitted-room t widths mins h.column fits ∙ h.wanting.0, h.wanting.1);
   changed = rooms-made (if_taken which makes) t widths mins fits h.changed;
 }

@@ -1,5 +1,5 @@
 -- Tables that are narrowed.
-use Rattle.std.proofs.Common.{◌≡◌, ℕ, ◌⊎◌, ⊎_elim, inl, inr, Result, Ok, Err, IfErr, ◌-◌, ◌<◌, ◌≤◌, ◌^◌, true, false, nat_le, List, Option, Some, None, length, take, unwrap_or, refl, sym, ap, subst, ◌∙◌, cond, arith}
+use Rattle.std.proofs.Common.{◌≡◌, ℕ, ◌⊎◌, ⊎_elim, inl, inr, Result, Ok, Err, IfErr, IsOk, IsTrue, Bool, ◌-◌, ◌<◌, ◌≤◌, ◌^◌, true, false, nat_le, List, Option, Some, None, length, take, unwrap_or, refl, sym, ap, subst, ◌∙◌, cond, arith}
 use Rattle.std.specs.Result.{IsErrAnd}
 use Rattle.std.proofs.Math.Seq.{take-length}
 use Rattle.std.proofs.lemmas.Bool.Decides.{nat_tests}
@@ -20,7 +20,7 @@ use Rattle.tabled_size.proofs.Totalling.{heights_length, widths_length}
 use Rattle.tabled_change.specs.CellChanges.{AreChanged, AreChangedBefore, if_taken}
 use Rattle.tabled_change.specs.declared.order.Order.TheVariants.{ByColumn}
 use Rattle.tabled_change.specs.declared.which.Which.{Which}
-use Rattle.tabled_resize.specs.ColumnChanges.{for_width, taken_for_width}
+use Rattle.tabled_resize.specs.ColumnChanges.{for_width, needs_for_width}
 use Rattle.tabled_resize.specs.Minimums.{emptied, minimums}
 use Rattle.tabled_resize.specs.Narrowed.{IsNarrowed, Narrows, StopsNarrowing, WiderOutOfRange}
 use Rattle.tabled_resize.specs.Shrinking.{IsFound, IsShrunkBy}
@@ -106,15 +106,36 @@ module _ {P : Type 0} (shrinks : P → List ℕ → List ℕ → ℕ → List �
         (match-false ((cells' ≡ cells) × IsFilledIn old cells config new) (IsNarrowed shrinks priority change n t cells' new) above
         (record { widths = widths; shrunk = is.shrunk; changed = rooms-made change t widths mins is.fits changed; stored = stored; cleared = cleared }))
 
-    pub stops-some : (which : Which) (cells' : List (List (List ℕ))) (error : TableError) (widths mins : List ℕ) → error ≡ Memory → IsFound shrinks priority n (standing cells config mid) widths mins
-        → AreChangedBefore ByColumn (λ r c. true) (taken_for_width which config widths mins) (for_width (if_taken which change) config widths mins) cells cells'
-        → StopsNarrowing shrinks priority which change n error cells config old cells'
-    stops-some which cells' error widths mins e found changed =
+    -- a failure at a cell
+    pub stops-some : (which : Which) (in_place : ℕ → List ℕ → Type 0) (cells' : List (List (List ℕ))) (error : TableError) (widths mins : List ℕ) → error ≡ Memory
+        → IsFound shrinks priority n (standing cells config mid) widths mins
+        → AreChangedBefore ByColumn (λ r c. true) (needs_for_width which in_place config widths mins) (for_width (if_taken which change) config widths mins) cells cells'
+        → StopsNarrowing shrinks priority which in_place change n error cells config old cells' mid
+    stops-some which in_place cells' error widths mins e found changed =
         let t = standing cells config old in
         let is = found-old widths mins found in
-        inr (e, record { wider = is.wider; widths = widths; shrunk = is.shrunk; changed = rooms-before which change t widths mins is.fits changed })
+        inr (record {
+          wider = is.wider;
+          filled = filled;
+          stopped = inr (e, record { wider = is.wider; widths = widths; shrunk = is.shrunk; changed = rooms-before which in_place change t widths mins is.fits changed });
+        })
 
--- ---- what is refused
+    -- one before a cell has changed
+    pub stops-wider : (which : Which) (in_place : ℕ → List ℕ → Type 0) (error : TableError) → n < total_width (standing cells config mid)
+        → StopsNarrowing shrinks priority which in_place change n error cells config old cells mid
+    stops-wider which in_place error wide =
+        inr (record {
+          wider = subst (λ t. n < total_width t) (standing-filled cells config old mid filled) wide;
+          filled = filled;
+          stopped = inl refl;
+        })
+
+-- ---- what fails
+
+-- a call that doesn't fail where both lists are stored
+pub fails-lacking : {A : Type 0} (stored : Bool) (r : Result A TableError) (e : TableError) → (IsTrue stored → IsOk r) → r ≡ Err e → stored ≡ false
+fails-lacking {A} false r e h is = refl
+fails-lacking {A} true r e h is = let ok : false ≡ true = subst (λ (s : Result A TableError). IsOk s) is (h refl) in sym ok
 
 -- the error that a call hands on
 pub if-err : {T : Type 0} (P : TableError → Type 0) (r : Result T TableError) (e : TableError) → IsErrAnd r (λ d. d ≡ e) → P e → IfErr r P

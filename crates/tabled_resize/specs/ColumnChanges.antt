@@ -1,6 +1,6 @@
 -- Cells that are changed for the rooms that their columns leave.
-use Rattle.std.specs.Prelude.{◌≡◌, ℕ, ◌-◌, Bool, List, ◌&&◌, MatchBool, length, nat_le, nat_lt}
-use Rattle.tabled_change.specs.CellChanges.{is_taken}
+use Rattle.std.specs.Prelude.{◌≡◌, ℕ, ◌-◌, Bool, List, ◌&&◌, MatchBool, length, nat_le, nat_lt, true}
+use Rattle.tabled_change.specs.CellChanges.{NeedsMemory}
 use Rattle.tabled_change.specs.declared.which.Which.{Which}
 use Rattle.tabled_config.specs.declared.spanned.SpannedConfig.{SpannedConfig}
 use Rattle.tabled_priority.specs.Permitted.{at}
@@ -15,7 +15,8 @@ abbrev pub for_width : (ℕ → List ℕ → List ℕ → Type 0) → SpannedCon
 for_width change config widths mins row column before after =
     MatchBool (is_permitted widths mins column) (change (at widths column - side_padding config row column) before after) (after ≡ before)
 
--- whether a text of such a column is one of those that are changed
-abbrev pub taken_for_width : Which → SpannedConfig → List ℕ → List ℕ → ℕ → ℕ → List ℕ → Bool
-taken_for_width which config widths mins row column text =
-    is_permitted widths mins column && is_taken which (at widths column - side_padding config row column) text
+-- a text of such a column can't be changed without memory
+abbrev pub needs_for_width : Which → (ℕ → List ℕ → Type 0) → SpannedConfig → List ℕ → List ℕ → ℕ → ℕ → List ℕ → Type 0
+needs_for_width which in_place config widths mins row column text =
+    (is_permitted widths mins column ≡ true)
+    × NeedsMemory which in_place (at widths column - side_padding config row column) text

@@ -1,5 +1,7 @@
 -- Tables whose columns or rows grow to a total.
-use Rattle.std.specs.Prelude.{◌≡◌, ℕ, ◌-◌, ◌⊎◌, ◌≤◌, ◌^◌, nat_le, false, List, MatchBool, Some, unwrap_or}
+use Rattle.std.specs.Prelude.{◌≡◌, ℕ, ◌-◌, ◌⊎◌, ◌<◌, ◌≤◌, ◌^◌, nat_le, false, List, MatchBool, Some, unwrap_or}
+use Rattle.tabled_base.specs.declared.error.TableError.{TableError}
+use Rattle.tabled_base.specs.declared.error.TableError.TheVariants.{Memory}
 use Rattle.tabled_config.specs.declared.spanned.SpannedConfig.{SpannedConfig}
 use Rattle.tabled_size.specs.Estimates.{IsTooHigh, estimated_heights}
 use Rattle.tabled_size.specs.FilledIn.{HasNoEstimate, IsFilledIn}
@@ -8,6 +10,7 @@ use Rattle.tabled_size.specs.Standing.{standing}
 use Rattle.tabled_size.specs.Stored.{heights_of, widths_of}
 use Rattle.tabled_size.specs.Totals.{total_height, total_width}
 use Rattle.tabled_size.specs.declared.complete_dimension.CompleteDimension.{CompleteDimension}
+use Rattle.tabled_resize.specs.Filling.{StopsFilling}
 use Rattle.tabled_resize.specs.Growing.{IsGrownBy}
 
 -- ---- the width
@@ -29,6 +32,16 @@ IncreasesWidth grows priority n cells config old new =
     MatchBool (is_empty cells) (new ≡ old)
     (MatchBool (nat_le n (total_width (standing cells config old))) (IsFilledIn old cells config new)
     (IsWidened grows priority n cells config old new))
+
+-- a failure of a table whose sizes were filled in: of memory, only where it has fewer than n columns
+pub record StopsWidening (n : ℕ) (error : TableError) (cells : List (List (List ℕ))) (config : SpannedConfig)
+    (old new : CompleteDimension) : Type 0 where
+  pub narrower : error ≡ Memory → total_width (standing cells config old) < n
+  pub filled : IsFilledIn old cells config new
+
+-- what a failure leaves of the sizes: as they were, or filled in
+abbrev pub StopsIncreasing : ℕ → TableError → List (List (List ℕ)) → SpannedConfig → CompleteDimension → CompleteDimension → Type 0
+StopsIncreasing n error cells config old new = StopsFilling error old new ⊎ StopsWidening n error cells config old new
 
 -- a sum passes the greatest number: the measure's, a cell's that isn't stored, or the total
 abbrev pub WidthOutOfRange : Type 0 → List (List (List ℕ)) → SpannedConfig → CompleteDimension → Type 0

@@ -1,6 +1,7 @@
 pub mod BestNarrowing
 pub mod ColumnChanges
 pub mod ExactTotal
+pub mod Filling
 pub mod Growing
 pub mod HeightFrame
 pub mod Increased

@@ -1,5 +1,5 @@
 -- Tables whose columns shrink to a total, and whose cells are changed for the rooms that these leave.
-use Rattle.std.specs.Prelude.{◌≡◌, ◌⊎◌, ◌<◌, ◌≤◌, ◌^◌, ℕ, ◌-◌, true, false, nat_le, Bool, List, MatchBool, Some, None, length, take}
+use Rattle.std.specs.Prelude.{◌≡◌, ◌⊎◌, ◌<◌, ◌≤◌, ◌^◌, ℕ, ◌-◌, true, false, nat_le, List, MatchBool, Some, None, length, take}
 use Rattle.tabled_base.specs.declared.error.TableError.{TableError}
 use Rattle.tabled_base.specs.declared.error.TableError.TheVariants.{Memory}
 use Rattle.tabled_config.specs.declared.spanned.SpannedConfig.{SpannedConfig}
@@ -14,7 +14,8 @@ use Rattle.tabled_size.specs.declared.complete_dimension.CompleteDimension.{Comp
 use Rattle.tabled_change.specs.CellChanges.{AreChanged, AreChangedBefore, if_taken}
 use Rattle.tabled_change.specs.declared.order.Order.TheVariants.{ByColumn}
 use Rattle.tabled_change.specs.declared.which.Which.{Which}
-use Rattle.tabled_resize.specs.ColumnChanges.{for_width, taken_for_width}
+use Rattle.tabled_resize.specs.ColumnChanges.{for_width, needs_for_width}
+use Rattle.tabled_resize.specs.Filling.{StopsFilling}
 use Rattle.tabled_resize.specs.Minimums.{emptied, minimums}
 
 -- the widths are a list that the priority may make of those that stand, taking what the total has above n, with the
@@ -28,9 +29,9 @@ pub record IsShrunkTo {P : Type 0} (shrinks : P → List ℕ → List ℕ → �
 abbrev pub for_room : (ℕ → List ℕ → List ℕ → Type 0) → Sheet → List ℕ → ℕ → ℕ → List ℕ → List ℕ → Type 0
 for_room change t widths = for_width change t.config widths (minimums t.cells t.config)
 
--- whether it has such a room, and a text that is one of those that are changed
-abbrev pub taken_for_room : Which → Sheet → List ℕ → ℕ → ℕ → List ℕ → Bool
-taken_for_room which t widths = taken_for_width which t.config widths (minimums t.cells t.config)
+-- it has such a room, and a text that can't be changed without memory
+abbrev pub needs_for_room : Which → (ℕ → List ℕ → Type 0) → Sheet → List ℕ → ℕ → ℕ → List ℕ → Type 0
+needs_for_room which in_place t widths = needs_for_width which in_place t.config widths (minimums t.cells t.config)
 
 -- a table wider than n is narrowed: its widths are shrunk and stored, every cell is changed for its room, and its
 -- heights are to be estimated anew
@@ -51,20 +52,31 @@ Narrows shrinks priority change n cells config sizes cells' sizes' =
     (MatchBool (nat_le (total_width (standing cells config sizes)) n) ((cells' ≡ cells) × IsFilledIn sizes cells config sizes')
     (IsNarrowed shrinks priority change n (standing cells config sizes) cells' sizes'))
 
--- memory was refused at a cell of a table wider than n that a rule is for: such cells before it, column by column, are
--- changed, and it and the others are the old ones
+-- memory failed at a cell of a table wider than n whose text can't be changed without: the cells before it, column by
+-- column, are changed, and it and the others are the old ones
 pub record IsNarrowedBefore {P : Type 0} (shrinks : P → List ℕ → List ℕ → ℕ → List ℕ → P → Type 0) (priority : P) (which : Which)
-    (change : ℕ → List ℕ → List ℕ → Type 0) (n : ℕ) (t : Sheet) (cells : List (List (List ℕ))) : Type 0 where
+    (in_place : ℕ → List ℕ → Type 0) (change : ℕ → List ℕ → List ℕ → Type 0) (n : ℕ) (t : Sheet) (cells : List (List (List ℕ))) : Type 0 where
   pub wider : n < total_width t
   pub widths : List ℕ
   pub shrunk : IsShrunkTo shrinks priority n t widths
-  pub changed : AreChangedBefore ByColumn (λ row column. true) (taken_for_room which t widths) (for_room (if_taken which change) t widths) t.cells cells
+  pub changed : AreChangedBefore ByColumn (λ row column. true) (needs_for_room which in_place t widths) (for_room (if_taken which change) t widths) t.cells cells
 
--- what a refusal leaves: all cells as they were, or for want of memory those before a refused one changed
-abbrev pub StopsNarrowing : {P : Type 0} → (P → List ℕ → List ℕ → ℕ → List ℕ → P → Type 0) → P → Which → (ℕ → List ℕ → List ℕ → Type 0) → ℕ → TableError
-    → List (List (List ℕ)) → SpannedConfig → CompleteDimension → List (List (List ℕ)) → Type 0
-StopsNarrowing shrinks priority which change n error cells config sizes cells' =
-    (cells' ≡ cells) ⊎ ((error ≡ Memory) × IsNarrowedBefore shrinks priority which change n (standing cells config sizes) cells')
+-- a failure of a table whose sizes were filled in: it is wider than n. All cells are as they were, or with `Memory` those
+-- before the one at which it stopped are changed
+pub record StopsShrinking {P : Type 0} (shrinks : P → List ℕ → List ℕ → ℕ → List ℕ → P → Type 0) (priority : P) (which : Which)
+    (in_place : ℕ → List ℕ → Type 0) (change : ℕ → List ℕ → List ℕ → Type 0) (n : ℕ) (error : TableError) (cells : List (List (List ℕ)))
+    (config : SpannedConfig) (sizes : CompleteDimension) (cells' : List (List (List ℕ))) (sizes' : CompleteDimension) : Type 0 where
+  pub wider : n < total_width (standing cells config sizes)
+  pub filled : IsFilledIn sizes cells config sizes'
+  pub stopped : (cells' ≡ cells) ⊎ ((error ≡ Memory) × IsNarrowedBefore shrinks priority which in_place change n (standing cells config sizes) cells')
+
+-- what a failure leaves: all as it was while sizes were estimated, or of a wider table what shrinking leaves
+abbrev pub StopsNarrowing : {P : Type 0} → (P → List ℕ → List ℕ → ℕ → List ℕ → P → Type 0) → P → Which → (ℕ → List ℕ → Type 0)
+    → (ℕ → List ℕ → List ℕ → Type 0) → ℕ → TableError → List (List (List ℕ)) → SpannedConfig → CompleteDimension → List (List (List ℕ))
+    → CompleteDimension → Type 0
+StopsNarrowing shrinks priority which in_place change n error cells config sizes cells' sizes' =
+    ((cells' ≡ cells) × StopsFilling error sizes sizes')
+    ⊎ StopsShrinking shrinks priority which in_place change n error cells config sizes cells' sizes'
 
 -- the total passes the greatest number, or the padding of a cell of a table wider than n
 abbrev pub WiderOutOfRange : ℕ → List (List (List ℕ)) → SpannedConfig → CompleteDimension → Type 0

@@ -4,7 +4,7 @@ ghost use Rattle.tabled_base.specs.declared.error.TableError.TheVariants.{Memory
 ghost use Rattle.tabled_change.specs.CellChanges.{AreChanged, AreChangedBefore, if_taken};
 ghost use Rattle.tabled_change.specs.declared.order.Order.TheVariants.{ByColumn};
 ghost use Rattle.tabled_priority.specs.Permitted.{at};
-ghost use Rattle.tabled_resize.specs.ColumnChanges.{for_width, is_permitted, taken_for_width};
+ghost use Rattle.tabled_resize.specs.ColumnChanges.{for_width, is_permitted, needs_for_width};
 ghost use Rattle.tabled_resize.specs.Minimums.{side_padding};
 
 use tabled_base::{Entity, Position, RecordsMut, TableError};
@@ -73,7 +73,7 @@ pub(crate) fn change_columns<T: TextRule, R: RecordsMut>(
         (for_width (if_taken which (T.makes rule.now)) config.now sizes.now.widths.items sizes.now.mins.items)
         (R.cells records.old) (R.cells records.new)) }
     ensures err { OnErr result (AreChangedBefore ByColumn (λ r c. true)
-        (taken_for_width which config.now sizes.now.widths.items sizes.now.mins.items)
+        (needs_for_width which (T.shortens rule.now) config.now sizes.now.widths.items sizes.now.mins.items)
         (for_width (if_taken which (T.makes rule.now)) config.now sizes.now.widths.items sizes.now.mins.items)
         (R.cells records.old) (R.cells records.new)) }
     ensures only { IfErr result (λ e. e ≡ Memory) }

@@ -1,7 +1,7 @@
 //! Tables whose columns or rows grow to a total.
-ghost use Rattle.std.specs.Prelude.{◌≡◌, ◌⊎◌, ◌≤◌, ◌^◌, IfErr, IfOk, OnOk, false};
+ghost use Rattle.std.specs.Prelude.{◌≡◌, ◌⊎◌, ◌≤◌, ◌^◌, IfErr, IfOk, OnErr, OnOk, false};
 ghost use Rattle.tabled_base.specs.declared.error.TableError.TheVariants.{Memory, Range};
-ghost use Rattle.tabled_resize.specs.Increased.{IncreasesHeight, IncreasesWidth};
+ghost use Rattle.tabled_resize.specs.Increased.{IncreasesHeight, IncreasesWidth, StopsIncreasing};
 ghost use Rattle.tabled_size.specs.Estimates.{IsTooHigh, estimated_heights};
 ghost use Rattle.tabled_size.specs.FilledIn.{HasNoEstimate};
 ghost use Rattle.tabled_size.specs.Sheet.{estimated, is_empty};
@@ -16,8 +16,9 @@ use tabled_base::{PeekableRecords, TableError};
 use tabled_config::SpannedConfig;
 use tabled_size::{CompleteDimension, Estimate, Peaker, estimate_heights};
 
-/// Makes a table that has a row and a column n columns wide at least. Sizes that aren't stored are estimated first.
-/// Refused for memory, or with `Range` where an estimate or the total passes the greatest `usize`.
+/// Makes a table that has a row and a column n columns wide at least. Sizes that aren't stored are estimated first, and
+/// stay stored on a later error. Fails with `Memory` only where sizes aren't stored or the table is narrower than n; with
+/// `Range` where an estimate or the total passes the greatest `usize`.
 pub fn increase_width<P: Peaker + Drop, R: PeekableRecords>(
     priority: P,
     records: &R,
@@ -27,6 +28,8 @@ pub fn increase_width<P: Peaker + Drop, R: PeekableRecords>(
 ) -> Result<(), TableError>
     requires { is_empty (R.cells records.now) ≡ false }
     ensures ok { OnOk result (IncreasesWidth P.grows priority n
+        (R.cells records.now) config.now sizes.old sizes.new) }
+    ensures stopped { IfErr result (λ e. StopsIncreasing n e
         (R.cells records.now) config.now sizes.old sizes.new) }
     ensures err { IfErr result (λ e. (e ≡ Memory) ⊎ ((e ≡ Range)
         × (HasNoEstimate sizes.old (R.cells records.now) config.now
@@ -67,8 +70,8 @@ pub(crate) fn estimated_rows<R: PeekableRecords>(
     }
 }
 
-/// Makes a table that has a row and a column n lines high at least, by its estimated heights. Refused for memory, or
-/// with `Range` where a height or the total passes the greatest `usize`.
+/// Makes a table that has a row and a column n lines high at least, by its estimated heights. Fails with `Memory`, or
+/// with `Range` where a height or the total passes the greatest `usize`; the stored sizes then stay as they were.
 pub fn increase_height<P: Peaker + Drop, R: PeekableRecords>(
     priority: P,
     records: &R,
@@ -79,6 +82,7 @@ pub fn increase_height<P: Peaker + Drop, R: PeekableRecords>(
     requires { is_empty (R.cells records.now) ≡ false }
     ensures ok { OnOk result (IncreasesHeight P.grows priority n
         (R.cells records.now) config.now sizes.old sizes.new) }
+    ensures kept { OnErr result (sizes.new ≡ sizes.old) }
     ensures err { IfErr result (λ e. (e ≡ Memory) ⊎ ((e ≡ Range)
         × (IsTooHigh (R.cells records.now) config.now
         ⊎ (2 ^ 64 ≤ total_height (estimated (R.cells records.now) config.now))))) }

@@ -1,5 +1,5 @@
 //! Tables whose rows shrink to a total.
-ghost use Rattle.std.specs.Prelude.{◌≡◌, ◌⊎◌, ◌≤◌, ◌^◌, IfErr, OnOk, false};
+ghost use Rattle.std.specs.Prelude.{◌≡◌, ◌⊎◌, ◌≤◌, ◌^◌, IfErr, OnErr, OnOk, false};
 ghost use Rattle.tabled_base.specs.declared.error.TableError.TheVariants.{Memory, Range};
 ghost use Rattle.tabled_resize.specs.Limited.{LimitsHeight, StopsLimiting};
 ghost use Rattle.tabled_size.specs.Estimates.{IsTooHigh};
@@ -13,8 +13,8 @@ use tabled_base::{RecordsMut, TableError};
 use tabled_config::SpannedConfig;
 use tabled_size::{CompleteDimension, Peaker};
 
-/// Makes a table that has a row and a column n lines high at most, by its estimated heights. Refused for memory, or
-/// with `Range` where a height or the total passes the greatest `usize`.
+/// Makes a table that has a row and a column n lines high at most, by its estimated heights. Fails with `Memory`, or
+/// with `Range` where a height or the total passes the greatest `usize`; the stored sizes then stay as they were.
 pub fn limit_height<P: Peaker + Drop, R: RecordsMut>(
     priority: P,
     records: &mut R,
@@ -27,6 +27,7 @@ pub fn limit_height<P: Peaker + Drop, R: RecordsMut>(
         (R.cells records.old) config.now sizes.old (R.cells records.new) sizes.new) }
     ensures err { IfErr result (λ e. StopsLimiting P.shrinks priority n e
         (R.cells records.old) config.now (R.cells records.new)) }
+    ensures kept { OnErr result (sizes.new ≡ sizes.old) }
     ensures only { IfErr result (λ e. (e ≡ Memory) ⊎ ((e ≡ Range)
         × (IsTooHigh (R.cells records.old) config.now
         ⊎ (2 ^ 64 ≤ total_height (estimated (R.cells records.old) config.now))))) }

@@ -4,7 +4,7 @@ ghost use Rattle.tabled_base.specs.declared.error.TableError.TheVariants.{Memory
 ghost use Rattle.tabled_change.specs.CellChanges.{AreChanged, AreChangedBefore};
 ghost use Rattle.tabled_change.specs.declared.order.Order.TheVariants.{ByRow};
 ghost use Rattle.tabled_priority.specs.Permitted.{at};
-ghost use Rattle.tabled_resize.specs.Limited.{for_height, taken_for_height};
+ghost use Rattle.tabled_resize.specs.Limited.{for_height, needs_for_height};
 
 use tabled_base::{Entity, Position, RecordsMut, TableError};
 use tabled_change::{Change, Limiting, Order, Rooms, Which, change_cells};
@@ -30,7 +30,7 @@ pub(crate) fn limit_rows<R: RecordsMut>(
 ) -> Result<(), TableError>
     ensures ok { OnOk result (AreChanged (λ r c. true) (for_height heights.now)
         (R.cells records.old) (R.cells records.new)) }
-    ensures err { OnErr result (AreChangedBefore ByRow (λ r c. true) (taken_for_height heights.now) (for_height heights.now)
+    ensures err { OnErr result (AreChangedBefore ByRow (λ r c. true) (needs_for_height heights.now) (for_height heights.now)
         (R.cells records.old) (R.cells records.new)) }
     ensures only { IfErr result (λ e. e ≡ Memory) }
 {

@@ -1,5 +1,5 @@
 //! The widths to which the columns of a table are narrowed.
-ghost use Rattle.std.specs.Prelude.{◌≡◌, ◌⊎◌, ◌≤◌, ◌^◌, IfErr, IfOk, MatchOption, Some, false, is_some, length, take, true};
+ghost use Rattle.std.specs.Prelude.{◌≡◌, ◌⊎◌, ◌<◌, ◌≤◌, ◌^◌, IfErr, IfOk, MatchOption, OnErr, Some, false, is_some, length, take, true};
 ghost use Rattle.std.specs.List.{slice_index};
 ghost use Rattle.tabled_base.specs.declared.error.TableError.TheVariants.{Memory, Range};
 ghost use Rattle.tabled_resize.specs.Narrowed.{WiderOutOfRange};
@@ -31,8 +31,8 @@ pub(crate) fn stored_widths(sizes: &CompleteDimension) -> &[usize]
 }
 
 /// The widths to which the columns of a table shrink, with their minimums, or `None` where its total is at
-/// most n. The table has a row and a column, and its widths are stored. Refused for memory, or with `Range`
-/// where the total or, in a table that is wider than n, the side padding of a cell passes the greatest `usize`.
+/// most n. The table has a row and a column, and its widths are stored. Fails only where it is wider than n: with
+/// `Memory`, or with `Range` where the total or the side padding of a cell passes the greatest `usize`.
 pub(crate) fn narrowed_widths<P: Peaker + Drop, R: ExactRecords>(
     alloc: Global,
     priority: P,
@@ -47,6 +47,7 @@ pub(crate) fn narrowed_widths<P: Peaker + Drop, R: ExactRecords>(
         (total_width (standing (R.cells records.now) config.now sizes.now) ≤ n)
         (λ found. IsFound P.shrinks priority n (standing (R.cells records.now) config.now sizes.now)
         found.widths.items found.mins.items)) }
+    ensures wider { OnErr result (n < total_width (standing (R.cells records.now) config.now sizes.now)) }
     ensures err { IfErr result (λ e. (e ≡ Memory)
         ⊎ ((e ≡ Range) × WiderOutOfRange n (R.cells records.now) config.now sizes.now)) }
 {

@@ -1,17 +1,23 @@
 -- What a refused change leaves.
-use Rattle.std.proofs.Common.{◌≡◌, ℕ, Bool, List, Result, Ok, Err, IfErr, OnErr, inr}
+use Rattle.std.proofs.Common.{◌≡◌, ℕ, Bool, List, Result, Ok, Err, IfErr, OnErr, inr, refl}
 use Rattle.tabled_base.specs.declared.error.TableError.{TableError}
-use Rattle.tabled_base.specs.declared.error.TableError.TheVariants.{Memory}
+use Rattle.tabled_base.specs.declared.error.TableError.TheVariants.{Memory, Range}
 use Rattle.tabled_change.specs.CellChanges.{AreChangedBefore, StopsChanging}
 use Rattle.tabled_change.specs.declared.order.Order.{Order}
+use Rattle.tabled_resize.specs.Filling.{StopsFilling}
+use Rattle.tabled_size.specs.declared.complete_dimension.CompleteDimension.{CompleteDimension}
 
--- for want of memory the cells before some cell are changed
-pub stops-before : {T : Type 0} (order : Order) (chosen : ℕ → ℕ → Bool) (taken : ℕ → ℕ → List ℕ → Bool) (change : ℕ → ℕ → List ℕ → List ℕ → Type 0) (old new : List (List (List ℕ))) (r : Result T TableError)
-    → OnErr r (AreChangedBefore order chosen taken change old new) → IfErr r (λ e. e ≡ Memory) → IfErr r (λ e. StopsChanging order chosen taken change e old new)
-stops-before order chosen taken change old new (Ok x) h only = tt
-stops-before order chosen taken change old new (Err e) h only = inr (only, h)
+-- with `Memory` the cells before some cell are changed
+pub stops-before : {T : Type 0} (order : Order) (chosen : ℕ → ℕ → Bool) (needs : ℕ → ℕ → List ℕ → Type 0) (change : ℕ → ℕ → List ℕ → List ℕ → Type 0) (old new : List (List (List ℕ))) (r : Result T TableError)
+    → OnErr r (AreChangedBefore order chosen needs change old new) → IfErr r (λ e. e ≡ Memory) → IfErr r (λ e. StopsChanging order chosen needs change e old new)
+stops-before order chosen needs change old new (Ok x) h only = tt
+stops-before order chosen needs change old new (Err e) h only = inr (only, h)
 
--- a refused table has a row and a column, and what else holds, whatever the error is
+-- a measure that fails leaves the sizes
+pub stops-measuring : (e cause : TableError) (sizes : CompleteDimension) → e ≡ cause → cause ≡ Range → StopsFilling e sizes sizes
+stops-measuring e cause sizes is range = record { lacking = λ m. cc; same = refl }
+
+-- what a failure of a table with a row and a column leaves, whatever the error is
 pub stops-filled : {T : Type 0} (F : Type 0) (P : TableError → Type 0) (Q : Type 0) (r : Result T TableError) → IfErr r (λ e. F) → IfErr r P → Q → IfErr r (λ e. F × P e × Q)
 stops-filled F P Q (Ok x) f h q = tt
 stops-filled F P Q (Err e) f h q = (f, h, q)
@@ -24,3 +30,14 @@ if-refused F (Err e) f = f
 pub stops-with : {T : Type 0} (P : TableError → Type 0) (Q : Type 0) (r : Result T TableError) → IfErr r P → Q → IfErr r (λ e. P e × Q)
 stops-with P Q (Ok x) h q = tt
 stops-with P Q (Err e) h q = (h, q)
+
+-- all as it was
+pub stops-heightening : {T : Type 0} (F Q R K : Type 0) (r : Result T TableError) → IfErr r (λ e. F) → Q → R → OnErr r K → IfErr r (λ e. F × (Q × (R × K)))
+stops-heightening F Q R K (Ok x) f q w k = tt
+stops-heightening F Q R K (Err e) f q w k = (f, (q, (w, k)))
+
+-- the sizes as they were
+pub stops-limiting : {T : Type 0} (F : Type 0) (P : TableError → Type 0) (Q K : Type 0) (r : Result T TableError) → IfErr r (λ e. F) → IfErr r P → Q → OnErr r K
+    → IfErr r (λ e. F × P e × (Q × K))
+stops-limiting F P Q K (Ok x) f p q k = tt
+stops-limiting F P Q K (Err e) f p q k = (f, p, (q, k))

@@ -1,6 +1,6 @@
 //! Increasing to some lines.
 ghost use Rattle.std.specs.Prelude.{◌≡◌, None, false};
-ghost use Rattle.tabled_change.specs.CellChanges.{ChangesEntity, StopsEntity, if_taken};
+ghost use Rattle.tabled_change.specs.CellChanges.{ChangesEntity, StopsEntity, if_taken, never_in_place};
 ghost use Rattle.tabled_change.specs.TextLines.{lengthening};
 ghost use Rattle.tabled_change.specs.declared.which.Which.TheVariants.{Lower};
 ghost use Rattle.tabled_resize.specs.Increased.{HeightOutOfRange, IncreasesHeight};
@@ -53,7 +53,7 @@ impl<W: Measurement<Height>, R: RecordsMut> CellOption<R, ColoredConfig> for Cel
     ghost changes = { λ s r c e r' c'. ChangesEntity (if_taken Lower lengthening)
         (W.measures s.height (R.cells r) c.config) e (R.cells r) (R.cells r') × (c' ≡ c) };
 
-    ghost refuses = { λ s f r c e r' c'. StopsEntity Lower lengthening
+    ghost refuses = { λ s f r c e r' c'. StopsEntity Lower never_in_place lengthening
         (W.measures s.height (R.cells r) c.config) e f (R.cells r) (R.cells r') × (c' ≡ c) };
 
     ghost out_of_range = { λ s r c e. W.out_of_range s.height (R.cells r) c.config };
@@ -89,8 +89,9 @@ impl<W: Measurement<Height> + Drop, R: PeekableRecords> TableOption<
     ghost changes = { λ s r c d r' c' d'. IncreasesHeight grows_in_turn first_in_turn
         (W.measures s.height (R.cells r) c.config) (R.cells r) c.config d d' × ((r' ≡ r) × (c' ≡ c)) };
 
-    // Only a table with a row and a column is refused.
-    ghost refuses = { λ s e r c d r' c' d'. (is_empty (R.cells r) ≡ false) × (r' ≡ r) × (c' ≡ c) };
+    // Only a table with a row and a column fails, and all stays.
+    ghost refuses = { λ s e r c d r' c' d'. (is_empty (R.cells r) ≡ false)
+        × ((r' ≡ r) × ((c' ≡ c) × (d' ≡ d))) };
 
     ghost out_of_range = { λ s r c d.
         HeightOutOfRange (W.out_of_range s.height (R.cells r) c.config) (R.cells r) c.config };

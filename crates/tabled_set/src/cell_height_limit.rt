@@ -1,6 +1,6 @@
 //! Limiting to some lines.
 ghost use Rattle.std.specs.Prelude.{◌≡◌, None, false};
-ghost use Rattle.tabled_change.specs.CellChanges.{ChangesEntity, StopsEntity, if_taken};
+ghost use Rattle.tabled_change.specs.CellChanges.{ChangesEntity, StopsEntity, if_taken, never_in_place};
 ghost use Rattle.tabled_change.specs.TextLines.{limiting};
 ghost use Rattle.tabled_change.specs.declared.which.Which.TheVariants.{Higher};
 ghost use Rattle.tabled_resize.specs.Increased.{HeightOutOfRange};
@@ -53,7 +53,7 @@ impl<W: Measurement<Height>, R: RecordsMut> CellOption<R, ColoredConfig> for Cel
     ghost changes = { λ s r c e r' c'. ChangesEntity (if_taken Higher limiting)
         (W.measures s.height (R.cells r) c.config) e (R.cells r) (R.cells r') × (c' ≡ c) };
 
-    ghost refuses = { λ s f r c e r' c'. StopsEntity Higher limiting
+    ghost refuses = { λ s f r c e r' c'. StopsEntity Higher never_in_place limiting
         (W.measures s.height (R.cells r) c.config) e f (R.cells r) (R.cells r') × (c' ≡ c) };
 
     ghost out_of_range = { λ s r c e. W.out_of_range s.height (R.cells r) c.config };
@@ -87,10 +87,10 @@ impl<W: Measurement<Height> + Drop, R: RecordsMut> TableOption<R, ColoredConfig,
     ghost changes = { λ s r c d r' c' d'. LimitsHeight shrinks_in_turn first_in_turn
         (W.measures s.height (R.cells r) c.config) (R.cells r) c.config d (R.cells r') d' × (c' ≡ c) };
 
-    // Only a table with a row and a column is refused.
+    // Only a table with a row and a column fails, and the sizes stay.
     ghost refuses = { λ s e r c d r' c' d'. (is_empty (R.cells r) ≡ false)
         × StopsLimiting shrinks_in_turn first_in_turn
-        (W.measures s.height (R.cells r) c.config) e (R.cells r) c.config (R.cells r') × (c' ≡ c) };
+        (W.measures s.height (R.cells r) c.config) e (R.cells r) c.config (R.cells r') × ((c' ≡ c) × (d' ≡ d)) };
 
     ghost out_of_range = { λ s r c d.
         HeightOutOfRange (W.out_of_range s.height (R.cells r) c.config) (R.cells r) c.config };

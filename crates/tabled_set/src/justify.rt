@@ -1,7 +1,7 @@
 //! Cells of the same columns.
 ghost use Rattle.std.specs.Prelude.{◌≡◌};
 ghost use Rattle.tabled_base.specs.declared.position.Entity.TheVariants.{Global};
-ghost use Rattle.tabled_change.specs.CellChanges.{ChangesEntity, StopsEntity};
+ghost use Rattle.tabled_change.specs.CellChanges.{ChangesEntity, StopsEntity, never_in_place};
 ghost use Rattle.tabled_change.specs.Justified.{IsJustified};
 ghost use Rattle.tabled_change.specs.declared.which.Which.TheVariants.{NotAsWide};
 
@@ -51,7 +51,7 @@ impl<W: Measurement<Width> + Drop, R: RecordsMut, D> TableOption<R, ColoredConfi
     ghost changes = { λ s r c d r' c' d'. ChangesEntity IsJustified (W.measures s.width (R.cells r) c.config) Global
         (R.cells r) (R.cells r') × ((c' ≡ c) × (d' ≡ d)) };
 
-    ghost refuses = { λ s e r c d r' c' d'. StopsEntity NotAsWide IsJustified (W.measures s.width (R.cells r) c.config) Global e
+    ghost refuses = { λ s e r c d r' c' d'. StopsEntity NotAsWide never_in_place IsJustified (W.measures s.width (R.cells r) c.config) Global e
         (R.cells r) (R.cells r') × ((c' ≡ c) × (d' ≡ d)) };
 
     ghost out_of_range = { λ s r c d. W.out_of_range s.width (R.cells r) c.config };

@@ -1,15 +1,16 @@
 //! Cells of an entity that are changed for a measure of their table.
 ghost use Rattle.std.specs.Prelude.{◌≡◌, ◌⊎◌, IfErr, OnOk};
 ghost use Rattle.tabled_base.specs.declared.error.TableError.TheVariants.{Memory, Range};
-ghost use Rattle.tabled_change.specs.CellChanges.{AreLeftInPlace, ChangesEntity, StopsEntity, if_taken};
+ghost use Rattle.tabled_change.specs.CellChanges.{ChangesEntity, StopsEntity, if_taken};
 
 use crate::measurement::Measurement;
 use tabled_base::{Entity, RecordsMut, TableError};
 use tabled_change::{Change, Order, TextRule, Which, change_cells};
 use tabled_config::ColoredConfig;
 
-/// Changes the cells of an entity by a rule, each for the room that is measured once. Refused with `Range` where the
-/// measure is, before a cell has changed, and with `Memory`, where those before the refused one have, row by row.
+/// Changes the cells of an entity by a rule, each for the room that is measured once. Fails with `Range` where the
+/// measure does, before a cell has changed, and with `Memory` at a cell that can't be changed in its place: those
+/// before it have changed, row by row.
 pub(crate) fn change_measured<A, W: Measurement<A>, T: TextRule, R: RecordsMut>(
     measure: &W,
     rule: &T,
@@ -21,11 +22,9 @@ pub(crate) fn change_measured<A, W: Measurement<A>, T: TextRule, R: RecordsMut>(
     ensures ok { OnOk result (ChangesEntity (if_taken which (T.makes rule.now))
         (W.measures measure.now (R.cells records.old) cfg.now.config) entity
         (R.cells records.old) (R.cells records.new)) }
-    ensures err { IfErr result (λ e. StopsEntity which (T.makes rule.now)
+    ensures err { IfErr result (λ e. StopsEntity which (T.shortens rule.now) (T.makes rule.now)
         (W.measures measure.now (R.cells records.old) cfg.now.config) entity e
         (R.cells records.old) (R.cells records.new)) }
-    ensures longer { IfErr result (λ e. e ≡ Memory → AreLeftInPlace which (T.shortens rule.now)
-        (W.measures measure.now (R.cells records.old) cfg.now.config) entity (R.cells records.old) → ⊥) }
     ensures only { IfErr result (λ e. (e ≡ Memory)
         ⊎ ((e ≡ Range) × W.out_of_range measure.now (R.cells records.old) cfg.now.config)) }
 {

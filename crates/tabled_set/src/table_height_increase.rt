@@ -57,8 +57,9 @@ impl<W: Measurement<Height> + Drop, P: Peaker + Drop, R: PeekableRecords> TableO
     ghost changes = { λ s r c d r' c' d'. IncreasesHeight P.grows s.priority
         (W.measures s.height (R.cells r) c.config) (R.cells r) c.config d d' × ((r' ≡ r) × (c' ≡ c)) };
 
-    // Only a table with a row and a column is refused.
-    ghost refuses = { λ s e r c d r' c' d'. (is_empty (R.cells r) ≡ false) × (r' ≡ r) × (c' ≡ c) };
+    // Only a table with a row and a column fails, and all stays.
+    ghost refuses = { λ s e r c d r' c' d'. (is_empty (R.cells r) ≡ false)
+        × ((r' ≡ r) × ((c' ≡ c) × (d' ≡ d))) };
 
     ghost out_of_range = { λ s r c d.
         HeightOutOfRange (W.out_of_range s.height (R.cells r) c.config) (R.cells r) c.config };

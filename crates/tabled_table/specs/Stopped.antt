@@ -1,5 +1,5 @@
 -- A modification that stops at an entity, and why.
-use Rattle.std.specs.Prelude.{◌≡◌, ◌⊎◌, ℕ, List, Some, if◌then◌else◌, length, nat_lt, slice_get, take}
+use Rattle.std.specs.Prelude.{◌≡◌, ◌⊎◌, ◌<◌, ℕ, List, None, Option, Some, if◌then◌else◌, length, nat_lt, slice_get, take, unwrap_or}
 use Rattle.tabled_base.specs.declared.error.TableError.{TableError}
 use Rattle.tabled_base.specs.declared.error.TableError.TheVariants.{Memory, Range}
 use Rattle.tabled_base.specs.declared.position.Entity.{Entity}
@@ -21,15 +21,28 @@ pub record IsStopped (changes : Cells → ColoredConfig → Entity → Cells →
   pub refused : refuses error between between_config entity cells' config'
   pub cause : error ≡ Range → out_of_range between between_config entity
 
--- what a refused modification of some entities leaves: all as it was for want of memory, or the changes before a refused
--- one, and of several entities the configuration as it was
+-- a copy of the configuration, which is made where there are several entities
+abbrev pub kept_config : List Entity → ColoredConfig → Option ColoredConfig
+kept_config entities config = if nat_lt 1 (length entities) then Some config else None
+
+-- the option fails at an entity: those before it are changed, and the configuration is the copy where there is one, else
+-- what the option leaves
+abbrev pub StopsAtPart : (Cells → ColoredConfig → Entity → Cells → ColoredConfig → Type 0)
+    → (TableError → Cells → ColoredConfig → Entity → Cells → ColoredConfig → Type 0)
+    → (Cells → ColoredConfig → Entity → Type 0) → List Entity → Option ColoredConfig → TableError → Cells → ColoredConfig
+    → Cells → ColoredConfig → Type 0
+StopsAtPart changes refuses out_of_range entities kept error cells config cells' config' =
+    (last : ColoredConfig) × IsStopped changes refuses out_of_range entities error cells config cells' last
+    × (config' ≡ unwrap_or kept last)
+
+-- what a failed modification of some entities leaves. Either there is no memory for the list of them or for the copy of
+-- the configuration: then there is an entity, and all is as it was. Or the option fails at one of them
 abbrev pub IsPutBack : (Cells → ColoredConfig → Entity → Cells → ColoredConfig → Type 0)
     → (TableError → Cells → ColoredConfig → Entity → Cells → ColoredConfig → Type 0)
     → (Cells → ColoredConfig → Entity → Type 0) → List Entity → TableError → Cells → ColoredConfig → Cells → ColoredConfig → Type 0
 IsPutBack changes refuses out_of_range entities error cells config cells' config' =
-    ((error ≡ Memory) × ((cells' ≡ cells) × (config' ≡ config)))
-    ⊎ ((last : ColoredConfig) × IsStopped changes refuses out_of_range entities error cells config cells' last
-    × (config' ≡ (if nat_lt 1 (length entities) then config else last)))
+    ((error ≡ Memory) × ((0 < length entities) × ((cells' ≡ cells) × (config' ≡ config))))
+    ⊎ StopsAtPart changes refuses out_of_range entities (kept_config entities config) error cells config cells' config'
 
 -- so of a table, whose stored sizes are forgotten
 pub record IsModifyingRefused (changes : Cells → ColoredConfig → Entity → Cells → ColoredConfig → Type 0)

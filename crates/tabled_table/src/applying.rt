@@ -1,11 +1,11 @@
 //! Options of whole tables, and of some of their cells.
-ghost use Rattle.std.specs.Prelude.{◌≡◌, ◌⊎◌, ◌<◌, IfErr, IfOk, OnOk, length};
+ghost use Rattle.std.specs.Prelude.{◌≡◌, ◌⊎◌, ◌<◌, IfErr, IfOk, OnErr, OnOk, length};
 ghost use Rattle.std.specs.Borrow.{RestsIfErr, sem};
 ghost use Rattle.tabled_base.specs.Cells.{columns};
 ghost use Rattle.tabled_base.specs.declared.error.TableError.TheVariants.{Memory, Range};
 ghost use Rattle.tabled_table.specs.Applied.{ChangesEach, IsApplied, IsModified, IsRefusedBy};
 ghost use Rattle.tabled_table.specs.TableSheet.{cells_of};
-ghost use Rattle.tabled_table.specs.Stopped.{IsModifyingRefused, IsPutBack, IsStopped};
+ghost use Rattle.tabled_table.specs.Stopped.{IsModifyingRefused, IsPutBack, IsStopped, StopsAtPart, kept_config};
 ghost use Rattle.tabled_table.specs.declared.table.Table.{Table};
 
 use crate::table::Table;
@@ -67,10 +67,12 @@ impl Table {
     }
 
     /// Applies a cell option at each part that a target names, in order, and then forgets the stored
-    /// sizes that the option hints. This is `modify` for callers that need the table after a refusal: then
-    /// the cells of the parts before the refused one are changed, no sizes are stored, and where the
-    /// target names several parts the configuration is as it was. Refused for memory, and with `Range`
-    /// where a sum or product of the option passes the greatest `usize` at one of the parts.
+    /// sizes that the option hints. This is `modify` for callers that need the table after an error.
+    ///
+    /// Where the option fails at a part, the cells of the parts before it are changed, no sizes are stored,
+    /// and where the target names several parts the configuration is as it was. The option fails with
+    /// `Memory`, or with `Range` where a sum or product passes the greatest `usize`. Where the target names
+    /// a part, `Memory` may come before the first change too: then cells and configuration are as they were.
     pub fn apply_to<
         T: Object<VecRecords<Text<String>>> + Drop,
         O: CellOption<VecRecords<Text<String>>, ColoredConfig>,
@@ -97,10 +99,9 @@ impl Table {
     }
 
     /// Applies a cell option at each part that a target names, in order, forgets the stored sizes that the
-    /// option hints, and gives the table back. Refused for memory, and with `Range` where a sum or product
-    /// of the option passes the greatest `usize` at one of the parts. A refusal leaves what `apply_to`
-    /// leaves: the cells of the parts before the refused one changed, no sizes stored, and where the target
-    /// names several parts the configuration as it was.
+    /// option hints, and returns the table. It fails as `apply_to` does, with `Memory` or `Range`: the cells
+    /// of the parts before the failed one are changed, no sizes are stored, and where the target names
+    /// several parts the configuration is as it was.
     pub fn modify<
         T: Object<VecRecords<Text<String>>> + Drop,
         O: CellOption<VecRecords<Text<String>>, ColoredConfig> + Drop,
@@ -144,8 +145,65 @@ impl Table {
     }
 }
 
-/// Applies an option at each part that a target names. A refusal at one of several parts leaves the
-/// configuration as it was.
+/// The parts that a target names. Where they are several, also a copy of the configuration, to put back when the
+/// option fails at one of them.
+#[derive(Drop)]
+struct Parts {
+    entities: Vec<Entity>,
+    before: Option<ColoredConfig>,
+}
+
+/// The parts that a target names. Fails with `Memory` alone, and only where the target names a part. All that a
+/// modification allocates by itself, it allocates here, before the first change.
+fn find_parts<T: Object<VecRecords<Text<String>>>>(
+    records: &VecRecords<Text<String>>,
+    config: &ColoredConfig,
+    target: &T,
+) -> Result<Parts, TableError>
+    ensures named { IfOk result (λ parts. parts.entities.items
+        ≡ T.picks target.now (length records.now) (columns records.now)) }
+    ensures copied { IfOk result (λ parts. parts.before ≡ kept_config parts.entities.items config.now) }
+    ensures some { OnErr result (0 < length (T.picks target.now (length records.now) (columns records.now))) }
+    ensures only { IfErr result (λ e. e ≡ Memory) }
+{
+    let entities = target.cells(records.allocator(), records)?;
+    let before = if entities.len() > 1 {
+        Some(config.clone()?)
+    } else {
+        None
+    };
+    Ok(Parts { entities, before })
+}
+
+/// Applies an option at some parts in order. Where it fails at one, the parts before that stay changed, and the
+/// configuration is put back where there is a copy of it. Nothing else fails here: each error is the option's at a part.
+fn change_parts<O: CellOption<VecRecords<Text<String>>, ColoredConfig>>(
+    records: &mut VecRecords<Text<String>>,
+    config: &mut ColoredConfig,
+    parts: Parts,
+    option: &O,
+) -> Result<(), TableError>
+    ensures ok { OnOk result (ChangesEach (O.changes option.now) parts.entities.items
+        records.old config.old records.new config.new) }
+    ensures err { IfErr result (λ e. StopsAtPart
+        (O.changes option.now) (O.refuses option.now) (O.out_of_range option.now)
+        parts.entities.items parts.before e records.old config.old records.new config.new) }
+    ensures only { IfErr result (λ e. (e ≡ Memory) ⊎ (e ≡ Range)) }
+{
+    let Parts { entities, before } = parts;
+    match change_each(records, config, entities.as_slice(), option) {
+        Ok(()) => Ok(()),
+        Err(e) => match before {
+            Some(before) => {
+                *config = before;
+                Err(e)
+            }
+            None => Err(e),
+        },
+    }
+}
+
+/// Applies an option at each part that a target names.
 fn change_target<
     T: Object<VecRecords<Text<String>>>,
     O: CellOption<VecRecords<Text<String>>, ColoredConfig>,
@@ -163,36 +221,8 @@ fn change_target<
         e records.old config.old records.new config.new) }
     ensures only { IfErr result (λ e. (e ≡ Memory) ⊎ (e ≡ Range)) }
 {
-    let entities = target.cells(records.allocator(), records)?;
-    if entities.len() > 1 {
-        change_several(records, config, entities.as_slice(), option)
-    } else {
-        change_each(records, config, entities.as_slice(), option)
-    }
-}
-
-/// Applies an option at several parts in order. A refusal leaves the configuration as it was.
-fn change_several<O: CellOption<VecRecords<Text<String>>, ColoredConfig>>(
-    records: &mut VecRecords<Text<String>>,
-    config: &mut ColoredConfig,
-    entities: &[Entity],
-    option: &O,
-) -> Result<(), TableError>
-    requires { 1 < length entities.now }
-    ensures ok { OnOk result (ChangesEach (O.changes option.now) entities.now
-        records.old config.old records.new config.new) }
-    ensures err { IfErr result (λ e. IsPutBack (O.changes option.now) (O.refuses option.now) (O.out_of_range option.now)
-        entities.now e records.old config.old records.new config.new) }
-    ensures only { IfErr result (λ e. (e ≡ Memory) ⊎ (e ≡ Range)) }
-{
-    let before = config.clone()?;
-    match change_each(records, config, entities, option) {
-        Ok(()) => Ok(()),
-        Err(e) => {
-            *config = before;
-            Err(e)
-        }
-    }
+    let parts = find_parts(records, config, target)?;
+    change_parts(records, config, parts, option)
 }
 
 /// Applies an option at some parts in order, up to one where it is refused.

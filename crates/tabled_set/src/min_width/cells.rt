@@ -1,6 +1,6 @@
 //! Increasing the cells of an entity.
 ghost use Rattle.std.specs.Prelude.{◌≡◌};
-ghost use Rattle.tabled_change.specs.CellChanges.{ChangesEntity, StopsEntity, if_taken};
+ghost use Rattle.tabled_change.specs.CellChanges.{ChangesEntity, StopsEntity, if_taken, never_in_place};
 ghost use Rattle.tabled_change.specs.TextLines.{filling};
 ghost use Rattle.tabled_change.specs.declared.which.Which.TheVariants.{Narrower};
 
@@ -18,7 +18,7 @@ impl<W: Measurement<Width>, P, R: RecordsMut> CellOption<R, ColoredConfig> for M
     ghost changes = { λ s r c e r' c'. ChangesEntity (if_taken Narrower (filling s.rule.fill))
         (W.measures s.width (R.cells r) c.config) e (R.cells r) (R.cells r') × (c' ≡ c) };
 
-    ghost refuses = { λ s f r c e r' c'. StopsEntity Narrower (filling s.rule.fill)
+    ghost refuses = { λ s f r c e r' c'. StopsEntity Narrower never_in_place (filling s.rule.fill)
         (W.measures s.width (R.cells r) c.config) e f (R.cells r) (R.cells r') × (c' ≡ c) };
 
     ghost out_of_range = { λ s r c e. W.out_of_range s.width (R.cells r) c.config };

@@ -1,6 +1,6 @@
 //! Increasing the columns of whole tables.
 ghost use Rattle.std.specs.Prelude.{◌≡◌, None, false};
-ghost use Rattle.tabled_resize.specs.Increased.{IncreasesWidth, WidthOutOfRange};
+ghost use Rattle.tabled_resize.specs.Increased.{IncreasesWidth, StopsIncreasing, WidthOutOfRange};
 ghost use Rattle.tabled_set.specs.Promised.{WidensAsPromised};
 ghost use Rattle.tabled_size.specs.Cleared.{AreCleared};
 ghost use Rattle.tabled_size.specs.Sheet.{is_empty};
@@ -15,7 +15,8 @@ use tabled_resize::increase_width;
 use tabled_size::{CompleteDimension, Peaker, is_empty};
 
 /// A table narrower than the measure is widened to it: its columns grow by what is wanting, and their widths are
-/// stored. Columns of no width stay so. Sizes that aren't stored are estimated and stored, of other tables too.
+/// stored. Columns of no width stay so. Sizes that aren't stored are estimated and stored, of other tables too. `Memory`
+/// comes only where sizes aren't stored or the table is narrower than the measure.
 impl<W: Measurement<Width> + Drop, P: Peaker + Drop, R: PeekableRecords> TableOption<
     R,
     ColoredConfig,
@@ -24,8 +25,10 @@ impl<W: Measurement<Width> + Drop, P: Peaker + Drop, R: PeekableRecords> TableOp
     ghost changes = { λ s r c d r' c' d'. IncreasesWidth P.grows s.priority
         (W.measures s.width (R.cells r) c.config) (R.cells r) c.config d d' × ((r' ≡ r) × (c' ≡ c)) };
 
-    // Only a table with a row and a column is refused.
-    ghost refuses = { λ s e r c d r' c' d'. (is_empty (R.cells r) ≡ false) × (r' ≡ r) × (c' ≡ c) };
+    // Only a table with a row and a column fails. The sizes are as they were, or filled in.
+    ghost refuses = { λ s e r c d r' c' d'. (is_empty (R.cells r) ≡ false)
+        × StopsIncreasing (W.measures s.width (R.cells r) c.config) e (R.cells r) c.config d d'
+        × ((r' ≡ r) × (c' ≡ c)) };
 
     ghost out_of_range = { λ s r c d.
         WidthOutOfRange (W.out_of_range s.width (R.cells r) c.config) (R.cells r) c.config d };

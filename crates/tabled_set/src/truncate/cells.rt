@@ -1,7 +1,6 @@
 //! Truncating the cells of an entity.
 ghost use Rattle.std.specs.Prelude.{◌≡◌};
-ghost use Rattle.tabled_base.specs.declared.error.TableError.TheVariants.{Memory};
-ghost use Rattle.tabled_change.specs.CellChanges.{AreLeftInPlace, ChangesEntity, StopsEntity, if_wider, truncating};
+ghost use Rattle.tabled_change.specs.CellChanges.{ChangesEntity, StopsEntity, if_wider, truncating};
 ghost use Rattle.tabled_change.specs.InPlace.{truncating_in_place};
 ghost use Rattle.tabled_change.specs.declared.which.Which.TheVariants.{Wider};
 
@@ -13,17 +12,18 @@ use tabled_change::Which;
 use tabled_config::ColoredConfig;
 
 /// The entity's cells that are wider than the measure are truncated to it, and no other cell changes. Where the
-/// measure is refused, with `Range`, no cell has changed; where memory is, those before the refused one have, row by row. Memory
-/// isn't refused where each text is cut in its place: with no U+FFFD, and with no suffix or one with which it takes at most 16 bytes.
+/// measure fails, with `Range`, no cell has changed. `Memory` comes at a cell that can't be cut in its place, and those
+/// before it have changed, row by row. A text is cut in its place where no U+FFFD is needed, and with no suffix, or one
+/// with which it takes at most 16 bytes.
 impl<'a, W: Measurement<Width>, P, R: RecordsMut> CellOption<R, ColoredConfig>
     for Truncate<'a, W, P> {
     ghost changes = { λ s r c e r' c'. ChangesEntity (if_wider (truncating s.rule.suffix.now s.rule.limit s.rule.multiline))
         (W.measures s.width (R.cells r) c.config) e (R.cells r) (R.cells r') × (c' ≡ c) };
 
-    ghost refuses = { λ s f r c e r' c'. StopsEntity Wider (truncating s.rule.suffix.now s.rule.limit s.rule.multiline)
-        (W.measures s.width (R.cells r) c.config) e f (R.cells r) (R.cells r') × (c' ≡ c)
-        × (f ≡ Memory → AreLeftInPlace Wider (truncating_in_place s.rule.suffix.now s.rule.limit s.rule.multiline)
-        (W.measures s.width (R.cells r) c.config) e (R.cells r) → ⊥) };
+    ghost refuses = { λ s f r c e r' c'. StopsEntity Wider
+        (truncating_in_place s.rule.suffix.now s.rule.limit s.rule.multiline)
+        (truncating s.rule.suffix.now s.rule.limit s.rule.multiline)
+        (W.measures s.width (R.cells r) c.config) e f (R.cells r) (R.cells r') × (c' ≡ c) };
 
     ghost out_of_range = { λ s r c e. W.out_of_range s.width (R.cells r) c.config };
 

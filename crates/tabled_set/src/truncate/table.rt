@@ -1,6 +1,7 @@
 //! Truncating the cells of whole tables.
 ghost use Rattle.std.specs.Prelude.{◌≡◌, None, false};
 ghost use Rattle.tabled_change.specs.CellChanges.{if_wider, truncating};
+ghost use Rattle.tabled_change.specs.InPlace.{truncating_in_place};
 ghost use Rattle.tabled_change.specs.declared.which.Which.TheVariants.{Wider};
 ghost use Rattle.tabled_resize.specs.Narrowed.{Narrows, NarrowingOutOfRange, StopsNarrowing};
 ghost use Rattle.tabled_set.specs.Promised.{TruncatesAsPromised};
@@ -20,7 +21,8 @@ use tabled_size::{CompleteDimension, Peaker, is_empty};
 /// A table wider than the measure is narrowed to it: its columns shrink by the excess, and each cell that is wider
 /// than its column's new width less its own padding is truncated to that. Cells of a column that ends below its
 /// minimum, its width with empty cells, stay. The widths are stored, and heights are cleared where the table was
-/// wider.
+/// wider. `Memory` comes only where sizes aren't stored or the table is wider than the measure, and at a cell only
+/// where its text can't be cut in its place.
 impl<'a, W: Measurement<Width> + Drop, P: Peaker + Drop, R: RecordsMut> TableOption<
     R,
     ColoredConfig,
@@ -30,10 +32,12 @@ impl<'a, W: Measurement<Width> + Drop, P: Peaker + Drop, R: RecordsMut> TableOpt
         Narrows P.shrinks s.priority (if_wider (truncating s.rule.suffix.now s.rule.limit s.rule.multiline))
         (W.measures s.width (R.cells r) c.config) (R.cells r) c.config d (R.cells r') d' × (c' ≡ c) };
 
-    // Only a table with a row and a column is refused.
+    // Only a table with a row and a column fails. The sizes are as they were, or filled in.
     ghost refuses = { λ s e r c d r' c' d'. (is_empty (R.cells r) ≡ false)
-        × StopsNarrowing P.shrinks s.priority Wider (truncating s.rule.suffix.now s.rule.limit s.rule.multiline)
-        (W.measures s.width (R.cells r) c.config) e (R.cells r) c.config d (R.cells r') × (c' ≡ c) };
+        × StopsNarrowing P.shrinks s.priority Wider
+        (truncating_in_place s.rule.suffix.now s.rule.limit s.rule.multiline)
+        (truncating s.rule.suffix.now s.rule.limit s.rule.multiline)
+        (W.measures s.width (R.cells r) c.config) e (R.cells r) c.config d (R.cells r') d' × (c' ≡ c) };
 
     ghost out_of_range = { λ s r c d. NarrowingOutOfRange (W.out_of_range s.width (R.cells r) c.config)
         (W.measures s.width (R.cells r) c.config) (R.cells r) c.config d };

@@ -1,7 +1,7 @@
 //! Wrapping the cells of whole tables.
 ghost use Rattle.std.specs.Prelude.{◌≡◌, Some, false};
 ghost use Rattle.tabled_base.specs.declared.position.Entity.TheVariants.{Row};
-ghost use Rattle.tabled_change.specs.CellChanges.{wrapping};
+ghost use Rattle.tabled_change.specs.CellChanges.{never_in_place, wrapping};
 ghost use Rattle.tabled_change.specs.declared.which.Which.TheVariants.{Every};
 ghost use Rattle.tabled_resize.specs.Narrowed.{Narrows, NarrowingOutOfRange, StopsNarrowing};
 ghost use Rattle.tabled_set.specs.Promised.{WrapsAsPromised};
@@ -20,7 +20,8 @@ use tabled_size::{CompleteDimension, Peaker, is_empty};
 
 /// A table wider than the measure is narrowed to it: its columns shrink by the excess, and every cell is wrapped
 /// to its column's new width less its own padding. Cells of a column that ends below its minimum, its width with
-/// empty cells, stay. The widths are stored, and where none were, of other tables too.
+/// empty cells, stay. The widths are stored, and where none were, of other tables too. `Memory` comes only where sizes
+/// aren't stored or the table is wider than the measure.
 impl<W: Measurement<Width> + Drop, P: Peaker + Drop, R: RecordsMut> TableOption<
     R,
     ColoredConfig,
@@ -29,10 +30,10 @@ impl<W: Measurement<Width> + Drop, P: Peaker + Drop, R: RecordsMut> TableOption<
     ghost changes = { λ s r c d r' c' d'. Narrows P.shrinks s.priority (wrapping s.rule.keep_words)
         (W.measures s.width (R.cells r) c.config) (R.cells r) c.config d (R.cells r') d' × (c' ≡ c) };
 
-    // Only a table with a row and a column is refused.
+    // Only a table with a row and a column fails. The sizes are as they were, or filled in.
     ghost refuses = { λ s e r c d r' c' d'. (is_empty (R.cells r) ≡ false)
-        × StopsNarrowing P.shrinks s.priority Every (wrapping s.rule.keep_words)
-        (W.measures s.width (R.cells r) c.config) e (R.cells r) c.config d (R.cells r') × (c' ≡ c) };
+        × StopsNarrowing P.shrinks s.priority Every never_in_place (wrapping s.rule.keep_words)
+        (W.measures s.width (R.cells r) c.config) e (R.cells r) c.config d (R.cells r') d' × (c' ≡ c) };
 
     ghost out_of_range = { λ s r c d. NarrowingOutOfRange (W.out_of_range s.width (R.cells r) c.config)
         (W.measures s.width (R.cells r) c.config) (R.cells r) c.config d };

@@ -20,4 +20,4 @@ returns-in_err-change_cell-clause-err g c =
     let p = err_from_is_err_and c.from_residual.result c.from_residual.ensures.1 in
     rw p.1
     (stops-there c.args.order c.args.band c.args.line c.places.place at.row at.column c.cell.ensures.line c.cell.ensures.place (omega arith) (omega arith) (omega arith) (omega arith)
-    c.places.invariant c.in_err-change_cell.ensures.err c.in_err-change_cell.ensures.taken)
+    c.places.invariant c.in_err-change_cell.ensures.err c.in_err-change_cell.ensures.needed)

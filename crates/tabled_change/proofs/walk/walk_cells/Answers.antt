@@ -2,7 +2,7 @@ use Rattle.std.proofs.Common.{arith}
 use Rattle.std.proofs.lemmas.Result.{err_from_is_err_and}
 use Rattle.tabled_entity.specs.Changes.{covers}
 use Rattle.tabled_change.proofs.ChangingCells.{AreChanged-both}
-use Rattle.tabled_change.proofs.WalkLemmas.{lines-more, shortened-later, stops-later}
+use Rattle.tabled_change.proofs.WalkLemmas.{lines-more, stops-later}
 use Rattle.tabled_change.proofs.walk.walk_cells.Goals as goal
 
 pub returns-in_err-change_line-clause-err : goal.returns-in_err-change_line-clause-err
@@ -18,13 +18,3 @@ lines-preserved g c =
     let bands = c.lines_of_entity.result in
     AreChanged-both c.lines.invariant c.in_ok-change_line.ensures.ok
     (λ r k inside. lines-more c.args.order (covers c.args.entity r k) bands.0 bands.1 line r k (c.lines_of_entity.ensures.cells r k inside) (omega arith) (omega arith))
-
-pub returns-in_err-change_line-clause-longer : goal.returns-in_err-change_line-clause-longer
-returns-in_err-change_line-clause-longer g c =
-    let by = c.args.by.now in
-    let bands = c.lines_of_entity.result in
-    let p = err_from_is_err_and c.from_residual.result c.from_residual.ensures.1 in
-    rw p.1
-    (λ all. c.in_err-change_line.ensures.longer
-    (shortened-later c.args.order bands.1 by.which (g.T.TextRule.shortens by.rule.now) (g.M.Rooms.room_at by.rooms.now) (covers c.args.entity) bands.0
-    c.lines.line c.lines_of_entity.ensures.cells (omega arith) (omega arith) c.lines.invariant all))

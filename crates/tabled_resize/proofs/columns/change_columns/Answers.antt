@@ -12,5 +12,5 @@ returns-clause-ok g c =
 pub returns-clause-err : goal.returns-clause-err
 returns-clause-err g c =
     on_err_weaker c.change_cells.result
-    (λ h. widths-before c.args.which (g.T.TextRule.makes c.args.rule.now) c.args.config.now c.args.sizes.now.widths.items c.args.sizes.now.mins.items h)
+    (λ h. widths-before c.args.which (g.T.TextRule.shortens c.args.rule.now) (g.T.TextRule.makes c.args.rule.now) c.args.config.now c.args.sizes.now.widths.items c.args.sizes.now.mins.items h)
     c.change_cells.ensures.err

@@ -1,6 +1,6 @@
 use Rattle.std.proofs.Common.{◌≡◌, refl}
 use Rattle.tabled_base.specs.declared.position.Entity.TheVariants.{Global}
-use Rattle.tabled_change.specs.CellChanges.{StopsEntity}
+use Rattle.tabled_change.specs.CellChanges.{StopsEntity, never_in_place}
 use Rattle.tabled_change.specs.Justified.{IsJustified}
 use Rattle.tabled_change.specs.declared.which.Which.TheVariants.{NotAsWide}
 use Rattle.tabled_set.proofs.Stopping.{stops-with}
@@ -12,5 +12,5 @@ returns-clause-err g c =
     let n = g.W.Measurement.measures c.args.self.width cells c.args.cfg.now.config in
     let new = g.R.ExactRecords.cells c.change_measured.new.records in
     let error = c.change_measured.result in
-    stops-with (λ e. StopsEntity NotAsWide IsJustified n Global e cells new) ((c.args.cfg.now ≡ c.args.cfg.now) × (c.args._dims.now ≡ c.args._dims.now)) error
+    stops-with (λ e. StopsEntity NotAsWide never_in_place IsJustified n Global e cells new) ((c.args.cfg.now ≡ c.args.cfg.now) × (c.args._dims.now ≡ c.args._dims.now)) error
     c.change_measured.ensures.err (refl, refl)

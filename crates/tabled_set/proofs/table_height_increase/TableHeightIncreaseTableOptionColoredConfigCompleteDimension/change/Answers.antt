@@ -1,7 +1,9 @@
-use Rattle.std.proofs.Common.{rules}
+use Rattle.std.proofs.Common.{◌≡◌, false, refl, rules}
 use Rattle.std.proofs.lemmas.Result.{on_ok_weaker}
 use Rattle.tabled_resize.specs.Increased.{IncreasesHeight}
+use Rattle.tabled_size.specs.Sheet.{is_empty}
 use Rattle.tabled_set.proofs.PromisedSizes.{heightens}
+use Rattle.tabled_set.proofs.Stopping.{stops-heightening}
 use Rattle.tabled_set.proofs.table_height_increase.TableHeightIncreaseTableOptionColoredConfigCompleteDimension.change.Goals as goal
 
 pub returns-clause-promised : goal.returns-clause-promised
@@ -15,3 +17,8 @@ returns-clause-promised g c =
     on_ok_weaker {P = IncreasesHeight g.P.Peaker.grows s.priority n cells config old new} c.increase_measured.result
     (λ h left cleared. heightens g.P.Peaker.grows s.priority n cells config old new left h cleared)
     (search rules)
+
+pub returns-clause-err : goal.returns-clause-err
+returns-clause-err g c =
+    stops-heightening (is_empty (g.R.ExactRecords.cells c.args.records.now) ≡ false) (c.args.records.now ≡ c.args.records.now) (c.args.cfg.now ≡ c.args.cfg.now)
+    (c.increase_measured.new.dims ≡ c.args.dims.now) c.increase_measured.result c.increase_measured.ensures.filled refl refl c.increase_measured.ensures.kept

@@ -1,12 +1,12 @@
-use Rattle.std.proofs.Common.{◌≡◌, ℕ, IfErr, false, refl, rules, subst}
-use Rattle.std.proofs.lemmas.Result.{on_ok_weaker}
+use Rattle.std.proofs.Common.{◌≡◌, ℕ, IfErr, false, inl, refl, rules, subst}
+use Rattle.std.proofs.lemmas.Result.{err_from_is_err_and, on_ok_weaker}
 use Rattle.tabled_config.specs.declared.spanned.SpannedConfig.{SpannedConfig}
-use Rattle.tabled_change.specs.CellChanges.{wrapping}
+use Rattle.tabled_change.specs.CellChanges.{never_in_place, wrapping}
 use Rattle.tabled_change.specs.declared.which.Which.TheVariants.{Every}
 use Rattle.tabled_size.specs.Sheet.{is_empty}
 use Rattle.tabled_resize.specs.Narrowed.{Narrows, StopsNarrowing}
 use Rattle.tabled_set.proofs.Promises.{wraps}
-use Rattle.tabled_set.proofs.Stopping.{if-refused, stops-filled}
+use Rattle.tabled_set.proofs.Stopping.{if-refused, stops-filled, stops-measuring}
 use Rattle.tabled_set.proofs.wrap.table.WrapTableOptionColoredConfigCompleteDimension.change.Goals as goal
 
 pub returns-clause-promised : goal.returns-clause-promised
@@ -28,10 +28,17 @@ returns-clause-err g c =
     let cells = g.R.ExactRecords.cells c.args.records.now in
     let sizes = c.args.dims.now in
     let new = g.R.ExactRecords.cells c.narrow_table.new.records in
+    let stored = c.narrow_table.new.sizes in
     let error = c.narrow_table.result in
     let same = c.args.cfg.now ≡ c.args.cfg.now in
     let filled = is_empty cells ≡ false in
     let some : is_empty cells ≡ false = search rules in
-    subst (λ (config : SpannedConfig). IfErr error (λ e. filled × StopsNarrowing g.P.Peaker.shrinks s.priority Every change (g.W.Measurement.measures s.width cells config) e cells config sizes new × same)) c.as_ref-config.ensures
-    (subst (λ (k : ℕ). IfErr error (λ e. filled × StopsNarrowing g.P.Peaker.shrinks s.priority Every change k e cells c.as_ref-config.result.now sizes new × same)) c.in_ok-n.ensures.ok
-    (stops-filled filled (λ e. StopsNarrowing g.P.Peaker.shrinks s.priority Every change c.in_ok-n.n e cells c.as_ref-config.result.now sizes new) same error (if-refused filled error some) c.narrow_table.ensures.err refl))
+    subst (λ (config : SpannedConfig). IfErr error (λ e. filled × StopsNarrowing g.P.Peaker.shrinks s.priority Every never_in_place change (g.W.Measurement.measures s.width cells config) e cells config sizes new stored × same)) c.as_ref-config.ensures
+    (subst (λ (k : ℕ). IfErr error (λ e. filled × StopsNarrowing g.P.Peaker.shrinks s.priority Every never_in_place change k e cells c.as_ref-config.result.now sizes new stored × same)) c.in_ok-n.ensures.ok
+    (stops-filled filled (λ e. StopsNarrowing g.P.Peaker.shrinks s.priority Every never_in_place change c.in_ok-n.n e cells c.as_ref-config.result.now sizes new stored) same error (if-refused filled error some) c.narrow_table.ensures.err refl))
+
+pub returns-in_err-n-clause-err : goal.returns-in_err-n-clause-err
+returns-in_err-n-clause-err g c =
+    let p = err_from_is_err_and c.from_residual.result c.from_residual.ensures.1 in
+    let some : is_empty (g.R.ExactRecords.cells c.args.records.now) ≡ false = search rules in
+    rw p.1 (some, inl (refl, stops-measuring p.0 _ c.args.dims.now p.2 c.in_err-n.ensures.err.0), refl)
