@@ -1,10 +1,10 @@
 -- What a call that prints to the sink of a borrowed writer says of the writer.
-use Rattle.std.proofs.Common.{◌≡◌, ℕ, ◌<◌, ◌≤◌, Bool, true, false, List, [], ◌∷◌, ◌++◌, length, drop, take, Option, Some, None, Result, Ok, Err, refl, sym, ◌∙◌, ap, subst, append-nil, append_assoc, arith, inl, inr, ⊎_elim}
+use Rattle.std.proofs.Common.{◌≡◌, ℕ, ◌<◌, ◌≤◌, true, false, List, [], ◌∷◌, ◌++◌, length, take, Option, Some, None, Result, Ok, Err, refl, sym, ◌∙◌, ap, subst, append-nil, append_assoc, arith, inl, inr, ⊎_elim}
 use Rattle.std.specs.Prelude.{MatchResult, is_some, slice_index_or}
 use Rattle.std.specs.Io.KnownBytes.{Appends, Keeps, append_known}
 use Rattle.tabled_base.specs.declared.error.TableError.{TableError}
 use Rattle.tabled_base.specs.declared.error.TableError.TheVariants.{Memory, ShortWidths, ShortHeights, Narrow, Range, Writer}
-use Rattle.tabled_row.specs.Sent.{Rose, Sent, Sends, Stops, Took}
+use Rattle.tabled_row.specs.Sent.{Sent, Sends, Stops, Took}
 use Rattle.tabled_row.specs.WriterSent.{failed_byte, known_since, named_sent, writer_after, writer_before}
 use Rattle.tabled_row.proofs.Sending.{Appends-nil, Keeps-same, took-all}
 
@@ -160,7 +160,7 @@ leaves_writer na nb ca cb cf failed_at e k never = record {
 -- a call that failed with the sink of a writer
 pub writer-leaves : (na nb : ℕ) (ca cb cf : Option (List ℕ)) (failed_at : Option ℕ) (e : TableError) → (nb ≡ na → cf ≡ cb)
     → LeavesSo (named_sent na ca None) (named_sent nb cb failed_at) e
-        (writer_before ca) (writer_after {T = Unit {0}} (Err e) (known_since ca cf) (byte_of failed_at))
+    (writer_before ca) (writer_after {T = Unit {0}} (Err e) (known_since ca cf) (byte_of failed_at))
 writer-leaves na nb ca cb cf failed_at Writer k = record {
   sends = λ other text p. absurd (other refl);
   same = λ other h. absurd (other refl);
