@@ -43,7 +43,10 @@ fn two_rows_are_taken_at_most_before_the_first_byte(rt: HostRuntime) -> Result<(
     let mut rows = thousand(rt.alloc())?.into_iter();
     let mut table = IterTable::new(&mut rows);
     table.sniff(1);
-    assert_eq!(rt; table.build(rt.alloc(), Closed {}), Err(TableError::Writer));
+    assert_eq!(rt;
+        table.build(rt.alloc(), &mut Closed {}),
+        Err(TableError::Writer)
+    );
     assert!(rt; rows.len() >= 998);
     Ok(())
 }
@@ -53,7 +56,10 @@ fn one_row_is_taken_where_columns_and_width_are_given(rt: HostRuntime) -> Result
     let mut rows = thousand(rt.alloc())?.into_iter();
     let mut table = IterTable::new(&mut rows);
     table.width(3).columns(2);
-    assert_eq!(rt; table.build(rt.alloc(), Closed {}), Err(TableError::Writer));
+    assert_eq!(rt;
+        table.build(rt.alloc(), &mut Closed {}),
+        Err(TableError::Writer)
+    );
     assert!(rt; rows.len() >= 999);
     Ok(())
 }

@@ -141,11 +141,16 @@ fn streams(alloc: Global) -> Result<Found, TableError> {
     Ok(whole_if(table.to_string(alloc)?.as_str() == BARRED))
 }
 
-// A stream to a writer with room for it.
+// Whether a buffer that a text doesn't fill has taken exactly the text.
+fn holds_only(buffer: &io::Cursor<[u8; 128]>, text: &str) -> bool {
+    buffer.position() == text.len() as u64 && buffer.get_ref().starts_with(text.as_bytes())
+}
+
+// A stream to a writer.
 fn stream_to_writer(alloc: Global) -> Result<Found, TableError> {
-    let mut room = io::Cursor::new([0u8; 64]);
-    IterTable::new(PAIRS).build(alloc, &mut room)?;
-    Ok(whole_if(room.get_ref().starts_with(PICTURE.as_bytes())))
+    let mut buffer = io::Cursor::new([0u8; 128]);
+    IterTable::new(PAIRS).build(alloc, &mut buffer)?;
+    Ok(whole_if(holds_only(&buffer, PICTURE)))
 }
 
 fn compact_table(alloc: Global) -> Result<Found, TableError> {
@@ -157,15 +162,15 @@ fn compact_table(alloc: Global) -> Result<Found, TableError> {
     Ok(whole_if(text.as_str() == BARRED))
 }
 
-// A compact table to a writer with room for it.
+// A compact table to a writer.
 fn compact_to_writer() -> Result<Found, TableError> {
-    let mut room = io::Cursor::new([0u8; 64]);
+    let mut buffer = io::Cursor::new([0u8; 128]);
     CompactTable::new(PAIRS)
         .columns(2)
         .width(ConstSize::List([3, 2]))
         .with(CompactConfig::new())?
-        .build(&mut room)?;
-    Ok(whole_if(room.get_ref().starts_with(BARE.as_bytes())))
+        .build(&mut buffer)?;
+    Ok(whole_if(holds_only(&buffer, BARE)))
 }
 
 // Settings of each kind for boxes.

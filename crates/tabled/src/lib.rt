@@ -25,6 +25,7 @@ pub use program::run;
 pub use rendering::{render, render_styled};
 pub use tabled_base::{TableError, Text};
 pub use tabled_grid::{IoSink, TextSink};
+pub use tabled_row::WriterSink;
 pub use tabled_table::Table;
 pub use tabled_value::Tabled;
 

@@ -7,4 +7,5 @@ pub mod RowLines
 pub mod RowPieces
 pub mod SoFar
 pub mod Tables
+pub mod ToWriters
 pub mod Windows

@@ -1,8 +1,9 @@
 -- Which compact tables are printed, why others are refused, and what a call that prints leaves.
-use Rattle.std.specs.Prelude.{◌≡◌, ◌^◌, ◌<◌, ◌≤◌, ◌+◌, ◌⊎◌, ℕ, Bool, true, List, [], length, Result, Ok, Err}
+use Rattle.std.specs.Prelude.{◌≡◌, ◌^◌, ◌<◌, ◌≤◌, ◌+◌, ◌⊎◌, ℕ, Bool, true, List, [], length, Option, Result, Ok, Err}
 use Rattle.tabled_base.specs.declared.error.TableError.{TableError}
 use Rattle.tabled_base.specs.declared.error.TableError.TheVariants.{Range, ShortWidths}
 use Rattle.tabled_row.specs.Sent.{Sent, Sends, Stops}
+use Rattle.tabled_row.specs.WriterSent.{known_since, writer_after, writer_before}
 use Rattle.tabled_compact.specs.CompactCells.{CompactSheet}
 use Rattle.tabled_compact.specs.CompactLines.{compact_text, compact_width, rows_text}
 use Rattle.tabled_compact.specs.Shown.{AreEnough, AreWanted, has_rows, shown}
@@ -56,3 +57,9 @@ pub record IsEnded (t : CompactSheet) (w : Window) (comes : List (List (List ℕ
 abbrev pub PrintsCompact : {T : Type 0} → CompactSheet → Window → (List (List (List ℕ)) → Bool → Type 0) → Sent → Result T TableError → Sent → Type 0
 PrintsCompact t w comes old (Ok _) new = IsPrinted t w comes old new
 PrintsCompact t w comes old (Err error) new = IsEnded t w comes old error new
+
+-- what such a call leaves of the contents of a writer that it prints to
+abbrev pub BuildsCompact : {T : Type 0} → CompactSheet → Window → (List (List (List ℕ)) → Bool → Type 0)
+    → Option (List ℕ) → Result T TableError → Option (List ℕ) → Type 0
+BuildsCompact t w comes old result new =
+    (byte : ℕ) × PrintsCompact t w comes (writer_before old) result (writer_after result (known_since old new) byte)

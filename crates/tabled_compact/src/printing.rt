@@ -2,7 +2,7 @@
 ghost use Rattle.std.specs.Prelude.{◌≡◌, Some, [], string_bytes, IfErr, IfOk, false, true};
 ghost use Rattle.tabled_row.specs.Sent.{Sent};
 ghost use Rattle.tabled_compact.specs.CompactCells.{sheet_by};
-ghost use Rattle.tabled_compact.specs.Printed.{IsEnded, IsPrinted, PrintsCompact};
+ghost use Rattle.tabled_compact.specs.Printed.{BuildsCompact, IsEnded, IsPrinted, PrintsCompact};
 ghost use Rattle.tabled_compact.specs.Shown.{Came};
 
 use crate::print::print_compact;
@@ -11,7 +11,7 @@ use crate::window::Window;
 use std::alloc::Global;
 use std::io::Write;
 use tabled_base::{CellText, IntoRecords, TableError};
-use tabled_row::{IoSink, TextSink};
+use tabled_row::{TextSink, WriterSink};
 use tabled_size::Dimension;
 
 impl<I: IntoRecords, D: Dimension + Drop> CompactTable<I, D>
@@ -47,14 +47,22 @@ where
     }
 
     /// Prints the table to a writer, as `fmt` does to a sink. The writer isn't flushed.
-    pub fn build<W: Write + Drop>(self, writer: W) -> Result<(), TableError>
+    ///
+    /// On `Ok` the writer took exactly the text of the table. With `ShortWidths` and `Range` it took
+    /// nothing. `Writer` comes when a write fails or takes no byte: the writer took a beginning of the text
+    /// then, which goes on behind it. Nothing is written after that, and no memory is allocated.
+    pub fn build<W: Write>(self, writer: &mut W) -> Result<(), TableError>
         requires { I.ends self.records }
-        ensures { (new : Sent) × PrintsCompact (sheet_by self.config (D.width_at self.dimension) self.columns)
+        ensures { BuildsCompact (sheet_by self.config (D.width_at self.dimension) self.columns)
             (record { skip = self.skip; limit = self.limit }) (Came (I.begins self.records) I.Cell.text)
-            (record { bytes = W.contents writer; failures = 0; grows = false }) result new }
+            (W.contents writer.old) result (W.contents writer.new) }
     {
-        let mut sink = IoSink::new(writer);
-        self.fmt(&mut sink)
+        let mut sink = WriterSink::new(writer);
+        let result = self.fmt(&mut sink);
+        let WriterSink { writer, .. } = sink;
+        // The proof reads here what the writer holds.
+        let _ = &*writer;
+        result
     }
 
     /// The text of the table. Refused as `fmt` is, and for memory; a text never fails to be written to.

@@ -14,3 +14,4 @@ pub mod Placing
 pub mod Plains
 pub mod Sending
 pub mod Spacing
+pub mod Writers

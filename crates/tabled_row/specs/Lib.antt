@@ -12,3 +12,4 @@ pub mod Rooms
 pub mod Row
 pub mod SendsBut
 pub mod Sent
+pub mod WriterSent

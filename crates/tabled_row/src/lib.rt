@@ -23,6 +23,7 @@ mod row;
 mod row_aims;
 mod spaced;
 mod text_sink;
+mod writer_sink;
 
 pub use aim::{Aim, CellAim, Spread};
 pub use block::CellBlock;
@@ -40,3 +41,4 @@ pub use room::Room;
 pub use row::{Row, put_row_line};
 pub use row_aims::{KeptAims, Placed, SetAims, TellAims, ToldAims, place};
 pub use text_sink::TextSink;
+pub use writer_sink::WriterSink;

@@ -15,6 +15,7 @@ pub mod Sources
 pub mod Steps
 pub mod StreamedTexts
 pub mod TakenRows
+pub mod ToWriters
 pub mod TopAndBottom
 pub mod Unshown
 pub mod WholeTexts

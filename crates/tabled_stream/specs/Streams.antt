@@ -8,6 +8,7 @@ use Rattle.tabled_config.specs.Spanned.{spanned_of_compact}
 use Rattle.tabled_size.specs.Sheet.{Sheet}
 use Rattle.tabled_size.specs.Totals.{filled_width}
 use Rattle.tabled_row.specs.Sent.{Sent, Sends, Stops}
+use Rattle.tabled_row.specs.WriterSent.{known_since, writer_after, writer_before}
 use Rattle.tabled_grid.specs.Picture.{table_text}
 use Rattle.tabled_stream.specs.declared.settings.Settings.{Settings}
 use Rattle.tabled_stream.specs.Printed.{text_above}
@@ -137,3 +138,9 @@ pub record PrintsStream {T : Type 0} (settings : Settings) (config : CompactConf
   pub came : comes rows whole
   pub permitted : ArePermitted settings rows
   pub streams : Streams settings config rows whole old result new
+
+-- what such a call leaves of the contents of a writer that it prints to
+abbrev pub BuildsStream : {T : Type 0} → Settings → CompactConfig → (List (List (List ℕ)) → Bool → Type 0)
+    → Option (List ℕ) → Result T TableError → Option (List ℕ) → Type 0
+BuildsStream settings config comes old result new =
+    (byte : ℕ) × PrintsStream settings config comes (writer_before old) result (writer_after result (known_since old new) byte)

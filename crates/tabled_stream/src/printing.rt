@@ -2,14 +2,14 @@
 ghost use Rattle.std.specs.Prelude.{◌≡◌, IfOk, OnOk, Some, [], string_bytes, false, true};
 ghost use Rattle.tabled_row.specs.Sent.{Sent};
 ghost use Rattle.tabled_stream.specs.LikeTable.{PrintsLikeTable};
-ghost use Rattle.tabled_stream.specs.Streams.{Came, PrintsStream};
+ghost use Rattle.tabled_stream.specs.Streams.{BuildsStream, Came, PrintsStream};
 
 use crate::table::IterTable;
 use crate::whole::print_source;
 use std::alloc::Global;
 use std::io::Write;
 use tabled_base::{CellText, IntoRecords, TableError};
-use tabled_row::{IoSink, TextSink};
+use tabled_row::{TextSink, WriterSink};
 
 impl<I: IntoRecords> IterTable<I>
 where
@@ -35,13 +35,22 @@ where
     }
 
     /// Prints the table to a writer, as `fmt` does to a sink. The writer isn't flushed.
-    pub fn build<W: Write + Drop>(self, alloc: Global, writer: W) -> Result<(), TableError>
+    ///
+    /// On `Ok` the writer took exactly the text of the table. Else it took a beginning of that text: nothing
+    /// where a call of `fmt` fails before the first byte, and the lines above the row where one fails at
+    /// that row. `Writer` comes when a write fails or takes no byte; then the text goes on behind what the
+    /// writer took. Nothing is written after that.
+    pub fn build<W: Write>(self, alloc: Global, writer: &mut W) -> Result<(), TableError>
         requires { I.ends self.records }
-        ensures { (new : Sent) × PrintsStream self.settings self.config (Came (I.begins self.records) I.Cell.text)
-            (record { bytes = W.contents writer; failures = 0; grows = false }) result new }
+        ensures { BuildsStream self.settings self.config (Came (I.begins self.records) I.Cell.text)
+            (W.contents writer.old) result (W.contents writer.new) }
     {
-        let mut sink = IoSink::new(writer);
-        self.fmt(alloc, &mut sink)
+        let mut sink = WriterSink::new(writer);
+        let result = self.fmt(alloc, &mut sink);
+        let WriterSink { writer, .. } = sink;
+        // The proof reads here what the writer holds.
+        let _ = &*writer;
+        result
     }
 
     /// The text of the table. Refused as `fmt` is; a text never fails to be written to.

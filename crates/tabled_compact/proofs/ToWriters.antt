@@ -1,0 +1,62 @@
+-- Compact tables that are printed to a borrowed writer.
+use Rattle.std.proofs.Common.{◌≡◌, ℕ, Bool, List, Option, None, Result, Ok, Err, subst, inl, inr, ⊎_elim}
+use Rattle.tabled_base.specs.declared.error.TableError.{TableError}
+use Rattle.tabled_base.specs.declared.error.TableError.TheVariants.{Writer}
+use Rattle.tabled_row.specs.Sent.{Sent}
+use Rattle.tabled_row.specs.WriterSent.{named_sent}
+use Rattle.tabled_row.proofs.Writers.{LeavesSo, byte_of, writer-leaves, writer-sends}
+use Rattle.tabled_compact.specs.CompactCells.{CompactSheet}
+use Rattle.tabled_compact.specs.Printed.{BuildsCompact, IsEnded, IsRefused, IsRefusedEarly, IsStopped, PrintsCompact}
+use Rattle.tabled_compact.specs.declared.window.Window.{Window}
+
+not_writer : (t : CompactSheet) (e : TableError) → IsRefused t e → e ≡ Writer → ⊥
+not_writer t e h k = let P : TableError → Type 0 = λ x. IsRefused t x in subst P k h
+
+-- why a compact table isn't printed whole, for another sink
+ended-so : {a b a' b' : Sent} {e : TableError} (t : CompactSheet) (w : Window) (comes : List (List (List ℕ)) → Bool → Type 0)
+    → LeavesSo a b e a' b' → IsEnded t w comes a e b → IsEnded t w comes a' e b'
+ended-so {a} {b} {a'} {b'} {e} t w comes so p =
+    let early : IsRefusedEarly t w p.rows a e b → IsRefusedEarly t w p.rows a' e b' =
+    λ q. record { first = q.first; cause = q.cause; same = so.same (not_writer t e q.cause) q.same } in
+    let stopped : IsStopped t w p.rows p.whole a e b → IsStopped t w p.rows p.whole a' e b' =
+    λ q. record {
+      printable = q.printable;
+      stops = ⊎_elim (λ s. inl (so.stops _ s)) (λ s. inr (s.0, so.stops _ s.1)) q.stops;
+    } in
+    record {
+      rows = p.rows;
+      whole = p.whole;
+      came = p.came;
+      taken = p.taken;
+      filled = p.filled;
+      ends = ⊎_elim (λ q. inl (early q)) (λ q. inr (stopped q)) p.ends;
+    }
+
+-- what the sink of a borrowed writer was sent, the writer took, if it is the one that is known in the end
+written : (t : CompactSheet) (w : Window) (comes : List (List (List ℕ)) → Bool → Type 0)
+    (na nb : ℕ) (ca cb cf : Option (List ℕ)) (failed_at : Option ℕ) (r : Result (Unit {0}) TableError) → (nb ≡ na → cf ≡ cb)
+    → PrintsCompact t w comes (named_sent na ca None) r (named_sent nb cb failed_at)
+    → BuildsCompact t w comes ca r cf
+written t w comes na nb ca cb cf failed_at (Ok x) k p = (
+  0,
+  record {
+    rows = p.rows;
+    whole = p.whole;
+    came = p.came;
+    taken = p.taken;
+    enough = p.enough;
+    printable = p.printable;
+    sends = writer-sends na nb ca cb cf failed_at _ k p.sends;
+  },
+)
+written t w comes na nb ca cb cf failed_at (Err e) k p =
+    (byte_of failed_at, ended-so t w comes (writer-leaves na nb ca cb cf failed_at e k) p)
+
+pub prints-written : (t : CompactSheet) (w : Window) (comes : List (List (List ℕ)) → Bool → Type 0)
+    (na nb : ℕ) (ca held cb cf : Option (List ℕ)) (was failed_at : Option ℕ) (r : Result (Unit {0}) TableError) → was ≡ None
+    → held ≡ ca → (nb ≡ na → cf ≡ cb) → PrintsCompact t w comes (named_sent na held was) r (named_sent nb cb failed_at)
+    → BuildsCompact t w comes ca r cf
+prints-written t w comes na nb ca held cb cf was failed_at r unfailed same k p =
+    let P : Option ℕ → Type 0 = λ o. PrintsCompact t w comes (named_sent na held o) r (named_sent nb cb failed_at) in
+    let Q : Option (List ℕ) → Type 0 = λ h. PrintsCompact t w comes (named_sent na h None) r (named_sent nb cb failed_at) in
+    written t w comes na nb ca cb cf failed_at r k (subst Q same (subst P unfailed p))
