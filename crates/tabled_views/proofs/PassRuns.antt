@@ -7,14 +7,8 @@ use Rattle.std.proofs.lemmas.List.Elements.{All-head, All-tail}
 use Rattle.tabled_base.specs.Given.{Given}
 use Rattle.tabled_views.specs.declared.skip_rows.LaterRows.{LaterRows}
 use Rattle.tabled_views.specs.LaterRows.{MayPass, SkipsRows}
-use Rattle.tabled_views.proofs.Runs.{zip_append}
-
--- cells came, and more may be asked for
-pub record Walked {S A : Type 0} (can : S → Type 0) (steps : S → Option A → S → Type 0) (left : S → Count) (s t : S) : Type 0 where
-  pub items : List A
-  pub yielded : Yields steps s items t
-  pub may : can t
-  pub finite : IsFinite (left t)
+use Rattle.tabled_views.specs.Reading.{Walked}
+use Rattle.tabled_views.proofs.Runs.{run_append, zip_append}
 
 pub walked_more : {S A : Type 0} {can : S → Type 0} {steps : S → Option A → S → Type 0} {left : S → Count} {s t u : S} {r : Option A} (x : A)
     → r ≡ Some x → Walked can steps left s t → steps t r u → MakesProgress can left t r u → Walked can steps left s u
@@ -26,6 +20,13 @@ walked_more {can = can} {steps = steps} {left = left} {s = s} {t = t} {u = u} x 
       may = more.0;
       finite = more.1;
     }
+
+-- cells that were walked, and then the others to their end, are given
+pub walked_given : {U S A : Type 0} {becomes : U → S → Type 0} {can : S → Type 0} {steps : S → Option A → S → Type 0} {left : S → Count} {cells : U}
+    {it between last : S} → becomes cells it → Walked can steps left it between → (others : List A) × YieldsThen steps between others None last
+    → (items : List A) × Given becomes steps cells items
+walked_given {steps = steps} {it = it} {between} {last} made w (others, (to, yielded, ended)) =
+    (w.items ++ others, record { iterator = it; made = made; drained = (last, (to, run_append steps w.items others it between to w.yielded yielded, ended)) })
 
 module _ {S W T A : Type 0} (can_row : S → Type 0) (steps : S → Option W → S → Type 0) (rows_left : S → Count) (cells_become : W → T → Type 0)
     (can_cell : T → Type 0) (cell_steps : T → Option A → T → Type 0) (cells_left : T → Count) where

@@ -1,5 +1,5 @@
 -- Rows that are read of an iterator.
-use Rattle.std.proofs.Common.{true, false, List, [], ◌∷◌, ◌++◌, refl}
+use Rattle.std.proofs.Common.{ℕ, ◌<◌, true, false, List, [], ◌∷◌, ◌++◌, length, Result, Ok, Err, OnErr, refl, arith, length-append}
 use Rattle.std.specs.List.{AllZip}
 use Rattle.std.specs.declared.option.Option.{Option}
 use Rattle.std.specs.declared.option.Option.TheVariants.{Some, None}
@@ -7,7 +7,13 @@ use Rattle.std.specs.Iterator.{Count, IsFinite, IsFiniteIterable}
 use Rattle.std.proofs.iter.runs.Lists.{Yields-both}
 use Rattle.std.proofs.lemmas.List.Elements.{All-head, All-tail}
 use Rattle.tabled_base.specs.Given.{Given}
-use Rattle.tabled_views.specs.Reading.{MayGive, Reads, ReadsTo}
+use Rattle.tabled_base.specs.RowsGiven.{RowsBegin}
+use Rattle.tabled_views.specs.Reading.{MayGive, Reads, ReadsSome, ReadsTo}
+
+-- what holds anyhow holds on an error
+pub on-err : {R E : Type 0} (r : Result R E) (Q : Type 0) → Q → OnErr r Q
+on-err (Ok x) Q q = tt
+on-err (Err e) Q q = q
 
 all_zip-both : {X Y : Type 0} (R : X → Y → Type 0) (xs vs : List X) (ys ws : List Y) → AllZip R xs ys → AllZip R vs ws → AllZip R (xs ++ vs) (ys ++ ws)
 all_zip-both R [] vs [] ws h k = k
@@ -28,6 +34,28 @@ module _ {S W T A : Type 0} {steps : S → Option W → S → Type 0} {becomes :
     lists = p.lists ++ q.lists;
     yielded = Yields-both steps p.lists q.lists a b c p.yielded q.yielded;
     each = all_zip-both (Given becomes cell_steps) p.lists q.lists xs ys p.each q.each;
+  }
+
+  -- a further row
+  pub reads-some : {a b c : S} {xs : List (List A)} {x : List A} (most : ℕ) → Reads steps becomes cell_steps a xs b
+      → Reads steps becomes cell_steps b (x ∷ []) c → length xs < most → ReadsSome steps becomes cell_steps a most c
+  reads-some {xs = xs} {x = x} most p q h = record {
+    cells = xs ++ x ∷ [];
+    reads = reads-both p q;
+    some = omega (arith, length-append xs (x ∷ []));
+    within = omega (arith, length-append xs (x ∷ []));
+  }
+
+  pub reads-begun : {V : Type 0} {rows_become : V → S → Type 0} {rows : V} {it to : S} {xs : List (List A)} → rows_become rows it
+      → Reads steps becomes cell_steps it xs to → RowsBegin rows_become steps becomes cell_steps rows xs false
+  reads-begun {it = it} {to = to} made r = record {
+    lists = r.lists;
+    iterator = it;
+    made = made;
+    reached = to;
+    yielded = r.yielded;
+    each = r.each;
+    ended = λ e. absurd (cc);
   }
 
   pub reads-open : {a b : S} {xs : List (List A)} → Reads steps becomes cell_steps a xs b → ReadsTo steps becomes cell_steps a xs false b

@@ -1,5 +1,5 @@
 -- Records of which some rows were read ahead.
-use Rattle.std.specs.Prelude.{◌≡◌, Bool, true, false, List, [], ◌∷◌, ◌++◌, map, length, MatchOption, ⊤}
+use Rattle.std.specs.Prelude.{◌≡◌, ℕ, ◌<◌, ◌≤◌, Bool, true, false, List, [], ◌∷◌, ◌++◌, map, length, MatchOption, ⊤}
 use Rattle.std.specs.declared.option.Option.{Option}
 use Rattle.std.specs.declared.option.Option.TheVariants.{Some, None}
 use Rattle.std.specs.declared.vec.Vec.{Vec}
@@ -14,6 +14,13 @@ use Rattle.tabled_views.specs.declared.buffer.BufRows.{BufRows}
 -- the cells of the rows that were read ahead
 abbrev pub cells_ahead : {A : Type 0} → List (Vec A Global) → List (List A)
 cells_ahead rows = map (λ row. row.items) rows
+
+-- one row comes first at least, and no more than so many
+pub record BeginsSome {A : Type 0} (begins : List A → Bool → Type 0) (most : ℕ) : Type 0 where
+  pub rows : List A
+  pub begun : begins rows false
+  pub some : 0 < length rows
+  pub within : length rows ≤ most
 
 -- the rows of an iterator that isn't at its end may be asked for, and end
 abbrev pub MayGiveLater : {S W T : Type 0} → (S → Type 0) → (S → Option W → S → Type 0) → (S → Count) → (W → T → Type 0)

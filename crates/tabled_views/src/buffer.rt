@@ -1,7 +1,7 @@
 //! Records of which some rows are read ahead.
 ghost use Rattle.std.specs.Prelude.{◌≡◌, ◌<◌, ◌≤◌, List, Bool, length, false, true, MatchOption, None, ⊤, IfErr, IfOk, OnErr, is_none};
 ghost use Rattle.tabled_base.specs.declared.error.TableError.TheVariants.{Memory};
-ghost use Rattle.tabled_views.specs.Buffered.{BufBegin, MayGiveLater, buf_cell_steps, buf_steps, can_cell, cells_ahead, cells_left, rows_left};
+ghost use Rattle.tabled_views.specs.Buffered.{BeginsSome, BufBegin, MayGiveLater, buf_cell_steps, buf_steps, can_cell, cells_ahead, cells_left, rows_left};
 
 use crate::reading::take_rows;
 use std::alloc::Global;
@@ -91,8 +91,9 @@ impl<R: IntoRecords> BufRecords<R>
 where
     R::Cell: Drop,
 {
-    /// The records, of which the first so many rows are read here, each with all its cells: all where fewer come. No
-    /// row past these is asked for, and none after the end was seen. Refused only where there is no memory.
+    /// The records, of which the first so many rows are read here, each with all its cells: all where
+    /// fewer come. No row past these is asked for, and none after the end was seen. Fails only with
+    /// `Memory`, where a row came.
     pub fn new(alloc: Global, records: R, count: usize) -> Result<BufRecords<R>, TableError>
         requires { R.ends records }
         ensures ahead { IfOk result (λ view. R.begins records (cells_ahead view.ahead.items) (is_none view.rows)) }
@@ -108,7 +109,7 @@ where
             R.IterColumns.into_iter_gives R.IterColumns.IntoIter.next_gives (cells_ahead view.ahead.items) view.rows cells true
             → R.gives records cells) }
         ensures only { IfErr result (λ e. e ≡ Memory) }
-        ensures err { OnErr result (0 < count) }
+        ensures err { OnErr result (BeginsSome (R.begins records) count) }
     {
         let mut rows = records.iter_rows().into_iter();
         let taken = take_rows(alloc, &mut rows, count)?;

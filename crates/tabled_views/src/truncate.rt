@@ -11,7 +11,10 @@ use std::borrow::CowStr;
 use tabled_base::{CellText, IntoRecords, TableError};
 use tabled_text::cut_str;
 
-/// A cell, and the columns that its text is cut to, where it is.
+/// A cell, and the columns that its text is cut to, if any.
+///
+/// It is no `CellText`: the cut of a text may need a U+FFFD in place of a wide character, and so
+/// memory, which `CellText::text` can't ask for. Take `text(alloc)` of each cell.
 #[derive(Clone, Copy, Debug, Drop)]
 pub struct CutCell<C> {
     pub cell: C,
@@ -19,8 +22,8 @@ pub struct CutCell<C> {
 }
 
 impl<C: CellText> CutCell<C> {
-    /// The text of the cell, cut to its columns, or as it is where it isn't cut. It is lent; only where U+FFFD has
-    /// to stand at its end it takes memory, and is refused where that is.
+    /// The text of the cell, cut to its columns, or as it is where it isn't cut. It is borrowed, and
+    /// allocates only where it ends with U+FFFD: then it may fail with `Memory`.
     pub fn text(&self, alloc: Global) -> Result<CowStr<'_, Global>, TableError>
         ensures text { IfOk result (λ answer. IsShown self.now.width (C.text self.now.cell) (cow_str_bytes answer)) }
         ensures owned { IfOk result (λ answer. IsOwnedStr answer → WantsFill self.now.width (C.text self.now.cell)) }
@@ -34,8 +37,11 @@ impl<C: CellText> CutCell<C> {
     }
 }
 
-/// The rows of records, each cell with the width of its column, to which its text is cut. The cells of columns past
-/// the list of widths are as they are.
+/// The rows of records, each cell with the width of its column, to which its text is cut. The cells of
+/// columns past the list of widths are as they are.
+///
+/// No table prints this view, since its cells are no `CellText`: take `text(alloc)` of each cell, and
+/// print a table of these texts.
 #[derive(Clone, Copy, Debug, Drop)]
 pub struct TruncateContent<'a, R> {
     records: R,

@@ -1,4 +1,4 @@
-use Rattle.tabled_views.proofs.RowsRead.{may-cells, may-step, reads-one}
+use Rattle.tabled_views.proofs.RowsRead.{may-cells, may-step, on-err, reads-one}
 use Rattle.tabled_views.proofs.reading.next_cells.Goals as goal
 
 pub collect_cells-requires : goal.collect_cells-requires
@@ -11,3 +11,8 @@ pub returns-in_ok-collect_cells-in-Some-clause-goes : goal.returns-in_ok-collect
 returns-in_ok-collect_cells-in-Some-clause-goes g c =
     let on = c.in-Some.ensures.goes.on c.requires.ends in
     (may-step c.requires c.in-Some.ensures.steps on.0 on.1, on.2)
+
+pub returns-in_err-collect_cells-in-Some-clause-err : goal.returns-in_err-collect_cells-in-Some-clause-err
+returns-in_err-collect_cells-in-Some-clause-err g c =
+    let walked = c.in_err-collect_cells-in-Some.ensures.err in
+    on-err c.from_residual.result _ (walked.0, reads-one c.in-Some.ensures.steps walked.1)

@@ -1,5 +1,5 @@
 use Rattle.std.specs.Iterator.{size}
-use Rattle.tabled_views.proofs.PassRuns.{Walked}
+use Rattle.tabled_views.specs.Reading.{Walked}
 use Rattle.tabled_views.proofs.walk.walk_rest.Given as goal
 
 abbrev pub invariant-loop-cell : goal.invariant-loop-cell

@@ -1,6 +1,7 @@
 use Rattle.std.proofs.Common.{◌≡◌, true, false, refl}
 use Rattle.tabled_base.specs.Laws.{whole_rows}
 use Rattle.tabled_views.proofs.BufferedRuns.{open_begun, whole_begun}
+use Rattle.tabled_views.proofs.RowsRead.{on-err, reads-begun}
 use Rattle.tabled_views.proofs.buffer.BufRecords.new.Goals as goal
 use Rattle.tabled_views.proofs.buffer.BufRecords.new.Goals.{then-taken, else-taken}
 
@@ -26,3 +27,14 @@ returns-clause-gives g c cells b =
       | then-taken w ↦ c.iter_rows.ensures.gives cells (whole_rows (whole_begun made (rw w.if-taken.true at c.in_ok-taken.ensures.ok) (rw w.rows-is at b)))
       | else-taken w ↦ c.iter_rows.ensures.gives cells (whole_rows (open_begun made (rw w.if-taken.false at c.in_ok-taken.ensures.ok) (rw w.rows-is at b)))
     ]
+
+pub returns-in_err-taken-clause-err : goal.returns-in_err-taken-clause-err
+returns-in_err-taken-clause-err g c =
+    let read = c.in_err-taken.ensures.err in
+    on-err c.from_residual.result _
+    (record {
+      rows = read.cells;
+      begun = c.iter_rows.ensures.begins read.cells false (reads-begun c.into_iter-rows.ensures.into_iter_gives read.reads);
+      some = read.some;
+      within = read.within;
+    })
