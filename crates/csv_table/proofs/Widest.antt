@@ -1,6 +1,6 @@
 -- The widest of the columns of text that can give, over the first columns.
 use Rattle.std.proofs.Common.{◌≡◌, ℕ, ◌+◌, ◌<◌, ◌≤◌, Bool, List, MatchOption, Option, None, Some, refl, sym, subst, arith, ⊎_elim, length}
-use Rattle.std.proofs.lemmas.Bool.{cases_lt, cases_eq}
+use Rattle.std.proofs.lemmas.Bool.{cases_lt}
 use Rattle.std.proofs.lemmas.List.{get_or_past}
 use Rattle.tabled_priority.specs.Permitted.{at}
 use Rattle.csv_table.specs.NumbersLast.{CanGive, NoTextGives, IsWidestText}

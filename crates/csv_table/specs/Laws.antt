@@ -1,7 +1,7 @@
 -- Shrinking that keeps numbers, with one more step in front.
-use Rattle.std.proofs.Common.{◌≡◌, ℕ, ◌+◌, ◌<◌, ◌≤◌, Bool, true, false, List, sym, ◌∙◌, subst, arith, ⊎_elim}
+use Rattle.std.proofs.Common.{◌≡◌, ℕ, ◌+◌, ◌<◌, ◌≤◌, Bool, true, List, subst, arith, ⊎_elim}
 use Rattle.std.proofs.lemmas.Bool.{cases_lt, cases_eq}
-use Rattle.tabled_priority.specs.Permitted.{at, lowered, IsTakenFrom}
+use Rattle.tabled_priority.specs.Permitted.{at, lowered}
 use Rattle.tabled_priority.specs.Laws.Permitted.{IsLowered-lowered, IsTakenFrom-none, IsTakenFrom-done, IsTakenFrom-step}
 use Rattle.csv_table.specs.NumbersLast.{is_number, CanGive, NoTextGives, GivesNext, KeepsNumbers}
 
