@@ -2,6 +2,7 @@
 //! so that none takes memory of its own.
 #![tactic(auto)]
 
+mod numbers_last;
 mod printing;
 mod reading;
 mod words;

@@ -1,12 +1,12 @@
 //! The table of rows: a header, and numbers at the right.
 
+use crate::numbers_last::NumbersLast;
 use crate::reading::Rows;
 use std::alloc::Global;
 use tabled::grid::config::{AlignmentHorizontal, ColoredConfig, Entity, new_config};
 use tabled::grid::dimension::CompleteDimension;
 use tabled::grid::records::lend_cells;
 use tabled::grid::{print_estimated, print_standing};
-use tabled::settings::peaker::Priority;
 use tabled::settings::{Style, TableOption, Width};
 use tabled::{TableError, TextSink};
 
@@ -24,7 +24,8 @@ fn settings(alloc: Global, rows: &Rows, style: Style) -> Result<ColoredConfig, T
     Ok(config)
 }
 
-/// Prints the rows, in at most so many columns a line, where the widest columns give way first and words are kept.
+/// Prints the rows in at most `width` columns. Columns of text are wrapped first, the widest before
+/// the others, and words are kept. Numbers are wrapped only where no text can give.
 pub fn put_rows<S: TextSink>(
     alloc: Global,
     rows: &Rows,
@@ -39,7 +40,9 @@ pub fn put_rows<S: TextSink>(
     let mut cells = lend_cells(alloc, &rows.records)?;
     let mut sizes = CompleteDimension::new(alloc);
     let narrow = Width::wrap(width).keep_words(true);
-    let narrow = narrow.priority(Priority::max(true));
+    let narrow = narrow.priority(NumbersLast {
+        are_numbers: &rows.are_numbers,
+    });
     TableOption::change(narrow, &mut cells, &mut config, &mut sizes)?;
     sizes.clear_height();
     print_standing(sink, &cells, config.as_ref(), &sizes)

@@ -1,20 +1,29 @@
 //! Rows of texts that come of a query.
 
+ghost use Rattle.std.specs.Prelude.{◌+◌};
 ghost use Rattle.std.specs.Iterator.{at_most};
+ghost use Rattle.std.specs.Vec.Iter.{into_iter_len};
 
+use crate::truncating::{columns_of, truncate};
 use anyhow::{Error, Result};
 use sqlite::types::ValueRef;
 use sqlite::{Alter, Connection, Row, Rows};
 use std::alloc::Global;
 use std::fmt::Write;
 use std::str::from_utf8;
+use std::vec::IntoIter;
+use tabled::grid::util::string::{line_width, lines};
 
-/// The names of an answer's columns and then its rows, as texts. It ends where a row can't be read, and the cause is kept.
+/// The names of an answer's columns and then its rows, as texts. It ends where a row can't be read,
+/// and the cause is kept.
 #[derive(Drop)]
 pub struct Answer<'a, S: Alter> {
     alloc: Global,
-    names: Option<Vec<String>>,
+    /// The names, and the rows that were read ahead.
+    first: IntoIter<Vec<String>>,
     rows: Rows<'a, S>,
+    /// The columns to which the texts of later rows are truncated, if they are.
+    widths: Vec<usize>,
     left: u64,
     failure: &'a mut Option<Error>,
 }
@@ -33,28 +42,47 @@ impl<'a, S: Alter> Answer<'a, S> {
         }
         Ok(Answer {
             alloc,
-            names: Some(names),
+            first: vec![in alloc; names]?.into_iter(),
             rows: statement.query(connection, &[])?,
+            widths: Vec::new(alloc),
             left: u64::MAX,
             failure,
         })
+    }
+
+    /// Reads rows ahead, of which the names are the first. Later rows are truncated to the columns
+    /// in which these are whole.
+    pub fn read_ahead(&mut self, count: usize) -> Result<()> {
+        let mut first = Vec::new(self.alloc);
+        for _row in 0..count {
+            match self.next() {
+                Some(row) => first.push(row)?,
+                None => break,
+            }
+        }
+        self.widths = widths_of(self.alloc, first.as_slice())?;
+        if let Some(names) = first.first_mut() {
+            pad(names, self.widths.as_slice())?;
+        }
+        self.first = first.into_iter();
+        Ok(())
     }
 }
 
 impl<S: Alter> Iterator for Answer<'_, S> {
     type Item = Vec<String>;
 
-    ghost remaining = { λ s. at_most s.left };
+    ghost remaining = { λ s. at_most (into_iter_len s.first + s.left) };
 
     fn next(&mut self) -> Option<Vec<String>> {
+        if let Some(row) = self.first.next() {
+            return Some(row);
+        }
         if self.left == 0 {
             return None;
         }
         self.left -= 1;
-        if let Some(names) = self.names.take() {
-            return Some(names);
-        }
-        match next_texts(self.alloc, &mut self.rows) {
+        match next_texts(self.alloc, &mut self.rows, self.widths.as_slice()) {
             Ok(texts) => texts,
             Err(error) => {
                 *self.failure = Some(error);
@@ -65,18 +93,55 @@ impl<S: Alter> Iterator for Answer<'_, S> {
     }
 }
 
-fn next_texts<S: Alter>(alloc: Global, rows: &mut Rows<'_, S>) -> Result<Option<Vec<String>>> {
+/// The columns in which each text of a column is left whole, 1 at least.
+fn widths_of(alloc: Global, rows: &[Vec<String>]) -> Result<Vec<usize>> {
+    let mut widths: Vec<usize> = Vec::new(alloc);
+    for row in rows {
+        for (column, text) in row.iter().enumerate() {
+            let width = columns_of(text).max(1);
+            match widths.get_mut(column) {
+                Some(widest) => *widest = width.max(*widest),
+                None => widths.push(width)?,
+            }
+        }
+    }
+    Ok(widths)
+}
+
+/// Lengthens names by spaces to the widths, so that `IterTable` measures just these.
+fn pad(names: &mut Vec<String>, widths: &[usize]) -> Result<()> {
+    for (name, width) in names.iter_mut().zip(widths) {
+        let mut columns = 0;
+        for line in lines(name) {
+            columns = line_width(line);
+        }
+        for _space in columns..*width {
+            name.push(' ')?;
+        }
+    }
+    Ok(())
+}
+
+fn next_texts<S: Alter>(
+    alloc: Global,
+    rows: &mut Rows<'_, S>,
+    widths: &[usize],
+) -> Result<Option<Vec<String>>> {
     rows.advance()?;
     match rows.get() {
-        Some(row) => Ok(Some(texts_of(alloc, row)?)),
+        Some(row) => Ok(Some(texts_of(alloc, row, widths)?)),
         None => Ok(None),
     }
 }
 
-fn texts_of(alloc: Global, row: &Row) -> Result<Vec<String>> {
+fn texts_of(alloc: Global, row: &Row, widths: &[usize]) -> Result<Vec<String>> {
     let mut texts = Vec::new(alloc);
     for column in 0..row.column_count() {
-        texts.push(text_of(alloc, row.get_ref(column)?)?)?;
+        let text = text_of(alloc, row.get_ref(column)?)?;
+        texts.push(match widths.get(column) {
+            Some(width) => truncate(alloc, text, *width)?,
+            None => text,
+        })?;
     }
     Ok(texts)
 }
