@@ -177,6 +177,6 @@ ends_before-separators (c ∷ d ∷ cs) back h = ends_before-separators (d ∷ c
 pub additive_column-splits : (c : ℕ) → IsAdditiveColumn c ↔ (IsPlainColumn c ⊎ IsSeparatorColumn c)
 additive_column-splits c = (
   λ h. ⊎_elim (λ y. inl (only_plain-printable c (keycap-printable c y))) (λ n. inr (record { additive = h; steady = n }))
-  (cases_Bool (is_keycap_base c)),
+      (cases_Bool (is_keycap_base c)),
   λ either. ⊎_elim (additive_column-plain c) (λ s. s.additive) either,
 )

@@ -185,7 +185,7 @@ IsWrapped-empty : (n : ℕ) (words : Bool) (text out : List ℕ) → (n ≡ 0 �
 IsWrapped-empty n words text out pos t e =
     let same : chars text ≡ [] = ap chars t ∙ chars-nil in
     let written : encode_utf8_all (pending n words false (lines_of (chars text))) ≡ [] =
-        ap (λ cs. encode_utf8_all (pending n words false (lines_of cs))) same ∙ ap encode_utf8_all (pending-empty n words) in
+    ap (λ cs. encode_utf8_all (pending n words false (lines_of cs))) same ∙ ap encode_utf8_all (pending-empty n words) in
     IsWrapped-written n words text out pos (subst IsUtf8 (sym e) IsUtf8-nil) (e ∙ sym written)
 
 -- nor for no columns
