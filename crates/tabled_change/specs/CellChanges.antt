@@ -1,5 +1,5 @@
 -- Cells of which some are changed, and the others stay.
-use Rattle.std.specs.Prelude.{◌≡◌, ◌⊎◌, ℕ, Bool, true, false, not, ◌&&◌, ◌||◌, ◌==◌, nat_lt, List, [], MatchBool, Option, Some, None, length, slice_index_or}
+use Rattle.std.specs.Prelude.{◌≡◌, ◌⊎◌, ℕ, Bool, true, not, ◌&&◌, ◌||◌, ◌==◌, nat_lt, List, [], MatchBool, Option, Some, None, length, slice_index_or}
 use Rattle.tabled_base.specs.Cells.{IsInside, cell_at}
 use Rattle.tabled_base.specs.declared.error.TableError.{TableError}
 use Rattle.tabled_base.specs.declared.error.TableError.TheVariants.{Memory, Range}
@@ -82,8 +82,8 @@ place_of ByColumn row column = row
 abbrev pub precedes : Order → ℕ → ℕ → ℕ → ℕ → Bool
 precedes order line place row column = nat_lt (line_of order row column) line || (line_of order row column == line && nat_lt (place_of order row column) place)
 
--- where a change stopped: at one of the chosen cells, whose text can't be changed without memory. The chosen cells before it
--- are changed, and it and all others are the old ones
+-- where a change stopped: at one of the chosen cells, whose text can't be changed without memory.
+-- The chosen cells before it are changed, and it and all others are the old ones
 pub record AreChangedBefore (order : Order) (chosen : ℕ → ℕ → Bool) (needs : ℕ → ℕ → List ℕ → Type 0) (change : ℕ → ℕ → List ℕ → List ℕ → Type 0)
     (old new : List (List (List ℕ))) : Type 0 where
   pub row : ℕ
@@ -93,8 +93,8 @@ pub record AreChangedBefore (order : Order) (chosen : ℕ → ℕ → Bool) (nee
   pub wanting : needs row column (cell_at old row column)
   pub changed : AreChanged (λ r c. chosen r c && precedes order (line_of order row column) (place_of order row column) r c) change old new
 
--- what a failure leaves: with `Range` all cells as they were, and with `Memory` the cells before the one at which it stopped
--- changed
+-- what a failure leaves: with `Range` all cells as they were, and with `Memory` the cells before
+-- the one at which it stopped changed
 abbrev pub StopsChanging : Order → (ℕ → ℕ → Bool) → (ℕ → ℕ → List ℕ → Type 0) → (ℕ → ℕ → List ℕ → List ℕ → Type 0) → TableError
     → List (List (List ℕ)) → List (List (List ℕ)) → Type 0
 StopsChanging order chosen needs change error old new =
@@ -106,7 +106,8 @@ StopsChanging order chosen needs change error old new =
 abbrev pub ChangesEntity : (ℕ → List ℕ → List ℕ → Type 0) → ℕ → Entity → List (List (List ℕ)) → List (List (List ℕ)) → Type 0
 ChangesEntity change room entity old new = AreChanged (covers entity) (λ row column. change room) old new
 
--- what a failure leaves where those of them are changed that a rule is for, row by row, some of them in their place
+-- what a failure leaves where those of them are changed that a rule is for, row by row, some of
+-- them in their place
 abbrev pub StopsEntity : Which → (ℕ → List ℕ → Type 0) → (ℕ → List ℕ → List ℕ → Type 0) → ℕ → Entity → TableError → List (List (List ℕ))
     → List (List (List ℕ)) → Type 0
 StopsEntity which in_place change room entity error old new =

@@ -67,8 +67,9 @@ impl<'a, T: TextRule, M: Rooms> Change<'a, T, M> {
         }
     }
 
-    /// Changes a cell that has a room, if its text is one that is changed. The others stay, and all do on an error.
-    /// Fails with `Memory` alone, and only where the text is changed, and more than a beginning of it is left.
+    /// Changes a cell that has a room, if its text is one that is changed. The others stay, and all
+    /// do on an error. Fails with `Memory` alone, and only where the text is changed, and more than
+    /// a beginning of it is left.
     pub(crate) fn change_cell<R: RecordsMut>(
         &self,
         records: &mut R,
@@ -79,8 +80,9 @@ impl<'a, T: TextRule, M: Rooms> Change<'a, T, M> {
             (leaves self.now.which (T.makes self.now.rule.now) (M.room_at self.now.rooms.now))
             (R.cells records.old) (R.cells records.new)) }
         ensures err { OnErr result (R.cells records.new ≡ R.cells records.old) }
-        ensures needed { OnErr result (needs self.now.which (T.shortens self.now.rule.now) (M.room_at self.now.rooms.now)
-            at.row at.column (cell_at (R.cells records.old) at.row at.column)) }
+        ensures needed { OnErr result (needs self.now.which (T.shortens self.now.rule.now)
+            (M.room_at self.now.rooms.now) at.row at.column
+            (cell_at (R.cells records.old) at.row at.column)) }
         ensures only { IfErr result (λ e. e ≡ Memory) }
     {
         let Some(room) = self.rooms.room(at) else {

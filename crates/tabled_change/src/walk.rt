@@ -161,10 +161,10 @@ fn are_shortened<T: TextRule, M: Rooms, R: RecordsMut>(
     true
 }
 
-/// Changes the cells of an entity that have a room and whose texts are ones that are changed, in some order. No
-/// other cell is visited. Fails with `Memory` alone, at one of these cells of which more than a beginning is left: it and
-/// those after it are the old ones. Where only beginnings are left, none fails: then cells are changed row by row, as they
-/// stand in memory.
+/// Changes the cells of an entity that have a room and whose texts are ones that are changed, in
+/// some order. No other cell is visited. Fails with `Memory` alone, at one of these cells of which
+/// more than a beginning is left: it and those after it are the old ones. Where only beginnings are
+/// left, none fails: then cells are changed row by row, as they stand in memory.
 pub fn change_cells<T: TextRule, M: Rooms, R: RecordsMut>(
     by: &Change<'_, T, M>,
     records: &mut R,

@@ -1,5 +1,5 @@
 -- Tables that grow.
-use Rattle.std.proofs.Common.{◌≡◌, ℕ, ◌+◌, ◌-◌, ◌*◌, ◌<◌, ◌≤◌, ◌^◌, true, false, nat_le, List, MatchOption, Option, Some, None, length, sum, take, unwrap_or, refl, sym, ap, subst, ◌∙◌, cond, arith}
+use Rattle.std.proofs.Common.{◌≡◌, ℕ, ◌+◌, ◌-◌, ◌*◌, ◌<◌, ◌≤◌, ◌^◌, true, false, nat_le, List, MatchOption, Option, Some, None, length, sum, take, sym, ap, subst, ◌∙◌, cond, arith}
 use Rattle.std.proofs.lemmas.Bool.Decides.{nat_tests}
 use Rattle.tabled_base.specs.Cells.{columns}
 use Rattle.tabled_border.specs.Frame.{has_inner, has_left, has_right}
@@ -13,7 +13,7 @@ use Rattle.tabled_size.specs.FilledIn.{IsFilledIn}
 use Rattle.tabled_size.specs.Sheet.{estimated, is_empty}
 use Rattle.tabled_size.specs.Standing.{standing}
 use Rattle.tabled_size.specs.Stored.{heights_of, widths_of}
-use Rattle.tabled_size.specs.Totals.{filled_height, filled_width, part_height, rules_at, total_height, total_width}
+use Rattle.tabled_size.specs.Totals.{filled_height, filled_width, part_height, total_height, total_width}
 use Rattle.tabled_size.specs.declared.complete_dimension.CompleteDimension.{CompleteDimension}
 use Rattle.tabled_size.proofs.Totalling.{heights_length}
 use Rattle.tabled_resize.specs.Growing.{IsGrownBy}

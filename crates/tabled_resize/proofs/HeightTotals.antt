@@ -1,22 +1,19 @@
 -- The lines of tables whose rows grew or shrank.
-use Rattle.std.proofs.Common.{◌≡◌, ℕ, zero, suc, ◌+◌, ◌-◌, ◌==◌, ◌||◌, ◌<◌, ◌≤◌, false, true, List, [], length, sum, max, min, take, Some, refl, sym, ap, subst, ◌∙◌, cond, arith, ⊎_elim, if◌then◌else◌}
-use Rattle.std.proofs.lemmas.Bool.{cases_lt}
+use Rattle.std.proofs.Common.{◌≡◌, ℕ, ◌+◌, ◌-◌, ◌==◌, ◌<◌, false, List, [], length, sum, max, refl, sym, ap, ◌∙◌, arith, if◌then◌else◌}
 use Rattle.std.proofs.lemmas.Bool.Decides.{nat_tests}
-use Rattle.std.proofs.Math.Seq.{take-length}
 use Rattle.tabled_base.specs.Cells.{cell_at, columns}
 use Rattle.tabled_config.specs.declared.spanned.SpannedConfig.{SpannedConfig}
 use Rattle.tabled_priority.specs.Grown.{IsGrownFrom, added}
 use Rattle.tabled_priority.specs.Laws.Sums.{sum-below, sum_below-plus, sum_below-same, sum_below-term, sum_below-zero}
 use Rattle.tabled_priority.specs.Permitted.{IsTakenFrom, at, spare, spare_total}
 use Rattle.tabled_priority.specs.Sums.{sum_below}
-use Rattle.tabled_size.specs.Estimates.{estimated_heights, needed_height}
-use Rattle.tabled_size.specs.Sheet.{estimated, is_empty}
-use Rattle.tabled_size.specs.Totals.{filled_height, part_height, rules_at, total_height}
+use Rattle.tabled_size.specs.Estimates.{estimated_heights}
+use Rattle.tabled_size.specs.Sheet.{is_empty}
+use Rattle.tabled_size.specs.Totals.{filled_height, part_height, rules_at}
 use Rattle.tabled_size.proofs.Passing.{height_at, height_ge}
 use Rattle.tabled_size.proofs.Totalling.{heights_length}
 use Rattle.tabled_text.proofs.Bridge.{some_line}
 use Rattle.tabled_resize.specs.HeightFrame.{frame_height}
-use Rattle.tabled_resize.proofs.GrowingTables.{full_height}
 
 -- where there is a height a row, the whole is their sum and the frame
 parts : (config : SpannedConfig) (rows : ℕ) (heights : List ℕ) → sum_below (part_height config rows heights) rows ≡ sum_below (rules_at config rows) rows + sum_below (at heights) rows

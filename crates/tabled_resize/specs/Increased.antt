@@ -33,7 +33,8 @@ IncreasesWidth grows priority n cells config old new =
     (MatchBool (nat_le n (total_width (standing cells config old))) (IsFilledIn old cells config new)
     (IsWidened grows priority n cells config old new))
 
--- a failure of a table whose sizes were filled in: of memory, only where it has fewer than n columns
+-- a failure of a table whose sizes were filled in: of memory, only where it has fewer than n
+-- columns
 pub record StopsWidening (n : ℕ) (error : TableError) (cells : List (List (List ℕ))) (config : SpannedConfig)
     (old new : CompleteDimension) : Type 0 where
   pub narrower : error ≡ Memory → total_width (standing cells config old) < n

@@ -41,8 +41,8 @@ LimitsHeight shrinks priority n cells config old cells' new =
     (MatchBool (nat_le (total_height (estimated cells config)) n) ((cells' ≡ cells) × (new ≡ old))
     (IsLowered shrinks priority n cells config old cells' new))
 
--- memory failed at a cell of more lines than its row's height, of a table of more than n lines: the cells before it, row
--- by row, are limited, and it and the others are the old ones
+-- memory failed at a cell of more lines than its row's height, of a table of more than n lines: the
+-- cells before it, row by row, are limited, and it and the others are the old ones
 pub record IsLoweredBefore {P : Type 0} (shrinks : P → List ℕ → List ℕ → ℕ → List ℕ → P → Type 0) (priority : P) (n : ℕ)
     (cells : List (List (List ℕ))) (config : SpannedConfig) (cells' : List (List (List ℕ))) : Type 0 where
   pub higher : n < total_height (estimated cells config)
@@ -50,7 +50,8 @@ pub record IsLoweredBefore {P : Type 0} (shrinks : P → List ℕ → List ℕ �
   pub shrunk : IsShrunkBy shrinks priority (estimated_heights cells config) [] (total_height (estimated cells config) - n) heights
   pub changed : AreChangedBefore ByRow (λ row column. true) (needs_for_height heights) (for_height heights) cells cells'
 
--- what a failure leaves of the cells: all as they were, or with `Memory` those before the one at which it stopped limited
+-- what a failure leaves of the cells: all as they were, or with `Memory` those before the one at
+-- which it stopped limited
 abbrev pub StopsLimiting : {P : Type 0} → (P → List ℕ → List ℕ → ℕ → List ℕ → P → Type 0) → P → ℕ → TableError → List (List (List ℕ)) → SpannedConfig
     → List (List (List ℕ)) → Type 0
 StopsLimiting shrinks priority n error cells config cells' =

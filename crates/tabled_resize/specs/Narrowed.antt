@@ -52,8 +52,8 @@ Narrows shrinks priority change n cells config sizes cells' sizes' =
     (MatchBool (nat_le (total_width (standing cells config sizes)) n) ((cells' ≡ cells) × IsFilledIn sizes cells config sizes')
     (IsNarrowed shrinks priority change n (standing cells config sizes) cells' sizes'))
 
--- memory failed at a cell of a table wider than n whose text can't be changed without: the cells before it, column by
--- column, are changed, and it and the others are the old ones
+-- memory failed at a cell of a table wider than n whose text can't be changed without: the cells
+-- before it, column by column, are changed, and it and the others are the old ones
 pub record IsNarrowedBefore {P : Type 0} (shrinks : P → List ℕ → List ℕ → ℕ → List ℕ → P → Type 0) (priority : P) (which : Which)
     (in_place : ℕ → List ℕ → Type 0) (change : ℕ → List ℕ → List ℕ → Type 0) (n : ℕ) (t : Sheet) (cells : List (List (List ℕ))) : Type 0 where
   pub wider : n < total_width t
@@ -61,8 +61,8 @@ pub record IsNarrowedBefore {P : Type 0} (shrinks : P → List ℕ → List ℕ 
   pub shrunk : IsShrunkTo shrinks priority n t widths
   pub changed : AreChangedBefore ByColumn (λ row column. true) (needs_for_room which in_place t widths) (for_room (if_taken which change) t widths) t.cells cells
 
--- a failure of a table whose sizes were filled in: it is wider than n. All cells are as they were, or with `Memory` those
--- before the one at which it stopped are changed
+-- a failure of a table whose sizes were filled in: it is wider than n. All cells are as they were,
+-- or with `Memory` those before the one at which it stopped are changed
 pub record StopsShrinking {P : Type 0} (shrinks : P → List ℕ → List ℕ → ℕ → List ℕ → P → Type 0) (priority : P) (which : Which)
     (in_place : ℕ → List ℕ → Type 0) (change : ℕ → List ℕ → List ℕ → Type 0) (n : ℕ) (error : TableError) (cells : List (List (List ℕ)))
     (config : SpannedConfig) (sizes : CompleteDimension) (cells' : List (List (List ℕ))) (sizes' : CompleteDimension) : Type 0 where
@@ -70,7 +70,8 @@ pub record StopsShrinking {P : Type 0} (shrinks : P → List ℕ → List ℕ �
   pub filled : IsFilledIn sizes cells config sizes'
   pub stopped : (cells' ≡ cells) ⊎ ((error ≡ Memory) × IsNarrowedBefore shrinks priority which in_place change n (standing cells config sizes) cells')
 
--- what a failure leaves: all as it was while sizes were estimated, or of a wider table what shrinking leaves
+-- what a failure leaves: all as it was while sizes were estimated, or of a wider table what
+-- shrinking leaves
 abbrev pub StopsNarrowing : {P : Type 0} → (P → List ℕ → List ℕ → ℕ → List ℕ → P → Type 0) → P → Which → (ℕ → List ℕ → Type 0)
     → (ℕ → List ℕ → List ℕ → Type 0) → ℕ → TableError → List (List (List ℕ)) → SpannedConfig → CompleteDimension → List (List (List ℕ))
     → CompleteDimension → Type 0

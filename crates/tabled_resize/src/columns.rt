@@ -73,7 +73,8 @@ pub(crate) fn change_columns<T: TextRule, R: RecordsMut>(
         (for_width (if_taken which (T.makes rule.now)) config.now sizes.now.widths.items sizes.now.mins.items)
         (R.cells records.old) (R.cells records.new)) }
     ensures err { OnErr result (AreChangedBefore ByColumn (λ r c. true)
-        (needs_for_width which (T.shortens rule.now) config.now sizes.now.widths.items sizes.now.mins.items)
+        (needs_for_width which (T.shortens rule.now) config.now
+        sizes.now.widths.items sizes.now.mins.items)
         (for_width (if_taken which (T.makes rule.now)) config.now sizes.now.widths.items sizes.now.mins.items)
         (R.cells records.old) (R.cells records.new)) }
     ensures only { IfErr result (λ e. e ≡ Memory) }

@@ -16,9 +16,10 @@ use tabled_base::{PeekableRecords, TableError};
 use tabled_config::SpannedConfig;
 use tabled_size::{CompleteDimension, Estimate, Peaker, estimate_heights};
 
-/// Makes a table that has a row and a column n columns wide at least. Sizes that aren't stored are estimated first, and
-/// stay stored on a later error. Fails with `Memory` only where sizes aren't stored or the table is narrower than n; with
-/// `Range` where an estimate or the total passes the greatest `usize`.
+/// Makes a table that has a row and a column n columns wide at least. Sizes that aren't stored are
+/// estimated first, and stay stored on a later error. Fails with `Memory` only where sizes aren't
+/// stored or the table is narrower than n; with `Range` where an estimate or the total passes the
+/// greatest `usize`.
 pub fn increase_width<P: Peaker + Drop, R: PeekableRecords>(
     priority: P,
     records: &R,
@@ -70,8 +71,9 @@ pub(crate) fn estimated_rows<R: PeekableRecords>(
     }
 }
 
-/// Makes a table that has a row and a column n lines high at least, by its estimated heights. Fails with `Memory`, or
-/// with `Range` where a height or the total passes the greatest `usize`; the stored sizes then stay as they were.
+/// Makes a table that has a row and a column n lines high at least, by its estimated heights. Fails
+/// with `Memory`, or with `Range` where a height or the total passes the greatest `usize`; the
+/// stored sizes then stay as they were.
 pub fn increase_height<P: Peaker + Drop, R: PeekableRecords>(
     priority: P,
     records: &R,

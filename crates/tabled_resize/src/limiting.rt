@@ -13,8 +13,9 @@ use tabled_base::{RecordsMut, TableError};
 use tabled_config::SpannedConfig;
 use tabled_size::{CompleteDimension, Peaker};
 
-/// Makes a table that has a row and a column n lines high at most, by its estimated heights. Fails with `Memory`, or
-/// with `Range` where a height or the total passes the greatest `usize`; the stored sizes then stay as they were.
+/// Makes a table that has a row and a column n lines high at most, by its estimated heights. Fails
+/// with `Memory`, or with `Range` where a height or the total passes the greatest `usize`; the
+/// stored sizes then stay as they were.
 pub fn limit_height<P: Peaker + Drop, R: RecordsMut>(
     priority: P,
     records: &mut R,

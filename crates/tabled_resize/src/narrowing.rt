@@ -13,10 +13,10 @@ use tabled_change::{TextRule, Which};
 use tabled_config::SpannedConfig;
 use tabled_size::{CompleteDimension, Estimate, Peaker};
 
-/// Narrows a table that has a row and a column to a total of n columns. Sizes that aren't stored are
-/// estimated first, and stay stored on a later error. Fails with `Memory` only where sizes aren't stored or the table is
-/// wider than n; with `Range` where an estimate, the total or, in a table that is wider, the side padding of a cell
-/// passes the greatest `usize`.
+/// Narrows a table that has a row and a column to a total of n columns. Sizes that aren't stored
+/// are estimated first, and stay stored on a later error. Fails with `Memory` only where sizes
+/// aren't stored or the table is wider than n; with `Range` where an estimate, the total or, in a
+/// table that is wider, the side padding of a cell passes the greatest `usize`.
 pub fn narrow_table<T: TextRule, P: Peaker + Drop, R: RecordsMut>(
     rule: &T,
     which: Which,
@@ -29,7 +29,8 @@ pub fn narrow_table<T: TextRule, P: Peaker + Drop, R: RecordsMut>(
     requires { is_empty (R.cells records.old) ≡ false }
     ensures ok { OnOk result (Narrows P.shrinks priority (if_taken which (T.makes rule.now)) n
         (R.cells records.old) config.now sizes.old (R.cells records.new) sizes.new) }
-    ensures err { IfErr result (λ e. StopsNarrowing P.shrinks priority which (T.shortens rule.now) (T.makes rule.now) n e
+    ensures err { IfErr result (λ e. StopsNarrowing P.shrinks priority which
+        (T.shortens rule.now) (T.makes rule.now) n e
         (R.cells records.old) config.now sizes.old (R.cells records.new) sizes.new) }
     ensures only { IfErr result (λ e. (e ≡ Memory) ⊎ ((e ≡ Range)
         × (HasNoEstimate sizes.old (R.cells records.old) config.now

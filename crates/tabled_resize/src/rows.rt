@@ -30,7 +30,8 @@ pub(crate) fn limit_rows<R: RecordsMut>(
 ) -> Result<(), TableError>
     ensures ok { OnOk result (AreChanged (λ r c. true) (for_height heights.now)
         (R.cells records.old) (R.cells records.new)) }
-    ensures err { OnErr result (AreChangedBefore ByRow (λ r c. true) (needs_for_height heights.now) (for_height heights.now)
+    ensures err { OnErr result (AreChangedBefore ByRow (λ r c. true)
+        (needs_for_height heights.now) (for_height heights.now)
         (R.cells records.old) (R.cells records.new)) }
     ensures only { IfErr result (λ e. e ≡ Memory) }
 {

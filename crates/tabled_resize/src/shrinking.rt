@@ -30,9 +30,10 @@ pub(crate) fn stored_widths(sizes: &CompleteDimension) -> &[usize]
     }
 }
 
-/// The widths to which the columns of a table shrink, with their minimums, or `None` where its total is at
-/// most n. The table has a row and a column, and its widths are stored. Fails only where it is wider than n: with
-/// `Memory`, or with `Range` where the total or the side padding of a cell passes the greatest `usize`.
+/// The widths to which the columns of a table shrink, with their minimums, or `None` where its
+/// total is at most n. The table has a row and a column, and its widths are stored. Fails only
+/// where it is wider than n: with `Memory`, or with `Range` where the total or the side padding of
+/// a cell passes the greatest `usize`.
 pub(crate) fn narrowed_widths<P: Peaker + Drop, R: ExactRecords>(
     alloc: Global,
     priority: P,
@@ -47,7 +48,8 @@ pub(crate) fn narrowed_widths<P: Peaker + Drop, R: ExactRecords>(
         (total_width (standing (R.cells records.now) config.now sizes.now) ≤ n)
         (λ found. IsFound P.shrinks priority n (standing (R.cells records.now) config.now sizes.now)
         found.widths.items found.mins.items)) }
-    ensures wider { OnErr result (n < total_width (standing (R.cells records.now) config.now sizes.now)) }
+    ensures wider { OnErr result
+        (n < total_width (standing (R.cells records.now) config.now sizes.now)) }
     ensures err { IfErr result (λ e. (e ≡ Memory)
         ⊎ ((e ≡ Range) × WiderOutOfRange n (R.cells records.now) config.now sizes.now)) }
 {

@@ -51,7 +51,8 @@ impl<W: Measurement<Width> + Drop, R: RecordsMut, D> TableOption<R, ColoredConfi
     ghost changes = { λ s r c d r' c' d'. ChangesEntity IsJustified (W.measures s.width (R.cells r) c.config) Global
         (R.cells r) (R.cells r') × ((c' ≡ c) × (d' ≡ d)) };
 
-    ghost refuses = { λ s e r c d r' c' d'. StopsEntity NotAsWide never_in_place IsJustified (W.measures s.width (R.cells r) c.config) Global e
+    ghost refuses = { λ s e r c d r' c' d'. StopsEntity NotAsWide never_in_place IsJustified
+        (W.measures s.width (R.cells r) c.config) Global e
         (R.cells r) (R.cells r') × ((c' ≡ c) × (d' ≡ d)) };
 
     ghost out_of_range = { λ s r c d. W.out_of_range s.width (R.cells r) c.config };

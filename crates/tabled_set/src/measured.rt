@@ -8,9 +8,9 @@ use tabled_base::{Entity, RecordsMut, TableError};
 use tabled_change::{Change, Order, TextRule, Which, change_cells};
 use tabled_config::ColoredConfig;
 
-/// Changes the cells of an entity by a rule, each for the room that is measured once. Fails with `Range` where the
-/// measure does, before a cell has changed, and with `Memory` at a cell that can't be changed in its place: those
-/// before it have changed, row by row.
+/// Changes the cells of an entity by a rule, each for the room that is measured once. Fails with
+/// `Range` where the measure does, before a cell has changed, and with `Memory` at a cell that
+/// can't be changed in its place: those before it have changed, row by row.
 pub(crate) fn change_measured<A, W: Measurement<A>, T: TextRule, R: RecordsMut>(
     measure: &W,
     rule: &T,

@@ -11,8 +11,9 @@ use tabled_config::ColoredConfig;
 use tabled_resize::{increase_height, limit_height};
 use tabled_size::{CompleteDimension, Peaker, is_empty};
 
-/// Makes a table as many lines high as are measured, at least. Fails with `Memory`, or with `Range` where the measure
-/// does, or a height or the total passes the greatest `usize`; the stored sizes then stay as they were.
+/// Makes a table as many lines high as are measured, at least. Fails with `Memory`, or with `Range`
+/// where the measure does, or a height or the total passes the greatest `usize`; the stored sizes
+/// then stay as they were.
 pub(crate) fn increase_measured<
     W: Measurement<Height> + Drop,
     P: Peaker + Drop,
@@ -41,8 +42,9 @@ pub(crate) fn increase_measured<
     increase_height(priority, records, config, dims, n)
 }
 
-/// Makes a table as many lines high as are measured, at most. Fails with `Memory`, or with `Range` where the measure
-/// does, or a height or the total passes the greatest `usize`; the stored sizes then stay as they were.
+/// Makes a table as many lines high as are measured, at most. Fails with `Memory`, or with `Range`
+/// where the measure does, or a height or the total passes the greatest `usize`; the stored sizes
+/// then stay as they were.
 pub(crate) fn limit_measured<W: Measurement<Height> + Drop, P: Peaker + Drop, R: RecordsMut>(
     height: W,
     priority: P,

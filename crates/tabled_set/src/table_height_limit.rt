@@ -61,7 +61,8 @@ impl<W: Measurement<Height> + Drop, P: Peaker + Drop, R: RecordsMut> TableOption
     // Only a table with a row and a column fails, and the sizes stay.
     ghost refuses = { λ s e r c d r' c' d'. (is_empty (R.cells r) ≡ false)
         × StopsLimiting P.shrinks s.priority
-        (W.measures s.height (R.cells r) c.config) e (R.cells r) c.config (R.cells r') × ((c' ≡ c) × (d' ≡ d)) };
+        (W.measures s.height (R.cells r) c.config) e (R.cells r) c.config (R.cells r')
+        × ((c' ≡ c) × (d' ≡ d)) };
 
     ghost out_of_range = { λ s r c d.
         HeightOutOfRange (W.out_of_range s.height (R.cells r) c.config) (R.cells r) c.config };

@@ -1,42 +1,7 @@
 -- Where batches begin, one after another.
-use Rattle.std.proofs.Common.{
-  ◌≡◌,
-  ⊎_elim,
-  ℕ,
-  ◌+◌,
-  ◌-◌,
-  ◌*◌,
-  ◌/◌,
-  ◌<◌,
-  ◌^◌,
-  min,
-  ◌≤◌,
-  ◌==◌,
-  ◌&&◌,
-  suc,
-  zero,
-  arith,
-  true,
-  false,
-  Bool,
-  cond,
-  List,
-  [],
-  ◌∷◌,
-  length,
-  nat_lt,
-  Option,
-  Some,
-  None,
-  slice_get,
-  refl,
-  ap,
-  sym,
-  subst,
-  ◌∙◌,
-}
+use Rattle.std.proofs.Common.{◌≡◌, ⊎_elim, ℕ, ◌+◌, ◌-◌, ◌*◌, ◌/◌, ◌<◌, ◌^◌, min, ◌≤◌, ◌==◌, ◌&&◌, suc, zero, arith, true, false, cond, List, [], ◌∷◌, length, nat_lt, Some, None, slice_get, refl, ap, sym, subst, ◌∙◌}
 use Rattle.std.proofs.Math.Nat.{add-div_right, div-eq_of_lt}
-use Rattle.std.proofs.lemmas.Bool.{and_from, and_right, cases_lt, le-ltb, lt-ltb, ne_eqb}
+use Rattle.std.proofs.lemmas.Bool.{cases_lt, le-ltb, lt-ltb, ne_eqb}
 use Rattle.tabled_table.specs.Batches.{batch_at, batch_count, batches_left, progression}
 use Rattle.tabled_table.specs.declared.batches.LayoutIterator.{LayoutIterator}
 

@@ -1,44 +1,17 @@
 -- What a table keeps and gains where it is shown with a width and an alignment of its own.
-use Rattle.std.proofs.Common.{
-  ◌≡◌,
-  ℕ,
-  ◌+◌,
-  ◌-◌,
-  ◌<◌,
-  ◌≤◌,
-  ◌/◌,
-  ◌==◌,
-  cond,
-  arith,
-  Bool,
-  true,
-  false,
-  List,
-  length,
-  Option,
-  None,
-  Some,
-  refl,
-  ap,
-  sym,
-  subst,
-  ◌∙◌,
-}
+use Rattle.std.proofs.Common.{◌≡◌, ℕ, ◌+◌, ◌-◌, ◌≤◌, ◌==◌, cond, arith, Bool, true, false, List, Option, None, Some, refl, ap, sym, subst}
 use Rattle.std.proofs.lemmas.Bool.{eqb-true}
 use Rattle.tabled_text.specs.Plain.{IsAdditiveColumn}
 use Rattle.tabled_apart.specs.Lines.{IsSeparatorColumn}
-use Rattle.tabled_base.specs.Cells.{columns}
 use Rattle.tabled_border.specs.declared.sides.Indent.{Indent}
 use Rattle.tabled_border.specs.declared.sides.Sides.{Sides}
 use Rattle.tabled_config.specs.declared.alignment.AlignmentHorizontal.{AlignmentHorizontal}
 use Rattle.tabled_config.specs.declared.alignment.AlignmentHorizontal.TheVariants.{Left, Center, Right}
 use Rattle.tabled_config.specs.Settings.{frame, rule_at, style_at}
-use Rattle.tabled_config.specs.declared.spanned.CellStyle.{CellStyle}
 use Rattle.tabled_config.specs.declared.spanned.SpannedConfig.{SpannedConfig}
 use Rattle.tabled_size.specs.declared.complete_dimension.CompleteDimension.{CompleteDimension}
 use Rattle.tabled_size.specs.Estimates.{column_width, estimated_heights, estimated_widths, row_height}
 use Rattle.tabled_size.specs.Holds.{Holds}
-use Rattle.tabled_size.specs.Sheet.{Sheet}
 use Rattle.tabled_size.specs.Standing.{standing}
 use Rattle.tabled_size.specs.Totals.{filled_width}
 use Rattle.tabled_row.specs.Apart.{AreApartCells, IsApartStyle}

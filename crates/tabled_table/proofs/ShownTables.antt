@@ -1,40 +1,5 @@
 -- What is printed of a table with a width and an alignment of its own.
-use Rattle.std.proofs.Common.{
-  ◌≡◌,
-  inl,
-  inr,
-  ⊎_elim,
-  ◌⊎◌,
-  ℕ,
-  ◌+◌,
-  ◌-◌,
-  ◌<◌,
-  ◌≤◌,
-  ◌^◌,
-  ◌||◌,
-  ◌&&◌,
-  arith,
-  Bool,
-  true,
-  false,
-  max,
-  not,
-  List,
-  length,
-  Option,
-  None,
-  Some,
-  Result,
-  Ok,
-  Err,
-  is_some,
-  nat_lt,
-  refl,
-  ap,
-  sym,
-  subst,
-  ◌∙◌,
-}
+use Rattle.std.proofs.Common.{◌≡◌, inl, inr, ⊎_elim, ◌⊎◌, ℕ, ◌+◌, ◌<◌, ◌≤◌, ◌||◌, ◌&&◌, arith, Bool, true, false, max, not, List, length, Option, None, Some, Result, Ok, Err, is_some, nat_lt, refl, ap, sym, subst, ◌∙◌}
 use Rattle.std.specs.Result.{IsErrAnd}
 use Rattle.std.proofs.lemmas.Bool.{ltb-false}
 use Rattle.tabled_text.specs.Plain.{IsAdditiveColumn}

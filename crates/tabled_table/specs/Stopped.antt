@@ -25,24 +25,27 @@ pub record IsStopped (changes : Cells → ColoredConfig → Entity → Cells →
 abbrev pub kept_config : List Entity → ColoredConfig → Option ColoredConfig
 kept_config entities config = if nat_lt 1 (length entities) then Some config else None
 
--- the option fails at an entity: those before it are changed, and the configuration is the copy where there is one, else
--- what the option leaves
+-- the option fails at an entity: those before it are changed, and the configuration is the copy
+-- where there is one, else what the option leaves
 abbrev pub StopsAtPart : (Cells → ColoredConfig → Entity → Cells → ColoredConfig → Type 0)
     → (TableError → Cells → ColoredConfig → Entity → Cells → ColoredConfig → Type 0)
-    → (Cells → ColoredConfig → Entity → Type 0) → List Entity → Option ColoredConfig → TableError → Cells → ColoredConfig
-    → Cells → ColoredConfig → Type 0
+    → (Cells → ColoredConfig → Entity → Type 0) → List Entity → Option ColoredConfig → TableError
+    → Cells → ColoredConfig → Cells → ColoredConfig → Type 0
 StopsAtPart changes refuses out_of_range entities kept error cells config cells' config' =
-    (last : ColoredConfig) × IsStopped changes refuses out_of_range entities error cells config cells' last
+    (last : ColoredConfig)
+    × IsStopped changes refuses out_of_range entities error cells config cells' last
     × (config' ≡ unwrap_or kept last)
 
--- what a failed modification of some entities leaves. Either there is no memory for the list of them or for the copy of
--- the configuration: then there is an entity, and all is as it was. Or the option fails at one of them
+-- what a failed modification of some entities leaves. Either there is no memory for the list of
+-- them or for the copy of the configuration: then there is an entity, and all is as it was. Or the
+-- option fails at one of them
 abbrev pub IsPutBack : (Cells → ColoredConfig → Entity → Cells → ColoredConfig → Type 0)
     → (TableError → Cells → ColoredConfig → Entity → Cells → ColoredConfig → Type 0)
     → (Cells → ColoredConfig → Entity → Type 0) → List Entity → TableError → Cells → ColoredConfig → Cells → ColoredConfig → Type 0
 IsPutBack changes refuses out_of_range entities error cells config cells' config' =
     ((error ≡ Memory) × ((0 < length entities) × ((cells' ≡ cells) × (config' ≡ config))))
-    ⊎ StopsAtPart changes refuses out_of_range entities (kept_config entities config) error cells config cells' config'
+    ⊎ StopsAtPart changes refuses out_of_range entities (kept_config entities config) error
+    cells config cells' config'
 
 -- so of a table, whose stored sizes are forgotten
 pub record IsModifyingRefused (changes : Cells → ColoredConfig → Entity → Cells → ColoredConfig → Type 0)

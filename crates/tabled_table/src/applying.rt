@@ -66,13 +66,15 @@ impl Table {
         }
     }
 
-    /// Applies a cell option at each part that a target names, in order, and then forgets the stored
-    /// sizes that the option hints. This is `modify` for callers that need the table after an error.
+    /// Applies a cell option at each part that a target names, in order, and then forgets the
+    /// stored sizes that the option hints. This is `modify` for callers that need the table after
+    /// an error.
     ///
-    /// Where the option fails at a part, the cells of the parts before it are changed, no sizes are stored,
-    /// and where the target names several parts the configuration is as it was. The option fails with
-    /// `Memory`, or with `Range` where a sum or product passes the greatest `usize`. Where the target names
-    /// a part, `Memory` may come before the first change too: then cells and configuration are as they were.
+    /// Where the option fails at a part, the cells of the parts before it are changed, no sizes are
+    /// stored, and where the target names several parts the configuration is as it was. The option
+    /// fails with `Memory`, or with `Range` where a sum or product passes the greatest `usize`.
+    /// Where the target names a part, `Memory` may come before the first change too: then cells and
+    /// configuration are as they were.
     pub fn apply_to<
         T: Object<VecRecords<Text<String>>> + Drop,
         O: CellOption<VecRecords<Text<String>>, ColoredConfig>,
@@ -98,10 +100,10 @@ impl Table {
         }
     }
 
-    /// Applies a cell option at each part that a target names, in order, forgets the stored sizes that the
-    /// option hints, and returns the table. It fails as `apply_to` does, with `Memory` or `Range`: the cells
-    /// of the parts before the failed one are changed, no sizes are stored, and where the target names
-    /// several parts the configuration is as it was.
+    /// Applies a cell option at each part that a target names, in order, forgets the stored sizes
+    /// that the option hints, and returns the table. It fails as `apply_to` does, with `Memory` or
+    /// `Range`: the cells of the parts before the failed one are changed, no sizes are stored, and
+    /// where the target names several parts the configuration is as it was.
     pub fn modify<
         T: Object<VecRecords<Text<String>>> + Drop,
         O: CellOption<VecRecords<Text<String>>, ColoredConfig> + Drop,
@@ -145,16 +147,16 @@ impl Table {
     }
 }
 
-/// The parts that a target names. Where they are several, also a copy of the configuration, to put back when the
-/// option fails at one of them.
+/// The parts that a target names. Where they are several, also a copy of the configuration, to put
+/// back when the option fails at one of them.
 #[derive(Drop)]
 struct Parts {
     entities: Vec<Entity>,
     before: Option<ColoredConfig>,
 }
 
-/// The parts that a target names. Fails with `Memory` alone, and only where the target names a part. All that a
-/// modification allocates by itself, it allocates here, before the first change.
+/// The parts that a target names. Fails with `Memory` alone, and only where the target names a
+/// part. All that a modification allocates by itself, it allocates here, before the first change.
 fn find_parts<T: Object<VecRecords<Text<String>>>>(
     records: &VecRecords<Text<String>>,
     config: &ColoredConfig,
@@ -162,8 +164,10 @@ fn find_parts<T: Object<VecRecords<Text<String>>>>(
 ) -> Result<Parts, TableError>
     ensures named { IfOk result (λ parts. parts.entities.items
         ≡ T.picks target.now (length records.now) (columns records.now)) }
-    ensures copied { IfOk result (λ parts. parts.before ≡ kept_config parts.entities.items config.now) }
-    ensures some { OnErr result (0 < length (T.picks target.now (length records.now) (columns records.now))) }
+    ensures copied { IfOk result (λ parts. parts.before
+        ≡ kept_config parts.entities.items config.now) }
+    ensures some { OnErr result
+        (0 < length (T.picks target.now (length records.now) (columns records.now))) }
     ensures only { IfErr result (λ e. e ≡ Memory) }
 {
     let entities = target.cells(records.allocator(), records)?;
@@ -175,8 +179,9 @@ fn find_parts<T: Object<VecRecords<Text<String>>>>(
     Ok(Parts { entities, before })
 }
 
-/// Applies an option at some parts in order. Where it fails at one, the parts before that stay changed, and the
-/// configuration is put back where there is a copy of it. Nothing else fails here: each error is the option's at a part.
+/// Applies an option at some parts in order. Where it fails at one, the parts before that stay
+/// changed, and the configuration is put back where there is a copy of it. Nothing else fails here:
+/// each error is the option's at a part.
 fn change_parts<O: CellOption<VecRecords<Text<String>>, ColoredConfig>>(
     records: &mut VecRecords<Text<String>>,
     config: &mut ColoredConfig,

@@ -14,9 +14,10 @@ use tabled_config::ColoredConfig;
 use tabled_resize::increase_width;
 use tabled_size::{CompleteDimension, Peaker, is_empty};
 
-/// A table narrower than the measure is widened to it: its columns grow by what is wanting, and their widths are
-/// stored. Columns of no width stay so. Sizes that aren't stored are estimated and stored, of other tables too. `Memory`
-/// comes only where sizes aren't stored or the table is narrower than the measure.
+/// A table narrower than the measure is widened to it: its columns grow by what is wanting, and
+/// their widths are stored. Columns of no width stay so. Sizes that aren't stored are estimated and
+/// stored, of other tables too. `Memory` comes only where sizes aren't stored or the table is
+/// narrower than the measure.
 impl<W: Measurement<Width> + Drop, P: Peaker + Drop, R: PeekableRecords> TableOption<
     R,
     ColoredConfig,

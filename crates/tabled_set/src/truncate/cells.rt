@@ -11,10 +11,11 @@ use tabled_base::{CellOption, Entity, RecordsMut, TableError};
 use tabled_change::Which;
 use tabled_config::ColoredConfig;
 
-/// The entity's cells that are wider than the measure are truncated to it, and no other cell changes. Where the
-/// measure fails, with `Range`, no cell has changed. `Memory` comes at a cell that can't be cut in its place, and those
-/// before it have changed, row by row. A text is cut in its place where no U+FFFD is needed, and with no suffix, or one
-/// with which it takes at most 16 bytes.
+/// The entity's cells that are wider than the measure are truncated to it, and no other cell
+/// changes. Where the measure fails, with `Range`, no cell has changed. `Memory` comes at a cell
+/// that can't be cut in its place, and those before it have changed, row by row. A text is cut in
+/// its place where no U+FFFD is needed, and with no suffix, or one with which it takes at most 16
+/// bytes.
 impl<'a, W: Measurement<Width>, P, R: RecordsMut> CellOption<R, ColoredConfig>
     for Truncate<'a, W, P> {
     ghost changes = { λ s r c e r' c'. ChangesEntity (if_wider (truncating s.rule.suffix.now s.rule.limit s.rule.multiline))

@@ -18,11 +18,12 @@ use tabled_config::ColoredConfig;
 use tabled_resize::narrow_table;
 use tabled_size::{CompleteDimension, Peaker, is_empty};
 
-/// A table wider than the measure is narrowed to it: its columns shrink by the excess, and each cell that is wider
-/// than its column's new width less its own padding is truncated to that. Cells of a column that ends below its
-/// minimum, its width with empty cells, stay. The widths are stored, and heights are cleared where the table was
-/// wider. `Memory` comes only where sizes aren't stored or the table is wider than the measure, and at a cell only
-/// where its text can't be cut in its place.
+/// A table wider than the measure is narrowed to it: its columns shrink by the excess, and each
+/// cell that is wider than its column's new width less its own padding is truncated to that. Cells
+/// of a column that ends below its minimum, its width with empty cells, stay. The widths are
+/// stored, and heights are cleared where the table was wider. `Memory` comes only where sizes
+/// aren't stored or the table is wider than the measure, and at a cell only where its text can't be
+/// cut in its place.
 impl<'a, W: Measurement<Width> + Drop, P: Peaker + Drop, R: RecordsMut> TableOption<
     R,
     ColoredConfig,
@@ -37,7 +38,8 @@ impl<'a, W: Measurement<Width> + Drop, P: Peaker + Drop, R: RecordsMut> TableOpt
         × StopsNarrowing P.shrinks s.priority Wider
         (truncating_in_place s.rule.suffix.now s.rule.limit s.rule.multiline)
         (truncating s.rule.suffix.now s.rule.limit s.rule.multiline)
-        (W.measures s.width (R.cells r) c.config) e (R.cells r) c.config d (R.cells r') d' × (c' ≡ c) };
+        (W.measures s.width (R.cells r) c.config) e (R.cells r) c.config d (R.cells r') d'
+        × (c' ≡ c) };
 
     ghost out_of_range = { λ s r c d. NarrowingOutOfRange (W.out_of_range s.width (R.cells r) c.config)
         (W.measures s.width (R.cells r) c.config) (R.cells r) c.config d };

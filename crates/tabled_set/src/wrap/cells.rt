@@ -16,7 +16,8 @@ impl<W: Measurement<Width>, P, R: RecordsMut> CellOption<R, ColoredConfig> for W
     ghost changes = { λ s r c e r' c'. ChangesEntity (if_wider (wrapping s.rule.keep_words))
         (W.measures s.width (R.cells r) c.config) e (R.cells r) (R.cells r') × (c' ≡ c) };
 
-    ghost refuses = { λ s f r c e r' c'. StopsEntity Wider never_in_place (wrapping s.rule.keep_words)
+    ghost refuses = { λ s f r c e r' c'. StopsEntity
+        Wider never_in_place (wrapping s.rule.keep_words)
         (W.measures s.width (R.cells r) c.config) e f (R.cells r) (R.cells r') × (c' ≡ c) };
 
     ghost out_of_range = { λ s r c e. W.out_of_range s.width (R.cells r) c.config };

@@ -18,10 +18,11 @@ use tabled_config::ColoredConfig;
 use tabled_resize::narrow_table;
 use tabled_size::{CompleteDimension, Peaker, is_empty};
 
-/// A table wider than the measure is narrowed to it: its columns shrink by the excess, and every cell is wrapped
-/// to its column's new width less its own padding. Cells of a column that ends below its minimum, its width with
-/// empty cells, stay. The widths are stored, and where none were, of other tables too. `Memory` comes only where sizes
-/// aren't stored or the table is wider than the measure.
+/// A table wider than the measure is narrowed to it: its columns shrink by the excess, and every
+/// cell is wrapped to its column's new width less its own padding. Cells of a column that ends
+/// below its minimum, its width with empty cells, stay. The widths are stored, and where none were,
+/// of other tables too. `Memory` comes only where sizes aren't stored or the table is wider than
+/// the measure.
 impl<W: Measurement<Width> + Drop, P: Peaker + Drop, R: RecordsMut> TableOption<
     R,
     ColoredConfig,
@@ -33,7 +34,8 @@ impl<W: Measurement<Width> + Drop, P: Peaker + Drop, R: RecordsMut> TableOption<
     // Only a table with a row and a column fails. The sizes are as they were, or filled in.
     ghost refuses = { λ s e r c d r' c' d'. (is_empty (R.cells r) ≡ false)
         × StopsNarrowing P.shrinks s.priority Every never_in_place (wrapping s.rule.keep_words)
-        (W.measures s.width (R.cells r) c.config) e (R.cells r) c.config d (R.cells r') d' × (c' ≡ c) };
+        (W.measures s.width (R.cells r) c.config) e (R.cells r) c.config d (R.cells r') d'
+        × (c' ≡ c) };
 
     ghost out_of_range = { λ s r c d. NarrowingOutOfRange (W.out_of_range s.width (R.cells r) c.config)
         (W.measures s.width (R.cells r) c.config) (R.cells r) c.config d };

@@ -1,9 +1,9 @@
-use Rattle.std.proofs.Common.{◌≡◌, ◌∙◌, MatchOption, Some, arith, inl, inr, refl, sym, subst, ℕ, Option}
+use Rattle.std.proofs.Common.{◌≡◌, ◌∙◌, arith, inl, inr, refl}
 use Rattle.tabled_base.specs.declared.error.TableError.TheVariants.{Memory, Range}
 use Rattle.tabled_resize.specs.Increased.{StopsIncreasing}
 use Rattle.tabled_size.specs.Standing.{standing}
 use Rattle.tabled_size.specs.Stored.{is_stored}
-use Rattle.tabled_size.specs.Totals.{filled_width, total_width}
+use Rattle.tabled_size.specs.Totals.{total_width}
 use Rattle.tabled_resize.proofs.GrowingTables.{room-for, total-here, wide-already, widened, widths-pass, widths-within}
 use Rattle.tabled_resize.proofs.NarrowingTables.{fails-lacking, if-err}
 use Rattle.tabled_resize.proofs.increasing.increase_width.Goals as goal
