@@ -7,9 +7,9 @@ use std::alloc::Global;
 /// A tree of texts. An empty row or column is drawn as the empty text.
 ///
 /// The stack limits how deep a tree may be: copying and comparing it recurse at each level, and
-/// so does printing it with a `PoolTable`. On 8 MiB of stack, 20,000 levels were printed and
-/// 30,000 overflowed; with a text of no column, 15,000 were printed and 20,000 overflowed. An
-/// overflow ends the process, and no proof covers it. Dropping a tree doesn't recurse.
+/// so does printing it with a `PoolTable`. On 8 MiB of stack, 20,000 levels were printed, and
+/// 15,000 with a text of no column. A tree that is too deep overflows the stack and ends the
+/// process, and no proof covers this. Dropping a tree doesn't recurse.
 #[derive(Debug, PartialEq, Eq, PartialOrd, Ord)]
 pub enum TableValue {
     /// Values side by side, from the left.
