@@ -2,9 +2,11 @@
 use Rattle.std.proofs.Common.{◌≡◌, ℕ, ◌+◌, ◌<◌, true, false, cond, List, ⊎_elim, ◌⊎◌, inl, inr, refl, sym, ap, subst, arith}
 use Rattle.std.specs.List.{All}
 use Rattle.std.proofs.lemmas.List.Elements.{All-append, All-map, All-replicate}
+use Rattle.std.specs.Str.{IsUtf8}
+use Rattle.std.proofs.lemmas.Str.{IsUtf8-nil}
 use Rattle.std.proofs.lemmas.List.FromFn.{length-map-range_with_len, get_or-map-range_with_len}
 use Rattle.tabled_text.specs.Measure.{line_columns}
-use Rattle.tabled_text.specs.Plain.{IsPlainLine, IsPlainColumn}
+use Rattle.tabled_text.specs.Plain.{IsPlain, IsPlainLine}
 use Rattle.tabled_text.proofs.PlainLines.{plain_line-append, plain_line-as}
 use Rattle.tabled_apart.specs.Lines.{IsLine}
 use Rattle.tabled_apart.proofs.LineLaws.{line-frame, line-framed}
@@ -22,6 +24,7 @@ use Rattle.tabled_panels.specs.Plan.{Plan}
 use Rattle.tabled_pool.specs.declared.pool_table.PoolTable.{PoolTable}
 use Rattle.tabled_pool.specs.Apart.{IsApartMargin, IsApartPool, IsStraightPool}
 use Rattle.tabled_pool.specs.Drawn.{drawn, drawn_line}
+use Rattle.tabled_pool.specs.Plain.{IsPlainMargin, IsPlainPool}
 use Rattle.tabled_pool.specs.PlainTree.{PlainTree}
 use Rattle.tabled_pool.specs.Pool.{
   borders_of,
@@ -36,7 +39,6 @@ use Rattle.tabled_pool.specs.Pool.{
   pool_lines,
   total_width,
   HasColumns,
-  IsPlainPool,
 }
 use Rattle.tabled_pool.specs.Tiled.{Tiled}
 use Rattle.tabled_pool.proofs.ApartBlocks.{frame-fill, frame-run}
@@ -48,7 +50,7 @@ use Rattle.tabled_pool.proofs.PlainBlocks.{bare, plain-run}
 use Rattle.tabled_pool.proofs.PoolLemmas.{lined}
 use Rattle.tabled_pool.proofs.Plains.{plain_drawable, PlainOut}
 use Rattle.tabled_pool.proofs.Tiles.{drawn_tiles}
-use Rattle.tabled_pool.proofs.TreeTexts.{framed-texts, owner-text}
+use Rattle.tabled_pool.proofs.TreeTexts.{framed-texts, owner-text, plain-nil, tree-utf8}
 
 -- ---- the trees of such tables
 
@@ -61,11 +63,12 @@ plain_plan t h = record {
   right = refl;
   top = refl;
   bottom = refl;
-  borders = h.borders;
-  style = h.style;
-  texts = h.texts;
-  padding_marks = h.padding_color;
-  line_marks = h.borders_color;
+  borders = h.settings.borders;
+  style = h.settings.style;
+  texts = λ x y p o k. owner-text IsPlain _ x y p
+      (framed-texts IsPlain plain-nil (gaps_of t) t.value h.texts (frame_of (borders_of t)) (frame_place t)) o;
+  padding_marks = h.settings.uncoloured.padding;
+  line_marks = h.settings.uncoloured.borders;
 }
 
 apart_plan : (t : PoolTable) → IsApartPool t → ApartTree (gaps_of t) (plan t)
@@ -79,7 +82,8 @@ apart_plan t h = record {
   bottom = refl;
   borders = h.borders;
   style = h.style;
-  texts = λ x y p o. owner-text _ x y p (framed-texts (gaps_of t) t.value (frame_of (borders_of t)) (frame_place t)) o;
+  texts = λ x y p o. owner-text IsUtf8 _ x y p
+      (framed-texts IsUtf8 IsUtf8-nil (gaps_of t) t.value (tree-utf8 t.value) (frame_of (borders_of t)) (frame_place t)) o;
   padding_marks = h.uncoloured.padding;
   line_marks = h.uncoloured.borders;
 }
@@ -159,13 +163,7 @@ bare-margin t h =
 
 -- ---- plain margins
 
-record PlainMargin (m : Sides Indent) : Type 0 where
-  left : IsPlainColumn m.left.fill
-  right : IsPlainColumn m.right.fill
-  top : IsPlainColumn m.top.fill
-  bottom : IsPlainColumn m.bottom.fill
-
-plain-within : (m : Sides Indent) (w : ℕ) (line : List ℕ) → PlainMargin m → IsPlainLine line w
+plain-within : (m : Sides Indent) (w : ℕ) (line : List ℕ) → IsPlainMargin m → IsPlainLine line w
     → line_columns (within_margin m bare line) ≡ m.left.size + w + m.right.size
 plain-within m w line p l =
     (plain_line-as
@@ -173,10 +171,7 @@ plain-within m w line p l =
     (plain_line-append l (plain-run (plain-fill m.right.fill m.right.size p.right))))
     (omega arith)).columns
 
-plain-margin : (t : PoolTable) → IsPlainPool t → PlainMargin (margin_of t)
-plain-margin t h = record { left = h.margin_left; right = h.margin_right; top = h.margin_top; bottom = h.margin_bottom }
-
-plain-columns : (t : PoolTable) (m : Sides Indent) → IsPlainPool t → PlainMargin m
+plain-columns : (t : PoolTable) (m : Sides Indent) → IsPlainPool t → IsPlainMargin m
     → EachLineTakes (m.left.size + framed_width t + m.right.size) (with_margin m bare (framed_width t) (drawn (plan t)))
 plain-columns t m h p =
     let w = framed_width t in
@@ -213,4 +208,4 @@ marked t c e h =
 
 pub whole_columns : (t : PoolTable) → HasColumns t → IsStraightPool t → EachLineTakes (total_width t) (pool_lines t)
 whole_columns t c (inl h) = marked t c h.uncoloured.margin (apart-columns t (margin_of t) h h.margin)
-whole_columns t c (inr h) = marked t c h.margin_color (plain-columns t (margin_of t) h (plain-margin t h))
+whole_columns t c (inr h) = marked t c h.settings.uncoloured.margin (plain-columns t (margin_of t) h h.settings.margin)
