@@ -17,8 +17,10 @@ use toml::Value;
 pub struct Printed {
     text: String,
     answer: Result<(), TableError>,
-    // Whether boxes keep their texts apart.
+    // Whether the settings of boxes separate their texts.
     is_apart: Option<bool>,
+    // Whether boxes and their texts are plain.
+    is_plain: Option<bool>,
     // How often records were truncated.
     truncated: Option<usize>,
 }
@@ -29,20 +31,22 @@ impl Printed {
             text: String::new(alloc),
             answer: Ok(()),
             is_apart: None,
+            is_plain: None,
             truncated: None,
         }
     }
 
     /// What is out, why the printing is refused, or what was told.
     pub fn answer(&self, alloc: Global, question: &str) -> Result<String, Fault> {
-        match (question, self.is_apart, self.truncated) {
-            ("picture", _, _) => Ok(String::from_str(alloc, self.text.as_str())?),
-            ("refused", _, _) => match self.answer {
+        match (question, self.is_apart, self.is_plain, self.truncated) {
+            ("picture", _, _, _) => Ok(String::from_str(alloc, self.text.as_str())?),
+            ("refused", _, _, _) => match self.answer {
                 Ok(()) => Ok(String::new(alloc)),
                 Err(error) => shown_word(alloc, error),
             },
-            ("apart", Some(is_apart), _) => Ok(format!(in alloc; "{is_apart}")?),
-            ("truncated", _, Some(count)) => Ok(format!(in alloc; "{count}")?),
+            ("apart", Some(is_apart), _, _) => Ok(format!(in alloc; "{is_apart}")?),
+            ("plain", _, Some(is_plain), _) => Ok(format!(in alloc; "{is_plain}")?),
+            ("truncated", _, _, Some(count)) => Ok(format!(in alloc; "{count}")?),
             _ => Err(Fault::Unknown("no such question")),
         }
     }
@@ -134,6 +138,7 @@ fn print_boxes(alloc: Global, mut table: PoolTable, look: &Look) -> Result<Print
     table.with(look.boxes)?;
     let mut printed = Printed::new(alloc);
     printed.is_apart = Some(table.is_apart());
+    printed.is_plain = Some(table.is_plain());
     printed.answer = table.write_to(&mut printed.text);
     Ok(printed)
 }

@@ -1,4 +1,4 @@
-//! Copies of boxes, and deep trees: their walk and their drop take the machine's stack, so how deep a value may be is bounded by it.
+//! Copies of boxes, and deep trees, which are dropped without recursion.
 
 use std::alloc::Global;
 use std::test::Fail;
@@ -31,6 +31,7 @@ fn a_copy_is_displayed_as_the_text_of_the_table(rt: HostRuntime) -> Result<(), F
     assert!(rt; copy == table);
     table.with(Style::empty())?;
     assert!(rt; copy != table);
+    assert_eq!(rt; table.with(Style::ascii())?.to_text()?.as_str(), RAGGED);
     assert_eq!(rt; copy.to_string()?.as_str(), RAGGED);
     let text = format!(in rt.alloc(); "{copy:>99.3}")?;
     assert_eq!(rt; text.as_str(), RAGGED);
@@ -57,5 +58,7 @@ fn a_tree_of_two_thousand_levels_is_copied_and_printed(rt: HostRuntime) -> Resul
     let table = PoolTable::from_value(wrapped(rt.alloc(), 2000)?);
     let text = table.clone()?.to_string()?;
     assert_eq!(rt; text.as_str(), "+---+\n| a |\n+---+");
+    // One that is too deep to be printed.
+    let _deep = wrapped(rt.alloc(), 300_000)?;
     Ok(())
 }

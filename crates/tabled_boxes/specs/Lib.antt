@@ -1,5 +1,6 @@
 pub mod Boxes
-pub mod Tiling
-pub mod Shown
 pub mod Left
+pub mod Nodes
+pub mod Shown
+pub mod Tiling
 pub mod Tree

@@ -1,4 +1,4 @@
-//! Trees that are copied.
+//! Copies of trees.
 ghost use Rattle.std.specs.Prelude.{◌≡◌, IfErr, IfOk, map};
 ghost use Rattle.tabled_base.specs.declared.error.TableError.TheVariants.{Memory};
 ghost use Rattle.tabled_boxes.specs.Tree.{tree_of};
@@ -7,7 +7,7 @@ use crate::tree::TableValue;
 use std::alloc::Global;
 use tabled_base::TableError;
 
-/// Values, in memory of their own.
+/// Copies of values.
 #[cycle(copies)]
 fn copied_values(alloc: Global, values: &[TableValue]) -> Result<Vec<TableValue>, TableError>
     ensures ok { IfOk result (λ copy. map tree_of copy.items ≡ map tree_of values.now) }
@@ -20,7 +20,7 @@ fn copied_values(alloc: Global, values: &[TableValue]) -> Result<Vec<TableValue>
     Ok(copy)
 }
 
-/// A value, in memory of its own.
+/// A copy of a value.
 #[cycle(copies)]
 fn copied(value: &TableValue) -> Result<TableValue, TableError>
     ensures ok { IfOk result (λ copy. tree_of copy ≡ tree_of value.now) }
@@ -40,7 +40,8 @@ fn copied(value: &TableValue) -> Result<TableValue, TableError>
 }
 
 impl TableValue {
-    /// The same tree, in memory of its own. The walk recurses as deep as the tree goes. Refused only for memory.
+    /// A copy of the tree. The call recurses at each level, as `TableValue` says. Fails only with
+    /// `Memory`, where an allocation fails.
     pub fn clone(&self) -> Result<TableValue, TableError>
         ensures ok { IfOk result (λ copy. tree_of copy ≡ tree_of self.now) }
         ensures only { IfErr result (λ e. e ≡ Memory) }

@@ -25,13 +25,14 @@ use Rattle.tabled_boxes.specs.declared.pieces.Rectangle.{Rectangle}
 use Rattle.tabled_boxes.specs.Boxes.{Part}
 use Rattle.tabled_boxes.specs.Tiling.{AreTiles, EachFits}
 use Rattle.tabled_panels.specs.Block.{pool_block}
-use Rattle.tabled_panels.specs.Colours.{no_line_marks, no_mark}
+use Rattle.tabled_panels.specs.Colours.{no_mark}
 use Rattle.tabled_panels.specs.Leaf.{leaf_line}
 use Rattle.tabled_panels.specs.Kinds.{is_line_kind}
 use Rattle.tabled_panels.specs.Plan.{Plan}
 use Rattle.tabled_pool.specs.Characters.{EachCharacter}
 use Rattle.tabled_pool.specs.Drawn.{border_char}
 use Rattle.tabled_pool.specs.Owner.{owner, is_border_before, is_line}
+use Rattle.tabled_pool.specs.Uncoloured.{AreNoMarks}
 use Rattle.tabled_pool.specs.Whole.{whole}
 use Rattle.tabled_pool.proofs.ApartBlocks.{held-block, separator-space, IsBlockLine}
 use Rattle.tabled_pool.proofs.Bare.{around-bare}
@@ -52,7 +53,7 @@ pub record ApartTree (g : Gaps) (t : Plan) : Type 0 where
   pub style : IsApartStyle t.style
   pub texts : (x y : ℕ) (p : Part) → owner t.parts x y ≡ Some p → IsUtf8 p.text
   pub padding_marks : t.padding_marks ≡ each_side no_mark
-  pub line_marks : t.line_marks ≡ no_line_marks
+  pub line_marks : AreNoMarks t.line_marks
 
 char : (g : Gaps) (t : Plan) → ApartTree g t → (k : Kind) (r : Rectangle) (x y : ℕ) → IsSeparatorColumn (border_char t k r x y)
 char g t h k r x y = char-kind IsSeparatorColumn t separator-space h.borders k r x y

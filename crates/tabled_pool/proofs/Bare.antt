@@ -1,16 +1,94 @@
 -- Without colours nothing stands around a character.
-use Rattle.std.proofs.Common.{◌≡◌, ℕ, ◌+◌, ◌==◌, Bool, true, false, cond, List, [], ◌∷◌, Option, Some, None, unwrap_or, refl, subst}
+use Rattle.std.proofs.Common.{◌≡◌, ℕ, ◌+◌, ◌==◌, Bool, true, false, cond, List, [], ◌∷◌, Option, Some, None, unwrap_or, refl, sym, ap, subst}
 use Rattle.tabled_border.specs.Frame.{has_left}
 use Rattle.tabled_boxes.specs.declared.pieces.Rectangle.{Rectangle}
 use Rattle.tabled_boxes.specs.Boxes.{Part}
-use Rattle.tabled_panels.specs.Marks.{Around, begun, ended, nothing_around, used_after}
-use Rattle.tabled_panels.specs.Colours.{Mark, no_line_marks}
+use Rattle.tabled_panels.specs.Marks.{Around, alone, begun, ended, nothing_around, used_after}
+use Rattle.tabled_panels.specs.Colours.{Mark, is_same, no_mark}
 use Rattle.tabled_panels.specs.Kinds.{is_line_kind}
 use Rattle.tabled_panels.specs.Plan.{Plan}
 use Rattle.tabled_pool.specs.declared.around.Spot.{Spot}
 use Rattle.tabled_pool.specs.declared.around.Spot.TheVariants.{Before, Inside, Behind, Outside}
-use Rattle.tabled_pool.specs.Around.{across, around_at, around_part, around_text, beside, is_last_column, is_last_row, right_around, spot}
+use Rattle.tabled_pool.specs.Around.{
+  across,
+  around_at,
+  around_part,
+  around_text,
+  beside,
+  is_last_column,
+  is_last_row,
+  main_around,
+  right_around,
+  spot,
+  used_main,
+  written_corner,
+}
 use Rattle.tabled_pool.specs.Frames.{has_top}
+use Rattle.tabled_pool.specs.Uncoloured.{AreNoMarks, IsNoMark}
+
+-- ---- empty colours
+
+begun-none : (used mark : Option Mark) → IsNoMark used → IsNoMark mark → begun used mark ≡ nothing_around
+begun-none None None u m = refl
+begun-none (Some v) None u m = refl
+begun-none None (Some k) u m = subst (λ (j : Mark). begun None (Some j) ≡ nothing_around) (sym m) refl
+begun-none (Some v) (Some k) u m =
+    subst (λ (j : Mark). begun (Some v) (Some j) ≡ nothing_around) (sym m)
+    (subst (λ (j : Mark). begun (Some j) (Some no_mark) ≡ nothing_around) (sym u)
+    (elim (is_same no_mark no_mark) as (λ b. cond b nothing_around nothing_around ≡ nothing_around) [
+      | true ↦ refl
+      | false ↦ refl
+    ]))
+
+ended-none : (mark : Option Mark) → IsNoMark mark → ended mark ≡ []
+ended-none None h = refl
+ended-none (Some k) h = ap (λ (j : Mark). j.suffix) h
+
+alone-none : (mark : Option Mark) → IsNoMark mark → alone mark ≡ nothing_around
+alone-none None h = refl
+alone-none (Some k) h = subst (λ (j : Mark). alone (Some j) ≡ nothing_around) (sym h) refl
+
+used-none : (used mark : Option Mark) → IsNoMark used → IsNoMark mark → IsNoMark (used_after used mark)
+used-none None mark u m = m
+used-none (Some v) mark u m = u
+
+corner-none : (t : Plan) (mark : Option Mark) → IsNoMark mark → IsNoMark (written_corner t mark)
+corner-none t mark h = elim (has_left t.borders) as (λ b. IsNoMark (cond b mark None)) [ true ↦ h | false ↦ refl ]
+
+main-none : (t : Plan) (corner main : Option Mark) → IsNoMark corner → IsNoMark main → IsNoMark (used_main t corner main)
+main-none t corner main c m = used-none (written_corner t corner) main (corner-none t corner c) m
+
+-- ---- around a text
+
+if-nothing : (b : Bool) (a : Around) → a ≡ nothing_around → cond b a nothing_around ≡ nothing_around
+if-nothing true a h = h
+if-nothing false a h = refl
+
+if-nil : (b c : Bool) (l : List ℕ) → l ≡ [] → cond b [] (cond c l []) ≡ []
+if-nil true c l h = refl
+if-nil false true l h = h
+if-nil false false l h = refl
+
+behind-nothing : (a : Around) (l : List ℕ) → a ≡ nothing_around → l ≡ [] → record a { behind = l } ≡ nothing_around
+behind-nothing a l e h =
+    subst (λ (b : Around). record b { behind = l } ≡ nothing_around) (sym e)
+    (subst (λ (m : List ℕ). record nothing_around { behind = m } ≡ nothing_around) (sym h) refl)
+
+main-bare : (t : Plan) (corner main : Option Mark) (r : Rectangle) (x : ℕ) → IsNoMark corner → IsNoMark main
+    → main_around t corner main r x ≡ nothing_around
+main-bare t corner main r x c m =
+    behind-nothing _ _
+    (if-nothing (x == r.x) (begun (written_corner t corner) main)
+    (begun-none (written_corner t corner) main (corner-none t corner c) m))
+    (if-nil (is_last_column t r) (r.x + r.width == x + 1) (ended (used_main t corner main))
+    (ended-none (used_main t corner main) (main-none t corner main c m)))
+
+right-bare : (t : Plan) (corner main right : Option Mark) → IsNoMark corner → IsNoMark main → IsNoMark right
+    → right_around t corner main right ≡ nothing_around
+right-bare t corner main right c m r =
+    let used = main-none t corner main c m in
+    behind-nothing _ _ (begun-none (used_main t corner main) right used r)
+    (ended-none (used_after (used_main t corner main) right) (used-none (used_main t corner main) right used r))
 
 abbrev IsBare : Option Around → Type 0
 IsBare a = unwrap_or a nothing_around ≡ nothing_around
@@ -19,53 +97,32 @@ if-bare : (b : Bool) (a : Option Around) → IsBare a → IsBare (cond b a None)
 if-bare true a h = h
 if-bare false a h = refl
 
-abbrev nothing : Option Mark
-nothing = None
+across-bare : (t : Plan) (corner main right : Option Mark) (r : Rectangle) (s : Spot) (x : ℕ) → IsNoMark corner → IsNoMark main → IsNoMark right
+    → IsBare (across t corner main right r s x)
+across-bare t corner main right r Before x c m e = if-bare (has_left t.borders) (Some (begun None corner)) (begun-none None corner refl c)
+across-bare t corner main right r Inside x c m e = main-bare t corner main r x c m
+across-bare t corner main right r Behind x c m e =
+    if-bare (is_last_column t r) (Some (right_around t corner main right)) (right-bare t corner main right c m e)
+across-bare t corner main right r Outside x c m e = refl
 
-main-bare : (l r f e : Bool) → record (cond f (begun (cond l nothing None) None) nothing_around) {
-  behind = cond r [] (cond e (ended (used_after (cond l nothing None) None)) []);
-} ≡ nothing_around
-main-bare true true true e = refl
-main-bare true true false e = refl
-main-bare false true true e = refl
-main-bare false true false e = refl
-main-bare true false true true = refl
-main-bare true false true false = refl
-main-bare true false false true = refl
-main-bare true false false false = refl
-main-bare false false true true = refl
-main-bare false false true false = refl
-main-bare false false false true = refl
-main-bare false false false false = refl
+beside-bare : (t : Plan) (r : Rectangle) (s : Spot) → AreNoMarks t.line_marks → IsBare (beside t r s)
+beside-bare t r Before h = if-bare (has_left t.borders) (Some (alone t.line_marks.left)) (alone-none t.line_marks.left h.left)
+beside-bare t r Inside h = refl
+beside-bare t r Behind h = if-bare (is_last_column t r) (Some (alone t.line_marks.right)) (alone-none t.line_marks.right h.right)
+beside-bare t r Outside h = refl
 
-right-bare : (l : Bool) → record (begun (used_after (cond l nothing None) None) nothing) {
-  behind = ended (used_after (used_after (cond l nothing None) None) nothing);
-} ≡ nothing_around
-right-bare true = refl
-right-bare false = refl
+text-bare : (t : Plan) (r : Rectangle) (s : Spot) (x : ℕ) → AreNoMarks t.line_marks → IsBare (around_text t r s x)
+text-bare t r Before x h =
+    if-bare (has_top t.borders) _
+    (across-bare t t.line_marks.top_left t.line_marks.top t.line_marks.top_right r (spot r.x r.width x) x h.top_left h.top h.top_right)
+text-bare t r Inside x h = beside-bare t r (spot r.x r.width x) h
+text-bare t r Behind x h =
+    if-bare (is_last_row t r) _
+    (across-bare t t.line_marks.bottom_left t.line_marks.bottom t.line_marks.bottom_right r (spot r.x r.width x) x h.bottom_left h.bottom
+    h.bottom_right)
+text-bare t r Outside x h = refl
 
-across-bare : (t : Plan) (r : Rectangle) (s : Spot) (x : ℕ) → IsBare (across t None None None r s x)
-across-bare t r Before x = if-bare (has_left t.borders) (Some (begun None None)) refl
-across-bare t r Inside x = main-bare (has_left t.borders) (is_last_column t r) (x == r.x) (r.x + r.width == x + 1)
-across-bare t r Behind x = if-bare (is_last_column t r) (Some (right_around t None None None)) (right-bare (has_left t.borders))
-across-bare t r Outside x = refl
-
-abbrev bare_plan : Plan → Plan
-bare_plan t = record t { line_marks = no_line_marks }
-
-beside-bare : (t : Plan) (r : Rectangle) (s : Spot) → IsBare (beside (bare_plan t) r s)
-beside-bare t r Before = if-bare (has_left t.borders) (Some nothing_around) refl
-beside-bare t r Inside = refl
-beside-bare t r Behind = if-bare (is_last_column t r) (Some nothing_around) refl
-beside-bare t r Outside = refl
-
-text-bare : (t : Plan) (r : Rectangle) (s : Spot) (x : ℕ) → IsBare (around_text (bare_plan t) r s x)
-text-bare t r Before x =
-    if-bare (has_top t.borders) (across (bare_plan t) None None None r (spot r.x r.width x) x) (across-bare (bare_plan t) r (spot r.x r.width x) x)
-text-bare t r Inside x = beside-bare t r (spot r.x r.width x)
-text-bare t r Behind x =
-    if-bare (is_last_row t r) (across (bare_plan t) None None None r (spot r.x r.width x) x) (across-bare (bare_plan t) r (spot r.x r.width x) x)
-text-bare t r Outside x = refl
+-- ---- at a place
 
 none-bare : (b : Bool) (a : Option Around) → IsBare a → IsBare (cond b None a)
 none-bare true a h = refl
@@ -75,14 +132,12 @@ first-bare : (a : Option Around) (rest : Around) → IsBare a → rest ≡ nothi
 first-bare None rest h e = e
 first-bare (Some a) rest h e = h
 
-at-bare : (t : Plan) (ps : List Part) (x y : ℕ) → around_at (bare_plan t) ps x y ≡ nothing_around
-at-bare t [] x y = refl
-at-bare t (p ∷ ps) x y =
-    first-bare (around_part (bare_plan t) p x y) (around_at (bare_plan t) ps x y)
-    (none-bare (is_line_kind p.kind) (around_text (bare_plan t) p.place (spot p.place.y p.place.height y) x)
-    (text-bare t p.place (spot p.place.y p.place.height y) x)) (at-bare t ps x y)
+at-bare : (t : Plan) (ps : List Part) (x y : ℕ) → AreNoMarks t.line_marks → around_at t ps x y ≡ nothing_around
+at-bare t [] x y h = refl
+at-bare t (p ∷ ps) x y h =
+    first-bare (around_part t p x y) (around_at t ps x y)
+    (none-bare (is_line_kind p.kind) (around_text t p.place (spot p.place.y p.place.height y) x)
+    (text-bare t p.place (spot p.place.y p.place.height y) x h)) (at-bare t ps x y h)
 
-pub around-bare : (t : Plan) → t.line_marks ≡ no_line_marks → (x y : ℕ) → around_at t t.parts x y ≡ nothing_around
-around-bare t e x y =
-    let same : bare_plan t ≡ t = rw e refl in
-    subst (λ (u : Plan). around_at u u.parts x y ≡ nothing_around) same (at-bare t t.parts x y)
+pub around-bare : (t : Plan) → AreNoMarks t.line_marks → (x y : ℕ) → around_at t t.parts x y ≡ nothing_around
+around-bare t h x y = at-bare t t.parts x y h

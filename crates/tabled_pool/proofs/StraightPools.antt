@@ -2,9 +2,11 @@
 use Rattle.std.proofs.Common.{◌≡◌, ℕ, ◌+◌, ◌<◌, true, false, cond, List, ⊎_elim, ◌⊎◌, inl, inr, refl, sym, ap, subst, arith}
 use Rattle.std.specs.List.{All}
 use Rattle.std.proofs.lemmas.List.Elements.{All-append, All-map, All-replicate}
+use Rattle.std.specs.Str.{IsUtf8}
+use Rattle.std.proofs.lemmas.Str.{IsUtf8-nil}
 use Rattle.std.proofs.lemmas.List.FromFn.{length-map-range_with_len, get_or-map-range_with_len}
 use Rattle.tabled_text.specs.Measure.{line_columns}
-use Rattle.tabled_text.specs.Plain.{IsAdditiveLine, IsAdditiveColumn}
+use Rattle.tabled_text.specs.Plain.{IsAdditive, IsAdditiveLine}
 use Rattle.tabled_text.proofs.PlainLines.{plain_line-append, plain_line-as}
 use Rattle.tabled_apart.specs.Lines.{IsLine}
 use Rattle.tabled_apart.proofs.LineLaws.{line-frame, line-framed}
@@ -15,6 +17,7 @@ use Rattle.tabled_config.specs.Compact.{each_side}
 use Rattle.tabled_priority.specs.Sums.{one_if}
 use Rattle.tabled_row.specs.Plain.{EachLineTakes}
 use Rattle.tabled_row.proofs.Plains.{plain-fill}
+use Rattle.tabled_boxes.specs.Tree.{tree_of}
 use Rattle.tabled_boxes.proofs.Framing.{tree_framed_tiles, tree_framed_fits}
 use Rattle.tabled_panels.specs.Colours.{marks_of, no_mark}
 use Rattle.tabled_panels.specs.Margins.{margin_line, within_margin, with_margin}
@@ -22,6 +25,7 @@ use Rattle.tabled_panels.specs.Plan.{Plan}
 use Rattle.tabled_pool.specs.declared.pool_table.PoolTable.{PoolTable}
 use Rattle.tabled_pool.specs.Apart.{IsApartMargin, IsApartPool, IsStraightPool}
 use Rattle.tabled_pool.specs.Drawn.{drawn, drawn_line}
+use Rattle.tabled_pool.specs.Plain.{IsAdditivePool, IsPlainMargin, IsPlainPool}
 use Rattle.tabled_pool.specs.PlainTree.{PlainTree}
 use Rattle.tabled_pool.specs.Pool.{
   borders_of,
@@ -36,7 +40,6 @@ use Rattle.tabled_pool.specs.Pool.{
   pool_lines,
   total_width,
   HasColumns,
-  IsPlainPool,
 }
 use Rattle.tabled_pool.specs.Tiled.{Tiled}
 use Rattle.tabled_pool.proofs.ApartBlocks.{frame-fill, frame-run}
@@ -48,11 +51,11 @@ use Rattle.tabled_pool.proofs.PlainBlocks.{bare, plain-run}
 use Rattle.tabled_pool.proofs.PoolLemmas.{lined}
 use Rattle.tabled_pool.proofs.Plains.{plain_drawable, PlainOut}
 use Rattle.tabled_pool.proofs.Tiles.{drawn_tiles}
-use Rattle.tabled_pool.proofs.TreeTexts.{framed-texts, owner-text}
+use Rattle.tabled_pool.proofs.TreeTexts.{additive-each, additive-nil, framed-texts, owner-text, tree-utf8}
 
 -- ---- the trees of such tables
 
-plain_plan : (t : PoolTable) → IsPlainPool t → PlainTree (gaps_of t) (plan t)
+plain_plan : (t : PoolTable) → IsAdditivePool t → PlainTree (gaps_of t) (plan t)
 unfolding plan
 plain_plan t h = record {
   once = tree_framed_tiles (gaps_of t) t.value (frame_of (borders_of t)) (frame_place t) (omega arith) (omega arith);
@@ -61,11 +64,12 @@ plain_plan t h = record {
   right = refl;
   top = refl;
   bottom = refl;
-  borders = h.borders;
-  style = h.style;
-  texts = h.texts;
-  padding_marks = h.padding_color;
-  line_marks = h.borders_color;
+  borders = h.settings.borders;
+  style = h.settings.style;
+  texts = λ x y p o k. owner-text IsAdditive _ x y p
+      (framed-texts IsAdditive additive-nil (gaps_of t) t.value h.texts (frame_of (borders_of t)) (frame_place t)) o;
+  padding_marks = h.settings.uncoloured.padding;
+  line_marks = h.settings.uncoloured.borders;
 }
 
 apart_plan : (t : PoolTable) → IsApartPool t → ApartTree (gaps_of t) (plan t)
@@ -79,7 +83,8 @@ apart_plan t h = record {
   bottom = refl;
   borders = h.borders;
   style = h.style;
-  texts = λ x y p o. owner-text _ x y p (framed-texts (gaps_of t) t.value (frame_of (borders_of t)) (frame_place t)) o;
+  texts = λ x y p o. owner-text IsUtf8 _ x y p
+      (framed-texts IsUtf8 IsUtf8-nil (gaps_of t) t.value (tree-utf8 t.value) (frame_of (borders_of t)) (frame_place t)) o;
   padding_marks = h.uncoloured.padding;
   line_marks = h.uncoloured.borders;
 }
@@ -117,7 +122,7 @@ apart_drawn : (t : PoolTable) → IsApartPool t → AreDrawn (plan t)
 unfolding plan
 apart_drawn t h = ⊎_elim (bar_drawn t h) (padded_drawn t h) h.gap
 
-plain-drawable : (t : PoolTable) → IsPlainPool t → IsDrawable (plan t) PlainOut
+plain-drawable : (t : PoolTable) → IsAdditivePool t → IsDrawable (plan t) PlainOut
 plain-drawable t h = plain_drawable (gaps_of t) (plan t) (plain_plan t h)
 
 pub pool_tiles : (t : PoolTable) → IsStraightPool t → Tiled (plan t)
@@ -159,13 +164,7 @@ bare-margin t h =
 
 -- ---- plain margins
 
-record PlainMargin (m : Sides Indent) : Type 0 where
-  left : IsAdditiveColumn m.left.fill
-  right : IsAdditiveColumn m.right.fill
-  top : IsAdditiveColumn m.top.fill
-  bottom : IsAdditiveColumn m.bottom.fill
-
-plain-within : (m : Sides Indent) (w : ℕ) (line : List ℕ) → PlainMargin m → IsAdditiveLine line w
+plain-within : (m : Sides Indent) (w : ℕ) (line : List ℕ) → IsPlainMargin m → IsAdditiveLine line w
     → line_columns (within_margin m bare line) ≡ m.left.size + w + m.right.size
 plain-within m w line p l =
     (plain_line-as
@@ -173,10 +172,7 @@ plain-within m w line p l =
     (plain_line-append l (plain-run (plain-fill m.right.fill m.right.size p.right))))
     (omega arith)).columns
 
-plain-margin : (t : PoolTable) → IsPlainPool t → PlainMargin (margin_of t)
-plain-margin t h = record { left = h.margin_left; right = h.margin_right; top = h.margin_top; bottom = h.margin_bottom }
-
-plain-columns : (t : PoolTable) (m : Sides Indent) → IsPlainPool t → PlainMargin m
+plain-columns : (t : PoolTable) (m : Sides Indent) → IsAdditivePool t → IsPlainMargin m
     → EachLineTakes (m.left.size + framed_width t + m.right.size) (with_margin m bare (framed_width t) (drawn (plan t)))
 plain-columns t m h p =
     let w = framed_width t in
@@ -213,4 +209,8 @@ marked t c e h =
 
 pub whole_columns : (t : PoolTable) → HasColumns t → IsStraightPool t → EachLineTakes (total_width t) (pool_lines t)
 whole_columns t c (inl h) = marked t c h.uncoloured.margin (apart-columns t (margin_of t) h h.margin)
-whole_columns t c (inr h) = marked t c h.margin_color (plain-columns t (margin_of t) h (plain-margin t h))
+whole_columns t c (inr h) = marked t c h.settings.uncoloured.margin (plain-columns t (margin_of t) h h.settings.margin)
+
+-- plain texts are additive
+pub straight_plain : (t : PoolTable) → IsPlainPool t → IsStraightPool t
+straight_plain t h = inr (record { texts = additive-each (tree_of t.value) h.texts; settings = h.settings })

@@ -1,12 +1,16 @@
--- The texts of the parts of a tree are UTF-8.
-use Rattle.std.proofs.Common.{◌≡◌, ℕ, List, [], ◌∷◌, ◌++◌, Some, map, sym, ◌∙◌, subst, ⊎_elim, string_bytes}
+-- What holds of each text of a tree holds of those of its parts.
+use Rattle.std.proofs.Common.{◌≡◌, ℕ, List, [], ◌∷◌, ◌++◌, Some, map, refl, sym, ◌∙◌, subst, ⊎_elim, string_bytes}
+use Rattle.std.specs.List.{All}
 use Rattle.std.specs.Str.{IsUtf8}
-use Rattle.std.proofs.lemmas.Str.{IsUtf8-nil, IsUtf8-string_bytes}
+use Rattle.std.proofs.lemmas.List.Elements.{All-cons, All-head, All-nil, All-tail}
+use Rattle.std.proofs.lemmas.Str.{IsUtf8-nil, IsUtf8-string_bytes, chars-nil}
+use Rattle.tabled_text.specs.Plain.{IsAdditive, IsPlain}
+use Rattle.tabled_text.proofs.PlainLines.{additive-plain}
 use Rattle.tabled_border.specs.declared.sides.Sides.{Sides}
 use Rattle.tabled_boxes.specs.declared.gaps.Gaps.{Gaps}
 use Rattle.tabled_boxes.specs.declared.pieces.Rectangle.{Rectangle}
 use Rattle.tabled_boxes.specs.declared.tree.TableValue.{TableValue}
-use Rattle.tabled_boxes.specs.declared.tree.TableValue.TheOpen.{Row, Column, Cell}
+use Rattle.tabled_boxes.specs.declared.tree.TableValue.TheOpen.{TableValue-F, Row, Column, Cell}
 use Rattle.tabled_boxes.specs.declared.tree.TableValue.TheFolds.{fold-roll-TableValue, ind-TableValue, map-TableValue}
 use Rattle.tabled_boxes.specs.declared.tree.TableValue.TheViews.{roll-TableValue}
 use Rattle.tabled_boxes.specs.Boxes.{
@@ -27,71 +31,130 @@ use Rattle.tabled_boxes.specs.Boxes.{
   box_of,
 }
 use Rattle.tabled_boxes.specs.Tiling.{framed, within}
+use Rattle.tabled_boxes.specs.Tree.{Tree, Trees, leaf, across, down, none, one_more, tree_of, tree_step, trees}
 use Rattle.tabled_pool.specs.Owner.{owner}
+use Rattle.tabled_pool.specs.Texts.{EachText, EachTextIn}
 use Rattle.tabled_pool.proofs.Owners.{owner-here, owner-behind, is-1}
 
-abbrev pub AreTexts : List Part → Type 0
-AreTexts [] = Unit {0}
-AreTexts (p ∷ ps) = IsUtf8 p.text × AreTexts ps
+-- ---- parts
 
-texts-append : (ps qs : List Part) → AreTexts ps → AreTexts qs → AreTexts (ps ++ qs)
-texts-append [] qs p q = q
-texts-append (x ∷ xs) qs p q = (p.0, texts-append xs qs p.1 q)
+abbrev pub EachPart : (List ℕ → Type 0) → List Part → Type 0
+EachPart P [] = Unit {0}
+EachPart P (p ∷ ps) = P p.text × EachPart P ps
 
-record HasTexts (b : Box) : Type 0 where
-  texts : (r : Rectangle) → AreTexts (b.parts r)
+part-append : (P : List ℕ → Type 0) (ps qs : List Part) → EachPart P ps → EachPart P qs → EachPart P (ps ++ qs)
+part-append P [] qs p q = q
+part-append P (x ∷ xs) qs p q = (p.0, part-append P xs qs p.1 q)
 
-abbrev AllTexts : List Box → Type 0
-AllTexts [] = Unit {0}
-AllTexts (b ∷ bs) = HasTexts b × AllTexts bs
+record HasTexts (P : List ℕ → Type 0) (b : Box) : Type 0 where
+  texts : (r : Rectangle) → EachPart P (b.parts r)
 
-row-texts : (g : Gaps) (b : Box) (bs : List Box) → HasTexts b → AllTexts bs → (r : Rectangle) → AreTexts (row_parts g b bs r)
-row-texts g b [] t ts r = t.texts r
-row-texts g b (c ∷ bs) t (u, ts) r =
+abbrev AllTexts : (List ℕ → Type 0) → List Box → Type 0
+AllTexts P [] = Unit {0}
+AllTexts P (b ∷ bs) = HasTexts P b × AllTexts P bs
+
+row-texts : (P : List ℕ → Type 0) → P [] → (g : Gaps) (b : Box) (bs : List Box) → HasTexts P b → AllTexts P bs → (r : Rectangle)
+    → EachPart P (row_parts g b bs r)
+row-texts P e g b [] t ts r = t.texts r
+row-texts P e g b (c ∷ bs) t (u, ts) r =
     let n = first_width g b (c ∷ bs) r.width in
-    texts-append (b.parts (left_part n r)) _ (t.texts (left_part n r)) (IsUtf8-nil, row-texts g c bs u ts (right_part g.bar (right_part n r)))
+    part-append P (b.parts (left_part n r)) _ (t.texts (left_part n r)) (e, row-texts P e g c bs u ts (right_part g.bar (right_part n r)))
 
-column-texts : (g : Gaps) (b : Box) (bs : List Box) → HasTexts b → AllTexts bs → (r : Rectangle) → AreTexts (column_parts g b bs r)
-column-texts g b [] t ts r = t.texts r
-column-texts g b (c ∷ bs) t (u, ts) r =
+column-texts : (P : List ℕ → Type 0) → P [] → (g : Gaps) (b : Box) (bs : List Box) → HasTexts P b → AllTexts P bs → (r : Rectangle)
+    → EachPart P (column_parts g b bs r)
+column-texts P e g b [] t ts r = t.texts r
+column-texts P e g b (c ∷ bs) t (u, ts) r =
     let n = first_height g b (c ∷ bs) r.height in
-    texts-append (b.parts (top_part n r)) _ (t.texts (top_part n r)) (IsUtf8-nil, column-texts g c bs u ts (bottom_part g.rule (bottom_part n r)))
+    part-append P (b.parts (top_part n r)) _ (t.texts (top_part n r)) (e, column-texts P e g c bs u ts (bottom_part g.rule (bottom_part n r)))
 
-leaf-texts : (g : Gaps) (text : List ℕ) → IsUtf8 text → HasTexts (leaf_box g text)
-leaf-texts g text u = record { texts = λ r. (u, tt) }
+leaf-texts : (P : List ℕ → Type 0) (g : Gaps) (text : List ℕ) → P text → HasTexts P (leaf_box g text)
+leaf-texts P g text u = record { texts = λ r. (u, tt) }
 
-row_box-texts : (g : Gaps) (bs : List Box) → AllTexts bs → HasTexts (row_box g bs)
-row_box-texts g [] ts = leaf-texts g [] IsUtf8-nil
-row_box-texts g (b ∷ bs) (t, ts) = record { texts = row-texts g b bs t ts }
+row_box-texts : (P : List ℕ → Type 0) → P [] → (g : Gaps) (bs : List Box) → AllTexts P bs → HasTexts P (row_box g bs)
+row_box-texts P e g [] ts = leaf-texts P g [] e
+row_box-texts P e g (b ∷ bs) (t, ts) = record { texts = row-texts P e g b bs t ts }
 
-column_box-texts : (g : Gaps) (bs : List Box) → AllTexts bs → HasTexts (column_box g bs)
-column_box-texts g [] ts = leaf-texts g [] IsUtf8-nil
-column_box-texts g (b ∷ bs) (t, ts) = record { texts = column-texts g b bs t ts }
+column_box-texts : (P : List ℕ → Type 0) → P [] → (g : Gaps) (bs : List Box) → AllTexts P bs → HasTexts P (column_box g bs)
+column_box-texts P e g [] ts = leaf-texts P g [] e
+column_box-texts P e g (b ∷ bs) (t, ts) = record { texts = column-texts P e g b bs t ts }
 
-abbrev Holds : Gaps → TableValue → Type 0
-Holds g t = HasTexts (box_of g t)
+abbrev Holds : (List ℕ → Type 0) → Gaps → TableValue → Type 0
+Holds P g t = EachText P (tree_of t) → HasTexts P (box_of g t)
 
-all-texts : (g : Gaps) (es : List ((t : TableValue) × Holds g t)) → AllTexts (map (box_of g) (map (λ e. e.0) es))
-all-texts g [] = tt
-all-texts g (e ∷ es) = (e.1, all-texts g es)
+all-texts : (P : List ℕ → Type 0) (g : Gaps) (es : List ((t : TableValue) × Holds P g t)) → EachTextIn P (trees (map tree_of (map (λ e. e.0) es)))
+    → AllTexts P (map (box_of g) (map (λ e. e.0) es))
+all-texts P g [] h = tt
+all-texts P g (e ∷ es) h = (e.1 h.0, all-texts P g es h.1)
 
-tree-texts : (g : Gaps) (t : TableValue) → HasTexts (box_of g t)
-tree-texts g = ind-TableValue (Holds g) (λ x y is.
-    subst (λ z. HasTexts (box_of g (roll-TableValue z))) is
-    (subst HasTexts (sym (fold-roll-TableValue Box (box_step g) (map-TableValue _ TableValue (λ e. e.0) y)))
-    (elim y as (λ v. HasTexts (box_step g (map-TableValue _ Box (box_of g) (map-TableValue _ TableValue (λ e. e.0) v)))) [
-      | Cell s ↦ leaf-texts g (string_bytes s) (IsUtf8-string_bytes s)
-      | Row v ↦ row_box-texts g _ (all-texts g v.items)
-      | Column v ↦ column_box-texts g _ (all-texts g v.items)
-    ])))
+step-texts : (P : List ℕ → Type 0) → P [] → (g : Gaps) (y : TableValue-F ((t : TableValue) × Holds P g t))
+    → EachText P (tree_step (map-TableValue _ Tree tree_of (map-TableValue _ TableValue (λ e. e.0) y)))
+    → HasTexts P (box_step g (map-TableValue _ Box (box_of g) (map-TableValue _ TableValue (λ e. e.0) y)))
+step-texts P e g (Cell s) h = leaf-texts P g (string_bytes s) h
+step-texts P e g (Row v) h = row_box-texts P e g _ (all-texts P g v.items h)
+step-texts P e g (Column v) h = column_box-texts P e g _ (all-texts P g v.items h)
 
-pub framed-texts : (g : Gaps) (t : TableValue) (e : Sides ℕ) (w : Rectangle) → AreTexts (framed e (box_of g t) w)
+tree-texts : (P : List ℕ → Type 0) → P [] → (g : Gaps) (t : TableValue) → EachText P (tree_of t) → HasTexts P (box_of g t)
+tree-texts P e g = ind-TableValue (Holds P g) (λ x y is.
+    subst (λ z. Holds P g (roll-TableValue z)) is
+    (λ h. subst (HasTexts P) (sym (fold-roll-TableValue Box (box_step g) (map-TableValue _ TableValue (λ e. e.0) y)))
+    (step-texts P e g y (subst (EachText P) (fold-roll-TableValue Tree tree_step (map-TableValue _ TableValue (λ e. e.0) y)) h))))
+
+pub framed-texts : (P : List ℕ → Type 0) → P [] → (g : Gaps) (t : TableValue) → EachText P (tree_of t) → (e : Sides ℕ) (w : Rectangle)
+    → EachPart P (framed e (box_of g t) w)
 unfolding framed
-framed-texts g t e w = (IsUtf8-nil, (IsUtf8-nil, (IsUtf8-nil, (IsUtf8-nil, (tree-texts g t).texts _))))
+framed-texts P n g t h e w = (n, (n, (n, (n, (tree-texts P n g t h).texts _))))
 
-pub owner-text : (ps : List Part) (x y : ℕ) (p : Part) → AreTexts ps → owner ps x y ≡ Some p → IsUtf8 p.text
-owner-text [] x y p f h = cc
-owner-text (q ∷ ps) x y p f h = ⊎_elim
-    (λ w. let e : q ≡ p = cc (owner-here q ps x y w) in subst (λ z. IsUtf8 z.text) e f.0)
-    (λ w. owner-text ps x y p f.1 (sym (owner-behind q ps x y w) ∙ h))
+pub owner-text : (P : List ℕ → Type 0) (ps : List Part) (x y : ℕ) (p : Part) → EachPart P ps → owner ps x y ≡ Some p → P p.text
+owner-text P [] x y p f h = cc
+owner-text P (q ∷ ps) x y p f h = ⊎_elim
+    (λ w. let e : q ≡ p = cc (owner-here q ps x y w) in subst (λ z. P z.text) e f.0)
+    (λ w. owner-text P ps x y p f.1 (sym (owner-behind q ps x y w) ∙ h))
     (is-1 (within q.place x y))
+
+-- ---- the texts of trees
+
+pub additive-nil : IsAdditive []
+additive-nil = record { utf8 = IsUtf8-nil; characters = rw chars-nil refl }
+
+mutual
+  pub additive-each : (t : Tree) → EachText IsPlain t → EachText IsAdditive t
+  additive-each (leaf text) h = additive-plain text h
+  additive-each (across ts) h = additive-each_in ts h
+  additive-each (down ts) h = additive-each_in ts h
+
+  additive-each_in : (ts : Trees) → EachTextIn IsPlain ts → EachTextIn IsAdditive ts
+  additive-each_in none h = tt
+  additive-each_in (one_more t ts) h = (additive-each t h.0, additive-each_in ts h.1)
+
+abbrev IsText : TableValue → Type 0
+IsText t = EachText IsUtf8 (tree_of t)
+
+all-utf8 : (es : List ((t : TableValue) × IsText t)) → EachTextIn IsUtf8 (trees (map tree_of (map (λ e. e.0) es)))
+all-utf8 [] = tt
+all-utf8 (e ∷ es) = (e.1, all-utf8 es)
+
+step-utf8 : (y : TableValue-F ((t : TableValue) × IsText t))
+    → EachText IsUtf8 (tree_step (map-TableValue _ Tree tree_of (map-TableValue _ TableValue (λ e. e.0) y)))
+step-utf8 (Cell s) = IsUtf8-string_bytes s
+step-utf8 (Row v) = all-utf8 v.items
+step-utf8 (Column v) = all-utf8 v.items
+
+pub tree-utf8 : (t : TableValue) → EachText IsUtf8 (tree_of t)
+tree-utf8 = ind-TableValue IsText (λ x y is.
+    subst (λ z. IsText (roll-TableValue z)) is
+    (subst (EachText IsUtf8) (sym (fold-roll-TableValue Tree tree_step (map-TableValue _ TableValue (λ e. e.0) y))) (step-utf8 y)))
+
+-- ---- the texts of values one after another
+
+abbrev pub AllIn : (List ℕ → Type 0) → List TableValue → Type 0
+AllIn P vs = All (λ v. EachText P (tree_of v)) vs
+
+pub each-all : (P : List ℕ → Type 0) (vs : List TableValue) → AllIn P vs → EachTextIn P (trees (map tree_of vs))
+each-all P [] h = tt
+each-all P (v ∷ vs) h =
+    let Q : TableValue → Type 0 = λ u. EachText P (tree_of u) in (All-head Q v vs h, each-all P vs (All-tail Q v vs h))
+
+pub all-each : (P : List ℕ → Type 0) (vs : List TableValue) → EachTextIn P (trees (map tree_of vs)) → AllIn P vs
+all-each P [] h = let Q : TableValue → Type 0 = λ u. EachText P (tree_of u) in All-nil Q
+all-each P (v ∷ vs) h =
+    let Q : TableValue → Type 0 = λ u. EachText P (tree_of u) in All-cons Q v vs h.0 (all-each P vs h.1)

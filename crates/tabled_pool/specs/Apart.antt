@@ -5,13 +5,13 @@ use Rattle.tabled_border.specs.declared.borders.Borders.{Borders}
 use Rattle.tabled_border.specs.declared.sides.Indent.{Indent}
 use Rattle.tabled_border.specs.declared.sides.Sides.{Sides}
 use Rattle.tabled_border.specs.Frame.{has_left}
-use Rattle.tabled_config.specs.Compact.{each_side}
 use Rattle.tabled_config.specs.declared.spanned.CellStyle.{CellStyle}
 use Rattle.tabled_row.specs.Apart.{IsApartStyle}
-use Rattle.tabled_panels.specs.Colours.{line_marks_of, marks_of, no_line_marks, no_mark}
 use Rattle.tabled_pool.specs.declared.pool_table.PoolTable.{PoolTable}
 use Rattle.tabled_pool.specs.Characters.{EachCharacter}
-use Rattle.tabled_pool.specs.Pool.{borders_of, style_of, IsPlainPool}
+use Rattle.tabled_pool.specs.Plain.{IsAdditivePool}
+use Rattle.tabled_pool.specs.Pool.{borders_of, style_of}
+use Rattle.tabled_pool.specs.Uncoloured.{IsUncoloured}
 
 -- between two texts side by side stands a line, or the left or the right padding of each text
 abbrev pub HasGap : Borders ℕ → CellStyle → Type 0
@@ -24,12 +24,6 @@ pub record IsApartMargin (margin : Sides Indent) : Type 0 where
   pub top : IsSeparatorColumn margin.top.fill
   pub bottom : IsSeparatorColumn margin.bottom.fill
 
--- nothing is coloured
-pub record IsUncoloured (t : PoolTable) : Type 0 where
-  pub borders : line_marks_of t.config.config.borders_color ≡ no_line_marks
-  pub padding : marks_of t.config.config.padding_color ≡ each_side no_mark
-  pub margin : marks_of t.config.config.margin_color ≡ each_side no_mark
-
 -- lines, paddings and margins are separators of one column, which stand beside each text, and nothing is coloured
 pub record IsApartPool (t : PoolTable) : Type 0 where
   pub borders : EachCharacter IsSeparatorColumn (borders_of t)
@@ -38,6 +32,6 @@ pub record IsApartPool (t : PoolTable) : Type 0 where
   pub margin : IsApartMargin t.config.config.margin
   pub uncoloured : IsUncoloured t
 
--- the columns of what is drawn add up: the settings keep any texts apart, or texts and settings are additive
+-- the columns of what is drawn add up: the settings separate any texts, or texts and settings are additive
 abbrev pub IsStraightPool : PoolTable → Type 0
-IsStraightPool t = IsApartPool t ⊎ IsPlainPool t
+IsStraightPool t = IsApartPool t ⊎ IsAdditivePool t

@@ -5,11 +5,11 @@ use Rattle.tabled_size.specs.declared.pool_table_dimension.PoolTableDimension.{P
 use Rattle.tabled_views.specs.declared.empty.EmptyRecords.{EmptyRecords}
 use Rattle.tabled_pool.specs.declared.pool_table.PoolTable.{PoolTable}
 
--- what an option is given for records
+-- the records that an option sees
 abbrev pub no_records : EmptyRecords
 no_records = record { rows = 0; columns = 0 }
 
--- an option's change, or its refusal
+-- an option's change, what it promises of it, or what its error leaves
 pub record IsApplied (changes : EmptyRecords → CompactMultilineConfig → PoolTableDimension → EmptyRecords
     → CompactMultilineConfig → PoolTableDimension → Type 0) (old new : PoolTable) : Type 0 where
   pub after : EmptyRecords
@@ -19,9 +19,3 @@ pub record IsApplied (changes : EmptyRecords → CompactMultilineConfig → Pool
 -- a sum or product of an option passes the range
 abbrev pub WasOutOfRange : (EmptyRecords → CompactMultilineConfig → PoolTableDimension → Type 0) → PoolTable → Type 0
 WasOutOfRange out_of_range old = out_of_range no_records old.config old.dimension
-
--- the option was refused: it would leave some table, of the same texts
-pub record WasRefused (refuses : EmptyRecords → CompactMultilineConfig → PoolTableDimension → EmptyRecords
-    → CompactMultilineConfig → PoolTableDimension → Type 0) (old : PoolTable) : Type 0 where
-  pub left : PoolTable
-  pub refused : IsApplied refuses old left

@@ -7,7 +7,10 @@ pub mod Frames
 pub mod Near
 pub mod NewPool
 pub mod Owner
+pub mod Plain
 pub mod PlainTree
 pub mod Pool
+pub mod Texts
 pub mod Tiled
+pub mod Uncoloured
 pub mod Whole

@@ -7,10 +7,11 @@ use Rattle.tabled_boxes.specs.declared.gaps.Gaps.{Gaps}
 use Rattle.tabled_boxes.specs.declared.pieces.Kind.TheVariants.{Leaf}
 use Rattle.tabled_boxes.specs.Boxes.{Part}
 use Rattle.tabled_boxes.specs.Tiling.{AreTiles, EachFits}
-use Rattle.tabled_panels.specs.Colours.{no_line_marks, no_mark}
+use Rattle.tabled_panels.specs.Colours.{no_mark}
 use Rattle.tabled_panels.specs.Plan.{Plan}
 use Rattle.tabled_pool.specs.Owner.{owner}
 use Rattle.tabled_pool.specs.Characters.{EachCharacter}
+use Rattle.tabled_pool.specs.Uncoloured.{AreNoMarks}
 use Rattle.tabled_pool.specs.Whole.{whole}
 
 -- parts that tile the whole, with room for their additive texts
@@ -25,4 +26,4 @@ pub record PlainTree (g : Gaps) (t : Plan) : Type 0 where
   pub style : IsPlainStyle t.style
   pub texts : (x y : ℕ) (p : Part) → owner t.parts x y ≡ Some p → p.kind ≡ Leaf → IsAdditive p.text
   pub padding_marks : t.padding_marks ≡ each_side no_mark
-  pub line_marks : t.line_marks ≡ no_line_marks
+  pub line_marks : AreNoMarks t.line_marks

@@ -1,9 +1,8 @@
 -- The text of a pool table, and what a call that prints it leaves.
-use Rattle.std.specs.Prelude.{◌≡◌, ℕ, ◌+◌, ◌^◌, ◌<◌, ◌≤◌, ◌⊎◌, ◌==◌, if◌then◌else◌, ltb, Bool, false, ◌&&◌, ◌||◌, List, length, Some, Result, Ok, Err}
+use Rattle.std.specs.Prelude.{◌≡◌, ℕ, ◌+◌, ◌^◌, ◌<◌, ◌≤◌, ◌⊎◌, ◌==◌, if◌then◌else◌, ltb, Bool, false, ◌&&◌, ◌||◌, List, length, Result, Ok, Err}
 use Rattle.std.specs.List.{join_with_byte}
 use Rattle.tabled_base.specs.declared.error.TableError.{TableError}
 use Rattle.tabled_base.specs.declared.error.TableError.TheVariants.{Memory, Range}
-use Rattle.tabled_text.specs.Plain.{IsAdditive, IsAdditiveColumn}
 use Rattle.tabled_priority.specs.Sums.{one_if}
 use Rattle.tabled_border.specs.declared.borders.Borders.{Borders}
 use Rattle.tabled_config.specs.declared.compact_multiline.CompactMultilineConfig.{CompactMultilineConfig}
@@ -12,23 +11,19 @@ use Rattle.tabled_border.specs.declared.sides.Sides.{Sides}
 use Rattle.tabled_config.specs.declared.spanned.CellStyle.{CellStyle}
 use Rattle.tabled_config.specs.Compact.{each_side, no_indent}
 use Rattle.tabled_border.specs.Frame.{has_left, has_right}
-use Rattle.tabled_row.specs.Plain.{IsPlainStyle}
 use Rattle.tabled_row.specs.Sent.{Sent, Sends, Stops}
 use Rattle.tabled_boxes.specs.declared.gaps.Gaps.{Gaps}
-use Rattle.tabled_boxes.specs.declared.pieces.Kind.TheVariants.{Leaf}
 use Rattle.tabled_boxes.specs.declared.pieces.Rectangle.{Rectangle}
-use Rattle.tabled_boxes.specs.Boxes.{Part, box_of}
+use Rattle.tabled_boxes.specs.Boxes.{box_of}
 use Rattle.tabled_boxes.specs.Tiling.{framed}
-use Rattle.tabled_panels.specs.Colours.{Mark, line_marks_of, marks_of, no_line_marks, no_mark}
+use Rattle.tabled_panels.specs.Colours.{Mark, line_marks_of, marks_of, no_mark}
 use Rattle.tabled_panels.specs.Handed.{handed_panel, has_bare}
 use Rattle.tabled_panels.specs.Margins.{with_margin}
 use Rattle.tabled_panels.specs.Panels.{Panel}
 use Rattle.tabled_panels.specs.Plan.{Plan}
 use Rattle.tabled_pool.specs.declared.pool_table.PoolTable.{PoolTable}
-use Rattle.tabled_pool.specs.Characters.{EachCharacter}
 use Rattle.tabled_pool.specs.Drawn.{drawn}
 use Rattle.tabled_pool.specs.Frames.{has_bottom, has_top}
-use Rattle.tabled_pool.specs.Owner.{owner}
 
 abbrev pub borders_of : PoolTable → Borders ℕ
 borders_of t = t.config.config.borders
@@ -144,17 +139,3 @@ WritesPool t old (Ok _) new = IsInRange t × Sends old new (pool_text t)
 WritesPool t old (Err e) new =
     ((e ≡ Range) × IsOutOfRange t × (new ≡ old))
     ⊎ (IsInRange t × (((e ≡ Memory) × (new ≡ old)) ⊎ Stops old e new (pool_text t)))
-
--- the texts are additive, as plain ones are; lines, fills and margins are additive characters of one column, plain ones or
--- separators; and nothing is coloured
-pub record IsPlainPool (t : PoolTable) : Type 0 where
-  pub texts : (x y : ℕ) (p : Part) → owner (plan t).parts x y ≡ Some p → p.kind ≡ Leaf → IsAdditive p.text
-  pub borders : EachCharacter IsAdditiveColumn (borders_of t)
-  pub style : IsPlainStyle (style_of t.config)
-  pub margin_left : IsAdditiveColumn t.config.config.margin.left.fill
-  pub margin_right : IsAdditiveColumn t.config.config.margin.right.fill
-  pub margin_top : IsAdditiveColumn t.config.config.margin.top.fill
-  pub margin_bottom : IsAdditiveColumn t.config.config.margin.bottom.fill
-  pub borders_color : line_marks_of t.config.config.borders_color ≡ no_line_marks
-  pub padding_color : marks_of t.config.config.padding_color ≡ each_side no_mark
-  pub margin_color : marks_of t.config.config.margin_color ≡ each_side no_mark

@@ -1,16 +1,15 @@
-//! Whether the settings of a pool table keep its texts apart, so that all its lines take the same columns.
-ghost use Rattle.std.specs.Prelude.{◌≡◌, ◌↔◌, [], IsTrue, unwrap_or};
+//! Whether the settings of a pool table separate its texts, so that all its lines are equally wide.
+ghost use Rattle.std.specs.Prelude.{◌↔◌, IsTrue, unwrap_or};
 ghost use Rattle.tabled_apart.specs.Lines.{IsSeparatorColumn};
-ghost use Rattle.tabled_config.specs.Compact.{each_side};
 ghost use Rattle.tabled_row.specs.Apart.{IsApartStyle};
-ghost use Rattle.tabled_panels.specs.Colours.{line_marks_of, marks_of, no_line_marks, no_mark};
-ghost use Rattle.tabled_pool.specs.Apart.{HasGap, IsApartMargin, IsApartPool, IsUncoloured};
+ghost use Rattle.tabled_pool.specs.Apart.{HasGap, IsApartMargin, IsApartPool};
 ghost use Rattle.tabled_pool.specs.Characters.{EachCharacter, EachCorner, EachIntersection, EachLine};
 ghost use Rattle.tabled_pool.specs.Pool.{borders_of, style_of};
+ghost use Rattle.tabled_pool.specs.Uncoloured.{IsUncoloured};
 
 use crate::pool_table::{PoolTable, style_of};
 use tabled_apart::is_separator_column;
-use tabled_config::{ANSIStr, Borders, CellStyle, Indent, Sides};
+use tabled_config::{Borders, CellStyle, Indent, Sides};
 
 /// Whether a character of a line is a separator; a missing one is a space.
 fn is_separator(c: Option<char>) -> bool
@@ -72,46 +71,15 @@ fn is_apart_margin(margin: &Sides<Indent>) -> bool
         && is_separator_column(margin.bottom.fill)
 }
 
-/// Whether something stands between each two texts side by side.
+/// Whether a line or padding is between texts side by side.
 fn has_gap(borders: &Borders<char>, style: CellStyle) -> bool
     ensures { IsTrue result ↔ HasGap borders.now style }
 {
     borders.has_left() || style.padding.left.size > 0 || style.padding.right.size > 0
 }
 
-fn are_uncolored_sides(colors: &Sides<ANSIStr<'static>>) -> bool
-    ensures { IsTrue result ↔ (marks_of colors.now ≡ each_side no_mark) }
-{
-    colors.left.is_empty()
-        && colors.right.is_empty()
-        && colors.top.is_empty()
-        && colors.bottom.is_empty()
-}
-
-fn are_uncolored_lines(colors: &Borders<ANSIStr<'static>>) -> bool
-    ensures { IsTrue result ↔ (line_marks_of colors.now ≡ no_line_marks) }
-{
-    colors.top_left.is_none()
-        && colors.top.is_none()
-        && colors.top_right.is_none()
-        && colors.bottom_left.is_none()
-        && colors.bottom.is_none()
-        && colors.bottom_right.is_none()
-        && colors.left.is_none()
-        && colors.right.is_none()
-}
-
 impl PoolTable {
-    /// Whether no run of padding or of a margin has a colour, and no line.
-    fn is_uncolored(&self) -> bool
-        ensures { IsTrue result ↔ IsUncoloured self.now }
-    {
-        are_uncolored_lines(self.config.get_borders_color())
-            && are_uncolored_sides(self.config.get_padding_color())
-            && are_uncolored_sides(self.config.get_margin_color())
-    }
-
-    /// Whether lines and padding keep the texts apart.
+    /// Whether lines and paddings separate the texts.
     fn is_apart_inside(&self) -> bool
         ensures { IsTrue result ↔ (EachCharacter IsSeparatorColumn (borders_of self.now)
             × IsApartStyle (style_of self.now.config) × HasGap (borders_of self.now) (style_of self.now.config)) }
@@ -121,17 +89,19 @@ impl PoolTable {
         are_separators(borders) && is_apart_style(style) && has_gap(borders, style)
     }
 
-    /// Whether the margin is of separators, and nothing is coloured.
+    /// Whether the margin consists of separators, and nothing is coloured.
     fn is_apart_outside(&self) -> bool
         ensures { IsTrue result ↔ (IsApartMargin self.now.config.config.margin × IsUncoloured self.now) }
     {
         is_apart_margin(self.config.get_margin()) && self.is_uncolored()
     }
 
-    /// Whether the settings keep the texts apart, whatever these are: the characters of lines, paddings and margins are
-    /// separators of one column (a space, lines, blocks and dots, printable ASCII but `#`, `*` and digits), or missing;
-    /// a line or padding stands between texts side by side; and nothing is coloured. Then each printed line takes the
-    /// columns of the whole, and each text stands in its place, if each is given a column.
+    /// Whether the settings separate the texts, whatever these are. Then all printed lines are
+    /// equally wide and each text is in its place, if each text has at least one column.
+    ///
+    /// Lines, paddings and margins must be separators of one column, or missing: a space, lines,
+    /// blocks and dots, printable ASCII except `#`, `*` and digits. A vertical line or side padding
+    /// must be between texts side by side. Nothing may be coloured, except by an empty colour.
     pub fn is_apart(&self) -> bool
         ensures { IsTrue result ↔ IsApartPool self.now }
     {

@@ -1,9 +1,9 @@
 //! The marks around the characters of lines, for their colours. Each text draws the line above it and the one to its left;
 //! at the right and bottom edge of the whole also those.
-ghost use Rattle.std.specs.Prelude.{◌≡◌, ◌==◌, ◌^◌, ◌<◌, ◌+◌, ◌-◌, map, [], true, false};
+ghost use Rattle.std.specs.Prelude.{◌≡◌, ◌==◌, ◌^◌, ◌<◌, ◌+◌, ◌-◌, map, []};
 ghost use Rattle.std.specs.Option.{option_map};
 ghost use Rattle.tabled_boxes.specs.Shown.{shown};
-ghost use Rattle.tabled_panels.specs.Colours.{line_marks_of, mark_of, no_line_marks};
+ghost use Rattle.tabled_panels.specs.Colours.{mark_of};
 ghost use Rattle.tabled_panels.specs.Marks.{alone, begun, ended, used_after};
 ghost use Rattle.tabled_panels.specs.Plans.{around_of, plan_of};
 ghost use Rattle.tabled_pool.specs.Around.{
@@ -21,8 +21,9 @@ ghost use Rattle.tabled_pool.specs.Around.{
 };
 
 use crate::plan::{ends_at, has_bottom, has_top};
+use crate::uncolored::are_uncolored_lines;
 use tabled_boxes::{Piece, Rectangle};
-use tabled_config::{ANSIStr, Borders};
+use tabled_config::ANSIStr;
 use tabled_panels::{Drawing, LineColors, Marks, alone, begun, ended, is_line_kind, used_after};
 
 /// Where a place stands by a run of places.
@@ -191,27 +192,13 @@ fn around_piece(drawing: &Drawing<'_, '_>, piece: &Piece<'_>, x: usize, y: usize
     around_text(drawing, piece.place, x, y)
 }
 
-/// Whether a line has a colour.
-fn is_colored(colors: &Borders<ANSIStr<'static>>) -> bool
-    ensures { result ≡ false → line_marks_of colors.now ≡ no_line_marks }
-{
-    colors.top_left.is_some()
-        || colors.top.is_some()
-        || colors.top_right.is_some()
-        || colors.bottom_left.is_some()
-        || colors.bottom.is_some()
-        || colors.bottom_right.is_some()
-        || colors.left.is_some()
-        || colors.right.is_some()
-}
-
 /// What the text that draws a place puts around its character.
 pub(crate) fn around_at(drawing: &Drawing<'_, '_>, x: usize, y: usize) -> Marks
     requires across { x < 2 ^ 64 - 1 }
     requires down { y < 2 ^ 64 - 1 }
     ensures { around_of result ≡ around_at (plan_of drawing.now) (map shown drawing.now.pieces.now) x y }
 {
-    if !is_colored(&drawing.colors) {
+    if are_uncolored_lines(&drawing.colors) {
         return Marks::none();
     }
     for piece in drawing.pieces {

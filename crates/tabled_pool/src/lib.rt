@@ -9,8 +9,10 @@ mod find;
 mod making;
 mod margins;
 mod near;
+mod plain;
 mod plan;
 mod pool_table;
+mod uncolored;
 
 pub use pool_table::PoolTable;
 pub use tabled_boxes::TableValue;

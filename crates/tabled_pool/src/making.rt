@@ -1,4 +1,4 @@
-//! Tables made of rows, and copies of tables.
+//! Tables of rows, and copies of tables.
 ghost use Rattle.std.specs.Prelude.{◌≡◌, List, IfErr, IfOk, map};
 ghost use Rattle.std.specs.Iterator.{IsFiniteIterable};
 ghost use Rattle.tabled_base.specs.Given.{Given};
@@ -12,8 +12,9 @@ use tabled_base::{CellText, IntoRecords, TableError};
 use tabled_boxes::TableValue;
 
 impl PoolTable {
-    /// A table of rows, each as long as it comes: a column that has for each of them a row of its cells. Without a
-    /// row it is drawn as the empty text. Its settings are those of `from_value`. Refused only for memory.
+    /// A table of rows, which may have different numbers of cells: a column with a row of cells
+    /// for each. Without rows it is drawn as the empty text. The settings are those of
+    /// `from_value`. Fails only with `Memory`, where an allocation fails.
     pub fn new<I: IntoRecords>(alloc: Global, records: I) -> Result<PoolTable, TableError>
     where
         I::Cell: CellText + Drop,
@@ -26,7 +27,8 @@ impl PoolTable {
         Ok(PoolTable::from_value(TableValue::Column(rows)))
     }
 
-    /// The same table, in memory of its own. The walk recurses as deep as the value goes. Refused only for memory.
+    /// A copy of the table. The call recurses at each level of the value, as `PoolTable` says.
+    /// Fails only with `Memory`, where an allocation fails.
     pub fn clone(&self) -> Result<PoolTable, TableError>
         ensures ok { IfOk result (λ copy. IsCopy self.now copy) }
         ensures only { IfErr result (λ e. e ≡ Memory) }

@@ -102,12 +102,16 @@ fn new_config() -> CompactMultilineConfig
     config
 }
 
-/// A table whose rows needn't have as many cells as one another, and whose boxes hold texts, rows or columns.
+/// A table of boxes: each box holds a text, a row of boxes or a column of boxes. Its rows may
+/// have different numbers of cells.
 ///
-/// How deep its value may be is bounded by the machine's stack, since printing, copying, comparing and dropping walk it
-/// level by level: 8 MiB held 20,000 levels when they were tried, and not 30,000; with a text of no column 15,000, and
-/// not 20,000. A deeper one ends the process. Each level measures those within it anew, so that the time grows with the
-/// square of the levels at least.
+/// The stack limits how deep the value may be: printing, copying and comparing it recurse at each
+/// level, and so does `is_plain`. On 8 MiB of stack, 20,000 levels were printed, and 15,000 with
+/// a text of no column. A value that is too deep overflows the stack and ends the process, and
+/// no proof covers this. Dropping a table doesn't recurse.
+///
+/// Each level measures the levels inside it again, so the time of printing grows at least with
+/// the square of the depth.
 #[derive(Debug, Drop, PartialEq, Eq, PartialOrd, Ord)]
 pub struct PoolTable {
     pub(crate) value: TableValue,
@@ -116,8 +120,9 @@ pub struct PoolTable {
 }
 
 impl PoolTable {
-    /// A table of a value: ascii borders, one column of padding on the left and right, no margin, texts at the left
-    /// and the top, and what is left over given to all boxes. It takes no memory.
+    /// A table of a value, which allocates nothing. Its borders are ASCII, its padding is one column
+    /// on the left and right, and it has no margin. Texts are at the left and the top, and all
+    /// boxes share a surplus of columns or lines.
     pub fn from_value(value: TableValue) -> PoolTable
         ensures { IsNewPool value result }
     {
@@ -128,16 +133,31 @@ impl PoolTable {
         }
     }
 
-    /// The text that `write_to` writes. Refused for memory, and with `Range` where the columns or the lines of the
-    /// whole pass the greatest `usize`.
-    pub fn to_string(&self) -> Result<String, TableError>
+    /// The text that `write_to` writes. Unlike `to_string`, it can be called at the end of a chain
+    /// of `with`, which returns `&mut PoolTable`.
+    ///
+    /// Fails with `Range` where the total columns or lines exceed `usize::MAX`, and with `Memory`
+    /// where an allocation fails.
+    pub fn to_text(&self) -> Result<String, TableError>
         ensures ok { IfOk result (λ text. string_bytes text ≡ pool_text self.now) }
         ensures in_range { IfOk result (λ _. IsInRange self.now) }
-        ensures err { IfErr result (λ e. ((e ≡ Memory) × IsInRange self.now) ⊎ ((e ≡ Range) × IsOutOfRange self.now)) }
+        ensures err { IfErr result (λ e. ((e ≡ Memory) × IsInRange self.now)
+            ⊎ ((e ≡ Range) × IsOutOfRange self.now)) }
     {
         let mut text = String::new(self.value.allocator());
         self.write_to(&mut text)?;
         Ok(text)
+    }
+
+    /// The text of `to_text`, with the same errors. On a `&mut PoolTable`, as `with` returns it,
+    /// the name means std's `ToString::to_string`.
+    pub fn to_string(&self) -> Result<String, TableError>
+        ensures ok { IfOk result (λ text. string_bytes text ≡ pool_text self.now) }
+        ensures in_range { IfOk result (λ _. IsInRange self.now) }
+        ensures err { IfErr result (λ e. ((e ≡ Memory) × IsInRange self.now)
+            ⊎ ((e ≡ Range) × IsOutOfRange self.now)) }
+    {
+        self.to_text()
     }
 
     fn gaps(&self) -> Gaps
@@ -307,20 +327,26 @@ impl PoolTable {
         self.put_handed(sink, &panel)
     }
 
-    /// Prints the boxes in their frame and margin, line by line. Where lines meet, the character is that of the
-    /// borders for the sides on which they go on. Colours take no columns: runs of padding and of a margin stand between the marks of theirs, also
-    /// where they are empty; along the top or bottom line of a text a colour is opened where none is used or another
-    /// one is, and at the end of the line the first one is closed. The walk recurses as deep as the value goes: 8 MiB
-    /// of stack held 20,000 levels, and not 30,000. All texts and lines are looked through once for each line, and at
-    /// each of its places those near it; where there is no memory to gather these, all again.
+    /// Writes the boxes with their lines and the margin, line by line. Where lines meet, the
+    /// character is the junction of the lines that continue from there.
     ///
-    /// Where a text is given no column, all lines are made in memory first: each text draws the line above it and the
-    /// one to its left, a text of no column none, and boxes hand on where their lines meet. The empty text has no margin.
-    /// Padding at a side gives each text a column.
+    /// Fails with `Range` where the total columns or lines, with lines and margin, exceed
+    /// `usize::MAX`, and with `Memory` where an allocation fails, both before the first byte. Other
+    /// errors are the sink's, which then has a beginning of the text.
     ///
-    /// Refused with `Range` where the columns or the lines of the whole, with every line and the margin, pass the
-    /// greatest `usize`, and for memory, both before the first byte; else for what the sink refuses, and then a
-    /// beginning went out.
+    /// Colours take no columns. Each run of padding or margin is between the prefix and the suffix
+    /// of its colour, even where the run is empty. Along the top or bottom line of a text, a
+    /// colour starts where none or another one is in use, and the first one ends at the end of
+    /// the line.
+    ///
+    /// A text of no column changes how the table is drawn, and side padding prevents it. All lines
+    /// are then built in memory first. Each text draws the line above it and the line to its left,
+    /// a text of no column draws none, and a box passes on where its lines meet others. The empty
+    /// text has no margin.
+    ///
+    /// The call recurses at each level of the value, as `PoolTable` says. For each line it goes
+    /// through all texts and lines once, and at each place of the line through those near it. If
+    /// no memory is left to collect these, it goes through all of them at each place.
     pub fn write_to<S: TextSink>(&self, sink: &mut S) -> Result<(), TableError>
         ensures printed { WritesPool self.now (S.sent sink.old) result (S.sent sink.new) }
         ensures padded { IsPadded self.now → HasColumns self.now }
@@ -333,15 +359,15 @@ impl PoolTable {
     }
 }
 
-/// The text that `to_string` gives; `fmt::Error` where that is refused, or a writer fails. The formatter's width and
-/// precision aren't read.
+/// The text of `to_text`. Fails with `fmt::Error` where `to_text` or the writer fails. The width
+/// and precision of the formatter are ignored.
 impl fmt::Display for PoolTable {
     ghost use Rattle.std.specs.Prelude.{Some};
 
     ghost output = { λ table. Some (pool_text table) };
 
     fn fmt<W: fmt::Write>(&self, f: &mut fmt::Formatter<W>) -> fmt::Result {
-        match self.to_string() {
+        match self.to_text() {
             Ok(text) => f.write_str(&text),
             Err(_) => Err(fmt::Error),
         }
