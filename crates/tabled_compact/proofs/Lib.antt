@@ -1,4 +1,5 @@
 pub mod Alike
+pub mod FittingLemmas
 pub mod Going
 pub mod Parts
 pub mod Printings

@@ -1,5 +1,6 @@
 pub mod CompactCells
 pub mod CompactLines
+pub mod Fitting
 pub mod GoesOn
 pub mod NewTable
 pub mod Printed

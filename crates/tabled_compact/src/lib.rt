@@ -4,6 +4,7 @@
 mod applying;
 mod cell;
 mod columns;
+mod fitting;
 mod lines;
 mod print;
 mod printing;
@@ -14,6 +15,7 @@ mod table;
 mod total;
 mod window;
 
+pub use fitting::CellRows;
 pub use print::print_compact;
 pub use table::CompactTable;
 pub use window::Window;

@@ -2,14 +2,17 @@
 ghost use Rattle.std.specs.Prelude.{◌≡◌, Some, None};
 ghost use Rattle.std.specs.Borrow.{Lends, sem};
 ghost use Rattle.tabled_size.specs.declared.const_dimension.ConstSize.TheVariants.{Value};
+ghost use Rattle.tabled_compact.specs.Fitting.{IsTableOf};
 ghost use Rattle.tabled_compact.specs.NewTable.{IsNewConfig};
 
+use crate::fitting::CellRows;
 use tabled_base::IntoRecords;
 use tabled_config::{AlignmentHorizontal, CompactConfig, Indent, Sides, Style};
 use tabled_size::{ConstDimension, ConstSize};
 
-/// A table that is printed while its rows are walked. No row is kept, and printing takes no memory. Its widths are
-/// given, padding included: a text that is wider than its room is printed whole, and each text is taken as a single line.
+/// A table that is printed while its rows are read. No row is kept, and printing allocates nothing.
+/// The widths, padding included, come from `width` or a dimension, or `from` measures an array.
+/// A cell wider than its column is printed whole, and each cell is taken as a single line.
 #[derive(Debug, Clone, Copy)]
 pub struct CompactTable<I, D> {
     pub(crate) records: I,
@@ -75,7 +78,7 @@ impl<I> CompactTable<I, ConstDimension<0, 0>> {
 }
 
 impl<I, const ROWS: usize, const COLUMNS: usize> CompactTable<I, ConstDimension<COLUMNS, ROWS>> {
-    /// Gives each row a height, which printing doesn't read.
+    /// Sets the height of each row: one number for all, or an array of one each. Printing doesn't read it.
     pub fn height<const COUNT: usize>(
         self,
         height: ConstSize<COUNT>,
@@ -98,7 +101,7 @@ impl<I, const ROWS: usize, const COLUMNS: usize> CompactTable<I, ConstDimension<
         }
     }
 
-    /// Gives the columns widths, padding included: one for all, or an array of one each.
+    /// Sets the width of each column, padding included: one number for all, or an array of one each.
     pub fn width<const COUNT: usize>(
         self,
         width: ConstSize<COUNT>,
@@ -190,5 +193,24 @@ impl<I, D> CompactTable<I, D> {
         ensures value { result.now ≡ self.old.config }
     {
         &mut self.config
+    }
+}
+
+impl<A: CellRows<COLUMNS, ROWS>, const COLUMNS: usize, const ROWS: usize> From<A>
+    for CompactTable<A, ConstDimension<COLUMNS, ROWS>> {
+    ghost from_gives = { λ rows table. IsTableOf A.cells COLUMNS ROWS rows table };
+
+    /// A table of all rows and columns of an array. Each column is as wide as its widest cell and two
+    /// more for padding, at most `usize::MAX`; a padding that is set later doesn't change that.
+    fn from(rows: A) -> Self {
+        let widths = rows.fitting_widths();
+        CompactTable {
+            records: rows,
+            config: new_config(),
+            dimension: ConstDimension::new(ConstSize::List(widths), ConstSize::Value(1)),
+            columns: COLUMNS,
+            limit: Some(ROWS),
+            skip: 0,
+        }
     }
 }

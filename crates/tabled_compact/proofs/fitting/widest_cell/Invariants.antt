@@ -1,0 +1,6 @@
+use Rattle.std.proofs.Common.{◌≡◌, map, take}
+use Rattle.tabled_compact.specs.Fitting.{widest_cell}
+use Rattle.tabled_compact.proofs.fitting.widest_cell.Given as goal
+
+abbrev pub invariant-rows : goal.invariant-rows
+invariant-rows g l = l.widest ≡ widest_cell (take l.row-index (map (map g.T.CellText.text) l.rows)) l.column

@@ -1,0 +1,61 @@
+//! Widths that fit the cells of an array of rows.
+ghost use Rattle.std.specs.Prelude.{◌≡◌, ◌<◌, ℕ, List, [], map, slice_index_or};
+ghost use Rattle.tabled_text.specs.Measure.{text_columns};
+ghost use Rattle.tabled_compact.specs.Fitting.{fitting_widths, widest_cell};
+
+use tabled_base::CellText;
+
+/// Rows of cells that are measured before they are printed: an array of equally long arrays.
+pub trait CellRows<const COLUMNS: usize, const ROWS: usize> {
+    // The texts of the cells, row by row.
+    ghost cells: { Self → List (List (List ℕ)) };
+
+    /// The width of each column: the columns of its widest cell, and two for padding.
+    fn fitting_widths(&self) -> [usize; COLUMNS]
+        ensures { result ≡ fitting_widths COLUMNS (cells self.now) };
+}
+
+impl<T: CellText, const COLUMNS: usize, const ROWS: usize> CellRows<COLUMNS, ROWS>
+    for [[T; COLUMNS]; ROWS] {
+    ghost cells = { λ rows. map (map T.text) rows };
+
+    fn fitting_widths(&self) -> [usize; COLUMNS] {
+        fitting_widths(self)
+    }
+}
+
+/// The columns of a cell of a row.
+fn cell_width<T: CellText, const COLUMNS: usize>(row: &[T; COLUMNS], column: usize) -> usize
+    requires { column < COLUMNS }
+    ensures { result ≡ text_columns (slice_index_or (map T.text row.now) column []) }
+{
+    row[column].width()
+}
+
+/// The columns of the widest cell of a column.
+fn widest_cell<T: CellText, const COLUMNS: usize, const ROWS: usize>(
+    rows: &[[T; COLUMNS]; ROWS],
+    column: usize,
+) -> usize
+    requires { column < COLUMNS }
+    ensures { result ≡ widest_cell (map (map T.text) rows.now) column }
+{
+    let mut widest: usize = 0;
+    'rows: for row in rows {
+        widest = widest.max(cell_width(row, column));
+    }
+    widest
+}
+
+/// The columns of the widest cell of each column, and two for padding.
+fn fitting_widths<T: CellText, const COLUMNS: usize, const ROWS: usize>(
+    rows: &[[T; COLUMNS]; ROWS],
+) -> [usize; COLUMNS]
+    ensures { result ≡ fitting_widths COLUMNS (map (map T.text) rows.now) }
+{
+    let mut widths = [0; COLUMNS];
+    'columns: for column in 0..COLUMNS {
+        widths[column] = widest_cell(rows, column).saturating_add(2);
+    }
+    widths
+}
