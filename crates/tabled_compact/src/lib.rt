@@ -13,6 +13,7 @@ mod rows;
 mod rules;
 mod table;
 mod total;
+mod trial;
 mod window;
 
 pub use fitting::CellRows;
