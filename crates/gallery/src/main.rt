@@ -134,8 +134,8 @@ fn put_boxes(rt: &HostRuntime) -> Result<()> {
 
 fn put_streams(rt: &HostRuntime) -> Result<()> {
     draw!(rt;
-        streams::whole, streams::sniffed, streams::sized, streams::limited, streams::compact, streams::window,
-        streams::overfull)
+        streams::whole, streams::sniffed, streams::sized, streams::limited, streams::fitting, streams::compact,
+        streams::window, streams::overfull)
 }
 
 fn put_rows(rt: &HostRuntime) -> Result<()> {

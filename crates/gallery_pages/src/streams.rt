@@ -1,5 +1,5 @@
-//! Printers of rows as they come. `IterTable` reads some rows ahead, measures them, and cuts each cell to its column; `CompactTable`
-//! keeps no row and measures none, so it has to be told its columns and their widths.
+//! Printers of rows as they come. `IterTable` reads some rows ahead, measures them, and cuts each cell to its column. `CompactTable`
+//! prints each row as it comes, so it needs its columns and their widths first: from you, or from an array.
 
 use std::alloc::Global;
 use tabled::TableError;
@@ -40,6 +40,12 @@ pub fn limited(alloc: Global) -> Result<String, TableError> {
     table.to_string(alloc)
 }
 
+/// An array is measured beforehand: each column is as wide as its widest cell.
+pub fn fitting(alloc: Global) -> Result<String, TableError> {
+    let table = CompactTable::from(CITIES);
+    table.with(Style::psql())?.to_string(alloc)
+}
+
 /// A width for each column.
 pub fn compact(alloc: Global) -> Result<String, TableError> {
     let table = CompactTable::new(CITIES).columns(2);
@@ -54,9 +60,8 @@ pub fn window(alloc: Global) -> Result<String, TableError> {
     table.to_string(alloc)
 }
 
-/// A text wider than its column is whole.
+/// One width for all columns. A text wider than its column is whole.
 pub fn overfull(alloc: Global) -> Result<String, TableError> {
     let table = CompactTable::new(CITIES).columns(2).rows(2);
-    let table = table.width::<0>(ConstSize::Value(6));
-    table.to_string(alloc)
+    table.width(ConstSize::from(6)).to_string(alloc)
 }

@@ -14,7 +14,7 @@ designed_by   | Dennis Ritchie
 invented_year | 1972";
 
 // Stops a test where a text isn't the wanted one; one that is refused ends it.
-fn assert_text(
+pub(crate) fn assert_text(
     rt: &impl Abort,
     text: Result<String, TableError>,
     wanted: &str,
