@@ -1,5 +1,5 @@
 #!/usr/bin/env python3
-"""Writes docs/GALLERY.md from the functions of crates/gallery_pages and the stored output of crates/gallery.
+"""Writes docs/GALLERY.md from the functions of crates/docs_gallery_pages and the stored output of crates/docs_gallery.
 
 With --check it writes nothing, and fails if the page isn't what would be written, if an example of the README, of docs/FROM_TABLED.md or
 of a module of crates/tabled isn't among the lines of the programs that the gate runs, if a public module there has none, or if a
@@ -12,7 +12,7 @@ import sys
 import textwrap
 
 TOP = pathlib.Path(__file__).resolve().parent.parent
-PAGES = TOP / "crates/gallery_pages/src"
+PAGES = TOP / "crates/docs_gallery_pages/src"
 GALLERY = TOP / "docs/GALLERY.md"
 
 # What is compared with what is run: the programs with a stored output, and the library below the gallery.
@@ -36,12 +36,12 @@ PARTS = [
 
 HEAD = """# Gallery
 
-Each picture below its code. `docs/gallery.py` writes this page: the code is the body of a function of `crates/gallery_pages`, without
-its last `Ok(())`, and the picture is what the program `gallery` prints by calling that function. The gate proves both, runs the
+Each picture below its code. `docs/gallery.py` writes this page: the code is the body of a function of `crates/docs_gallery_pages`, without
+its last `Ok(())`, and the picture is what the program `docs_gallery` prints by calling that function. The gate proves both, runs the
 program, and compares what it prints with what is stored; it doesn't look at this page, which `docs/gallery.py --check` compares with both.
 """
 
-ROWS = "`table` is a table of one of these rows, `alloc` an allocator. `crates/gallery_pages/src` has a file for each part, with its imports."
+ROWS = "`table` is a table of one of these rows, `alloc` an allocator. `crates/docs_gallery_pages/src` has a file for each part, with its imports."
 
 
 def fail(message):
@@ -52,7 +52,7 @@ def pictures():
     """What the program prints, by the names of the functions."""
     found = {}
     name = None
-    for line in (TOP / "crates/gallery/stdout").read_text().split("\n")[:-1]:
+    for line in (TOP / "crates/docs_gallery/stdout").read_text().split("\n")[:-1]:
         if mark := re.fullmatch(r"== (\w+::\w+)", line):
             name = mark[1]
             if name in found:

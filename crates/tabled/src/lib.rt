@@ -6,7 +6,7 @@
 //! Table::nohead(alloc, rows)?.to_text()
 //! ```
 //!
-//! Each module below says what it is for and has an example of lines that the programs `tour` and `gallery` run.
+//! Each module below says what it is for and has an example of lines that the programs `docs_tour` and `docs_gallery` run.
 #![tactic(auto)]
 
 mod block_sink;

@@ -1,0 +1,16 @@
+use Rattle.std.proofs.Common.{◌≡◌, ◌++◌, length, ap, length-append, arith}
+use Rattle.std.proofs.lemmas.Str.{chars_past_char, length-encode, len_utf8_bounds}
+use Rattle.std.specs.Prelude.{encode_utf8}
+use Rattle.example_query.proofs.truncating.split_first.Goals as goal
+
+pub returns : goal.returns
+returns c =
+    let x = c.in_ok-first.first in
+    let rest = c.as_str.result.now in
+    let h = c.in_ok-first.ensures.steps.0 in
+    let s = c.as_str.ensures in
+    let e : c.args.text.now ≡ encode_utf8 x ++ rest = cc (h, s) in (
+      e,
+      omega (arith, ap length e, length-append (encode_utf8 x) rest, length-encode x, len_utf8_bounds x),
+      chars_past_char c.args.text.now rest x c.utf8.text e,
+    )

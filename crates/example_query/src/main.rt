@@ -1,0 +1,101 @@
+//! Prints the answer of a query of a SQLite file: `example_query FILE QUERY [ROWS]`.
+//!
+//! All rows are read before the first is printed, and are shown whole. With ROWS they are printed
+//! as they come: the first ROWS of them, of which the names of the columns are one, are read ahead,
+//! shown whole and give the columns their widths. A cell of a later row that is wider, or has
+//! several lines, is truncated and ends in `…`. Where a row can't be read, the rows before it are
+//! printed.
+#![tactic(auto)]
+
+mod answer;
+mod truncating;
+
+use answer::Answer;
+use anyhow::{Context, Result, bail, ensure};
+use sqlite::{Alter, Connection};
+use std::alloc::Global;
+use std::io::{self, BufWriter, Write};
+use std::{env, fs};
+use tabled::builder::Builder;
+use tabled::grid::records::{CellText, IntoRecords};
+use tabled::settings::Style;
+use tabled::tables::IterTable;
+use tabled::{IoSink, Table, TableError};
+
+fn main(rt: HostRuntime) -> Result<()> {
+    let alloc = rt.alloc();
+    let words: Vec<String> = env::args(&rt)?.collect(alloc)?;
+    let (path, query, ahead) = match words.as_slice() {
+        [_, path, query] => (path, query, None),
+        [_, path, query, rows] => (path, query, Some(rows_ahead(rows)?)),
+        _ => bail!("example_query FILE QUERY [ROWS]"),
+    };
+    // An open would make a file that is missing.
+    ensure!(fs::exists(&rt, path)?, "there is no file {path}");
+    let mut connection = Connection::open(&rt, path)?;
+    let mut out = BufWriter::new(alloc, io::writer(&rt))?;
+    put_answer(alloc, &mut connection, query, ahead, &mut out)
+}
+
+/// A number of rows that are read ahead.
+fn rows_ahead(word: &str) -> Result<usize> {
+    let rows = word.parse::<usize>().context("the rows read ahead")?;
+    ensure!(
+        rows > 0,
+        "1 row is read ahead at least: the names of the columns"
+    );
+    Ok(rows)
+}
+
+/// Prints the answer of a query, and then fails where it broke off.
+fn put_answer<S: Alter, W: Write>(
+    alloc: Global,
+    connection: &mut Connection<S>,
+    query: &str,
+    ahead: Option<usize>,
+    out: &mut W,
+) -> Result<()> {
+    let mut failure = None;
+    let mut answer = Answer::new(alloc, connection, query, &mut failure)?;
+    match ahead {
+        None => put_all(alloc, answer, out)?,
+        Some(rows) => {
+            answer.read_ahead(rows)?;
+            put_stream(alloc, answer, rows, out)?;
+        }
+    }
+    writeln!(out)?;
+    out.flush()?;
+    match failure {
+        Some(error) => Err(error),
+        None => Ok(()),
+    }
+}
+
+/// Prints all rows, once they are read.
+fn put_all<I: IntoRecords, W: Write>(alloc: Global, rows: I, out: &mut W) -> Result<(), TableError>
+where
+    I::Cell: CellText + Drop,
+    requires { I.ends rows }
+{
+    let mut table = Table::from(Builder::from_iter(alloc, rows)?);
+    table.apply(Style::modern())?;
+    table.write_to(&mut IoSink::new(&mut *out))
+}
+
+/// Prints rows as they come, of which some are read ahead.
+fn put_stream<I: IntoRecords + Drop, W: Write>(
+    alloc: Global,
+    rows: I,
+    ahead: usize,
+    out: &mut W,
+) -> Result<(), TableError>
+where
+    I::Cell: CellText + Drop,
+    requires { I.ends rows }
+{
+    let mut table = IterTable::new(rows);
+    table.sniff(ahead);
+    table.apply(Style::modern())?;
+    table.build(alloc, out)
+}

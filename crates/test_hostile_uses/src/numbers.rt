@@ -1,0 +1,209 @@
+//! Tables that are set by numbers of any size, and printed to a writer with room for 1,000 bytes.
+
+use crate::meagre::{End, Meagre};
+use crate::sides::{new_config, set_sides};
+use std::alloc::Global;
+use tabled::grid::config::{CompactConfig, CompactMultilineConfig};
+use tabled::grid::dimension::ConstSize;
+use tabled::iter::LayoutIterator;
+use tabled::tables::{CompactTable, ExtendedTable, IterTable, PoolTable};
+use tabled::{IoSink, Table, TableError, TextSink};
+use test_case_judge::{Fault, Words, set};
+use test_refused_uses::{PAIRS, table_of_pairs};
+
+// Sets a table, up to a command that is refused.
+fn set_each(alloc: Global, table: &mut Table, commands: &str) -> Result<(), Fault> {
+    for command in commands.split("; ") {
+        set(alloc, table, command)?;
+    }
+    Ok(())
+}
+
+// The answer of a call in words: its number or its refusal.
+fn shown(alloc: Global, answer: Result<usize, TableError>) -> Result<String, Fault> {
+    match answer {
+        Ok(number) => Ok(format!(in alloc; "{number}")?),
+        Err(error) => Ok(format!(in alloc; "{error:?}")?),
+    }
+}
+
+// What a print answers to a writer with little room, and how many bytes are out.
+fn shown_print(
+    alloc: Global,
+    answer: Result<(), TableError>,
+    writer: &Meagre,
+) -> Result<String, Fault> {
+    let bytes = writer.taken.len();
+    match answer {
+        Ok(()) => Ok(format!(in alloc; "Ok {bytes}")?),
+        Err(error) => Ok(format!(in alloc; "{error:?} {bytes}")?),
+    }
+}
+
+fn narrow_room(alloc: Global) -> Meagre {
+    Meagre::new(alloc, usize::MAX, 1000, End::TakesNone)
+}
+
+// The total width, the total height, and what is printed.
+fn measured(alloc: Global, table: &Table) -> Result<String, Fault> {
+    let width = shown(alloc, table.total_width())?;
+    let height = shown(alloc, table.total_height())?;
+    let mut writer = narrow_room(alloc);
+    let answer = table.write_to(&mut IoSink::new(&mut writer));
+    let printed = shown_print(alloc, answer, &writer)?;
+    Ok(format!(in alloc; "{width} {height} {printed}")?)
+}
+
+// Sets a table by the commands of cases, and says whether one is refused.
+fn said(alloc: Global, table: &mut Table, commands: &str) -> Result<String, Fault> {
+    match set_each(alloc, table, commands) {
+        Ok(()) => Ok(String::from_str(alloc, "set")?),
+        Err(Fault::Refused(error)) => Ok(format!(in alloc; "{error:?}")?),
+        Err(fault) => Err(fault),
+    }
+}
+
+// A table of the pairs that is set by commands, measured and printed.
+fn try_table(alloc: Global, commands: &str) -> Result<String, Fault> {
+    let mut table = table_of_pairs(alloc)?;
+    let said = said(alloc, &mut table, commands)?;
+    let measured = measured(alloc, &table)?;
+    Ok(format!(in alloc; "{said} {measured}")?)
+}
+
+// The same, printed with a width of its own.
+fn try_look(alloc: Global, commands: &str, width: &str) -> Result<String, Fault> {
+    let mut table = table_of_pairs(alloc)?;
+    let said = said(alloc, &mut table, commands)?;
+    let width = Words::new(width).number()?;
+    let mut writer = narrow_room(alloc);
+    let answer = table.print_with(&mut IoSink::new(&mut writer), Some(width), None, '*');
+    let printed = shown_print(alloc, answer, &writer)?;
+    Ok(format!(in alloc; "{said} {printed}")?)
+}
+
+// A table of the pairs with room for so many rows.
+fn try_capacity(alloc: Global, rows: &str) -> Result<String, Fault> {
+    let rows = Words::new(rows).number()?;
+    match Table::with_capacity(alloc, [("a", "bb"), ("ccc", "")], rows) {
+        Ok(table) => measured(alloc, &table),
+        Err(error) => Ok(format!(in alloc; "{error:?}")?),
+    }
+}
+
+type Stream = IterTable<[[&'static str; 2]; 2]>;
+
+fn set_stream(table: &mut Stream, command: &str) -> Result<(), Fault> {
+    let mut words = Words::new(command);
+    match words.word() {
+        "columns" => table.columns(words.number()?),
+        "rows" => table.rows(words.number()?),
+        "sniff" => table.sniff(words.number()?),
+        "width" => table.width(words.number()?),
+        "height" => table.height(words.number()?),
+        _ => return Err(Fault::Unknown("no such command")),
+    };
+    Ok(())
+}
+
+// A stream of the pairs: behind what is set around its cells its own numbers.
+fn try_stream(alloc: Global, config: CompactConfig, commands: &str) -> Result<String, Fault> {
+    let mut table = IterTable::new(PAIRS);
+    table.with(config)?;
+    for command in commands.split("; ").filter(|command| !command.is_empty()) {
+        set_stream(&mut table, command)?;
+    }
+    let mut writer = narrow_room(alloc);
+    let answer = table.fmt(alloc, &mut IoSink::new(&mut writer));
+    shown_print(alloc, answer, &writer)
+}
+
+// A compact table of the pairs, of so many columns, each as wide as is said, with so many rows of those behind some.
+fn try_compact(alloc: Global, config: CompactConfig, numbers: &str) -> Result<String, Fault> {
+    let mut words = Words::new(numbers);
+    let (columns, width) = (words.number()?, words.number()?);
+    let (skip, rows) = (words.number()?, words.number()?);
+    let table = CompactTable::new(PAIRS)
+        .columns(columns)
+        .width::<0>(ConstSize::Value(width))
+        .skip(skip)
+        .rows(rows);
+    let table = table.with(config)?;
+    let mut writer = narrow_room(alloc);
+    let answer = table.fmt(&mut IoSink::new(&mut writer));
+    shown_print(alloc, answer, &writer)
+}
+
+// Boxes of the pairs.
+fn try_boxes(alloc: Global, config: CompactConfig) -> Result<String, Fault> {
+    let mut table = PoolTable::new(alloc, PAIRS)?;
+    table.with(CompactMultilineConfig::from_compact(config))?;
+    let mut writer = narrow_room(alloc);
+    let answer = table.write_to(&mut IoSink::new(&mut writer));
+    shown_print(alloc, answer, &writer)
+}
+
+// Records of the pairs, truncated to some columns.
+fn try_records(alloc: Global, numbers: &str) -> Result<String, Fault> {
+    let mut table = ExtendedTable::from_rows(alloc, PAIRS)?;
+    let mut words = Words::new(numbers);
+    let done = table.truncate(words.number()?, words.word())?;
+    let mut writer = narrow_room(alloc);
+    let answer = table.write_to(&mut IoSink::new(&mut writer));
+    let printed = shown_print(alloc, answer, &writer)?;
+    Ok(format!(in alloc; "{done} {printed}")?)
+}
+
+// The first three batches.
+fn try_batches(alloc: Global, numbers: &str) -> Result<String, Fault> {
+    let mut words = Words::new(numbers);
+    let (from, to) = (words.number()?, words.number()?);
+    let mut said = String::from_str(alloc, "begins")?;
+    for begin in LayoutIterator::new(from, to, words.number()?).take(3) {
+        write!(said, " {begin}")?;
+    }
+    Ok(said)
+}
+
+// Settings that stand around cells, one after another.
+fn config_of(settings: &str) -> Result<CompactConfig, Fault> {
+    let mut config = new_config();
+    for setting in settings.split("; ").filter(|setting| !setting.is_empty()) {
+        let mut words = Words::new(setting);
+        let kind = words.word();
+        config = set_sides(config, kind, &mut words)?;
+    }
+    Ok(config)
+}
+
+// What becomes of the pairs in a table of some kind.
+fn tried(alloc: Global, kind: &str, settings: &str, numbers: &str) -> Result<String, Fault> {
+    match kind {
+        "table" => try_table(alloc, numbers),
+        "look" => try_look(alloc, settings, numbers),
+        "capacity" => try_capacity(alloc, numbers),
+        "stream" => try_stream(alloc, config_of(settings)?, numbers),
+        "compact" => try_compact(alloc, config_of(settings)?, numbers),
+        "boxes" => try_boxes(alloc, config_of(settings)?),
+        "records" => try_records(alloc, numbers),
+        "batches" => try_batches(alloc, numbers),
+        _ => Err(Fault::Unknown("no such kind of table")),
+    }
+}
+
+/// What is told of a line that doesn't hold; nothing where it holds. It has the kind of a table, settings, numbers, and what is
+/// wanted, between bars.
+pub fn told(alloc: Global, line: &str) -> Result<String, Fault> {
+    let mut parts = line.split(" | ");
+    let kind = parts.next().unwrap_or("");
+    let settings = parts.next().unwrap_or("");
+    let numbers = parts.next().unwrap_or("");
+    let Some(wanted) = parts.next() else {
+        return Err(Fault::Unknown("a line without four parts"));
+    };
+    let found = tried(alloc, kind, settings, numbers)?;
+    if found.as_str() == wanted {
+        return Ok(String::new(alloc));
+    }
+    Ok(format!(in alloc; "{line}: {found}")?)
+}

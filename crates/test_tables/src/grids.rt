@@ -1,0 +1,113 @@
+//! Grids with given sizes and with estimated ones, and refusals before the first byte.
+
+use crate::made::{PICTURE, SIZED};
+use crate::showing::{assert_picture, assert_text};
+use std::alloc::Global;
+use std::test::Fail;
+use tabled_base::TableError;
+use test_table_uses::{PAIRS, Sheet, Sizes, answered, bytes_of, drawn, held, lent, printed};
+
+#[test]
+fn bytes_are_those_of_the_text(rt: HostRuntime) -> Result<(), Fail> {
+    let bytes = bytes_of(rt.alloc(), &SIZED)?;
+    assert_picture(&rt, str::from_utf8(bytes.as_slice())?, PICTURE);
+    Ok(())
+}
+
+#[test]
+fn a_lent_sink_is_a_sink(rt: HostRuntime) -> Result<(), Fail> {
+    assert_text(&rt, lent(rt.alloc(), &SIZED), PICTURE)
+}
+
+#[test]
+fn stored_sizes_print_into_a_room_of_fixed_size(rt: HostRuntime) -> Result<(), Fail> {
+    let answer = held(rt.alloc(), &SIZED, PICTURE)?;
+    assert_eq!(rt; answer, (Ok(()), true));
+    Ok(())
+}
+
+const NARROW: TableError = TableError::Narrow { row: 0, column: 0 };
+
+// Widths and heights, and why the pairs in an endless margin are refused.
+const REFUSED: [(Sizes, Sizes, TableError); 4] = [
+    (Some(&[5]), Some(&[1]), TableError::ShortWidths),
+    (Some(&[2, 2]), Some(&[1]), TableError::ShortHeights),
+    (Some(&[2, 2]), Some(&[1, 1]), NARROW),
+    (Some(&[5, 4]), Some(&[1, 1]), TableError::Range),
+];
+
+#[test]
+fn a_grid_is_refused_before_the_first_byte(rt: HostRuntime) {
+    for (widths, heights, refusal) in REFUSED {
+        let sheet = Sheet {
+            rows: PAIRS.rows,
+            margin: usize::MAX,
+            widths,
+            heights,
+        };
+        assert_eq!(rt; answered(rt.alloc(), &sheet), (Err(refusal), 0));
+    }
+}
+
+const EMPTY: Sheet = Sheet {
+    rows: &[],
+    margin: usize::MAX,
+    ..SIZED
+};
+
+#[test]
+fn an_empty_grid_is_never_refused(rt: HostRuntime) {
+    assert_eq!(rt; answered(rt.alloc(), &EMPTY), (Ok(()), 0));
+}
+
+// More cells of several lines than have a cursor in no memory.
+const COLUMNS: usize = 1_030;
+
+const CROWD: Sheet = Sheet {
+    rows: &[&["a\nbc\nd"; COLUMNS]],
+    ..PAIRS
+};
+
+const SIZED_CROWD: Sheet = Sheet {
+    widths: Some(&[4; COLUMNS]),
+    heights: Some(&[3]),
+    ..CROWD
+};
+
+// The lines of the crowded row, each by its pieces.
+const PIECES: [(&str, &str); 5] = [
+    ("+----", "+\n"),
+    ("| a  ", "|\n"),
+    ("| bc ", "|\n"),
+    ("| d  ", "|\n"),
+    ("+----", "+"),
+];
+
+// A line of so many pieces and an end.
+fn push_line(text: &mut String, piece: &str, end: &str) -> Result<(), TableError> {
+    for _column in 0..COLUMNS {
+        text.push_str(piece)?;
+    }
+    text.push_str(end)?;
+    Ok(())
+}
+
+fn crowd(alloc: Global) -> Result<String, TableError> {
+    let mut text = String::new(alloc);
+    for (piece, end) in PIECES {
+        push_line(&mut text, piece, end)?;
+    }
+    Ok(text)
+}
+
+#[test]
+fn many_cells_of_several_lines_stand_side_by_side(rt: HostRuntime) -> Result<(), Fail> {
+    let want = crowd(rt.alloc())?;
+    assert_text(&rt, drawn(rt.alloc(), &CROWD), want.as_str())
+}
+
+#[test]
+fn many_cells_of_given_sizes_stand_side_by_side(rt: HostRuntime) -> Result<(), Fail> {
+    let want = crowd(rt.alloc())?;
+    assert_text(&rt, printed(rt.alloc(), &SIZED_CROWD), want.as_str())
+}

@@ -1,0 +1,188 @@
+//! Tables that are printed with a width and an alignment of their own, and formatted.
+
+use std::test::Fail;
+use tabled_base::TableError;
+use tabled_config::AlignmentHorizontal::{self, Center, Left, Right};
+use test_table_uses::{Given, Look, NEW, formatted, held_with, put_with};
+
+// A width to print with, an alignment, and a fill.
+type Asked = (Option<usize>, Option<AlignmentHorizontal>, char);
+
+fn look((width, align, fill): Asked) -> Look {
+    Look { width, align, fill }
+}
+
+const PICTURE: &str = "\
++-----+----+
+| a   | bb |
++-----+----+
+| ccc |    |
++-----+----+";
+
+const CENTERED: &str = "\
+**+-----+----+**
+**|  a  | bb |**
+**+-----+----+**
+**| ccc |    |**
+**+-----+----+**";
+
+// One column is missing, of which the smaller half is none.
+const NEARLY_CENTERED: &str = "\
++-----+----+*
+|  a  | bb |*
++-----+----+*
+| ccc |    |*
++-----+----+*";
+
+// Missing columns are on the left where nothing else is said.
+const AT_THE_LEFT: &str = "\
+..+-----+----+
+..| a   | bb |
+..+-----+----+
+..| ccc |    |
+..+-----+----+";
+
+const AT_THE_RIGHT: &str = "\
++-----+----+..
+|   a | bb |..
++-----+----+..
+| ccc |    |..
++-----+----+..";
+
+const BEHIND_A_SPACE: &str = concat!(
+    " +-----+----+\n",
+    " | a   | bb |\n",
+    " +-----+----+\n",
+    " | ccc |    |\n",
+    " +-----+----+",
+);
+
+const ALIGNED: &str = "\
++-----+----+
+|   a | bb |
++-----+----+
+| ccc |    |
++-----+----+";
+
+const WIDER: Asked = (Some(16), Some(Center), '*');
+
+const ALIGNMENT_ALONE: Asked = (None, Some(Right), '*');
+
+const NOTHING: Asked = (None, None, '*');
+
+const PICTURES: [(Asked, &str); 11] = [
+    (WIDER, CENTERED),
+    ((Some(13), Some(Center), '*'), NEARLY_CENTERED),
+    ((Some(14), None, '.'), AT_THE_LEFT),
+    ((Some(14), Some(Left), '.'), AT_THE_LEFT),
+    ((Some(14), Some(Right), '.'), AT_THE_RIGHT),
+    ((Some(13), None, '\0'), BEHIND_A_SPACE),
+    ((Some(10), None, '*'), PICTURE),
+    ((Some(12), Some(Left), '*'), PICTURE),
+    ((Some(12), Some(Right), '*'), ALIGNED),
+    (ALIGNMENT_ALONE, ALIGNED),
+    (NOTHING, PICTURE),
+];
+
+#[test]
+fn missing_columns_become_margin(rt: HostRuntime) -> Result<(), Fail> {
+    for (asked, want) in PICTURES {
+        let (answer, text) = put_with(rt.alloc(), &NEW, &look(asked))?;
+        assert_eq!(rt; answer, Ok(()));
+        assert_eq!(rt; text.as_str(), want);
+    }
+    Ok(())
+}
+
+const WITH_MARGIN: Given = Given { margin: 2, ..NEW };
+
+const FILLED: &str = "\
+***+-----+----+
+***| a   | bb |
+***+-----+----+
+***| ccc |    |
+***+-----+----+";
+
+const SPACED: &str = concat!(
+    "  +-----+----+\n",
+    "  | a   | bb |\n",
+    "  +-----+----+\n",
+    "  | ccc |    |\n",
+    "  +-----+----+",
+);
+
+#[test]
+fn fills_change_only_where_columns_are_missing(rt: HostRuntime) -> Result<(), Fail> {
+    for (width, want) in [(15, FILLED), (14, SPACED)] {
+        let (answer, text) = put_with(rt.alloc(), &WITH_MARGIN, &look((Some(width), None, '*')))?;
+        assert_eq!(rt; answer, Ok(()));
+        assert_eq!(rt; text.as_str(), want);
+    }
+    Ok(())
+}
+
+const ENDLESS: Given = Given {
+    margin: usize::MAX,
+    ..NEW
+};
+
+const EMPTY: Given = Given {
+    has_rows: false,
+    ..ENDLESS
+};
+
+const SHORT: Given = Given {
+    widths: Some(&[5]),
+    ..NEW
+};
+
+const NARROW: Given = Given {
+    widths: Some(&[2, 2]),
+    ..NEW
+};
+
+const REFUSED: [(Given, Result<(), TableError>); 4] = [
+    (EMPTY, Ok(())),
+    (SHORT, Err(TableError::ShortWidths)),
+    (NARROW, Err(TableError::Narrow { row: 0, column: 0 })),
+    (ENDLESS, Err(TableError::Range)),
+];
+
+#[test]
+fn nothing_is_printed_of_empty_and_refused_tables(rt: HostRuntime) -> Result<(), Fail> {
+    for (given, want) in REFUSED {
+        for asked in [WIDER, ALIGNMENT_ALONE, NOTHING] {
+            let (answer, text) = put_with(rt.alloc(), &given, &look(asked))?;
+            assert_eq!(rt; answer, want);
+            assert!(rt; text.as_str().is_empty());
+        }
+    }
+    Ok(())
+}
+
+#[test]
+fn a_full_room_has_the_first_bytes(rt: HostRuntime) -> Result<(), Fail> {
+    let (answer, room) = held_with(rt.alloc(), &NEW, &look(WIDER))?;
+    assert_eq!(rt; answer, Err(TableError::Writer));
+    assert_eq!(rt;
+        str::from_utf8(room.as_slice())?,
+        "**+-----+----+**\n**|  a  | bb |*"
+    );
+    Ok(())
+}
+
+#[test]
+fn a_formatted_table_is_its_picture(rt: HostRuntime) -> Result<(), Fail> {
+    let (done, text) = formatted(rt.alloc(), &NEW)?;
+    assert!(rt; done);
+    assert_eq!(rt; text.as_str(), PICTURE);
+    Ok(())
+}
+
+#[test]
+fn a_refused_table_is_formatted_by_no_text(rt: HostRuntime) -> Result<(), Fail> {
+    let (done, text) = formatted(rt.alloc(), &NARROW)?;
+    assert!(rt; !done);
+    assert!(rt; text.as_str().is_empty());
+    Ok(())
+}
