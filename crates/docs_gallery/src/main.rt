@@ -75,7 +75,8 @@ fn put_block_alignments(rt: &HostRuntime) -> Result<()> {
 
 fn put_spaces(rt: &HostRuntime) -> Result<()> {
     show!(rt, of_cities;
-        spaces::padding, spaces::zero, spaces::filled, spaces::of_a_column, spaces::configured, spaces::margin, spaces::filled_margin)
+        spaces::padding, spaces::zero, spaces::filled, spaces::expanded, spaces::of_a_column, spaces::configured, spaces::margin,
+        spaces::filled_margin)
 }
 
 fn put_widths(rt: &HostRuntime) -> Result<()> {

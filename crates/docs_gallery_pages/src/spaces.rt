@@ -2,6 +2,7 @@
 
 use tabled::grid::config::{Entity, Indent, Sides};
 use tabled::settings::object::Columns;
+use tabled::settings::padding_expand::PaddingExpand;
 use tabled::settings::{Margin, Padding};
 use tabled::{Table, TableError};
 
@@ -20,6 +21,16 @@ pub fn zero(table: &mut Table) -> Result<(), TableError> {
 /// Of other characters.
 pub fn filled(table: &mut Table) -> Result<(), TableError> {
     table.with(Padding::new(2, 2, 1, 0).fill('>', '<', '.', ' '))?;
+    Ok(())
+}
+
+/// In one direction.
+pub fn expanded(table: &mut Table) -> Result<(), TableError> {
+    let padding = match Padding::expand(false) {
+        PaddingExpand::Horizontal => Padding::new(3, 3, 0, 0),
+        PaddingExpand::Vertical => Padding::new(0, 0, 1, 1),
+    };
+    table.with(padding)?;
     Ok(())
 }
 

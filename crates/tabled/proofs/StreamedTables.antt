@@ -329,14 +329,14 @@ module _ (cells : Cells) (full : is_empty cells ≡ false) (rectangular : IsRect
           let e = all_taken r.1 in
           let wide : 2 ^ 64 ≤ filled_width new_config (columns cells) (estimated_widths cells new_config) = subst (λ k. 2 ^ 64 ≤ k) (total_is e) r.3 in
           inr (r.0, h.same, inl (inl wide)))
-          (λ m. inl (m, h.same)) h.cause
+          (λ m. inl (m.0, h.same)) h.cause
 
       stopped_at_row : (error : TableError) (old new : Sent) → StopsAtRow (all_ahead cells) c rows whole old error new
           → BreaksOff (IsPlanned Streamed cells) (IsBestPlanned Streamed cells) (Halts Streamed) old error new
       stopped_at_row error old new h =
           let b = h.begun in
           let e = all_taken b.read in
-          let memory : error ≡ Memory = ⊎_elim (λ r. absurd (never_high h.shown h.rest e b.parts r.1)) (λ m. m) h.cause in
+          let memory : error ≡ Memory = ⊎_elim (λ r. absurd (never_high h.shown h.rest e b.parts r.1)) (λ m. m.0) h.cause in
           broken h.sheet h.shown h.rest old new error (text_above h.sheet (column_count (all_ahead cells) (sniffed (all_ahead cells) rows)) (length h.shown)) []
           e b.parts b.streamed b.width (append-nil _) h.sends.added (inr (refl, memory))
 
@@ -344,7 +344,8 @@ module _ (cells : Cells) (full : is_empty cells ≡ false) (rectangular : IsRect
           → BreaksOff (IsPlanned Streamed cells) (IsBestPlanned Streamed cells) (Halts Streamed) old error new
       stopped_in_rows error old new h =
           let b = h.begun in
-          broken h.sheet h.shown h.rest old new error h.stops.front h.stops.rest (all_taken b.read) b.parts b.streamed b.width h.stops.whole h.stops.added (inl h.stops.cause)
+          let s = h.stops.stops in
+          broken h.sheet h.shown h.rest old new error s.front s.rest (all_taken b.read) b.parts b.streamed b.width s.whole s.added (inl s.cause)
 
       stopped_at_end : (error : TableError) (old new : Sent) → StopsAtEnd (all_ahead cells) c rows whole old error new
           → BreaksOff (IsPlanned Streamed cells) (IsBestPlanned Streamed cells) (Halts Streamed) old error new
@@ -356,11 +357,11 @@ module _ (cells : Cells) (full : is_empty cells ≡ false) (rectangular : IsRect
             is_planned = streamed_planned h.sheet s;
             is_best = streamed_best h.sheet s;
             is_printable = printable h.sheet e s (h.streamed.width (has_cells e));
-            front = h.stops.front;
-            rest = h.stops.rest;
-            whole = h.stops.whole;
-            added = h.stops.added;
-            cause = inl h.stops.cause;
+            front = h.stops.stops.front;
+            rest = h.stops.stops.rest;
+            whole = h.stops.stops.whole;
+            added = h.stops.stops.added;
+            cause = inl h.stops.stops.cause;
           }
 
       rendered_err : (R : Type 0) (error : TableError) (old new : Sent) → StreamStops (all_ahead cells) c rows whole old error new

@@ -107,7 +107,7 @@ pub mod builder {
 pub mod settings {
     pub use tabled_base::{CellOption, TableOption};
     pub use tabled_config::Style;
-    pub use tabled_set::{Height, Margin, Padding, Width};
+    pub use tabled_set::{Height, Margin, Padding, PaddingExpand, Width};
 
     /// Numbers that are read from a table, in place of a number of columns or lines.
     ///
@@ -194,6 +194,19 @@ pub mod settings {
     /// ```
     pub mod padding {
         pub use tabled_set::{Padding, PaddingExpand};
+    }
+
+    /// The direction in which padding expands, for callers to match on: no table reads it.
+    ///
+    /// ```rust
+    /// let padding = match Padding::expand(false) {
+    ///     PaddingExpand::Horizontal => Padding::new(3, 3, 0, 0),
+    ///     PaddingExpand::Vertical => Padding::new(0, 0, 1, 1),
+    /// };
+    /// table.with(padding)?;
+    /// ```
+    pub mod padding_expand {
+        pub use tabled_set::PaddingExpand;
     }
 }
 

@@ -134,6 +134,7 @@ pub record LeavesSo (a b : Sent) (e : TableError) (a' b' : Sent) : Type 0 where
   pub sends : (e ≡ Writer → ⊥) → (text : List ℕ) → Sends a b text → Sends a' b' text
   pub same : (e ≡ Writer → ⊥) → b ≡ a → b' ≡ a'
   pub stops : (text : List ℕ) → Stops a e b text → Stops a' e b' text
+  pub front : (text : List ℕ) (s : Stops a e b text) → (stops text s).front ≡ s.front
 
 stopped_writer : (na nb : ℕ) (ca cb cf : Option (List ℕ)) (failed_at : Option ℕ) (text : List ℕ) → (nb ≡ na → cf ≡ cb)
     → Stops (named_sent na ca None) Writer (named_sent nb cb failed_at) text
@@ -148,6 +149,13 @@ stopped_writer na nb ca cb cf (Some byte) text k p = record {
   cause = inl (omega arith);
 }
 
+stopped-front : (na nb : ℕ) (ca cb cf : Option (List ℕ)) (failed_at : Option ℕ) (text : List ℕ) (k : nb ≡ na → cf ≡ cb)
+    (p : Stops (named_sent na ca None) Writer (named_sent nb cb failed_at) text)
+    → (stopped_writer na nb ca cb cf failed_at text k p).front ≡ p.front
+stopped-front na nb ca cb cf None text k p =
+    ⊎_elim (λ h. absurd (omega arith)) (λ h. absurd (omega arith)) p.cause
+stopped-front na nb ca cb cf (Some byte) text k p = refl
+
 leaves_writer : (na nb : ℕ) (ca cb cf : Option (List ℕ)) (failed_at : Option ℕ) (e : TableError) → (nb ≡ na → cf ≡ cb)
     → ((text : List ℕ) → Stops (named_sent na ca None) e (named_sent nb cb failed_at) text → ⊥)
     → LeavesSo (named_sent na ca None) (named_sent nb cb failed_at) e (writer_before ca) (writer_before (known_since ca cf))
@@ -155,6 +163,7 @@ leaves_writer na nb ca cb cf failed_at e k never = record {
   sends = λ _ text p. writer-sends na nb ca cb cf failed_at text k p;
   same = λ _ h. ap writer_before (kept_open na nb ca cb cf failed_at k h);
   stops = λ text p. absurd (never text p);
+  front = λ text p. absurd (never text p);
 }
 
 -- a call that failed with the sink of a writer
@@ -165,6 +174,7 @@ writer-leaves na nb ca cb cf failed_at Writer k = record {
   sends = λ other text p. absurd (other refl);
   same = λ other h. absurd (other refl);
   stops = λ text p. stopped_writer na nb ca cb cf failed_at text k p;
+  front = λ text p. stopped-front na nb ca cb cf failed_at text k p;
 }
 writer-leaves na nb ca cb cf failed_at Memory k =
     leaves_writer na nb ca cb cf failed_at Memory k (λ text p. let bad : false ≡ true = p.cause.0 in cc)

@@ -7,15 +7,18 @@ use Rattle.std.proofs.lemmas.List.{take-append-drop}
 use Rattle.tabled_base.specs.declared.error.TableError.{TableError}
 use Rattle.tabled_base.specs.declared.error.TableError.TheVariants.{Memory, Range}
 use Rattle.tabled_config.specs.declared.compact.CompactConfig.{CompactConfig}
-use Rattle.tabled_row.specs.Sent.{Sent, Sends, Stops}
+use Rattle.tabled_grid.specs.Picture.{table_text}
+use Rattle.tabled_row.specs.Sent.{Sent, Sends}
 use Rattle.tabled_row.proofs.Leading.{led-joined}
 use Rattle.tabled_stream.specs.declared.layout.Layout.{Layout}
 use Rattle.tabled_stream.specs.declared.settings.Settings.{Settings}
-use Rattle.tabled_stream.specs.Printed.{lines_above}
+use Rattle.tabled_stream.specs.Below.{StopsBelow}
+use Rattle.tabled_stream.specs.Printed.{lines_above, lines_before, text_above}
 use Rattle.tabled_stream.specs.Progress.{AreFirst, AreFurther, EndsSheet, Halts, HaltsBefore, HaltsWithin, IsLaidOut, IsLimited, left_of}
 use Rattle.tabled_stream.specs.Streamed.{IsStreamed, ahead, column_count, limited, sniffed}
 use Rattle.tabled_stream.specs.Streams.{AreEnough, AreSniffed, IsTooHighFirst, IsWholeStream, StreamStops, Streams, reaches, stream_total}
-use Rattle.tabled_stream.proofs.FirstRows.{few-first, few-more, limited-more, read-more}
+use Rattle.tabled_stream.proofs.Below.{joined-below}
+use Rattle.tabled_stream.proofs.FirstRows.{few-first, few-more, length-limited, limited-more, read-more}
 
 high-more : (settings : Settings) (config : CompactConfig) (ahead_rows : List (List (List ℕ))) (index : ℕ) (rest others : List (List (List ℕ)))
     → IsTooHighFirst settings config ahead_rows index rest → IsTooHighFirst settings config ahead_rows index (rest ++ others)
@@ -45,13 +48,13 @@ module _ {settings : Settings} {config : CompactConfig} {rows : List (List (List
           width = w;
         };
         taken = (let t = b.taken in omega (arith, ap length q, length-append shown rest));
-        cause = ⊎_elim (λ h. inl (h.0, high-more settings config (sniffed settings rows) (length shown) rest others h.1)) (λ h. inr h) b.cause;
+        cause = ⊎_elim (λ h. inl (h.0, high-more settings config (sniffed settings rows) (length shown) rest others h.1))
+            (λ h. inr (h.0, (let some = h.1 in omega (arith, length-append rest others)))) b.cause;
         sends = subst S (led-joined lines) b.sends.sends;
       }))
   halted-by some others shown rest p q m s c w (inr h) =
       let b = h.1 in
-      let lines = lines_above b.sheet (column_count settings (sniffed settings rows)) (length shown) in
-      let S : List ℕ → Type 0 = λ text. Stops old e new text in
+      let count = column_count settings (sniffed settings rows) in
       inr (inr (inl (record {
         shown = shown;
         rest = rest ++ others;
@@ -65,7 +68,7 @@ module _ {settings : Settings} {config : CompactConfig} {rows : List (List (List
           width = w;
         };
         taken = omega (arith, ap length q, length-append shown rest, ap length h.0);
-        stops = subst S (led-joined lines) b.stops.stops;
+        stops = joined-below (lines_before b.sheet count (length shown)) (lines_above b.sheet count (length shown)) b.stops;
       })))
 
   -- printing of some of the rows halted
@@ -112,7 +115,9 @@ ended : {R : Type 0} {settings : Settings} {config : CompactConfig}
     → AreEnough settings rows whole → limited settings.rows rows ≡ some → stream_total settings config (sniffed settings rows) < 2 ^ 64
     → EndsSheet settings config (sniffed settings rows) some old r new → Streams settings config rows whole old r new
 ended rows (Ok x) enough p w h = record { enough = enough; sheet = h.sheet; streamed = whole-stream p w h; sends = h.writes }
-ended rows (Err e) enough p w h = inr (inr (inr (record { enough = enough; sheet = h.sheet; streamed = whole-stream p w h; stops = h.writes })))
+ended {settings = settings} rows {old = old} {new} (Err e) enough p w h =
+    let P : ℕ → Type 0 = λ n. StopsBelow (text_above h.sheet (column_count settings (sniffed settings rows)) n) old e new (table_text h.sheet) in
+    inr (inr (inr (record { enough = enough; sheet = h.sheet; streamed = whole-stream p w h; stops = subst P (ap length (sym p)) h.writes })))
 
 sniffed-first : {settings : Settings} {kept : List (List (List ℕ))} (all : Bool) → AreFirst settings kept all → AreSniffed settings kept all
 sniffed-first true f = inl refl
@@ -201,10 +206,11 @@ unplanned {settings = settings} config {kept} {all} old r e f c s i h =
     let P : List (List (List ℕ)) → Type 0 = λ rows. Streams settings config rows all old r old in
     subst P (sym (append-nil kept)) (err-streams r e i (inl (record {
       same = refl;
-      cause = ⊎_elim (λ w. inl (w.0, sniffed-first all f, record { shown = s; columns = c }, w.1)) (λ m. inr m) h;
+      cause = ⊎_elim (λ w. inl (w.0, sniffed-first all f, record { shown = s; columns = c }, w.1))
+          (λ m. inr (m, (let most = length-limited settings.rows kept in omega arith))) h;
     })))
 
--- nothing was read
-pub unread : {R : Type 0} (settings : Settings) (config : CompactConfig) (old : Sent) (r : Result R TableError) (e : TableError) → IsErrAnd r (λ d. d ≡ e)
-    → e ≡ Memory → Streams settings config [] false old r old
-unread settings config old r e i m = err-streams r e i (inl (record { same = refl; cause = inr m }))
+-- an allocation failed for a row that was read
+pub unread : {R : Type 0} (settings : Settings) (config : CompactConfig) (rows : List (List (List ℕ))) (old : Sent) (r : Result R TableError) (e : TableError)
+    → 0 < length rows → IsErrAnd r (λ d. d ≡ e) → e ≡ Memory → Streams settings config rows false old r old
+unread settings config rows old r e some i m = err-streams r e i (inl (record { same = refl; cause = inr (m, some) }))

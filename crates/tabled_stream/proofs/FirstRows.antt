@@ -113,5 +113,13 @@ module _ {settings : Settings} {kept : List (List (List ℕ))} {all : Bool} (f :
         let whole = all-limited settings.rows kept more g.permitted m in omega arith)
         (λ (m : length more ≤ 0). let few = few-first in omega arith) (cases_lt 0 (length more))
 
-pub none-permitted : (settings : Settings) → ArePermitted settings []
-none-permitted settings = omega arith
+-- no more rows than are taken before the first byte
+pub permitted-ahead : (settings : Settings) (rows : List (List (List ℕ))) (most : ℕ) → length rows ≤ most
+    → (most ≡ ahead settings) ⊎ ((ahead settings ≡ 0) × (most ≡ 1) × (0 < unwrap_or settings.columns 0) × (settings.rows ≡ Some 0 → ⊥))
+    → ArePermitted settings rows
+permitted-ahead settings rows most within needed =
+    permitted-first {settings = settings} {kept = rows} {all = true} (record {
+      sniffed = λ e. absurd (cc);
+      needed = ⊎_elim (λ (e : most ≡ ahead settings). inl (omega arith)) (λ h. inr ((let one = h.1 in omega arith), h.2, h.3)) needed;
+      none = λ e. absurd (cc);
+    })

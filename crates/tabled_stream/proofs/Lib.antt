@@ -1,3 +1,4 @@
+pub mod Below
 pub mod CutExists
 pub mod Drawn
 pub mod Endings

@@ -1,6 +1,6 @@
 -- The next row of a stream is printed, or refused.
 use Rattle.std.proofs.Common.{◌≡◌, ◌⊎◌, ℕ, ◌+◌, ◌<◌, ◌≤◌, ◌^◌, Bool, false, List, [], ◌∷◌, ◌++◌, length, Result, Ok, Err, OnOk, refl, sym, ◌∙◌, ap}
-use Rattle.std.proofs.Common.{subst, arith, append-nil, inl, inr}
+use Rattle.std.proofs.Common.{subst, arith, append-nil, inl, inr, ⊎_elim}
 use Rattle.tabled_base.specs.declared.error.TableError.{TableError}
 use Rattle.tabled_base.specs.declared.error.TableError.TheVariants.{Memory, Range}
 use Rattle.tabled_config.specs.declared.compact.CompactConfig.{CompactConfig}
@@ -36,17 +36,16 @@ module _ {settings : Settings} {config : CompactConfig} {ahead_rows shown : List
         shown = shown;
         rest = row ∷ [];
         parts = refl;
-        halts = inl (record { sheet = p.sheet; in_reach = p.in_reach; begun = begun; sends = subst S (sym same) p.sends; taken = omega arith; cause = cause });
+        halts =
+            inl (record {
+              sheet = p.sheet;
+              in_reach = p.in_reach;
+              begun = begun;
+              sends = subst S (sym same) p.sends;
+              taken = omega arith;
+              cause = ⊎_elim (λ h. inl h) (λ m. inr (m, omega arith)) cause;
+            });
       }
-
-  pub halts-here : (error : TableError) → HasPut settings config ahead_rows shown start layout first old begun → error ≡ Memory
-      → Halts settings config ahead_rows shown start layout.count error old
-  halts-here error p m = record {
-    shown = shown;
-    rest = [];
-    parts = sym (append-nil shown);
-    halts = inl (record { sheet = p.sheet; in_reach = p.in_reach; begun = begun; sends = p.sends; taken = omega arith; cause = inr m });
-  }
 
 pub next-put : {R : Type 0} (r : Result R TableError) (layout : Layout) (first first' begun begun' : Bool) (old new : Sent) (height lines : ℕ)
     (row : List (List ℕ))

@@ -1,7 +1,7 @@
 -- Rows that are printed one after another.
 use Rattle.std.proofs.Common.{◌≡◌, ℕ, ◌+◌, ◌-◌, ◌<◌, ◌≤◌, ◌||◌, Bool, true, false, not, nat_lt, if◌then◌else◌, List, [], ◌∷◌, ◌++◌, is_some}
 use Rattle.std.proofs.Common.{unwrap_or, length, take, Option, Some, None, Result, Ok, Err, IfErr, MatchOption, MatchResult, ⊎_elim, append-nil, refl}
-use Rattle.std.proofs.Common.{sym, ◌∙◌, ap, subst, arith, get_or, append_assoc, length-append}
+use Rattle.std.proofs.Common.{sym, ◌∙◌, ap, subst, arith, get_or, append_assoc, length-append, inr}
 use Rattle.std.specs.Result.{IsErrAnd}
 use Rattle.std.proofs.lemmas.Bool.{cases_lt}
 use Rattle.std.proofs.lemmas.Bool.Decides.{nat_tests}
@@ -14,7 +14,7 @@ use Rattle.tabled_stream.specs.declared.layout.Layout.{Layout}
 use Rattle.tabled_stream.specs.declared.settings.Settings.{Settings}
 use Rattle.tabled_stream.specs.Progress.{Halts, HaltsMore, HasPut, HasPutMore, IsLimited, IsPermitted, PutsNext, PutsRows}
 use Rattle.tabled_stream.specs.Streamed.{column_count, content_height, tallest}
-use Rattle.tabled_stream.proofs.NextPut.{halts-here}
+use Rattle.tabled_stream.proofs.NextPut.{halts-before}
 
 pub match-err : {R E : Type 0} (r : Result R E) (e : E) (P : R → Type 0) (Q : E → Type 0) → IsErrAnd r (λ d. d ≡ e) → Q e → MatchResult r P Q
 match-err (Ok x) e P Q i q = absurd i
@@ -72,10 +72,11 @@ module _ {layout : Layout} {lines : ℕ} {more : List (List (List ℕ))} {first 
       (next settings config ahead_rows (shown ++ more) start (so_far settings config ahead_rows shown start a l p)
       (later-height settings ahead_rows (length (shown ++ more)) lines row (omega (arith, length-append shown more)) l))
 
-  pub more-refused : (error : TableError) → HasPutMore lines more layout first old begun first' mid begun' → error ≡ Memory
-      → HaltsMore lines more layout first old begun error mid
-  more-refused error so_far m settings config ahead_rows shown start a l p =
-      halts-here error (so_far settings config ahead_rows shown start a l p) m
+  pub more-refused : (row : List (List ℕ)) (error : TableError) → HasPutMore lines more layout first old begun first' mid begun' → error ≡ Memory
+      → HaltsMore lines (more ++ row ∷ []) layout first old begun error mid
+  more-refused row error so_far m settings config ahead_rows shown start a l p =
+      let P : List (List (List ℕ)) → Type 0 = λ rows. Halts settings config ahead_rows rows start layout.count error mid in
+      subst P (append_assoc shown more (row ∷ [])) (halts-before row error mid (so_far settings config ahead_rows shown start a l p) refl (inr m))
 
 pub err-as : {R E : Type 0} (r : Result R E) (e : E) (Q : E → Type 0) → IsErrAnd r (λ d. d ≡ e) → Q e → IfErr r Q
 err-as (Ok x) e Q i q = absurd i
@@ -93,10 +94,6 @@ IsLeft limit left count = MatchOption limit (left ≡ None) (λ n. (left ≡ Som
 pub left-first : (limit : Option ℕ) → IsLeft limit limit 0
 left-first None = refl
 left-first (Some n) = (ap Some (let e : n ≡ n - 0 = omega arith in e), omega arith)
-
-pub left-permitted : (limit left : Option ℕ) (count : ℕ) → IsLeft limit left count → IsPermitted limit count
-left-permitted None left count h = tt
-left-permitted (Some n) left count h = h.1
 
 below-limit : (left : Option ℕ) (n count : ℕ) → left ≡ Some (n - count) → count ≤ n → (left ≡ Some 0 → ⊥) → count + 1 ≤ n
 below-limit left n count e w going =

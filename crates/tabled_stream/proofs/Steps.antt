@@ -1,6 +1,6 @@
 -- A table that is printed, one row further.
-use Rattle.std.proofs.Common.{◌≡◌, ℕ, ◌+◌, ◌==◌, ◌<◌, ◌^◌, Bool, false, List, [], ◌∷◌, ◌++◌, length, min, replicate, Err, refl, sym, ◌∙◌, ap, subst}
-use Rattle.std.proofs.Common.{arith, get_or, append_assoc, length-append}
+use Rattle.std.proofs.Common.{◌≡◌, ℕ, ◌+◌, ◌==◌, ◌<◌, ◌^◌, Bool, false, List, [], ◌∷◌, ◌++◌, length, min, replicate, refl, sym, ◌∙◌, ap, subst}
+use Rattle.std.proofs.Common.{add-one, arith, get_or, append_assoc, length-append}
 use Rattle.std.specs.List.{flat_map, range_with_len, slice_index}
 use Rattle.tabled_text.specs.Cut.{IsCut}
 use Rattle.tabled_base.specs.Cells.{lengthened}
@@ -11,15 +11,18 @@ use Rattle.tabled_grid.specs.Picture.{row_part}
 use Rattle.tabled_row.specs.Fill.{fill}
 use Rattle.tabled_row.specs.Sent.{Sent}
 use Rattle.tabled_row.proofs.Each.{each-more}
-use Rattle.tabled_row.proofs.Leading.{lines-finished, lines-further}
+use Rattle.tabled_row.specs.Leading.{led}
+use Rattle.tabled_row.proofs.Leading.{lines-further}
 use Rattle.tabled_size.specs.Sheet.{Sheet}
 use Rattle.tabled_size.specs.Totals.{filled_width}
 use Rattle.tabled_stream.specs.declared.layout.Layout.{Layout}
 use Rattle.tabled_stream.specs.declared.settings.Settings.{Settings}
-use Rattle.tabled_stream.specs.Printed.{lines_above}
+use Rattle.tabled_stream.specs.Below.{StopsBelow}
+use Rattle.tabled_stream.specs.Printed.{lines_above, lines_before}
 use Rattle.tabled_stream.specs.Progress.{HasPut, HaltsWithin, IsInReach, IsLaidOut}
 use Rattle.tabled_stream.specs.Row.{IsPut, IsStoppedIn, content_at, record_lines, rule_of}
 use Rattle.tabled_stream.specs.Streamed.{IsCutRow, IsStreamed, column_count, content_width, stream_height}
+use Rattle.tabled_stream.proofs.Below.{lines-below}
 use Rattle.tabled_stream.proofs.Parts.{flat_map-same, not-zero, part-laid}
 use Rattle.tabled_stream.proofs.RowsPut.{each-pushed, pushed-at, pushed-before}
 
@@ -67,6 +70,32 @@ module _ {settings : Settings} {config : CompactConfig} {ahead_rows : List (List
             (pushed-at t.heights height 0 n s.as_high ∙ h) k (omega arith);
       }
 
+  -- a row before the last one stays
+  part-before : {shown : List (List (List ℕ))} {t : Sheet} (row cells : List (List ℕ)) (height : ℕ)
+      → IsLaidOut settings config ahead_rows layout → IsStreamed settings config ahead_rows shown t
+      → IsStreamed settings config ahead_rows (shown ++ row ∷ []) (extended t cells height)
+      → (k : ℕ) → k < length shown → row_part (extended t cells height) k ≡ row_part t k
+  unfolding extended
+  part-before {shown} {t} row cells height l s m k b =
+      let longer = length-pushed shown row (length shown) refl in
+      let L : ℕ → List (List ℕ) → ℕ → List (List ℕ) = λ k r h. record_lines layout (rule_of layout (k == 0)) h r in
+      part-laid l m k (omega arith)
+      ∙ ap (λ h. L k (get_or (t.cells ++ cells ∷ []) k []) h) (pushed-before t.heights height 0 (length shown) k s.as_high b)
+      ∙ ap (λ r. L k r (slice_index t.heights k)) (pushed-before t.cells cells [] (length shown) k s.as_many b)
+      ∙ sym (part-laid l s k b)
+
+  -- so do the lines above the last one
+  above-same : {shown : List (List (List ℕ))} {t : Sheet} (row cells : List (List ℕ)) (height : ℕ)
+      → IsLaidOut settings config ahead_rows layout → IsStreamed settings config ahead_rows shown t
+      → IsStreamed settings config ahead_rows (shown ++ row ∷ []) (extended t cells height)
+      → lines_above t layout.count (length shown) ≡ lines_above (extended t cells height) layout.count (length shown)
+  unfolding lines_above extended
+  above-same {shown} {t} row cells height l s m =
+      let margin = (frame t.config).margin in
+      let above = replicate margin.top.size (fill margin.top.fill (filled_width t.config layout.count t.widths)) in
+      ap (λ x. above ++ x)
+      (sym (flat_map-same (row_part (extended t cells height)) (row_part t) (length shown) (part-before row cells height l s m)))
+
   lines-more : {shown : List (List (List ℕ))} {t : Sheet} (row cells : List (List ℕ)) (height : ℕ)
       → IsLaidOut settings config ahead_rows layout → IsStreamed settings config ahead_rows shown t
       → IsStreamed settings config ahead_rows (shown ++ row ∷ []) (extended t cells height)
@@ -80,11 +109,7 @@ module _ {settings : Settings} {config : CompactConfig} {ahead_rows : List (List
       let margin = (frame t.config).margin in
       let above = replicate margin.top.size (fill margin.top.fill (filled_width t.config layout.count t.widths)) in
       let L : ℕ → List (List ℕ) → ℕ → List (List ℕ) = λ k r h. record_lines layout (rule_of layout (k == 0)) h r in
-      let old : (k : ℕ) → k < n → row_part u k ≡ row_part t k = λ k b.
-      part-laid l m k (omega arith)
-      ∙ ap (λ h. L k (get_or (t.cells ++ cells ∷ []) k []) h) (pushed-before t.heights height 0 n k s.as_high b)
-      ∙ ap (λ r. L k r (slice_index t.heights k)) (pushed-before t.cells cells [] n k s.as_many b)
-      ∙ sym (part-laid l s k b) in
+      let old : (k : ℕ) → k < n → row_part u k ≡ row_part t k = part-before row cells height l s m in
       let last : row_part u n ≡ L n cells height =
       part-laid l m n (omega arith)
       ∙ ap (λ h. L n (get_or (t.cells ++ cells ∷ []) n []) h) (pushed-at t.heights height 0 n s.as_high)
@@ -131,11 +156,17 @@ module _ {settings : Settings} {config : CompactConfig} {ahead_rows : List (List
   put-stopped {shown} {row} {height} {start} {old} {new} {first} {begun} {error} p q h f =
       let more = reach-more p.laid p.in_reach q.cut h f in
       let longer = length-pushed shown row (length shown) refl in
+      let t = extended p.sheet q.cells height in
+      let lines = lines_above t layout.count (length (shown ++ row ∷ [])) in
+      let P : List (List ℕ) → Type 0 = λ above. StopsBelow (led false above) start error new (led false lines) in
+      let above : lines_above p.sheet layout.count (length shown) ≡ lines_before t layout.count (length (shown ++ row ∷ [])) =
+      above-same row q.cells height p.laid p.in_reach.streamed more.streamed
+      ∙ sym (ap (λ n. lines_before t layout.count n) (longer ∙ add-one (length shown))) in
       record {
-        sheet = extended p.sheet q.cells height;
+        sheet = t;
         in_reach = more;
-        stops = lines-finished {T = Unit {0}} new begun _ _ (Err error) p.sends q.stops
-            (ap (λ n. lines_above (extended p.sheet q.cells height) layout.count n) longer
+        stops = subst P above (lines-below lines p.sends q.stops
+            (ap (λ n. lines_above t layout.count n) longer
             ∙ lines-more row q.cells height p.laid p.in_reach.streamed more.streamed
-            ∙ ap (λ b. lines_above p.sheet layout.count (length shown) ++ record_lines layout (rule_of layout b) height q.cells) (sym p.is_first));
+            ∙ ap (λ b. lines_above p.sheet layout.count (length shown) ++ record_lines layout (rule_of layout b) height q.cells) (sym p.is_first)));
       }

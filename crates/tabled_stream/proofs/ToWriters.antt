@@ -1,11 +1,12 @@
 -- Streams that are printed to a borrowed writer.
-use Rattle.std.proofs.Common.{◌≡◌, ℕ, Bool, List, Option, None, Result, Ok, Err, subst, inl, inr, ⊎_elim}
+use Rattle.std.proofs.Common.{◌≡◌, ℕ, Bool, List, Option, None, Result, Ok, Err, ◌∙◌, subst, inl, inr, ⊎_elim}
 use Rattle.tabled_base.specs.declared.error.TableError.{TableError}
 use Rattle.tabled_base.specs.declared.error.TableError.TheVariants.{Memory, Range, Writer}
 use Rattle.tabled_config.specs.declared.compact.CompactConfig.{CompactConfig}
 use Rattle.tabled_row.specs.Sent.{Sent}
 use Rattle.tabled_row.specs.WriterSent.{named_sent}
 use Rattle.tabled_row.proofs.Writers.{LeavesSo, byte_of, writer-leaves, writer-sends}
+use Rattle.tabled_stream.specs.Below.{StopsBelow}
 use Rattle.tabled_stream.specs.declared.settings.Settings.{Settings}
 use Rattle.tabled_stream.specs.Streams.{BuildsStream, PrintsStream, StopsAtEnd, StopsAtRow, StopsEarly, StopsInRows, StreamStops}
 
@@ -14,6 +15,11 @@ not_range e h k = cc
 
 not_memory : (e : TableError) → e ≡ Memory → e ≡ Writer → ⊥
 not_memory e h k = cc
+
+-- a text that stops below some lines, for another sink
+below-so : {a b a' b' : Sent} {e : TableError} (above text : List ℕ) → LeavesSo a b e a' b' → StopsBelow above a e b text
+    → StopsBelow above a' e b' text
+below-so above text so p = record { stops = so.stops text p.stops; more = p.more; out = so.front text p.stops ∙ p.out }
 
 -- why a stream stops, for another sink
 stops-so : {a b a' b' : Sent} {e : TableError} (settings : Settings) (config : CompactConfig) (rows : List (List (List ℕ))) (whole : Bool)
@@ -38,10 +44,10 @@ stops-so {a} {b} {a'} {b'} {e} settings config rows whole so h =
       sheet = p.sheet;
       begun = p.begun;
       taken = p.taken;
-      stops = so.stops _ p.stops;
+      stops = below-so _ _ so p.stops;
     } in
     let at_end : StopsAtEnd settings config rows whole a e b → StopsAtEnd settings config rows whole a' e b' =
-    λ p. record { enough = p.enough; sheet = p.sheet; streamed = p.streamed; stops = so.stops _ p.stops } in
+    λ p. record { enough = p.enough; sheet = p.sheet; streamed = p.streamed; stops = below-so _ _ so p.stops } in
     ⊎_elim (λ p. inl (early p)) (λ q. inr (⊎_elim (λ p. inl (at_row p)) (λ r. inr (⊎_elim (λ p. inl (in_rows p)) (λ p. inr (at_end p)) r)) q)) h
 
 -- what the sink of a borrowed writer was sent, the writer took, if it is the one that is known in the end

@@ -8,22 +8,24 @@ use Rattle.tabled_base.specs.declared.error.TableError.{TableError}
 use Rattle.tabled_config.specs.declared.compact.CompactConfig.{CompactConfig}
 use Rattle.tabled_config.specs.Settings.{frame, rule_at}
 use Rattle.tabled_config.specs.Spanned.{spanned_of_compact}
-use Rattle.tabled_grid.specs.Picture.{columns_of, filled_picture, picture, row_part, rule}
+use Rattle.tabled_grid.specs.Picture.{columns_of, filled_picture, picture, row_part, rule, table_text}
 use Rattle.tabled_row.specs.Fill.{fill}
-use Rattle.tabled_row.specs.Leading.{LineSends, LineStops, WritesLines}
+use Rattle.tabled_row.specs.Leading.{LineSends, LineStops, WritesLines, led}
 use Rattle.tabled_row.specs.Row.{rule_if}
-use Rattle.tabled_row.specs.Sent.{Sent}
-use Rattle.tabled_row.proofs.Leading.{lines-finished, lines-further, lines-stopped, lines-text}
+use Rattle.tabled_row.specs.Sent.{Sent, Stops}
+use Rattle.tabled_row.proofs.Leading.{lines-finished, lines-stopped-first}
 use Rattle.tabled_size.specs.Sheet.{Sheet, is_empty}
 use Rattle.tabled_size.specs.Totals.{filled_width}
 use Rattle.tabled_stream.specs.declared.layout.Layout.{Layout}
 use Rattle.tabled_stream.specs.declared.settings.Settings.{Settings}
-use Rattle.tabled_stream.specs.Printed.{lines_above}
+use Rattle.tabled_stream.specs.Below.{WritesBelow}
+use Rattle.tabled_stream.specs.Printed.{lines_above, text_above}
 use Rattle.tabled_stream.specs.Progress.{EndsSheet, HaltsWithin, HasPut, IsInReach, IsLaidOut}
 use Rattle.tabled_stream.specs.Streamed.{IsStreamed, stream_widths}
 use Rattle.tabled_stream.specs.Streams.{stream_total}
 use Rattle.tabled_stream.specs.Row.{layout_columns}
 use Rattle.tabled_border.specs.declared.frame.Frame.{Frame}
+use Rattle.tabled_stream.proofs.Below.{ends-below, stops-first}
 use Rattle.tabled_stream.proofs.Parts.{columns-laid, not-zero, rule-below}
 
 -- the table of no rows
@@ -71,10 +73,11 @@ module _ {settings : Settings} {config : CompactConfig} {ahead_rows : List (List
         sends = subst (λ ls. LineSends start false new begun ls) (sym (margin-above whole l w)) h;
       }
   top-put (Err d) whole start new first begun l w f h =
+      let P : List (List ℕ) → Type 0 = λ ls. Stops start d new (led false ls) in
       record {
         sheet = no_rows settings config ahead_rows;
         in_reach = none-in-reach settings config ahead_rows;
-        stops = subst (λ ls. LineStops start false d new ls) (sym (margin-above whole l w)) h;
+        stops = stops-first (subst P (sym (margin-above whole l w)) h.stops);
       }
 
   whole-picture : {shown : List (List (List ℕ))} (t : Sheet) (whole : ℕ) → IsLaidOut settings config ahead_rows layout
@@ -110,32 +113,40 @@ module _ {settings : Settings} {config : CompactConfig} {ahead_rows : List (List
       ∙ ap (λ n. T ++ (R ++ (rule_if (layout_columns layout) layout.bottom ++ B layout.frame n))) total
       ∙ sym (append_assoc T R (rule_if (layout_columns layout) layout.bottom ++ B layout.frame whole))
 
+  -- the end was printed below some rows
+  ended-below : {Q : Type 0} {shown : List (List (List ℕ))} {first begun : Bool} {start old : Sent} (new : Sent) (after : Bool)
+      (r : Result Q TableError) (whole : ℕ)
+      → HasPut settings config ahead_rows shown start layout first old begun → 0 < length shown → 0 < layout.count
+      → whole ≡ stream_total settings config ahead_rows
+      → WritesLines old begun r new after (rule_if (layout_columns layout) layout.bottom
+      ++ replicate layout.frame.margin.bottom.size (fill layout.frame.margin.bottom.fill whole))
+      → EndsSheet settings config ahead_rows shown start r new
+  ended-below {shown = shown} {start = start} new after r whole p h w e k =
+      let P : ℕ → Type 0 = λ n. WritesBelow (text_above p.sheet n (length shown)) start r new (table_text p.sheet) in
+      record {
+        sheet = p.sheet;
+        in_reach = p.in_reach;
+        writes = subst P p.laid.count
+            (ends-below new after _ (picture p.sheet) r p.sends k (whole-picture p.sheet whole p.laid p.in_reach.streamed h w e));
+      }
+
   pub bottom-put : {Q : Type 0} {shown : List (List (List ℕ))} {first begun between : Bool} {start old mid new : Sent} (after : Bool)
       (r : Result Q TableError) (whole : ℕ)
       → HasPut settings config ahead_rows shown start layout first old begun → 0 < length shown → 0 < layout.count
       → whole ≡ stream_total settings config ahead_rows → LineSends old begun mid between (rule_if (layout_columns layout) layout.bottom)
       → WritesLines mid between r new after (replicate layout.frame.margin.bottom.size (fill layout.frame.margin.bottom.fill whole))
       → EndsSheet settings config ahead_rows shown start r new
-  bottom-put {shown = shown} {start = start} {old} {mid} {new} after r whole p h w e k m =
-      let eq = whole-picture p.sheet whole p.laid p.in_reach.streamed h w e in
-      record {
-        sheet = p.sheet;
-        in_reach = p.in_reach;
-        writes = lines-text start new after r (picture p.sheet)
-            (lines-finished new after _ (picture p.sheet) r (lines-further p.sends k refl) m
-            (eq ∙ sym (append_assoc (lines_above p.sheet layout.count (length shown)) (rule_if (layout_columns layout) layout.bottom)
-            (replicate layout.frame.margin.bottom.size (fill layout.frame.margin.bottom.fill whole)))));
-      }
+  bottom-put {new = new} after r whole p h w e k m =
+      let margin = replicate layout.frame.margin.bottom.size (fill layout.frame.margin.bottom.fill whole) in
+      let end = rule_if (layout_columns layout) layout.bottom ++ margin in
+      ended-below new after r whole p h w e (lines-finished new after margin end r k m refl)
 
   pub bottom-stopped : {Q : Type 0} {shown : List (List (List ℕ))} {first begun : Bool} {start old new : Sent} (r : Result Q TableError)
       (error : TableError) (whole : ℕ)
       → HasPut settings config ahead_rows shown start layout first old begun → 0 < length shown → 0 < layout.count
       → whole ≡ stream_total settings config ahead_rows → LineStops old begun error new (rule_if (layout_columns layout) layout.bottom)
       → IsErrAnd r (λ d. d ≡ error) → EndsSheet settings config ahead_rows shown start r new
-  bottom-stopped {shown = shown} {start = start} {new = new} r error whole p h w e k i =
-      let eq = whole-picture p.sheet whole p.laid p.in_reach.streamed h w e in
-      record {
-        sheet = p.sheet;
-        in_reach = p.in_reach;
-        writes = lines-text start new false r (picture p.sheet) (lines-stopped false _ (picture p.sheet) r error p.sends k i eq);
-      }
+  bottom-stopped {new = new} r error whole p h w e k i =
+      let margin = replicate layout.frame.margin.bottom.size (fill layout.frame.margin.bottom.fill whole) in
+      let end = rule_if (layout_columns layout) layout.bottom ++ margin in
+      ended-below new false r whole p h w e (lines-stopped-first false margin end r error k i refl)

@@ -1,4 +1,5 @@
 pub mod Applied
+pub mod Below
 pub mod GoesOn
 pub mod LikeTable
 pub mod NewTable

@@ -1,5 +1,5 @@
 -- The lines of a table that is printed row by row.
-use Rattle.std.specs.Prelude.{ℕ, ◌++◌, List, replicate}
+use Rattle.std.specs.Prelude.{ℕ, zero, suc, ◌++◌, List, [], replicate}
 use Rattle.std.specs.List.{flat_map, join_with_byte, range_with_len}
 use Rattle.tabled_config.specs.Settings.{frame}
 use Rattle.tabled_row.specs.Fill.{fill}
@@ -15,6 +15,14 @@ lines_above t count row =
     replicate margin.top.size (fill margin.top.fill (filled_width t.config count t.widths))
     ++ flat_map (row_part t) (range_with_len 0 row)
 
--- their text
+-- the lines above the last of so many rows; above the top margin there is none
+abbrev pub lines_before : Sheet → ℕ → ℕ → List (List ℕ)
+lines_before t count zero = []
+lines_before t count (suc row) = lines_above t count row
+
+-- their texts
 abbrev pub text_above : Sheet → ℕ → ℕ → List ℕ
 text_above t count row = join_with_byte 10 (lines_above t count row)
+
+abbrev pub text_before : Sheet → ℕ → ℕ → List ℕ
+text_before t count rows = join_with_byte 10 (lines_before t count rows)

@@ -8,13 +8,14 @@ use Rattle.tabled_border.specs.Frame.{frame_of}
 use Rattle.tabled_config.specs.Settings.{rule_at}
 use Rattle.tabled_config.specs.Spanned.{spanned_of_compact}
 use Rattle.tabled_config.specs.declared.compact.CompactConfig.{CompactConfig}
-use Rattle.tabled_row.specs.Leading.{LineSends, LineStops}
+use Rattle.tabled_row.specs.Leading.{LineSends, led}
 use Rattle.tabled_grid.specs.Picture.{table_text}
-use Rattle.tabled_row.specs.Sent.{Sent, Writes}
+use Rattle.tabled_row.specs.Sent.{Sent}
 use Rattle.tabled_size.specs.Sheet.{Sheet}
 use Rattle.tabled_stream.specs.declared.layout.Layout.{Layout}
 use Rattle.tabled_stream.specs.declared.settings.Settings.{Settings}
-use Rattle.tabled_stream.specs.Printed.{lines_above}
+use Rattle.tabled_stream.specs.Below.{StopsBelow, WritesBelow}
+use Rattle.tabled_stream.specs.Printed.{lines_above, lines_before, text_above}
 use Rattle.tabled_stream.specs.Row.{compact_style, content_at}
 use Rattle.tabled_stream.specs.Streamed.{IsStreamed, ahead, column_count, content_height, content_width}
 use Rattle.tabled_stream.specs.Streams.{IsTooHighFirst, stream_total}
@@ -44,7 +45,7 @@ pub record HasPut (settings : Settings) (config : CompactConfig) (ahead_rows sho
   pub is_first : first ≡ (length shown == 0)
   pub sends : LineSends start false now begun (lines_above sheet layout.count (length shown))
 
--- printing halts before a row, which is too high, or memory was refused; no other row follows
+-- printing halts before a row, which is too high, or an allocation for it failed; no other row follows
 pub record HaltsBefore (settings : Settings) (config : CompactConfig) (ahead_rows shown rest : List (List (List ℕ))) (start : Sent)
     (count : ℕ) (error : TableError) (now : Sent) : Type 0 where
   pub sheet : Sheet
@@ -52,14 +53,14 @@ pub record HaltsBefore (settings : Settings) (config : CompactConfig) (ahead_row
   pub begun : Bool
   pub sends : LineSends start false now begun (lines_above sheet count (length shown))
   pub taken : length rest ≤ 1
-  pub cause : ((error ≡ Range) × IsTooHighFirst settings config ahead_rows (length shown) rest) ⊎ (error ≡ Memory)
+  pub cause : ((error ≡ Range) × IsTooHighFirst settings config ahead_rows (length shown) rest) ⊎ ((error ≡ Memory) × (0 < length rest))
 
--- the sink refused in the top margin or in a row
+-- the sink failed in the top margin or in the last row, and the lines above that row are out
 pub record HaltsWithin (settings : Settings) (config : CompactConfig) (ahead_rows shown : List (List (List ℕ))) (start : Sent)
     (count : ℕ) (error : TableError) (now : Sent) : Type 0 where
   pub sheet : Sheet
   pub in_reach : IsInReach settings config ahead_rows shown sheet
-  pub stops : LineStops start false error now (lines_above sheet count (length shown))
+  pub stops : StopsBelow (led false (lines_before sheet count (length shown))) start error now (led false (lines_above sheet count (length shown)))
 
 -- printing of some rows halts
 pub record Halts (settings : Settings) (config : CompactConfig) (ahead_rows rows : List (List (List ℕ))) (start : Sent)
@@ -125,12 +126,12 @@ pub record AreFurther (limit : Option ℕ) (kept : ℕ) (all : Bool) (more : ℕ
   pub permitted : IsPermitted (left_of limit kept) more
   pub none : all ≡ true → (more ≡ 0) × (whole ≡ true)
 
--- what printing the end of a table leaves: its whole text, or a beginning of that
+-- what printing the end of a table leaves: its whole text, or a beginning of that which has all rows
 pub record EndsSheet {R : Type 0} (settings : Settings) (config : CompactConfig) (ahead_rows shown : List (List (List ℕ))) (start : Sent)
     (result : Result R TableError) (now : Sent) : Type 0 where
   pub sheet : Sheet
   pub in_reach : IsInReach settings config ahead_rows shown sheet
-  pub writes : Writes start result now (table_text sheet)
+  pub writes : WritesBelow (text_above sheet (column_count settings ahead_rows) (length shown)) start result now (table_text sheet)
 
 -- printing of further rows behind those that were printed, as many as may be, and of the end of the table: it is done, or was
 -- refused there, or halts before

@@ -7,11 +7,12 @@ use Rattle.tabled_config.specs.declared.compact.CompactConfig.{CompactConfig}
 use Rattle.tabled_config.specs.Spanned.{spanned_of_compact}
 use Rattle.tabled_size.specs.Sheet.{Sheet}
 use Rattle.tabled_size.specs.Totals.{filled_width}
-use Rattle.tabled_row.specs.Sent.{Sent, Sends, Stops}
+use Rattle.tabled_row.specs.Sent.{Sent, Sends}
 use Rattle.tabled_row.specs.WriterSent.{known_since, writer_after, writer_before}
 use Rattle.tabled_grid.specs.Picture.{table_text}
 use Rattle.tabled_stream.specs.declared.settings.Settings.{Settings}
-use Rattle.tabled_stream.specs.Printed.{text_above}
+use Rattle.tabled_stream.specs.Below.{StopsBelow}
+use Rattle.tabled_stream.specs.Printed.{text_above, text_before}
 use Rattle.tabled_stream.specs.Streamed.{IsStreamed, ahead, column_count, limited, sniffed, stream_height, stream_widths}
 
 -- the columns of the whole table
@@ -69,8 +70,8 @@ abbrev pub IsTooHighFirst : Settings → CompactConfig → List (List (List ℕ)
 IsTooHighFirst settings config ahead_rows index [] = ⊥
 IsTooHighFirst settings config ahead_rows index (row ∷ rest) = 2 ^ 64 ≤ stream_height settings config ahead_rows index row
 
--- the lines above a row are out, and then it is refused: it is too high, or memory was wanted. No row behind it was taken, but
--- those that are read ahead
+-- exactly the lines above a row are out, and it is too high, or an allocation for it failed. No row behind it was taken, but those
+-- that are read ahead
 pub record StopsAtRow (settings : Settings) (config : CompactConfig) (rows : List (List (List ℕ))) (whole : Bool)
     (old : Sent) (error : TableError) (new : Sent) : Type 0 where
   pub shown : List (List (List ℕ))
@@ -78,11 +79,12 @@ pub record StopsAtRow (settings : Settings) (config : CompactConfig) (rows : Lis
   pub sheet : Sheet
   pub begun : IsBegun settings config rows whole shown rest sheet
   pub taken : length rows ≤ max (ahead settings) (length shown + 1)
-  pub cause : ((error ≡ Range) × IsTooHighFirst settings config (sniffed settings rows) (length shown) rest) ⊎ (error ≡ Memory)
+  pub cause : ((error ≡ Range) × IsTooHighFirst settings config (sniffed settings rows) (length shown) rest)
+      ⊎ ((error ≡ Memory) × (0 < length rest))
   pub sends : Sends old new (text_above sheet (column_count settings (sniffed settings rows)) (length shown))
 
--- the sink refused in the top margin, or in the last of some rows or its horizontal line. No row behind it was taken, but those
--- that are read ahead, and the first
+-- the sink failed in the top margin, or in the last of some rows or its horizontal line: the lines above that row are out. No row
+-- behind it was taken, but those that are read ahead, and the first
 pub record StopsInRows (settings : Settings) (config : CompactConfig) (rows : List (List (List ℕ))) (whole : Bool)
     (old : Sent) (error : TableError) (new : Sent) : Type 0 where
   pub shown : List (List (List ℕ))
@@ -90,22 +92,24 @@ pub record StopsInRows (settings : Settings) (config : CompactConfig) (rows : Li
   pub sheet : Sheet
   pub begun : IsBegun settings config rows whole shown rest sheet
   pub taken : length rows ≤ max (ahead settings) (max 1 (length shown))
-  pub stops : Stops old error new (text_above sheet (column_count settings (sniffed settings rows)) (length shown))
+  pub stops : StopsBelow (text_before sheet (column_count settings (sniffed settings rows)) (length shown)) old error new
+      (text_above sheet (column_count settings (sniffed settings rows)) (length shown))
 
--- the sink refused in the text of the whole table
+-- the sink failed below the last row, in the text of the whole table
 pub record StopsAtEnd (settings : Settings) (config : CompactConfig) (rows : List (List (List ℕ))) (whole : Bool)
     (old : Sent) (error : TableError) (new : Sent) : Type 0 where
   pub enough : AreEnough settings rows whole
   pub sheet : Sheet
   pub streamed : IsWholeStream settings config rows sheet
-  pub stops : Stops old error new (table_text sheet)
+  pub stops : StopsBelow (text_above sheet (column_count settings (sniffed settings rows)) (length (limited settings.rows rows)))
+      old error new (table_text sheet)
 
--- refused before the first byte: the whole is too wide, or memory was wanted
+-- an error before the first byte: the whole is too wide, or an allocation failed, which only a row that was taken asks for
 pub record StopsEarly (settings : Settings) (config : CompactConfig) (rows : List (List (List ℕ))) (whole : Bool)
     (old : Sent) (error : TableError) (new : Sent) : Type 0 where
   pub same : new ≡ old
   pub cause : ((error ≡ Range) × AreSniffed settings rows whole × IsFilled settings rows
-      × (2 ^ 64 ≤ stream_total settings config (sniffed settings rows))) ⊎ (error ≡ Memory)
+      × (2 ^ 64 ≤ stream_total settings config (sniffed settings rows))) ⊎ ((error ≡ Memory) × (0 < length rows))
 
 -- what is printed of the rows that were taken
 pub record StreamSends (settings : Settings) (config : CompactConfig) (rows : List (List (List ℕ))) (whole : Bool) (old new : Sent) : Type 0 where

@@ -55,8 +55,8 @@ impl<'a> Stream<'a> {
         total: usize,
     ) -> Result<(), TableError>
         requires { MayGive I.can_next I.next_gives I.remaining W.into_iter_gives W.IntoIter.can_next W.IntoIter.remaining rows.old }
-        ensures printed { (more : List (List C)) × (whole : Bool) × (to : I) × IsPermitted limit (length more)
-            × ReadsTo I.next_gives W.into_iter_gives W.IntoIter.next_gives rows.old more whole to
+        ensures printed { (more : List (List C)) × (whole : Bool) × IsPermitted limit (length more)
+            × ReadsTo I.next_gives W.into_iter_gives W.IntoIter.next_gives rows.old more whole rows.new
             × FinishesMore limit lines total whole (map (map C.text) more) self.old.lines.columns.layout.now self.old.first (S.sent sink.old)
             self.old.lines.begun result (S.sent sink.new) }
     {

@@ -33,8 +33,8 @@ pub(crate) fn is_none_left(left: Option<usize>) -> bool
 }
 
 impl<'a> Stream<'a> {
-    /// The next row, which leaves so many lines to texts. Refused, before its first byte, with `Range` where its height passes
-    /// the greatest `usize`, and for memory.
+    /// The next row, which leaves so many lines to texts. Fails, before its first byte, with `Range`
+    /// where its height exceeds the greatest `usize`, and with `Memory`.
     fn put_next<C: CellText, S: TextSink>(
         &mut self,
         alloc: Global,
@@ -79,7 +79,8 @@ impl<'a> Stream<'a> {
         Ok(())
     }
 
-    /// The rows that come, as many as may be printed, each taken as it is printed. Answers whether these are all.
+    /// The rows that come, as many as may be printed. Each is taken once the lines above it are out.
+    /// Returns whether these are all.
     pub fn put_rest<
         I: Iterator<Item = W>,
         W: IntoIterator<Item = C>,
@@ -98,8 +99,8 @@ impl<'a> Stream<'a> {
             × ReadsTo I.next_gives W.into_iter_gives W.IntoIter.next_gives rows.old more whole rows.new
             × HasPutMore lines (map (map C.text) more) self.old.lines.columns.layout.now self.old.first (S.sent sink.old) self.old.lines.begun
             self.new.first (S.sent sink.new) self.new.lines.begun) }
-        ensures err { IfErr result (λ e. (more : List (List C)) × (reached : I) × IsPermitted limit (length more)
-            × Reads I.next_gives W.into_iter_gives W.IntoIter.next_gives rows.old more reached
+        ensures err { IfErr result (λ e. (more : List (List C)) × IsPermitted limit (length more)
+            × Reads I.next_gives W.into_iter_gives W.IntoIter.next_gives rows.old more rows.new
             × HaltsMore lines (map (map C.text) more) self.old.lines.columns.layout.now self.old.first (S.sent sink.old) self.old.lines.begun
             e (S.sent sink.new)) }
         ensures same { self.new.lines.columns ≡ self.old.lines.columns }

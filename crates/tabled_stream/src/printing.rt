@@ -15,11 +15,17 @@ impl<I: IntoRecords> IterTable<I>
 where
     I::Cell: CellText + Drop,
 {
-    /// Prints the table to a sink, its lines joined by line feeds. Nothing is printed where no row is shown or there is no
-    /// column. Refused with `Range` where the columns of the whole pass the greatest `usize`, before the first byte, and where
-    /// the lines of a row do, once the lines above it are out: neither that row's horizontal line nor a line feed before it is.
-    /// Refused at any time for memory and for what the sink refuses. No row is taken but those that are read ahead and those
-    /// that are shown, each of these as it is printed, and the first before the first byte.
+    /// Prints the table to a sink, its lines joined by line feeds. Nothing is printed where no row is
+    /// shown or there is no column.
+    ///
+    /// Rows are taken one by one as they are printed. Before the first byte only those that are read
+    /// ahead are taken, or the first where none is. When the sink fails, every other row that was
+    /// taken has all of its lines in what the sink took, except the last one.
+    ///
+    /// Fails with `Range` where the columns of the whole table exceed the greatest `usize`, before the
+    /// first byte, and where the lines of a row do. Fails with `Memory` where an allocation failed,
+    /// which only a row that was taken or the sink asks for. At a row's `Range` or `Memory` exactly
+    /// the lines above that row are out, with no line feed behind them. Fails with the sink's errors.
     pub fn fmt<S: TextSink>(self, alloc: Global, sink: &mut S) -> Result<(), TableError>
         requires { I.ends self.records }
         ensures printed { PrintsStream self.settings self.config (Came (I.begins self.records) I.Cell.text) (S.sent sink.old) result (S.sent sink.new) }

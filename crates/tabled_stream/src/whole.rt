@@ -40,9 +40,9 @@ impl<'a> Stream<'a> {
     ) -> Result<(), TableError>
         requires { taken.now.whole ≡ false
             → MayGive I.can_next I.next_gives I.remaining W.into_iter_gives W.IntoIter.can_next W.IntoIter.remaining rows.old }
-        ensures { (more : List (List C)) × (whole : Bool) × (to : I)
+        ensures { (more : List (List C)) × (whole : Bool)
             × AreFurther settings.now.rows (length taken.now.rows.items) taken.now.whole (length more) whole
-            × ReadsOn I.next_gives W.into_iter_gives W.IntoIter.next_gives (map (λ row. row.items) taken.now.rows.items) taken.now.whole rows.old more whole to
+            × ReadsOn I.next_gives W.into_iter_gives W.IntoIter.next_gives (map (λ row. row.items) taken.now.rows.items) taken.now.whole rows.old more whole rows.new
             × FinishesBehind (left_of settings.now.rows (length taken.now.rows.items)) (unwrap_or settings.now.height 1) total whole (map (map C.text) more)
             self.old.lines.columns.layout.now self.old.first (S.sent sink.old) self.old.lines.begun result (S.sent sink.new) }
     {
@@ -72,9 +72,9 @@ impl<'a> Stream<'a> {
         requires filled { 0 < length (limited settings.now.rows (texts_of C.text taken.now.rows.items)) }
         requires in_range { total < 2 ^ 64 }
         requires kept { AreFirst settings.now (texts_of C.text taken.now.rows.items) taken.now.whole }
-        ensures { (more : List (List C)) × (whole : Bool) × (to : I)
+        ensures { (more : List (List C)) × (whole : Bool)
             × AreFurther settings.now.rows (length taken.now.rows.items) taken.now.whole (length more) whole
-            × ReadsOn I.next_gives W.into_iter_gives W.IntoIter.next_gives (map (λ row. row.items) taken.now.rows.items) taken.now.whole rows.old more whole to
+            × ReadsOn I.next_gives W.into_iter_gives W.IntoIter.next_gives (map (λ row. row.items) taken.now.rows.items) taken.now.whole rows.old more whole rows.new
             × ((config : CompactConfig)
             → IsLaidOut settings.now config (sniffed settings.now (texts_of C.text taken.now.rows.items)) self.old.lines.columns.layout.now
             → total ≡ stream_total settings.now config (sniffed settings.now (texts_of C.text taken.now.rows.items))
@@ -100,8 +100,8 @@ fn print_taken<I: Iterator<Item = W>, W: IntoIterator<Item = C>, C: CellText + D
     requires open { taken.now.whole ≡ false
         → MayGive I.can_next I.next_gives I.remaining W.into_iter_gives W.IntoIter.can_next W.IntoIter.remaining rows.old }
     requires kept { AreFirst settings.now (texts_of C.text taken.now.rows.items) taken.now.whole }
-    ensures { (more : List (List C)) × (whole : Bool) × (to : I)
-        × ReadsOn I.next_gives W.into_iter_gives W.IntoIter.next_gives (map (λ row. row.items) taken.now.rows.items) taken.now.whole rows.old more whole to
+    ensures { (more : List (List C)) × (whole : Bool)
+        × ReadsOn I.next_gives W.into_iter_gives W.IntoIter.next_gives (map (λ row. row.items) taken.now.rows.items) taken.now.whole rows.old more whole rows.new
         × ArePermitted settings.now (texts_of C.text taken.now.rows.items ++ map (map C.text) more)
         × Streams settings.now config.now (texts_of C.text taken.now.rows.items ++ map (map C.text) more) whole (S.sent sink.old) result (S.sent sink.new) }
 {
@@ -118,7 +118,7 @@ fn print_taken<I: Iterator<Item = W>, W: IntoIterator<Item = C>, C: CellText + D
     Stream::new(alloc, columns).put_all(alloc, sink, rows, settings, taken, plan.total)
 }
 
-/// The stream that an iterator gives.
+/// The stream that an iterator gives. The iterator is left behind exactly the rows of which this tells.
 fn print_stream<I: Iterator<Item = W>, W: IntoIterator<Item = C>, C: CellText + Drop, S: TextSink>(
     alloc: Global,
     sink: &mut S,
@@ -127,8 +127,8 @@ fn print_stream<I: Iterator<Item = W>, W: IntoIterator<Item = C>, C: CellText + 
     config: &CompactConfig,
 ) -> Result<(), TableError>
     requires { MayGive I.can_next I.next_gives I.remaining W.into_iter_gives W.IntoIter.can_next W.IntoIter.remaining rows.old }
-    ensures { (cells : List (List C)) × (whole : Bool) × (to : I)
-        × ReadsTo I.next_gives W.into_iter_gives W.IntoIter.next_gives rows.old cells whole to
+    ensures { (cells : List (List C)) × (whole : Bool)
+        × ReadsTo I.next_gives W.into_iter_gives W.IntoIter.next_gives rows.old cells whole rows.new
         × ArePermitted settings.now (map (map C.text) cells)
         × Streams settings.now config.now (map (map C.text) cells) whole (S.sent sink.old) result (S.sent sink.new) }
 {

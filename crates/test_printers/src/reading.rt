@@ -6,6 +6,7 @@ use std::io;
 use std::io::Write;
 use std::test::Fail;
 use tabled_base::{CellText, TableError};
+use tabled_row::IoSink;
 use tabled_stream::IterTable;
 
 // Takes nothing.
@@ -15,6 +16,24 @@ struct Closed {}
 impl Write for Closed {
     fn write(&mut self, _buf: &[u8]) -> io::Result<usize> {
         Ok(0)
+    }
+
+    fn flush(&mut self) -> io::Result<()> {
+        Ok(())
+    }
+}
+
+// Takes so many bytes, and then none.
+#[derive(Drop)]
+struct Narrow {
+    left: usize,
+}
+
+impl Write for Narrow {
+    fn write(&mut self, buf: &[u8]) -> io::Result<usize> {
+        let count = buf.len().min(self.left);
+        self.left -= count;
+        Ok(count)
     }
 
     fn flush(&mut self) -> io::Result<()> {
@@ -48,6 +67,23 @@ fn two_rows_are_taken_at_most_before_the_first_byte(rt: HostRuntime) -> Result<(
         Err(TableError::Writer)
     );
     assert!(rt; rows.len() >= 998);
+    Ok(())
+}
+
+// The horizontal lines above two rows and the rows are four lines of 13 bytes, with three line feeds.
+#[test]
+fn a_row_is_taken_once_the_lines_above_it_are_out(rt: HostRuntime) -> Result<(), Fail> {
+    let mut rows = thousand(rt.alloc())?.into_iter();
+    let mut table = IterTable::new(&mut rows);
+    table.sniff(1);
+    let mut sink = IoSink::new(Narrow { left: 54 });
+    assert_eq!(rt; table.fmt(rt.alloc(), &mut sink), Err(TableError::Writer));
+    assert_eq!(rt; rows.len(), 998);
+    let mut table = IterTable::new(&mut rows);
+    table.sniff(1);
+    let mut sink = IoSink::new(Narrow { left: 55 });
+    assert_eq!(rt; table.fmt(rt.alloc(), &mut sink), Err(TableError::Writer));
+    assert_eq!(rt; rows.len(), 995);
     Ok(())
 }
 

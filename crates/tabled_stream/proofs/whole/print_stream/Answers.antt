@@ -1,23 +1,26 @@
-use Rattle.std.proofs.Common.{◌≡◌, ◌∙◌, ◌++◌, ℕ, List, [], false, map, sym, ap, subst}
-use Rattle.std.proofs.lemmas.List.{map-append}
+use Rattle.std.proofs.Common.{◌≡◌, ◌∙◌, ◌++◌, ◌<◌, ◌≤◌, ℕ, List, false, length, map, sym, ap, subst, arith}
+use Rattle.std.proofs.lemmas.List.{length-map, map-append}
 use Rattle.tabled_base.specs.Cells.{texts_of}
 use Rattle.tabled_stream.specs.Streams.{ArePermitted, Streams}
 use Rattle.tabled_stream.proofs.Finished.{unread}
-use Rattle.tabled_stream.proofs.FirstRows.{none-permitted}
-use Rattle.tabled_views.proofs.RowsRead.{reads-none, reads-open}
+use Rattle.tabled_stream.proofs.FirstRows.{permitted-ahead}
+use Rattle.tabled_views.proofs.RowsRead.{reads-open}
 use Rattle.tabled_stream.proofs.Slices.{given-texts}
 use Rattle.tabled_stream.proofs.whole.print_stream.Goals as goal
 
 pub returns-in_err-taken : goal.returns-in_err-taken
-returns-in_err-taken g c = (
-  [],
-  false,
-  c.args.rows.now,
-  reads-open (reads-none c.args.rows.now),
-  none-permitted c.args.settings.now,
-  unread c.args.settings.now c.args.config.now (g.S.TextSink.sent c.args.sink.now) c.from_residual.result c.in_err-taken.field-0.0
-      c.from_residual.ensures.1 c.in_err-taken.ensures.only,
-)
+returns-in_err-taken g c =
+    let settings = c.args.settings.now in
+    let read = c.in_err-taken.ensures.err in
+    let texts = map (map g.C.CellText.text) read.cells in
+    let many : length texts ≡ length read.cells = length-map read.cells (map g.C.CellText.text) in (
+      read.cells,
+      false,
+      reads-open read.reads,
+      permitted-ahead settings texts c.first_rows.result (omega (arith, many, read.within)) c.first_rows.ensures.needed,
+      unread settings c.args.config.now texts (g.S.TextSink.sent c.args.sink.now) c.from_residual.result c.in_err-taken.field-0.0
+          (omega (arith, many, read.some)) c.from_residual.ensures.1 c.in_err-taken.ensures.only,
+    )
 
 pub returns : goal.returns
 returns g c =
@@ -33,8 +36,7 @@ returns g c =
     Streams settings c.args.config.now rows o.1 (g.S.TextSink.sent c.args.sink.now) c.print_taken.result (g.S.TextSink.sent c.print_taken.new.sink) in (
       items ++ o.0,
       o.1,
-      o.2,
-      o.3 c.args.rows.now c.in_ok-taken.ensures.ok,
-      subst P (sym texts) o.4,
-      subst Q (sym texts) o.5,
+      o.2 c.args.rows.now c.in_ok-taken.ensures.ok,
+      subst P (sym texts) o.3,
+      subst Q (sym texts) o.4,
     )

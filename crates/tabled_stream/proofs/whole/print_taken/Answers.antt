@@ -36,7 +36,6 @@ returns-then-count-eq0 g c =
     let Q : List (List (List ℕ)) → Type 0 = λ rows. StreamSends settings config rows taken.whole sent sent in (
       [],
       taken.whole,
-      c.args.rows.now,
       reads-no-more (map (λ row. row.items) items) taken.whole c.args.rows.now,
       subst P (sym (append-nil kept)) (permitted-first c.requires.kept),
       subst Q (sym (append-nil kept)) (unshown settings config kept taken.whole sent (unshown-enough taken.whole c.requires.kept none) none),
@@ -58,7 +57,6 @@ returns-in_err-plan g c =
     let P : List (List (List ℕ)) → Type 0 = ArePermitted settings in (
       [],
       taken.whole,
-      c.args.rows.now,
       reads-no-more (map (λ row. row.items) items) taken.whole c.args.rows.now,
       subst P (sym (append-nil kept)) (permitted-first c.requires.kept),
       unplanned config (g.S.TextSink.sent c.args.sink.now) c.from_residual.result c.in_err-plan.field-0.0 c.requires.kept
@@ -96,11 +94,10 @@ returns g c =
     let laid = rw read at c.in_ok-plan.ensures.ok in
     let o = c.put_all.ensures in
     let F : ℕ → ℕ → Type 0 = λ k m. AreFurther settings.rows k taken.whole m o.1 in
-    let further = subst (λ m. F (length kept) m) (sym (length-map o.0 (map text))) (subst (λ k. F k (length o.0)) (sym (texts-long text items)) o.3) in (
+    let further = subst (λ m. F (length kept) m) (sym (length-map o.0 (map text))) (subst (λ k. F k (length o.0)) (sym (texts-long text items)) o.2) in (
       o.0,
       o.1,
-      o.2,
-      o.4,
+      o.3,
       permitted-more c.requires.kept (map (map text) o.0) o.1 further (omega (arith, count, c.if-count-eq0.false)),
-      (rw c.new.ensures.columns at o.5) config laid (c.in_ok-plan.plan.whole ∙ total-laid laid),
+      (rw c.new.ensures.columns at o.4) config laid (c.in_ok-plan.plan.whole ∙ total-laid laid),
     )

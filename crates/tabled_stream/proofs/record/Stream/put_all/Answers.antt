@@ -23,7 +23,6 @@ returns-in_err-put_first g c =
     (ap (take c.up_to.result) value) in (
       [],
       taken.whole,
-      c.args.rows.now,
       none-further settings.rows (length items) taken.whole,
       reads-no-more (map (λ row. row.items) items) taken.whole c.args.rows.now,
       λ config laid total.
@@ -50,12 +49,11 @@ returns g c =
       b.1,
       b.2,
       b.3,
-      b.4,
       λ config laid total.
           let put = c.in_ok-put_first.ensures.printed config (sniffed settings kept) (sniffed-long text items settings c.min-ahead.result first) laid total in
           put-finished c.requires.kept laid c.requires.some total c.requires.in_range c.put_behind.result (map (map text) b.0) b.1 (length items) (length b.0)
-          (sym long) (sym (length-map b.0 (map text))) b.3
-          ((rw c.in_ok-put_first.ensures.same at b.5) settings config (sniffed settings kept) (limited settings.rows kept) (g.S.TextSink.sent c.args.sink.now)
+          (sym long) (sym (length-map b.0 (map text))) b.2
+          ((rw c.in_ok-put_first.ensures.same at b.4) settings config (sniffed settings kept) (limited settings.rows kept) (g.S.TextSink.sent c.args.sink.now)
           (λ going. sniffed-shown settings kept (λ e. going (ap (left_of settings.rows) (sym long) ∙ e))) refl c.requires.filled c.requires.some total
           (rw shown at put)),
     )

@@ -17,7 +17,6 @@ returns-then-taken g c =
     ] in (
       [],
       taken.whole,
-      c.args.rows.now,
       none-further settings.rows (length taken.rows.items) taken.whole,
       reads-no-more (map (λ row. row.items) taken.rows.items) taken.whole c.args.rows.now,
       behind-ending taken.whole why c.put_bottom.ensures.printed,
@@ -32,9 +31,8 @@ returns g c =
     let o = c.put_others.ensures.printed in (
       o.0,
       o.1,
-      o.2,
-      some-further settings.rows c.fewer-left.result (length taken.rows.items) (length o.0) taken.whole o.1 left c.if-taken.false o.3,
-      reads-more (map (λ row. row.items) taken.rows.items) o.0 taken.whole o.1 c.args.rows.now o.2 c.if-taken.false o.4,
+      some-further settings.rows c.fewer-left.result (length taken.rows.items) (length o.0) taken.whole o.1 left c.if-taken.false o.2,
+      reads-more (map (λ row. row.items) taken.rows.items) o.0 taken.whole o.1 c.args.rows.now c.put_others.new.rows c.if-taken.false o.3,
       behind-more o.1 (map (map g.C.CellText.text) o.0) (rw left at (c.is_none_left.ensures.going c.if-is_none_left.false))
-          (rw (left, c.unwrap_or-lines.ensures) at o.5),
+          (rw (left, c.unwrap_or-lines.ensures) at o.4),
     )

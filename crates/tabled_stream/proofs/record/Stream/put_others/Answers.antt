@@ -13,10 +13,9 @@ returns-in_err-put_rest g c =
         e.0,
         false,
         e.1,
-        e.2,
-        reads-open e.3,
+        reads-open e.2,
         finishes-halting c.args.limit c.args.lines c.args.total false (map (map g.C.CellText.text) e.0) c.from_residual.result c.in_err-put_rest.field-0.0
-            c.from_residual.ensures.1 e.4,
+            c.from_residual.ensures.1 e.3,
       );
     }
 
@@ -29,7 +28,6 @@ returns g c =
       printed = (
         o.0,
         whole,
-        c.put_rest.new.rows,
         limited-permitted c.args.limit (length o.0) whole o.1,
         o.2,
         finishes-ending c.args.limit c.args.lines c.args.total whole (map (map g.C.CellText.text) o.0) c.put_bottom.result

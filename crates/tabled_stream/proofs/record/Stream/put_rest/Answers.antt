@@ -1,7 +1,7 @@
 use Rattle.std.proofs.Common.{◌≡◌, ◌+◌, ◌++◌, ◌∷◌, [], length, map, refl, sym, ap, ◌∙◌, arith, length-append}
 use Rattle.std.proofs.lemmas.List.{map-append}
 use Rattle.tabled_views.proofs.RowsRead.{reads-both, reads-none}
-use Rattle.tabled_stream.proofs.RowsAfter.{err-as, left-first, left-next, left-permitted, more-halts, more-next, more-none, more-refused, permitted-next}
+use Rattle.tabled_stream.proofs.RowsAfter.{err-as, left-first, left-next, more-halts, more-next, more-none, more-refused, permitted-next}
 use Rattle.tabled_stream.proofs.record.Stream.put_rest.Goals as goal
 
 pub rows-init : goal.rows-init
@@ -43,8 +43,17 @@ pub returns-in_err-cells-clause-err : goal.returns-in_err-cells-clause-err
 returns-in_err-cells-clause-err g c =
     let i = c.rows.invariant in
     let e = c.in_err-cells.field-0.0 in
-    err-as c.from_residual.result e _ c.from_residual.ensures.1
-    (i.more, c.rows.rows, left-permitted c.args.limit c.rows.left (length i.more) i.left, i.reads, more-refused e i.puts c.in_err-cells.ensures.only)
+    let walked = c.in_err-cells.ensures.err in
+    let row = map g.C.CellText.text walked.0 in
+    let longer : length (i.more ++ walked.0 ∷ []) ≡ length i.more + 1 = omega (arith, length-append i.more (walked.0 ∷ [])) in
+    let texts : map (map g.C.CellText.text) (i.more ++ walked.0 ∷ []) ≡ map (map g.C.CellText.text) i.more ++ row ∷ [] =
+    map-append (map g.C.CellText.text) i.more (walked.0 ∷ []) in
+    err-as c.from_residual.result e _ c.from_residual.ensures.1 (
+      i.more ++ walked.0 ∷ [],
+      rw longer (permitted-next c.args.limit c.rows.left (length i.more) i.left (c.is_none_left.ensures.going c.if-is_none_left.false)),
+      reads-both i.reads walked.1,
+      rw texts (more-refused row e i.puts c.in_err-cells.ensures.only),
+    )
 
 pub returns-in_err-put_next-in-Some-clause-err : goal.returns-in_err-put_next-in-Some-clause-err
 returns-in_err-put_next-in-Some-clause-err g c =
@@ -59,7 +68,6 @@ returns-in_err-put_next-in-Some-clause-err g c =
     ∙ ap (λ r. map (map g.C.CellText.text) i.more ++ map g.C.CellText.text r ∷ []) (sym c.as_slice.ensures.value) in
     err-as c.from_residual-in_err-put_next-in-Some.result e _ c.from_residual-in_err-put_next-in-Some.ensures.1 (
       i.more ++ cells.items ∷ [],
-      c.next_cells.new.rows,
       rw longer (permitted-next c.args.limit c.rows.left (length i.more) i.left (c.is_none_left.ensures.going c.if-is_none_left.false)),
       reads-both i.reads ok,
       rw texts (more-halts row c.put_next.new.self.first c.put_next.new.self.lines.begun (g.S.TextSink.sent c.put_next.new.sink) e i.puts
