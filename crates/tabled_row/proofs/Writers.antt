@@ -152,6 +152,7 @@ stopped_writer na nb ca cb cf (Some byte) text k p = record {
 stopped-front : (na nb : ℕ) (ca cb cf : Option (List ℕ)) (failed_at : Option ℕ) (text : List ℕ) (k : nb ≡ na → cf ≡ cb)
     (p : Stops (named_sent na ca None) Writer (named_sent nb cb failed_at) text)
     → (stopped_writer na nb ca cb cf failed_at text k p).front ≡ p.front
+unfolding stopped_writer
 stopped-front na nb ca cb cf None text k p =
     ⊎_elim (λ h. absurd (omega arith)) (λ h. absurd (omega arith)) p.cause
 stopped-front na nb ca cb cf (Some byte) text k p = refl
