@@ -26,7 +26,7 @@ stops-so : {a b a' b' : Sent} {e : TableError} (settings : Settings) (config : C
     → LeavesSo a b e a' b' → StreamStops settings config rows whole a e b → StreamStops settings config rows whole a' e b'
 stops-so {a} {b} {a'} {b'} {e} settings config rows whole so h =
     let early : StopsEarly settings config rows whole a e b → StopsEarly settings config rows whole a' e b' =
-    λ p. record { same = so.same (⊎_elim (λ c. not_range e c.0) (not_memory e) p.cause) p.same; cause = p.cause } in
+    λ p. record { same = so.same (⊎_elim (λ c. not_range e c.0) (λ c. not_memory e c.0) p.cause) p.same; cause = p.cause } in
     let at_row : StopsAtRow settings config rows whole a e b → StopsAtRow settings config rows whole a' e b' =
     λ p. record {
       shown = p.shown;
@@ -35,7 +35,7 @@ stops-so {a} {b} {a'} {b'} {e} settings config rows whole so h =
       begun = p.begun;
       taken = p.taken;
       cause = p.cause;
-      sends = so.sends (⊎_elim (λ c. not_range e c.0) (not_memory e) p.cause) _ p.sends;
+      sends = so.sends (⊎_elim (λ c. not_range e c.0) (λ c. not_memory e c.0) p.cause) _ p.sends;
     } in
     let in_rows : StopsInRows settings config rows whole a e b → StopsInRows settings config rows whole a' e b' =
     λ p. record {
