@@ -3,7 +3,6 @@
 
 use std::alloc::Global;
 use tabled::TableError;
-use tabled::grid::dimension::ConstSize;
 use tabled::settings::Style;
 use tabled::tables::{CompactTable, IterTable};
 
@@ -49,19 +48,19 @@ pub fn fitting(alloc: Global) -> Result<String, TableError> {
 /// A width for each column.
 pub fn compact(alloc: Global) -> Result<String, TableError> {
     let table = CompactTable::new(CITIES).columns(2);
-    let table = table.width(ConstSize::List([7, 9]));
+    let table = table.width([7, 9]);
     table.with(Style::modern())?.to_string(alloc)
 }
 
 /// Rows are skipped, and then limited.
 pub fn window(alloc: Global) -> Result<String, TableError> {
     let table = CompactTable::new(CITIES).columns(2).skip(1).rows(1);
-    let table = table.width(ConstSize::List([7, 9]));
+    let table = table.width([7, 9]);
     table.to_string(alloc)
 }
 
 /// One width for all columns. A text wider than its column is whole.
 pub fn overfull(alloc: Global) -> Result<String, TableError> {
     let table = CompactTable::new(CITIES).columns(2).rows(2);
-    table.width(ConstSize::from(6)).to_string(alloc)
+    table.width(6).to_string(alloc)
 }

@@ -11,11 +11,13 @@ mod printing;
 mod row;
 mod rows;
 mod rules;
+mod sizes;
 mod table;
 mod total;
 mod window;
 
 pub use fitting::CellRows;
 pub use print::print_compact;
+pub use sizes::{SetHeight, SetWidth};
 pub use table::CompactTable;
 pub use window::Window;

@@ -6,6 +6,7 @@ ghost use Rattle.tabled_compact.specs.Fitting.{IsTableOf};
 ghost use Rattle.tabled_compact.specs.NewTable.{IsNewConfig};
 
 use crate::fitting::CellRows;
+use crate::sizes::{SetHeight, SetWidth};
 use tabled_base::IntoRecords;
 use tabled_config::{AlignmentHorizontal, CompactConfig, Indent, Sides, Style};
 use tabled_size::{ConstDimension, ConstSize};
@@ -38,24 +39,6 @@ fn new_config() -> CompactConfig
         .set_borders(Style::ascii().get_borders())
 }
 
-fn width_of<const COLUMNS: usize, const ROWS: usize>(
-    sizes: ConstDimension<COLUMNS, ROWS>,
-) -> ConstSize<COLUMNS>
-    ensures { result ≡ sizes.entry.width }
-{
-    let both: (ConstSize<COLUMNS>, ConstSize<ROWS>) = sizes.into();
-    both.0
-}
-
-fn height_of<const COLUMNS: usize, const ROWS: usize>(
-    sizes: ConstDimension<COLUMNS, ROWS>,
-) -> ConstSize<ROWS>
-    ensures { result ≡ sizes.entry.height }
-{
-    let both: (ConstSize<COLUMNS>, ConstSize<ROWS>) = sizes.into();
-    both.1
-}
-
 impl<I> CompactTable<I, ConstDimension<0, 0>> {
     /// A table of rows, over no column yet. Each column takes two columns of text, which is its padding; `width` gives
     /// more.
@@ -77,57 +60,57 @@ impl<I> CompactTable<I, ConstDimension<0, 0>> {
     }
 }
 
-impl<I, const ROWS: usize, const COLUMNS: usize> CompactTable<I, ConstDimension<COLUMNS, ROWS>> {
-    /// Sets the height of each row: one number for all, or an array of one each. Printing doesn't read it.
-    pub fn height<const COUNT: usize>(
-        self,
-        height: ConstSize<COUNT>,
-    ) -> CompactTable<I, ConstDimension<COLUMNS, COUNT>>
-        ensures width { result.dimension.width ≡ self.dimension.width }
-        ensures height { result.dimension.height ≡ height.entry }
-        ensures records { result.records ≡ self.records }
-        ensures config { result.config ≡ self.config }
-        ensures columns { result.columns ≡ self.columns }
-        ensures limit { result.limit ≡ self.limit }
-        ensures skip { result.skip ≡ self.skip }
-    {
-        CompactTable {
-            records: self.records,
-            config: self.config,
-            dimension: ConstDimension::new(width_of(self.dimension), height),
-            columns: self.columns,
-            limit: self.limit,
-            skip: self.skip,
-        }
-    }
-
-    /// Sets the width of each column, padding included: one number for all, or an array of one each.
-    pub fn width<const COUNT: usize>(
-        self,
-        width: ConstSize<COUNT>,
-    ) -> CompactTable<I, ConstDimension<COUNT, ROWS>>
-        ensures width { result.dimension.width ≡ width.entry }
-        ensures height { result.dimension.height ≡ self.dimension.height }
-        ensures records { result.records ≡ self.records }
-        ensures config { result.config ≡ self.config }
-        ensures columns { result.columns ≡ self.columns }
-        ensures limit { result.limit ≡ self.limit }
-        ensures skip { result.skip ≡ self.skip }
-    {
-        CompactTable {
-            records: self.records,
-            config: self.config,
-            dimension: ConstDimension::new(width, height_of(self.dimension)),
-            columns: self.columns,
-            limit: self.limit,
-            skip: self.skip,
-        }
-    }
-}
-
 impl<I, D> CompactTable<I, D> {
     ghost use Rattle.tabled_compact.specs.contracts.table.CompactTable.{the_row};
     ghost use Rattle.tabled_config.specs.contracts.compact.CompactConfig.{the_row as config_row};
+
+    /// Sets the height of each row: one number for all, an array of one each, or a `ConstSize`.
+    /// Printing doesn't read it.
+    pub fn height<S, const COUNT: usize>(self, height: S) -> CompactTable<I, D::High>
+    where
+        D: SetHeight<S, COUNT>,
+        ensures height { D.heightened self.dimension height result.dimension }
+        ensures records { result.records ≡ self.records }
+        ensures config { result.config ≡ self.config }
+        ensures columns { result.columns ≡ self.columns }
+        ensures limit { result.limit ≡ self.limit }
+        ensures skip { result.skip ≡ self.skip }
+    {
+        CompactTable {
+            records: self.records,
+            config: self.config,
+            dimension: self.dimension.set_height(height),
+            columns: self.columns,
+            limit: self.limit,
+            skip: self.skip,
+        }
+    }
+
+    /// Sets the width of each column, padding included: one number for all, an array of one each, or
+    /// a `ConstSize`.
+    ///
+    /// ```rust
+    /// CompactTable::new(CITIES).columns(2).width(6)
+    /// ```
+    pub fn width<S, const COUNT: usize>(self, width: S) -> CompactTable<I, D::Wide>
+    where
+        D: SetWidth<S, COUNT>,
+        ensures width { D.widened self.dimension width result.dimension }
+        ensures records { result.records ≡ self.records }
+        ensures config { result.config ≡ self.config }
+        ensures columns { result.columns ≡ self.columns }
+        ensures limit { result.limit ≡ self.limit }
+        ensures skip { result.skip ≡ self.skip }
+    {
+        CompactTable {
+            records: self.records,
+            config: self.config,
+            dimension: self.dimension.set_width(width),
+            columns: self.columns,
+            limit: self.limit,
+            skip: self.skip,
+        }
+    }
 
     /// A table of rows, over no column yet, whose widths a dimension answers. Nothing is estimated.
     pub fn with_dimension(records: I, dimension: D) -> Self

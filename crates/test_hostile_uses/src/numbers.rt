@@ -4,7 +4,6 @@ use crate::meagre::{End, Meagre};
 use crate::sides::{new_config, set_sides};
 use std::alloc::Global;
 use tabled::grid::config::{CompactConfig, CompactMultilineConfig};
-use tabled::grid::dimension::ConstSize;
 use tabled::iter::LayoutIterator;
 use tabled::tables::{CompactTable, ExtendedTable, IterTable, PoolTable};
 use tabled::{IoSink, Table, TableError, TextSink};
@@ -125,7 +124,7 @@ fn try_compact(alloc: Global, config: CompactConfig, numbers: &str) -> Result<St
     let (skip, rows) = (words.number()?, words.number()?);
     let table = CompactTable::new(PAIRS)
         .columns(columns)
-        .width::<0>(ConstSize::Value(width))
+        .width(width)
         .skip(skip)
         .rows(rows);
     let table = table.with(config)?;

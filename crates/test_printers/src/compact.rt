@@ -4,7 +4,6 @@ use crate::records::assert_text;
 use std::test::Fail;
 use tabled_compact::CompactTable;
 use tabled_config::Style;
-use tabled_size::ConstSize;
 
 const SYSTEMS: [[&str; 4]; 3] = [
     ["FreeBSD", "1993", "William and Lynne Jolitz", "?"],
@@ -34,9 +33,7 @@ fn arrays_are_printed_in_widths_that_fit(rt: HostRuntime) -> Result<(), Fail> {
         table.to_string(rt.alloc()),
         " OpenBSD     | 1995 \n\x20HardenedBSD | 2014 ",
     )?;
-    let table = CompactTable::new(SYSTEMS)
-        .columns(4)
-        .width(ConstSize::from(5));
+    let table = CompactTable::new(SYSTEMS).columns(4).height(2).width(5);
     assert_text(&rt, table.to_string(rt.alloc()), FIVE_WIDE)
 }
 

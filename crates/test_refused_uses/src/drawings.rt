@@ -167,7 +167,7 @@ fn compact_to_writer() -> Result<Found, TableError> {
     let mut buffer = io::Cursor::new([0u8; 128]);
     CompactTable::new(PAIRS)
         .columns(2)
-        .width(ConstSize::List([3, 2]))
+        .width([3, 2])
         .with(CompactConfig::new())?
         .build(&mut buffer)?;
     Ok(whole_if(holds_only(&buffer, BARE)))

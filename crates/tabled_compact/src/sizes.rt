@@ -1,0 +1,86 @@
+//! Widths and heights that are set: by one number for all, by an array of one each, or by a `ConstSize`.
+ghost use Rattle.std.specs.Prelude.{◌≡◌};
+
+use tabled_size::{ConstDimension, ConstSize};
+
+/// A dimension whose widths can be set by a value of type `S`, which is a `ConstSize<COUNT>`.
+///
+/// It is a trait of the dimension so that `CompactTable::width` takes whatever is `Into<ConstSize>`.
+pub trait SetWidth<S, const COUNT: usize> {
+    /// The dimension with these widths.
+    type Wide;
+
+    ghost widened: { Self → S → Self.Wide → Type 0 };
+
+    /// The same heights, and these widths.
+    fn set_width(self, width: S) -> Self::Wide
+        ensures { widened self width result };
+}
+
+/// A dimension whose heights can be set by a value of type `S`, which is a `ConstSize<COUNT>`.
+///
+/// It is a trait of the dimension so that `CompactTable::height` takes whatever is `Into<ConstSize>`.
+pub trait SetHeight<S, const COUNT: usize> {
+    /// The dimension with these heights.
+    type High;
+
+    ghost heightened: { Self → S → Self.High → Type 0 };
+
+    /// The same widths, and these heights.
+    fn set_height(self, height: S) -> Self::High
+        ensures { heightened self height result };
+}
+
+fn width_of<const COLUMNS: usize, const ROWS: usize>(
+    sizes: ConstDimension<COLUMNS, ROWS>,
+) -> ConstSize<COLUMNS>
+    ensures { result ≡ sizes.entry.width }
+{
+    let both: (ConstSize<COLUMNS>, ConstSize<ROWS>) = sizes.into();
+    both.0
+}
+
+fn height_of<const COLUMNS: usize, const ROWS: usize>(
+    sizes: ConstDimension<COLUMNS, ROWS>,
+) -> ConstSize<ROWS>
+    ensures { result ≡ sizes.entry.height }
+{
+    let both: (ConstSize<COLUMNS>, ConstSize<ROWS>) = sizes.into();
+    both.1
+}
+
+fn size_from<S: Into<ConstSize<COUNT>>, const COUNT: usize>(size: S) -> ConstSize<COUNT>
+    ensures { S.converts size result }
+{
+    size.into()
+}
+
+impl<
+    S: Into<ConstSize<COUNT>>,
+    const COUNT: usize,
+    const COLUMNS: usize,
+    const ROWS: usize,
+> SetWidth<S, COUNT> for ConstDimension<COLUMNS, ROWS> {
+    type Wide = ConstDimension<COUNT, ROWS>;
+
+    ghost widened = { λ old width new. S.converts width new.width × (new.height ≡ old.height) };
+
+    fn set_width(self, width: S) -> ConstDimension<COUNT, ROWS> {
+        ConstDimension::new(size_from(width), height_of(self))
+    }
+}
+
+impl<
+    S: Into<ConstSize<COUNT>>,
+    const COUNT: usize,
+    const COLUMNS: usize,
+    const ROWS: usize,
+> SetHeight<S, COUNT> for ConstDimension<COLUMNS, ROWS> {
+    type High = ConstDimension<COLUMNS, COUNT>;
+
+    ghost heightened = { λ old height new. S.converts height new.height × (new.width ≡ old.width) };
+
+    fn set_height(self, height: S) -> ConstDimension<COLUMNS, COUNT> {
+        ConstDimension::new(width_of(self), size_from(height))
+    }
+}
