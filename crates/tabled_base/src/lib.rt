@@ -1,5 +1,16 @@
-//! What a table is made of: texts that were measured once, rectangular records of them, and the
-//! refusals of all calls.
+//! What a table is made of: strings with their measures, rectangular records of them, the traits
+//! of records and options, and the errors of all calls.
+//!
+//! - `text.rt`: `Text`, a string that keeps its width and its number of lines.
+//! - `short_or.rt`: short strings, stored inline.
+//! - `vec_records.rt`: `VecRecords`, rows of equal length in vectors.
+//! - `builder.rt`: `Builder`, which makes records row by row.
+//! - `records.rt`: the traits of records: `Records`, `ExactRecords`, `PeekableRecords`, `RecordsMut`.
+//! - `into_records.rt`: `IntoRecords`, for everything that gives rows.
+//! - `position.rt`: `Position`, a row and a column, and `Entity`, what a setting is for.
+//! - `objects.rt`, `segment.rt`: selections of rows, columns and cells.
+//! - `options.rt`: `TableOption` and `CellOption`.
+//! - `error.rt`: `TableError`.
 #![tactic(auto)]
 
 mod builder;

@@ -1,4 +1,14 @@
-//! Tables of single lines that are printed while their rows are walked: no row is kept, and printing takes no memory.
+//! `CompactTable`: tables of single lines, printed while their rows are read. No row is kept, and
+//! printing allocates nothing.
+//!
+//! - `table.rt`: `CompactTable` and its settings; `applying.rt`: its options.
+//! - `sizes.rt`: widths and heights that are set; `fitting.rt`: widths that fit an array of rows.
+//! - `window.rt`: which rows of a source are shown.
+//! - `printing.rt`: `fmt`, `build` and `to_string`; `print.rt`: `print_compact`, which checks the
+//!   columns before the first byte.
+//! - `columns.rt`, `total.rt`: the columns, and the width of a whole line.
+//! - `rows.rt`, `lines.rt`, `row.rt`, `cell.rt`: rows, their lines, the cells of a line, a text.
+//! - `rules.rt`: horizontal lines.
 #![tactic(auto)]
 
 mod applying;

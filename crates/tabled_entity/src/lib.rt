@@ -1,4 +1,13 @@
-//! Values by entity: one setting for the whole of a table, for rows, for columns and for cells.
+//! One setting of a table: for all of it, for rows, for columns and for cells. The last one that
+//! covers a cell wins.
+//!
+//! - `entity_map.rt`: `EntityMap`, the setting, with its setters and lookups.
+//! - `places.rt`: where the last change for each row, column and cell is in the list of changes.
+//! - `series.rt`: values that were set for one cell or column after another, found by index.
+//! - `row_list.rt`: the same for rows.
+//! - `told_values.rt`: the values of a row's first columns, where each is found by its index.
+//! - `row_values.rt`: `RowValues`, an iterator over the values of a row's cells.
+//! - `row_places.rt`, `ahead.rt`: the changes that this iterator has yet to reach.
 #![tactic(auto)]
 
 mod ahead;

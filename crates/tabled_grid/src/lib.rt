@@ -1,7 +1,17 @@
-//! The picture of a table whose sizes are tested first, written piece by piece to a sink.
+//! The picture of a table whose sizes are checked first, written piece by piece to a sink.
 //!
-//! Printing takes no memory where the sizes are given. Rows and horizontal lines go out by the calls of `tabled_lines`.
-//! The sinks of `tabled_row` stand here too.
+//! Printing allocates nothing where the sizes are given.
+//!
+//! - `grid.rt`: `Grid`, records with their settings and a dimension.
+//! - `checks.rt`: whether the sizes are there and hold the cells, in the order of the errors.
+//! - `print.rt`: `print_grid`, which checks a grid and prints it.
+//! - `standing.rt`: printing records with stored sizes or estimates.
+//! - `picture.rt`: all lines, one below the other.
+//! - `parts.rt`: the columns and rows of a grid, as lines ask for them.
+//! - `column_styles.rt`, `column_aims.rt`, `few_aims.rt`: what is looked up once for the rows whose
+//!   settings are the same.
+//! - `plain.rt`, `apart.rt`: whether columns of the texts add up, so that all lines are equally wide.
+//! - `laws.rt`: facts of pictures.
 #![tactic(auto)]
 
 mod apart;

@@ -1,4 +1,15 @@
-//! The sizes of a table: what its texts ask for, what the whole takes, and the dimensions that answer them.
+//! The sizes of a table: the widths and heights that its texts need, its totals, and the dimensions
+//! that store them.
+//!
+//! - `dimension.rt`: `Dimension` and `Estimate`, the traits of sizes.
+//! - `complete_dimension.rt`: `CompleteDimension`, stored sizes or none.
+//! - `const_dimension.rt`, `static_dimension.rt`, `zero_dimension.rt`, `pool_table_dimension.rt`: the
+//!   other dimensions.
+//! - `estimate.rt`: the widest cell of each column and the highest of each row; `added.rt`: what
+//!   padding adds to them; `estimating.rt`: estimates for what isn't stored.
+//! - `total.rt`: the total of given sizes, with borders and margins.
+//! - `standing.rt`: totals and checks of the sizes that count: stored ones, else estimates.
+//! - `estimated_total.rt`: totals of estimates, without a list of sizes.
 #![tactic(auto)]
 
 mod added;
