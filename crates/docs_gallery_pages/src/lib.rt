@@ -1,4 +1,5 @@
-//! The pictures of the gallery: each is made by a function of a few lines, which the page shows beside it.
+//! The pictures of the gallery: each is made by a function of a few lines, which the page shows
+//! beside it.
 #![tactic(auto)]
 
 pub mod alignments;

@@ -6,7 +6,8 @@
 //! Table::nohead(alloc, rows)?.to_text()
 //! ```
 //!
-//! Each module below says what it is for and has an example of lines that the programs `docs_tour` and `docs_gallery` run.
+//! Each module below says what it is for and has an example of lines that the programs `docs_tour`
+//! and `docs_gallery` run.
 #![tactic(auto)]
 
 mod block_sink;
@@ -29,8 +30,9 @@ pub use tabled_row::WriterSink;
 pub use tabled_table::Table;
 pub use tabled_value::Tabled;
 
-/// Facts of texts, options and tables that a caller can rest on: each is the contract of a function that does nothing. It is called
-/// where its fact is needed, here that a line takes no more columns than its characters count.
+/// Facts of texts, options and tables that a caller can rest on: each is the contract of a function
+/// that does nothing. It is called where its fact is needed, here that a line takes no more columns
+/// than its characters count.
 ///
 /// ```rust
 /// pub fn counted(line: &str) -> usize
@@ -57,8 +59,8 @@ pub mod laws {
     };
 }
 
-/// The tables: one that keeps its rows, one that is printed as its rows come, one of single lines in no memory, one that shows
-/// records line by line, and one of boxes in boxes.
+/// The tables: one that keeps its rows, one that is printed as its rows come, one of single lines
+/// in no memory, one that shows records line by line, and one of boxes in boxes.
 ///
 /// ```rust
 /// let mut table = IterTable::new(CITIES);
@@ -119,7 +121,8 @@ pub mod settings {
         pub use tabled_set::{Max, Measurement, Min, Percent};
     }
 
-    /// Parts of a table that are chosen: a row, a column, a cell, the whole, or each cell of some rows and columns.
+    /// Parts of a table that are chosen: a row, a column, a cell, the whole, or each cell of some
+    /// rows and columns.
     ///
     /// ```rust
     /// table.modify(Segment::new(1.., ..1), marks())?;
@@ -143,7 +146,8 @@ pub mod settings {
         pub use tabled_config::{HorizontalLine, Style};
     }
 
-    /// The orders in which sizes are shrunk and grown, and what is told of the lists that they leave.
+    /// The orders in which sizes are shrunk and grown, and what is told of the lists that they
+    /// leave.
     ///
     /// ```rust
     /// table.with(Width::truncate(52).priority(Priority::left()))?;
@@ -210,7 +214,8 @@ pub mod settings {
     }
 }
 
-/// Lower layers, by the crate's names: records, settings and sizes, of which a picture is printed without a table.
+/// Lower layers, by the crate's names: records, settings and sizes, of which a picture is printed
+/// without a table.
 ///
 /// ```rust
 /// let mut text = String::new(alloc);

@@ -5,7 +5,8 @@
 //! - `short_or.rt`: short strings, stored inline.
 //! - `vec_records.rt`: `VecRecords`, rows of equal length in vectors.
 //! - `builder.rt`: `Builder`, which makes records row by row.
-//! - `records.rt`: the traits of records: `Records`, `ExactRecords`, `PeekableRecords`, `RecordsMut`.
+//! - `records.rt`: the traits of records: `Records`, `ExactRecords`, `PeekableRecords`,
+//!   `RecordsMut`.
 //! - `into_records.rt`: `IntoRecords`, for everything that gives rows.
 //! - `position.rt`: `Position`, a row and a column, and `Entity`, what a setting is for.
 //! - `objects.rt`, `segment.rt`: selections of rows, columns and cells.

@@ -1,5 +1,5 @@
-//! What stands around cells, as plain values: the characters of a frame and which of its lines are there, horizontal
-//! lines by index, and what is kept free on the four sides of a cell or a table.
+//! What stands around cells, as plain values: the characters of a frame and which of its lines are
+//! there, horizontal lines by index, and what is kept free on the four sides of a cell or a table.
 #![tactic(auto)]
 
 mod borders;

@@ -1,7 +1,8 @@
 //! Trees of texts, and the boxes that they are drawn as.
 //!
-//! A text takes its columns and lines and its padding. Boxes stand side by side or below each other, with lines
-//! between them, and fill the rectangle that they are given: each place of it belongs to exactly one text or line.
+//! A text takes its columns and lines and its padding. Boxes stand side by side or below each
+//! other, with lines between them, and fill the rectangle that they are given: each place of it
+//! belongs to exactly one text or line.
 #![tactic(auto)]
 
 mod copying;

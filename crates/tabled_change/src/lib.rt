@@ -1,4 +1,5 @@
-//! Texts of cells that are changed: rules for one text, and the walk that applies a rule to the cells of a table.
+//! Texts of cells that are changed: rules for one text, and the walk that applies a rule to the
+//! cells of a table.
 #![tactic(auto)]
 
 mod changing;

@@ -1,5 +1,5 @@
-//! What was set: styles, alignment and colours as plain values, and the configurations of tables, which answer for each
-//! place what stands there.
+//! What was set: styles, alignment and colours as plain values, and the configurations of tables,
+//! which answer for each place what stands there.
 #![tactic(auto)]
 
 mod alignment;

@@ -1,6 +1,7 @@
 //! `ExtendedTable`: one record below the other, with a line for each field.
 //!
-//! - `extended_table.rt`: `ExtendedTable`; `making.rt`: tables of values or rows; `copying.rt`: copies.
+//! - `extended_table.rt`: `ExtendedTable`; `making.rt`: tables of values or rows; `copying.rt`:
+//!   copies.
 //! - `printing.rt`: the lines of records.
 //! - `template.rt`, `fn_template.rt`, `label_fn.rt`, `titles.rt`: the header of a record.
 //! - `truncating.rt`, `rooms.rt`: records truncated to a width, and what it leaves for each text.

@@ -10,7 +10,8 @@
 //! - `parts.rt`: the columns and rows of a grid, as lines ask for them.
 //! - `column_styles.rt`, `column_aims.rt`, `few_aims.rt`: what is looked up once for the rows whose
 //!   settings are the same.
-//! - `plain.rt`, `apart.rt`: whether columns of the texts add up, so that all lines are equally wide.
+//! - `plain.rt`, `apart.rt`: whether columns of the texts add up, so that all lines are equally
+//!   wide.
 //! - `laws.rt`: facts of pictures.
 #![tactic(auto)]
 

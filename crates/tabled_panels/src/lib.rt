@@ -1,7 +1,7 @@
 //! Texts in boxes, drawn with the marks of their colours, and boxes that are joined.
 //!
-//! The block of a text, a run, a margin and the character of a line stand here, each in its colour. In a tree with a
-//! text of no column drawn boxes are joined, and hand on where their lines meet.
+//! The block of a text, a run, a margin and the character of a line stand here, each in its colour.
+//! In a tree with a text of no column drawn boxes are joined, and hand on where their lines meet.
 #![tactic(auto)]
 
 mod block;

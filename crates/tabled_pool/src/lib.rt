@@ -1,4 +1,5 @@
-//! Tables whose boxes stand in one another, drawn place by place with the characters of the lines that meet.
+//! Tables whose boxes stand in one another, drawn place by place with the characters of the lines
+//! that meet.
 #![tactic(auto)]
 
 mod apart;

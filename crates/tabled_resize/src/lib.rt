@@ -1,5 +1,5 @@
-//! Whole tables that get a total of columns or lines: the sizes that a priority makes of theirs, and the texts that are
-//! changed for these.
+//! Whole tables that get a total of columns or lines: the sizes that a priority makes of theirs,
+//! and the texts that are changed for these.
 #![tactic(auto)]
 
 mod columns;

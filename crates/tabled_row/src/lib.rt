@@ -1,7 +1,8 @@
 //! A line of a row of cells, and a horizontal line between rows, written piece by piece to a sink.
 //!
-//! No line is built, and each piece goes out as it comes, so that printing takes no memory. A row is anything that answers the blocks
-//! of its cells: the rows of a table in memory and those of a stream print by the same calls.
+//! No line is built, and each piece goes out as it comes, so that printing takes no memory. A row
+//! is anything that answers the blocks of its cells: the rows of a table in memory and those of a
+//! stream print by the same calls.
 #![tactic(auto)]
 
 mod aim;

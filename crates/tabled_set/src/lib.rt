@@ -1,4 +1,5 @@
-//! What is set of a table: measurements, lists of sizes, and the options that give texts, cells and whole tables some columns or lines.
+//! What is set of a table: measurements, lists of sizes, and the options that give texts, cells and
+//! whole tables some columns or lines.
 #![tactic(auto)]
 
 mod cell_height_increase;

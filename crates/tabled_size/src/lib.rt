@@ -3,8 +3,8 @@
 //!
 //! - `dimension.rt`: `Dimension` and `Estimate`, the traits of sizes.
 //! - `complete_dimension.rt`: `CompleteDimension`, stored sizes or none.
-//! - `const_dimension.rt`, `static_dimension.rt`, `zero_dimension.rt`, `pool_table_dimension.rt`: the
-//!   other dimensions.
+//! - `const_dimension.rt`, `static_dimension.rt`, `zero_dimension.rt`, `pool_table_dimension.rt`:
+//!   the other dimensions.
 //! - `estimate.rt`: the widest cell of each column and the highest of each row; `added.rt`: what
 //!   padding adds to them; `estimating.rt`: estimates for what isn't stored.
 //! - `total.rt`: the total of given sizes, with borders and margins.

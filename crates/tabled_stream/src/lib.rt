@@ -1,7 +1,7 @@
 //! A table that is printed row by row as a source gives its rows.
 //!
-//! Only the rows that its columns are measured by are kept; each later row is taken as it is printed. Every cell is cut to the
-//! columns that its column leaves to texts.
+//! Only the rows that its columns are measured by are kept; each later row is taken as it is
+//! printed. Every cell is cut to the columns that its column leaves to texts.
 #![tactic(auto)]
 
 mod applying;

@@ -2,8 +2,8 @@
 //!
 //! A column is what `unicode_width` counts, by Unicode Standard Annex 11. A text has one line more
 //! than line feeds, and is as wide as its widest line. Cutting and wrapping count each character by
-//! itself, and 1 at least, so that they never look ahead; words that are kept are measured as a line.
-//! For additive texts, as plain ones are, both measures are the same.
+//! itself, and 1 at least, so that they never look ahead; words that are kept are measured as a
+//! line. For additive texts, as plain ones are, both measures are the same.
 #![tactic(auto)]
 
 mod character;

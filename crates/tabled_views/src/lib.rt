@@ -1,5 +1,5 @@
-//! Views of records: fewer rows, fewer columns, cut cells, rows that were read ahead; records of an iterator, and
-//! of empty cells.
+//! Views of records: fewer rows, fewer columns, cut cells, rows that were read ahead; records of an
+//! iterator, and of empty cells.
 #![tactic(auto)]
 
 mod buffer;

@@ -1,5 +1,6 @@
-//! Tests of streams, compact tables, boxes and records that aren't data of `test_cases`: how far a source is read, a sink's own
-//! refusals, values and headers of a caller's own, arrays, copies and deep trees. All code here is for tests.
+//! Tests of streams, compact tables, boxes and records that aren't data of `test_cases`: how far a
+//! source is read, a sink's own refusals, values and headers of a caller's own, arrays, copies and
+//! deep trees. All code here is for tests.
 #![tactic(auto)]
 
 #[cfg(test)]

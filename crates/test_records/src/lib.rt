@@ -1,5 +1,6 @@
-//! Tests of texts, records, sizes and priorities that aren't data of `test_cases`, nor told by a clause: worked examples, slow plain
-//! references, and options and measures of a caller's own on single cells. Nothing stands here outside of tests.
+//! Tests of texts, records, sizes and priorities that aren't data of `test_cases`, nor told by a
+//! clause: worked examples, slow plain references, and options and measures of a caller's own on
+//! single cells. Nothing stands here outside of tests.
 #![tactic(auto)]
 
 #[cfg(test)]

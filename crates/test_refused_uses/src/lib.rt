@@ -1,5 +1,6 @@
-//! Calls that are made where a growth may be refused: each is made once, in code, and what became of it is told. The printers of one
-//! small table stand here too, with their pictures: prints to writers that stop anywhere use them as well.
+//! Calls that are made where a growth may be refused: each is made once, in code, and what became
+//! of it is told. The printers of one small table stand here too, with their pictures: prints to
+//! writers that stop anywhere use them as well.
 #![tactic(auto)]
 
 mod calls;

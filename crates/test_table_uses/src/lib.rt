@@ -1,6 +1,6 @@
-//! What the tests of whole tables do with them: tables are made, set, measured, sized to a total, and printed. Each function
-//! answers plain values, as texts and numbers, so that the tests above name no table: a crate of tests sees all of a type, and
-//! this one its face.
+//! What the tests of whole tables do with them: tables are made, set, measured, sized to a total,
+//! and printed. Each function answers plain values, as texts and numbers, so that the tests above
+//! name no table: a crate of tests sees all of a type, and this one its face.
 #![tactic(auto)]
 
 mod applying;

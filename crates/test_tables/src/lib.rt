@@ -1,5 +1,6 @@
-//! Tests of whole tables that aren't seen beside their pictures in `test_cases`: tables made of values, sinks and writers, what
-//! they are measured, sized to and printed with, options of a caller's own, and the program. Nothing stands here outside of tests.
+//! Tests of whole tables that aren't seen beside their pictures in `test_cases`: tables made of
+//! values, sinks and writers, what they are measured, sized to and printed with, options of a
+//! caller's own, and the program. Nothing stands here outside of tests.
 #![tactic(auto)]
 
 #[cfg(test)]
