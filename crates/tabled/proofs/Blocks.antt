@@ -1,29 +1,7 @@
 -- Bytes that wait behind a writer.
-use Rattle.std.proofs.Common.{
-  ◌≡◌,
-  ℕ,
-  ◌+◌,
-  ◌-◌,
-  ◌≤◌,
-  List,
-  [],
-  ◌++◌,
-  length,
-  take,
-  drop,
-  Option,
-  Some,
-  None,
-  sym,
-  ap,
-  subst,
-  ◌∙◌,
-  append-nil,
-  append_assoc,
-  arith,
-}
+use Rattle.std.proofs.Common.{◌≡◌, ℕ, ◌+◌, ◌≤◌, List, [], ◌++◌, length, take, drop, Option, Some, None, sym, ap, ◌∙◌, append-nil, append_assoc, arith}
 use Rattle.std.specs.Io.KnownBytes.{Appends, Keeps, append_known}
-use Rattle.std.proofs.lemmas.List.{drop-append-le, drop-drop, length-drop, length-take-le, take-append-drop, take-take, take_all}
+use Rattle.std.proofs.lemmas.List.{drop-append-le, length-take-le, take-append-drop, take-take}
 use Rattle.std.proofs.Math.Seq.{take-append-add, take-append_seam}
 
 -- the writer took n bytes of what waited
@@ -41,11 +19,6 @@ kept_waiting None b waiting h = tt
 kept_waiting (Some xs) None waiting h = h
 kept_waiting (Some xs) (Some ys) waiting h = ap (λ u. u ++ waiting) h ∙ sym (append-nil (xs ++ waiting))
 
--- more bytes wait
-pub held_back : (a : Option (List ℕ)) (waiting more : List ℕ) → Appends (append_known a waiting) (append_known a (waiting ++ more)) more
-held_back None waiting more = tt
-held_back (Some xs) waiting more = sym (append_assoc xs waiting more)
-
 -- nothing waited before, and nothing waits now: the writer took all
 pub delivered : (a b : Option (List ℕ)) (before behind text : List ℕ) → before ≡ [] → behind ≡ []
     → Appends (append_known a before) (append_known b behind) text → Appends a b text
@@ -53,23 +26,6 @@ delivered None b before behind text e f h = tt
 delivered (Some xs) None before behind text e f h = h
 delivered (Some xs) (Some ys) before behind text e f h =
     sym (append-nil ys) ∙ ap (λ u. ys ++ u) (sym f) ∙ h ∙ ap (λ u. (xs ++ u) ++ text) e ∙ ap (λ u. u ++ text) (append-nil xs)
-
--- the slice from a place on
-pub from_place : (t : ℕ) (items rest : List ℕ) → rest ≡ items → take (length rest - t) (drop t rest) ≡ drop t items
-from_place t items rest e =
-    take_all (length rest - t) (drop t rest) (omega (arith, length-drop t rest)) ∙ ap (drop t) e
-
--- the writer took n bytes from a place on
-pub taken_more : (a b : Option (List ℕ)) (items buffer : List ℕ) (t n : ℕ) → buffer ≡ drop t items
-    → Appends a b (take n buffer) → Appends (append_known a (drop t items)) (append_known b (drop (t + n) items)) []
-taken_more a b items buffer t n e h =
-    let P : List ℕ → Type 0 = λ u. Appends a b (take n u) in
-    let Q : List ℕ → Type 0 = λ u. Appends (append_known a (drop t items)) (append_known b u) [] in
-    subst Q (drop-drop n t items) (handed_over a b (drop t items) n (subst P e h))
-
--- a slice is its two parts
-pub two_parts : (n : ℕ) (rest front back : List ℕ) → front ≡ take n rest → back ≡ drop n rest → front ++ back ≡ rest
-two_parts n rest front back e f = ap (λ u. u ++ back) e ∙ ap (λ u. take n rest ++ u) f ∙ take-append-drop n rest
 
 -- bytes that were copied behind those that are used wait behind the others
 pub held_more : (taken used size : ℕ) (items place more copied rest tail : List ℕ) → taken ≤ used → used ≤ length place → used + length more ≤ size

@@ -27,8 +27,18 @@ use Rattle.tabled_size.specs.declared.complete_dimension.CompleteDimension.{Comp
 use Rattle.tabled_size.proofs.Totalling.{heights_length, widths_length}
 use Rattle.tabled_text.specs.Measure.{text_columns}
 use Rattle.tabled_text.proofs.StayLemmas.{StaysWithin-none, text_columns-stays}
-use Rattle.tabled.specs.Narrowing.{IsFitted, ShrinksBy}
-use Rattle.tabled.specs.Planned.{Cells, IsNarrowedTo}
+use Rattle.tabled.specs.OrderLaws.{Shrinks-takes}
+use Rattle.tabled.specs.Orders.{IsShrunk, Shrinks}
+use Rattle.tabled.specs.Planned.{Cells, FitsInto, IsNarrowedTo, OrderShrinks}
+use Rattle.tabled.specs.declared.order_priority.OrderPriority.{OrderPriority}
+
+pub takes_all : (s : OrderPriority) → TakesFrom Shrinks s
+takes_all s last old mins new by h = Shrinks-takes s last old mins new by h
+
+-- a priority that begins does what its order does
+in_order : (s : OrderPriority) → s.round.kept ≡ 0 → (last : OrderPriority) (old mins : List ℕ) (by : ℕ) (new : List ℕ) → Shrinks s old mins by new last
+    → OrderShrinks s.order old mins by new
+in_order s begins last old mins by new h = (last.round.kept, subst (λ k. IsShrunk s.order k old mins by new last.round.kept) begins h.0)
 
 cleared_none : (b : Bool) → unless_cleared b None ≡ None
 cleared_none true = refl
@@ -48,10 +58,9 @@ filled_stands true xs count e = refl
 filled_stands false xs count e = whole_list xs count e
 
 -- ---- what an option leaves
-module _ {P : Type 0} (shrinks : P → List ℕ → List ℕ → ℕ → List ℕ → P → Type 0) (s : P) (change : ℕ → List ℕ → List ℕ → Type 0) (n : ℕ)
+module _ (s : OrderPriority) (begins : s.round.kept ≡ 0) (change : ℕ → List ℕ → List ℕ → Type 0) (n : ℕ)
     (cells new : Cells) (config : SpannedConfig) (none left last : CompleteDimension) (hint : Option Entity) (no_widths : widths_of none ≡ None) (no_heights : heights_of none ≡ None)
-    (hinted : clears_widths hint ≡ false) (narrows : Narrows shrinks s change n cells config none new left) (cleared : AreCleared hint left last)
-    (takes : TakesFrom shrinks s) where
+    (hinted : clears_widths hint ≡ false) (narrows : Narrows Shrinks s change n cells config none new left) (cleared : AreCleared hint left last) where
   before_is : standing cells config none ≡ estimated cells config
   before_is = standing_estimated cells config none no_widths no_heights
 
@@ -80,24 +89,24 @@ module _ {P : Type 0} (shrinks : P → List ℕ → List ℕ → ℕ → List �
       ap (λ c. standing c config last) e
       ∙ ap (λ w. sized_by cells config w (standing_sizes (heights_of last) high (length cells))) widths ∙ ap (λ h. sized_by cells config wide h) heights
 
-  narrowed_to : IsNarrowed shrinks s change n (standing cells config none) new left
-      → IsNarrowedTo (ShrinksBy shrinks s) change n (estimated cells config) (standing new config last)
+  narrowed_to : IsNarrowed Shrinks s change n (standing cells config none) new left
+      → IsNarrowedTo (OrderShrinks s.order) change n (estimated cells config) (standing new config last)
   narrowed_to h =
       let t = standing cells config none in
       let mins = minimums cells config in
       let estimates : t.widths ≡ estimated_widths cells config = ap (λ (u : Sheet). u.widths) before_is in
       let stored : (standing new config last).widths ≡ h.widths =
-      new_widths shrinks s change n cells config none new left last takes estimates h widths_last in
+      new_widths Shrinks s change n cells config none new left last (takes_all s) estimates h widths_last in
       let whole : take (length t.widths) mins ≡ mins =
       whole_list mins (length t.widths) (minimums-length cells config ∙ sym (ap length estimates ∙ widths_length cells config)) in
-      let by_minimums : shrinks s t.widths mins (total_width t - n) h.widths h.shrunk.last =
-      subst (λ m. shrinks s t.widths m (total_width t - n) h.widths h.shrunk.last) whole h.shrunk.shrunk in
-      let shrunk : shrinks s (estimated cells config).widths mins (total_width (estimated cells config) - n) h.widths h.shrunk.last =
-      subst (λ (u : Sheet). shrinks s u.widths mins (total_width u - n) h.widths h.shrunk.last) before_is by_minimums in
+      let by_minimums : Shrinks s t.widths mins (total_width t - n) h.widths h.shrunk.last =
+      subst (λ m. Shrinks s t.widths m (total_width t - n) h.widths h.shrunk.last) whole h.shrunk.shrunk in
+      let shrunk : Shrinks s (estimated cells config).widths mins (total_width (estimated cells config) - n) h.widths h.shrunk.last =
+      subst (λ (u : Sheet). Shrinks s u.widths mins (total_width u - n) h.widths h.shrunk.last) before_is by_minimums in
       let by = total_width (estimated cells config) - n in
       record {
         config = refl;
-        widths = (h.shrunk.last, subst (λ w. shrinks s (estimated cells config).widths mins by w h.shrunk.last) (sym stored) shrunk);
+        widths = in_order s begins h.shrunk.last _ mins by _ (subst (λ w. Shrinks s (estimated cells config).widths mins by w h.shrunk.last) (sym stored) shrunk);
         cells = subst (λ w. AreChanged (λ row column. true) (for_room change (estimated cells config) w) cells new) (sym stored) h.changed;
         heights = ap (λ o. standing_sizes o (estimated_heights new config) (length new))
             (cleared.heights ∙ ap (unless_cleared (clears_heights hint)) h.cleared ∙ cleared_none (clears_heights hint));
@@ -107,13 +116,13 @@ module _ {P : Type 0} (shrinks : P → List ℕ → List ℕ → ℕ → List �
   Same = standing new config last ≡ estimated cells config
 
   abbrev Smaller : Type 0
-  Smaller = IsNarrowedTo (ShrinksBy shrinks s) change n (estimated cells config) (standing new config last)
+  Smaller = IsNarrowedTo (OrderShrinks s.order) change n (estimated cells config) (standing new config last)
 
   abbrev Filled : Type 0
   Filled = (new ≡ cells) × IsFilledIn none cells config left
 
   abbrev Narrowed : Type 0
-  Narrowed = IsNarrowed shrinks s change n (standing cells config none) new left
+  Narrowed = IsNarrowed Shrinks s change n (standing cells config none) new left
 
   empty_fits : is_empty cells ≡ true → MatchBool (nat_le (total_width (estimated cells config)) n) Same Smaller
   empty_fits e =
@@ -136,12 +145,8 @@ module _ {P : Type 0} (shrinks : P → List ℕ → List ℕ → ℕ → List �
       (cases_Bool (nat_le (total_width (estimated cells config)) n))
 
   -- the table that is printed is the new one, fitted
-  pub fitted : IsFitted shrinks s change n (estimated cells config) (standing new config last)
+  pub fitted : FitsInto (OrderShrinks s.order) change n (estimated cells config) (standing new config last)
   fitted = ⊎_elim empty_fits full_fits (cases_Bool (is_empty cells))
-
-  -- what is told of the sizes that stood is told of the new table
-  pub of_new : (Q : Sheet → Type 0) → Q (standing cells config none) → Q (estimated cells config)
-  of_new Q q = subst Q before_is q
 
 -- ---- where a sum passes the range
 

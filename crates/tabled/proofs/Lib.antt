@@ -4,7 +4,6 @@ pub mod FittedTables
 pub mod LowTables
 pub mod Narrowings
 pub mod Noting
-pub mod Orders
 pub mod Outputs
 pub mod PlannedTables
 pub mod Reading

@@ -1,5 +1,5 @@
 -- The output of a text, and beginnings of it.
-use Rattle.std.proofs.Common.{◌≡◌, ◌⊎◌, ℕ, Bool, List, [], ◌∷◌, ◌++◌, Option, Result, Ok, Err, refl, sym, ap, ◌∙◌, subst, append_assoc, inl, inr, ⊎_elim}
+use Rattle.std.proofs.Common.{◌≡◌, ◌⊎◌, ℕ, Bool, List, [], ◌++◌, Option, Result, Ok, Err, refl, sym, ap, ◌∙◌, subst, append_assoc, inl, inr, ⊎_elim}
 use Rattle.std.specs.Prelude.{MatchResult}
 use Rattle.std.specs.Result.{IsErrAnd}
 use Rattle.tabled_base.specs.declared.error.TableError.{TableError}
@@ -9,7 +9,7 @@ use Rattle.tabled_grid.specs.Picture.{table_text}
 use Rattle.tabled_row.specs.Sent.{IsCause, Sent, Writes}
 use Rattle.tabled.specs.declared.plan.Plan.{Plan}
 use Rattle.tabled.specs.Headline.{IsBestPlanned}
-use Rattle.tabled.specs.Output.{Begins, IsBegunOn, IsOutput, Overflows, Puts, PutsOutput, with_feed}
+use Rattle.tabled.specs.Output.{IsBegunOn, IsOutput, Overflows, PutsOutput, with_feed}
 use Rattle.tabled.specs.Planned.{IsPlanned}
 use Rattle.tabled.specs.Rendered.{BreaksOff, Halts, IsRendered, SendsTable}
 use Rattle.tabled.proofs.Since.{begun_none}

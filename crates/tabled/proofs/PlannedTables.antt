@@ -1,14 +1,12 @@
 -- What holds of the table that a plan makes of the cells of a text.
 use Rattle.std.proofs.Common.{◌≡◌, ℕ, ◌<◌, ◌⊎◌, Bool, true, false, List, [], ◌∷◌, length, nat_le, inl, inr, ⊎_elim, refl, sym, ap, ◌∙◌, subst, arith, Result, Ok, Err}
-use Rattle.std.specs.Prelude.{MatchBool}
 use Rattle.std.specs.List.{slice_index_or}
 use Rattle.std.proofs.lemmas.Bool.{MatchBool-at_true, MatchBool-at_false, cases_Bool, leb-false}
 use Rattle.std.proofs.lemmas.List.{get_or_default}
 use Rattle.tabled_base.specs.Cells.{IsRectangular, columns}
 use Rattle.tabled_base.specs.declared.error.TableError.{TableError}
 use Rattle.tabled_base.specs.declared.error.TableError.TheVariants.{Memory, ShortWidths, ShortHeights, Narrow, Range, Writer}
-use Rattle.tabled_change.specs.CellChanges.{AreChanged, if_wider, truncating, wrapping}
-use Rattle.tabled_change.specs.declared.suffix.SuffixLimit.TheVariants.{Cut}
+use Rattle.tabled_change.specs.CellChanges.{AreChanged}
 use Rattle.tabled_grid.specs.ApartSheet.{IsApartConfig}
 use Rattle.tabled_grid.specs.Picture.{picture}
 use Rattle.tabled_grid.specs.Printed.{IsRefused, Prints}
@@ -16,10 +14,9 @@ use Rattle.tabled_grid.proofs.EstimatedSizes.{holds_estimated, sized_estimated}
 use Rattle.tabled_resize.proofs.ExactTotals.{changed_empty}
 use Rattle.tabled_resize.specs.ExactTotal.{HasExactTotal}
 use Rattle.tabled_resize.specs.Narrowed.{for_room}
-use Rattle.tabled_resize.specs.Priorities.{TakesFrom, TakesGreatest}
 use Rattle.tabled_row.specs.Plain.{EachLineTakes}
 use Rattle.tabled_row.specs.Sent.{Sent}
-use Rattle.tabled_set.specs.Promised.{IsWiderThan, TruncatesAsPromised, WrapsAsPromised}
+use Rattle.tabled_set.specs.Promised.{IsWiderThan}
 use Rattle.tabled_size.specs.Holds.{Holds, IsSized}
 use Rattle.tabled_size.specs.Sheet.{Sheet, estimated, is_empty}
 use Rattle.tabled_config.specs.declared.spanned.SpannedConfig.{SpannedConfig}
@@ -28,13 +25,12 @@ use Rattle.tabled_size.specs.Totals.{total_width}
 use Rattle.tabled_table.proofs.Sheets.{sheet_lines, sheet_texts}
 use Rattle.tabled_text.specs.Plain.{IsAdditive}
 use Rattle.tabled_text.proofs.StayLemmas.{IsAdditive-stays, StaysWithin-none}
-use Rattle.tabled.specs.declared.plan.Order.{Order}
-use Rattle.tabled.specs.declared.plan.Order.TheVariants.{Greatest}
-use Rattle.tabled.specs.declared.plan.Plan.TheVariants.{Buffered, Wrapped, Shortened}
-use Rattle.tabled.specs.Headline.{IsBestOf, IsLeastBy, KeepsApart}
-use Rattle.tabled.specs.Narrowing.{IsFitted, ShrinksBy}
-use Rattle.tabled.specs.Planned.{Cells, FitsInto, IsNarrowedTo, IsPlannedOf, OrderShrinks}
-use Rattle.tabled.specs.Rendered.{BreaksOff, PassesRange, PrintsPlanned}
+use Rattle.tabled.specs.declared.plan.Plan.{Plan}
+use Rattle.tabled.specs.declared.plan.Plan.TheVariants.{Buffered}
+use Rattle.tabled.specs.Headline.{IsBestOf, KeepsApart}
+use Rattle.tabled.specs.Narrowing.{IsMade}
+use Rattle.tabled.specs.Planned.{Cells, FitsInto, IsNarrowedTo, IsPlannedOf}
+use Rattle.tabled.specs.Rendered.{BreaksOff, IsRenderedOf, PassesRange, PrintsPlanned}
 
 -- ---- cells that were changed are as many
 
@@ -54,21 +50,6 @@ changed_rectangular chosen change old new h q = λ k d l.
     ap length (get_or_default new k d [] l) ∙ h.row_lengths k ∙ q k [] (omega arith) ∙ sym many
 
 -- ---- tables that are fitted into n columns
-
--- by another relation that holds of more lists
-fits_by : (few many : List ℕ → List ℕ → ℕ → List ℕ → Type 0) → ((old mins : List ℕ) (by : ℕ) (new : List ℕ) → few old mins by new → many old mins by new)
-    → (change : ℕ → List ℕ → List ℕ → Type 0) (n : ℕ) (old t : Sheet) → FitsInto few change n old t → FitsInto many change n old t
-fits_by few many gives change n old t h =
-    let same = t ≡ old in
-    let small = IsNarrowedTo few change n old t in
-    let smaller = IsNarrowedTo many change n old t in
-    ⊎_elim
-    (λ y. subst (λ b. MatchBool b same smaller) (sym y) (MatchBool-at_true same small y h))
-    (λ no.
-    let s : small = MatchBool-at_false same small no h in
-    subst (λ b. MatchBool b same smaller) (sym no)
-    (record { config = s.config; widths = gives old.widths _ _ t.widths s.widths; cells = s.cells; heights = s.heights }))
-    (cases_Bool (nat_le (total_width old) n))
 
 -- each line of a table with estimated sizes takes the total width, where texts are kept apart
 pub whole_lines : (cells : Cells) (config : SpannedConfig) → IsRectangular cells → AreTexts cells → KeepsApart config
@@ -116,84 +97,37 @@ no_text_plain = IsAdditive-stays (StaysWithin-none {n = 0})
 pub whole_wider : (n : ℕ) (cells : Cells) (config : SpannedConfig) → n < total_width (estimated cells config) → IsWiderThan n (estimated cells config)
 whole_wider n cells config h = record { estimates = refl; wider = h }
 
-pub buffered_best : (cells : Cells) (config : SpannedConfig) → IsRectangular cells → AreTexts cells → (t : Sheet) → t ≡ estimated cells config
-    → IsBestOf Buffered (estimated cells config) t
-buffered_best cells config rectangular texts t e = subst (IsBestOf Buffered (estimated cells config)) (sym e) (record {
-  edges = whole_lines cells config rectangular texts;
-  lines = sheet_lines (estimated cells config);
-  total = tt;
-  least = tt;
-  fewest = tt;
-  longest = tt;
-  alike = tt;
-})
-
--- an order is met by a priority: what the priority leaves is what the order does, it takes all it can, and its greatest
--- width is the least possible where the order says so
-pub record Meets {P : Type 0} (order : Order) (shrinks : P → List ℕ → List ℕ → ℕ → List ℕ → P → Type 0) (s : P) : Type 0 where
-  pub gives : (last : P) (old mins : List ℕ) (by : ℕ) (new : List ℕ) → shrinks s old mins by new last → OrderShrinks order old mins by new
-  pub takes : TakesFrom shrinks s
-  pub least : (old new : Sheet) → (TakesGreatest shrinks s → IsLeastBy Greatest old new) → IsLeastBy order old new
-
-module _ {P : Type 0} {order : Order} {shrinks : P → List ℕ → List ℕ → ℕ → List ℕ → P → Type 0} {s : P} (meets : Meets order shrinks s) (n : ℕ)
-    (cells : Cells) (config : SpannedConfig) where
-  by_order : (change : ℕ → List ℕ → List ℕ → Type 0) (t : Sheet) → IsFitted shrinks s change n (estimated cells config) t → FitsInto (OrderShrinks order) change n (estimated cells config) t
-  by_order change t fits =
-      fits_by (ShrinksBy shrinks s) (OrderShrinks order) (λ old mins by new h. meets.gives h.0 old mins by new h.1) change n (estimated cells config) t fits
-
-  pub wrapped_planned : (words : Bool) (t : Sheet) → IsFitted shrinks s (wrapping words) n (estimated cells config) t → IsPlannedOf (Wrapped n words order) (estimated cells config) t
-  wrapped_planned words t fits = by_order (wrapping words) t fits
-
-  pub shortened_planned : (t : Sheet) → IsFitted shrinks s (if_wider (truncating [] Cut false)) n (estimated cells config) t → IsPlannedOf (Shortened n order) (estimated cells config) t
-  shortened_planned t fits = by_order (if_wider (truncating [] Cut false)) t fits
-
-  module _ (rectangular : IsRectangular cells) (texts : AreTexts cells) (t : Sheet) where
-    wrapped_exact : (words : Bool) → WrapsAsPromised shrinks s words n (estimated cells config) t → n < total_width (estimated cells config) → HasExactTotal n (estimated cells config) t
-    wrapped_exact words p h = p.exact meets.takes (whole_wider n cells config h) texts
-
-    pub wrapped_best : (words : Bool) → IsFitted shrinks s (wrapping words) n (estimated cells config) t → WrapsAsPromised shrinks s words n (estimated cells config) t
-        → IsBestOf (Wrapped n words order) (estimated cells config) t
-    wrapped_best words fits p = record {
-      edges = fitted_lines (ShrinksBy shrinks s) (wrapping words) n cells config t fits (wrapped_exact words p) rectangular texts;
-      lines = sheet_lines t;
-      total = wrapped_exact words p;
-      least = λ h. meets.least (estimated cells config) t (λ greatest. p.least greatest (whole_wider n cells config h));
-      fewest = λ h. p.best meets.takes (whole_wider n cells config h);
-      longest = tt;
-      alike = tt;
-    }
-
-    shortened_exact : IsAdditive [] → TruncatesAsPromised shrinks s [] Cut false n (estimated cells config) t → n < total_width (estimated cells config)
-        → HasExactTotal n (estimated cells config) t
-    shortened_exact q p h = p.exact meets.takes q tt (whole_wider n cells config h) texts
-
-    pub shortened_best : IsAdditive [] → IsFitted shrinks s (if_wider (truncating [] Cut false)) n (estimated cells config) t
-        → TruncatesAsPromised shrinks s [] Cut false n (estimated cells config) t → IsBestOf (Shortened n order) (estimated cells config) t
-    shortened_best q fits p = record {
-      edges = fitted_lines (ShrinksBy shrinks s) (if_wider (truncating [] Cut false)) n cells config t fits (shortened_exact q p) rectangular texts;
-      lines = sheet_lines t;
-      total = shortened_exact q p;
-      least = λ h. meets.least (estimated cells config) t (λ greatest. p.least greatest (whole_wider n cells config h));
-      fewest = tt;
-      longest = λ h. p.best meets.takes refl (whole_wider n cells config h);
-      alike = tt;
-    }
+pub buffered_made : (cells : Cells) (config : SpannedConfig) → IsRectangular cells → AreTexts cells → IsMade Buffered (estimated cells config) (estimated cells config)
+buffered_made cells config rectangular texts = record {
+  planned = refl;
+  best = record {
+    edges = whole_lines cells config rectangular texts;
+    lines = sheet_lines (estimated cells config);
+    total = tt;
+    least = tt;
+    fewest = tt;
+    longest = tt;
+    alike = tt;
+  };
+  same = refl;
+  sized = sized_estimated cells config;
+  holds = holds_estimated cells config;
+}
 
 -- ---- what was printed
 
--- a table that is planned and holds its cells, and has a row and a column where the whole one has, was printed
-pub prints_planned : {T : Type 0} (planned best : Sheet → Type 0) (whole : Sheet) (estimates : Bool) (t : Sheet) (old : Sent) (r : Result T TableError) (new : Sent)
-    → planned t → best t → is_empty t.cells ≡ is_empty whole.cells → IsSized t → Holds t → Prints estimates t old r new
-    → PrintsPlanned planned best (λ e. ⊥) whole old r new
-prints_planned planned best whole estimates t old (Ok x) new p b same sized holds h = record { table = t; is_planned = p; is_best = b; is_printable = h.0; sends = h.1 }
-prints_planned planned best whole estimates t old (Err e) new p b same sized holds h =
+-- a table that is in order was printed
+pub prints_made : {T : Type 0} (plan : Plan) (whole : Sheet) (estimates : Bool) (t : Sheet) (old : Sent) (r : Result T TableError) (new : Sent) → IsMade plan whole t
+    → Prints estimates t old r new → IsRenderedOf plan whole old r new
+prints_made plan whole estimates t old (Ok x) new m h = record { table = t; is_planned = m.planned; is_best = m.best; is_printable = h.0; sends = h.1 }
+prints_made plan whole estimates t old (Err e) new m h =
     ⊎_elim (λ r. refused e r.0 r.1)
-    (λ m. ⊎_elim (λ k. inl (k.1, k.2)) (λ k. inr (
-      sym same ∙ h.0,
+    (λ o. ⊎_elim (λ k. inl (k.1, k.2)) (λ k. inr (
+      sym m.same ∙ h.0,
       inr (record {
         table = t;
-        is_planned = p;
-        is_best = b;
+        is_planned = m.planned;
+        is_best = m.best;
         is_printable = k.0;
         front = k.1.front;
         rest = k.1.rest;
@@ -201,20 +135,21 @@ prints_planned planned best whole estimates t old (Err e) new p b same sized hol
         added = k.1.added;
         cause = inl k.1.cause;
       }),
-    )) m)
+    )) o)
     h.1
   where
     refused : (d : TableError) → IsRefused t d → new ≡ old
         → ((d ≡ Memory) × (new ≡ old))
-        ⊎ ((is_empty whole.cells ≡ false) × (((d ≡ Range) × (new ≡ old) × PassesRange planned whole) ⊎ BreaksOff planned best (λ e. ⊥) old d new))
+        ⊎ ((is_empty whole.cells ≡ false)
+        × (((d ≡ Range) × (new ≡ old) × PassesRange (IsPlannedOf plan whole) whole) ⊎ BreaksOff (IsPlannedOf plan whole) (IsBestOf plan whole) (λ e. ⊥) old d new))
     refused Memory i stays = absurd i
-    refused ShortWidths i stays = absurd (let long = sized.columns in omega arith)
-    refused ShortHeights i stays = absurd (let long = sized.rows in omega arith)
+    refused ShortWidths i stays = absurd (let sized = m.sized in let long = sized.columns in omega arith)
+    refused ShortHeights i stays = absurd (let sized = m.sized in let long = sized.rows in omega arith)
     refused (Narrow row column) i stays =
         let first = i.1 in
-        let held = holds row column first.row_in first.at.column_in in
+        let held = m.holds row column first.row_in first.at.column_in in
         absurd (let narrow = first.at.narrow in omega arith)
-    refused Range i stays = inr (sym same ∙ h.0, inl (refl, stays, inr (t, p, i.2)))
+    refused Range i stays = inr (sym m.same ∙ h.0, inl (refl, stays, inr (t, m.planned, i.2)))
     refused Writer i stays = absurd i
 
 -- what is told by one plan is told by another that asks no more

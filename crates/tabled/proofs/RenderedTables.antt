@@ -8,11 +8,8 @@ use Rattle.tabled_base.specs.declared.error.TableError.TheVariants.{Memory, Shor
 use Rattle.tabled_change.specs.CellChanges.{if_wider, truncating, wrapping}
 use Rattle.tabled_change.specs.declared.suffix.SuffixLimit.TheVariants.{Cut}
 use Rattle.tabled_grid.specs.Picture.{picture, table_text}
-use Rattle.tabled_grid.specs.Printed.{Prints}
-use Rattle.tabled_grid.proofs.EstimatedSizes.{holds_estimated, sized_estimated}
 use Rattle.tabled_resize.specs.ExactTotal.{HasExactTotal}
 use Rattle.tabled_row.specs.Sent.{Sent}
-use Rattle.tabled_set.specs.Promised.{TruncatesAsPromised, WrapsAsPromised}
 use Rattle.tabled_size.specs.Sheet.{Sheet, estimated, is_empty}
 use Rattle.tabled_config.specs.declared.spanned.SpannedConfig.{SpannedConfig}
 use Rattle.tabled_size.specs.TextCells.{AreTexts}
@@ -28,13 +25,11 @@ use Rattle.tabled_size.specs.Estimates.{estimated_widths}
 use Rattle.tabled_size.specs.Totals.{filled_width}
 use Rattle.std.specs.Result.{IsErrAnd, IsOk}
 use Rattle.tabled.specs.declared.plan.Plan.{Plan}
-use Rattle.tabled.specs.declared.plan.Order.{Order}
 use Rattle.tabled.specs.declared.plan.Plan.TheVariants.{Buffered, Streamed, Wrapped, Shortened}
 use Rattle.tabled.specs.Headline.{HasFewestBreaks, HasLeastGreatestWidth, HasLongestBeginnings, HasWantedTotal, IsAsBuffered, IsBestOf, IsBestPlanned, IsLeastBy}
-use Rattle.tabled.specs.Narrowing.{IsFitted}
 use Rattle.tabled.specs.Planned.{Cells, FitsInto, IsNarrowedTo, IsPlanned, IsPlannedOf, OrderShrinks, measured}
 use Rattle.tabled.specs.Rendered.{Halts, IsRendered, IsRenderedOf, PassesRange, PrintsPlanned}
-use Rattle.tabled.proofs.PlannedTables.{Meets, buffered_best, no_text_plain, prints_as, prints_planned, shortened_best, shortened_planned, whole_lines, wrapped_best, wrapped_planned}
+use Rattle.tabled.proofs.PlannedTables.{prints_as, whole_lines}
 
 -- ---- texts without a row
 
@@ -194,50 +189,6 @@ pub refused_early : {T : Type 0} (planned best : Sheet → Type 0) (halts : Tabl
 refused_early planned best halts whole old (Ok x) e i c f = absurd i
 refused_early planned best halts whole old (Err d) e i c f = ⊎_elim (λ m. inl (i ∙ m, refl)) (λ r. let k = f r in inr (k.0, inl (i ∙ r, refl, k.1))) c
 
--- want of memory before anything was sent
-pub rendered_refused : {T : Type 0} (plan : Plan) (cells : Cells) (old : Sent) (r : Result T TableError) (e : TableError) → IsErrAnd r (λ d. d ≡ e) → e ≡ Memory
-    → IsRendered plan cells old r old
-rendered_refused plan cells old (Ok x) e i m = absurd i
-rendered_refused plan cells old (Err d) e i m = inl (i ∙ m, refl)
-
--- ---- tables that were fitted by an order
-
-module _ {P T : Type 0} {order : Order} {shrinks : P → List ℕ → List ℕ → ℕ → List ℕ → P → Type 0} {s : P} (meets : Meets order shrinks s) (n : ℕ)
-    (cells : Cells) (config : SpannedConfig) (rectangular : IsRectangular cells) (texts : AreTexts cells) (given : Order) (is : given ≡ order) (old : Sent)
-    (r : Result T TableError) (new : Sent) where
-  pub wrapped_printed : (words : Bool) → PrintsPlanned (IsFitted shrinks s (wrapping words) n (estimated cells config))
-      (WrapsAsPromised shrinks s words n (estimated cells config)) (λ e. ⊥) (estimated cells config) old r new
-      → IsRenderedOf (Wrapped n words given) (estimated cells config) old r new
-  wrapped_printed words h =
-      let plan = Wrapped n words order in
-      let whole = estimated cells config in
-      subst (λ o. IsRenderedOf (Wrapped n words o) whole old r new) (sym is)
-      (prints_as (IsFitted shrinks s (wrapping words) n whole) (WrapsAsPromised shrinks s words n whole) (IsPlannedOf plan whole) (IsBestOf plan whole)
-      (λ e. ⊥) (λ e. ⊥) whole old r new (λ t fits. wrapped_planned meets n cells config words t fits)
-      (λ t fits kept. wrapped_best meets n cells config rectangular texts t words fits kept) (λ e never. never) h)
-
-  pub shortened_printed : PrintsPlanned (IsFitted shrinks s (if_wider (truncating [] Cut false)) n (estimated cells config))
-      (TruncatesAsPromised shrinks s [] Cut false n (estimated cells config)) (λ e. ⊥) (estimated cells config) old r new
-      → IsRenderedOf (Shortened n given) (estimated cells config) old r new
-  shortened_printed h =
-      let plan = Shortened n order in
-      let whole = estimated cells config in
-      subst (λ o. IsRenderedOf (Shortened n o) whole old r new) (sym is)
-      (prints_as (IsFitted shrinks s (if_wider (truncating [] Cut false)) n whole) (TruncatesAsPromised shrinks s [] Cut false n whole) (IsPlannedOf plan whole)
-      (IsBestOf plan whole) (λ e. ⊥) (λ e. ⊥) whole old r new (λ t fits. shortened_planned meets n cells config t fits)
-      (λ t fits kept. shortened_best meets n cells config rectangular texts t no_text_plain fits kept) (λ e never. never) h)
-
--- a whole table was printed
-pub whole_printed : {T : Type 0} (cells : Cells) (config : SpannedConfig) → IsRectangular cells → AreTexts cells → (old : Sent) (r : Result T TableError) (new : Sent)
-    → Prints true (estimated cells config) old r new → IsRenderedOf Buffered (estimated cells config) old r new
-whole_printed cells config rectangular texts old r new h =
-    let t = estimated cells config in
-    prints_planned (IsPlannedOf Buffered t) (IsBestOf Buffered t) t true t old r new refl (buffered_best cells config rectangular texts t refl)
-    refl (sized_estimated cells config) (holds_estimated cells config) h
-
--- and the new one
-pub buffered_printed : {T : Type 0} (cells : Cells) → IsRectangular cells → AreTexts cells → (given : Plan) → given ≡ Buffered → (config : SpannedConfig) → config ≡ new_config
-    → (old : Sent) (r : Result T TableError) (new : Sent) → Prints true (estimated cells config) old r new → IsRendered given cells old r new
-buffered_printed cells rectangular texts given is config e old r new h =
-    subst (λ p. IsRendered p cells old r new) (sym is)
-    (rendered_new Buffered cells old r new (subst (λ c. IsRenderedOf Buffered (estimated cells c) old r new) e (whole_printed cells config rectangular texts old r new h)))
+pub range_only : {T Q : Type 0} (r : Result T TableError) (e : TableError) → IsErrAnd r (λ d. d ≡ e) → (e ≡ Range → Q) → IfErr r (λ d. d ≡ Range → Q)
+range_only (Ok x) e i f = tt
+range_only (Err d) e i f = λ k. f (sym i ∙ k)

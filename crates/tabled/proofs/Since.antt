@@ -7,9 +7,6 @@ use Rattle.std.specs.Result.{IsErrAnd}
 use Rattle.tabled_base.specs.declared.error.TableError.{TableError}
 use Rattle.tabled_base.specs.declared.error.TableError.TheVariants.{Writer}
 use Rattle.tabled_row.specs.Sent.{IsCause, Rose, Sent, Sends, Stops, Writes}
-use Rattle.tabled_size.specs.Sheet.{Sheet, is_empty}
-use Rattle.tabled_grid.specs.Picture.{table_text}
-use Rattle.tabled_grid.specs.Printed.{Ends}
 use Rattle.tabled_row.proofs.Sending.{Appends-nil, Appends-then, Keeps-same}
 use Rattle.tabled.proofs.Blocks.{delivered, handed_over, kept_waiting}
 use Rattle.tabled.specs.BlockSent.{Advances, Block, begins, block_sent, sent_since, since}
@@ -17,9 +14,6 @@ use Rattle.tabled.specs.Output.{Begins, Puts}
 
 pub advances_none : (a : Block) → Advances a a
 advances_none a = record { same = refl; more = []; added = Appends-nil a.contents a.contents (Keeps-same a.contents) }
-
-pub advances_kept : (a b : Block) → b.name ≡ a.name → Keeps a.contents b.contents → Advances a b
-advances_kept a b e h = record { same = e; more = []; added = Appends-nil a.contents b.contents h }
 
 pub advances_then : (a b c : Block) → Advances a b → Advances b c → Advances a c
 advances_then a b c p q = record {
@@ -241,23 +235,6 @@ puts_begun old new (Err d) e text h b = b
 pub begun_none : (c : Option (List ℕ)) (text : List ℕ) → Begins c c text
 begun_none c text = record { front = []; rest = text; whole = refl; added = Appends-nil c c (Keeps-same c) }
 
-begun_stopped : (t : Sheet) (old new : Sent) (e : TableError) (text more : List ℕ) → Stops old e new (table_text t)
-    → table_text t ++ more ≡ text → Begins old.bytes new.bytes text
-begun_stopped t old new e text more s w = record {
-  front = s.front;
-  rest = s.rest ++ more;
-  whole = sym (append_assoc s.front s.rest more) ∙ ap (λ u. u ++ more) s.whole ∙ w;
-  added = s.added;
-}
-
--- a table that was refused before the first byte, or later
-pub begun_printed : (t : Sheet) (old new : Sent) (e : TableError) (text more : List ℕ) → (is_empty t.cells ≡ false)
-    × Ends true t old e new → table_text t ++ more ≡ text → Begins old.bytes new.bytes text
-begun_printed t old new e text more p w =
-    let P : Sent → Type 0 = λ s. Begins old.bytes s.bytes text in
-    ⊎_elim (λ r. subst P (sym r.1) (begun_none old.bytes text))
-    (λ h. ⊎_elim (λ m. subst P (sym m.2) (begun_none old.bytes text)) (λ x. begun_stopped t old new e text more x.1 w) h) p.1
-
 -- ---- the writer in the end, whose reference is known by its name
 
 ended : (na nb : ℕ) (ca cb cf : Option (List ℕ)) (wa wb text front rest : List ℕ) → wa ≡ [] → IfSome ca
@@ -301,9 +278,6 @@ ended_put a b d cf (Err x) text e h p q m o k =
     ended_block a d cf text (text ++ q.front) q.rest e (along a.contents (λ adv. advances_then a b d adv m) p) k
     (Appends-then (block_sent a).bytes (block_sent b).bytes (block_sent d).bytes text q.front h q.added)
     (append_assoc text q.front q.rest ∙ ap (λ u. text ++ u) q.whole ∙ append-nil text)
-
-pub begun_from : (old same new : Option (List ℕ)) (text : List ℕ) → same ≡ old → Begins same new text → Begins old new text
-begun_from old same new text e h = let P : Option (List ℕ) → Type 0 = λ c. Begins c new text in subst P e h
 
 pub puts_from : {T E : Type 0} (old same new : Option (List ℕ)) (r : Result T E) (text : List ℕ) → same ≡ old
     → Puts same r new text → Puts old r new text

@@ -3,6 +3,8 @@ pub mod Faults
 pub mod Headline
 pub mod Narrowing
 pub mod Noted
+pub mod OrderLaws
+pub mod Orders
 pub mod Output
 pub mod Planned
 pub mod Rendered

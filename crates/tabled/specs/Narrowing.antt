@@ -1,12 +1,28 @@
--- Tables that a priority narrowed, as an option leaves them.
-use Rattle.std.specs.Prelude.{ℕ, List}
-use Rattle.tabled_size.specs.Sheet.{Sheet}
-use Rattle.tabled.specs.Planned.{FitsInto}
+-- A table that is narrowed as a plan says.
+use Rattle.std.specs.Prelude.{◌≡◌, ℕ}
+use Rattle.tabled_size.specs.Holds.{Holds, IsSized}
+use Rattle.tabled_size.specs.Sheet.{Sheet, is_empty}
+use Rattle.tabled.specs.declared.narrowing.Fit.{Fit}
+use Rattle.tabled.specs.declared.narrowing.Fit.TheVariants.{Truncate, Wrap}
+use Rattle.tabled.specs.declared.narrowing.Narrowing.{Narrowing}
+use Rattle.tabled.specs.declared.plan.Order.{Order}
+use Rattle.tabled.specs.declared.plan.Plan.{Plan}
+use Rattle.tabled.specs.declared.plan.Plan.TheVariants.{Wrapped, Shortened}
+use Rattle.tabled.specs.Headline.{IsBestOf}
+use Rattle.tabled.specs.Planned.{IsPlannedOf}
 
--- what a priority may make of a list of widths
-abbrev pub ShrinksBy : {P : Type 0} → (P → List ℕ → List ℕ → ℕ → List ℕ → P → Type 0) → P → List ℕ → List ℕ → ℕ → List ℕ → Type 0
-ShrinksBy {P} shrinks s old mins by new = (last : P) × shrinks s old mins by new last
+abbrev plan_by : Fit → ℕ → Order → Plan
+plan_by (Wrap words) n order = Wrapped n words order
+plan_by Truncate n order = Shortened n order
 
--- a table, fitted into n columns by a priority
-abbrev pub IsFitted : {P : Type 0} → (P → List ℕ → List ℕ → ℕ → List ℕ → P → Type 0) → P → (ℕ → List ℕ → List ℕ → Type 0) → ℕ → Sheet → Sheet → Type 0
-IsFitted shrinks s change n whole t = FitsInto (ShrinksBy shrinks s) change n whole t
+-- the plan by which a table is narrowed so
+abbrev pub plan_of : Narrowing → Plan
+plan_of how = plan_by how.fit how.target how.order
+
+-- a table that a plan makes of a whole one, as good as can be, and that is in order to be printed
+pub record IsMade (plan : Plan) (whole t : Sheet) : Type 0 where
+  pub planned : IsPlannedOf plan whole t
+  pub best : IsBestOf plan whole t
+  pub same : is_empty t.cells ≡ is_empty whole.cells
+  pub sized : IsSized t
+  pub holds : Holds t

@@ -2,7 +2,6 @@
 use Rattle.std.specs.Prelude.{◌≡◌, ℕ, ◌-◌, true, false, List, [], MatchBool, nat_le}
 use Rattle.tabled_change.specs.CellChanges.{AreChanged, if_wider, truncating, wrapping}
 use Rattle.tabled_change.specs.declared.suffix.SuffixLimit.TheVariants.{Cut}
-use Rattle.tabled_priority.specs.Shrunk.{IsLeftShrunk, IsMaxShrunk, IsMinShrunk, IsRightShrunk, IsRoundShrunk}
 use Rattle.tabled_resize.specs.BestNarrowing.{text_room}
 use Rattle.tabled_resize.specs.Minimums.{minimums}
 use Rattle.tabled_resize.specs.Narrowed.{for_room}
@@ -12,9 +11,9 @@ use Rattle.tabled_size.specs.Totals.{total_width}
 use Rattle.tabled_table.specs.TableSheet.{new_sheet}
 use Rattle.tabled_text.specs.Cut.{IsCut}
 use Rattle.tabled.specs.declared.plan.Order.{Order}
-use Rattle.tabled.specs.declared.plan.Order.TheVariants.{Round, Least, Greatest, Leftmost, Rightmost}
 use Rattle.tabled.specs.declared.plan.Plan.{Plan}
 use Rattle.tabled.specs.declared.plan.Plan.TheVariants.{Buffered, Streamed, Wrapped, Shortened}
+use Rattle.tabled.specs.Orders.{IsShrunk}
 
 -- the texts of a table, row by row
 abbrev pub Cells : Type 0
@@ -22,11 +21,7 @@ Cells = List (List (List ℕ))
 
 -- what becomes of widths that shrink in an order, by so much in all and under some minimums
 abbrev pub OrderShrinks : Order → List ℕ → List ℕ → ℕ → List ℕ → Type 0
-OrderShrinks Round old mins by new = (kept : ℕ) × IsRoundShrunk 0 old mins by new kept
-OrderShrinks Least old mins by new = IsMinShrunk true old mins by new
-OrderShrinks Greatest old mins by new = IsMaxShrunk true old mins by new
-OrderShrinks Leftmost old mins by new = IsLeftShrunk old mins by new
-OrderShrinks Rightmost old mins by new = IsRightShrunk old mins by new
+OrderShrinks order old mins by new = (kept : ℕ) × IsShrunk order 0 old mins by new kept
 
 -- a table narrowed to n: its widths shrink by what the total has above n, each cell is changed for the room that its
 -- column leaves it, and the rows are as high as the new texts ask for

@@ -15,6 +15,7 @@ mod fault;
 mod held;
 mod input;
 mod narrowing;
+mod order_priority;
 mod plan;
 mod program;
 mod rendering;

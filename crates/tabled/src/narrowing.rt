@@ -1,209 +1,135 @@
-//! Tables that are fitted into some columns, by each order in which columns shrink.
-ghost use Rattle.std.specs.Prelude.{◌≡◌, [], false};
+//! Tables that are narrowed to some columns, by wrapping or truncating their cells.
+ghost use Rattle.std.specs.Prelude.{◌≡◌, ◌⊎◌, [], IfErr, IfOk, MatchOption, false};
 ghost use Rattle.tabled_base.specs.Cells.{IsRectangular};
-ghost use Rattle.tabled_change.specs.CellChanges.{if_wider, truncating, wrapping};
+ghost use Rattle.tabled_base.specs.declared.error.TableError.TheVariants.{Memory, Range};
 ghost use Rattle.tabled_change.specs.declared.suffix.SuffixLimit.TheVariants.{Cut};
+ghost use Rattle.tabled_grid.specs.Printed.{IsOutOfRange};
 ghost use Rattle.tabled_row.specs.Sent.{Sent};
-ghost use Rattle.tabled_set.specs.Promised.{TruncatesAsPromised, WrapsAsPromised};
-ghost use Rattle.tabled_size.specs.Sheet.{estimated};
+ghost use Rattle.tabled_size.specs.Sheet.{estimated, is_empty};
+ghost use Rattle.tabled_size.specs.Standing.{standing};
 ghost use Rattle.tabled_size.specs.TextCells.{AreTexts};
-ghost use Rattle.tabled.specs.Narrowing.{IsFitted};
-ghost use Rattle.tabled.specs.Rendered.{IsRenderedOf, PrintsPlanned};
+ghost use Rattle.tabled.specs.declared.plan.Plan.TheVariants.{Buffered, Shortened, Wrapped};
+ghost use Rattle.tabled.specs.Narrowing.{IsMade, plan_of};
+ghost use Rattle.tabled.specs.Planned.{measured};
+ghost use Rattle.tabled.specs.Rendered.{IsRenderedOf};
 
+use crate::order_priority::OrderPriority;
 use crate::plan::{Order, Plan};
 use std::alloc::Global;
 use tabled_base::{RecordsMut, TableError, TableOption};
 use tabled_config::ColoredConfig;
 use tabled_grid::{TextSink, print_standing};
 use tabled_set::{Truncate, Wrap};
-use tabled_size::{
-    CompleteDimension, PriorityLeft, PriorityMax, PriorityMin, PriorityNone, PriorityRight,
-    TakesAll,
-};
+use tabled_size::CompleteDimension;
 
-/// Wraps a table to so many columns by a priority, words kept or not.
-fn wrap_by<P: TakesAll + Drop>(target: usize, words: bool, priority: P) -> Wrap<usize, P>
-    ensures { result ≡ record { width = target; rule = record { keep_words = words }; priority = priority } }
-{
-    Wrap::new(target).keep_words(words).priority(priority)
+/// What becomes of cells that are wider than their columns.
+#[derive(Clone, Copy)]
+pub(crate) enum Fit {
+    /// They are wrapped, words kept whole or not.
+    Wrap { keep_words: bool },
+    /// They are cut, without a suffix.
+    Truncate,
 }
 
-/// Truncates a table to so many columns by a priority, without a suffix.
-fn truncate_by<P: TakesAll + Drop>(target: usize, priority: P) -> Truncate<'static, usize, P>
-    ensures width { result.width ≡ target }
-    ensures suffix { result.rule.suffix.now ≡ [] }
-    ensures limit { result.rule.limit ≡ Cut }
-    ensures multiline { result.rule.multiline ≡ false }
-    ensures priority { result.priority ≡ priority }
-{
-    Truncate::new(target).priority(priority)
-}
-
-/// Prints the table of some records under some settings. One of more columns than wanted is narrowed to them by a priority, and
-/// its texts are wrapped, words kept or not.
-fn put_wrapped_by<R: RecordsMut, P: TakesAll + Drop, S: TextSink>(
-    alloc: Global,
-    sink: &mut S,
-    records: &mut R,
-    mut config: ColoredConfig,
+/// How a table is narrowed.
+#[derive(Clone, Copy)]
+pub(crate) struct Narrowing {
+    /// The columns that all of it may take.
     target: usize,
-    words: bool,
-    priority: P,
-) -> Result<(), TableError>
-    requires texts { AreTexts (R.cells records.old) }
-    requires rectangular { IsRectangular (R.cells records.old) }
-    ensures { PrintsPlanned (IsFitted P.shrinks priority (wrapping words) target (estimated (R.cells records.old) config.config))
-        (WrapsAsPromised P.shrinks priority words target (estimated (R.cells records.old) config.config)) (λ error. ⊥)
-        (estimated (R.cells records.old) config.config) (S.sent sink.old) result (S.sent sink.new) }
-{
-    let mut sizes = CompleteDimension::new(alloc);
-    let wrap = wrap_by(target, words, priority);
-    TableOption::change(wrap, records, &mut config, &mut sizes)?;
-    sizes.clear_height();
-    print_standing(sink, records, config.as_ref(), &sizes)
-}
-
-/// The same with wider texts cut in place of wrapped.
-fn put_shortened_by<R: RecordsMut, P: TakesAll + Drop, S: TextSink>(
-    alloc: Global,
-    sink: &mut S,
-    records: &mut R,
-    mut config: ColoredConfig,
-    target: usize,
-    priority: P,
-) -> Result<(), TableError>
-    requires texts { AreTexts (R.cells records.old) }
-    requires rectangular { IsRectangular (R.cells records.old) }
-    ensures { PrintsPlanned (IsFitted P.shrinks priority (if_wider (truncating [] Cut false)) target (estimated (R.cells records.old) config.config))
-        (TruncatesAsPromised P.shrinks priority [] Cut false target (estimated (R.cells records.old) config.config)) (λ error. ⊥)
-        (estimated (R.cells records.old) config.config) (S.sent sink.old) result (S.sent sink.new) }
-{
-    let mut sizes = CompleteDimension::new(alloc);
-    let cut = truncate_by(target, priority);
-    TableOption::change(cut, records, &mut config, &mut sizes)?;
-    print_standing(sink, records, config.as_ref(), &sizes)
-}
-
-/// Prints the table of some records under some settings, wrapped to at most so many columns where it can be, in an order.
-pub(crate) fn put_wrapped<R: RecordsMut, S: TextSink>(
-    alloc: Global,
-    sink: &mut S,
-    records: &mut R,
-    config: ColoredConfig,
-    target: usize,
-    words: bool,
+    fit: Fit,
+    /// The order in which its columns shrink.
     order: Order,
-) -> Result<(), TableError>
-    requires texts { AreTexts (R.cells records.old) }
-    requires rectangular { IsRectangular (R.cells records.old) }
-    ensures { IsRenderedOf (Plan.Wrapped target words order) (estimated (R.cells records.old) config.config) (S.sent sink.old) result (S.sent sink.new) }
-{
-    match order {
-        Order::Round => {
-            put_wrapped_by(
-                alloc,
-                sink,
-                records,
-                config,
+}
+
+impl Narrowing {
+    /// How a plan narrows a table; `None` where it prints the table as it is.
+    pub fn of(plan: Plan) -> Option<Narrowing>
+        ensures { MatchOption result (measured plan ≡ Buffered) (λ how. plan_of how ≡ measured plan) }
+    {
+        match plan {
+            Plan::Buffered | Plan::Streamed => None,
+            Plan::Wrapped {
                 target,
                 words,
-                PriorityNone::new(),
-            )
+                order,
+            } => Some(Narrowing {
+                target,
+                fit: Fit::Wrap { keep_words: words },
+                order,
+            }),
+            Plan::Shortened { target, order } => Some(Narrowing {
+                target,
+                fit: Fit::Truncate,
+                order,
+            }),
         }
-        Order::Least => {
-            put_wrapped_by(
-                alloc,
-                sink,
-                records,
-                config,
-                target,
-                words,
-                PriorityMin::new(true),
-            )
-        }
-        Order::Greatest => {
-            put_wrapped_by(
-                alloc,
-                sink,
-                records,
-                config,
-                target,
-                words,
-                PriorityMax::new(true),
-            )
-        }
-        Order::Leftmost => {
-            put_wrapped_by(
-                alloc,
-                sink,
-                records,
-                config,
-                target,
-                words,
-                PriorityLeft::new(),
-            )
-        }
-        Order::Rightmost => {
-            put_wrapped_by(
-                alloc,
-                sink,
-                records,
-                config,
-                target,
-                words,
-                PriorityRight::new(),
-            )
+    }
+
+    /// The option that wraps.
+    fn wrap(self, keep_words: bool) -> Wrap<usize, OrderPriority>
+        ensures plan { Wrapped result.width result.rule.keep_words result.priority.order
+            ≡ Wrapped self.target keep_words self.order }
+        ensures start { result.priority.round.kept ≡ 0 }
+    {
+        Wrap::new(self.target)
+            .keep_words(keep_words)
+            .priority(OrderPriority::new(self.order))
+    }
+
+    /// The option that truncates.
+    fn truncate(self) -> Truncate<'static, usize, OrderPriority>
+        ensures plan { Shortened result.width result.priority.order ≡ Shortened self.target self.order }
+        ensures start { result.priority.round.kept ≡ 0 }
+        ensures suffix { result.rule.suffix.now ≡ [] }
+        ensures limit { result.rule.limit ≡ Cut }
+        ensures multiline { result.rule.multiline ≡ false }
+    {
+        Truncate::new(self.target).priority(OrderPriority::new(self.order))
+    }
+
+    /// Narrows a table that wasn't measured, and returns the sizes that it gets.
+    fn apply<R: RecordsMut>(
+        self,
+        alloc: Global,
+        records: &mut R,
+        config: &mut ColoredConfig,
+    ) -> Result<CompleteDimension, TableError>
+        requires texts { AreTexts (R.cells records.old) }
+        requires rectangular { IsRectangular (R.cells records.old) }
+        ensures made { IfOk result (λ sizes. IsMade (plan_of self) (estimated (R.cells records.old) config.old.config)
+            (standing (R.cells records.new) config.new.config sizes)) }
+        ensures only { IfErr result (λ e. (e ≡ Memory) ⊎ (e ≡ Range)) }
+        ensures range { IfErr result (λ e. e ≡ Range → (is_empty (R.cells records.old) ≡ false)
+            × IsOutOfRange (estimated (R.cells records.old) config.old.config)) }
+    {
+        let mut sizes = CompleteDimension::new(alloc);
+        match self.fit {
+            Fit::Wrap { keep_words } => {
+                TableOption::change(self.wrap(keep_words), records, config, &mut sizes)?;
+                sizes.clear_height();
+                Ok(sizes)
+            }
+            Fit::Truncate => {
+                TableOption::change(self.truncate(), records, config, &mut sizes)?;
+                Ok(sizes)
+            }
         }
     }
 }
 
-/// Prints the table of some records under some settings, with wider texts cut so that it takes at most so many columns where it
-/// can.
-pub(crate) fn put_shortened<R: RecordsMut, S: TextSink>(
+/// Prints the table of some records under some settings, narrowed where it is wider than wanted.
+pub(crate) fn print_narrowed<R: RecordsMut, S: TextSink>(
     alloc: Global,
     sink: &mut S,
     records: &mut R,
-    config: ColoredConfig,
-    target: usize,
-    order: Order,
+    mut config: ColoredConfig,
+    how: Narrowing,
 ) -> Result<(), TableError>
     requires texts { AreTexts (R.cells records.old) }
     requires rectangular { IsRectangular (R.cells records.old) }
-    ensures { IsRenderedOf (Plan.Shortened target order) (estimated (R.cells records.old) config.config) (S.sent sink.old) result (S.sent sink.new) }
+    ensures { IsRenderedOf (plan_of how) (estimated (R.cells records.old) config.config)
+        (S.sent sink.old) result (S.sent sink.new) }
 {
-    match order {
-        Order::Round => put_shortened_by(alloc, sink, records, config, target, PriorityNone::new()),
-        Order::Least => put_shortened_by(
-            alloc,
-            sink,
-            records,
-            config,
-            target,
-            PriorityMin::new(true),
-        ),
-        Order::Greatest => put_shortened_by(
-            alloc,
-            sink,
-            records,
-            config,
-            target,
-            PriorityMax::new(true),
-        ),
-        Order::Leftmost => put_shortened_by(
-            alloc,
-            sink,
-            records,
-            config,
-            target,
-            PriorityLeft::new(),
-        ),
-        Order::Rightmost => put_shortened_by(
-            alloc,
-            sink,
-            records,
-            config,
-            target,
-            PriorityRight::new(),
-        ),
-    }
+    let sizes = how.apply(alloc, records, &mut config)?;
+    print_standing(sink, records, config.as_ref(), &sizes)
 }

@@ -13,7 +13,7 @@ ghost use Rattle.tabled_table.specs.NewConfig.{new_config};
 ghost use Rattle.tabled.specs.Planned.{measured};
 ghost use Rattle.tabled.specs.Rendered.{IsRendered, IsRenderedOf};
 
-use crate::narrowing::{put_shortened, put_wrapped};
+use crate::narrowing::{Narrowing, print_narrowed};
 use crate::plan::Plan;
 use crate::streaming::put_streamed;
 use std::alloc::Global;
@@ -52,30 +52,10 @@ fn put_measured<R: PeekableRecords, S: TextSink>(
     requires rectangular { IsRectangular (R.cells rows.now) }
     ensures { IsRenderedOf (measured plan) (estimated (R.cells rows.now) config.config) (S.sent sink.old) result (S.sent sink.new) }
 {
-    match plan {
-        Plan::Buffered | Plan::Streamed => print_estimated(alloc, sink, rows, config.as_ref()),
-        Plan::Wrapped {
-            target,
-            words,
-            order,
-        } => put_wrapped(
-            alloc,
-            sink,
-            &mut lend_cells(alloc, rows)?,
-            config,
-            target,
-            words,
-            order,
-        ),
-        Plan::Shortened { target, order } => put_shortened(
-            alloc,
-            sink,
-            &mut lend_cells(alloc, rows)?,
-            config,
-            target,
-            order,
-        ),
-    }
+    let Some(how) = Narrowing::of(plan) else {
+        return print_estimated(alloc, sink, rows, config.as_ref());
+    };
+    print_narrowed(alloc, sink, &mut lend_cells(alloc, rows)?, config, how)
 }
 
 /// Prints the table that a plan makes of records of single lines.

@@ -1,5 +1,5 @@
 -- What a map of changes finds by its places is the latest setting that covers a cell.
-use Rattle.std.proofs.Common.{cond, [], ◌∷◌, suc, refl, arith, ◌≡◌, ℕ, ◌-◌, ◌<◌, List, length, reverse, Option, Some, None, ap, sym, ◌∙◌, subst, get_or}
+use Rattle.std.proofs.Common.{cond, [], ◌∷◌, suc, refl, arith, ◌≡◌, ℕ, ◌-◌, ◌<◌, List, length, reverse, Option, Some, None, IfSome, ap, sym, ◌∙◌, subst, get_or}
 use Rattle.std.proofs.lemmas.List.{length-reverse, reverse-reverse, get_or-reverse}
 use Rattle.tabled_base.specs.declared.position.Entity.{Entity}
 use Rattle.tabled_base.specs.declared.position.Entity.TheVariants.{Global, Row, Column, Cell}
@@ -19,17 +19,15 @@ module _ {T : Type 0} where
   pub placed-below : (parts : List (Entity × T)) (row column i : ℕ) → Some i ≡ latest_place parts row column → i < length parts
   placed-below parts row column i e = subst (IsBelow (length parts)) (sym e) (below-latest_place parts row column)
 
+  pub latest-below : (parts : List (Entity × T)) (row column : ℕ) (place : Option ℕ) → place ≡ latest_place parts row column
+      → IfSome place (λ i. i < length parts)
+  latest-below parts row column None e = tt
+  latest-below parts row column (Some i) e = placed-below parts row column i e
+
   pub said_at-placed : (whole : T) (places : Places) (parts : List (Entity × T)) (row column : ℕ) (o : Option ℕ)
       → IsIndexed places parts → o ≡ latest_place parts row column → said_at whole parts o ≡ first_covering whole parts row column
   said_at-placed whole places parts row column o p e =
       ap (said_at whole parts) e ∙ said_at-latest whole parts row column (sym (p.found Global))
-
-  -- cells of a row that have the same latest places have the same settings
-  pub same-found : (whole : T) (places : Places) (parts : List (Entity × T)) (row column other : ℕ) → IsIndexed places parts
-      → latest (found places) row column ≡ latest (found places) row other → first_covering whole parts row column ≡ first_covering whole parts row other
-  same-found whole places parts row column other p e =
-      sym (said_at-placed whole places parts row column (latest (found places) row column) p (indexed-latest places parts row column p))
-      ∙ said_at-placed whole places parts row other (latest (found places) row column) p (e ∙ indexed-latest places parts row other p)
 
   -- rows whose cells have the same latest places have the same settings
   pub alike-found : (whole : T) (places : Places) (parts : List (Entity × T)) (row other column : ℕ) → IsIndexed places parts

@@ -1,5 +1,5 @@
 //! One setting of a table: for the whole of it, for rows, for columns and for cells.
-ghost use Rattle.std.specs.Prelude.{◌≡◌, ◌<◌, ℕ, IfOk, IfSome, IsOk, OnErr, OnOk, reverse, true};
+ghost use Rattle.std.specs.Prelude.{◌≡◌, ◌<◌, ℕ, IfOk, IfSome, IsOk, OnErr, OnOk, length, reverse, true};
 ghost use Rattle.tabled_entity.specs.Changes.{for_all, setting_at, shared, with_change};
 ghost use Rattle.tabled_entity.specs.Places.{IsPart, IsWhole, last_for, latest};
 ghost use Rattle.tabled_entity.specs.Series.{AreListed, IsTold};
@@ -33,11 +33,10 @@ pub struct EntityMap<T> {
 }
 
 /// The values of some changes that were made one after another, as far as they are told.
-fn series_of<T: Copy + Distinct>(alloc: Global, whole: T, changes: &[(Entity, T)]) -> Series<T>
+fn series_of<T: Copy + Distinct>(alloc: Global, changes: &[(Entity, T)]) -> Series<T>
     ensures listed { AreListed result }
-    ensures told { IsTold whole (reverse changes.now) result }
+    ensures told { (whole : T) → IsTold whole (reverse changes.now) result }
 {
-    let _whole = whole;
     let mut series = Series::new(alloc);
     'places: for place in 0..changes.len() {
         let change = changes[place];
@@ -137,13 +136,13 @@ impl<T: Copy> EntityMap<T> {
         self.places.are_all_alike()
     }
 
-    /// The value of a cell for which the latest change stands at a place, if there is one.
+    /// The value of the cells whose latest change stands at a place, if there is one.
     #[inline]
-    pub(crate) fn said(&self, row: usize, column: usize, place: Option<usize>) -> &T
-        requires { place ≡ latest (λ entity. last_for entity self.now.parts) row column }
-        ensures { result.now ≡ setting_at self.now row column }
+    pub(crate) fn said(&self, place: Option<usize>) -> &T
+        requires { IfSome place (λ i. i < length self.now.parts) }
+        ensures { (row column : ℕ) → place ≡ latest (λ entity. last_for entity self.now.parts) row column
+            → result.now ≡ setting_at self.now row column }
     {
-        let _cell = (row, column);
         match place {
             Some(place) => &self.changes[place].1,
             None => &self.whole,
@@ -154,7 +153,7 @@ impl<T: Copy> EntityMap<T> {
     fn found(&self, row: usize, column: usize) -> &T
         ensures { result.now ≡ setting_at self.now row column }
     {
-        self.said(row, column, self.places.latest(row, column))
+        self.said(self.places.latest(row, column))
     }
 
     /// The value of a cell.
@@ -180,7 +179,7 @@ impl<T: Copy> EntityMap<T> {
             return Some(value);
         }
         let place = self.places.of_row(row)?;
-        Some(self.said(row, 0, place))
+        Some(self.said(place))
     }
 
     /// The values of a row's first columns, if all are known to be one, or each is told by its place.
@@ -220,7 +219,7 @@ impl<T: Copy + Distinct> EntityMap<T> {
             whole: self.whole,
             changes: Vec::from_slice(*self.changes.allocator(), &self.changes)?,
             places: self.places.clone()?,
-            series: series_of(*self.changes.allocator(), self.whole, &self.changes),
+            series: series_of(*self.changes.allocator(), &self.changes),
             rows: self.rows.clone()?,
         })
     }

@@ -99,7 +99,7 @@ impl<'a, T: Copy> RowValues<'a, T> {
             return self.whole;
         };
         let place = places.at(column);
-        self.map.said(self.row, column, place)
+        self.map.said(place)
     }
 
     /// The value of the cell in a column.

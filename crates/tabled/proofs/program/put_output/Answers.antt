@@ -1,4 +1,3 @@
-use Rattle.std.proofs.Common.{sym}
 use Rattle.tabled_grid.specs.Picture.{table_text}
 use Rattle.tabled_row.proofs.Sending.{finished, sends-along}
 use Rattle.tabled.specs.Output.{with_feed}

@@ -3,7 +3,7 @@ use Rattle.std.specs.Prelude.{MatchResult, string_bytes}
 use Rattle.tabled_row.specs.Sent.{Writes}
 use Rattle.tabled.specs.BlockSent.{Advances, block, block_sent, waiting}
 use Rattle.tabled.specs.Output.{IsBegunOn, IsOutput, Puts, PutsOutput}
-use Rattle.tabled.proofs.Outputs.{either_output, output_none}
+use Rattle.tabled.proofs.Outputs.{either_output}
 use Rattle.tabled.proofs.Since.{ended_begun, ended_put, puts_err, puts_from}
 use Rattle.tabled.proofs.program.put_through.Goals as goal
 use Rattle.tabled.proofs.program.put_through.Goals.{in-Ok, in-Err}

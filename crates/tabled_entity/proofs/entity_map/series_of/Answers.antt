@@ -6,7 +6,7 @@ use Rattle.tabled_entity.proofs.Telling.{none-told, told-set}
 use Rattle.tabled_entity.proofs.entity_map.series_of.Goals as goal
 
 pub places-init : goal.places-init
-places-init g c = (c.new-series.ensures.listed, none-told c.args.whole (reverse (take 0 c.args.changes.now)) c.new-series.result c.new-series.ensures.none)
+places-init g c = (c.new-series.ensures.listed, λ whole. none-told whole (reverse (take 0 c.args.changes.now)) c.new-series.result c.new-series.ensures.none)
 
 pub put-requires : goal.put-requires
 put-requires g c = record { listed = c.places.invariant.0 }
@@ -17,18 +17,21 @@ places-preserved g c =
     let k = c.places.place in
     let change = c.index-changes-place.result in
     let is = get_or_read xs k change c.places-test.true c.index-changes-place.is change in
-    let told = told-set c.args.whole (reverse (take k xs)) change.0 change.1 c.places.series c.put.new.self c.places.invariant.1 c.put.ensures.put in
     let step : suc k ≡ k + 1 = omega arith in
     let next : change ∷ reverse (take k xs) ≡ reverse (take (k + 1) xs) =
     ap (λ x. x ∷ reverse (take k xs)) is
     ∙ sym (ap (λ n. reverse (take n xs)) (sym step) ∙ ap reverse (take-suc xs k change c.places-test.true)
-    ∙ reverse-append (take k xs) (get_or xs k change ∷ [])) in
-    (c.put.ensures.listed, subst (λ parts. IsTold c.args.whole parts c.put.new.self) next told)
+    ∙ reverse-append (take k xs) (get_or xs k change ∷ [])) in (
+      c.put.ensures.listed,
+      λ whole.
+          subst (λ parts. IsTold whole parts c.put.new.self) next
+          (told-set whole (reverse (take k xs)) change.0 change.1 c.places.series c.put.new.self (c.places.invariant.1 whole) c.put.ensures.put),
+    )
 
 pub returns-clause-listed : goal.returns-clause-listed
 returns-clause-listed g c = c.places.invariant.0
 
 pub returns-clause-told : goal.returns-clause-told
-returns-clause-told g c =
+returns-clause-told g c = λ whole.
     let xs = c.args.changes.now in
-    subst (λ items. IsTold c.args.whole (reverse items) c.places.series) (take_all c.places.place xs (omega (arith, c.places-test.false))) c.places.invariant.1
+    subst (λ items. IsTold whole (reverse items) c.places.series) (take_all c.places.place xs (omega (arith, c.places-test.false))) (c.places.invariant.1 whole)

@@ -13,7 +13,7 @@ invariant_of-result g c =
       record { found = λ entity. c.in_ok-clone.ensures.found entity ∙ c.self.invariant.0.found entity ∙ ap (λ xs. last_for entity (reverse xs)) (sym items) },
       (
         c.series_of.ensures.listed,
-        subst (λ xs. IsTold inside.whole (reverse xs) c.series_of.result) (again ∙ sym items) c.series_of.ensures.told,
+        subst (λ xs. IsTold inside.whole (reverse xs) c.series_of.result) (again ∙ sym items) (c.series_of.ensures.told inside.whole),
       ),
       record {
         at = λ row column.

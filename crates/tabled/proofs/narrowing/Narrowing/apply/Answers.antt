@@ -1,0 +1,83 @@
+use Rattle.std.proofs.Common.{◌≡◌, ◌∙◌, [], None, Some, ap, false, refl, subst, sym}
+use Rattle.tabled_base.specs.declared.position.Entity.TheVariants.{Row}
+use Rattle.tabled_change.specs.CellChanges.{if_wider, truncating}
+use Rattle.tabled_change.specs.declared.suffix.SuffixLimit.TheVariants.{Cut}
+use Rattle.tabled_config.specs.declared.colored.ColoredConfig.{ColoredConfig}
+use Rattle.tabled_config.specs.declared.spanned.SpannedConfig.{SpannedConfig}
+use Rattle.tabled_resize.specs.Narrowed.{Narrows}
+use Rattle.tabled_set.specs.Promised.{TruncatesAsPromised, WrapsAsPromised}
+use Rattle.tabled_size.specs.Cleared.{AreCleared}
+use Rattle.tabled_size.specs.Sheet.{estimated}
+use Rattle.tabled_size.specs.Standing.{standing}
+use Rattle.tabled.specs.declared.narrowing.Fit.{Fit}
+use Rattle.tabled.specs.declared.plan.Plan.{Plan}
+use Rattle.tabled.specs.declared.plan.Plan.TheVariants.{Wrapped, Shortened}
+use Rattle.tabled.specs.Narrowing.{IsMade, plan_of}
+use Rattle.tabled.specs.Orders.{Shrinks}
+use Rattle.tabled.proofs.FittedTables.{passes}
+use Rattle.tabled.proofs.Narrowings.{truncated, wrapped}
+use Rattle.tabled.proofs.RenderedTables.{range_only}
+use Rattle.tabled.proofs.narrowing.Narrowing.apply.Goals as goal
+
+pub returns-in_err-change-in-Wrap-clause-range : goal.returns-in_err-change-in-Wrap-clause-range
+returns-in_err-change-in-Wrap-clause-range g c =
+    range_only _ _ c.from_residual.ensures.1
+    (λ r.
+    let over = c.in_err-change-in-Wrap.ensures.range r in
+    (over.0, passes _ _ c.args.config.now.config c.new-sizes.result c.new-sizes.ensures.widths c.new-sizes.ensures.heights over))
+
+pub returns-in_err-change-in-Truncate-clause-range : goal.returns-in_err-change-in-Truncate-clause-range
+returns-in_err-change-in-Truncate-clause-range g c =
+    range_only _ _ c.from_residual-in_err-change-in-Truncate.ensures.1
+    (λ r.
+    let over = c.in_err-change-in-Truncate.ensures.range r in
+    (over.0, passes _ _ c.args.config.now.config c.new-sizes.result c.new-sizes.ensures.widths c.new-sizes.ensures.heights over))
+
+pub returns-in_ok-change-in-Wrap-clause-made : goal.returns-in_ok-change-in-Wrap-clause-made
+returns-in_ok-change-in-Wrap-clause-made g c =
+    let cells = g.R.ExactRecords.cells c.args.records.now in
+    let after = g.R.ExactRecords.cells c.change.new.records in
+    let none = c.new-sizes.result in
+    let left = c.change.new.dims in
+    let last = c.clear_height.new.self in
+    let w = c.wrap.result in
+    let config = c.args.config.now.config in
+    let same : c.change.new.cfg.config ≡ config = ap (λ (d : ColoredConfig). d.config) c.in_ok-change-in-Wrap.ensures.ok.1 in
+    let cleared : AreCleared (Some (Row 0)) left last = record { widths = c.clear_height.ensures.widths; heights = c.clear_height.ensures.heights } in
+    let promise = subst (λ d. WrapsAsPromised Shrinks w.priority w.rule.keep_words w.width (standing cells config none) (standing after d last)) same
+    (c.in_ok-change-in-Wrap.ensures.promised last cleared) in
+    let made = wrapped w.priority c.wrap.ensures.start w.width cells after config none left last c.new-sizes.ensures.widths c.new-sizes.ensures.heights
+    c.requires.rectangular c.requires.texts w.rule.keep_words c.in_ok-change-in-Wrap.ensures.ok.0 cleared promise in
+    let plan = c.wrap.ensures.plan ∙ sym (ap (λ (f : Fit). plan_of (record c.args.self { fit = f })) c.in-Wrap.is) in
+    subst (λ (p : Plan). IsMade p (estimated cells config) (standing after c.change.new.cfg.config last)) plan
+    (subst (λ (d : SpannedConfig). IsMade (Wrapped w.width w.rule.keep_words w.priority.order) (estimated cells config) (standing after d last)) (sym same) made)
+
+pub returns-in_ok-change-in-Truncate-clause-made : goal.returns-in_ok-change-in-Truncate-clause-made
+returns-in_ok-change-in-Truncate-clause-made g c =
+    let cells = g.R.ExactRecords.cells c.args.records.now in
+    let after = g.R.ExactRecords.cells c.change-in-Truncate.new.records in
+    let none = c.new-sizes.result in
+    let last = c.change-in-Truncate.new.dims in
+    let w = c.truncate.result in
+    let is = c.truncate.ensures in
+    let config = c.args.config.now.config in
+    let same : c.change-in-Truncate.new.cfg.config ≡ config = ap (λ (d : ColoredConfig). d.config) c.in_ok-change-in-Truncate.ensures.ok.1 in
+    let cleared : AreCleared None last last = record { widths = refl; heights = refl } in
+    let narrows : Narrows Shrinks w.priority (if_wider (truncating [] Cut false)) w.width cells config none after last =
+    subst (λ m. Narrows Shrinks w.priority (if_wider (truncating [] Cut m)) w.width cells config none after last) is.multiline
+    (subst (λ l. Narrows Shrinks w.priority (if_wider (truncating [] l w.rule.multiline)) w.width cells config none after last) is.limit
+    (subst (λ x. Narrows Shrinks w.priority (if_wider (truncating x w.rule.limit w.rule.multiline)) w.width cells config none after last) is.suffix
+    c.in_ok-change-in-Truncate.ensures.ok.0)) in
+    let old = standing cells config none in
+    let t = standing after config last in
+    let promise : TruncatesAsPromised Shrinks w.priority [] Cut false w.width old t =
+    subst (λ m. TruncatesAsPromised Shrinks w.priority [] Cut m w.width old t) is.multiline
+    (subst (λ l. TruncatesAsPromised Shrinks w.priority [] l w.rule.multiline w.width old t) is.limit
+    (subst (λ x. TruncatesAsPromised Shrinks w.priority x w.rule.limit w.rule.multiline w.width old t) is.suffix
+    (subst (λ d. TruncatesAsPromised Shrinks w.priority w.rule.suffix.now w.rule.limit w.rule.multiline w.width old (standing after d last)) same
+    (c.in_ok-change-in-Truncate.ensures.promised last cleared)))) in
+    let made = truncated w.priority is.start w.width cells after config none last last c.new-sizes.ensures.widths c.new-sizes.ensures.heights
+    c.requires.rectangular c.requires.texts narrows cleared promise in
+    let plan = is.plan ∙ sym (ap (λ (f : Fit). plan_of (record c.args.self { fit = f })) c.in-Truncate.is) in
+    subst (λ (p : Plan). IsMade p (estimated cells config) (standing after c.change-in-Truncate.new.cfg.config last)) plan
+    (subst (λ (d : SpannedConfig). IsMade (Shortened w.width w.priority.order) (estimated cells config) (standing after d last)) (sym same) made)

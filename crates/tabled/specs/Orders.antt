@@ -1,0 +1,30 @@
+-- How sizes shrink in an order that is known only at run time: by cases, as by the five priorities.
+use Rattle.std.specs.Prelude.{◌≡◌, ℕ, List, true, Option, MatchOption, length}
+use Rattle.tabled_priority.specs.Peak.{IsGreatest, IsLeast, IsLeftmost, IsNext, IsRightmost, NoneAbove}
+use Rattle.tabled_priority.specs.Shrunk.{IsLeftShrunk, IsMaxShrunk, IsMinShrunk, IsRightShrunk, IsRoundShrunk, place_after}
+use Rattle.tabled.specs.declared.order_priority.OrderPriority.{OrderPriority}
+use Rattle.tabled.specs.declared.plan.Order.{Order}
+use Rattle.tabled.specs.declared.plan.Order.TheVariants.{Round, Least, Greatest, Leftmost, Rightmost}
+
+-- the next place from a kept one, and the place that is kept then, which only `Round` reads
+abbrev pub IsNamed : Order → ℕ → List ℕ → List ℕ → Option ℕ → ℕ → Type 0
+IsNamed Round kept values mins answer kept' = MatchOption answer (NoneAbove values mins × (kept' ≡ kept))
+    (λ i. IsNext kept values mins i × (kept' ≡ place_after (length values) i))
+IsNamed Least kept values mins answer kept' = MatchOption answer (NoneAbove values mins) (IsLeast true values mins)
+IsNamed Greatest kept values mins answer kept' = MatchOption answer (NoneAbove values mins) (IsGreatest true values mins)
+IsNamed Leftmost kept values mins answer kept' = MatchOption answer (NoneAbove values mins) (IsLeftmost values mins)
+IsNamed Rightmost kept values mins answer kept' = MatchOption answer (NoneAbove values mins) (IsRightmost values mins)
+
+-- the new list, and the place that is kept then
+abbrev pub IsShrunk : Order → ℕ → List ℕ → List ℕ → ℕ → List ℕ → ℕ → Type 0
+IsShrunk Round kept old mins by new kept' = IsRoundShrunk kept old mins by new kept'
+IsShrunk Least kept old mins by new kept' = IsMinShrunk true old mins by new
+IsShrunk Greatest kept old mins by new kept' = IsMaxShrunk true old mins by new
+IsShrunk Leftmost kept old mins by new kept' = IsLeftShrunk old mins by new
+IsShrunk Rightmost kept old mins by new kept' = IsRightShrunk old mins by new
+
+abbrev pub Names : OrderPriority → List ℕ → List ℕ → Option ℕ → OrderPriority → Type 0
+Names s values mins answer t = IsNamed s.order s.round.kept values mins answer t.round.kept × (t.order ≡ s.order)
+
+abbrev pub Shrinks : OrderPriority → List ℕ → List ℕ → ℕ → List ℕ → OrderPriority → Type 0
+Shrinks s old mins by new t = IsShrunk s.order s.round.kept old mins by new t.round.kept × (t.order ≡ s.order)
