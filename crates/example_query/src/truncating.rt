@@ -1,6 +1,5 @@
 //! Cells that are truncated to their column, which a mark shows.
-ghost use Rattle.std.specs.Prelude.{◌≡◌, ◌≤◌, ◌<◌, ◌∷◌, ◌++◌, [], Ok, IfOk, MatchOption};
-ghost use Rattle.std.specs.Prelude.{chars, encode_utf8, length, string_bytes, IsUtf8};
+ghost use Rattle.std.specs.Prelude.{◌≡◌, ◌≤◌, ◌<◌, ◌∷◌, ◌++◌, [], Ok, IfOk, MatchOption, chars, encode_utf8, length, string_bytes, IsUtf8};
 ghost use Rattle.tabled_text.specs.Measure.{char_count, line_columns};
 ghost use Rattle.example_query.specs.Truncated.{Fits, IsLongestFitting, IsTruncated};
 

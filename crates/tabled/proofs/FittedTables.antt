@@ -5,16 +5,16 @@ use Rattle.std.proofs.Math.Seq.{take-length}
 use Rattle.std.proofs.lemmas.Bool.{MatchBool-at_true, MatchBool-at_false, cases_Bool, le-leb}
 use Rattle.tabled_base.specs.Cells.{columns}
 use Rattle.tabled_base.specs.declared.position.Entity.{Entity}
-use Rattle.tabled_change.specs.CellChanges.{AreChanged}
+use Rattle.tabled_set.specs.CellChanges.{AreChanged}
 use Rattle.tabled_config.specs.declared.spanned.SpannedConfig.{SpannedConfig}
 use Rattle.tabled_grid.specs.Printed.{IsOutOfRange}
 use Rattle.tabled_grid.proofs.EstimatedSizes.{passes_too_high, passes_too_wide}
 use Rattle.tabled_grid.proofs.StandingSizes.{standing_estimated}
-use Rattle.tabled_resize.specs.Minimums.{emptied, minimums}
-use Rattle.tabled_resize.specs.Narrowed.{IsNarrowed, Narrows, NarrowingOutOfRange, for_room}
-use Rattle.tabled_resize.specs.Priorities.{TakesFrom}
-use Rattle.tabled_resize.proofs.Emptied.{emptied-cell, emptied-columns, emptied-rows, minimums-length}
-use Rattle.tabled_resize.proofs.ExactTotals.{new_widths}
+use Rattle.tabled_set.specs.Minimums.{emptied, minimums}
+use Rattle.tabled_set.specs.Narrowed.{IsNarrowed, Narrows, NarrowingOutOfRange, for_room}
+use Rattle.tabled_set.specs.Priorities.{TakesFrom}
+use Rattle.tabled_set.proofs.Emptied.{emptied-cell, emptied-columns, emptied-rows, minimums-length}
+use Rattle.tabled_set.proofs.ExactTotals.{new_widths}
 use Rattle.tabled_size.specs.Cleared.{AreCleared}
 use Rattle.tabled_size.specs.Entries.{clears_heights, clears_widths, unless_cleared}
 use Rattle.tabled_size.specs.Estimates.{IsTooWide, estimated_heights, estimated_widths}

@@ -2,14 +2,14 @@
 use Rattle.std.proofs.Common.{◌≡◌, ℕ, ◌<◌, Bool, true, false, List, [], Some, None, refl, subst}
 use Rattle.tabled_base.specs.Cells.{IsRectangular}
 use Rattle.tabled_base.specs.declared.position.Entity.TheVariants.{Row}
-use Rattle.tabled_change.specs.CellChanges.{if_wider, truncating, wrapping}
-use Rattle.tabled_change.specs.declared.suffix.SuffixLimit.TheVariants.{Cut}
+use Rattle.tabled_set.specs.CellChanges.{if_wider, truncating, wrapping}
+use Rattle.tabled_set.specs.declared.suffix.SuffixLimit.TheVariants.{Cut}
 use Rattle.tabled_config.specs.declared.spanned.SpannedConfig.{SpannedConfig}
 use Rattle.tabled_grid.proofs.StandingSizes.{standing_estimated}
-use Rattle.tabled_resize.specs.BestNarrowing.{HasLeastWidth}
-use Rattle.tabled_resize.specs.ExactTotal.{HasExactTotal}
-use Rattle.tabled_resize.specs.Narrowed.{Narrows}
-use Rattle.tabled_resize.specs.Priorities.{TakesGreatest}
+use Rattle.tabled_set.specs.BestNarrowing.{HasLeastWidth}
+use Rattle.tabled_set.specs.ExactTotal.{HasExactTotal}
+use Rattle.tabled_set.specs.Narrowed.{Narrows}
+use Rattle.tabled_set.specs.Priorities.{TakesGreatest}
 use Rattle.tabled_set.specs.Promised.{TruncatesAsPromised, WrapsAsPromised}
 use Rattle.tabled_size.specs.Cleared.{AreCleared}
 use Rattle.tabled_size.specs.Sheet.{Sheet, estimated}

@@ -4,9 +4,9 @@ use Rattle.std.specs.Prelude.{MatchResult}
 use Rattle.std.specs.Result.{IsErrAnd}
 use Rattle.tabled_base.specs.declared.error.TableError.{TableError}
 use Rattle.tabled_base.specs.declared.error.TableError.TheVariants.{Memory, ShortWidths, ShortHeights, Narrow, Range, Writer}
-use Rattle.tabled_lent.specs.TextRows.{text_rows}
+use Rattle.tabled_records.specs.TextRows.{text_rows}
 use Rattle.tabled_grid.specs.Picture.{table_text}
-use Rattle.tabled_row.specs.Sent.{IsCause, Sent, Writes}
+use Rattle.tabled_line.specs.Sent.{IsCause, Sent, Writes}
 use Rattle.tabled.specs.declared.plan.Plan.{Plan}
 use Rattle.tabled.specs.Headline.{IsBestPlanned}
 use Rattle.tabled.specs.Output.{IsBegunOn, IsOutput, Overflows, PutsOutput, with_feed}

@@ -6,16 +6,16 @@ use Rattle.std.proofs.lemmas.List.{get_or_default}
 use Rattle.tabled_base.specs.Cells.{IsRectangular, columns}
 use Rattle.tabled_base.specs.declared.error.TableError.{TableError}
 use Rattle.tabled_base.specs.declared.error.TableError.TheVariants.{Memory, ShortWidths, ShortHeights, Narrow, Range, Writer}
-use Rattle.tabled_change.specs.CellChanges.{AreChanged}
+use Rattle.tabled_set.specs.CellChanges.{AreChanged}
 use Rattle.tabled_grid.specs.ApartSheet.{IsApartConfig}
 use Rattle.tabled_grid.specs.Picture.{picture}
 use Rattle.tabled_grid.specs.Printed.{IsRefused, Prints}
 use Rattle.tabled_grid.proofs.EstimatedSizes.{holds_estimated, sized_estimated}
-use Rattle.tabled_resize.proofs.ExactTotals.{changed_empty}
-use Rattle.tabled_resize.specs.ExactTotal.{HasExactTotal}
-use Rattle.tabled_resize.specs.Narrowed.{for_room}
-use Rattle.tabled_row.specs.Plain.{EachLineTakes}
-use Rattle.tabled_row.specs.Sent.{Sent}
+use Rattle.tabled_set.proofs.ExactTotals.{changed_empty}
+use Rattle.tabled_set.specs.ExactTotal.{HasExactTotal}
+use Rattle.tabled_set.specs.Narrowed.{for_room}
+use Rattle.tabled_line.specs.Plain.{EachLineTakes}
+use Rattle.tabled_line.specs.Sent.{Sent}
 use Rattle.tabled_set.specs.Promised.{IsWiderThan}
 use Rattle.tabled_size.specs.Holds.{Holds, IsSized}
 use Rattle.tabled_size.specs.Sheet.{Sheet, estimated, is_empty}

@@ -5,24 +5,22 @@ use Rattle.std.proofs.lemmas.Bool.{eqb-true, le-leb, or_cases}
 use Rattle.tabled_base.specs.Cells.{IsInside, IsRectangular, columns}
 use Rattle.tabled_base.specs.declared.error.TableError.{TableError}
 use Rattle.tabled_base.specs.declared.error.TableError.TheVariants.{Memory, ShortWidths, ShortHeights, Narrow, Range, Writer}
-use Rattle.tabled_change.specs.CellChanges.{if_wider, truncating, wrapping}
-use Rattle.tabled_change.specs.declared.suffix.SuffixLimit.TheVariants.{Cut}
+use Rattle.tabled_set.specs.CellChanges.{if_wider, truncating, wrapping}
+use Rattle.tabled_set.specs.declared.suffix.SuffixLimit.TheVariants.{Cut}
 use Rattle.tabled_grid.specs.Picture.{picture, table_text}
-use Rattle.tabled_resize.specs.ExactTotal.{HasExactTotal}
-use Rattle.tabled_row.specs.Sent.{Sent}
+use Rattle.tabled_set.specs.ExactTotal.{HasExactTotal}
+use Rattle.tabled_line.specs.Sent.{Sent, IsCause}
 use Rattle.tabled_size.specs.Sheet.{Sheet, estimated, is_empty}
 use Rattle.tabled_config.specs.declared.spanned.SpannedConfig.{SpannedConfig}
 use Rattle.tabled_size.specs.TextCells.{AreTexts}
-use Rattle.tabled_size.specs.Totals.{total_width}
+use Rattle.tabled_size.specs.Totals.{total_width, filled_width}
 use Rattle.tabled_table.specs.NewConfig.{new_config}
 use Rattle.tabled_table.specs.TableSheet.{new_sheet}
 use Rattle.tabled_table.proofs.NewTables.{new_apart}
 use Rattle.tabled_table.proofs.Sheets.{sheet_lines}
-use Rattle.tabled_row.specs.Sent.{IsCause}
-use Rattle.tabled_row.proofs.Sending.{sends-along, sends-none}
-use Rattle.tabled_resize.specs.BestNarrowing.{IsBestCut, IsBestWrapped}
+use Rattle.tabled_line.proofs.Sending.{sends-along, sends-none}
+use Rattle.tabled_set.specs.BestNarrowing.{IsBestCut, IsBestWrapped}
 use Rattle.tabled_size.specs.Estimates.{estimated_widths}
-use Rattle.tabled_size.specs.Totals.{filled_width}
 use Rattle.std.specs.Result.{IsErrAnd, IsOk}
 use Rattle.tabled.specs.declared.plan.Plan.{Plan}
 use Rattle.tabled.specs.declared.plan.Plan.TheVariants.{Buffered, Streamed, Wrapped, Shortened}

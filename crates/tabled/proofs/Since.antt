@@ -6,8 +6,8 @@ use Rattle.std.specs.Io.KnownBytes.{Appends, Keeps, append_known}
 use Rattle.std.specs.Result.{IsErrAnd}
 use Rattle.tabled_base.specs.declared.error.TableError.{TableError}
 use Rattle.tabled_base.specs.declared.error.TableError.TheVariants.{Writer}
-use Rattle.tabled_row.specs.Sent.{IsCause, Rose, Sent, Sends, Stops, Writes}
-use Rattle.tabled_row.proofs.Sending.{Appends-nil, Appends-then, Keeps-same}
+use Rattle.tabled_line.specs.Sent.{IsCause, Rose, Sent, Sends, Stops, Writes}
+use Rattle.tabled_line.proofs.Sending.{Appends-nil, Appends-then, Keeps-same}
 use Rattle.tabled.proofs.Blocks.{delivered, handed_over, kept_waiting}
 use Rattle.tabled.specs.BlockSent.{Advances, Block, begins, block_sent, sent_since, since}
 use Rattle.tabled.specs.Output.{Begins, Puts}

@@ -10,7 +10,7 @@ use Rattle.std.specs.Str.{IsUtf8}
 use Rattle.tabled_base.specs.Cells.{IsRectangular, cell_at, columns}
 use Rattle.tabled_base.specs.declared.error.TableError.{TableError}
 use Rattle.tabled_base.specs.declared.error.TableError.TheVariants.{Memory, Range}
-use Rattle.tabled_change.specs.CellChanges.{AreChanged}
+use Rattle.tabled_set.specs.CellChanges.{AreChanged}
 use Rattle.tabled_config.specs.Spanned.{spanned_of_compact}
 use Rattle.tabled_config.specs.declared.compact.CompactConfig.{CompactConfig}
 use Rattle.tabled_config.specs.Settings.{style_at}
@@ -18,26 +18,26 @@ use Rattle.tabled_grid.specs.ApartSheet.{IsApartConfig}
 use Rattle.tabled_grid.specs.Printed.{IsPrintable}
 use Rattle.tabled_grid.proofs.EstimatedSizes.{sized_estimated}
 use Rattle.tabled_priority.specs.Permitted.{at}
-use Rattle.tabled_resize.specs.BestNarrowing.{text_room}
-use Rattle.tabled_resize.specs.Minimums.{side_padding}
-use Rattle.tabled_row.specs.Sent.{IsCause, Sent}
+use Rattle.tabled_set.specs.BestNarrowing.{text_room}
+use Rattle.tabled_set.specs.Minimums.{side_padding}
+use Rattle.tabled_line.specs.Sent.{IsCause, Sent}
 use Rattle.tabled_size.specs.Estimates.{column_width, estimated_heights, estimated_widths}
 use Rattle.tabled_size.specs.Sheet.{Sheet, is_empty}
 use Rattle.tabled_size.specs.TextCells.{AreTexts}
 use Rattle.tabled_size.specs.Totals.{filled_height, filled_width}
 use Rattle.tabled_size.proofs.Passing.{width_at}
-use Rattle.tabled_stream.specs.GoesOn.{GoesOn}
-use Rattle.tabled_apart.specs.Exact.{IsExactLine}
-use Rattle.tabled_stream.specs.LikeTable.{AreMeasured, IsLikeTable}
-use Rattle.tabled_stream.specs.NewTable.{IsNewConfig, new_settings}
-use Rattle.tabled_stream.specs.Printed.{text_above}
-use Rattle.tabled_stream.specs.Streamed.{IsStreamed, column_count, content_width, sniffed, stream_height, stream_widths, tallest}
-use Rattle.tabled_stream.specs.Streams.{AreSniffed, IsFilled, IsTooHighFirst, PrintsStream, StreamStops, StopsAtEnd, StopsAtRow, StopsEarly, StopsInRows, Streams, stream_total}
-use Rattle.tabled_stream.specs.declared.settings.Settings.{Settings}
-use Rattle.tabled_stream.proofs.SameSheet.{all-sniffed, counted-columns, heights-same, like_table, row-cut, width-same, widths-same}
-use Rattle.tabled_stream.proofs.StreamedTexts.{streamed_holds, streamed_rectangular, streamed_texts}
-use Rattle.tabled_stream.proofs.TakenRows.{enough_sniffed}
-use Rattle.tabled_stream.proofs.WholeTexts.{goes_on}
+use Rattle.tabled_table.specs.Stream.GoesOn.{GoesOn}
+use Rattle.tabled_text.specs.Exact.{IsExactLine}
+use Rattle.tabled_table.specs.Stream.LikeTable.{AreMeasured, IsLikeTable}
+use Rattle.tabled_table.specs.Stream.NewTable.{IsNewConfig, new_settings}
+use Rattle.tabled_table.specs.Stream.Printed.{text_above}
+use Rattle.tabled_table.specs.Stream.Streamed.{IsStreamed, column_count, content_width, sniffed, stream_height, stream_widths, tallest}
+use Rattle.tabled_table.specs.Stream.Streams.{AreSniffed, IsFilled, IsTooHighFirst, PrintsStream, StreamStops, StopsAtEnd, StopsAtRow, StopsEarly, StopsInRows, Streams, stream_total}
+use Rattle.tabled_table.specs.declared.iter_table.settings.Settings.{Settings}
+use Rattle.tabled_table.proofs.Stream.SameSheet.{all-sniffed, counted-columns, heights-same, like_table, row-cut, width-same, widths-same}
+use Rattle.tabled_table.proofs.Stream.StreamedTexts.{streamed_holds, streamed_rectangular, streamed_texts}
+use Rattle.tabled_table.proofs.Stream.TakenRows.{enough_sniffed}
+use Rattle.tabled_table.proofs.Stream.WholeTexts.{goes_on}
 use Rattle.tabled_table.specs.NewConfig.{new_config}
 use Rattle.tabled_table.specs.TableSheet.{new_sheet}
 use Rattle.tabled_table.proofs.NewTables.{new_apart}

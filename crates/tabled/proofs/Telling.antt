@@ -1,7 +1,7 @@
 -- Lines that a writer is handed.
 use Rattle.std.proofs.Common.{◌≡◌, ℕ, List, [], ◌++◌, take, drop, Option, Result, Ok, Err, sym, ap, subst, ◌∙◌, append-nil, append_assoc, take-append-drop}
 use Rattle.std.specs.Io.KnownBytes.{Appends, Keeps}
-use Rattle.tabled_row.proofs.Sending.{Appends-nil, Appends-then}
+use Rattle.tabled_line.proofs.Sending.{Appends-nil, Appends-then}
 use Rattle.tabled.specs.Output.{Begins, Handed, Puts}
 
 pub handed_more : (a b c : Option (List ℕ)) (text rest next : List ℕ) (n : ℕ) → Handed a b text rest → Appends b c (take n rest) → next ≡ drop n rest

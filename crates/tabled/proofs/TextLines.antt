@@ -6,8 +6,8 @@ use Rattle.std.proofs.lemmas.List.Elements.{All-append, All-cons, All-head, All-
 use Rattle.std.proofs.lemmas.List.Splits.{slice_split_none}
 use Rattle.tabled_text.specs.Measure.{lines_of}
 use Rattle.tabled_base.specs.Cells.{lengthened}
-use Rattle.tabled_lent.specs.LentRows.{HasNo}
-use Rattle.tabled_lent.specs.TextRows.{cells_of, most_cells, row_lines, text_rows, without_last_feed}
+use Rattle.tabled_records.specs.LentRows.{HasNo}
+use Rattle.tabled_records.specs.TextRows.{cells_of, most_cells, row_lines, text_rows, without_last_feed}
 
 -- a part begins with one more element that it may have
 onto : {X : Type 0} (R : X → Type 0) (x : X) (parts : List (List X)) → R x → All (All R) parts → All (All R) (onto_first x parts)

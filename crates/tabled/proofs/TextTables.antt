@@ -10,14 +10,14 @@ use Rattle.tabled_text.specs.Cut.{IsCut}
 use Rattle.tabled_text.specs.Measure.{lines_of}
 use Rattle.tabled_base.specs.Cells.{IsRectangular, lengthened}
 use Rattle.tabled_base.proofs.Lengthening.{length-lengthened}
-use Rattle.tabled_lent.specs.TextRows.{cells_of, most_cells, row_lines, text_rows, without_last_feed}
-use Rattle.tabled_lent.proofs.Splitting.{rows-rectangular}
-use Rattle.tabled_lent.proofs.TextCells.{text_cells}
-use Rattle.tabled_change.specs.CellChanges.{AreChanged, if_wider, truncating, wrapping}
-use Rattle.tabled_change.specs.declared.suffix.SuffixLimit.TheVariants.{Cut}
-use Rattle.tabled_resize.specs.BestNarrowing.{text_room}
-use Rattle.tabled_resize.specs.Narrowed.{for_room}
-use Rattle.tabled_resize.proofs.ExactTotals.{changed_empty}
+use Rattle.tabled_records.specs.TextRows.{cells_of, most_cells, row_lines, text_rows, without_last_feed}
+use Rattle.tabled_records.proofs.Splitting.{rows-rectangular}
+use Rattle.tabled_records.proofs.TextCells.{text_cells}
+use Rattle.tabled_set.specs.CellChanges.{AreChanged, if_wider, truncating, wrapping}
+use Rattle.tabled_set.specs.declared.suffix.SuffixLimit.TheVariants.{Cut}
+use Rattle.tabled_set.specs.BestNarrowing.{text_room}
+use Rattle.tabled_set.specs.Narrowed.{for_room}
+use Rattle.tabled_set.proofs.ExactTotals.{changed_empty}
 use Rattle.tabled_size.specs.Sheet.{Sheet, is_empty}
 use Rattle.tabled_size.specs.TextCells.{AreTexts}
 use Rattle.tabled_size.specs.Totals.{total_width}

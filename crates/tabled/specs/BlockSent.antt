@@ -1,7 +1,7 @@
 -- What a sink over a block of bytes was sent, and what its writer has of it.
 use Rattle.std.specs.Prelude.{◌≡◌, ℕ, ◌==◌, ◌&&◌, if◌then◌else◌, Bool, true, false, List, [], ◌∷◌, Option, Some, None, drop, take}
 use Rattle.std.specs.Io.KnownBytes.{Appends, append_known}
-use Rattle.tabled_row.specs.Sent.{Sent}
+use Rattle.tabled_line.specs.Sent.{Sent}
 use Rattle.tabled.specs.declared.block_sink.BlockSink.{BlockSink}
 use Rattle.tabled.specs.declared.held.Held.{Held}
 

@@ -1,13 +1,13 @@
 -- What holds of the table that a plan makes of the cells of a text, each sentence by a name of its own.
 use Rattle.std.specs.Prelude.{◌≡◌, ◌<◌, ℕ, false, ⊤, length}
 use Rattle.std.specs.List.{All}
-use Rattle.tabled_apart.specs.Exact.{IsExactLine}
+use Rattle.tabled_text.specs.Exact.{IsExactLine}
 use Rattle.tabled_config.specs.declared.spanned.SpannedConfig.{SpannedConfig}
 use Rattle.tabled_grid.specs.ApartSheet.{IsApartConfig}
 use Rattle.tabled_grid.specs.Picture.{picture}
-use Rattle.tabled_resize.specs.BestNarrowing.{HasLeastWidth, IsBestCut, IsBestWrapped}
-use Rattle.tabled_resize.specs.ExactTotal.{HasExactTotal}
-use Rattle.tabled_row.specs.Plain.{EachLineTakes}
+use Rattle.tabled_set.specs.BestNarrowing.{HasLeastWidth, IsBestCut, IsBestWrapped}
+use Rattle.tabled_set.specs.ExactTotal.{HasExactTotal}
+use Rattle.tabled_line.specs.Plain.{EachLineTakes}
 use Rattle.tabled_size.specs.Sheet.{Sheet}
 use Rattle.tabled_size.specs.Totals.{total_height, total_width}
 use Rattle.tabled_table.specs.TableSheet.{new_sheet}

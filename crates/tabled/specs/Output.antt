@@ -3,7 +3,7 @@ use Rattle.std.specs.Prelude.{◌≡◌, ◌⊎◌, ℕ, ◌==◌, if◌then◌e
 use Rattle.std.specs.Io.KnownBytes.{Appends}
 use Rattle.tabled_base.specs.declared.error.TableError.{TableError}
 use Rattle.tabled_base.specs.declared.error.TableError.TheVariants.{Memory, Range, Writer}
-use Rattle.tabled_lent.specs.TextRows.{text_rows}
+use Rattle.tabled_records.specs.TextRows.{text_rows}
 use Rattle.tabled_grid.specs.Picture.{table_text}
 use Rattle.tabled_size.specs.Sheet.{Sheet}
 use Rattle.tabled_table.specs.TableSheet.{new_sheet}

@@ -1,10 +1,10 @@
 -- The table that a plan makes of the cells of a text.
 use Rattle.std.specs.Prelude.{◌≡◌, ℕ, ◌-◌, true, false, List, [], MatchBool, nat_le}
-use Rattle.tabled_change.specs.CellChanges.{AreChanged, if_wider, truncating, wrapping}
-use Rattle.tabled_change.specs.declared.suffix.SuffixLimit.TheVariants.{Cut}
-use Rattle.tabled_resize.specs.BestNarrowing.{text_room}
-use Rattle.tabled_resize.specs.Minimums.{minimums}
-use Rattle.tabled_resize.specs.Narrowed.{for_room}
+use Rattle.tabled_set.specs.CellChanges.{AreChanged, if_wider, truncating, wrapping}
+use Rattle.tabled_set.specs.declared.suffix.SuffixLimit.TheVariants.{Cut}
+use Rattle.tabled_set.specs.BestNarrowing.{text_room}
+use Rattle.tabled_set.specs.Minimums.{minimums}
+use Rattle.tabled_set.specs.Narrowed.{for_room}
 use Rattle.tabled_size.specs.Estimates.{estimated_heights}
 use Rattle.tabled_size.specs.Sheet.{Sheet}
 use Rattle.tabled_size.specs.Totals.{total_width}

@@ -5,7 +5,7 @@ use Rattle.tabled_base.specs.declared.error.TableError.{TableError}
 use Rattle.tabled_base.specs.declared.error.TableError.TheVariants.{Memory, Range}
 use Rattle.tabled_grid.specs.Picture.{table_text}
 use Rattle.tabled_grid.specs.Printed.{IsOutOfRange, IsPrintable}
-use Rattle.tabled_row.specs.Sent.{IsCause, Sends, Sent}
+use Rattle.tabled_line.specs.Sent.{IsCause, Sends, Sent}
 use Rattle.tabled_size.specs.Sheet.{Sheet, is_empty}
 use Rattle.tabled_table.specs.TableSheet.{new_sheet}
 use Rattle.tabled.specs.declared.plan.Plan.{Plan}

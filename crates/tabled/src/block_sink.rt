@@ -1,7 +1,7 @@
 //! A writer behind a block of bytes.
 ghost use Rattle.std.specs.Prelude.{◌≡◌, ◌+◌, ◌<◌, ◌≤◌, ℕ, List, [], IfErr, OnOk, length};
 ghost use Rattle.tabled_base.specs.declared.error.TableError.TheVariants.{Writer};
-ghost use Rattle.tabled_row.specs.Sent.{Rose, Sends, Writes};
+ghost use Rattle.tabled_line.specs.Sent.{Rose, Sends, Writes};
 ghost use Rattle.tabled.specs.BlockSent.{Advances, Block, block, block_sent, sent_since, waiting};
 
 use crate::held::{BLOCK, Held};

@@ -27,7 +27,7 @@ pub use program::run;
 pub use rendering::{render, render_styled};
 pub use tabled_base::{TableError, Text};
 pub use tabled_grid::{IoSink, TextSink};
-pub use tabled_row::WriterSink;
+pub use tabled_line::WriterSink;
 pub use tabled_table::Table;
 pub use tabled_value::Tabled;
 
@@ -44,13 +44,13 @@ pub use tabled_value::Tabled;
 /// }
 /// ```
 pub mod laws {
-    pub use tabled_apart::laws::{
+    pub use tabled_text::general_laws::{
         count_is_bound, exact_lines, lines_of_any_text, separators, texts_that_fit,
     };
     pub use tabled_grid::laws::pictures;
-    pub use tabled_row::laws::rows_of_any_text;
+    pub use tabled_line::laws::rows_of_any_text;
     pub use tabled_set::laws::truncated_texts;
-    pub use tabled_stream::laws::{
+    pub use tabled_table::laws::{
         streams_go_on, streams_hold, streams_like_tables, texts_can_be_cut,
     };
     pub use tabled_table::laws::new_tables;
@@ -72,7 +72,7 @@ pub mod tables {
     pub use tabled_compact::CompactTable;
     pub use tabled_extended::{ExtendedTable, FnTemplate, LabelFn, RecordTemplate, Template};
     pub use tabled_pool::{PoolTable, TableValue};
-    pub use tabled_stream::IterTable;
+    pub use tabled_table::IterTable;
     pub use tabled_table::Table;
 }
 
@@ -278,9 +278,9 @@ pub mod grid {
             CellText, ExactRecords, IntoRecords, PeekableRecords, Records, RecordsMut, Text,
             VecRecords,
         };
-        pub use tabled_joined::JoinedRecords;
-        pub use tabled_lent::{LentRows, lend_cells};
-        pub use tabled_views::{EmptyRecords, IterRecords};
+        pub use tabled_records::JoinedRecords;
+        pub use tabled_records::{LentRows, lend_cells};
+        pub use tabled_records::{EmptyRecords, IterRecords};
 
         /// Views of records, which are taken row by row.
         ///
@@ -289,7 +289,7 @@ pub mod grid {
         /// let table = IterTable::new(LimitColumns::new(rows, 1));
         /// ```
         pub mod into_records {
-            pub use tabled_views::{
+            pub use tabled_records::{
                 BufRecords, CutCell, LimitColumns, LimitRows, SkipRows, TruncateContent,
             };
         }
@@ -318,7 +318,7 @@ pub mod grid {
         /// let beginning = cut_str(alloc, "goes to the next field", 12)?;
         /// ```
         pub mod string {
-            pub use tabled_apart::is_separator_column;
+            pub use tabled_text::is_separator_column;
             pub use tabled_text::{
                 TextLines, count_lines, cut_str, is_additive, is_additive_column, is_fullest,
                 is_plain, is_plain_column, line_width, lines, split_str, text_width, wrap_text,

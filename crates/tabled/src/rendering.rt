@@ -6,8 +6,8 @@ ghost use Rattle.tabled_config.specs.Options.{with_style};
 ghost use Rattle.tabled_size.specs.Sheet.{estimated, is_empty};
 ghost use Rattle.tabled_base.specs.declared.error.TableError.TheVariants.{Memory, Range, Writer};
 ghost use Rattle.tabled_base.specs.Cells.{IsRectangular};
-ghost use Rattle.tabled_lent.specs.TextRows.{text_rows};
-ghost use Rattle.tabled_row.specs.Sent.{Sent};
+ghost use Rattle.tabled_records.specs.TextRows.{text_rows};
+ghost use Rattle.tabled_line.specs.Sent.{Sent};
 ghost use Rattle.tabled_size.specs.TextCells.{AreTexts};
 ghost use Rattle.tabled_table.specs.NewConfig.{new_config};
 ghost use Rattle.tabled.specs.Planned.{measured};
@@ -20,7 +20,7 @@ use std::alloc::Global;
 use tabled_base::{PeekableRecords, TableError, TableOption};
 use tabled_config::{ColoredConfig, Style};
 use tabled_grid::{TextSink, print_estimated};
-use tabled_lent::{lend_cells, text_rows};
+use tabled_records::{lend_cells, text_rows};
 use tabled_table::new_config;
 
 /// The settings of a new table.

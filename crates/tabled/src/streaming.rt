@@ -4,7 +4,7 @@ ghost use Rattle.std.specs.List.{All};
 ghost use Rattle.tabled_text.specs.Measure.{lines_of};
 ghost use Rattle.tabled_size.specs.Sheet.{is_empty};
 ghost use Rattle.tabled_base.specs.Cells.{IsRectangular};
-ghost use Rattle.tabled_row.specs.Sent.{Sent};
+ghost use Rattle.tabled_line.specs.Sent.{Sent};
 ghost use Rattle.tabled_size.specs.TextCells.{AreTexts};
 ghost use Rattle.tabled.specs.Rendered.{IsRendered};
 
@@ -12,7 +12,7 @@ use crate::plan::Plan;
 use std::alloc::Global;
 use tabled_base::{CellText, ExactRecords, TableError, VecRecords};
 use tabled_grid::TextSink;
-use tabled_stream::IterTable;
+use tabled_table::IterTable;
 
 /// Prints records as a stream that reads all of their rows ahead.
 pub(crate) fn put_streamed<T: CellText, S: TextSink>(

@@ -2,11 +2,11 @@
 use Rattle.std.proofs.Common.{◌≡◌, ◌∙◌, ℕ, true, List, [], ◌++◌, Some, Err, ap, refl, subst, ⊎_elim}
 use Rattle.tabled_base.specs.declared.error.TableError.{TableError}
 use Rattle.tabled_base.specs.declared.error.TableError.TheVariants.{Memory, Range}
-use Rattle.tabled_lent.specs.TextRows.{text_rows}
+use Rattle.tabled_records.specs.TextRows.{text_rows}
 use Rattle.tabled_config.specs.Options.{with_style}
 use Rattle.tabled_config.specs.declared.style.Style.{Style}
 use Rattle.tabled_grid.specs.Picture.{table_text}
-use Rattle.tabled_row.specs.Sent.{Sent}
+use Rattle.tabled_line.specs.Sent.{Sent}
 use Rattle.tabled_size.specs.Sheet.{Sheet, estimated}
 use Rattle.tabled_table.specs.NewConfig.{new_config}
 use Rattle.tabled.specs.declared.plan.Plan.{Plan}

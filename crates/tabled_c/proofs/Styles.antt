@@ -2,16 +2,16 @@
 use Rattle.std.proofs.Common.{◌≡◌, ℕ, ◌==◌, ◌&&◌, Bool, true, false, cond, Option, Some, None, refl, subst, unwrap_or, lit<, inl, inr}
 use Rattle.std.specs.Ordering.{is_eq, nat_cmp}
 use Rattle.std.proofs.lemmas.Bool.{and_from, or_left, eq-eqb}
-use Rattle.tabled_apart.specs.Lines.{IsSeparatorColumn}
-use Rattle.tabled_border.specs.Frame.{border_at, bottom_line, if_any, inner_line, top_line}
-use Rattle.tabled_border.specs.Lines.{line_set}
-use Rattle.tabled_border.specs.declared.borders.HorizontalLine.{HorizontalLine}
+use Rattle.tabled_text.specs.FramedLines.{IsSeparatorColumn}
+use Rattle.tabled_config.specs.Frame.{border_at, bottom_line, if_any, inner_line, top_line}
+use Rattle.tabled_config.specs.Lines.{line_set}
+use Rattle.tabled_config.specs.declared.borders.HorizontalLine.{HorizontalLine}
 use Rattle.tabled_config.specs.Options.{lines_below, with_style}
 use Rattle.tabled_config.specs.Settings.{in_place_of, rule_at, style_at}
 use Rattle.tabled_config.specs.Styles.{ascii, extended, line, markdown, modern, no_style, psql}
 use Rattle.tabled_config.specs.declared.style.Style.{Style}
-use Rattle.tabled_row.specs.Apart.{ArePaddedLeft, IsApartStyle}
-use Rattle.tabled_row.specs.Plain.{IsPlainRule}
+use Rattle.tabled_line.specs.Apart.{ArePaddedLeft, IsApartStyle}
+use Rattle.tabled_line.specs.Plain.{IsPlainRule}
 use Rattle.tabled_table.specs.NewConfig.{new_config}
 use Rattle.tabled_text.specs.Measure.{char_columns}
 use Rattle.tabled_text.specs.Plain.{IsAdditiveColumn, has_plain_width, is_listed_or_drawn}

@@ -1,10 +1,10 @@
 -- The texts that a caller asks for, and why they are refused.
 use Rattle.std.specs.Prelude.{◌≡◌, ◌⊎◌, ◌<◌, ◌≤◌, ◌^◌, ℕ, ℤ, pos, Bool, List}
 use Rattle.std.specs.Str.{IsUtf8}
-use Rattle.tabled_lent.specs.TextRows.{text_rows}
+use Rattle.tabled_records.specs.TextRows.{text_rows}
 use Rattle.tabled_config.specs.Options.{with_style}
 use Rattle.tabled_grid.specs.Picture.{picture, table_text}
-use Rattle.tabled_row.specs.Plain.{EachLineTakes}
+use Rattle.tabled_line.specs.Plain.{EachLineTakes}
 use Rattle.tabled_size.specs.Sheet.{Sheet, estimated}
 use Rattle.tabled_size.specs.Totals.{total_width}
 use Rattle.tabled_table.specs.NewConfig.{new_config}

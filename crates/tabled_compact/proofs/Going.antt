@@ -2,10 +2,10 @@
 use Rattle.std.proofs.Common.{◌≡◌, ℕ, Bool, true, List, [], ◌∷◌, ◌++◌, Result, Ok, Err, refl, sym, ◌∙◌, ap, subst}
 use Rattle.std.specs.Result.{IsErrAnd, OnOk}
 use Rattle.tabled_base.specs.declared.error.TableError.{TableError}
-use Rattle.tabled_row.specs.Leading.{WritesLines, break}
-use Rattle.tabled_row.specs.Sent.{Sent, Stops, Writes}
-use Rattle.tabled_row.proofs.Leading.{lines-finished, lines-stopped-first, one-line, one-line-stopped}
-use Rattle.tabled_row.proofs.Sending.{finished, stopped-first}
+use Rattle.tabled_line.specs.Leading.{WritesLines, break}
+use Rattle.tabled_line.specs.Sent.{Sent, Stops, Writes}
+use Rattle.tabled_line.proofs.Leading.{lines-finished, lines-stopped-first, one-line, one-line-stopped}
+use Rattle.tabled_line.proofs.Sending.{finished, stopped-first}
 use Rattle.tabled_compact.specs.GoesOn.{GoesOn, GoesOnLines}
 
 is-same : {T : Type 0} (r : Result T TableError) (e : TableError) → r ≡ Err e → IsErrAnd r (λ d. d ≡ e)

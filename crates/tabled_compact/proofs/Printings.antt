@@ -1,11 +1,10 @@
 -- Compact tables that are printed, or refused before the first byte.
-use Rattle.std.proofs.Common.{◌≡◌, ◌⊎◌, ℕ, ◌+◌, ◌≤◌, ◌==◌, if◌then◌else◌, Bool, true, false, List, [], length, Option, Some, IfSome, MatchResult}
-use Rattle.std.proofs.Common.{Result, Ok, Err, refl, sym, ◌∙◌, ap, subst, inl, inr, ⊎_elim, arith}
+use Rattle.std.proofs.Common.{◌≡◌, ◌⊎◌, ℕ, ◌+◌, ◌≤◌, ◌==◌, if◌then◌else◌, Bool, true, false, List, [], length, Option, Some, IfSome, MatchResult, Result, Ok, Err, refl, sym, ◌∙◌, ap, subst, inl, inr, ⊎_elim, arith}
 use Rattle.std.specs.List.{join_with_byte}
 use Rattle.std.proofs.lemmas.Bool.Decides.{nat_tests}
 use Rattle.tabled_base.specs.declared.error.TableError.{TableError}
-use Rattle.tabled_row.specs.Sent.{Sent, Sends, Stops, Writes}
-use Rattle.tabled_row.proofs.Sending.{sends-along, sends-none}
+use Rattle.tabled_line.specs.Sent.{Sent, Sends, Stops, Writes}
+use Rattle.tabled_line.proofs.Sending.{sends-along, sends-none}
 use Rattle.tabled_compact.specs.CompactCells.{CompactSheet}
 use Rattle.tabled_compact.specs.CompactLines.{compact_lines, compact_text, rows_text}
 use Rattle.tabled_compact.specs.Printed.{IsPrintable, IsPrinted, IsRefused, PrintsCompact}

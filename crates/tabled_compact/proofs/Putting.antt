@@ -1,12 +1,11 @@
 -- The rows that were put so far, and one more.
-use Rattle.std.proofs.Common.{◌≡◌, ◌⊎◌, ℕ, ◌+◌, ◌-◌, ◌<◌, ◌≤◌, ◌==◌, if◌then◌else◌, Bool, true, false, List, [], ◌∷◌, ◌++◌, length, drop, take, zero}
-use Rattle.std.proofs.Common.{suc, append-nil, Option, Some, None, IfSome, OnErr, OnOk, Result, Ok, Err, refl, sym, ◌∙◌, ap, arith, subst, inl, inr}
+use Rattle.std.proofs.Common.{◌≡◌, ◌⊎◌, ℕ, ◌+◌, ◌-◌, ◌<◌, ◌≤◌, ◌==◌, if◌then◌else◌, Bool, true, false, List, [], ◌∷◌, ◌++◌, length, drop, take, zero, suc, append-nil, Option, Some, None, IfSome, OnErr, OnOk, Result, Ok, Err, refl, sym, ◌∙◌, ap, arith, subst, inl, inr}
 use Rattle.std.specs.Result.{IsErrAnd}
 use Rattle.std.proofs.lemmas.List.{length-append}
 use Rattle.tabled_base.specs.declared.error.TableError.{TableError}
-use Rattle.tabled_row.specs.Leading.{LineSends, LineStops, WritesLines}
-use Rattle.tabled_row.specs.Sent.{Sent}
-use Rattle.tabled_row.proofs.Leading.{lines-further, lines-none, lines-stopped}
+use Rattle.tabled_line.specs.Leading.{LineSends, LineStops, WritesLines}
+use Rattle.tabled_line.specs.Sent.{Sent}
+use Rattle.tabled_line.proofs.Leading.{lines-further, lines-none, lines-stopped}
 use Rattle.tabled_compact.specs.CompactCells.{CompactSheet}
 use Rattle.tabled_compact.specs.CompactLines.{row_part, rows_lines}
 use Rattle.tabled_compact.specs.RowsPut.{PutsRows}

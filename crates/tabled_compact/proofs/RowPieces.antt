@@ -1,6 +1,5 @@
 -- The columns of a row, where its cells come one by one.
-use Rattle.std.proofs.Common.{◌≡◌, ℕ, zero, suc, ◌+◌, ◌-◌, ◌<◌, ◌≤◌, min, nat_lt, true, false, if◌then◌else◌, List, [], ◌∷◌, ◌++◌, length, map}
-use Rattle.std.proofs.Common.{slice_index_or, refl, sym, ◌∙◌, ap, append-nil, append_assoc, arith, ⊎_elim}
+use Rattle.std.proofs.Common.{◌≡◌, ℕ, zero, suc, ◌+◌, ◌-◌, ◌<◌, ◌≤◌, min, nat_lt, true, false, if◌then◌else◌, List, [], ◌∷◌, ◌++◌, length, map, slice_index_or, refl, sym, ◌∙◌, ap, append-nil, append_assoc, arith, ⊎_elim}
 use Rattle.std.specs.List.{flat_map, range_with_len, slice_index}
 use Rattle.std.proofs.lemmas.Bool.{cases_lt}
 use Rattle.std.proofs.lemmas.Bool.Decides.{nat_tests}
@@ -9,11 +8,11 @@ use Rattle.std.proofs.lemmas.List.Concat.{flat_map-append}
 use Rattle.tabled_compact.specs.CompactCells.{CompactSheet, columns_of, compact_cell, compact_piece, compact_row, pieces, row_end, row_start}
 use Rattle.tabled_config.specs.declared.alignment.AlignmentHorizontal.{AlignmentHorizontal}
 use Rattle.tabled_config.specs.declared.alignment.AlignmentHorizontal.TheVariants as horizontal
-use Rattle.tabled_border.specs.Frame.{has_bar}
-use Rattle.tabled_row.specs.Block.{before_text}
-use Rattle.tabled_row.specs.Fill.{fill}
-use Rattle.tabled_row.specs.Row.{left_edge, right_edge}
-use Rattle.tabled_row.proofs.Each.{each-more}
+use Rattle.tabled_config.specs.Frame.{has_bar}
+use Rattle.tabled_line.specs.Block.{before_text}
+use Rattle.tabled_line.specs.Fill.{fill}
+use Rattle.tabled_line.specs.Row.{left_edge, right_edge}
+use Rattle.tabled_line.proofs.Each.{each-more}
 
 range-append : (a m k : ℕ) → range_with_len a (m + k) ≡ range_with_len a m ++ range_with_len (a + m) k
 range-append a zero k = let e : zero + k ≡ k = omega arith in let f : a + zero ≡ a = omega arith in rw (e, f) refl

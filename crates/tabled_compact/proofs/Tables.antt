@@ -1,12 +1,11 @@
 -- The whole table: its rows, and what stands below them.
-use Rattle.std.proofs.Common.{◌≡◌, ◌⊎◌, ℕ, ◌+◌, ◌≤◌, if◌then◌else◌, Bool, true, false, List, [], ◌∷◌, ◌++◌, length, Option, Some, OnErr, OnOk, Result}
-use Rattle.std.proofs.Common.{Ok, Err, inl, inr, refl, sym, ◌∙◌, ap, subst, append-nil, append_assoc}
+use Rattle.std.proofs.Common.{◌≡◌, ◌⊎◌, ℕ, ◌+◌, ◌≤◌, if◌then◌else◌, Bool, true, false, List, [], ◌∷◌, ◌++◌, length, Option, Some, OnErr, OnOk, Result, Ok, Err, inl, inr, refl, sym, ◌∙◌, ap, subst, append-nil, append_assoc}
 use Rattle.std.specs.List.{join_with_byte}
 use Rattle.std.specs.Result.{IsErrAnd}
 use Rattle.tabled_base.specs.declared.error.TableError.{TableError}
-use Rattle.tabled_row.specs.Leading.{LineStops, WritesLines}
-use Rattle.tabled_row.specs.Sent.{Sent, Stops, Writes}
-use Rattle.tabled_row.proofs.Leading.{lines-finished, lines-text}
+use Rattle.tabled_line.specs.Leading.{LineStops, WritesLines}
+use Rattle.tabled_line.specs.Sent.{Sent, Stops, Writes}
+use Rattle.tabled_line.proofs.Leading.{lines-finished, lines-text}
 use Rattle.tabled_compact.specs.CompactCells.{CompactSheet}
 use Rattle.tabled_compact.specs.CompactLines.{compact_lines, compact_text, rows_lines, rows_text, tail_lines}
 use Rattle.tabled_compact.specs.RowsPut.{IsSpanned, PutsRows, PutsTable, WritesTable}

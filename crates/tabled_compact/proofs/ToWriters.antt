@@ -2,9 +2,9 @@
 use Rattle.std.proofs.Common.{◌≡◌, ℕ, Bool, List, Option, None, Result, Ok, Err, subst, inl, inr, ⊎_elim}
 use Rattle.tabled_base.specs.declared.error.TableError.{TableError}
 use Rattle.tabled_base.specs.declared.error.TableError.TheVariants.{Writer}
-use Rattle.tabled_row.specs.Sent.{Sent}
-use Rattle.tabled_row.specs.WriterSent.{named_sent}
-use Rattle.tabled_row.proofs.Writers.{LeavesSo, byte_of, writer-leaves, writer-sends}
+use Rattle.tabled_line.specs.Sent.{Sent}
+use Rattle.tabled_line.specs.WriterSent.{named_sent}
+use Rattle.tabled_line.proofs.Writers.{LeavesSo, byte_of, writer-leaves, writer-sends}
 use Rattle.tabled_compact.specs.CompactCells.{CompactSheet}
 use Rattle.tabled_compact.specs.Printed.{BuildsCompact, IsEnded, IsRefused, IsRefusedEarly, IsStopped, PrintsCompact}
 use Rattle.tabled_compact.specs.declared.window.Window.{Window}

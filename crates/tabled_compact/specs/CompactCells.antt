@@ -2,12 +2,12 @@
 use Rattle.std.specs.Prelude.{ℕ, ◌-◌, List, [], ◌++◌, Option, if◌then◌else◌, nat_lt, slice_index_or}
 use Rattle.std.specs.List.{flat_map, range_with_len, slice_index}
 use Rattle.tabled_text.specs.Measure.{text_columns}
-use Rattle.tabled_border.specs.Frame.{frame_of, has_bar}
+use Rattle.tabled_config.specs.Frame.{frame_of, has_bar}
 use Rattle.tabled_config.specs.declared.compact.CompactConfig.{CompactConfig}
 use Rattle.tabled_size.specs.Reached.{reached}
-use Rattle.tabled_row.specs.Block.{before_text}
-use Rattle.tabled_row.specs.Fill.{fill, indent}
-use Rattle.tabled_row.specs.Row.{ColumnSheet, left_edge, piece, right_edge}
+use Rattle.tabled_line.specs.Block.{before_text}
+use Rattle.tabled_line.specs.Fill.{fill, indent}
+use Rattle.tabled_line.specs.Row.{ColumnSheet, left_edge, piece, right_edge}
 
 -- how a compact table is set: what is the same for all cells, how many columns there are, and the widths of these, as
 -- far as they are there

@@ -1,13 +1,13 @@
 -- The lines of a compact table.
 use Rattle.std.specs.Prelude.{ℕ, Bool, true, false, ◌||◌, if◌then◌else◌, List, [], ◌∷◌, ◌++◌, Option, Some, None, is_some, replicate}
 use Rattle.std.specs.List.{flat_map, join_with_byte}
-use Rattle.tabled_border.specs.declared.borders.Borders.{Borders}
-use Rattle.tabled_border.specs.declared.borders.HorizontalLine.{HorizontalLine}
-use Rattle.tabled_border.specs.declared.sides.Indent.{Indent}
-use Rattle.tabled_border.specs.Frame.{bottom_line, if_any, top_line}
-use Rattle.tabled_row.specs.Apart.{line_total}
-use Rattle.tabled_row.specs.Fill.{fill}
-use Rattle.tabled_row.specs.Row.{rule_if}
+use Rattle.tabled_config.specs.declared.borders.Borders.{Borders}
+use Rattle.tabled_config.specs.declared.borders.HorizontalLine.{HorizontalLine}
+use Rattle.tabled_config.specs.declared.sides.Indent.{Indent}
+use Rattle.tabled_config.specs.Frame.{bottom_line, if_any, top_line}
+use Rattle.tabled_line.specs.Apart.{line_total}
+use Rattle.tabled_line.specs.Fill.{fill}
+use Rattle.tabled_line.specs.Row.{rule_if}
 use Rattle.tabled_compact.specs.CompactCells.{CompactSheet, columns_of, compact_row}
 
 -- the columns of the whole: the widths, the vertical lines and the side margins

@@ -2,8 +2,8 @@
 -- sink refuses in the middle of it.
 use Rattle.std.specs.Prelude.{◌≡◌, ℕ, Bool, List, Result, Ok, Err}
 use Rattle.tabled_base.specs.declared.error.TableError.{TableError}
-use Rattle.tabled_row.specs.Leading.{WritesLines}
-use Rattle.tabled_row.specs.Sent.{Sent, Writes}
+use Rattle.tabled_line.specs.Leading.{WritesLines}
+use Rattle.tabled_line.specs.Sent.{Sent, Writes}
 
 -- what came before, the sink, the answer, the sink afterwards, and the text
 abbrev pub GoesOn : {T U : Type 0} → Result T TableError → Sent → Result U TableError → Sent → List ℕ → Type 0

@@ -1,12 +1,12 @@
 -- How a new compact table is set.
 use Rattle.std.specs.Prelude.{◌≡◌}
-use Rattle.tabled_border.specs.declared.sides.Indent.{Indent}
-use Rattle.tabled_border.specs.declared.sides.Sides.{Sides}
+use Rattle.tabled_config.specs.declared.sides.Indent.{Indent}
+use Rattle.tabled_config.specs.declared.sides.Sides.{Sides}
 use Rattle.tabled_config.specs.declared.alignment.AlignmentHorizontal.TheVariants.{Left}
 use Rattle.tabled_config.specs.declared.compact.CompactConfig.{CompactConfig}
 use Rattle.tabled_config.specs.Compact.{IsPlainCompact, no_indent}
 use Rattle.tabled_config.specs.Styles.{ascii}
-use Rattle.tabled_views.specs.declared.empty.EmptyRecords.{EmptyRecords}
+use Rattle.tabled_records.specs.declared.empty.EmptyRecords.{EmptyRecords}
 
 -- one column on the left and right
 abbrev pub one_beside : Sides Indent

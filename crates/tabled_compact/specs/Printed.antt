@@ -2,8 +2,8 @@
 use Rattle.std.specs.Prelude.{◌≡◌, ◌^◌, ◌<◌, ◌≤◌, ◌+◌, ◌⊎◌, ℕ, Bool, true, List, [], length, Option, Result, Ok, Err}
 use Rattle.tabled_base.specs.declared.error.TableError.{TableError}
 use Rattle.tabled_base.specs.declared.error.TableError.TheVariants.{Range, ShortWidths}
-use Rattle.tabled_row.specs.Sent.{Sent, Sends, Stops}
-use Rattle.tabled_row.specs.WriterSent.{known_since, writer_after, writer_before}
+use Rattle.tabled_line.specs.Sent.{Sent, Sends, Stops}
+use Rattle.tabled_line.specs.WriterSent.{known_since, writer_after, writer_before}
 use Rattle.tabled_compact.specs.CompactCells.{CompactSheet}
 use Rattle.tabled_compact.specs.CompactLines.{compact_text, compact_width, rows_text}
 use Rattle.tabled_compact.specs.Shown.{AreEnough, AreWanted, has_rows, shown}

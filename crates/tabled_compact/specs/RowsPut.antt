@@ -1,8 +1,8 @@
 -- What printing the rows of a source leaves, before what stands below them.
 use Rattle.std.specs.Prelude.{◌≡◌, ◌≤◌, ◌⊎◌, ℕ, Bool, true, List, length, IfSome, OnErr, OnOk, Some, Result, Ok, Err}
 use Rattle.tabled_base.specs.declared.error.TableError.{TableError}
-use Rattle.tabled_row.specs.Leading.{WritesLines}
-use Rattle.tabled_row.specs.Sent.{Sent, Sends, Stops}
+use Rattle.tabled_line.specs.Leading.{WritesLines}
+use Rattle.tabled_line.specs.Sent.{Sent, Sends, Stops}
 use Rattle.tabled_compact.specs.CompactCells.{CompactSheet}
 use Rattle.tabled_compact.specs.CompactLines.{compact_text, rows_lines, rows_text}
 use Rattle.tabled_compact.specs.Shown.{has_rows, in_window, spanned}

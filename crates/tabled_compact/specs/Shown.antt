@@ -1,6 +1,5 @@
 -- Which rows of a source are shown, and how many are taken of it.
-use Rattle.std.specs.Prelude.{◌≡◌, ◌==◌, ◌≤◌, ◌+◌, ◌-◌, ◌⊎◌, ℕ, zero, suc, Bool, false, true, if◌then◌else◌, List, [], ◌∷◌, drop, take, length, map}
-use Rattle.std.specs.Prelude.{Option, Some, None, IfSome}
+use Rattle.std.specs.Prelude.{◌≡◌, ◌==◌, ◌≤◌, ◌+◌, ◌-◌, ◌⊎◌, ℕ, zero, suc, Bool, false, true, if◌then◌else◌, List, [], ◌∷◌, drop, take, length, map, Option, Some, None, IfSome}
 use Rattle.tabled_compact.specs.declared.window.Window.{Window}
 
 -- the first rows, where their number is limited

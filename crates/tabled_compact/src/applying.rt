@@ -3,12 +3,12 @@ ghost use Rattle.std.specs.Prelude.{◌≡◌, ◌⊎◌, IfErr, IfOk};
 ghost use Rattle.tabled_base.specs.declared.error.TableError.TheVariants.{Memory, Range};
 ghost use Rattle.tabled_compact.specs.NewTable.{no_records};
 ghost use Rattle.tabled_config.specs.declared.compact.CompactConfig.{CompactConfig};
-ghost use Rattle.tabled_views.specs.declared.empty.EmptyRecords.{EmptyRecords};
+ghost use Rattle.tabled_records.specs.declared.empty.EmptyRecords.{EmptyRecords};
 
 use crate::table::CompactTable;
 use tabled_base::{TableError, TableOption};
 use tabled_config::CompactConfig;
-use tabled_views::EmptyRecords;
+use tabled_records::EmptyRecords;
 
 impl<I: Drop, D: Drop> CompactTable<I, D> {
     /// Applies an option to the configuration and the dimension, and gives the table back; its rows, and which of them

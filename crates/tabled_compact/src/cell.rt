@@ -1,15 +1,15 @@
 //! A text in its column.
 ghost use Rattle.std.specs.Prelude.{◌≡◌, ◌≤◌, ◌<◌, ◌++◌};
 ghost use Rattle.std.specs.List.{slice_index};
-ghost use Rattle.tabled_row.specs.Block.{before_text};
-ghost use Rattle.tabled_row.specs.Fill.{fill, indent};
-ghost use Rattle.tabled_row.specs.Sent.{Sent, Writes};
+ghost use Rattle.tabled_line.specs.Block.{before_text};
+ghost use Rattle.tabled_line.specs.Fill.{fill, indent};
+ghost use Rattle.tabled_line.specs.Sent.{Sent, Writes};
 ghost use Rattle.tabled_compact.specs.CompactCells.{compact_cell, compact_piece, free_columns};
 
 use crate::columns::CompactColumns;
 use tabled_base::{CellText, TableError};
 use tabled_config::{AlignmentHorizontal, CompactConfig, Indent, Sides};
-use tabled_row::{Columns, TextSink, put_fill, put_indent, put_piece};
+use tabled_line::{Columns, TextSink, put_fill, put_indent, put_piece};
 use tabled_size::Dimension;
 
 /// The part of some free columns that stands before a text.

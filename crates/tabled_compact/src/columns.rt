@@ -2,14 +2,14 @@
 ghost use Rattle.std.specs.Prelude.{◌≡◌, ◌<◌, ◌≤◌, ◌^◌, IfOk, IfErr, OnOk, length};
 ghost use Rattle.std.specs.List.{slice_index};
 ghost use Rattle.tabled_base.specs.declared.error.TableError.TheVariants.{ShortWidths};
-ghost use Rattle.tabled_border.specs.Frame.{frame_of};
+ghost use Rattle.tabled_config.specs.Frame.{frame_of};
 ghost use Rattle.tabled_size.specs.Reached.{reached};
 ghost use Rattle.tabled_compact.specs.CompactCells.{CompactSheet, columns_of, sheet_by};
 
 use std::marker::Model;
 use tabled_base::TableError;
 use tabled_config::{CompactConfig, Frame};
-use tabled_row::Columns;
+use tabled_line::Columns;
 use tabled_size::{Dimension, check_widths};
 
 /// The columns of a compact table whose widths are there. Contracts see the sheet that they make.

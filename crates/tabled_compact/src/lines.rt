@@ -2,8 +2,8 @@
 ghost use Rattle.std.specs.Prelude.{◌≡◌, List, [], ◌∷◌, map, true, OnOk, Result};
 ghost use Rattle.std.specs.Iterator.{IsFiniteIterable};
 ghost use Rattle.tabled_base.specs.Given.{Given};
-ghost use Rattle.tabled_row.specs.Leading.{WritesLines, break};
-ghost use Rattle.tabled_row.specs.Sent.{Sent};
+ghost use Rattle.tabled_line.specs.Leading.{WritesLines, break};
+ghost use Rattle.tabled_line.specs.Sent.{Sent};
 ghost use Rattle.tabled_compact.specs.CompactCells.{compact_row};
 ghost use Rattle.tabled_compact.specs.CompactLines.{above, compact_width, head_lines, row_part, tail_lines};
 ghost use Rattle.tabled_compact.specs.GoesOn.{GoesOn, GoesOnLines};
@@ -12,7 +12,7 @@ use crate::columns::CompactColumns;
 use crate::row::put_row_line;
 use crate::rules::{put_rule, separator};
 use tabled_base::{CellText, TableError};
-use tabled_row::{TextSink, put_break, put_margin};
+use tabled_line::{TextSink, put_break, put_margin};
 use tabled_size::Dimension;
 
 /// What stands above the first row: the margin, and the top line.

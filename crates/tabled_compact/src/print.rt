@@ -1,7 +1,7 @@
 //! Printing a compact table: its columns are tested once a row comes, before the first byte.
 ghost use Rattle.std.specs.Prelude.{◌≡◌, ◌≤◌, ◌<◌, ◌+◌, ◌^◌, Bool, List, [], map, length, true, false, MatchBool, MatchResult};
 ghost use Rattle.tabled_base.specs.RowsGiven.{RowsBegin, RowsEnd};
-ghost use Rattle.tabled_row.specs.Sent.{Sent};
+ghost use Rattle.tabled_line.specs.Sent.{Sent};
 ghost use Rattle.tabled_compact.specs.CompactCells.{CompactSheet, sheet_by};
 ghost use Rattle.tabled_compact.specs.CompactLines.{compact_width};
 ghost use Rattle.tabled_compact.specs.Printed.{IsRefused, PrintsCompact};
@@ -14,7 +14,7 @@ use crate::total::line_total;
 use crate::window::Window;
 use tabled_base::{CellText, IntoRecords, TableError};
 use tabled_config::CompactConfig;
-use tabled_row::TextSink;
+use tabled_line::TextSink;
 use tabled_size::Dimension;
 
 /// Whether a row comes after those that are skipped. No further one is asked for.

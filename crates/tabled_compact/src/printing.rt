@@ -1,6 +1,6 @@
 //! Compact tables that are printed.
 ghost use Rattle.std.specs.Prelude.{◌≡◌, Some, [], string_bytes, IfErr, IfOk, false, true};
-ghost use Rattle.tabled_row.specs.Sent.{Sent};
+ghost use Rattle.tabled_line.specs.Sent.{Sent};
 ghost use Rattle.tabled_compact.specs.CompactCells.{sheet_by};
 ghost use Rattle.tabled_compact.specs.Printed.{BuildsCompact, IsEnded, IsPrinted, PrintsCompact};
 ghost use Rattle.tabled_compact.specs.Shown.{Came};
@@ -11,7 +11,7 @@ use crate::window::Window;
 use std::alloc::Global;
 use std::io::Write;
 use tabled_base::{CellText, IntoRecords, TableError};
-use tabled_row::{TextSink, WriterSink};
+use tabled_line::{TextSink, WriterSink};
 use tabled_size::Dimension;
 
 impl<I: IntoRecords, D: Dimension + Drop> CompactTable<I, D>

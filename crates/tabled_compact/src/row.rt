@@ -3,14 +3,14 @@ ghost use Rattle.std.specs.Prelude.{◌≡◌, ◌+◌, ◌-◌, ◌≤◌, ◌<
 ghost use Rattle.std.specs.Iterator.{IsFiniteIterable};
 ghost use Rattle.std.specs.List.{flat_map, range_with_len};
 ghost use Rattle.tabled_base.specs.Given.{Given};
-ghost use Rattle.tabled_row.specs.Sent.{Sent, Writes};
+ghost use Rattle.tabled_line.specs.Sent.{Sent, Writes};
 ghost use Rattle.tabled_compact.specs.CompactCells.{compact_piece, compact_row, pieces, row_end, row_start};
 ghost use Rattle.tabled_compact.specs.GoesOn.{GoesOn};
 
 use crate::cell::put_cell;
 use crate::columns::CompactColumns;
 use tabled_base::{CellText, TableError};
-use tabled_row::{Columns, TextSink, count_drawn, put_left, put_right};
+use tabled_line::{Columns, TextSink, count_drawn, put_left, put_right};
 use tabled_size::Dimension;
 
 /// The left edge of a row, unless the sink refused something before.

@@ -3,8 +3,8 @@ ghost use Rattle.std.specs.Prelude.{◌≡◌, ◌==◌, ◌<◌, ◌⊎◌, Boo
 ghost use Rattle.std.specs.Iterator.{IsFiniteIterable};
 ghost use Rattle.tabled_base.specs.Given.{Given};
 ghost use Rattle.tabled_base.specs.RowsGiven.{RowsBegin, RowsEnd};
-ghost use Rattle.tabled_row.specs.Leading.{WritesLines};
-ghost use Rattle.tabled_row.specs.Sent.{Sent};
+ghost use Rattle.tabled_line.specs.Leading.{WritesLines};
+ghost use Rattle.tabled_line.specs.Sent.{Sent};
 ghost use Rattle.tabled_compact.specs.CompactLines.{compact_width, row_part, tail_lines};
 ghost use Rattle.tabled_compact.specs.RowsPut.{PutsRows, PutsTable};
 ghost use Rattle.tabled_compact.specs.Shown.{IsSpent, window_after};
@@ -13,7 +13,7 @@ use crate::columns::CompactColumns;
 use crate::lines::{put_row_part, put_tail, walk};
 use crate::window::Window;
 use tabled_base::{CellText, TableError};
-use tabled_row::TextSink;
+use tabled_line::TextSink;
 use tabled_size::Dimension;
 
 /// The rows of a compact table while they are printed.

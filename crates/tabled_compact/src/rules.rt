@@ -1,13 +1,13 @@
 //! The horizontal lines of a compact table.
 ghost use Rattle.std.specs.Prelude.{◌≡◌, [], ◌∷◌};
-ghost use Rattle.tabled_row.specs.Leading.{WritesLines};
-ghost use Rattle.tabled_row.specs.Row.{ColumnSheet, rule_if, rule_line};
-ghost use Rattle.tabled_row.specs.Sent.{Sent};
+ghost use Rattle.tabled_line.specs.Leading.{WritesLines};
+ghost use Rattle.tabled_line.specs.Row.{ColumnSheet, rule_if, rule_line};
+ghost use Rattle.tabled_line.specs.Sent.{Sent};
 ghost use Rattle.tabled_compact.specs.CompactLines.{separator};
 
 use tabled_base::TableError;
 use tabled_config::{Borders, HorizontalLine};
-use tabled_row::{Columns, TextSink, put_break, put_rule_line};
+use tabled_line::{Columns, TextSink, put_break, put_rule_line};
 
 /// The line between two rows, if it is there. At its edges stand the characters of the vertical lines.
 pub(crate) fn separator(borders: &Borders<char>) -> Option<HorizontalLine>

@@ -1,10 +1,10 @@
 //! The columns of a whole line.
 ghost use Rattle.std.specs.Prelude.{◌≡◌, ◌+◌, ◌*◌, ◌≤◌, ◌<◌, ◌^◌, ℕ, MatchOption};
 ghost use Rattle.tabled_priority.specs.Sums.{one_if, sum_below};
-ghost use Rattle.tabled_row.specs.Apart.{line_total};
-ghost use Rattle.tabled_row.specs.Row.{ColumnSheet};
+ghost use Rattle.tabled_line.specs.Apart.{line_total};
+ghost use Rattle.tabled_line.specs.Row.{ColumnSheet};
 
-use tabled_row::Columns;
+use tabled_line::Columns;
 
 fn one_if(there: bool) -> usize
     ensures { result ≡ one_if there }
@@ -61,7 +61,7 @@ fn sum_widths<C: Columns>(columns: &C) -> Option<usize>
 
 /// The columns of each line: the widths, the vertical lines and the side margins. `None` where they pass the greatest
 /// `usize`.
-#[tactic(auto, unfolding(tabled_row::specs::Apart::line_total))]
+#[tactic(auto, unfolding(tabled_line::specs::Apart::line_total))]
 pub(crate) fn line_total<C: Columns>(columns: &C) -> Option<usize>
     ensures { let whole = line_total (C.sheet columns.now) in MatchOption result (2 ^ 64 ≤ whole)
         (λ n. (n ≡ whole) × (whole < 2 ^ 64)) }

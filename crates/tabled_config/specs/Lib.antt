@@ -1,5 +1,8 @@
 pub mod Compact
+pub mod Frame
+pub mod Junction
 pub mod Lending
+pub mod Lines
 pub mod Options
 pub mod RowStyles
 pub mod Settings

@@ -1,7 +1,7 @@
 -- How the texts of a row stand.
 use Rattle.std.specs.Prelude.{ℕ, ◌≡◌, false}
 use Rattle.std.specs.List.{slice_index_or}
-use Rattle.tabled_border.specs.declared.sides.Indent.{Indent}
+use Rattle.tabled_config.specs.declared.sides.Indent.{Indent}
 use Rattle.tabled_config.specs.declared.alignment.AlignmentHorizontal.TheVariants.{Left}
 use Rattle.tabled_config.specs.declared.alignment.AlignmentVertical.TheVariants.{Top}
 use Rattle.tabled_config.specs.declared.spanned.CellStyle.{CellStyle}

@@ -1,16 +1,20 @@
 -- What a configuration says of each place. The layers above read it by these words alone.
-use Rattle.std.specs.Prelude.{ℕ, Bool, Option, Some, None}
-use Rattle.tabled_border.specs.declared.borders.HorizontalLine.{HorizontalLine}
+use Rattle.std.specs.Prelude.{◌≡◌, ℕ, Bool, Option, Some, None, Result, OnOk, OnErr, IfErr, IsOk}
+use Rattle.tabled_base.specs.declared.error.TableError.{TableError}
+use Rattle.tabled_base.specs.declared.error.TableError.TheVariants.{Memory}
+use Rattle.tabled_base.specs.declared.position.Entity.{Entity}
+use Rattle.tabled_config.specs.declared.borders.HorizontalLine.{HorizontalLine}
 use Rattle.tabled_config.specs.declared.alignment.AlignmentHorizontal.{AlignmentHorizontal}
 use Rattle.tabled_config.specs.declared.alignment.AlignmentVertical.{AlignmentVertical}
-use Rattle.tabled_border.specs.declared.frame.Frame.{Frame}
-use Rattle.tabled_border.specs.declared.sides.Indent.{Indent}
-use Rattle.tabled_border.specs.declared.sides.Sides.{Sides}
+use Rattle.tabled_config.specs.declared.frame.Frame.{Frame}
+use Rattle.tabled_config.specs.declared.sides.Indent.{Indent}
+use Rattle.tabled_config.specs.declared.sides.Sides.{Sides}
 use Rattle.tabled_config.specs.declared.spanned.CellStyle.{CellStyle}
 use Rattle.tabled_config.specs.declared.spanned.SpannedConfig.{SpannedConfig}
 use Rattle.tabled_entity.specs.Changes.{setting_at, shared}
-use Rattle.tabled_border.specs.Frame.{border_at, frame_of}
-use Rattle.tabled_border.specs.Lines.{line_set}
+use Rattle.tabled_entity.specs.Places.{IsWhole}
+use Rattle.tabled_config.specs.Frame.{border_at, frame_of}
+use Rattle.tabled_config.specs.Lines.{line_set}
 
 -- how the text of a cell stands in its place
 unfoldable pub style_at : SpannedConfig → ℕ → ℕ → CellStyle
@@ -45,3 +49,12 @@ rule_at config rows i = in_place_of (line_set config.lines i) (border_at config.
 -- what stands around and between the cells of any line; lines set by their index make no vertical line stand
 abbrev pub frame : SpannedConfig → Frame
 frame config = frame_of config.borders config.margin
+
+-- what a call leaves that sets something for an entity: the settings with it, or the old ones and
+-- the error `Memory`; for the whole table it succeeds
+pub record IsSetFor {T : Type 0} (entity : Entity) (result : Result T TableError)
+    (old new with_it : SpannedConfig) : Type 0 where
+  pub ok : OnOk result (new ≡ with_it)
+  pub err : OnErr result (new ≡ old)
+  pub only : IfErr result (λ e. e ≡ Memory)
+  pub whole : IsWhole entity → IsOk result

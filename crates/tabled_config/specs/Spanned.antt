@@ -7,7 +7,7 @@ use Rattle.tabled_config.specs.declared.compact_multiline.CompactMultilineConfig
 use Rattle.tabled_config.specs.declared.spanned.SpannedConfig.{SpannedConfig}
 use Rattle.tabled_entity.specs.Changes.{for_all}
 use Rattle.tabled_config.specs.Compact.{each_side, no_indent}
-use Rattle.tabled_border.specs.Frame.{no_borders}
+use Rattle.tabled_config.specs.Frame.{no_borders}
 
 -- no borders, margin, padding or lines; texts at the left and the top, with no flag
 abbrev pub new_spanned : SpannedConfig

@@ -1,8 +1,8 @@
 -- The characters of the six styles.
 use Rattle.std.specs.Prelude.{ℕ, ◌==◌, if◌then◌else◌, Option, Some, None}
-use Rattle.tabled_border.specs.declared.borders.HorizontalLine.{HorizontalLine}
+use Rattle.tabled_config.specs.declared.borders.HorizontalLine.{HorizontalLine}
 use Rattle.tabled_config.specs.declared.style.Style.{Style}
-use Rattle.tabled_border.specs.Frame.{no_borders}
+use Rattle.tabled_config.specs.Frame.{no_borders}
 
 -- a whole horizontal line, in the order in which it is drawn
 abbrev pub line : ℕ → ℕ → ℕ → ℕ → HorizontalLine

@@ -1,11 +1,13 @@
 //! The settings of a compact table: one for all cells.
 ghost use Rattle.std.specs.Prelude.{◌≡◌};
 ghost use Rattle.tabled_config.specs.Compact.{IsColorless, IsPlainCompact};
-ghost use Rattle.tabled_border.specs.Frame.{frame_of};
+ghost use Rattle.tabled_config.specs.Frame.{frame_of};
 
 use crate::alignment::AlignmentHorizontal;
 use crate::ansi::ANSIStr;
-use tabled_border::{Borders, Frame, Indent, Sides};
+use crate::borders::Borders;
+use crate::frame::Frame;
+use crate::sides::{Indent, Sides};
 
 /// The settings of a table whose cells all have the same: it takes no memory.
 #[derive(Clone, Copy, Debug, PartialEq, Eq, PartialOrd, Ord, Hash)]

@@ -4,9 +4,10 @@ ghost use Rattle.tabled_config.specs.Compact.{IsPlainMultiline, with_no_flag};
 
 use crate::alignment::{AlignmentHorizontal, AlignmentVertical};
 use crate::ansi::ANSIStr;
+use crate::borders::Borders;
 use crate::compact::CompactConfig;
 use crate::formatting::Formatting;
-use tabled_border::{Borders, Indent, Sides};
+use crate::sides::{Indent, Sides};
 
 /// The settings of a `CompactConfig`, and what cells of several lines need beside them.
 #[derive(Clone, Copy, Debug, PartialEq, Eq, PartialOrd, Ord)]

@@ -1,22 +1,24 @@
 //! The configuration of a table.
-ghost use Rattle.std.specs.Prelude.{◌≡◌, ◌==◌, ℕ, if◌then◌else◌, IfErr, IfOk, IsOk, IsSome, None, OnErr, OnOk, Some, []};
+ghost use Rattle.std.specs.Prelude.{◌≡◌, ◌==◌, ℕ, if◌then◌else◌, IfErr, IfOk, IsSome, None, OnErr, OnOk, Some, []};
 ghost use Rattle.tabled_base.specs.declared.error.TableError.TheVariants.{Memory};
 ghost use Rattle.tabled_entity.specs.Changes.{setting_at, with_change};
-ghost use Rattle.tabled_border.specs.Lines.{line_set, with_line};
-ghost use Rattle.tabled_entity.specs.Places.{IsWhole};
+ghost use Rattle.tabled_config.specs.Lines.{line_set, with_line};
 
 mod alike;
 mod row_styles;
 mod told_sides;
 
 use crate::alignment::{AlignmentHorizontal, AlignmentVertical};
+use crate::borders::{Borders, HorizontalLine};
 use crate::compact::CompactConfig;
 use crate::compact_multiline::CompactMultilineConfig;
+use crate::frame::Frame;
+use crate::lines::Lines;
+use crate::sides::{Indent, Sides};
 use crate::style::Style;
 pub use row_styles::{RowStyles, SetStyles};
 use std::alloc::Global;
 use tabled_base::{Entity, Position, TableError};
-use tabled_border::{Borders, Frame, HorizontalLine, Indent, Lines, Sides};
 use tabled_entity::EntityMap;
 pub use told_sides::ToldSides;
 
@@ -70,7 +72,7 @@ impl Drop for SpannedConfig {
 
 impl SpannedConfig {
     ghost use Rattle.tabled_config.specs.Options.{with_style};
-    ghost use Rattle.tabled_config.specs.Settings.{frame, rule_at, style_at};
+    ghost use Rattle.tabled_config.specs.Settings.{IsSetFor, frame, rule_at, style_at};
     ghost use Rattle.tabled_config.specs.Spanned.{
       new_spanned,
       spanned_of_compact,
@@ -175,11 +177,8 @@ impl SpannedConfig {
     /// Sets the columns and lines kept free around the texts of an entity. Refused with `Memory` alone, and then all
     /// is as it was.
     pub fn set_padding(&mut self, entity: Entity, padding: Sides<Indent>) -> Result<(), TableError>
-        ensures ok { OnOk result (self.new
-            ≡ record self.old { padding = with_change self.old.padding entity padding }) }
-        ensures err { OnErr result (self.new ≡ self.old) }
-        ensures only { IfErr result (λ e. e ≡ Memory) }
-        ensures whole { IsWhole entity → IsOk result }
+        ensures { IsSetFor entity result self.old self.new
+            (record self.old { padding = with_change self.old.padding entity padding }) }
     {
         self.padding.set(entity, padding)?;
         Ok(())
@@ -202,11 +201,11 @@ impl SpannedConfig {
         entity: Entity,
         alignment: AlignmentHorizontal,
     ) -> Result<(), TableError>
-        ensures ok { OnOk result (self.new
-            ≡ record self.old { alignment_horizontal = with_change self.old.alignment_horizontal entity alignment }) }
-        ensures err { OnErr result (self.new ≡ self.old) }
-        ensures only { IfErr result (λ e. e ≡ Memory) }
-        ensures whole { IsWhole entity → IsOk result }
+        ensures { IsSetFor entity result self.old self.new
+            (record self.old {
+              alignment_horizontal =
+                  with_change self.old.alignment_horizontal entity alignment;
+            }) }
     {
         self.alignment_horizontal.set(entity, alignment)?;
         Ok(())
@@ -226,11 +225,11 @@ impl SpannedConfig {
         entity: Entity,
         alignment: AlignmentVertical,
     ) -> Result<(), TableError>
-        ensures ok { OnOk result (self.new
-            ≡ record self.old { alignment_vertical = with_change self.old.alignment_vertical entity alignment }) }
-        ensures err { OnErr result (self.new ≡ self.old) }
-        ensures only { IfErr result (λ e. e ≡ Memory) }
-        ensures whole { IsWhole entity → IsOk result }
+        ensures { IsSetFor entity result self.old self.new
+            (record self.old {
+              alignment_vertical =
+                  with_change self.old.alignment_vertical entity alignment;
+            }) }
     {
         self.alignment_vertical.set(entity, alignment)?;
         Ok(())
@@ -246,11 +245,11 @@ impl SpannedConfig {
     /// Sets whether each line of an entity's texts is aligned by its own columns. Refused with `Memory` alone, and then all
     /// is as it was.
     pub fn set_line_alignment(&mut self, entity: Entity, allowed: bool) -> Result<(), TableError>
-        ensures ok { OnOk result (self.new
-            ≡ record self.old { line_alignment = with_change self.old.line_alignment entity allowed }) }
-        ensures err { OnErr result (self.new ≡ self.old) }
-        ensures only { IfErr result (λ e. e ≡ Memory) }
-        ensures whole { IsWhole entity → IsOk result }
+        ensures { IsSetFor entity result self.old self.new
+            (record self.old {
+              line_alignment =
+                  with_change self.old.line_alignment entity allowed;
+            }) }
     {
         self.line_alignment.set(entity, allowed)?;
         Ok(())
@@ -266,11 +265,11 @@ impl SpannedConfig {
     /// Sets whether spaces at the ends of an entity's lines are to go, which is stored; no printer here reads it. Refused
     /// with `Memory` alone, and then all is as it was.
     pub fn set_trim_horizontal(&mut self, entity: Entity, trimmed: bool) -> Result<(), TableError>
-        ensures ok { OnOk result (self.new
-            ≡ record self.old { trim_horizontal = with_change self.old.trim_horizontal entity trimmed }) }
-        ensures err { OnErr result (self.new ≡ self.old) }
-        ensures only { IfErr result (λ e. e ≡ Memory) }
-        ensures whole { IsWhole entity → IsOk result }
+        ensures { IsSetFor entity result self.old self.new
+            (record self.old {
+              trim_horizontal =
+                  with_change self.old.trim_horizontal entity trimmed;
+            }) }
     {
         self.trim_horizontal.set(entity, trimmed)?;
         Ok(())
@@ -286,11 +285,11 @@ impl SpannedConfig {
     /// Sets whether empty lines at the ends of an entity's texts are to go, which is stored; no printer here reads it.
     /// Refused with `Memory` alone, and then all is as it was.
     pub fn set_trim_vertical(&mut self, entity: Entity, trimmed: bool) -> Result<(), TableError>
-        ensures ok { OnOk result (self.new
-            ≡ record self.old { trim_vertical = with_change self.old.trim_vertical entity trimmed }) }
-        ensures err { OnErr result (self.new ≡ self.old) }
-        ensures only { IfErr result (λ e. e ≡ Memory) }
-        ensures whole { IsWhole entity → IsOk result }
+        ensures { IsSetFor entity result self.old self.new
+            (record self.old {
+              trim_vertical =
+                  with_change self.old.trim_vertical entity trimmed;
+            }) }
     {
         self.trim_vertical.set(entity, trimmed)?;
         Ok(())

@@ -12,7 +12,7 @@ ghost use Rattle.tabled_config.specs.Styles.{
   style_line,
 };
 
-use tabled_border::{Borders, HorizontalLine};
+use crate::borders::{Borders, HorizontalLine};
 
 /// A frame: its borders, and the line that it sets below the first row.
 #[derive(Debug, Drop)]

@@ -31,10 +31,10 @@ use Rattle.std.proofs.lemmas.Grind.{flat_map-append}
 use Rattle.std.proofs.lemmas.List.{length-append, get_or_append_left, get_or_push}
 use Rattle.std.proofs.lemmas.Bool.{cases_lt}
 use Rattle.tabled_base.specs.declared.error.TableError.{TableError}
-use Rattle.tabled_row.specs.Leading.{LineSends, LineStops, WritesLines}
+use Rattle.tabled_line.specs.Leading.{LineSends, LineStops, WritesLines}
 use Rattle.std.specs.Prelude.{IsErrAnd}
-use Rattle.tabled_row.specs.Sent.{Sent, Sends}
-use Rattle.tabled_row.proofs.Leading.{lines-further, lines-none, lines-text, lines-finished}
+use Rattle.tabled_line.specs.Sent.{Sent, Sends}
+use Rattle.tabled_line.proofs.Leading.{lines-further, lines-none, lines-text, lines-finished}
 use Rattle.tabled_extended.specs.PrintedRecords.{IsTooWide, PrintsAll, PrintsRecord, PrintsRecords, EndsBefore, EndsWithin}
 use Rattle.tabled_extended.specs.RecordLines.{AreRecordLines, record_lines, text_of, widest, widest_value}
 

@@ -2,7 +2,7 @@
 use Rattle.std.proofs.Common.{◌≡◌, ℕ, List, [], ◌∷◌, Option, Some, None, Ok, Err, Result, refl, sym, subst}
 use Rattle.std.specs.Prelude.{OnErr, OnOk}
 use Rattle.std.specs.List.{AllZip}
-use Rattle.tabled_change.specs.CellChanges.{in_room}
+use Rattle.tabled_set.specs.CellChanges.{in_room}
 use Rattle.tabled_extended.specs.Truncated.{AreTruncated, IsTruncated}
 use Rattle.tabled_extended.specs.declared.rooms.Rooms.{Rooms}
 

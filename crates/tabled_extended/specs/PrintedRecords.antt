@@ -2,8 +2,8 @@
 use Rattle.std.specs.Prelude.{◌≡◌, ◌⊎◌, ℕ, ◌+◌, ◌^◌, ◌<◌, ◌≤◌, List, Result, Ok, Err, length, Bool}
 use Rattle.tabled_base.specs.declared.error.TableError.{TableError}
 use Rattle.tabled_base.specs.declared.error.TableError.TheVariants.{Memory, Range}
-use Rattle.tabled_row.specs.Leading.{LineSends, LineStops}
-use Rattle.tabled_row.specs.Sent.{Sent, Sends, Stops}
+use Rattle.tabled_line.specs.Leading.{LineSends, LineStops}
+use Rattle.tabled_line.specs.Sent.{Sent, Sends, Stops}
 use Rattle.tabled_extended.specs.RecordLines.{AreRecordLines, text_of, widest, widest_value}
 
 -- there is a record, and the columns of a field, a bar between spaces and a value pass the greatest `usize`

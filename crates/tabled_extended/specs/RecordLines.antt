@@ -1,7 +1,7 @@
 -- The lines of a table that shows each record by itself. A text is the list of its bytes, a record the list of its values.
 use Rattle.std.specs.Prelude.{◌≡◌, ℕ, ◌+◌, ◌-◌, ◌<◌, nat_lt, List, [], ◌∷◌, ◌++◌, if◌then◌else◌, codes, decimal, length, map, slice_index_or}
 use Rattle.std.specs.List.{flat_map, zip, join_with_byte}
-use Rattle.tabled_row.specs.Fill.{fill}
+use Rattle.tabled_line.specs.Fill.{fill}
 use Rattle.tabled_text.specs.Measure.{greatest, text_columns}
 
 -- what the usual template says of the record at an index

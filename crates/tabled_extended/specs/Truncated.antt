@@ -30,8 +30,8 @@ use Rattle.std.specs.Prelude.{
 use Rattle.std.specs.List.{AllZip}
 use Rattle.tabled_base.specs.declared.error.TableError.{TableError}
 use Rattle.tabled_base.specs.declared.error.TableError.TheVariants.{Memory}
-use Rattle.tabled_change.specs.CellChanges.{in_room}
-use Rattle.tabled_change.specs.Truncated.{suffix_columns}
+use Rattle.tabled_set.specs.CellChanges.{in_room}
+use Rattle.tabled_set.specs.Truncated.{suffix_columns}
 use Rattle.tabled_text.specs.Cut.{IsCut, IsLongestReached, missing_columns}
 use Rattle.tabled_extended.specs.RecordLines.{widest}
 use Rattle.tabled_extended.specs.declared.rooms.Rooms.{Rooms}

@@ -3,9 +3,9 @@ ghost use Rattle.std.specs.Prelude.{codes, ◌≡◌, ◌⊎◌, ◌≤◌, true
 ghost use Rattle.std.specs.List.{zip};
 ghost use Rattle.tabled_base.specs.Cells.{row_texts};
 ghost use Rattle.tabled_base.specs.declared.error.TableError.TheVariants.{Memory, Range};
-ghost use Rattle.tabled_row.specs.Fill.{fill};
-ghost use Rattle.tabled_row.specs.Leading.{WritesLines};
-ghost use Rattle.tabled_row.specs.Sent.{Sent, Writes};
+ghost use Rattle.tabled_line.specs.Fill.{fill};
+ghost use Rattle.tabled_line.specs.Leading.{WritesLines};
+ghost use Rattle.tabled_line.specs.Sent.{Sent, Writes};
 ghost use Rattle.tabled_text.specs.Measure.{text_columns};
 ghost use Rattle.tabled_extended.specs.RecordLines.{AreRecordLines, header, record_lines, rule_behind, text_of, title, value_line, widest, widest_value};
 ghost use Rattle.tabled_extended.specs.PrintedRecords.{IsTooWide, PrintsRecord, PrintsRecords};
@@ -15,7 +15,7 @@ use crate::template::Template;
 use crate::titles::{put_title, title_width};
 use std::fmt;
 use tabled_base::{CellText, TableError, Text};
-use tabled_row::{TextSink, put_break, put_fill};
+use tabled_line::{TextSink, put_break, put_fill};
 
 /// The columns of the widest field and of the widest value.
 #[derive(Clone, Copy)]

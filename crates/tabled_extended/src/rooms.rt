@@ -1,6 +1,6 @@
 //! The columns to which the texts of records are truncated.
 ghost use Rattle.std.specs.Prelude.{◌≡◌, ◌-◌, ◌≤◌, None, Some, decimal, if◌then◌else◌, length, nat_lt};
-ghost use Rattle.tabled_change.specs.Truncated.{suffix_columns};
+ghost use Rattle.tabled_set.specs.Truncated.{suffix_columns};
 ghost use Rattle.tabled_extended.specs.Truncated.{field_rooms, least_columns, rooms_in, value_rooms};
 
 use tabled_text::{count_lines, line_width, lines};

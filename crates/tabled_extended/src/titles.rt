@@ -1,11 +1,11 @@
 //! The text of a template between dashes, which takes no memory.
 ghost use Rattle.std.specs.Prelude.{◌≡◌, ◌∷◌, [], ◌++◌, ◌-◌, ◌^◌, min};
-ghost use Rattle.tabled_row.specs.Sent.{Sent, Writes};
+ghost use Rattle.tabled_line.specs.Sent.{Sent, Writes};
 ghost use Rattle.tabled_text.specs.Measure.{text_columns};
 ghost use Rattle.tabled_extended.specs.RecordLines.{title};
 
 use tabled_base::TableError;
-use tabled_row::TextSink;
+use tabled_line::TextSink;
 use tabled_text::{line_width, lines};
 
 /// A text between dashes.

@@ -3,7 +3,7 @@ ghost use Rattle.std.specs.Prelude.{◌≡◌, ℕ, IfErr, IfOk, MatchOption, On
 ghost use Rattle.std.specs.List.{AllZip};
 ghost use Rattle.tabled_base.specs.Cells.{row_texts};
 ghost use Rattle.tabled_base.specs.declared.error.TableError.TheVariants.{Memory};
-ghost use Rattle.tabled_change.specs.CellChanges.{in_room};
+ghost use Rattle.tabled_set.specs.CellChanges.{in_room};
 ghost use Rattle.tabled_extended.specs.Truncated.{AreTruncated, IsRefused, IsTruncated, StopsInRecord, StopsInRecords, StopsTruncating, TakesMemory, Truncates};
 
 use crate::extended_table::ExtendedTable;

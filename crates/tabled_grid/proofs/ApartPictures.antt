@@ -34,15 +34,15 @@ use Rattle.std.specs.Str.{IsUtf8}
 use Rattle.tabled_text.specs.Measure.{line_columns}
 use Rattle.tabled_text.specs.Plain.{IsAdditiveColumn}
 use Rattle.tabled_base.specs.Cells.{IsRectangular, cell_at, columns}
-use Rattle.tabled_border.specs.declared.borders.HorizontalLine.{HorizontalLine}
+use Rattle.tabled_config.specs.declared.borders.HorizontalLine.{HorizontalLine}
 use Rattle.tabled_config.specs.Settings.{frame, rule_at}
-use Rattle.tabled_row.specs.Apart.{HoldsTexts, IsApartRow, line_total}
-use Rattle.tabled_row.specs.Fill.{fill}
-use Rattle.tabled_row.specs.Plain.{EachLineTakes, IsPlainRule}
-use Rattle.tabled_row.specs.Row.{row_line, row_lines, rule_if, rule_line}
-use Rattle.tabled_row.proofs.ApartLines.{row_line_takes}
-use Rattle.tabled_row.proofs.Each.{each-more, map-more}
-use Rattle.tabled_row.proofs.Plains.{plain-fill, plain_rule_line}
+use Rattle.tabled_line.specs.Apart.{HoldsTexts, IsApartRow, line_total}
+use Rattle.tabled_line.specs.Fill.{fill}
+use Rattle.tabled_line.specs.Plain.{EachLineTakes, IsPlainRule}
+use Rattle.tabled_line.specs.Row.{row_line, row_lines, rule_if, rule_line}
+use Rattle.tabled_line.proofs.ApartLines.{row_line_takes}
+use Rattle.tabled_line.proofs.Each.{each-more, map-more}
+use Rattle.tabled_line.proofs.Plains.{plain-fill, plain_rule_line}
 use Rattle.tabled_size.specs.Sheet.{Sheet, is_empty}
 use Rattle.tabled_size.specs.Holds.{Holds}
 use Rattle.tabled_size.specs.Totals.{filled_width, total_width}

@@ -9,24 +9,24 @@ use Rattle.tabled_text.proofs.Bridge.{line_columns-le}
 use Rattle.tabled_text.proofs.PlainLines.{additive-plain, plain_line-append, plain_line-as, plain_line-each, plain_column-space}
 use Rattle.tabled_base.specs.Cells.{IsRectangular, cell_at, columns}
 use Rattle.tabled_config.specs.declared.spanned.CellStyle.{CellStyle}
-use Rattle.tabled_border.specs.declared.borders.HorizontalLine.{HorizontalLine}
-use Rattle.tabled_border.specs.Frame.{has_bar}
+use Rattle.tabled_config.specs.declared.borders.HorizontalLine.{HorizontalLine}
+use Rattle.tabled_config.specs.Frame.{has_bar}
 use Rattle.tabled_config.specs.Settings.{frame, style_at}
 use Rattle.tabled_size.specs.Sheet.{Sheet}
 use Rattle.tabled_priority.specs.Sums.{one_if, sum_below}
 use Rattle.tabled_size.specs.Totals.{filled_width}
-use Rattle.tabled_row.specs.Block.{text_room, columns_before, cell_line, block, fill_above}
+use Rattle.tabled_line.specs.Block.{text_room, columns_before, cell_line, block, fill_above}
 use Rattle.tabled_size.specs.Holds.{Holds}
-use Rattle.tabled_row.specs.Row.{cell_piece, row_line, rule_line}
+use Rattle.tabled_line.specs.Row.{cell_piece, row_line, rule_line}
 use Rattle.tabled_grid.specs.Picture.{columns_of, row_of}
 use Rattle.tabled_size.specs.PlainCells.{AreAdditive, ArePlain}
-use Rattle.tabled_row.specs.Plain.{IsPlainRule, IsPlainStyle}
+use Rattle.tabled_line.specs.Plain.{IsPlainRule, IsPlainStyle}
 use Rattle.tabled_grid.specs.PlainSheet.{IsPlainConfig}
-use Rattle.tabled_row.proofs.Blocks.{block-above, block-text, block-below}
-use Rattle.tabled_row.proofs.ApartLines.{columns_before-fits}
-use Rattle.tabled_row.proofs.Bars.{bar-sum}
-use Rattle.tabled_row.proofs.Plains.{plain-each, plain-fill, plain-left, plain-piece, plain-right, plain_rule_line}
-use Rattle.tabled_row.specs.Apart.{line_total}
+use Rattle.tabled_line.proofs.Blocks.{block-above, block-text, block-below}
+use Rattle.tabled_line.proofs.ApartLines.{columns_before-fits}
+use Rattle.tabled_line.proofs.Bars.{bar-sum}
+use Rattle.tabled_line.proofs.Plains.{plain-each, plain-fill, plain-left, plain-piece, plain-right, plain_rule_line}
+use Rattle.tabled_line.specs.Apart.{line_total}
 
 -- plain cells are additive
 pub additive_cells : (cells : List (List (List ℕ))) → ArePlain cells → AreAdditive cells

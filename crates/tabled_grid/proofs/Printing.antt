@@ -8,9 +8,9 @@ use Rattle.tabled_size.specs.Estimates.{IsTooHigh, IsTooWide}
 use Rattle.tabled_size.specs.Sheet.{Sheet, estimated, is_empty}
 use Rattle.tabled_grid.specs.Picture.{picture, table_text}
 use Rattle.tabled_grid.specs.Printed.{Ends, IsPrintable, IsRefused, Prints}
-use Rattle.tabled_row.specs.Sent.{Sends, Sent, Stops}
+use Rattle.tabled_line.specs.Sent.{Sends, Sent, Stops}
 use Rattle.tabled_grid.proofs.EstimatedSizes.{holds_estimated, passes_too_high, passes_too_wide, refused_estimated, sized_estimated}
-use Rattle.tabled_row.proofs.Sending.{sends-none, sends-along}
+use Rattle.tabled_line.proofs.Sending.{sends-none, sends-along}
 
 picture_none : (t : Sheet) → is_empty t.cells ≡ true → table_text t ≡ []
 unfolding picture

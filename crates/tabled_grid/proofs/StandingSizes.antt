@@ -21,7 +21,7 @@ use Rattle.tabled_grid.specs.Grid.{sheet_by}
 use Rattle.tabled_size.specs.Holds.{Holds, IsSized}
 use Rattle.tabled_grid.specs.Narrow.{IsNarrow}
 use Rattle.tabled_grid.specs.Printed.{IsRefused, IsOutOfRange, Prints}
-use Rattle.tabled_row.specs.Sent.{Sent}
+use Rattle.tabled_line.specs.Sent.{Sent}
 use Rattle.tabled_grid.proofs.EstimatedSizes.{holds_estimated}
 use Rattle.tabled_grid.proofs.Printing.{refused_so}
 

@@ -5,20 +5,20 @@ use Rattle.std.proofs.lemmas.List.{length-replicate}
 use Rattle.std.proofs.lemmas.List.FromFn.{length-map-range_with_len}
 use Rattle.tabled_text.specs.Plain.{IsAdditiveLine}
 use Rattle.tabled_base.specs.Cells.{IsRectangular, columns}
-use Rattle.tabled_border.specs.declared.borders.HorizontalLine.{HorizontalLine}
+use Rattle.tabled_config.specs.declared.borders.HorizontalLine.{HorizontalLine}
 use Rattle.tabled_config.specs.Settings.{rule_at}
 use Rattle.tabled_size.specs.Sheet.{Sheet, is_empty}
 use Rattle.tabled_priority.specs.Sums.{sum_below, one_if}
 use Rattle.tabled_size.specs.Totals.{filled_width, filled_height, total_width, total_height, rules_at, part_height}
-use Rattle.tabled_row.specs.Fill.{fill}
+use Rattle.tabled_line.specs.Fill.{fill}
 use Rattle.tabled_size.specs.Holds.{Holds}
-use Rattle.tabled_row.specs.Row.{row_line, row_lines, rule_if}
+use Rattle.tabled_line.specs.Row.{row_line, row_lines, rule_if}
 use Rattle.tabled_grid.specs.Picture.{columns_of, filled_picture, picture, row_of, row_part, rule}
 use Rattle.tabled_size.specs.PlainCells.{AreAdditive}
-use Rattle.tabled_row.specs.Plain.{EachLineTakes}
+use Rattle.tabled_line.specs.Plain.{EachLineTakes}
 use Rattle.tabled_grid.specs.PlainSheet.{IsPlainConfig}
-use Rattle.tabled_row.proofs.Each.{each-more, map-more}
-use Rattle.tabled_row.proofs.Plains.{plain-fill}
+use Rattle.tabled_line.proofs.Each.{each-more, map-more}
+use Rattle.tabled_line.proofs.Plains.{plain-fill}
 use Rattle.tabled_grid.proofs.Measuring.{IsPlainSheet, plain-row_line, plain-rule_line}
 
 -- each line is plain and takes n columns

@@ -1,11 +1,11 @@
 -- Tables whose settings keep the texts of their cells apart, whatever these are.
 use Rattle.std.specs.Prelude.{◌≡◌, ℕ, ◌<◌, ◌≤◌, Some}
 use Rattle.tabled_text.specs.Plain.{IsAdditiveColumn}
-use Rattle.tabled_border.specs.declared.borders.HorizontalLine.{HorizontalLine}
+use Rattle.tabled_config.specs.declared.borders.HorizontalLine.{HorizontalLine}
 use Rattle.tabled_config.specs.declared.spanned.SpannedConfig.{SpannedConfig}
 use Rattle.tabled_config.specs.Settings.{frame, rule_at, style_at}
-use Rattle.tabled_row.specs.Apart.{AreApartCells, IsApartFrame}
-use Rattle.tabled_row.specs.Plain.{IsPlainRule}
+use Rattle.tabled_line.specs.Apart.{AreApartCells, IsApartFrame}
+use Rattle.tabled_line.specs.Plain.{IsPlainRule}
 
 -- of a table with so many rows and columns: what stands beside the cells of each row keeps them apart, and horizontal
 -- lines and the lines of margins are of additive characters

@@ -6,9 +6,9 @@ use Rattle.tabled_config.specs.declared.spanned.SpannedConfig.{SpannedConfig}
 use Rattle.tabled_grid.specs.declared.column_aims.ColumnAims.{ColumnAims}
 use Rattle.tabled_grid.specs.declared.column_aims.ColumnAims.TheVariants.{Each, Few}
 use Rattle.tabled_grid.specs.declared.column_styles.ColumnStyles.{ColumnStyles}
-use Rattle.tabled_row.specs.Aims.{AreAims}
-use Rattle.tabled_row.specs.Row.{ColumnSheet}
-use Rattle.tabled_row.specs.declared.aim.CellAim.{CellAim}
+use Rattle.tabled_line.specs.Aims.{AreAims}
+use Rattle.tabled_line.specs.Row.{ColumnSheet}
+use Rattle.tabled_line.specs.declared.aim.CellAim.{CellAim}
 
 -- where the texts stand, as it is kept of a few columns or of any number of them
 abbrev pub aims_of : ColumnAims → List CellAim

@@ -3,8 +3,8 @@ use Rattle.std.specs.Prelude.{ℕ, if◌then◌else◌, List, [], ◌++◌, leng
 use Rattle.std.specs.List.{flat_map, join_with_byte, range_with_len, slice_index}
 use Rattle.tabled_base.specs.Cells.{cell_at, columns}
 use Rattle.tabled_config.specs.Settings.{frame, rule_at, style_at}
-use Rattle.tabled_row.specs.Fill.{fill}
-use Rattle.tabled_row.specs.Row.{ColumnSheet, RowSheet, row_lines, rule_if}
+use Rattle.tabled_line.specs.Fill.{fill}
+use Rattle.tabled_line.specs.Row.{ColumnSheet, RowSheet, row_lines, rule_if}
 use Rattle.tabled_size.specs.Sheet.{Sheet, is_empty}
 use Rattle.tabled_size.specs.Totals.{filled_width}
 

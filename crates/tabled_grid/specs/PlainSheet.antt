@@ -1,9 +1,9 @@
 -- Tables whose settings take known columns.
 use Rattle.std.specs.Prelude.{◌≡◌, ℕ, ◌<◌, ◌≤◌, Some}
-use Rattle.tabled_border.specs.declared.borders.HorizontalLine.{HorizontalLine}
+use Rattle.tabled_config.specs.declared.borders.HorizontalLine.{HorizontalLine}
 use Rattle.tabled_config.specs.declared.spanned.SpannedConfig.{SpannedConfig}
 use Rattle.tabled_config.specs.Settings.{frame, rule_at, style_at}
-use Rattle.tabled_row.specs.Plain.{IsPlainFrame, IsPlainRule, IsPlainStyle}
+use Rattle.tabled_line.specs.Plain.{IsPlainFrame, IsPlainRule, IsPlainStyle}
 
 -- the borders, fills and margins of a table with so many rows and columns are additive characters of one
 -- column: plain ones, or separators

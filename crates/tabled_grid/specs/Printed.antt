@@ -8,7 +8,7 @@ use Rattle.tabled_size.specs.Totals.{filled_height, filled_width}
 use Rattle.tabled_size.specs.Holds.{Holds, IsSized}
 use Rattle.tabled_grid.specs.Narrow.{IsFirstNarrow}
 use Rattle.tabled_grid.specs.Picture.{table_text}
-use Rattle.tabled_row.specs.Sent.{Sent, Sends, Stops}
+use Rattle.tabled_line.specs.Sent.{Sent, Sends, Stops}
 
 -- the totals are numbers that a `usize` can say
 pub record IsInRange (t : Sheet) : Type 0 where

@@ -1,17 +1,16 @@
 //! Whether the settings of a table keep the texts of its cells apart, so that all its lines take the same columns.
 ghost use Rattle.std.specs.Prelude.{◌≡◌, ◌↔◌, ◌<◌, ◌≤◌, ◌⊎◌, ℕ, IsTrue, Some, true};
 ghost use Rattle.tabled_text.specs.Plain.{IsAdditiveColumn};
-ghost use Rattle.tabled_apart.specs.Lines.{IsSeparatorColumn};
+ghost use Rattle.tabled_text.specs.FramedLines.{IsSeparatorColumn};
 ghost use Rattle.tabled_config.specs.Settings.{frame, rule_at, style_at};
-ghost use Rattle.tabled_border.specs.declared.borders.HorizontalLine.{HorizontalLine};
-ghost use Rattle.tabled_row.specs.Apart.{AreApartCells, ArePaddedLeft, HasGaps, HasSteadyBars, IsApartFrame, IsApartStyle};
-ghost use Rattle.tabled_row.specs.Plain.{IsPlainRule};
+ghost use Rattle.tabled_config.specs.declared.borders.HorizontalLine.{HorizontalLine};
+ghost use Rattle.tabled_line.specs.Apart.{AreApartCells, ArePaddedLeft, HasGaps, HasSteadyBars, IsApartFrame, IsApartStyle};
+ghost use Rattle.tabled_line.specs.Plain.{IsPlainRule};
 ghost use Rattle.tabled_grid.specs.ApartSheet.{IsApartConfig};
 
 use crate::plain::are_plain_rules;
-use tabled_apart::is_separator_column;
+use tabled_text::{is_additive_column, is_separator_column};
 use tabled_config::{CellStyle, Frame, SpannedConfig};
-use tabled_text::is_additive_column;
 
 fn is_apart_frame(frame: Frame) -> bool
     ensures { IsTrue result ↔ IsApartFrame frame }

@@ -5,7 +5,7 @@ ghost use Rattle.tabled_base.specs.Cells.{columns};
 ghost use Rattle.tabled_base.specs.declared.error.TableError.TheVariants.{ShortHeights, ShortWidths};
 ghost use Rattle.tabled_config.specs.Settings.{style_at};
 ghost use Rattle.tabled_entity.specs.ToldValues.{told_value};
-ghost use Rattle.tabled_row.specs.Aims.{AreAims, IsAimed, aim_of};
+ghost use Rattle.tabled_line.specs.Aims.{AreAims, IsAimed, aim_of};
 ghost use Rattle.tabled_size.specs.Reached.{reached};
 ghost use Rattle.tabled_size.specs.Standing.{standing};
 ghost use Rattle.tabled_size.specs.Totals.{filled_width};
@@ -18,7 +18,7 @@ use crate::grid::Grid;
 use tabled_base::{PeekableRecords, Position, TableError};
 use tabled_config::{Indent, Sides, SpannedConfig};
 use tabled_entity::ToldValues;
-use tabled_row::{Aim, CellAim};
+use tabled_line::{Aim, CellAim};
 use tabled_size::{
     CompleteDimension, Dimension, check_heights, check_widths, filled_height, filled_width,
 };

@@ -3,13 +3,13 @@ ghost use Rattle.std.specs.Prelude.{◌≡◌, ◌≤◌, IfSome, length, true};
 ghost use Rattle.std.specs.List.{slice_index};
 ghost use Rattle.tabled_config.specs.Settings.{style_at};
 ghost use Rattle.tabled_grid.specs.ColumnStyles.{aims_of, columns_in};
-ghost use Rattle.tabled_row.specs.Aims.{AreAims};
+ghost use Rattle.tabled_line.specs.Aims.{AreAims};
 ghost use Rattle.tabled_size.specs.Reached.{reached};
 
 use crate::few_aims::{FEW_COLUMNS, FewAims};
 use std::alloc::Global;
 use tabled_config::{AlignmentHorizontal, SpannedConfig};
-use tabled_row::{Aim, CellAim, bar_length, next_place};
+use tabled_line::{Aim, CellAim, bar_length, next_place};
 use tabled_size::{Dimension, check_widths};
 
 /// An aim that is none yet.

@@ -4,14 +4,14 @@ ghost use Rattle.std.specs.List.{range_with_len, slice_index};
 ghost use Rattle.tabled_base.specs.declared.error.TableError.TheVariants.{Memory};
 ghost use Rattle.tabled_config.specs.Settings.{style_at};
 ghost use Rattle.tabled_grid.specs.ColumnStyles.{AreStyles, columns_in};
-ghost use Rattle.tabled_row.specs.Aims.{AreAims};
+ghost use Rattle.tabled_line.specs.Aims.{AreAims};
 ghost use Rattle.tabled_size.specs.Reached.{reached};
 
 use crate::column_aims::ColumnAims;
 use std::alloc::Global;
 use tabled_base::TableError;
 use tabled_config::{CellStyle, SpannedConfig};
-use tabled_row::CellAim;
+use tabled_line::CellAim;
 use tabled_size::Dimension;
 
 /// For more columns nothing is kept.

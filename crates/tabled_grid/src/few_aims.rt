@@ -1,7 +1,7 @@
 //! Where the texts of a few columns stand, in a room of fixed size.
 ghost use Rattle.std.specs.Prelude.{◌≡◌, ◌≤◌, take};
 
-use tabled_row::CellAim;
+use tabled_line::CellAim;
 
 /// So many columns are a few.
 pub(crate) const FEW_COLUMNS: usize = 128;

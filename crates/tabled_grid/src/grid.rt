@@ -2,14 +2,14 @@
 ghost use Rattle.std.specs.Prelude.{◌≡◌, ◌<◌, ℕ, IfSome, length};
 ghost use Rattle.std.specs.List.{slice_index};
 ghost use Rattle.tabled_base.specs.Cells.{IsInside, cell_at, columns};
-ghost use Rattle.tabled_border.specs.Frame.{if_any, inner_line};
+ghost use Rattle.tabled_config.specs.Frame.{if_any, inner_line};
 ghost use Rattle.tabled_config.specs.RowStyles.{style_in};
 ghost use Rattle.tabled_config.specs.Settings.{frame, rule_at, style_at};
 ghost use Rattle.tabled_config.specs.ToldSides.{TellsSides};
 ghost use Rattle.tabled_grid.specs.ColumnStyles.{AreStyles};
 ghost use Rattle.tabled_grid.specs.Grid.{sheet_by};
 ghost use Rattle.tabled_grid.specs.Picture.{columns_of};
-ghost use Rattle.tabled_row.specs.Aims.{AreAims, IsSpread};
+ghost use Rattle.tabled_line.specs.Aims.{AreAims, IsSpread};
 ghost use Rattle.tabled_size.specs.Holds.{IsSized};
 ghost use Rattle.tabled_size.specs.Reached.{reached};
 ghost use Rattle.tabled_size.specs.Sheet.{Sheet};
@@ -19,7 +19,7 @@ use std::alloc::Global;
 use std::marker::Model;
 use tabled_base::{PeekableRecords, Position};
 use tabled_config::{CellStyle, Frame, HorizontalLine, RowStyles, SpannedConfig, ToldSides};
-use tabled_row::{CellAim, CellBlock, Content, Gap, Spread};
+use tabled_line::{CellAim, CellBlock, Content, Gap, Spread};
 use tabled_size::Dimension;
 
 /// Records, how they are set, and their sizes. Contracts see the sheet that they make.

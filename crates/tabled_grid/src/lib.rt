@@ -32,4 +32,4 @@ pub use apart::is_apart_config;
 pub use plain::{is_plain_config, is_plain_records};
 pub use print::print_grid;
 pub use standing::{print_estimated, print_standing};
-pub use tabled_row::{IoSink, TextSink};
+pub use tabled_line::{IoSink, TextSink};

@@ -6,7 +6,7 @@ ghost use Rattle.tabled_size.specs.Holds.{IsSized};
 use crate::grid::Grid;
 use tabled_base::{PeekableRecords, Position};
 use tabled_config::{CellStyle, Frame, RowStyles, ToldSides};
-use tabled_row::{CellAim, CellBlock, Columns, Content, Gap, Row, Spread};
+use tabled_line::{CellAim, CellBlock, Columns, Content, Gap, Row, Spread};
 use tabled_size::Dimension;
 
 /// The columns of a table whose sizes are there.

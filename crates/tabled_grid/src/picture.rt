@@ -2,17 +2,16 @@
 ghost use Rattle.std.specs.Prelude.{◌≡◌, ◌<◌, length};
 ghost use Rattle.std.specs.List.{flat_map, join_with_byte, range_with_len};
 ghost use Rattle.tabled_size.specs.Holds.{IsSized};
-ghost use Rattle.tabled_row.specs.Leading.{WritesLines};
-ghost use Rattle.tabled_row.specs.Sent.{Sent, Writes};
-ghost use Rattle.tabled_lines.specs.Kept.{Keeps};
+ghost use Rattle.tabled_line.specs.Leading.{WritesLines};
+ghost use Rattle.tabled_line.specs.Sent.{Sent, Writes};
+ghost use Rattle.tabled_line.specs.Kept.{Keeps};
 ghost use Rattle.std.proofs.Props.{props};
 ghost use Rattle.tabled_grid.specs.Picture.{columns_of, filled_picture, row_part, rule};
 
 use crate::grid::Grid;
 use crate::parts::{GridColumns, GridRow};
 use tabled_base::{PeekableRecords, TableError};
-use tabled_lines::Lines;
-use tabled_row::{Cursor, TextSink};
+use tabled_line::{Cursor, Lines, TextSink};
 use tabled_size::Dimension;
 
 /// The lines of a table while they are printed.

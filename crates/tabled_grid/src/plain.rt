@@ -3,9 +3,9 @@ ghost use Rattle.std.specs.Prelude.{◌≡◌, ◌↔◌, ◌<◌, ◌≤◌, �
 ghost use Rattle.std.specs.List.{All};
 ghost use Rattle.tabled_text.specs.Plain.{IsAdditiveColumn, IsPlain};
 ghost use Rattle.tabled_config.specs.Settings.{rule_at, style_at};
-ghost use Rattle.tabled_border.specs.declared.borders.HorizontalLine.{HorizontalLine};
+ghost use Rattle.tabled_config.specs.declared.borders.HorizontalLine.{HorizontalLine};
 ghost use Rattle.tabled_size.specs.PlainCells.{ArePlain};
-ghost use Rattle.tabled_row.specs.Plain.{IsPlainFrame, IsPlainPiece, IsPlainRule, IsPlainStyle};
+ghost use Rattle.tabled_line.specs.Plain.{IsPlainFrame, IsPlainPiece, IsPlainRule, IsPlainStyle};
 ghost use Rattle.tabled_grid.specs.PlainSheet.{IsPlainConfig};
 
 use tabled_base::{PeekableRecords, Position};

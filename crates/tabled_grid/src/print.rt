@@ -4,14 +4,14 @@ ghost use Rattle.tabled_size.specs.Sheet.{is_empty};
 ghost use Rattle.tabled_grid.specs.Grid.{sheet_by};
 ghost use Rattle.tabled_size.specs.Holds.{Holds, IsSized};
 ghost use Rattle.tabled_grid.specs.Printed.{Prints};
-ghost use Rattle.tabled_row.specs.Sent.{Sent};
+ghost use Rattle.tabled_line.specs.Sent.{Sent};
 
 use crate::checks::{check_narrow, check_sizes, check_totals};
 use crate::grid::Grid;
 use crate::picture::put_picture;
 use tabled_base::{PeekableRecords, TableError};
 use tabled_config::SpannedConfig;
-use tabled_row::{Cursor, FEW_CURSORS, MANY_CURSORS, TextSink};
+use tabled_line::{Cursor, FEW_CURSORS, MANY_CURSORS, TextSink};
 use tabled_size::{Dimension, is_empty};
 
 /// Prints a table whose sizes hold its cells, of whose first columns these are the cursors. Refused, before the first byte, where a

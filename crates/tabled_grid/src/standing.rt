@@ -6,7 +6,7 @@ ghost use Rattle.tabled_size.specs.Standing.{standing};
 ghost use Rattle.tabled_size.specs.Stored.{is_stored};
 ghost use Rattle.tabled_size.specs.Holds.{Holds, IsSized};
 ghost use Rattle.tabled_grid.specs.Printed.{Prints};
-ghost use Rattle.tabled_row.specs.Sent.{Sent};
+ghost use Rattle.tabled_line.specs.Sent.{Sent};
 
 use crate::checks::check_stored;
 use crate::grid::Grid;
@@ -14,7 +14,7 @@ use crate::print::{print_by, print_grid, print_held};
 use std::alloc::Global;
 use tabled_base::{PeekableRecords, TableError};
 use tabled_config::SpannedConfig;
-use tabled_row::{Cursor, MANY_CURSORS, TextSink};
+use tabled_line::{Cursor, MANY_CURSORS, TextSink};
 use tabled_size::{CompleteDimension, Dimension, Estimate, is_empty};
 
 /// Prints records under a configuration, with the sizes that are stored, and with those that the texts

@@ -1,14 +1,14 @@
 -- How many columns are out on a line where it comes to a place, and whose place that is.
 use Rattle.std.proofs.Common.{◌≡◌, ℕ, zero, suc, ◌+◌, ◌-◌, ◌<◌, ◌≤◌, true, [], Option, Some, None, refl, ◌∙◌, ap, sym, subst, arith, ⊎_elim, ◌⊎◌, inl, inr}
 use Rattle.std.proofs.lemmas.Bool.Decides.{nat_tests}
-use Rattle.tabled_boxes.specs.declared.pieces.Rectangle.{Rectangle}
-use Rattle.tabled_boxes.specs.declared.pieces.Kind.{Kind}
-use Rattle.tabled_boxes.specs.declared.pieces.Kind.TheVariants.{Leaf, Bar, Rule}
-use Rattle.tabled_boxes.specs.Boxes.{Part}
-use Rattle.tabled_boxes.specs.Tiling.{within, AreTiles}
-use Rattle.tabled_panels.specs.Leaf.{leaf_line}
-use Rattle.tabled_panels.specs.Kinds.{is_line_kind}
-use Rattle.tabled_panels.specs.Plan.{Plan}
+use Rattle.tabled_pool.specs.declared.pieces.Rectangle.{Rectangle}
+use Rattle.tabled_pool.specs.declared.pieces.Kind.{Kind}
+use Rattle.tabled_pool.specs.declared.pieces.Kind.TheVariants.{Leaf, Bar, Rule}
+use Rattle.tabled_pool.specs.Boxes.{Part}
+use Rattle.tabled_pool.specs.Tiling.{within, AreTiles}
+use Rattle.tabled_pool.specs.Leaf.{leaf_line}
+use Rattle.tabled_pool.specs.Kinds.{is_line_kind}
+use Rattle.tabled_pool.specs.Plan.{Plan}
 use Rattle.tabled_pool.specs.Drawn.{part_text}
 use Rattle.tabled_pool.specs.Owner.{owner}
 use Rattle.tabled_pool.specs.Whole.{whole}

@@ -6,16 +6,16 @@ use Rattle.std.proofs.lemmas.Option.{slice_get_cases, slice_get-get_or}
 use Rattle.tabled_text.specs.Measure.{lines_of, text_columns, line_columns}
 use Rattle.tabled_text.proofs.Bridge.{line_columns-le}
 use Rattle.tabled_text.proofs.PlainLines.{plain_column-space}
-use Rattle.tabled_apart.specs.Lines.{IsFrame, IsLine, IsSeparatorColumn}
-use Rattle.tabled_apart.proofs.LineLaws.{frame-append, frame-one, line-each, line-frame, line-framed}
-use Rattle.tabled_apart.proofs.Ends.{closes-append, closes-frame, closes-framed, frame-as, frame-nil, line-as, opens-append, opens-frame, Closes, Opens}
+use Rattle.tabled_text.specs.FramedLines.{IsFrame, IsLine, IsSeparatorColumn}
+use Rattle.tabled_text.proofs.LineLaws.{frame-append, frame-one, line-each, line-frame, line-framed}
+use Rattle.tabled_text.proofs.Ends.{closes-append, closes-frame, closes-framed, frame-as, frame-nil, line-as, opens-append, opens-frame, Closes, Opens}
 use Rattle.tabled_config.specs.declared.spanned.CellStyle.{CellStyle}
-use Rattle.tabled_row.specs.Apart.{IsApartStyle}
-use Rattle.tabled_row.specs.Block.{text_room, columns_before, cell_line}
-use Rattle.tabled_row.specs.Fill.{fill}
-use Rattle.tabled_panels.specs.Block.{lines_above, line_below, pool_block, text_line, without_sides}
-use Rattle.tabled_panels.specs.Colours.{coloured, no_mark}
-use Rattle.tabled_panels.proofs.PoolBlocks.{block-above, block-top, block-text, block-past, block-below}
+use Rattle.tabled_line.specs.Apart.{IsApartStyle}
+use Rattle.tabled_line.specs.Block.{text_room, columns_before, cell_line}
+use Rattle.tabled_line.specs.Fill.{fill}
+use Rattle.tabled_pool.specs.Block.{lines_above, line_below, pool_block, text_line, without_sides}
+use Rattle.tabled_pool.specs.Colours.{coloured, no_mark}
+use Rattle.tabled_pool.proofs.PoolBlocks.{block-above, block-top, block-text, block-past, block-below}
 use Rattle.tabled_pool.proofs.PlainBlocks.{bare, columns_before-fits}
 
 pub separator-space : IsSeparatorColumn 32

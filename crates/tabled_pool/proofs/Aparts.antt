@@ -1,9 +1,9 @@
 -- Trees of any texts that settings keep apart are drawable.
 use Rattle.std.proofs.Common.{◌≡◌, ℕ, suc, ◌+◌, ◌-◌, ◌<◌, true, List, [], ◌++◌, Some, get_or, sym, ap, ◌∙◌, subst, arith}
 use Rattle.std.specs.Str.{IsUtf8}
-use Rattle.tabled_apart.specs.Lines.{IsLine, IsSeparatorColumn}
-use Rattle.tabled_apart.proofs.LineLaws.{frame-one, line-frame}
-use Rattle.tabled_apart.proofs.Ends.{
+use Rattle.tabled_text.specs.FramedLines.{IsLine, IsSeparatorColumn}
+use Rattle.tabled_text.proofs.LineLaws.{frame-one, line-frame}
+use Rattle.tabled_text.proofs.Ends.{
   begins-frame,
   closes-append,
   closes-frame,
@@ -16,19 +16,19 @@ use Rattle.tabled_apart.proofs.Ends.{
   Closes,
 }
 use Rattle.tabled_config.specs.Compact.{each_side}
-use Rattle.tabled_row.specs.Apart.{IsApartStyle}
-use Rattle.tabled_row.proofs.Joined.{IsClosedLine}
-use Rattle.tabled_boxes.specs.declared.gaps.Gaps.{Gaps}
-use Rattle.tabled_boxes.specs.declared.pieces.Kind.{Kind}
-use Rattle.tabled_boxes.specs.declared.pieces.Kind.TheVariants.{Leaf, Bar, Rule}
-use Rattle.tabled_boxes.specs.declared.pieces.Rectangle.{Rectangle}
-use Rattle.tabled_boxes.specs.Boxes.{Part}
-use Rattle.tabled_boxes.specs.Tiling.{AreTiles, EachFits}
-use Rattle.tabled_panels.specs.Block.{pool_block}
-use Rattle.tabled_panels.specs.Colours.{no_mark}
-use Rattle.tabled_panels.specs.Leaf.{leaf_line}
-use Rattle.tabled_panels.specs.Kinds.{is_line_kind}
-use Rattle.tabled_panels.specs.Plan.{Plan}
+use Rattle.tabled_line.specs.Apart.{IsApartStyle}
+use Rattle.tabled_line.proofs.Joined.{IsClosedLine}
+use Rattle.tabled_pool.specs.declared.gaps.Gaps.{Gaps}
+use Rattle.tabled_pool.specs.declared.pieces.Kind.{Kind}
+use Rattle.tabled_pool.specs.declared.pieces.Kind.TheVariants.{Leaf, Bar, Rule}
+use Rattle.tabled_pool.specs.declared.pieces.Rectangle.{Rectangle}
+use Rattle.tabled_pool.specs.Boxes.{Part}
+use Rattle.tabled_pool.specs.Tiling.{AreTiles, EachFits}
+use Rattle.tabled_pool.specs.Block.{pool_block}
+use Rattle.tabled_pool.specs.Colours.{no_mark}
+use Rattle.tabled_pool.specs.Leaf.{leaf_line}
+use Rattle.tabled_pool.specs.Kinds.{is_line_kind}
+use Rattle.tabled_pool.specs.Plan.{Plan}
 use Rattle.tabled_pool.specs.Characters.{EachCharacter}
 use Rattle.tabled_pool.specs.Drawn.{border_char}
 use Rattle.tabled_pool.specs.Owner.{owner, is_border_before, is_line}

@@ -1,12 +1,12 @@
 -- Without colours nothing stands around a character.
 use Rattle.std.proofs.Common.{◌≡◌, ℕ, ◌+◌, ◌==◌, Bool, true, false, cond, List, [], ◌∷◌, Option, Some, None, unwrap_or, refl, sym, ap, subst}
-use Rattle.tabled_border.specs.Frame.{has_left}
-use Rattle.tabled_boxes.specs.declared.pieces.Rectangle.{Rectangle}
-use Rattle.tabled_boxes.specs.Boxes.{Part}
-use Rattle.tabled_panels.specs.Marks.{Around, alone, begun, ended, nothing_around, used_after}
-use Rattle.tabled_panels.specs.Colours.{Mark, is_same, no_mark}
-use Rattle.tabled_panels.specs.Kinds.{is_line_kind}
-use Rattle.tabled_panels.specs.Plan.{Plan}
+use Rattle.tabled_config.specs.Frame.{has_left}
+use Rattle.tabled_pool.specs.declared.pieces.Rectangle.{Rectangle}
+use Rattle.tabled_pool.specs.Boxes.{Part}
+use Rattle.tabled_pool.specs.Marks.{Around, alone, begun, ended, nothing_around, used_after}
+use Rattle.tabled_pool.specs.Colours.{Mark, is_same, no_mark}
+use Rattle.tabled_pool.specs.Kinds.{is_line_kind}
+use Rattle.tabled_pool.specs.Plan.{Plan}
 use Rattle.tabled_pool.specs.declared.around.Spot.{Spot}
 use Rattle.tabled_pool.specs.declared.around.Spot.TheVariants.{Before, Inside, Behind, Outside}
 use Rattle.tabled_pool.specs.Around.{

@@ -29,15 +29,15 @@ use Rattle.std.proofs.Common.{
   inr,
   string_bytes,
 }
-use Rattle.tabled_border.specs.declared.sides.Sides.{Sides}
-use Rattle.tabled_boxes.specs.declared.gaps.Gaps.{Gaps}
-use Rattle.tabled_boxes.specs.declared.pieces.Rectangle.{Rectangle}
-use Rattle.tabled_boxes.specs.declared.pieces.Kind.TheVariants.{Leaf, Bar, Rule}
-use Rattle.tabled_boxes.specs.declared.tree.TableValue.{TableValue}
-use Rattle.tabled_boxes.specs.declared.tree.TableValue.TheOpen.{Row, Column, Cell}
-use Rattle.tabled_boxes.specs.declared.tree.TableValue.TheFolds.{fold-roll-TableValue, ind-TableValue, map-TableValue}
-use Rattle.tabled_boxes.specs.declared.tree.TableValue.TheViews.{roll-TableValue}
-use Rattle.tabled_boxes.specs.Boxes.{
+use Rattle.tabled_config.specs.declared.sides.Sides.{Sides}
+use Rattle.tabled_pool.specs.declared.gaps.Gaps.{Gaps}
+use Rattle.tabled_pool.specs.declared.pieces.Rectangle.{Rectangle}
+use Rattle.tabled_pool.specs.declared.pieces.Kind.TheVariants.{Leaf, Bar, Rule}
+use Rattle.tabled_pool.specs.declared.tree.TableValue.{TableValue}
+use Rattle.tabled_pool.specs.declared.tree.TableValue.TheOpen.{Row, Column, Cell}
+use Rattle.tabled_pool.specs.declared.tree.TableValue.TheFolds.{fold-roll-TableValue, ind-TableValue, map-TableValue}
+use Rattle.tabled_pool.specs.declared.tree.TableValue.TheViews.{roll-TableValue}
+use Rattle.tabled_pool.specs.Boxes.{
   Part,
   Box,
   part_of,
@@ -60,10 +60,10 @@ use Rattle.tabled_boxes.specs.Boxes.{
   box_step,
   box_of,
 }
-use Rattle.tabled_boxes.specs.Tiling.{framed, within, covering, Tiles}
-use Rattle.tabled_boxes.proofs.Framing.{tree_framed_tiles}
-use Rattle.tabled_boxes.proofs.Tiling.{covering-append, row_box-tiles, column_box-tiles, share_within, tree-tiles, AllTile}
-use Rattle.tabled_panels.specs.Kinds.{is_line_kind}
+use Rattle.tabled_pool.specs.Tiling.{framed, within, covering, Tiles}
+use Rattle.tabled_pool.proofs.Framing.{tree_framed_tiles}
+use Rattle.tabled_pool.proofs.Tiling.{covering-append, row_box-tiles, column_box-tiles, share_within, tree-tiles, AllTile}
+use Rattle.tabled_pool.specs.Kinds.{is_line_kind}
 use Rattle.tabled_pool.specs.Owner.{owner, is_border_before, is_line}
 use Rattle.tabled_pool.proofs.Owners.{inside-within, within-inside, within-le, owner-inside, owner-here, owner-behind, counted, is-1}
 

@@ -1,12 +1,12 @@
 -- The characters of lines are all of a kind if those of the borders are.
 use Rattle.std.proofs.Common.{ℕ, ◌+◌, ◌==◌, if◌then◌else◌, Bool, true, false, ◌&&◌, ◌||◌, Option, unwrap_or}
-use Rattle.tabled_border.specs.declared.borders.Borders.{Borders}
-use Rattle.tabled_border.specs.Frame.{has_right}
-use Rattle.tabled_border.specs.Junction.{junction}
-use Rattle.tabled_boxes.specs.declared.pieces.Rectangle.{Rectangle}
-use Rattle.tabled_boxes.specs.declared.pieces.Kind.{Kind}
-use Rattle.tabled_boxes.specs.declared.pieces.Kind.TheVariants.{Leaf, Bar, Rule}
-use Rattle.tabled_panels.specs.Plan.{Plan}
+use Rattle.tabled_config.specs.declared.borders.Borders.{Borders}
+use Rattle.tabled_config.specs.Frame.{has_right}
+use Rattle.tabled_config.specs.Junction.{junction}
+use Rattle.tabled_pool.specs.declared.pieces.Rectangle.{Rectangle}
+use Rattle.tabled_pool.specs.declared.pieces.Kind.{Kind}
+use Rattle.tabled_pool.specs.declared.pieces.Kind.TheVariants.{Leaf, Bar, Rule}
+use Rattle.tabled_pool.specs.Plan.{Plan}
 use Rattle.tabled_pool.specs.Characters.{EachCharacter}
 use Rattle.tabled_pool.specs.Drawn.{main_of, border_char}
 use Rattle.tabled_pool.specs.Frames.{has_bottom}

@@ -3,8 +3,8 @@ use Rattle.std.proofs.Common.{◌≡◌, ℕ, List, [], ◌∷◌, ◌++◌, Opt
 use Rattle.std.specs.List.{AllZip}
 use Rattle.std.proofs.lemmas.List.{map-append}
 use Rattle.tabled_base.specs.Given.{Given}
-use Rattle.tabled_boxes.specs.declared.tree.TableValue.{TableValue}
-use Rattle.tabled_boxes.specs.Tree.{Tree, tree_of, tree_of_row}
+use Rattle.tabled_pool.specs.declared.tree.TableValue.{TableValue}
+use Rattle.tabled_pool.specs.Tree.{Tree, tree_of, tree_of_row}
 
 all_zip-more : {X Y : Type 0} (R : X → Y → Type 0) (xs : List X) (ys : List Y) (x : X) (y : Y) → AllZip R xs ys
     → R x y → AllZip R (xs ++ x ∷ []) (ys ++ y ∷ [])

@@ -3,14 +3,14 @@ use Rattle.std.proofs.Common.{◌≡◌, ℕ, zero, suc, ◌+◌, ◌<◌, ◌�
 use Rattle.std.specs.List.{flat_map, range_with_len}
 use Rattle.std.proofs.lemmas.List.FromFn.{length-map-range_with_len, get_or-map-range_with_len}
 use Rattle.tabled_text.specs.Measure.{line_columns}
-use Rattle.tabled_row.specs.Plain.{EachLineTakes}
-use Rattle.tabled_row.proofs.Each.{each-more}
-use Rattle.tabled_boxes.specs.declared.pieces.Rectangle.{Rectangle}
-use Rattle.tabled_boxes.specs.declared.pieces.Kind.{Kind}
-use Rattle.tabled_boxes.specs.declared.pieces.Kind.TheVariants.{Leaf, Bar, Rule}
-use Rattle.tabled_boxes.specs.Boxes.{Part}
-use Rattle.tabled_panels.specs.Marks.{within_marks}
-use Rattle.tabled_panels.specs.Plan.{Plan}
+use Rattle.tabled_line.specs.Plain.{EachLineTakes}
+use Rattle.tabled_line.proofs.Each.{each-more}
+use Rattle.tabled_pool.specs.declared.pieces.Rectangle.{Rectangle}
+use Rattle.tabled_pool.specs.declared.pieces.Kind.{Kind}
+use Rattle.tabled_pool.specs.declared.pieces.Kind.TheVariants.{Leaf, Bar, Rule}
+use Rattle.tabled_pool.specs.Boxes.{Part}
+use Rattle.tabled_pool.specs.Marks.{within_marks}
+use Rattle.tabled_pool.specs.Plan.{Plan}
 use Rattle.tabled_pool.specs.Owner.{owner}
 use Rattle.tabled_pool.specs.Drawn.{border_char, border_text, part_text, owned_text, place_text, drawn_line, drawn}
 use Rattle.tabled_pool.proofs.Ahead.{ahead, ahead_of, ahead_kind, before, ends, leaf-begins, leaf-goes, out-leaf, out-line, owned, Begins, Goes}

@@ -2,8 +2,8 @@
 use Rattle.std.proofs.Common.{◌≡◌, ℕ, ◌+◌, ◌-◌, ◌<◌, ◌≤◌, ◌==◌, false, ltb, refl, arith}
 use Rattle.std.proofs.Math.Nat.{mul-zero, zero-mul, one-mul}
 use Rattle.std.proofs.lemmas.Bool.Decides.{nat_tests}
-use Rattle.tabled_boxes.specs.declared.pieces.Rectangle.{Rectangle}
-use Rattle.tabled_boxes.specs.Tiling.{spans}
+use Rattle.tabled_pool.specs.declared.pieces.Rectangle.{Rectangle}
+use Rattle.tabled_pool.specs.Tiling.{spans}
 use Rattle.tabled_pool.specs.Owner.{contains}
 
 spans-0 : (a n p : ℕ) → (p < a + n → p < a) → spans a n p ≡ 0

@@ -1,11 +1,11 @@
 -- Lines with a margin around them.
 use Rattle.std.proofs.Common.{◌≡◌, ℕ, List, [], ◌∷◌, ◌++◌, map, replicate, refl, sym, ◌∙◌, ap, append_assoc}
 use Rattle.std.specs.List.{range_with_len}
-use Rattle.tabled_border.specs.declared.sides.Indent.{Indent}
-use Rattle.tabled_border.specs.declared.sides.Sides.{Sides}
-use Rattle.tabled_panels.specs.Colours.{Mark}
-use Rattle.tabled_panels.specs.Margins.{margin_line, within_margin, with_margin}
-use Rattle.tabled_panels.specs.Plan.{Plan}
+use Rattle.tabled_config.specs.declared.sides.Indent.{Indent}
+use Rattle.tabled_config.specs.declared.sides.Sides.{Sides}
+use Rattle.tabled_pool.specs.Colours.{Mark}
+use Rattle.tabled_pool.specs.Margins.{margin_line, within_margin, with_margin}
+use Rattle.tabled_pool.specs.Plan.{Plan}
 use Rattle.tabled_pool.specs.Drawn.{drawn, drawn_line}
 
 map-map : {A B C : Type 0} (f : B → C) (g : A → B) (xs : List A) → map f (map g xs) ≡ map (λ x. f (g x)) xs

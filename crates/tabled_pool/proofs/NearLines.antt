@@ -26,14 +26,14 @@ use Rattle.std.proofs.Common.{
 }
 use Rattle.std.specs.List.{flat_map, range_with_len}
 use Rattle.std.proofs.lemmas.Bool.Decides.{nat_tests}
-use Rattle.tabled_boxes.specs.declared.pieces.Rectangle.{Rectangle}
-use Rattle.tabled_boxes.specs.declared.pieces.Kind.{Kind}
-use Rattle.tabled_boxes.specs.declared.pieces.Kind.TheVariants.{Leaf, Bar, Rule}
-use Rattle.tabled_boxes.specs.Boxes.{Part}
-use Rattle.tabled_boxes.specs.Tiling.{within}
-use Rattle.tabled_panels.specs.Leaf.{leaf_line}
-use Rattle.tabled_panels.specs.Kinds.{is_line_kind}
-use Rattle.tabled_panels.specs.Plan.{Plan}
+use Rattle.tabled_pool.specs.declared.pieces.Rectangle.{Rectangle}
+use Rattle.tabled_pool.specs.declared.pieces.Kind.{Kind}
+use Rattle.tabled_pool.specs.declared.pieces.Kind.TheVariants.{Leaf, Bar, Rule}
+use Rattle.tabled_pool.specs.Boxes.{Part}
+use Rattle.tabled_pool.specs.Tiling.{within}
+use Rattle.tabled_pool.specs.Leaf.{leaf_line}
+use Rattle.tabled_pool.specs.Kinds.{is_line_kind}
+use Rattle.tabled_pool.specs.Plan.{Plan}
 use Rattle.tabled_pool.specs.declared.around.Spot.TheVariants.{Outside}
 use Rattle.tabled_pool.specs.Around.{around_at, around_part, around_text, spot}
 use Rattle.tabled_pool.specs.Drawn.{border_char, border_text, drawn_line, owned_text, part_text, place_text}

@@ -3,9 +3,9 @@ use Rattle.std.proofs.Common.{◌≡◌, ℕ, zero, suc, ◌+◌, ◌*◌, ◌<�
 use Rattle.std.proofs.Math.Nat.{mul-zero, zero-mul}
 use Rattle.std.proofs.lemmas.Nat.{mul-le}
 use Rattle.std.proofs.lemmas.Bool.Decides.{nat_tests}
-use Rattle.tabled_boxes.specs.declared.pieces.Rectangle.{Rectangle}
-use Rattle.tabled_boxes.specs.Boxes.{Part}
-use Rattle.tabled_boxes.specs.Tiling.{spans, within, covering}
+use Rattle.tabled_pool.specs.declared.pieces.Rectangle.{Rectangle}
+use Rattle.tabled_pool.specs.Boxes.{Part}
+use Rattle.tabled_pool.specs.Tiling.{spans, within, covering}
 use Rattle.tabled_pool.specs.Owner.{owner}
 
 pub record Inside (r : Rectangle) (x y : ℕ) : Type 0 where

@@ -1,14 +1,14 @@
 -- A text with padding at a side is given a column.
 use Rattle.std.proofs.Common.{◌≡◌, ℕ, ◌+◌, ◌<◌, ◌==◌, ◌&&◌, false, not, List, [], ◌∷◌, refl, arith}
 use Rattle.std.proofs.lemmas.Grind.{common_steps}
-use Rattle.tabled_boxes.specs.declared.gaps.Gaps.{Gaps}
-use Rattle.tabled_boxes.specs.declared.pieces.Kind.{Kind}
-use Rattle.tabled_boxes.specs.declared.pieces.Kind.TheVariants.{Leaf, Bar, Rule}
-use Rattle.tabled_boxes.specs.Boxes.{Part}
-use Rattle.tabled_boxes.specs.Tiling.{EachFits}
-use Rattle.tabled_boxes.proofs.Framing.{tree_framed_fits}
-use Rattle.tabled_panels.specs.Handed.{has_bare, is_bare}
-use Rattle.tabled_panels.specs.Kinds.{is_line_kind}
+use Rattle.tabled_pool.specs.declared.gaps.Gaps.{Gaps}
+use Rattle.tabled_pool.specs.declared.pieces.Kind.{Kind}
+use Rattle.tabled_pool.specs.declared.pieces.Kind.TheVariants.{Leaf, Bar, Rule}
+use Rattle.tabled_pool.specs.Boxes.{Part}
+use Rattle.tabled_pool.specs.Tiling.{EachFits}
+use Rattle.tabled_pool.proofs.Framing.{tree_framed_fits}
+use Rattle.tabled_pool.specs.Handed.{has_bare, is_bare}
+use Rattle.tabled_pool.specs.Kinds.{is_line_kind}
 use Rattle.tabled_pool.specs.declared.pool_table.PoolTable.{PoolTable}
 use Rattle.tabled_pool.specs.Pool.{HasColumns, IsPadded, borders_of, frame_of, frame_place, gaps_of, plan}
 

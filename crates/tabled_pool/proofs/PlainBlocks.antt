@@ -9,15 +9,15 @@ use Rattle.tabled_text.proofs.PlainLines.{plain_line-append, plain_line-as, plai
 use Rattle.tabled_config.specs.declared.alignment.AlignmentHorizontal.{AlignmentHorizontal}
 use Rattle.tabled_config.specs.declared.alignment.AlignmentHorizontal.TheVariants as horizontal
 use Rattle.tabled_config.specs.declared.spanned.CellStyle.{CellStyle}
-use Rattle.tabled_row.specs.Block.{before_text, text_room, columns_before, cell_line}
-use Rattle.tabled_row.specs.Plain.{IsPlainStyle}
-use Rattle.tabled_row.specs.Fill.{fill}
-use Rattle.tabled_row.proofs.Plains.{plain-fill}
-use Rattle.tabled_border.specs.declared.sides.Sides.{Sides}
+use Rattle.tabled_line.specs.Block.{before_text, text_room, columns_before, cell_line}
+use Rattle.tabled_line.specs.Plain.{IsPlainStyle}
+use Rattle.tabled_line.specs.Fill.{fill}
+use Rattle.tabled_line.proofs.Plains.{plain-fill}
+use Rattle.tabled_config.specs.declared.sides.Sides.{Sides}
 use Rattle.tabled_config.specs.Compact.{each_side}
-use Rattle.tabled_panels.specs.Block.{lines_above, line_below, pool_block, text_line, without_sides}
-use Rattle.tabled_panels.specs.Colours.{Mark, coloured, no_mark}
-use Rattle.tabled_panels.proofs.PoolBlocks.{block-above, block-top, block-text, block-past, block-below}
+use Rattle.tabled_pool.specs.Block.{lines_above, line_below, pool_block, text_line, without_sides}
+use Rattle.tabled_pool.specs.Colours.{Mark, coloured, no_mark}
+use Rattle.tabled_pool.proofs.PoolBlocks.{block-above, block-top, block-text, block-past, block-below}
 
 before-le : (a : AlignmentHorizontal) (n : ℕ) → before_text a n ≤ n
 before-le horizontal.Left n = omega arith

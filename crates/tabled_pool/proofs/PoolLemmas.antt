@@ -1,16 +1,16 @@
 -- Pool tables as plans.
 use Rattle.std.proofs.Common.{◌≡◌, ℕ, List, true, refl, ap, ◌∙◌}
 use Rattle.std.specs.List.{join_with_byte}
-use Rattle.tabled_border.specs.declared.borders.Borders.{Borders}
-use Rattle.tabled_border.specs.declared.sides.Indent.{Indent}
-use Rattle.tabled_border.specs.declared.sides.Sides.{Sides}
+use Rattle.tabled_config.specs.declared.borders.Borders.{Borders}
+use Rattle.tabled_config.specs.declared.sides.Indent.{Indent}
+use Rattle.tabled_config.specs.declared.sides.Sides.{Sides}
 use Rattle.tabled_config.specs.declared.spanned.CellStyle.{CellStyle}
-use Rattle.tabled_boxes.specs.Boxes.{Part}
-use Rattle.tabled_panels.specs.Margins.{with_margin}
-use Rattle.tabled_panels.specs.Colours.{LineMarks, Mark, line_marks_of, marks_of}
-use Rattle.tabled_panels.specs.Plan.{Plan}
-use Rattle.tabled_panels.specs.Handed.{handed_panel, has_bare}
-use Rattle.tabled_panels.specs.Panels.{Panel}
+use Rattle.tabled_pool.specs.Boxes.{Part}
+use Rattle.tabled_pool.specs.Margins.{with_margin}
+use Rattle.tabled_pool.specs.Colours.{LineMarks, Mark, line_marks_of, marks_of}
+use Rattle.tabled_pool.specs.Plan.{Plan}
+use Rattle.tabled_pool.specs.Handed.{handed_panel, has_bare}
+use Rattle.tabled_pool.specs.Panels.{Panel}
 use Rattle.tabled_pool.specs.declared.pool_table.PoolTable.{PoolTable}
 use Rattle.tabled_pool.specs.Drawn.{drawn}
 use Rattle.tabled_pool.specs.Pool.{

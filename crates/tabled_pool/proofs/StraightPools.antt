@@ -8,20 +8,20 @@ use Rattle.std.proofs.lemmas.List.FromFn.{length-map-range_with_len, get_or-map-
 use Rattle.tabled_text.specs.Measure.{line_columns}
 use Rattle.tabled_text.specs.Plain.{IsAdditive, IsAdditiveLine}
 use Rattle.tabled_text.proofs.PlainLines.{plain_line-append, plain_line-as}
-use Rattle.tabled_apart.specs.Lines.{IsLine}
-use Rattle.tabled_apart.proofs.LineLaws.{line-frame, line-framed}
-use Rattle.tabled_border.specs.declared.sides.Indent.{Indent}
-use Rattle.tabled_border.specs.declared.sides.Sides.{Sides}
-use Rattle.tabled_border.specs.Frame.{has_left}
+use Rattle.tabled_text.specs.FramedLines.{IsLine}
+use Rattle.tabled_text.proofs.LineLaws.{line-frame, line-framed}
+use Rattle.tabled_config.specs.declared.sides.Indent.{Indent}
+use Rattle.tabled_config.specs.declared.sides.Sides.{Sides}
+use Rattle.tabled_config.specs.Frame.{has_left}
 use Rattle.tabled_config.specs.Compact.{each_side}
 use Rattle.tabled_priority.specs.Sums.{one_if}
-use Rattle.tabled_row.specs.Plain.{EachLineTakes}
-use Rattle.tabled_row.proofs.Plains.{plain-fill}
-use Rattle.tabled_boxes.specs.Tree.{tree_of}
-use Rattle.tabled_boxes.proofs.Framing.{tree_framed_tiles, tree_framed_fits}
-use Rattle.tabled_panels.specs.Colours.{marks_of, no_mark}
-use Rattle.tabled_panels.specs.Margins.{margin_line, within_margin, with_margin}
-use Rattle.tabled_panels.specs.Plan.{Plan}
+use Rattle.tabled_line.specs.Plain.{EachLineTakes}
+use Rattle.tabled_line.proofs.Plains.{plain-fill}
+use Rattle.tabled_pool.specs.Tree.{tree_of}
+use Rattle.tabled_pool.proofs.Framing.{tree_framed_tiles, tree_framed_fits}
+use Rattle.tabled_pool.specs.Colours.{marks_of, no_mark}
+use Rattle.tabled_pool.specs.Margins.{margin_line, within_margin, with_margin}
+use Rattle.tabled_pool.specs.Plan.{Plan}
 use Rattle.tabled_pool.specs.declared.pool_table.PoolTable.{PoolTable}
 use Rattle.tabled_pool.specs.Apart.{IsApartMargin, IsApartPool, IsStraightPool}
 use Rattle.tabled_pool.specs.Drawn.{drawn, drawn_line}

@@ -1,14 +1,14 @@
 -- What is drawn tiles its parts.
 use Rattle.std.proofs.Common.{◌≡◌, ℕ, ◌+◌, ◌-◌, ◌<◌, ◌≤◌, true, List, ◌++◌, Some, refl, ◌∙◌, ap, arith, encode_utf8, ◌⊎◌, inl, inr}
 use Rattle.std.specs.List.{flat_map, range_with_len}
-use Rattle.tabled_row.proofs.Each.{each-rest}
-use Rattle.tabled_boxes.specs.declared.pieces.Kind.{Kind}
-use Rattle.tabled_boxes.specs.declared.pieces.Kind.TheVariants.{Leaf, Bar, Rule}
-use Rattle.tabled_boxes.specs.Boxes.{Part}
-use Rattle.tabled_boxes.specs.Tiling.{within}
-use Rattle.tabled_panels.specs.Kinds.{is_line_kind}
-use Rattle.tabled_panels.specs.Leaf.{leaf_line}
-use Rattle.tabled_panels.specs.Plan.{Plan}
+use Rattle.tabled_line.proofs.Each.{each-rest}
+use Rattle.tabled_pool.specs.declared.pieces.Kind.{Kind}
+use Rattle.tabled_pool.specs.declared.pieces.Kind.TheVariants.{Leaf, Bar, Rule}
+use Rattle.tabled_pool.specs.Boxes.{Part}
+use Rattle.tabled_pool.specs.Tiling.{within}
+use Rattle.tabled_pool.specs.Kinds.{is_line_kind}
+use Rattle.tabled_pool.specs.Leaf.{leaf_line}
+use Rattle.tabled_pool.specs.Plan.{Plan}
 use Rattle.tabled_pool.specs.Owner.{owner}
 use Rattle.tabled_pool.specs.Drawn.{border_char, part_text, owned_text, place_text, drawn_line}
 use Rattle.tabled_pool.specs.Whole.{whole}

@@ -1,12 +1,12 @@
 -- Pool tables whose settings keep their texts apart, whatever these are.
 use Rattle.std.specs.Prelude.{◌≡◌, ℕ, ◌<◌, ◌⊎◌, true}
-use Rattle.tabled_apart.specs.Lines.{IsSeparatorColumn}
-use Rattle.tabled_border.specs.declared.borders.Borders.{Borders}
-use Rattle.tabled_border.specs.declared.sides.Indent.{Indent}
-use Rattle.tabled_border.specs.declared.sides.Sides.{Sides}
-use Rattle.tabled_border.specs.Frame.{has_left}
+use Rattle.tabled_text.specs.FramedLines.{IsSeparatorColumn}
+use Rattle.tabled_config.specs.declared.borders.Borders.{Borders}
+use Rattle.tabled_config.specs.declared.sides.Indent.{Indent}
+use Rattle.tabled_config.specs.declared.sides.Sides.{Sides}
+use Rattle.tabled_config.specs.Frame.{has_left}
 use Rattle.tabled_config.specs.declared.spanned.CellStyle.{CellStyle}
-use Rattle.tabled_row.specs.Apart.{IsApartStyle}
+use Rattle.tabled_line.specs.Apart.{IsApartStyle}
 use Rattle.tabled_pool.specs.declared.pool_table.PoolTable.{PoolTable}
 use Rattle.tabled_pool.specs.Characters.{EachCharacter}
 use Rattle.tabled_pool.specs.Plain.{IsAdditivePool}

@@ -2,7 +2,7 @@
 use Rattle.std.specs.Prelude.{◌≡◌}
 use Rattle.tabled_config.specs.declared.compact_multiline.CompactMultilineConfig.{CompactMultilineConfig}
 use Rattle.tabled_size.specs.declared.pool_table_dimension.PoolTableDimension.{PoolTableDimension}
-use Rattle.tabled_views.specs.declared.empty.EmptyRecords.{EmptyRecords}
+use Rattle.tabled_records.specs.declared.empty.EmptyRecords.{EmptyRecords}
 use Rattle.tabled_pool.specs.declared.pool_table.PoolTable.{PoolTable}
 
 -- the records that an option sees

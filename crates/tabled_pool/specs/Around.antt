@@ -1,13 +1,13 @@
 -- What stands around a character of a line, for its colour. Each text draws the line above it and the one to its left with
 -- their corner; at the right and bottom edge of the whole also those.
 use Rattle.std.specs.Prelude.{ℕ, ◌+◌, ◌==◌, ltb, leb, if◌then◌else◌, Bool, ◌&&◌, List, [], ◌∷◌, Option, Some, None, unwrap_or}
-use Rattle.tabled_border.specs.Frame.{has_left, has_right}
-use Rattle.tabled_boxes.specs.declared.pieces.Rectangle.{Rectangle}
-use Rattle.tabled_boxes.specs.Boxes.{Part}
-use Rattle.tabled_panels.specs.Colours.{Mark}
-use Rattle.tabled_panels.specs.Kinds.{is_line_kind}
-use Rattle.tabled_panels.specs.Marks.{Around, alone, begun, ended, nothing_around, used_after}
-use Rattle.tabled_panels.specs.Plan.{Plan}
+use Rattle.tabled_config.specs.Frame.{has_left, has_right}
+use Rattle.tabled_pool.specs.declared.pieces.Rectangle.{Rectangle}
+use Rattle.tabled_pool.specs.Boxes.{Part}
+use Rattle.tabled_pool.specs.Colours.{Mark}
+use Rattle.tabled_pool.specs.Kinds.{is_line_kind}
+use Rattle.tabled_pool.specs.Marks.{Around, alone, begun, ended, nothing_around, used_after}
+use Rattle.tabled_pool.specs.Plan.{Plan}
 use Rattle.tabled_pool.specs.declared.around.Spot.{Spot}
 use Rattle.tabled_pool.specs.declared.around.Spot.TheVariants.{Before, Inside, Behind, Outside}
 use Rattle.tabled_pool.specs.Frames.{has_bottom, has_top}

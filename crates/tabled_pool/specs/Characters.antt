@@ -1,6 +1,6 @@
 -- The characters that the lines of a pool table are drawn with. A missing one is a space.
 use Rattle.std.specs.Prelude.{ℕ, unwrap_or}
-use Rattle.tabled_border.specs.declared.borders.Borders.{Borders}
+use Rattle.tabled_config.specs.declared.borders.Borders.{Borders}
 
 pub record EachLine (IsKind : ℕ → Type 0) (b : Borders ℕ) : Type 0 where
   pub top : IsKind (unwrap_or b.top 32)

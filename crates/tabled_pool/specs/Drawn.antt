@@ -1,15 +1,15 @@
 -- The lines of a drawing: at each place the line of a leaf that begins there, or one border character with its colour.
 use Rattle.std.specs.Prelude.{ℕ, ◌+◌, ◌-◌, ◌==◌, if◌then◌else◌, ◌&&◌, ◌||◌, List, [], map, Option, Some, None, unwrap_or, encode_utf8}
 use Rattle.std.specs.List.{range_with_len, flat_map}
-use Rattle.tabled_boxes.specs.declared.pieces.Rectangle.{Rectangle}
-use Rattle.tabled_boxes.specs.declared.pieces.Kind.{Kind}
-use Rattle.tabled_boxes.specs.declared.pieces.Kind.TheVariants.{Leaf, Bar, Rule}
-use Rattle.tabled_boxes.specs.Boxes.{Part}
-use Rattle.tabled_border.specs.Frame.{has_right}
-use Rattle.tabled_border.specs.Junction.{junction}
-use Rattle.tabled_panels.specs.Leaf.{leaf_line}
-use Rattle.tabled_panels.specs.Marks.{within_marks}
-use Rattle.tabled_panels.specs.Plan.{Plan}
+use Rattle.tabled_pool.specs.declared.pieces.Rectangle.{Rectangle}
+use Rattle.tabled_pool.specs.declared.pieces.Kind.{Kind}
+use Rattle.tabled_pool.specs.declared.pieces.Kind.TheVariants.{Leaf, Bar, Rule}
+use Rattle.tabled_pool.specs.Boxes.{Part}
+use Rattle.tabled_config.specs.Frame.{has_right}
+use Rattle.tabled_config.specs.Junction.{junction}
+use Rattle.tabled_pool.specs.Leaf.{leaf_line}
+use Rattle.tabled_pool.specs.Marks.{within_marks}
+use Rattle.tabled_pool.specs.Plan.{Plan}
 use Rattle.tabled_pool.specs.Around.{around_at}
 use Rattle.tabled_pool.specs.Frames.{has_bottom}
 use Rattle.tabled_pool.specs.Owner.{owner, is_border, is_border_before, is_border_above}

@@ -1,6 +1,6 @@
 -- Which horizontal lines of a frame are there.
 use Rattle.std.specs.Prelude.{ℕ, Bool, ◌||◌, is_some}
-use Rattle.tabled_border.specs.declared.borders.Borders.{Borders}
+use Rattle.tabled_config.specs.declared.borders.Borders.{Borders}
 
 -- a horizontal line is there if any of its characters is
 abbrev pub has_top : Borders ℕ → Bool

@@ -1,8 +1,8 @@
 -- The parts that a line of a drawing is drawn by.
 use Rattle.std.specs.Prelude.{ℕ, ◌+◌, leb, ◌&&◌, if◌then◌else◌, Bool, List, [], ◌∷◌}
-use Rattle.tabled_boxes.specs.declared.pieces.Rectangle.{Rectangle}
-use Rattle.tabled_boxes.specs.Boxes.{Part}
-use Rattle.tabled_panels.specs.Plan.{Plan}
+use Rattle.tabled_pool.specs.declared.pieces.Rectangle.{Rectangle}
+use Rattle.tabled_pool.specs.Boxes.{Part}
+use Rattle.tabled_pool.specs.Plan.{Plan}
 
 -- whether a rectangle has a place on a line, above it or below it
 abbrev pub is_near : ℕ → Rectangle → Bool

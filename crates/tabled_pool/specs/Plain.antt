@@ -1,9 +1,9 @@
 -- Pool tables of plain and of additive texts, and settings that are additive.
 use Rattle.tabled_text.specs.Plain.{IsAdditive, IsAdditiveColumn, IsPlain}
-use Rattle.tabled_border.specs.declared.sides.Indent.{Indent}
-use Rattle.tabled_border.specs.declared.sides.Sides.{Sides}
-use Rattle.tabled_row.specs.Plain.{IsPlainStyle}
-use Rattle.tabled_boxes.specs.Tree.{tree_of}
+use Rattle.tabled_config.specs.declared.sides.Indent.{Indent}
+use Rattle.tabled_config.specs.declared.sides.Sides.{Sides}
+use Rattle.tabled_line.specs.Plain.{IsPlainStyle}
+use Rattle.tabled_pool.specs.Tree.{tree_of}
 use Rattle.tabled_pool.specs.declared.pool_table.PoolTable.{PoolTable}
 use Rattle.tabled_pool.specs.Characters.{EachCharacter}
 use Rattle.tabled_pool.specs.Pool.{borders_of, margin_of, style_of}

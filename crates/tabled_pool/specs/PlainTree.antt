@@ -2,13 +2,13 @@
 use Rattle.std.specs.Prelude.{◌≡◌, ℕ, Some}
 use Rattle.tabled_text.specs.Plain.{IsAdditive, IsAdditiveColumn}
 use Rattle.tabled_config.specs.Compact.{each_side}
-use Rattle.tabled_row.specs.Plain.{IsPlainStyle}
-use Rattle.tabled_boxes.specs.declared.gaps.Gaps.{Gaps}
-use Rattle.tabled_boxes.specs.declared.pieces.Kind.TheVariants.{Leaf}
-use Rattle.tabled_boxes.specs.Boxes.{Part}
-use Rattle.tabled_boxes.specs.Tiling.{AreTiles, EachFits}
-use Rattle.tabled_panels.specs.Colours.{no_mark}
-use Rattle.tabled_panels.specs.Plan.{Plan}
+use Rattle.tabled_line.specs.Plain.{IsPlainStyle}
+use Rattle.tabled_pool.specs.declared.gaps.Gaps.{Gaps}
+use Rattle.tabled_pool.specs.declared.pieces.Kind.TheVariants.{Leaf}
+use Rattle.tabled_pool.specs.Boxes.{Part}
+use Rattle.tabled_pool.specs.Tiling.{AreTiles, EachFits}
+use Rattle.tabled_pool.specs.Colours.{no_mark}
+use Rattle.tabled_pool.specs.Plan.{Plan}
 use Rattle.tabled_pool.specs.Owner.{owner}
 use Rattle.tabled_pool.specs.Characters.{EachCharacter}
 use Rattle.tabled_pool.specs.Uncoloured.{AreNoMarks}

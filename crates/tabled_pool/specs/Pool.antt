@@ -4,23 +4,23 @@ use Rattle.std.specs.List.{join_with_byte}
 use Rattle.tabled_base.specs.declared.error.TableError.{TableError}
 use Rattle.tabled_base.specs.declared.error.TableError.TheVariants.{Memory, Range}
 use Rattle.tabled_priority.specs.Sums.{one_if}
-use Rattle.tabled_border.specs.declared.borders.Borders.{Borders}
+use Rattle.tabled_config.specs.declared.borders.Borders.{Borders}
 use Rattle.tabled_config.specs.declared.compact_multiline.CompactMultilineConfig.{CompactMultilineConfig}
-use Rattle.tabled_border.specs.declared.sides.Indent.{Indent}
-use Rattle.tabled_border.specs.declared.sides.Sides.{Sides}
+use Rattle.tabled_config.specs.declared.sides.Indent.{Indent}
+use Rattle.tabled_config.specs.declared.sides.Sides.{Sides}
 use Rattle.tabled_config.specs.declared.spanned.CellStyle.{CellStyle}
 use Rattle.tabled_config.specs.Compact.{each_side, no_indent}
-use Rattle.tabled_border.specs.Frame.{has_left, has_right}
-use Rattle.tabled_row.specs.Sent.{Sent, Sends, Stops}
-use Rattle.tabled_boxes.specs.declared.gaps.Gaps.{Gaps}
-use Rattle.tabled_boxes.specs.declared.pieces.Rectangle.{Rectangle}
-use Rattle.tabled_boxes.specs.Boxes.{box_of}
-use Rattle.tabled_boxes.specs.Tiling.{framed}
-use Rattle.tabled_panels.specs.Colours.{Mark, line_marks_of, marks_of, no_mark}
-use Rattle.tabled_panels.specs.Handed.{handed_panel, has_bare}
-use Rattle.tabled_panels.specs.Margins.{with_margin}
-use Rattle.tabled_panels.specs.Panels.{Panel}
-use Rattle.tabled_panels.specs.Plan.{Plan}
+use Rattle.tabled_config.specs.Frame.{has_left, has_right}
+use Rattle.tabled_line.specs.Sent.{Sent, Sends, Stops}
+use Rattle.tabled_pool.specs.declared.gaps.Gaps.{Gaps}
+use Rattle.tabled_pool.specs.declared.pieces.Rectangle.{Rectangle}
+use Rattle.tabled_pool.specs.Boxes.{box_of}
+use Rattle.tabled_pool.specs.Tiling.{framed}
+use Rattle.tabled_pool.specs.Colours.{Mark, line_marks_of, marks_of, no_mark}
+use Rattle.tabled_pool.specs.Handed.{handed_panel, has_bare}
+use Rattle.tabled_pool.specs.Margins.{with_margin}
+use Rattle.tabled_pool.specs.Panels.{Panel}
+use Rattle.tabled_pool.specs.Plan.{Plan}
 use Rattle.tabled_pool.specs.declared.pool_table.PoolTable.{PoolTable}
 use Rattle.tabled_pool.specs.Drawn.{drawn}
 use Rattle.tabled_pool.specs.Frames.{has_bottom, has_top}

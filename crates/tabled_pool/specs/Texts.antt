@@ -1,6 +1,6 @@
 -- What holds of each text of a tree.
 use Rattle.std.specs.Prelude.{ℕ, List}
-use Rattle.tabled_boxes.specs.Tree.{Tree, Trees, leaf, across, down, none, one_more}
+use Rattle.tabled_pool.specs.Tree.{Tree, Trees, leaf, across, down, none, one_more}
 
 -- each text of a tree is of a kind
 abbrev mutual

@@ -1,7 +1,7 @@
 -- Settings without colours.
 use Rattle.std.specs.Prelude.{◌≡◌, Option, unwrap_or}
 use Rattle.tabled_config.specs.Compact.{each_side}
-use Rattle.tabled_panels.specs.Colours.{LineMarks, Mark, line_marks_of, marks_of, no_mark}
+use Rattle.tabled_pool.specs.Colours.{LineMarks, Mark, line_marks_of, marks_of, no_mark}
 use Rattle.tabled_pool.specs.declared.pool_table.PoolTable.{PoolTable}
 
 -- a colour that isn't set is empty, and so is one whose prefix and suffix are

@@ -1,6 +1,6 @@
 -- The rectangle that a plan fills.
-use Rattle.tabled_boxes.specs.declared.pieces.Rectangle.{Rectangle}
-use Rattle.tabled_panels.specs.Plan.{Plan}
+use Rattle.tabled_pool.specs.declared.pieces.Rectangle.{Rectangle}
+use Rattle.tabled_pool.specs.Plan.{Plan}
 
 abbrev pub whole : Plan → Rectangle
 whole t = record { x = 0; y = 0; width = t.width; height = t.height }

@@ -1,14 +1,14 @@
 //! Whether the settings of a pool table separate its texts, so that all its lines are equally wide.
 ghost use Rattle.std.specs.Prelude.{◌↔◌, IsTrue, unwrap_or};
-ghost use Rattle.tabled_apart.specs.Lines.{IsSeparatorColumn};
-ghost use Rattle.tabled_row.specs.Apart.{IsApartStyle};
+ghost use Rattle.tabled_text.specs.FramedLines.{IsSeparatorColumn};
+ghost use Rattle.tabled_line.specs.Apart.{IsApartStyle};
 ghost use Rattle.tabled_pool.specs.Apart.{HasGap, IsApartMargin, IsApartPool};
 ghost use Rattle.tabled_pool.specs.Characters.{EachCharacter, EachCorner, EachIntersection, EachLine};
 ghost use Rattle.tabled_pool.specs.Pool.{borders_of, style_of};
 ghost use Rattle.tabled_pool.specs.Uncoloured.{IsUncoloured};
 
 use crate::pool_table::{PoolTable, style_of};
-use tabled_apart::is_separator_column;
+use tabled_text::is_separator_column;
 use tabled_config::{Borders, CellStyle, Indent, Sides};
 
 /// Whether a character of a line is a separator; a missing one is a space.

@@ -2,10 +2,10 @@
 //! at the right and bottom edge of the whole also those.
 ghost use Rattle.std.specs.Prelude.{◌≡◌, ◌==◌, ◌^◌, ◌<◌, ◌+◌, ◌-◌, map, []};
 ghost use Rattle.std.specs.Option.{option_map};
-ghost use Rattle.tabled_boxes.specs.Shown.{shown};
-ghost use Rattle.tabled_panels.specs.Colours.{mark_of};
-ghost use Rattle.tabled_panels.specs.Marks.{alone, begun, ended, used_after};
-ghost use Rattle.tabled_panels.specs.Plans.{around_of, plan_of};
+ghost use Rattle.tabled_pool.specs.Shown.{shown};
+ghost use Rattle.tabled_pool.specs.Colours.{mark_of};
+ghost use Rattle.tabled_pool.specs.Marks.{alone, begun, ended, used_after};
+ghost use Rattle.tabled_pool.specs.Plans.{around_of, plan_of};
 ghost use Rattle.tabled_pool.specs.Around.{
   across,
   around_at,
@@ -20,11 +20,13 @@ ghost use Rattle.tabled_pool.specs.Around.{
   written_corner,
 };
 
+use crate::drawing::Drawing;
+use crate::kinds::is_line_kind;
+use crate::marks::{LineColors, Marks, alone, begun, ended, used_after};
+use crate::pieces::{Piece, Rectangle};
 use crate::plan::{ends_at, has_bottom, has_top};
 use crate::uncolored::are_uncolored_lines;
-use tabled_boxes::{Piece, Rectangle};
 use tabled_config::ANSIStr;
-use tabled_panels::{Drawing, LineColors, Marks, alone, begun, ended, is_line_kind, used_after};
 
 /// Where a place stands by a run of places.
 #[derive(Clone, Copy, Debug, PartialEq, Eq)]

@@ -1,22 +1,24 @@
 //! The lines of a drawing, place by place.
 ghost use Rattle.std.specs.Prelude.{◌≡◌, ◌^◌, ◌<◌, ◌+◌, ◌-◌, map, [], ◌∷◌, ◌++◌, encode_utf8};
 ghost use Rattle.std.specs.List.{flat_map, range_with_len, join_with_byte};
-ghost use Rattle.tabled_row.specs.Sent.{Sent, Writes};
-ghost use Rattle.tabled_row.specs.Leading.{WritesLines};
-ghost use Rattle.tabled_row.specs.Plain.{EachLineTakes};
-ghost use Rattle.tabled_panels.specs.Marks.{within_marks};
-ghost use Rattle.tabled_panels.specs.Leaf.{leaf_line};
-ghost use Rattle.tabled_panels.specs.Plans.{around_of, plan_of};
+ghost use Rattle.tabled_line.specs.Sent.{Sent, Writes};
+ghost use Rattle.tabled_line.specs.Leading.{WritesLines};
+ghost use Rattle.tabled_line.specs.Plain.{EachLineTakes};
+ghost use Rattle.tabled_pool.specs.Marks.{within_marks};
+ghost use Rattle.tabled_pool.specs.Leaf.{leaf_line};
+ghost use Rattle.tabled_pool.specs.Plans.{around_of, plan_of};
 ghost use Rattle.tabled_pool.specs.Drawn.{border_char, border_text, place_text, drawn_line, drawn};
 ghost use Rattle.tabled_pool.specs.Tiled.{Tiled};
 
 use crate::around::around_at;
+use crate::block::put_block_line;
+use crate::drawing::Drawing;
 use crate::find::find;
+use crate::marks::Marks;
+use crate::pieces::{Kind, Rectangle};
 use crate::plan::border_char;
 use tabled_base::TableError;
-use tabled_boxes::{Kind, Rectangle};
-use tabled_panels::{Drawing, Marks, put_block_line};
-use tabled_row::{CellBlock, Content, TextSink, put_char};
+use tabled_line::{CellBlock, Content, TextSink, put_char};
 
 /// A character and the marks around it.
 fn put_marked<S: TextSink>(sink: &mut S, marks: Marks, c: char) -> Result<(), TableError>
@@ -54,7 +56,7 @@ fn put_border<S: TextSink>(
 }
 
 /// What stands at a place: a leaf's line where it begins, one character of a line.
-#[tactic(auto, unfolding(crate::specs::Drawn::place_text, tabled_panels::specs::Leaf::leaf_line))]
+#[tactic(auto, unfolding(crate::specs::Drawn::place_text, crate::specs::Leaf::leaf_line))]
 fn put_place<S: TextSink>(
     sink: &mut S,
     drawing: &Drawing<'_, '_>,

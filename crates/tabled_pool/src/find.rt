@@ -1,11 +1,11 @@
 //! The piece that holds a place.
 ghost use Rattle.std.specs.Prelude.{◌≡◌, ◌==◌, ◌^◌, ◌<◌, ◌+◌, map, true, ◌≤◌, IfSome};
 ghost use Rattle.std.specs.Option.{option_map};
-ghost use Rattle.tabled_boxes.specs.Shown.{shown};
-ghost use Rattle.tabled_boxes.specs.Tiling.{within};
+ghost use Rattle.tabled_pool.specs.Shown.{shown};
+ghost use Rattle.tabled_pool.specs.Tiling.{within};
 ghost use Rattle.tabled_pool.specs.Owner.{contains, owner, is_line};
 
-use tabled_boxes::{Piece, Rectangle};
+use crate::pieces::{Piece, Rectangle};
 
 /// Whether a place lies in a rectangle.
 #[tactic(auto, using(crate::proofs::Contains::contains_left, crate::proofs::Contains::contains_right, crate::proofs::Contains::contains_above, crate::proofs::Contains::contains_last,))]

@@ -3,13 +3,13 @@ ghost use Rattle.std.specs.Prelude.{◌≡◌, List, IfErr, IfOk, map};
 ghost use Rattle.std.specs.Iterator.{IsFiniteIterable};
 ghost use Rattle.tabled_base.specs.Given.{Given};
 ghost use Rattle.tabled_base.specs.declared.error.TableError.TheVariants.{Memory};
-ghost use Rattle.tabled_boxes.specs.Tree.{across, leaf, tree_of, tree_of_row, trees};
+ghost use Rattle.tabled_pool.specs.Tree.{across, leaf, tree_of, tree_of_row, trees};
 ghost use Rattle.tabled_pool.specs.NewPool.{IsCopy, IsPoolOfRows};
 
 use crate::pool_table::PoolTable;
+use crate::tree::TableValue;
 use std::alloc::Global;
 use tabled_base::{CellText, IntoRecords, TableError};
-use tabled_boxes::TableValue;
 
 impl PoolTable {
     /// A table of rows, which may have different numbers of cells: a column with a row of cells
@@ -27,8 +27,7 @@ impl PoolTable {
         Ok(PoolTable::from_value(TableValue::Column(rows)))
     }
 
-    /// A copy of the table. The call recurses at each level of the value, as `PoolTable` says.
-    /// Fails only with `Memory`, where an allocation fails.
+    /// A copy of the table. Fails only with `Memory`, where an allocation fails.
     pub fn clone(&self) -> Result<PoolTable, TableError>
         ensures ok { IfOk result (λ copy. IsCopy self.now copy) }
         ensures only { IfErr result (λ e. e ≡ Memory) }

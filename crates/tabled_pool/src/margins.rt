@@ -1,126 +1,88 @@
-//! The lines of a drawing, with a margin around them.
-ghost use Rattle.std.specs.Prelude.{◌≡◌, [], ◌∷◌, ◌<◌, ◌-◌, ◌^◌, map};
-ghost use Rattle.std.specs.List.{join_with_byte, range_with_len};
-ghost use Rattle.tabled_row.specs.Leading.{WritesLines};
-ghost use Rattle.tabled_row.specs.Sent.{Sent, Writes};
-ghost use Rattle.tabled_panels.specs.Colours.{marks_of};
-ghost use Rattle.tabled_panels.specs.Margins.{with_margin, within_margin};
-ghost use Rattle.tabled_panels.specs.Plans.{plan_of};
-ghost use Rattle.tabled_pool.specs.Drawn.{drawn, drawn_line};
+//! A margin, with its colours.
+ghost use Rattle.std.specs.Prelude.{◌≡◌, ◌∷◌, [], replicate};
+ghost use Rattle.tabled_line.specs.Fill.{indent};
+ghost use Rattle.tabled_line.specs.Leading.{WritesLines};
+ghost use Rattle.tabled_line.specs.Sent.{Sent, Writes};
+ghost use Rattle.tabled_pool.specs.Colours.{coloured, mark_of, marks_of};
+ghost use Rattle.tabled_pool.specs.Margins.{margin_line};
 
-use crate::draw::put_line;
-use crate::near::gather;
+use crate::colors::put_colored_fill;
 use tabled_base::TableError;
-use tabled_boxes::Piece;
-use tabled_panels::{Drawing, Margin, put_margin};
-use tabled_row::{TextSink, put_break};
+use tabled_config::{ANSIStr, Indent, Sides};
+use tabled_line::{TextSink, put_break};
 
-/// A line of a drawing, between the side margins.
-fn put_inner_line<S: TextSink>(
+/// A margin, and its colours.
+#[derive(Clone, Copy)]
+pub struct Margin {
+    pub indent: Sides<Indent>,
+    pub colors: Sides<ANSIStr<'static>>,
+}
+
+impl Margin {
+    /// The left margin of a line.
+    pub fn put_left<S: TextSink>(&self, sink: &mut S) -> Result<(), TableError>
+        ensures { Writes (S.sent sink.old) result (S.sent sink.new)
+            (coloured (mark_of self.now.colors.left) (indent self.now.indent.left)) }
+    {
+        let left = self.indent.left;
+        put_colored_fill(sink, self.colors.left, left.fill, left.size)
+    }
+
+    /// The right margin of a line.
+    pub fn put_right<S: TextSink>(&self, sink: &mut S) -> Result<(), TableError>
+        ensures { Writes (S.sent sink.old) result (S.sent sink.new)
+            (coloured (mark_of self.now.colors.right) (indent self.now.indent.right)) }
+    {
+        let right = self.indent.right;
+        put_colored_fill(sink, self.colors.right, right.fill, right.size)
+    }
+}
+
+/// A line of the top or bottom margin, between the side margins.
+fn put_filled_line<S: TextSink>(
     sink: &mut S,
-    drawing: &Drawing<'_, '_>,
     margin: &Margin,
-    y: usize,
+    color: ANSIStr<'static>,
+    c: char,
+    width: usize,
 ) -> Result<(), TableError>
-    requires down { y < 2 ^ 64 - 1 }
     ensures { Writes (S.sent sink.old) result (S.sent sink.new)
-        (within_margin margin.now.indent (marks_of margin.now.colors) (drawn_line (plan_of drawing.now) y)) }
+        (margin_line margin.now.indent (marks_of margin.now.colors) (mark_of color.entry) c width) }
 {
     margin.put_left(sink)?;
-    put_line(sink, drawing, y)?;
+    put_colored_fill(sink, color, c, width)?;
     margin.put_right(sink)
 }
 
-fn put_led_line<S: TextSink>(
+fn put_led_margin<S: TextSink>(
     sink: &mut S,
     begun: &mut bool,
-    drawing: &Drawing<'_, '_>,
     margin: &Margin,
-    y: usize,
+    color: ANSIStr<'static>,
+    c: char,
+    width: usize,
 ) -> Result<(), TableError>
-    requires down { y < 2 ^ 64 - 1 }
     ensures { WritesLines (S.sent sink.old) begun.old result (S.sent sink.new) begun.new
-        (within_margin margin.now.indent (marks_of margin.now.colors) (drawn_line (plan_of drawing.now) y) ∷ []) }
+        (margin_line margin.now.indent (marks_of margin.now.colors) (mark_of color.entry) c width ∷ []) }
 {
     put_break(sink, begun)?;
-    put_inner_line(sink, drawing, margin, y)
+    put_filled_line(sink, margin, color, c, width)
 }
 
-/// A line of a drawing, between the side margins, by the pieces near it if there is memory for them.
-fn put_near_line<'a, S: TextSink>(
+/// The lines of the top or the bottom margin.
+pub fn put_margin<S: TextSink>(
     sink: &mut S,
     begun: &mut bool,
-    drawing: &Drawing<'_, 'a>,
     margin: &Margin,
-    near: &mut Vec<Piece<'a>>,
-    y: usize,
-) -> Result<(), TableError>
-    requires down { y < 2 ^ 64 - 1 }
-    ensures { WritesLines (S.sent sink.old) begun.old result (S.sent sink.new) begun.new
-        (within_margin margin.now.indent (marks_of margin.now.colors) (drawn_line (plan_of drawing.now) y) ∷ []) }
-{
-    if !gather(near, drawing.pieces, y) {
-        return put_led_line(sink, begun, drawing, margin, y);
-    }
-    let close = Drawing {
-        pieces: near.as_slice(),
-        ..*drawing
-    };
-    put_led_line(sink, begun, &close, margin, y)
-}
-
-/// The lines of a drawing, between the side margins.
-fn put_inner_lines<S: TextSink>(
-    sink: &mut S,
-    begun: &mut bool,
-    drawing: &Drawing<'_, '_>,
-    margin: &Margin,
+    color: ANSIStr<'static>,
+    side: Indent,
+    width: usize,
 ) -> Result<(), TableError>
     ensures { WritesLines (S.sent sink.old) begun.old result (S.sent sink.new) begun.new
-        (map (λ y. within_margin margin.now.indent (marks_of margin.now.colors) (drawn_line (plan_of drawing.now) y))
-        (range_with_len 0 drawing.now.height)) }
+        (replicate side.size (margin_line margin.now.indent (marks_of margin.now.colors) (mark_of color.entry) side.fill width)) }
 {
-    let mut near = Vec::new(drawing.alloc);
-    'lines: for y in 0..drawing.height {
-        put_near_line(sink, begun, drawing, margin, &mut near, y)?;
+    'lines: for _i in 0..side.size {
+        put_led_margin(sink, begun, margin, color, side.fill, width)?;
     }
     Ok(())
-}
-
-/// The lines of a drawing and of its margin.
-#[tactic(auto, unfolding(crate::specs::Drawn::drawn))]
-fn put_lines<S: TextSink>(
-    sink: &mut S,
-    begun: &mut bool,
-    drawing: &Drawing<'_, '_>,
-    margin: &Margin,
-) -> Result<(), TableError>
-    ensures { WritesLines (S.sent sink.old) begun.old result (S.sent sink.new) begun.new
-        (with_margin margin.now.indent (marks_of margin.now.colors) drawing.now.width (drawn (plan_of drawing.now))) }
-{
-    let top = margin.indent.top;
-    let bottom = margin.indent.bottom;
-    put_margin(sink, begun, margin, margin.colors.top, top, drawing.width)?;
-    put_inner_lines(sink, begun, drawing, margin)?;
-    put_margin(
-        sink,
-        begun,
-        margin,
-        margin.colors.bottom,
-        bottom,
-        drawing.width,
-    )
-}
-
-/// A drawing with its margin, its lines joined by line feeds.
-pub(crate) fn put_framed<S: TextSink>(
-    sink: &mut S,
-    drawing: &Drawing<'_, '_>,
-    margin: &Margin,
-) -> Result<(), TableError>
-    ensures { Writes (S.sent sink.old) result (S.sent sink.new) (join_with_byte 10
-        (with_margin margin.now.indent (marks_of margin.now.colors) drawing.now.width (drawn (plan_of drawing.now)))) }
-{
-    let mut begun = false;
-    put_lines(sink, &mut begun, drawing, margin)
 }

@@ -1,9 +1,9 @@
 //! The pieces that a line of a drawing is drawn by: most others are far from it.
 ghost use Rattle.std.specs.Prelude.{◌≡◌, ◌^◌, ◌<◌, ◌-◌, true, map};
-ghost use Rattle.tabled_boxes.specs.Shown.{shown};
+ghost use Rattle.tabled_pool.specs.Shown.{shown};
 ghost use Rattle.tabled_pool.specs.Near.{is_near, near_parts};
 
-use tabled_boxes::{Piece, Rectangle};
+use crate::pieces::{Piece, Rectangle};
 
 /// Whether a rectangle has a place on a line, above it or below it.
 fn is_near(place: Rectangle, y: usize) -> bool

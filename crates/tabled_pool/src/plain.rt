@@ -1,15 +1,15 @@
 //! Whether a pool table is made of plain characters, so that all its lines are equally wide.
 ghost use Rattle.std.specs.Prelude.{◌↔◌, IsTrue, map};
 ghost use Rattle.tabled_text.specs.Plain.{IsAdditiveColumn, IsPlain};
-ghost use Rattle.tabled_row.specs.Plain.{IsPlainPiece, IsPlainStyle};
-ghost use Rattle.tabled_boxes.specs.Tree.{tree_of, trees};
+ghost use Rattle.tabled_line.specs.Plain.{IsPlainPiece, IsPlainStyle};
+ghost use Rattle.tabled_pool.specs.Tree.{tree_of, trees};
 ghost use Rattle.tabled_pool.specs.Characters.{EachCharacter, EachCorner, EachIntersection, EachLine};
 ghost use Rattle.tabled_pool.specs.Plain.{HasPlainSettings, IsPlainMargin, IsPlainPool};
 ghost use Rattle.tabled_pool.specs.Apart.{IsStraightPool};
 ghost use Rattle.tabled_pool.specs.Texts.{EachText, EachTextIn};
 
 use crate::pool_table::{PoolTable, style_of};
-use tabled_boxes::TableValue;
+use crate::tree::TableValue;
 use tabled_config::{Borders, CellStyle, Indent, Sides};
 use tabled_text::{is_additive_column, is_plain};
 

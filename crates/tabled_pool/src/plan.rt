@@ -1,17 +1,18 @@
 //! The characters of lines.
 ghost use Rattle.std.specs.Prelude.{◌≡◌, ◌^◌, ◌<◌, ◌+◌, ◌-◌, ◌==◌, map};
 ghost use Rattle.std.specs.Option.{option_map};
-ghost use Rattle.tabled_boxes.specs.Shown.{shown};
-ghost use Rattle.tabled_panels.specs.Kinds.{is_line_kind};
-ghost use Rattle.tabled_panels.specs.Plans.{plan_of};
+ghost use Rattle.tabled_pool.specs.Shown.{shown};
+ghost use Rattle.tabled_pool.specs.Kinds.{is_line_kind};
+ghost use Rattle.tabled_pool.specs.Plans.{plan_of};
 ghost use Rattle.tabled_pool.specs.Frames.{has_bottom, has_top};
 ghost use Rattle.tabled_pool.specs.Owner.{is_line, is_border, is_border_before, is_border_above};
 ghost use Rattle.tabled_pool.specs.Drawn.{main_of, border_char};
 
+use crate::drawing::Drawing;
 use crate::find::find;
-use tabled_boxes::{Kind, Piece, Rectangle};
+use crate::kinds::is_line_kind;
+use crate::pieces::{Kind, Piece, Rectangle};
 use tabled_config::Borders;
-use tabled_panels::{Drawing, is_line_kind};
 
 /// Whether the top line is there: any of its characters is.
 pub(crate) fn has_top(borders: &Borders<char>) -> bool

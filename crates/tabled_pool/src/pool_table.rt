@@ -2,17 +2,17 @@
 ghost use Rattle.std.specs.Prelude.{◌≡◌, ◌⊎◌, ◌≤◌, IfErr, IfOk, MatchOption, length, map, [], ◌++◌, ◌<◌, ◌^◌, ◌+◌, string_bytes, true};
 ghost use Rattle.tabled_base.specs.declared.error.TableError.TheVariants.{Memory, Range};
 ghost use Rattle.tabled_config.specs.Styles.{ascii};
-ghost use Rattle.tabled_row.specs.Plain.{EachLineTakes};
-ghost use Rattle.tabled_row.specs.Sent.{Sent, Writes};
-ghost use Rattle.tabled_boxes.specs.Shown.{shown};
+ghost use Rattle.tabled_line.specs.Plain.{EachLineTakes};
+ghost use Rattle.tabled_line.specs.Sent.{Sent, Writes};
+ghost use Rattle.tabled_pool.specs.Shown.{shown};
 ghost use Rattle.tabled_priority.specs.Sums.{one_if};
-ghost use Rattle.tabled_panels.specs.Colours.{marks_of};
-ghost use Rattle.tabled_panels.specs.Handed.{handed_panel, has_bare};
-ghost use Rattle.tabled_panels.specs.Panels.{panel_of};
-ghost use Rattle.tabled_panels.specs.Plans.{plan_of};
+ghost use Rattle.tabled_pool.specs.Colours.{marks_of};
+ghost use Rattle.tabled_pool.specs.Handed.{handed_panel, has_bare};
+ghost use Rattle.tabled_pool.specs.Panels.{panel_of};
+ghost use Rattle.tabled_pool.specs.Plans.{plan_of};
 ghost use Rattle.tabled_pool.specs.Apart.{IsStraightPool};
 ghost use Rattle.tabled_pool.specs.Drawn.{drawn};
-ghost use Rattle.tabled_boxes.specs.Boxes.{box_of};
+ghost use Rattle.tabled_pool.specs.Boxes.{box_of};
 ghost use Rattle.tabled_pool.specs.Pool.{
   HasColumns,
   IsInRange,
@@ -38,15 +38,23 @@ ghost use Rattle.tabled_pool.specs.Pool.{
 ghost use Rattle.tabled_pool.specs.NewPool.{IsNewConfig, IsNewPool};
 ghost use Rattle.tabled_pool.specs.Tiled.{Tiled};
 
-use crate::margins::put_framed;
+use crate::drawing::Drawing;
+use crate::drawing_lines::put_framed;
+use crate::frames::place_tree;
+use crate::gaps::{Gaps, Size};
+use crate::handed::{draw_tree, has_bare};
+use crate::margins::Margin;
+use crate::panel_lines::put_panel;
+use crate::panels::DrawnBox;
+use crate::pieces::{Piece, Rectangle};
 use crate::plan::{has_bottom, has_top};
+use crate::sizes::own_size;
+use crate::tree::TableValue;
 use std::alloc::Global;
 use std::fmt;
 use tabled_base::TableError;
-use tabled_boxes::{Gaps, Piece, Rectangle, Size, TableValue, own_size, place_tree};
 use tabled_config::{ANSIStr, Borders, CellStyle, CompactMultilineConfig, Indent, Sides, Style};
-use tabled_panels::{Drawing, DrawnBox, Margin, draw_tree, has_bare, put_panel};
-use tabled_row::TextSink;
+use tabled_line::TextSink;
 use tabled_size::{DimensionPriority, PoolTableDimension};
 
 fn one_if(there: bool) -> usize
@@ -105,10 +113,10 @@ fn new_config() -> CompactMultilineConfig
 /// A table of boxes: each box holds a text, a row of boxes or a column of boxes. Its rows may
 /// have different numbers of cells.
 ///
-/// The stack limits how deep the value may be: printing, copying and comparing it recurse at each
-/// level, and so does `is_plain`. On 8 MiB of stack, 20,000 levels were printed, and 15,000 with
+/// The stack limits how deep the value may be: printing and comparing it recurse at each level, and
+/// so does `is_plain`. On 8 MiB of stack, 20,000 levels were printed, and 15,000 with
 /// a text of no column. A value that is too deep overflows the stack and ends the process, and
-/// no proof covers this. Dropping a table doesn't recurse.
+/// no proof covers this. Copying and dropping a table don't recurse.
 ///
 /// Each level measures the levels inside it again, so the time of printing grows at least with
 /// the square of the depth.

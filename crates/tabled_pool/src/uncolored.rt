@@ -2,7 +2,7 @@
 ghost use Rattle.std.specs.Prelude.{◌≡◌, ◌↔◌, IsTrue};
 ghost use Rattle.std.specs.Option.{option_map};
 ghost use Rattle.tabled_config.specs.Compact.{each_side};
-ghost use Rattle.tabled_panels.specs.Colours.{line_marks_of, mark_of, marks_of, no_mark};
+ghost use Rattle.tabled_pool.specs.Colours.{line_marks_of, mark_of, marks_of, no_mark};
 ghost use Rattle.tabled_pool.specs.Uncoloured.{AreNoMarks, IsNoMark, IsUncoloured};
 
 use crate::pool_table::PoolTable;

@@ -1,8 +1,7 @@
 -- A place that stays the named one loses or gains many at once.
 use Rattle.std.proofs.Common.{◌≡◌, ℕ, ◌+◌, ◌-◌, ◌<◌, ◌≤◌, List, slice_set, sym, ap, ◌∙◌, subst, arith, zero, suc}
 use Rattle.std.proofs.lemmas.List.{set-set, set-get_or}
-use Rattle.tabled_priority.specs.Permitted.{at, spare}
-use Rattle.tabled_priority.specs.Permitted.{lowered}
+use Rattle.tabled_priority.specs.Permitted.{at, spare, lowered}
 use Rattle.tabled_priority.specs.Laws.Permitted.{IsLowered-lowered}
 use Rattle.tabled_priority.specs.Shrunk.{IsLeftShrunk, IsRightShrunk}
 use Rattle.tabled_priority.specs.Laws.Shrunk.{IsLeftShrunk-step, IsRightShrunk-step}

@@ -1,14 +1,12 @@
 //! The greatest size first.
 ghost use Rattle.std.specs.Prelude.{◌≡◌, ◌+◌, ◌<◌, ◌≤◌, ◌^◌, MatchOption, [], true, false, length, sum};
 ghost use Rattle.std.proofs.Common.{refl, subst, ◌∙◌};
-ghost use Rattle.tabled_priority.specs.Permitted.{FitsMinimums, IsPermitted};
+ghost use Rattle.tabled_priority.specs.Permitted.{FitsMinimums, IsPermitted, lowered, raised};
 ghost use Rattle.tabled_priority.specs.Least.{HasLeastGreatest, IsLevel};
 ghost use Rattle.tabled_priority.specs.Peak.{NoneAbove, IsGreatest};
-ghost use Rattle.tabled_priority.specs.Permitted.{lowered};
 ghost use Rattle.tabled_priority.specs.Shrunk.{IsMaxShrunk};
 ghost use Rattle.tabled_priority.specs.Laws.Shrunk.{IsMaxShrunk-none, IsMaxShrunk-done, IsMaxShrunk-step};
 ghost use Rattle.tabled_priority.specs.Grown.{IsMaxGrown, IsNoneSmaller};
-ghost use Rattle.tabled_priority.specs.Permitted.{raised};
 ghost use Rattle.tabled_priority.specs.Laws.Grown.{IsGrownAt-nothing, IsGrownAt-none, IsMaxGrown-step};
 ghost use Rattle.tabled_priority.specs.Visits.{counted, IsBounded};
 

@@ -1,14 +1,12 @@
 //! The least size first.
 ghost use Rattle.std.specs.Prelude.{◌≡◌, ◌+◌, ◌<◌, ◌≤◌, ◌^◌, MatchOption, [], true, false, length, sum};
 ghost use Rattle.std.proofs.Common.{refl, subst, ◌∙◌};
-ghost use Rattle.tabled_priority.specs.Permitted.{FitsMinimums, HasOneBetween, IsPermitted};
+ghost use Rattle.tabled_priority.specs.Permitted.{FitsMinimums, HasOneBetween, IsPermitted, lowered, raised};
 ghost use Rattle.tabled_priority.specs.Least.{HasGreatestLeast};
 ghost use Rattle.tabled_priority.specs.Peak.{NoneAbove, IsLeast};
-ghost use Rattle.tabled_priority.specs.Permitted.{lowered};
 ghost use Rattle.tabled_priority.specs.Shrunk.{IsMinShrunk};
 ghost use Rattle.tabled_priority.specs.Laws.Shrunk.{IsMinShrunk-none, IsMinShrunk-done, IsMinShrunk-step};
 ghost use Rattle.tabled_priority.specs.Grown.{IsMinGrown, IsNoneSmaller};
-ghost use Rattle.tabled_priority.specs.Permitted.{raised};
 ghost use Rattle.tabled_priority.specs.Laws.Grown.{IsMinGrown-nothing, IsMinGrown-none, IsMinGrown-step};
 ghost use Rattle.tabled_priority.specs.Visits.{counted, IsBounded};
 

@@ -1,13 +1,11 @@
 //! One size after the other.
 ghost use Rattle.std.specs.Prelude.{◌≡◌, ◌+◌, ◌<◌, ◌≤◌, ◌^◌, MatchOption, [], length, sum};
 ghost use Rattle.std.proofs.Common.{sym, subst};
-ghost use Rattle.tabled_priority.specs.Permitted.{FitsMinimums, HasEvenLosses, IsPermitted};
+ghost use Rattle.tabled_priority.specs.Permitted.{FitsMinimums, HasEvenLosses, IsPermitted, lowered, raised};
 ghost use Rattle.tabled_priority.specs.Peak.{NoneAbove, IsNext};
-ghost use Rattle.tabled_priority.specs.Permitted.{lowered};
 ghost use Rattle.tabled_priority.specs.Shrunk.{IsRoundShrunk, place_after};
 ghost use Rattle.tabled_priority.specs.Laws.Round.{IsRoundShrunk-none, IsRoundShrunk-done, IsRoundShrunk-step};
 ghost use Rattle.tabled_priority.specs.Grown.{IsNoneSmaller, IsRoundGrown};
-ghost use Rattle.tabled_priority.specs.Permitted.{raised};
 ghost use Rattle.tabled_priority.specs.Laws.Grown.{IsRoundGrown-nothing, IsRoundGrown-none, IsRoundGrown-step};
 ghost use Rattle.tabled_priority.specs.Visits.{IsBounded};
 

@@ -1,9 +1,7 @@
 //! What names the size to change next.
 ghost use Rattle.std.specs.Prelude.{◌≡◌, ℕ, ◌+◌, ◌≤◌, ◌<◌, ◌^◌, List, [], Option, Some, None, IfSome, sum};
-ghost use Rattle.tabled_priority.specs.Permitted.{FitsMinimums, IsAbove, IsPermitted, IsTakenFrom};
-ghost use Rattle.tabled_priority.specs.Permitted.{lowered};
+ghost use Rattle.tabled_priority.specs.Permitted.{FitsMinimums, IsAbove, IsPermitted, IsTakenFrom, lowered, raised};
 ghost use Rattle.tabled_priority.specs.Grown.{IsNoneSmaller};
-ghost use Rattle.tabled_priority.specs.Permitted.{raised};
 ghost use Rattle.tabled_priority.specs.Visits.{changed, counted};
 
 use crate::steps::Steps;

@@ -15,15 +15,15 @@ use Rattle.tabled_size.specs.Stored.{heights_of, widths_of}
 use Rattle.tabled_size.specs.Totals.{filled_height, filled_width, total_height, total_width}
 use Rattle.tabled_size.specs.declared.complete_dimension.CompleteDimension.{CompleteDimension}
 use Rattle.tabled_size.proofs.Totalling.{heights_length}
-use Rattle.tabled_resize.specs.HeightFrame.{frame_height}
-use Rattle.tabled_resize.specs.Increased.{IncreasesHeight, IncreasesWidth, IsHeightened, IsWidened}
-use Rattle.tabled_resize.specs.Limited.{IsLowered, LimitsHeight, for_height}
-use Rattle.tabled_resize.specs.Priorities.{AddsTo}
-use Rattle.tabled_resize.proofs.ExactTotals.{changed_empty}
-use Rattle.tabled_resize.proofs.GrowingTables.{full_height}
-use Rattle.tabled_resize.proofs.HeightTotals.{filled_height-frame, grown-sum, shrunk-total, some-lines}
-use Rattle.tabled_resize.proofs.NarrowingTables.{filled-size, standing-filled}
-use Rattle.tabled_resize.proofs.WidthTotals.{filled_width-short, short-widths, take-all}
+use Rattle.tabled_set.specs.HeightFrame.{frame_height}
+use Rattle.tabled_set.specs.Increased.{IncreasesHeight, IncreasesWidth, IsHeightened, IsWidened}
+use Rattle.tabled_set.specs.Limited.{IsLowered, LimitsHeight, for_height}
+use Rattle.tabled_set.specs.Priorities.{AddsTo}
+use Rattle.tabled_set.proofs.ExactTotals.{changed_empty}
+use Rattle.tabled_set.proofs.GrowingTables.{full_height}
+use Rattle.tabled_set.proofs.HeightTotals.{filled_height-frame, grown-sum, shrunk-total, some-lines}
+use Rattle.tabled_set.proofs.NarrowingTables.{filled-size, standing-filled}
+use Rattle.tabled_set.proofs.WidthTotals.{filled_width-short, short-widths, take-all}
 use Rattle.tabled_set.specs.Promised.{HeightensAsPromised, LimitsAsPromised, WidensAsPromised}
 
 -- ---- heights

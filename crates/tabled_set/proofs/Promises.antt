@@ -6,7 +6,7 @@ use Rattle.tabled_text.specs.Plain.{IsAdditive}
 use Rattle.tabled_text.proofs.FewestLines.{fewest-wrapped}
 use Rattle.tabled_text.proofs.OwnBreaking.{old_text}
 use Rattle.tabled_text.proofs.StayLemmas.{IsAdditive-stays, StaysWithin-wrapped}
-use Rattle.tabled_apart.proofs.FittingLaws.{fits-wrapped}
+use Rattle.tabled_text.proofs.FittingLaws.{fits-wrapped}
 use Rattle.tabled_base.specs.Cells.{IsInside, IsRectangular, cell_at}
 use Rattle.tabled_base.specs.declared.position.Entity.{Entity}
 use Rattle.tabled_base.specs.declared.position.Entity.TheVariants.{Row}
@@ -17,19 +17,19 @@ use Rattle.tabled_size.specs.Entries.{clears_heights, clears_widths, unless_clea
 use Rattle.tabled_size.specs.Standing.{standing}
 use Rattle.tabled_size.specs.Stored.{heights_of, widths_of}
 use Rattle.tabled_size.specs.declared.complete_dimension.CompleteDimension.{CompleteDimension}
-use Rattle.tabled_resize.specs.BestNarrowing.{HasLeastWidth, IsBestCut, text_room}
-use Rattle.tabled_change.specs.CellChanges.{if_wider, truncating, wrapping}
-use Rattle.tabled_resize.specs.ExactTotal.{HasExactTotal}
-use Rattle.tabled_resize.specs.Narrowed.{IsNarrowed, Narrows}
-use Rattle.tabled_change.specs.PlainEnding.{IsAdditiveLimit}
-use Rattle.tabled_resize.specs.Priorities.{TakesFrom, TakesGreatest}
+use Rattle.tabled_set.specs.BestNarrowing.{HasLeastWidth, IsBestCut, text_room}
+use Rattle.tabled_set.specs.CellChanges.{if_wider, truncating, wrapping}
+use Rattle.tabled_set.specs.ExactTotal.{HasExactTotal}
+use Rattle.tabled_set.specs.Narrowed.{IsNarrowed, Narrows}
+use Rattle.tabled_set.specs.PlainEnding.{IsAdditiveLimit}
+use Rattle.tabled_set.specs.Priorities.{TakesFrom, TakesGreatest}
 use Rattle.tabled_set.specs.Promised.{IsWiderThan, TruncatesAsPromised, WrapsAsPromised}
-use Rattle.tabled_change.specs.Truncated.{IsTruncated}
-use Rattle.tabled_change.specs.declared.suffix.SuffixLimit.{SuffixLimit}
-use Rattle.tabled_change.proofs.Bare.{longest_lines, longest_truncated}
-use Rattle.tabled_resize.proofs.ExactTotals.{FindsRoom, IsNarrowed-wider, KeepsPlain, changed_for_room, exact_total, leveled}
-use Rattle.tabled_change.proofs.Staying.{StaysWithin-truncated}
-use Rattle.tabled_change.proofs.TruncatedTexts.{fits-if_wider}
+use Rattle.tabled_set.specs.Truncated.{IsTruncated}
+use Rattle.tabled_set.specs.declared.suffix.SuffixLimit.{SuffixLimit}
+use Rattle.tabled_set.proofs.Bare.{longest_lines, longest_truncated}
+use Rattle.tabled_set.proofs.ExactTotals.{FindsRoom, IsNarrowed-wider, KeepsPlain, changed_for_room, exact_total, leveled}
+use Rattle.tabled_set.proofs.Staying.{StaysWithin-truncated}
+use Rattle.tabled_set.proofs.TruncatedTexts.{fits-if_wider}
 
 -- ---- changed texts stay in their rooms
 FindsRoom-wrapping : (words : Bool) → FindsRoom (wrapping words)

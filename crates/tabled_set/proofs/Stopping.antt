@@ -2,9 +2,9 @@
 use Rattle.std.proofs.Common.{◌≡◌, ℕ, Bool, List, Result, Ok, Err, IfErr, OnErr, inr, refl}
 use Rattle.tabled_base.specs.declared.error.TableError.{TableError}
 use Rattle.tabled_base.specs.declared.error.TableError.TheVariants.{Memory, Range}
-use Rattle.tabled_change.specs.CellChanges.{AreChangedBefore, StopsChanging}
-use Rattle.tabled_change.specs.declared.order.Order.{Order}
-use Rattle.tabled_resize.specs.Filling.{StopsFilling}
+use Rattle.tabled_set.specs.CellChanges.{AreChangedBefore, StopsChanging}
+use Rattle.tabled_set.specs.declared.order.Order.{Order}
+use Rattle.tabled_set.specs.Filling.{StopsFilling}
 use Rattle.tabled_size.specs.declared.complete_dimension.CompleteDimension.{CompleteDimension}
 
 -- with `Memory` the cells before some cell are changed

@@ -1,12 +1,12 @@
 -- What options that change the sizes of a table promise of it, by the priority and the texts.
 use Rattle.std.specs.Prelude.{◌≡◌, ◌<◌, ℕ, Bool, List, [], false, length, max, sum}
-use Rattle.tabled_resize.specs.BestNarrowing.{HasLeastWidth, IsBestCut, IsBestWrapped}
-use Rattle.tabled_resize.specs.ExactTotal.{HasEstimatedWidths, HasExactTotal}
-use Rattle.tabled_change.specs.PlainEnding.{IsAdditiveLimit}
-use Rattle.tabled_change.specs.declared.suffix.SuffixLimit.{SuffixLimit}
+use Rattle.tabled_set.specs.BestNarrowing.{HasLeastWidth, IsBestCut, IsBestWrapped}
+use Rattle.tabled_set.specs.ExactTotal.{HasEstimatedWidths, HasExactTotal}
+use Rattle.tabled_set.specs.PlainEnding.{IsAdditiveLimit}
+use Rattle.tabled_set.specs.declared.suffix.SuffixLimit.{SuffixLimit}
 use Rattle.tabled_config.specs.declared.spanned.SpannedConfig.{SpannedConfig}
-use Rattle.tabled_resize.specs.HeightFrame.{frame_height}
-use Rattle.tabled_resize.specs.Priorities.{AddsTo, TakesFrom, TakesGreatest}
+use Rattle.tabled_set.specs.HeightFrame.{frame_height}
+use Rattle.tabled_set.specs.Priorities.{AddsTo, TakesFrom, TakesGreatest}
 use Rattle.tabled_size.specs.Holds.{Holds, IsSized}
 use Rattle.tabled_size.specs.Sheet.{Sheet, estimated, is_empty}
 use Rattle.tabled_size.specs.TextCells.{AreTexts}

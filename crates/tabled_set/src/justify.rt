@@ -1,15 +1,16 @@
 //! Cells of the same columns.
 ghost use Rattle.std.specs.Prelude.{◌≡◌};
 ghost use Rattle.tabled_base.specs.declared.position.Entity.TheVariants.{Global};
-ghost use Rattle.tabled_change.specs.CellChanges.{ChangesEntity, StopsEntity, never_in_place};
-ghost use Rattle.tabled_change.specs.Justified.{IsJustified};
-ghost use Rattle.tabled_change.specs.declared.which.Which.TheVariants.{NotAsWide};
+ghost use Rattle.tabled_set.specs.CellChanges.{ChangesEntity, StopsEntity, never_in_place};
+ghost use Rattle.tabled_set.specs.Justified.{IsJustified};
+ghost use Rattle.tabled_set.specs.declared.which.Which.TheVariants.{NotAsWide};
 
+use crate::justifying::Justifying;
 use crate::max_min::{Max, Min};
 use crate::measured::change_measured;
 use crate::measurement::{Measurement, Width};
+use crate::which::Which;
 use tabled_base::{Entity, RecordsMut, TableError, TableOption};
-use tabled_change::{Justifying, Which};
 use tabled_config::ColoredConfig;
 
 /// Gives all cells of a table the columns of a measure: the lines of a narrower text are filled up with spaces, and a

@@ -1,11 +1,14 @@
 //! Cells of an entity that are changed for a measure of their table.
 ghost use Rattle.std.specs.Prelude.{◌≡◌, ◌⊎◌, IfErr, OnOk};
 ghost use Rattle.tabled_base.specs.declared.error.TableError.TheVariants.{Memory, Range};
-ghost use Rattle.tabled_change.specs.CellChanges.{ChangesEntity, StopsEntity, if_taken};
+ghost use Rattle.tabled_set.specs.CellChanges.{ChangesEntity, StopsEntity, if_taken};
 
+use crate::changing::{Change, TextRule};
 use crate::measurement::Measurement;
+use crate::order::Order;
+use crate::walk::change_cells;
+use crate::which::Which;
 use tabled_base::{Entity, RecordsMut, TableError};
-use tabled_change::{Change, Order, TextRule, Which, change_cells};
 use tabled_config::ColoredConfig;
 
 /// Changes the cells of an entity by a rule, each for the room that is measured once. Fails with

@@ -4,15 +4,13 @@ ghost use Rattle.std.specs.Iterator.{IsFiniteIterable};
 ghost use Rattle.tabled_base.specs.Given.{Given};
 ghost use Rattle.tabled_base.specs.declared.error.TableError.TheVariants.{Memory, Range};
 ghost use Rattle.tabled_config.specs.declared.spanned.SpannedConfig.{SpannedConfig};
-ghost use Rattle.tabled_change.specs.declared.suffix.SuffixLimit.TheVariants.{Cut};
+ghost use Rattle.tabled_set.specs.declared.suffix.SuffixLimit.TheVariants.{Cut};
 
-use crate::cell_height_increase::CellHeightIncrease;
-use crate::cell_height_limit::CellHeightLimit;
-use crate::height_list::HeightList;
+use crate::height_option::{CellHeightIncrease, CellHeightLimit};
 use crate::justify::Justify;
 use crate::min_width::MinWidth;
+use crate::size_list::{HeightList, WidthList};
 use crate::truncate::Truncate;
-use crate::width_list::WidthList;
 use crate::wrap::Wrap;
 use std::alloc::Global;
 use tabled_base::{PeekableRecords, TableError};

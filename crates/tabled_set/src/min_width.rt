@@ -1,12 +1,23 @@
 //! Increasing to some columns.
-ghost use Rattle.std.specs.Prelude.{◌≡◌};
+ghost use Rattle.std.specs.Prelude.{◌≡◌, None, false};
+ghost use Rattle.tabled_set.specs.CellChanges.{ChangesEntity, StopsEntity, if_taken, never_in_place};
+ghost use Rattle.tabled_set.specs.Increased.{IncreasesWidth, StopsIncreasing, WidthOutOfRange};
+ghost use Rattle.tabled_set.specs.Promised.{WidensAsPromised};
+ghost use Rattle.tabled_set.specs.TextLines.{filling};
+ghost use Rattle.tabled_set.specs.declared.which.Which.TheVariants.{Narrower};
+ghost use Rattle.tabled_size.specs.Cleared.{AreCleared};
+ghost use Rattle.tabled_size.specs.Sheet.{is_empty};
+ghost use Rattle.tabled_size.specs.Standing.{standing};
+ghost use Rattle.tabled_size.specs.declared.complete_dimension.CompleteDimension.{CompleteDimension};
 
-mod cells;
-mod table;
-
+use crate::filling::Filling;
+use crate::increasing::increase_width;
+use crate::measured::change_measured;
 use crate::measurement::{Measurement, Width};
-use tabled_change::Filling;
-use tabled_size::{Peaker, PriorityNone};
+use crate::which::Which;
+use tabled_base::{CellOption, Entity, PeekableRecords, RecordsMut, TableError, TableOption};
+use tabled_config::ColoredConfig;
+use tabled_size::{CompleteDimension, Peaker, PriorityNone, is_empty};
 
 /// Increases what is narrower than a measure in columns: the lines of a text are filled up, and the columns of a table
 /// grow.
@@ -56,5 +67,84 @@ impl<W, P: Drop> MinWidth<W, P> {
             rule: self.rule,
             priority,
         }
+    }
+}
+
+/// Each line of the entity's cells that are narrower than the measure is filled up to it, and no other cell changes.
+/// Where the measure is refused, with `Range`, no cell has changed; where memory is, those before the refused one have, row
+/// by row.
+impl<W: Measurement<Width>, P, R: RecordsMut> CellOption<R, ColoredConfig> for MinWidth<W, P> {
+    ghost changes = { λ s r c e r' c'. ChangesEntity (if_taken Narrower (filling s.rule.fill))
+        (W.measures s.width (R.cells r) c.config) e (R.cells r) (R.cells r') × (c' ≡ c) };
+
+    ghost refuses = { λ s f r c e r' c'. StopsEntity Narrower never_in_place (filling s.rule.fill)
+        (W.measures s.width (R.cells r) c.config) e f (R.cells r) (R.cells r') × (c' ≡ c) };
+
+    ghost out_of_range = { λ s r c e. W.out_of_range s.width (R.cells r) c.config };
+
+    fn change(
+        &self,
+        records: &mut R,
+        cfg: &mut ColoredConfig,
+        entity: Entity,
+    ) -> Result<(), TableError> {
+        change_measured::<Width, _, _, _>(
+            &self.width,
+            &self.rule,
+            Which::Narrower,
+            records,
+            cfg,
+            entity,
+        )
+    }
+
+    fn hint_change(&self) -> Option<Entity> {
+        Some(Entity::Global)
+    }
+}
+
+/// A table narrower than the measure is widened to it: its columns grow by what is wanting, and
+/// their widths are stored. Columns of no width stay so. Sizes that aren't stored are estimated and
+/// stored, of other tables too. `Memory` comes only where sizes aren't stored or the table is
+/// narrower than the measure.
+impl<W: Measurement<Width> + Drop, P: Peaker + Drop, R: PeekableRecords> TableOption<
+    R,
+    ColoredConfig,
+    CompleteDimension,
+> for MinWidth<W, P> {
+    ghost changes = { λ s r c d r' c' d'. IncreasesWidth P.grows s.priority
+        (W.measures s.width (R.cells r) c.config) (R.cells r) c.config d d' × ((r' ≡ r) × (c' ≡ c)) };
+
+    // Only a table with a row and a column fails. The sizes are as they were, or filled in.
+    ghost refuses = { λ s e r c d r' c' d'. (is_empty (R.cells r) ≡ false)
+        × StopsIncreasing (W.measures s.width (R.cells r) c.config) e (R.cells r) c.config d d'
+        × ((r' ≡ r) × (c' ≡ c)) };
+
+    ghost out_of_range = { λ s r c d.
+        WidthOutOfRange (W.out_of_range s.width (R.cells r) c.config) (R.cells r) c.config d };
+
+    // Of the sizes that are left once what is hinted was forgotten.
+    ghost promises = { λ s r c d r' c' d'. (left : CompleteDimension) → AreCleared None d' left
+        → WidensAsPromised P.grows s.priority (W.measures s.width (R.cells r) c.config)
+        (standing (R.cells r) c.config d) (standing (R.cells r') c'.config left) };
+
+    ghost hint = { λ s. None };
+
+    fn change(
+        self,
+        records: &mut R,
+        cfg: &mut ColoredConfig,
+        dims: &mut CompleteDimension,
+    ) -> Result<(), TableError> {
+        if is_empty(records) {
+            return Ok(());
+        }
+        let config = cfg.as_ref();
+        let n = self.width.measure(records, config)?;
+        increase_width(self.priority, records, config, dims, n)
+    }
+
+    fn hint_change(&self) -> Option<Entity> {
+        None
     }
 }

@@ -1,20 +1,32 @@
 //! Truncating to some columns.
-ghost use Rattle.std.specs.Prelude.{◌≡◌, IfErr, IfOk, OnErr, [], false, string_bytes};
 ghost use Rattle.std.specs.Cow.{IsOwnedStr, cow_str_bytes};
+ghost use Rattle.std.specs.Prelude.{◌≡◌, IfErr, IfOk, OnErr, [], false, string_bytes, None};
 ghost use Rattle.tabled_base.specs.declared.error.TableError.TheVariants.{Memory};
-ghost use Rattle.tabled_change.specs.Truncated.{IsTruncated};
-ghost use Rattle.tabled_change.specs.declared.suffix.SuffixLimit.TheVariants.{Cut};
+ghost use Rattle.tabled_set.specs.CellChanges.{ChangesEntity, StopsEntity, if_wider, truncating};
+ghost use Rattle.tabled_set.specs.InPlace.{truncating_in_place};
+ghost use Rattle.tabled_set.specs.Narrowed.{Narrows, NarrowingOutOfRange, StopsNarrowing};
+ghost use Rattle.tabled_set.specs.Promised.{TruncatesAsPromised};
+ghost use Rattle.tabled_set.specs.Truncated.{IsTruncated};
+ghost use Rattle.tabled_set.specs.declared.suffix.SuffixLimit.TheVariants.{Cut};
+ghost use Rattle.tabled_set.specs.declared.which.Which.TheVariants.{Wider};
+ghost use Rattle.tabled_size.specs.Cleared.{AreCleared};
+ghost use Rattle.tabled_size.specs.Sheet.{is_empty};
+ghost use Rattle.tabled_size.specs.Standing.{standing};
+ghost use Rattle.tabled_size.specs.declared.complete_dimension.CompleteDimension.{CompleteDimension};
 ghost use Rattle.tabled_text.specs.Cut.{IsCut, NeedsFill};
 
-mod cells;
-mod table;
-
+use crate::changing::TextRule;
+use crate::measured::change_measured;
 use crate::measurement::{Measurement, Width};
+use crate::narrowing::narrow_table;
+use crate::suffix::SuffixLimit;
+use crate::truncating::Truncating;
+use crate::which::Which;
 use std::alloc::Global;
 use std::borrow::CowStr;
-use tabled_base::TableError;
-use tabled_change::{SuffixLimit, TextRule, Truncating};
-use tabled_size::{Peaker, PriorityNone};
+use tabled_base::{CellOption, Entity, RecordsMut, TableError, TableOption};
+use tabled_config::ColoredConfig;
+use tabled_size::{CompleteDimension, Peaker, PriorityNone, is_empty};
 use tabled_text::cut_str;
 
 /// Truncates what is wider than a measure in columns: a text is cut, and a suffix stands at its end.
@@ -131,5 +143,97 @@ impl Truncate<'static, (), ()> {
         ensures only { IfErr result (λ e. e ≡ Memory) }
     {
         Ok(cut_str(alloc, text, width)?)
+    }
+}
+
+/// The entity's cells that are wider than the measure are truncated to it, and no other cell
+/// changes. Where the measure fails, with `Range`, no cell has changed. `Memory` comes at a cell
+/// that can't be cut in its place, and those before it have changed, row by row. A text is cut in
+/// its place where no U+FFFD is needed, and with no suffix, or one with which it takes at most 16
+/// bytes.
+impl<'a, W: Measurement<Width>, P, R: RecordsMut> CellOption<R, ColoredConfig>
+    for Truncate<'a, W, P> {
+    ghost changes = { λ s r c e r' c'. ChangesEntity (if_wider (truncating s.rule.suffix.now s.rule.limit s.rule.multiline))
+        (W.measures s.width (R.cells r) c.config) e (R.cells r) (R.cells r') × (c' ≡ c) };
+
+    ghost refuses = { λ s f r c e r' c'. StopsEntity Wider
+        (truncating_in_place s.rule.suffix.now s.rule.limit s.rule.multiline)
+        (truncating s.rule.suffix.now s.rule.limit s.rule.multiline)
+        (W.measures s.width (R.cells r) c.config) e f (R.cells r) (R.cells r') × (c' ≡ c) };
+
+    ghost out_of_range = { λ s r c e. W.out_of_range s.width (R.cells r) c.config };
+
+    fn change(
+        &self,
+        records: &mut R,
+        cfg: &mut ColoredConfig,
+        entity: Entity,
+    ) -> Result<(), TableError> {
+        change_measured::<Width, _, _, _>(
+            &self.width,
+            &self.rule,
+            Which::Wider,
+            records,
+            cfg,
+            entity,
+        )
+    }
+
+    fn hint_change(&self) -> Option<Entity> {
+        Some(Entity::Global)
+    }
+}
+
+/// A table wider than the measure is narrowed to it: its columns shrink by the excess, and each
+/// cell that is wider than its column's new width less its own padding is truncated to that. Cells
+/// of a column that ends below its minimum, its width with empty cells, stay. The widths are
+/// stored, and heights are cleared where the table was wider. `Memory` comes only where sizes
+/// aren't stored or the table is wider than the measure, and at a cell only where its text can't be
+/// cut in its place.
+impl<'a, W: Measurement<Width> + Drop, P: Peaker + Drop, R: RecordsMut> TableOption<
+    R,
+    ColoredConfig,
+    CompleteDimension,
+> for Truncate<'a, W, P> {
+    ghost changes = { λ s r c d r' c' d'.
+        Narrows P.shrinks s.priority (if_wider (truncating s.rule.suffix.now s.rule.limit s.rule.multiline))
+        (W.measures s.width (R.cells r) c.config) (R.cells r) c.config d (R.cells r') d' × (c' ≡ c) };
+
+    // Only a table with a row and a column fails. The sizes are as they were, or filled in.
+    ghost refuses = { λ s e r c d r' c' d'. (is_empty (R.cells r) ≡ false)
+        × StopsNarrowing P.shrinks s.priority Wider
+        (truncating_in_place s.rule.suffix.now s.rule.limit s.rule.multiline)
+        (truncating s.rule.suffix.now s.rule.limit s.rule.multiline)
+        (W.measures s.width (R.cells r) c.config) e (R.cells r) c.config d (R.cells r') d'
+        × (c' ≡ c) };
+
+    ghost out_of_range = { λ s r c d. NarrowingOutOfRange (W.out_of_range s.width (R.cells r) c.config)
+        (W.measures s.width (R.cells r) c.config) (R.cells r) c.config d };
+
+    // Of the sizes that are left once what is hinted was forgotten.
+    ghost promises = { λ s r c d r' c' d'. (left : CompleteDimension) → AreCleared None d' left
+        → TruncatesAsPromised P.shrinks s.priority s.rule.suffix.now s.rule.limit s.rule.multiline
+        (W.measures s.width (R.cells r) c.config)
+        (standing (R.cells r) c.config d) (standing (R.cells r') c'.config left) };
+
+    ghost hint = { λ s. None };
+
+    fn change(
+        self,
+        records: &mut R,
+        cfg: &mut ColoredConfig,
+        dims: &mut CompleteDimension,
+    ) -> Result<(), TableError> {
+        if is_empty(records) {
+            return Ok(());
+        }
+        let rule = self.rule;
+        let config = cfg.as_ref();
+        let n = self.width.measure(records, config)?;
+        narrow_table(&rule, Which::Wider, self.priority, records, config, dims, n)
+    }
+
+    fn hint_change(&self) -> Option<Entity> {
+        None
     }
 }

@@ -1,17 +1,27 @@
 //! Wrapping to some columns.
-ghost use Rattle.std.specs.Prelude.{◌≡◌, ◌<◌, IfErr, IfOk, OnErr, false, length, string_bytes};
+ghost use Rattle.std.specs.Prelude.{◌≡◌, ◌<◌, IfErr, IfOk, OnErr, false, length, string_bytes, Some};
 ghost use Rattle.tabled_base.specs.declared.error.TableError.TheVariants.{Memory};
+ghost use Rattle.tabled_base.specs.declared.position.Entity.TheVariants.{Row};
+ghost use Rattle.tabled_set.specs.CellChanges.{ChangesEntity, StopsEntity, if_wider, never_in_place, wrapping};
+ghost use Rattle.tabled_set.specs.Narrowed.{Narrows, NarrowingOutOfRange, StopsNarrowing};
+ghost use Rattle.tabled_set.specs.Promised.{WrapsAsPromised};
+ghost use Rattle.tabled_set.specs.declared.which.Which.TheVariants.{Wider, Every};
+ghost use Rattle.tabled_size.specs.Cleared.{AreCleared};
+ghost use Rattle.tabled_size.specs.Sheet.{is_empty};
+ghost use Rattle.tabled_size.specs.Standing.{standing};
+ghost use Rattle.tabled_size.specs.declared.complete_dimension.CompleteDimension.{CompleteDimension};
 ghost use Rattle.tabled_text.specs.Breaking.{EachUnitFits, HasFewestLines, IsLeastBreaking};
 ghost use Rattle.tabled_text.specs.Wrapping.{IsWrapped};
 
-mod cells;
-mod table;
-
+use crate::measured::change_measured;
 use crate::measurement::{Measurement, Width};
+use crate::narrowing::narrow_table;
+use crate::which::Which;
+use crate::wrapping::Wrapping;
 use std::alloc::Global;
-use tabled_base::TableError;
-use tabled_change::Wrapping;
-use tabled_size::{Peaker, PriorityNone};
+use tabled_base::{CellOption, Entity, RecordsMut, TableError, TableOption};
+use tabled_config::ColoredConfig;
+use tabled_size::{CompleteDimension, Peaker, PriorityNone, is_empty};
 use tabled_text::wrap_text;
 
 /// Wraps what is wider than a measure in columns: what finds no room on a line begins the next.
@@ -82,5 +92,87 @@ impl Wrap<(), ()> {
         ensures only { IfErr result (λ e. e ≡ Memory) }
     {
         Ok(wrap_text(alloc, text, width, keep_words)?)
+    }
+}
+
+/// The entity's cells that are wider than the measure are wrapped to it, and no other cell changes. Where the
+/// measure is refused, with `Range`, no cell has changed; where memory is, those before the refused one have, row by row.
+impl<W: Measurement<Width>, P, R: RecordsMut> CellOption<R, ColoredConfig> for Wrap<W, P> {
+    ghost changes = { λ s r c e r' c'. ChangesEntity (if_wider (wrapping s.rule.keep_words))
+        (W.measures s.width (R.cells r) c.config) e (R.cells r) (R.cells r') × (c' ≡ c) };
+
+    ghost refuses = { λ s f r c e r' c'. StopsEntity
+        Wider never_in_place (wrapping s.rule.keep_words)
+        (W.measures s.width (R.cells r) c.config) e f (R.cells r) (R.cells r') × (c' ≡ c) };
+
+    ghost out_of_range = { λ s r c e. W.out_of_range s.width (R.cells r) c.config };
+
+    fn change(
+        &self,
+        records: &mut R,
+        cfg: &mut ColoredConfig,
+        entity: Entity,
+    ) -> Result<(), TableError> {
+        change_measured::<Width, _, _, _>(
+            &self.width,
+            &self.rule,
+            Which::Wider,
+            records,
+            cfg,
+            entity,
+        )
+    }
+
+    fn hint_change(&self) -> Option<Entity> {
+        Some(Entity::Global)
+    }
+}
+
+/// A table wider than the measure is narrowed to it: its columns shrink by the excess, and every
+/// cell is wrapped to its column's new width less its own padding. Cells of a column that ends
+/// below its minimum, its width with empty cells, stay. The widths are stored, and where none were,
+/// of other tables too. `Memory` comes only where sizes aren't stored or the table is wider than
+/// the measure.
+impl<W: Measurement<Width> + Drop, P: Peaker + Drop, R: RecordsMut> TableOption<
+    R,
+    ColoredConfig,
+    CompleteDimension,
+> for Wrap<W, P> {
+    ghost changes = { λ s r c d r' c' d'. Narrows P.shrinks s.priority (wrapping s.rule.keep_words)
+        (W.measures s.width (R.cells r) c.config) (R.cells r) c.config d (R.cells r') d' × (c' ≡ c) };
+
+    // Only a table with a row and a column fails. The sizes are as they were, or filled in.
+    ghost refuses = { λ s e r c d r' c' d'. (is_empty (R.cells r) ≡ false)
+        × StopsNarrowing P.shrinks s.priority Every never_in_place (wrapping s.rule.keep_words)
+        (W.measures s.width (R.cells r) c.config) e (R.cells r) c.config d (R.cells r') d'
+        × (c' ≡ c) };
+
+    ghost out_of_range = { λ s r c d. NarrowingOutOfRange (W.out_of_range s.width (R.cells r) c.config)
+        (W.measures s.width (R.cells r) c.config) (R.cells r) c.config d };
+
+    // Of the sizes that are left once what is hinted was forgotten.
+    ghost promises = { λ s r c d r' c' d'. (left : CompleteDimension) → AreCleared (Some (Row 0)) d' left
+        → WrapsAsPromised P.shrinks s.priority s.rule.keep_words (W.measures s.width (R.cells r) c.config)
+        (standing (R.cells r) c.config d) (standing (R.cells r') c'.config left) };
+
+    ghost hint = { λ s. Some (Row 0) };
+
+    fn change(
+        self,
+        records: &mut R,
+        cfg: &mut ColoredConfig,
+        dims: &mut CompleteDimension,
+    ) -> Result<(), TableError> {
+        if is_empty(records) {
+            return Ok(());
+        }
+        let rule = self.rule;
+        let config = cfg.as_ref();
+        let n = self.width.measure(records, config)?;
+        narrow_table(&rule, Which::Every, self.priority, records, config, dims, n)
+    }
+
+    fn hint_change(&self) -> Option<Entity> {
+        Some(Entity::Row(0))
     }
 }

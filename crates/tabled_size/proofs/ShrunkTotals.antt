@@ -3,7 +3,7 @@ use Rattle.std.proofs.Common.{◌≡◌, ℕ, zero, suc, ◌+◌, ◌-◌, ◌*�
 use Rattle.std.proofs.lemmas.Bool.{cases_lt}
 use Rattle.std.proofs.lemmas.List.{get_or_past}
 use Rattle.tabled_base.specs.Cells.{cell_at, columns}
-use Rattle.tabled_border.specs.Frame.{has_inner, has_left, has_right}
+use Rattle.tabled_config.specs.Frame.{has_inner, has_left, has_right}
 use Rattle.tabled_config.specs.declared.spanned.SpannedConfig.{SpannedConfig}
 use Rattle.tabled_text.specs.Measure.{text_columns}
 use Rattle.tabled_size.specs.Estimates.{column_width, estimated_widths, needed_width}

@@ -3,3 +3,4 @@ pub mod Progressions
 pub mod Sheets
 pub mod Shown
 pub mod ShownTables
+pub mod Stream

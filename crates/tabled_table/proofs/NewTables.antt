@@ -26,7 +26,7 @@ use Rattle.std.proofs.Common.{
 use Rattle.tabled_text.specs.Plain.{IsAdditiveColumn}
 use Rattle.tabled_text.proofs.PlainLines.{plain_column-printable, plain_column-space}
 use Rattle.tabled_base.specs.Cells.{IsRectangular, columns}
-use Rattle.tabled_border.specs.declared.borders.HorizontalLine.{HorizontalLine}
+use Rattle.tabled_config.specs.declared.borders.HorizontalLine.{HorizontalLine}
 use Rattle.tabled_config.specs.Settings.{rule_at, style_at}
 use Rattle.tabled_config.specs.declared.spanned.SpannedConfig.{SpannedConfig}
 use Rattle.tabled_size.specs.Estimates.{estimated_heights, estimated_widths}
@@ -39,13 +39,13 @@ use Rattle.tabled_priority.proofs.Sums.{sum_step}
 use Rattle.tabled_size.specs.Holds.{Holds}
 use Rattle.tabled_grid.specs.Picture.{picture}
 use Rattle.tabled_size.specs.PlainCells.{AreAdditive}
-use Rattle.tabled_row.specs.Plain.{EachLineTakes, IsPlainRule, IsPlainStyle}
+use Rattle.tabled_line.specs.Plain.{EachLineTakes, IsPlainRule, IsPlainStyle}
 use Rattle.tabled_grid.specs.PlainSheet.{IsPlainConfig}
 use Rattle.tabled_grid.proofs.EstimatedSizes.{holds_estimated}
 use Rattle.tabled_grid.proofs.Whole.{picture_columns, picture_lines}
-use Rattle.tabled_apart.specs.Lines.{IsSeparatorColumn}
+use Rattle.tabled_text.specs.FramedLines.{IsSeparatorColumn}
 use Rattle.tabled_size.specs.TextCells.{AreTexts}
-use Rattle.tabled_row.specs.Apart.{IsApartStyle}
+use Rattle.tabled_line.specs.Apart.{IsApartStyle}
 use Rattle.tabled_grid.specs.ApartSheet.{IsApartConfig}
 use Rattle.tabled_grid.proofs.ApartPictures.{apart_columns}
 use Rattle.tabled_table.specs.NewConfig.{new_config}

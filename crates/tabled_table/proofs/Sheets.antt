@@ -6,7 +6,7 @@ use Rattle.tabled_size.specs.Totals.{total_height, total_width}
 use Rattle.tabled_size.specs.Holds.{Holds}
 use Rattle.tabled_grid.specs.Picture.{picture}
 use Rattle.tabled_size.specs.PlainCells.{AreAdditive}
-use Rattle.tabled_row.specs.Plain.{EachLineTakes}
+use Rattle.tabled_line.specs.Plain.{EachLineTakes}
 use Rattle.tabled_grid.specs.ApartSheet.{IsApartConfig}
 use Rattle.tabled_grid.specs.PlainSheet.{IsPlainConfig}
 use Rattle.tabled_size.specs.TextCells.{AreTexts}

@@ -2,9 +2,9 @@
 use Rattle.std.proofs.Common.{◌≡◌, ℕ, ◌+◌, ◌-◌, ◌≤◌, ◌==◌, cond, arith, Bool, true, false, List, Option, None, Some, refl, ap, sym, subst}
 use Rattle.std.proofs.lemmas.Bool.{eqb-true}
 use Rattle.tabled_text.specs.Plain.{IsAdditiveColumn}
-use Rattle.tabled_apart.specs.Lines.{IsSeparatorColumn}
-use Rattle.tabled_border.specs.declared.sides.Indent.{Indent}
-use Rattle.tabled_border.specs.declared.sides.Sides.{Sides}
+use Rattle.tabled_text.specs.FramedLines.{IsSeparatorColumn}
+use Rattle.tabled_config.specs.declared.sides.Indent.{Indent}
+use Rattle.tabled_config.specs.declared.sides.Sides.{Sides}
 use Rattle.tabled_config.specs.declared.alignment.AlignmentHorizontal.{AlignmentHorizontal}
 use Rattle.tabled_config.specs.declared.alignment.AlignmentHorizontal.TheVariants.{Left, Center, Right}
 use Rattle.tabled_config.specs.Settings.{frame, rule_at, style_at}
@@ -14,8 +14,8 @@ use Rattle.tabled_size.specs.Estimates.{column_width, estimated_heights, estimat
 use Rattle.tabled_size.specs.Holds.{Holds}
 use Rattle.tabled_size.specs.Standing.{standing}
 use Rattle.tabled_size.specs.Totals.{filled_width}
-use Rattle.tabled_row.specs.Apart.{AreApartCells, IsApartStyle}
-use Rattle.tabled_row.specs.Plain.{IsPlainStyle}
+use Rattle.tabled_line.specs.Apart.{AreApartCells, IsApartStyle}
+use Rattle.tabled_line.specs.Plain.{IsPlainStyle}
 use Rattle.tabled_grid.specs.ApartSheet.{IsApartConfig}
 use Rattle.tabled_grid.specs.PlainSheet.{IsPlainConfig}
 use Rattle.tabled_table.specs.PrintedWith.{grown, left_part, shown_config, shown_fill, widened}

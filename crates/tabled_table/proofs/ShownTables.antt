@@ -3,7 +3,7 @@ use Rattle.std.proofs.Common.{◌≡◌, inl, inr, ⊎_elim, ◌⊎◌, ℕ, ◌
 use Rattle.std.specs.Result.{IsErrAnd}
 use Rattle.std.proofs.lemmas.Bool.{ltb-false}
 use Rattle.tabled_text.specs.Plain.{IsAdditiveColumn}
-use Rattle.tabled_apart.specs.Lines.{IsSeparatorColumn}
+use Rattle.tabled_text.specs.FramedLines.{IsSeparatorColumn}
 use Rattle.tabled_base.specs.Cells.{IsRectangular, columns}
 use Rattle.tabled_base.specs.declared.error.TableError.{TableError}
 use Rattle.tabled_base.specs.declared.error.TableError.TheVariants.{Memory, ShortWidths}
@@ -16,8 +16,8 @@ use Rattle.tabled_size.specs.Standing.{standing}
 use Rattle.tabled_size.specs.Stored.{heights_of, is_stored, widths_of}
 use Rattle.tabled_size.specs.TextCells.{AreTexts}
 use Rattle.tabled_size.specs.Totals.{filled_width, total_width}
-use Rattle.tabled_row.specs.Plain.{EachLineTakes}
-use Rattle.tabled_row.specs.Sent.{Sent}
+use Rattle.tabled_line.specs.Plain.{EachLineTakes}
+use Rattle.tabled_line.specs.Sent.{Sent}
 use Rattle.tabled_grid.specs.ApartSheet.{IsApartConfig}
 use Rattle.tabled_grid.specs.Picture.{picture}
 use Rattle.tabled_grid.specs.PlainSheet.{IsPlainConfig}

@@ -6,4 +6,5 @@ pub mod NewTable
 pub mod PrintedWith
 pub mod Rows
 pub mod Stopped
+pub mod Stream
 pub mod TableSheet

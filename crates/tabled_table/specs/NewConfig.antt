@@ -1,6 +1,6 @@
 -- The settings of a new table.
 use Rattle.std.specs.Prelude.{ℕ}
-use Rattle.tabled_border.specs.declared.sides.Indent.{Indent}
+use Rattle.tabled_config.specs.declared.sides.Indent.{Indent}
 use Rattle.tabled_config.specs.declared.spanned.SpannedConfig.{SpannedConfig}
 use Rattle.tabled_entity.specs.Changes.{for_all}
 use Rattle.tabled_config.specs.Spanned.{new_spanned}

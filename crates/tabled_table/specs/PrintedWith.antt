@@ -1,8 +1,8 @@
 -- A table that is shown with a width and an alignment of its own, without being changed.
 use Rattle.std.specs.Prelude.{ℕ, ◌+◌, ◌-◌, ◌/◌, ◌==◌, ◌||◌, Bool, Option, Some, None, if◌then◌else◌, is_some, nat_lt, not, unwrap_or}
 use Rattle.tabled_base.specs.declared.position.Entity.TheVariants.{Global}
-use Rattle.tabled_border.specs.declared.sides.Indent.{Indent}
-use Rattle.tabled_border.specs.declared.sides.Sides.{Sides}
+use Rattle.tabled_config.specs.declared.sides.Indent.{Indent}
+use Rattle.tabled_config.specs.declared.sides.Sides.{Sides}
 use Rattle.tabled_config.specs.declared.alignment.AlignmentHorizontal.{AlignmentHorizontal}
 use Rattle.tabled_config.specs.declared.alignment.AlignmentHorizontal.TheVariants.{Left, Center, Right}
 use Rattle.tabled_config.specs.declared.spanned.SpannedConfig.{SpannedConfig}

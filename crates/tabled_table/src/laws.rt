@@ -1,12 +1,25 @@
-//! Laws of tables, each the contract of a function.
-ghost use Rattle.std.specs.Prelude.{◌≡◌, ℕ, List, length};
-ghost use Rattle.tabled_base.specs.Cells.{columns};
+//! Laws of tables and of streamed tables, each the contract of a function.
+ghost use Rattle.std.specs.Prelude.{◌≡◌, ℕ, List, length, ◌<◌, ◌++◌, All};
+ghost use Rattle.tabled_base.specs.Cells.{columns, IsRectangular};
 ghost use Rattle.tabled_size.specs.Holds.{Holds};
 ghost use Rattle.tabled_grid.specs.ApartSheet.{IsApartConfig};
 ghost use Rattle.tabled_grid.specs.PlainSheet.{IsPlainConfig};
 ghost use Rattle.tabled_table.specs.NewTable.{IsNew};
 ghost use Rattle.tabled_table.specs.TableSheet.{new_sheet, sheet};
 ghost use Rattle.tabled_table.specs.declared.table.Table.{Table};
+ghost use Rattle.std.specs.Str.{IsUtf8};
+ghost use Rattle.tabled_text.specs.Cut.{IsCut};
+ghost use Rattle.tabled_text.specs.Measure.{lines_of};
+ghost use Rattle.tabled_text.specs.Plain.{IsAdditive};
+ghost use Rattle.tabled_text.specs.Exact.{IsExactLine};
+ghost use Rattle.tabled_config.specs.declared.compact.CompactConfig.{CompactConfig};
+ghost use Rattle.tabled_config.specs.Spanned.{spanned_of_compact};
+ghost use Rattle.tabled_size.specs.Sheet.{Sheet, estimated};
+ghost use Rattle.tabled_size.specs.TextCells.{AreTexts};
+ghost use Rattle.tabled_table.specs.declared.iter_table.settings.Settings.{Settings};
+ghost use Rattle.tabled_table.specs.Stream.GoesOn.{GoesOn};
+ghost use Rattle.tabled_table.specs.Stream.LikeTable.{IsLikeTable};
+ghost use Rattle.tabled_table.specs.Stream.Streamed.{IsCutRow, IsStreamed, column_count, limited, sniffed};
 
 /// A new table has the sizes that its texts ask for, which hold its cells. Its settings keep texts apart: so each of its
 /// lines takes exactly the total width, whatever its texts are. Its borders, fills and margins are additive too.
@@ -20,4 +33,43 @@ pub fn new_tables()
         → IsPlainConfig (sheet table).config (length cells) (columns cells) }
     ensures holds { (cells : List (List (List ℕ))) (table : Table) → IsNew cells table
         → Holds (sheet table) }
+{}
+
+/// A stream of equally long rows that are all read ahead, whose cells are lines that count as many as their columns, and of
+/// which nothing is given, is the table with estimated sizes: so it has the bytes of a `Table` of these cells. Plain lines
+/// count as many as their columns.
+#[tactic(auto, using(tabled_text::proofs::ExactLines::plain_exact, crate::proofs::Stream::SameSheet::like_table))]
+pub fn streams_like_tables()
+    ensures sheet { (settings : Settings) (config : CompactConfig) (rows : List (List (List ℕ))) (t : Sheet) → IsLikeTable settings rows
+        → IsStreamed settings config (sniffed settings rows) (limited settings.rows rows) t → t ≡ estimated rows (spanned_of_compact config) }
+    ensures plain { (text : List ℕ) → IsAdditive text → length (lines_of text) ≡ 1 → IsExactLine text }
+{}
+
+/// Every text can be cut at any count, and so can every row of texts for columns that leave any counts to texts.
+pub fn texts_can_be_cut()
+    ensures text { (n : ℕ) (text : List ℕ) → IsUtf8 text → (answer : List ℕ) × IsCut n text answer }
+    ensures row { (content : ℕ → ℕ) (count : ℕ) (row : List (List ℕ)) → All IsUtf8 row
+        → (cells : List (List ℕ)) × IsCutRow content count row cells }
+{}
+
+/// The table of the first of some rows goes on, whatever texts the rows behind them have and however high these are: there
+/// is a streamed table of all rows, and what stands above the rows behind is the beginning of its text. There must be a
+/// column and a row, since a table without one has no text.
+pub fn streams_go_on()
+    ensures { (settings : Settings) (config : CompactConfig) (ahead_rows shown rest : List (List (List ℕ))) (t : Sheet)
+        → IsStreamed settings config ahead_rows shown t → AreTexts rest
+        → 0 < column_count settings ahead_rows → 0 < length (shown ++ rest)
+        → GoesOn settings config ahead_rows shown rest t }
+{}
+
+/// The rows of a streamed table are equally long, each cell is a text, whatever the bytes of the source's cells are, and the
+/// columns hold the cells: a cut text takes no more columns than its characters count. So each line of its picture takes
+/// exactly the total width where the settings keep the cells apart, as the law of pictures says.
+pub fn streams_hold()
+    ensures rectangular { (settings : Settings) (config : CompactConfig) (ahead_rows rows : List (List (List ℕ))) (t : Sheet)
+        → IsStreamed settings config ahead_rows rows t → IsRectangular t.cells }
+    ensures texts { (settings : Settings) (config : CompactConfig) (ahead_rows rows : List (List (List ℕ))) (t : Sheet)
+        → IsStreamed settings config ahead_rows rows t → AreTexts t.cells }
+    ensures holds { (settings : Settings) (config : CompactConfig) (ahead_rows rows : List (List (List ℕ))) (t : Sheet)
+        → IsStreamed settings config ahead_rows rows t → Holds t }
 {}

@@ -1,6 +1,6 @@
 //! A table that is printed with a width and an alignment of its own.
 ghost use Rattle.std.specs.Prelude.{◌≡◌, ◌⊎◌, ◌||◌, ◌+◌, ◌<◌, ◌^◌, IfErr, IfOk, None, Some, false, is_some, length, max, nat_lt};
-ghost use Rattle.tabled_apart.specs.Lines.{IsSeparatorColumn};
+ghost use Rattle.tabled_text.specs.FramedLines.{IsSeparatorColumn};
 ghost use Rattle.tabled_text.specs.Plain.{IsAdditiveColumn};
 ghost use Rattle.tabled_base.specs.Cells.{columns};
 ghost use Rattle.tabled_base.specs.declared.error.TableError.TheVariants.{Memory, Range, ShortWidths};
@@ -10,8 +10,8 @@ ghost use Rattle.tabled_size.specs.Sheet.{is_empty};
 ghost use Rattle.tabled_size.specs.Stored.{is_stored, widths_of};
 ghost use Rattle.tabled_size.specs.TextCells.{AreTexts};
 ghost use Rattle.tabled_size.specs.Totals.{total_width};
-ghost use Rattle.tabled_row.specs.Plain.{EachLineTakes};
-ghost use Rattle.tabled_row.specs.Sent.{Sent};
+ghost use Rattle.tabled_line.specs.Plain.{EachLineTakes};
+ghost use Rattle.tabled_line.specs.Sent.{Sent};
 ghost use Rattle.tabled_grid.specs.ApartSheet.{IsApartConfig};
 ghost use Rattle.tabled_grid.specs.Picture.{picture};
 ghost use Rattle.tabled_grid.specs.PlainSheet.{IsPlainConfig};

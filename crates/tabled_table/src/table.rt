@@ -16,11 +16,11 @@ ghost use Rattle.tabled_size.specs.Holds.{Holds};
 ghost use Rattle.tabled_grid.specs.Picture.{picture, table_text};
 ghost use Rattle.tabled_size.specs.PlainCells.{AreAdditive, ArePlain};
 ghost use Rattle.tabled_size.specs.TextCells.{AreTexts};
-ghost use Rattle.tabled_row.specs.Plain.{EachLineTakes};
+ghost use Rattle.tabled_line.specs.Plain.{EachLineTakes};
 ghost use Rattle.tabled_grid.specs.ApartSheet.{IsApartConfig};
 ghost use Rattle.tabled_grid.specs.PlainSheet.{IsPlainConfig};
 ghost use Rattle.tabled_grid.specs.Printed.{IsPrintable, IsRefused, Prints};
-ghost use Rattle.tabled_row.specs.Sent.{Sent};
+ghost use Rattle.tabled_line.specs.Sent.{Sent};
 ghost use Rattle.tabled_table.specs.Rows.{string_row};
 
 use crate::config::new_config;

@@ -33,19 +33,17 @@ use Rattle.std.proofs.Common.{
   suc,
 }
 use Rattle.std.specs.List.{onto_first}
-use Rattle.std.specs.Str.{IsUtf8}
+use Rattle.std.specs.Str.{IsUtf8, IsCharBoundary}
 use Rattle.std.specs.Prelude.{encode_utf8, encode_utf8_all}
 use Rattle.std.proofs.lemmas.List.Elements.{All-nil, All-cons, All-head, All-tail, All-push}
 use Rattle.std.proofs.lemmas.List.{append_assoc, append-nil, take_at, drop_at, take-append-le, length_push, take-take, length-take-le}
 use Rattle.std.proofs.lemmas.List.Sums.{sum_by_push}
-use Rattle.std.proofs.lemmas.Str.{IsUtf8-nil, chars-nil, chars-append, IsUtf8-append, chars_past_char, chars-encodes, IsUtf8-encode, scalars-chars}
+use Rattle.std.proofs.lemmas.Str.{IsUtf8-nil, chars-nil, chars-append, IsUtf8-append, chars_past_char, chars-encodes, IsUtf8-encode, scalars-chars, IsCharBoundary-at_seam}
 use Rattle.std.proofs.lemmas.Bool.{and_parts, ne_eqb, cases_lt}
 use Rattle.tabled_text.specs.Measure.{lines_of, count_of, char_count}
 use Rattle.tabled_text.specs.Cut.{last_of, last_line, IsReached, IsLongestReached, missing_columns, following, IsParted, IsCut, IsSplit, NeedsFill}
 use Rattle.std.specs.Char.{IsScalar}
-use Rattle.std.specs.Str.{IsCharBoundary}
 use lib.Utf8.{scalar, scalars}
-use Rattle.std.proofs.lemmas.Str.{IsCharBoundary-at_seam}
 
 abbrev onto_last : ℕ → List (List ℕ) → List (List ℕ)
 onto_last y [] = (y ∷ []) ∷ []

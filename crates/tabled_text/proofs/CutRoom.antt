@@ -34,9 +34,8 @@ use Rattle.std.proofs.lemmas.List.Sums.{sum_by-cons}
 use Rattle.std.proofs.lemmas.Bool.{and_parts, and_from}
 use Rattle.tabled_text.specs.Measure.{lines_of, columns_of, char_columns, count_of}
 use Rattle.tabled_text.specs.Plain.{is_additive, is_additive_or_feed}
-use Rattle.tabled_text.specs.Room.{is_additive_text}
+use Rattle.tabled_text.specs.Room.{is_additive_text, stays}
 use Rattle.tabled_text.specs.Cut.{last_of, last_line, missing_columns, IsCut}
-use Rattle.tabled_text.specs.Room.{stays}
 use Rattle.tabled_text.proofs.PlainLemmas.{columns_of-plain, count_of-plain}
 use Rattle.tabled_text.proofs.WrapRoom.{Lines, EachPlain, EachPlain-lines, plain_replacement, stays-line, stays-break, stays-nothing}
 

@@ -31,11 +31,10 @@ use Rattle.std.specs.List.{list_all, slice_index_or, onto_first}
 use Rattle.std.proofs.Math.Utf8.{scalar}
 use Rattle.std.proofs.lemmas.Bool.{and_parts, and_from, or_cases, or_left, or_right, eq-eqb}
 use Rattle.std.proofs.lemmas.Bool.Decides.{nat_tests}
-use Rattle.std.proofs.lemmas.List.{get_or-map}
+use Rattle.std.proofs.lemmas.List.{get_or-map, append-nil, length-map}
 use Rattle.std.proofs.lemmas.List.Folds.{list_all-append}
 use Rattle.std.proofs.lemmas.List.Splits.{slice_split-cons_no}
 use Rattle.std.proofs.lemmas.Str.{IsUtf8-append, IsUtf8-nil, IsUtf8-encode, chars-append, chars-nil, chars-encodes, encode_ascii}
-use Rattle.std.proofs.lemmas.List.{append-nil, length-map}
 use Rattle.unicode_width.specs.Width.{str_width, char_width}
 use Rattle.unicode_width.proofs.Rules.{is_simple, str_width-append_simple}
 use Rattle.tabled_text.specs.Measure.{lines_of, line_columns, text_columns, char_columns}

@@ -42,11 +42,10 @@ use Rattle.std.proofs.lemmas.Bool.Decides.{nat_tests}
 use Rattle.unicode_width.proofs.Computing.{unicode_width}
 use Rattle.tabled_text.specs.Measure.{lines_of, columns_of, char_columns, greatest, char_count}
 use Rattle.tabled_text.specs.Plain.{is_listed_or_drawn, has_plain_width, is_additive, is_additive_or_feed, IsPlainColumn}
-use Rattle.tabled_text.specs.Room.{is_additive_text}
+use Rattle.tabled_text.specs.Room.{is_additive_text, stays}
 use Rattle.tabled_text.specs.Units.{TextUnit, unit_of_char, space, units_of_word, words_of, units_of_words, units}
 use Rattle.tabled_text.specs.Wrapping.{needed, shown, text_of_groups, text_of_lines, IsFullest, IsFullestText, IsWrapped}
 use Rattle.tabled_text.specs.Walk.{put_text, put_used, put_all}
-use Rattle.tabled_text.specs.Room.{stays}
 use Rattle.std.proofs.lemmas.Str.{chars-nil}
 use Rattle.tabled_text.proofs.Each.{Each, Each-split, Each-lines}
 use Rattle.tabled_text.proofs.PlainLemmas.{columns_of-plain, char_count-plain}

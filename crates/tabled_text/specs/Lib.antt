@@ -1,6 +1,9 @@
 pub mod Breaking
 pub mod Cut
+pub mod Exact
 pub mod Expected
+pub mod Fitting
+pub mod FramedLines
 pub mod Letters
 pub mod Lines
 pub mod Longest
@@ -9,6 +12,7 @@ pub mod OldText
 pub mod Plain
 pub mod Room
 pub mod Runs
+pub mod Separators
 pub mod Units
 pub mod Walk
 pub mod Wrapping

@@ -1,8 +1,7 @@
 //! Plain and additive characters. The columns of additive ones add up.
 ghost use Rattle.std.specs.Prelude.{◌≡◌, ◌↔◌, IsTrue, chars};
 ghost use Rattle.std.specs.List.{list_all};
-ghost use Rattle.tabled_text.specs.Plain.{is_listed, is_drawn, has_plain_width, is_plain_character, is_plain_or_feed, IsPlain, IsPlainColumn};
-ghost use Rattle.tabled_text.specs.Plain.{is_listed_or_drawn, is_additive, is_additive_or_feed, IsAdditive, IsAdditiveColumn};
+ghost use Rattle.tabled_text.specs.Plain.{is_listed, is_drawn, has_plain_width, is_plain_character, is_plain_or_feed, IsPlain, IsPlainColumn, is_listed_or_drawn, is_additive, is_additive_or_feed, IsAdditive, IsAdditiveColumn};
 
 use unicode_width::UnicodeWidthChar;
 

@@ -2,8 +2,8 @@
 
 use std::test::Fail;
 use tabled_base::TableError;
-use tabled_row::TextSink;
-use tabled_stream::IterTable;
+use tabled_line::TextSink;
+use tabled_table::IterTable;
 
 // The first row is sniffed, and has two lines. A text of the second one ends with a character that is filled in.
 const PICTURE: &str = "\

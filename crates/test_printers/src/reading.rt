@@ -6,8 +6,8 @@ use std::io;
 use std::io::Write;
 use std::test::Fail;
 use tabled_base::{CellText, TableError};
-use tabled_row::IoSink;
-use tabled_stream::IterTable;
+use tabled_line::IoSink;
+use tabled_table::IterTable;
 
 // Takes nothing.
 #[derive(Drop)]

@@ -4,7 +4,7 @@ use std::alloc::Global;
 use std::test::Fail;
 use tabled_base::{Entity, TableError};
 use tabled_config::{Indent, Sides, SpannedConfig};
-use tabled_lent::text_rows;
+use tabled_records::text_rows;
 use tabled_size::{CompleteDimension, Dimension, Estimate};
 
 fn complete(alloc: Global) -> Result<CompleteDimension, Fail> {

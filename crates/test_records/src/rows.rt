@@ -4,8 +4,7 @@ use crate::shown::{Rows, assert_text, shown};
 use std::alloc::Global;
 use std::test::Fail;
 use tabled_base::{CellText, PeekableRecords, Position, TableError, Text};
-use tabled_joined::JoinedRecords;
-use tabled_lent::text_rows;
+use tabled_records::{JoinedRecords, text_rows};
 
 #[test]
 fn each_refusal_has_its_words(rt: HostRuntime) -> Result<(), Fail> {

@@ -7,7 +7,7 @@ use tabled_base::{
     CellOption, Entity, ExactRecords, PeekableRecords, Position, RecordsMut, TableError,
 };
 use tabled_config::{ColoredConfig, SpannedConfig};
-use tabled_lent::lend_cells;
+use tabled_records::lend_cells;
 use tabled_set::{SuffixLimit, Truncate, Width};
 
 // A text of two lines, a long one, wide characters, and a short text.

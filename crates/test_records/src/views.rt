@@ -5,7 +5,7 @@ use crate::walks::walked;
 use std::alloc::Global;
 use std::test::Fail;
 use tabled_base::{CellText, ExactRecords, IntoRecords, Records, TableError};
-use tabled_views::{
+use tabled_records::{
     CutCell, EmptyRecords, IterRecords, LimitColumns, LimitRows, SkipRows, TruncateContent,
 };
 

@@ -1,6 +1,6 @@
 //! Tables that are widened, heightened or limited to a total.
 ghost use Rattle.std.specs.Prelude.{◌≡◌, ◌<◌, OnOk, false, length, max, sum};
-ghost use Rattle.tabled_resize.specs.HeightFrame.{frame_height};
+ghost use Rattle.tabled_set.specs.HeightFrame.{frame_height};
 ghost use Rattle.tabled_size.specs.Holds.{Holds};
 ghost use Rattle.tabled_size.specs.Sheet.{estimated, is_empty};
 ghost use Rattle.tabled_size.specs.Totals.{total_height, total_width};

@@ -1,7 +1,7 @@
 //! Tables that are wrapped or truncated to a total.
 ghost use Rattle.std.specs.Prelude.{◌≡◌, OnOk, [], false, max, true, ⊤};
-ghost use Rattle.tabled_resize.specs.BestNarrowing.{HasLeastWidth, IsBestCut, IsBestWrapped};
-ghost use Rattle.tabled_resize.specs.ExactTotal.{empty_width};
+ghost use Rattle.tabled_set.specs.BestNarrowing.{HasLeastWidth, IsBestCut, IsBestWrapped};
+ghost use Rattle.tabled_set.specs.ExactTotal.{empty_width};
 ghost use Rattle.tabled_set.specs.Promised.{IsWiderThan};
 ghost use Rattle.tabled_size.specs.TextCells.{AreTexts};
 ghost use Rattle.tabled_size.specs.Totals.{total_width};

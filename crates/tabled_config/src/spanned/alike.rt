@@ -4,7 +4,7 @@ ghost use Rattle.tabled_config.specs.Settings.{shared_style, style_at};
 ghost use Rattle.tabled_entity.specs.Changes.{shared};
 
 use super::{CellStyle, SpannedConfig};
-use tabled_border::{Indent, Sides};
+use crate::sides::{Indent, Sides};
 
 impl SpannedConfig {
     /// Whether the texts of two rows are known to stand alike, column by column: where nothing was set for either of the rows, nor

@@ -6,7 +6,7 @@ ghost use Rattle.tabled_config.specs.Settings.{style_at};
 
 use super::{CellStyle, SpannedConfig};
 use crate::alignment::{AlignmentHorizontal, AlignmentVertical};
-use tabled_border::{Indent, Sides};
+use crate::sides::{Indent, Sides};
 use tabled_entity::RowValues;
 
 /// What was set for the texts of a row. Columns that are asked for from left to right take no look-up among the cells.

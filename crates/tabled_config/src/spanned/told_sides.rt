@@ -6,7 +6,7 @@ ghost use Rattle.tabled_entity.specs.ToldValues.{told_value};
 
 use super::SpannedConfig;
 use crate::alignment::AlignmentHorizontal;
-use tabled_border::{Indent, Sides};
+use crate::sides::{Indent, Sides};
 use tabled_entity::ToldValues;
 
 /// What is kept free around the texts of a row's first columns, and where they stand among the columns that are left. No look-up is taken.

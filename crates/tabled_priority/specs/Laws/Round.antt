@@ -3,10 +3,9 @@ use Rattle.std.proofs.Common.{◌≡◌, ℕ, ◌+◌, ◌-◌, ◌<◌, ◌≤�
 use Rattle.std.proofs.lemmas.List.{length-set}
 use Rattle.std.proofs.lemmas.Bool.{cases_lt, cases_eq, cases_Bool}
 use Rattle.std.proofs.lemmas.Bool.Decides.{nat_tests}
-use Rattle.tabled_priority.specs.Permitted.{at, spare, taken}
+use Rattle.tabled_priority.specs.Permitted.{at, spare, taken, lowered}
 use Rattle.tabled_priority.specs.Shrunk.{start, place_after, is_met, IsRoundShrunk}
 use Rattle.tabled_priority.specs.Peak.{IsNext}
-use Rattle.tabled_priority.specs.Permitted.{lowered}
 use Rattle.tabled_priority.specs.Laws.Permitted.{IsLowered-lowered, in_range, IsTakenFrom-none, IsTakenFrom-done, IsTakenFrom-step}
 use Rattle.tabled_priority.specs.Laws.Shrunk.{IsTakenFrom-still, same_where_none, taken-step}
 

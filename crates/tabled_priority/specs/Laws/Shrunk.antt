@@ -38,10 +38,9 @@ use Rattle.std.proofs.lemmas.List.Sums.{get_or-le-sum_by, sum_by-cons}
 use Rattle.std.proofs.lemmas.List.{get_or_past}
 use Rattle.std.proofs.lemmas.Bool.{cases_lt, cases_eq, lt-ltb}
 use Rattle.std.proofs.lemmas.Bool.Decides.{nat_tests}
-use Rattle.tabled_priority.specs.Permitted.{at, low, taken, IsTakenFrom}
+use Rattle.tabled_priority.specs.Permitted.{at, low, taken, IsTakenFrom, lowered}
 use Rattle.tabled_priority.specs.Shrunk.{IsLeftShrunk, IsRightShrunk, ceiling, IsMaxShrunk, comes_before, IsMinShrunk}
 use Rattle.tabled_priority.specs.Peak.{IsLeftmost, IsRightmost, IsGreatest, IsLeast}
-use Rattle.tabled_priority.specs.Permitted.{lowered}
 use Rattle.tabled_priority.specs.Laws.Permitted.{
   IsLowered-lowered,
   low-lowered,

@@ -1,6 +1,6 @@
 use Rattle.std.proofs.Common.{◌++◌, arith, chars, string_bytes, ap, sym, ◌∙◌, subst}
 use Rattle.std.specs.Prelude.{encode_utf8}
-use Rattle.tabled_apart.proofs.CountBound.{columns-count}
+use Rattle.tabled_text.proofs.CountBound.{columns-count}
 use Rattle.example_query.specs.Truncated.{IsLongestFitting}
 use Rattle.example_query.proofs.Fitting.{fits_whole, fits_not, truncated, truncated_fits}
 use Rattle.example_query.proofs.truncating.truncate.Goals as goal

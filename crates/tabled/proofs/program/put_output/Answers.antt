@@ -1,5 +1,5 @@
 use Rattle.tabled_grid.specs.Picture.{table_text}
-use Rattle.tabled_row.proofs.Sending.{finished, sends-along}
+use Rattle.tabled_line.proofs.Sending.{finished, sends-along}
 use Rattle.tabled.specs.Output.{with_feed}
 use Rattle.tabled.proofs.Outputs.{either_output, output_of, output_refused}
 use Rattle.tabled.proofs.Since.{puts_writes}

@@ -1,6 +1,6 @@
 use Rattle.std.proofs.Common.{◌≡◌, [], IfSome, OnOk, ap, ◌∙◌, rules, subst, sym}
 use Rattle.std.specs.Prelude.{MatchResult, string_bytes}
-use Rattle.tabled_row.specs.Sent.{Writes}
+use Rattle.tabled_line.specs.Sent.{Writes}
 use Rattle.tabled.specs.BlockSent.{Advances, block, block_sent, waiting}
 use Rattle.tabled.specs.Output.{IsBegunOn, IsOutput, Puts, PutsOutput}
 use Rattle.tabled.proofs.Outputs.{either_output}

@@ -1,6 +1,6 @@
 use Rattle.std.proofs.Common.{◌≡◌, ◌∙◌, ℕ, List, length, All, Ok, ap, refl, subst, sym}
 use Rattle.tabled_base.specs.Cells.{IsRectangular}
-use Rattle.tabled_lent.specs.TextRows.{text_rows}
+use Rattle.tabled_records.specs.TextRows.{text_rows}
 use Rattle.tabled_size.specs.Sheet.{is_empty}
 use Rattle.tabled_size.specs.TextCells.{AreTexts}
 use Rattle.tabled_text.specs.Measure.{lines_of}

@@ -1,6 +1,6 @@
 use Rattle.std.proofs.Common.{Ok, refl, subst, sym}
 use Rattle.tabled_base.specs.Cells.{IsRectangular}
-use Rattle.tabled_lent.specs.TextRows.{text_rows}
+use Rattle.tabled_records.specs.TextRows.{text_rows}
 use Rattle.tabled_config.specs.Options.{with_style}
 use Rattle.tabled_size.specs.TextCells.{AreTexts}
 use Rattle.tabled_table.specs.NewConfig.{new_config}

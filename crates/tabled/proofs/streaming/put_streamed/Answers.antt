@@ -1,10 +1,10 @@
 use Rattle.std.proofs.Common.{◌≡◌, ◌∙◌, ◌<◌, ◌^◌, ◌++◌, Bor, List, Vec, Global, length, map, ap, subst, sym, arith}
 use Rattle.std.proofs.lemmas.List.{length-map}
 use Rattle.tabled_base.specs.Cells.{texts_of}
-use Rattle.tabled_stream.specs.NewTable.{IsNewConfig, new_settings}
-use Rattle.tabled_stream.specs.declared.settings.Settings.{Settings}
-use Rattle.tabled_stream.specs.declared.table.IterTable.{IterTable}
-use Rattle.tabled_views.proofs.LentBegin.{lent_rows_begin}
+use Rattle.tabled_table.specs.Stream.NewTable.{IsNewConfig, new_settings}
+use Rattle.tabled_table.specs.declared.iter_table.settings.Settings.{Settings}
+use Rattle.tabled_table.specs.declared.iter_table.IterTable.{IterTable}
+use Rattle.tabled_records.proofs.LentBegin.{lent_rows_begin}
 use Rattle.tabled.proofs.StreamedTables.{all_ahead, streamed_by}
 use Rattle.tabled.proofs.streaming.put_streamed.Goals as goal
 

@@ -1,7 +1,7 @@
 use Rattle.std.proofs.Common.{refl}
 use Rattle.std.specs.List.{slice_index}
 use Rattle.tabled_compact.specs.CompactCells.{compact_cell, compact_piece}
-use Rattle.tabled_row.proofs.Sending.{finished, stopped-first}
+use Rattle.tabled_line.proofs.Sending.{finished, stopped-first}
 use Rattle.tabled_compact.proofs.cell.put_cell.Goals as goal
 
 pub returns-in_err-put_piece : goal.returns-in_err-put_piece

@@ -1,6 +1,6 @@
 use Rattle.std.proofs.Common.{◌++◌, refl}
-use Rattle.tabled_row.proofs.Sending.{further, finished, stopped, stopped-first}
-use Rattle.tabled_row.specs.Fill.{fill, indent}
+use Rattle.tabled_line.proofs.Sending.{further, finished, stopped, stopped-first}
+use Rattle.tabled_line.specs.Fill.{fill, indent}
 use Rattle.tabled_compact.proofs.Parts.{third-part, fourth-part, fifth-part}
 use Rattle.tabled_compact.proofs.cell.put_spaced.Goals as goal
 

@@ -1,7 +1,7 @@
 use Rattle.std.proofs.Common.{refl}
-use Rattle.tabled_border.specs.Frame.{if_any, top_line}
-use Rattle.tabled_row.specs.Row.{rule_if}
-use Rattle.tabled_row.proofs.Leading.{lines-finished, lines-stopped-first}
+use Rattle.tabled_config.specs.Frame.{if_any, top_line}
+use Rattle.tabled_line.specs.Row.{rule_if}
+use Rattle.tabled_line.proofs.Leading.{lines-finished, lines-stopped-first}
 use Rattle.tabled_compact.specs.CompactCells.{columns_of}
 use Rattle.tabled_compact.specs.CompactLines.{head_lines}
 use Rattle.tabled_compact.proofs.lines.put_head.Goals as goal

@@ -1,5 +1,5 @@
 use Rattle.std.proofs.Common.{refl}
-use Rattle.tabled_row.proofs.Leading.{lines-finished, lines-stopped-first}
+use Rattle.tabled_line.proofs.Leading.{lines-finished, lines-stopped-first}
 use Rattle.tabled_compact.specs.CompactLines.{margin_lines, tail_lines}
 use Rattle.tabled_compact.proofs.lines.put_tail.Goals as goal
 

@@ -1,6 +1,6 @@
 use Rattle.std.proofs.Common.{◌≡◌, ◌+◌, ◌-◌, ◌<◌, ◌≤◌, [], ◌++◌, arith, ap, ◌∙◌, sym}
 use Rattle.std.specs.List.{range_with_len}
-use Rattle.tabled_row.proofs.Sending.{further, sends-along, stopped}
+use Rattle.tabled_line.proofs.Sending.{further, sends-along, stopped}
 use Rattle.tabled_compact.specs.CompactCells.{compact_piece, pieces}
 use Rattle.tabled_compact.proofs.RowPieces.{missing-first, missing-more, missing-rest}
 use Rattle.tabled_compact.proofs.row.put_missing.Goals as goal

@@ -1,6 +1,6 @@
 use Rattle.std.proofs.Common.{◌-◌, []}
 use Rattle.std.specs.List.{range_with_len}
-use Rattle.tabled_row.specs.Sent.{Sends}
+use Rattle.tabled_line.specs.Sent.{Sends}
 use Rattle.tabled_compact.specs.CompactCells.{pieces}
 use Rattle.tabled_compact.proofs.row.put_missing.Given as goal
 

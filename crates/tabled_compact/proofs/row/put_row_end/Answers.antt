@@ -1,6 +1,6 @@
 use Rattle.std.proofs.Common.{refl}
-use Rattle.tabled_row.specs.Row.{right_edge}
-use Rattle.tabled_row.proofs.Sending.{finished, stopped-first}
+use Rattle.tabled_line.specs.Row.{right_edge}
+use Rattle.tabled_line.proofs.Sending.{finished, stopped-first}
 use Rattle.tabled_compact.specs.CompactCells.{columns_of, row_end}
 use Rattle.tabled_compact.proofs.row.put_row_end.Goals as goal
 

@@ -1,5 +1,5 @@
 use Rattle.std.proofs.Common.{sym, subst}
-use Rattle.tabled_row.specs.Sent.{Writes}
+use Rattle.tabled_line.specs.Sent.{Writes}
 use Rattle.tabled_compact.specs.CompactCells.{row_start}
 use Rattle.tabled_compact.specs.GoesOn.{GoesOn}
 use Rattle.tabled_compact.proofs.row.put_row_start.Goals as goal

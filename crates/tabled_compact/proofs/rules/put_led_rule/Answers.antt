@@ -1,4 +1,4 @@
-use Rattle.tabled_row.proofs.Leading.{one-line, one-line-stopped}
+use Rattle.tabled_line.proofs.Leading.{one-line, one-line-stopped}
 use Rattle.tabled_compact.proofs.rules.put_led_rule.Goals as goal
 
 pub returns-in_err-put_break : goal.returns-in_err-put_break

@@ -1,6 +1,6 @@
 use Rattle.std.proofs.Common.{append_assoc, refl}
-use Rattle.tabled_row.proofs.Sending.{further, finished, stopped, stopped-first}
-use Rattle.tabled_row.specs.Fill.{fill}
+use Rattle.tabled_line.proofs.Sending.{further, finished, stopped, stopped-first}
+use Rattle.tabled_line.specs.Fill.{fill}
 use Rattle.tabled_extended.proofs.printing.put_cross.Goals as goal
 
 pub returns-in_err-put_fill : goal.returns-in_err-put_fill

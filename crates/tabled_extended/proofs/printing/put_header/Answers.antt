@@ -1,4 +1,4 @@
-use Rattle.tabled_row.proofs.Leading.{one-line, one-line-stopped}
+use Rattle.tabled_line.proofs.Leading.{one-line, one-line-stopped}
 use Rattle.tabled_extended.proofs.printing.put_header.Goals as goal
 
 pub returns-in_err-put_break : goal.returns-in_err-put_break

@@ -1,5 +1,5 @@
 use Rattle.std.proofs.Common.{refl}
-use Rattle.tabled_row.proofs.Leading.{lines-finished, lines-stopped-first}
+use Rattle.tabled_line.proofs.Leading.{lines-finished, lines-stopped-first}
 use Rattle.tabled_extended.proofs.printing.put_lines.Goals as goal
 
 pub returns-in_err-put_header : goal.returns-in_err-put_header

@@ -1,7 +1,7 @@
 use Rattle.std.proofs.Common.{◌++◌, append_assoc, sym, ◌∙◌, refl}
 use Rattle.std.specs.Prelude.{codes}
-use Rattle.tabled_row.proofs.Sending.{further, finished, stopped, stopped-first}
-use Rattle.tabled_row.specs.Fill.{fill}
+use Rattle.tabled_line.proofs.Sending.{further, finished, stopped, stopped-first}
+use Rattle.tabled_line.specs.Fill.{fill}
 use Rattle.tabled_extended.proofs.printing.put_pieces.Goals as goal
 
 pub returns-in_err-write_text : goal.returns-in_err-write_text

@@ -1,5 +1,5 @@
 use Rattle.std.proofs.Common.{◌∙◌, ◌++◌, ap, arith, refl, sym}
-use Rattle.tabled_row.proofs.Sending.{finished, stopped-first}
+use Rattle.tabled_line.proofs.Sending.{finished, stopped-first}
 use Rattle.tabled_text.specs.Measure.{text_columns}
 use Rattle.tabled_extended.specs.RecordLines.{rule_behind, title}
 use Rattle.tabled_extended.proofs.Dashed.{rule_behind-least}

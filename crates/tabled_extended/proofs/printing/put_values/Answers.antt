@@ -1,5 +1,5 @@
 use Rattle.std.proofs.Common.{arith, sym}
-use Rattle.tabled_row.proofs.Leading.{lines-further, lines-stopped}
+use Rattle.tabled_line.proofs.Leading.{lines-further, lines-stopped}
 use Rattle.tabled_extended.specs.RecordLines.{value_line}
 use Rattle.tabled_extended.proofs.Zipped.{zip-next, zip-rest, zip-all}
 use Rattle.tabled_extended.proofs.printing.put_values.Goals as goal

@@ -1,6 +1,6 @@
 use Rattle.std.proofs.Common.{map, take}
 use Rattle.std.specs.List.{zip}
-use Rattle.tabled_row.specs.Leading.{LineSends}
+use Rattle.tabled_line.specs.Leading.{LineSends}
 use Rattle.tabled_extended.specs.RecordLines.{value_line}
 use Rattle.tabled_extended.proofs.printing.put_values.Given as goal
 

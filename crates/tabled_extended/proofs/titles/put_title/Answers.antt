@@ -1,5 +1,5 @@
 use Rattle.std.proofs.Common.{[], ◌∷◌, refl}
-use Rattle.tabled_row.proofs.Sending.{further, finished, stopped, stopped-first}
+use Rattle.tabled_line.proofs.Sending.{further, finished, stopped, stopped-first}
 use Rattle.tabled_extended.proofs.titles.put_title.Goals as goal
 
 pub returns-in_err-write_text : goal.returns-in_err-write_text

@@ -1,6 +1,6 @@
 use Rattle.std.proofs.Common.{ℕ, ◌<◌}
 use Rattle.tabled_config.specs.Settings.{frame, style_at}
-use Rattle.tabled_row.specs.Apart.{AreApartCells}
+use Rattle.tabled_line.specs.Apart.{AreApartCells}
 use Rattle.tabled_grid.proofs.apart.are_apart_rows.Given as goal
 
 abbrev pub invariant-rows : goal.invariant-rows

@@ -1,6 +1,6 @@
 use Rattle.std.proofs.Common.{subst}
 use Rattle.tabled_config.specs.Settings.{style_at}
-use Rattle.tabled_row.specs.Apart.{IsApartStyle}
+use Rattle.tabled_line.specs.Apart.{IsApartStyle}
 use Rattle.tabled_grid.proofs.PlainTests.{below_next}
 use Rattle.tabled_grid.proofs.apart.are_apart_styles_in.Goals as goal
 

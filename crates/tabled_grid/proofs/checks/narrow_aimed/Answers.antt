@@ -3,9 +3,9 @@ use Rattle.std.proofs.lemmas.List.FromFn.{get_or-map-range_with_len}
 use Rattle.tabled_base.specs.Cells.{columns}
 use Rattle.tabled_config.specs.Settings.{style_at}
 use Rattle.tabled_config.specs.declared.alignment.AlignmentHorizontal.TheVariants.{Left}
-use Rattle.tabled_row.specs.Aims.{cell_aim}
-use Rattle.tabled_row.specs.declared.aim.CellAim.{CellAim}
-use Rattle.tabled_row.proofs.Aiming.{aims-count}
+use Rattle.tabled_line.specs.Aims.{cell_aim}
+use Rattle.tabled_line.specs.declared.aim.CellAim.{CellAim}
+use Rattle.tabled_line.proofs.Aiming.{aims-count}
 use Rattle.tabled_grid.specs.Picture.{columns_of}
 use Rattle.tabled_grid.proofs.checks.narrow_aimed.Goals as goal
 

@@ -4,11 +4,11 @@ use Rattle.std.proofs.lemmas.Bool.{cases_lt}
 use Rattle.std.proofs.lemmas.List.{length-set, take_more_set}
 use Rattle.std.proofs.lemmas.List.FromFn.{map-range_with_len_more}
 use Rattle.tabled_config.specs.Settings.{style_at}
-use Rattle.tabled_row.specs.Aims.{IsAimed, aim_of, cell_aim}
-use Rattle.tabled_row.specs.Places.{place_from}
-use Rattle.tabled_row.specs.Row.{ColumnSheet, piece}
-use Rattle.tabled_row.specs.declared.aim.Aim.{Aim}
-use Rattle.tabled_row.specs.declared.aim.CellAim.{CellAim}
+use Rattle.tabled_line.specs.Aims.{IsAimed, aim_of, cell_aim}
+use Rattle.tabled_line.specs.Places.{place_from}
+use Rattle.tabled_line.specs.Row.{ColumnSheet, piece}
+use Rattle.tabled_line.specs.declared.aim.Aim.{Aim}
+use Rattle.tabled_line.specs.declared.aim.CellAim.{CellAim}
 use Rattle.tabled_size.specs.Reached.{reached}
 use Rattle.tabled_size.proofs.Reaching.{reached_size, reached_there}
 use Rattle.tabled_grid.specs.ColumnStyles.{columns_in}

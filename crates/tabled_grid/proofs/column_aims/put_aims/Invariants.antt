@@ -1,8 +1,8 @@
 use Rattle.std.proofs.Common.{◌≡◌, ◌<◌, ℕ, length, map, take}
 use Rattle.std.specs.List.{range_with_len, slice_index}
 use Rattle.tabled_config.specs.Settings.{style_at}
-use Rattle.tabled_row.specs.Aims.{IsAimed, cell_aim}
-use Rattle.tabled_row.specs.Places.{place_from}
+use Rattle.tabled_line.specs.Aims.{IsAimed, cell_aim}
+use Rattle.tabled_line.specs.Places.{place_from}
 use Rattle.tabled_size.specs.Reached.{reached}
 use Rattle.tabled_grid.specs.ColumnStyles.{columns_in}
 use Rattle.tabled_grid.proofs.column_aims.put_aims.Given as goal

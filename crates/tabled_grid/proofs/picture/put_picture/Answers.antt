@@ -1,4 +1,4 @@
-use Rattle.tabled_row.proofs.Leading.{lines-text}
+use Rattle.tabled_line.proofs.Leading.{lines-text}
 use Rattle.tabled_grid.proofs.picture.put_picture.Goals as goal
 
 pub returns : goal.returns

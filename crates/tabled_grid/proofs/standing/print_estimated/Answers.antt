@@ -1,12 +1,10 @@
-use Rattle.std.proofs.Common.{subst, sym, true}
+use Rattle.std.proofs.Common.{subst, sym, true, ◌∙◌}
 use Rattle.tabled_size.specs.Holds.{Holds, IsSized}
-use Rattle.tabled_size.specs.Sheet.{Sheet}
+use Rattle.tabled_size.specs.Sheet.{Sheet, estimated}
 use Rattle.tabled_grid.specs.Printed.{Prints}
 use Rattle.tabled_grid.proofs.EstimatedSizes.{holds_estimated, sized_estimated}
 use Rattle.tabled_grid.proofs.Printing.{only_estimated, prints_nothing}
 use Rattle.tabled_grid.proofs.StandingSizes.{standing_estimated}
-use Rattle.tabled_size.specs.Sheet.{estimated}
-use Rattle.std.proofs.Common.{◌∙◌}
 use Rattle.tabled_grid.proofs.standing.print_estimated.Goals as goal
 
 pub returns-then-is_empty-clause-printed : goal.returns-then-is_empty-clause-printed

@@ -1,6 +1,6 @@
 use Rattle.std.proofs.Common.{◌≡◌, map, drop}
-use Rattle.tabled_boxes.specs.Shown.{shown}
-use Rattle.tabled_panels.specs.Plans.{plan_of}
+use Rattle.tabled_pool.specs.Shown.{shown}
+use Rattle.tabled_pool.specs.Plans.{plan_of}
 use Rattle.tabled_pool.specs.Around.{around_at}
 use Rattle.tabled_pool.proofs.around.around_at.Given as goal
 

@@ -1,7 +1,7 @@
-use Rattle.tabled_row.proofs.Sending.{stopped, further}
-use Rattle.tabled_panels.specs.Plans.{plan_of}
+use Rattle.tabled_line.proofs.Sending.{stopped, further}
+use Rattle.tabled_pool.specs.Plans.{plan_of}
 use Rattle.tabled_pool.specs.Drawn.{place_text, drawn_line}
-use Rattle.tabled_row.proofs.Each.{each-more, each-rest}
+use Rattle.tabled_line.proofs.Each.{each-more, each-rest}
 use Rattle.tabled_pool.proofs.draw.put_line.Goals as goal
 
 pub returns-in_err-put_place : goal.returns-in_err-put_place

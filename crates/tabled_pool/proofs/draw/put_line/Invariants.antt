@@ -1,6 +1,6 @@
 use Rattle.std.specs.List.{flat_map, range_with_len}
-use Rattle.tabled_row.specs.Sent.{Sends}
-use Rattle.tabled_panels.specs.Plans.{plan_of}
+use Rattle.tabled_line.specs.Sent.{Sends}
+use Rattle.tabled_pool.specs.Plans.{plan_of}
 use Rattle.tabled_pool.specs.Drawn.{place_text}
 use Rattle.tabled_pool.proofs.draw.put_line.Given as goal
 

@@ -1,5 +1,5 @@
 use Rattle.std.proofs.Common.{refl}
-use Rattle.tabled_row.proofs.Sending.{finished, stopped-first}
+use Rattle.tabled_line.proofs.Sending.{finished, stopped-first}
 use Rattle.tabled_pool.proofs.draw.put_marked.Goals as goal
 
 pub returns-in_err-write_text : goal.returns-in_err-write_text

@@ -1,5 +1,5 @@
 use Rattle.std.proofs.Common.{append_assoc, refl}
-use Rattle.tabled_row.proofs.Sending.{further, finished, stopped, stopped-first}
+use Rattle.tabled_line.proofs.Sending.{further, finished, stopped, stopped-first}
 use Rattle.tabled_pool.proofs.draw.put_opened.Goals as goal
 
 pub returns-in_err-write_text : goal.returns-in_err-write_text

@@ -1,5 +1,5 @@
 use Rattle.std.proofs.Common.{◌≡◌, map, drop}
-use Rattle.tabled_boxes.specs.Shown.{shown}
+use Rattle.tabled_pool.specs.Shown.{shown}
 use Rattle.tabled_pool.specs.Owner.{owner}
 use Rattle.tabled_pool.proofs.find.find.Given as goal
 

@@ -1,5 +1,5 @@
 use Rattle.std.proofs.Common.{◌≡◌, ◌++◌, map, drop}
-use Rattle.tabled_boxes.specs.Shown.{shown}
+use Rattle.tabled_pool.specs.Shown.{shown}
 use Rattle.tabled_pool.specs.Near.{near_parts}
 use Rattle.tabled_pool.proofs.near.gather.Given as goal
 

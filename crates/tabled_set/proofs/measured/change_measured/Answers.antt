@@ -1,8 +1,8 @@
 use Rattle.std.proofs.Common.{ℕ, IfErr, subst}
 use Rattle.tabled_config.specs.declared.spanned.SpannedConfig.{SpannedConfig}
 use Rattle.tabled_entity.specs.Changes.{covers}
-use Rattle.tabled_change.specs.CellChanges.{NeedsMemory, StopsEntity, if_taken}
-use Rattle.tabled_change.specs.declared.order.Order.TheVariants.{ByRow}
+use Rattle.tabled_set.specs.CellChanges.{NeedsMemory, StopsEntity, if_taken}
+use Rattle.tabled_set.specs.declared.order.Order.TheVariants.{ByRow}
 use Rattle.tabled_set.proofs.Stopping.{stops-before}
 use Rattle.tabled_set.proofs.measured.change_measured.Goals as goal
 

@@ -1,7 +1,6 @@
 use Rattle.std.proofs.Common.{◌≡◌, ◌++◌, ◌∙◌, ap, sym, subst, chars, encode_utf8_all, ◌∷◌, [], IfSome, IsUtf8, length, ◌<◌}
 use Rattle.tabled_text.specs.Units.{units_of_word, units_of_words, words_of, space}
-use Rattle.tabled_text.specs.Walk.{words_in}
-use Rattle.tabled_text.specs.Walk.{put_all, put_used, put_text, used_after}
+use Rattle.tabled_text.specs.Walk.{words_in, put_all, put_used, put_text, used_after}
 use Rattle.tabled_text.proofs.WriteLemmas.{encodes-more, encodes-on, units_of_words-more, space-is, unit_of}
 use Rattle.tabled_text.proofs.wrap.put_words.Goals as goal
 

@@ -1,5 +1,5 @@
 use Rattle.std.proofs.Common.{[], refl}
-use Rattle.tabled_row.proofs.Sending.{Appends-nil}
+use Rattle.tabled_line.proofs.Sending.{Appends-nil}
 use Rattle.tabled.specs.BlockSent.{waiting}
 use Rattle.tabled.proofs.Since.{advances_then, failed}
 use Rattle.tabled.proofs.block_sink.BlockSink.finish.Goals as goal

@@ -1,6 +1,6 @@
 use Rattle.std.proofs.Common.{[], refl, arith}
 use Rattle.std.specs.Io.KnownBytes.{Keeps}
-use Rattle.tabled_row.proofs.Sending.{Appends-nil, further}
+use Rattle.tabled_line.proofs.Sending.{Appends-nil, further}
 use Rattle.tabled.specs.BlockSent.{waiting}
 use Rattle.tabled.proofs.Since.{advances_then, failed, kept_so, took, took_none}
 use Rattle.tabled.proofs.block_sink.BlockSink.hand_over.Goals as goal

@@ -1,5 +1,5 @@
 use Rattle.std.proofs.Common.{[], length}
-use Rattle.tabled_row.specs.Sent.{Sends}
+use Rattle.tabled_line.specs.Sent.{Sends}
 use Rattle.tabled.specs.BlockSent.{Advances, block, block_sent, waiting}
 use Rattle.tabled.proofs.block_sink.BlockSink.hand_over.Given as goal
 

@@ -1,5 +1,5 @@
 use Rattle.std.proofs.Common.{sym}
-use Rattle.tabled_row.proofs.Sending.{further, stopped, took-more, took-none}
+use Rattle.tabled_line.proofs.Sending.{further, stopped, took-more, took-none}
 use Rattle.tabled.proofs.Since.{advances_none, advances_then}
 use Rattle.tabled.proofs.block_sink.BlockSink.hold_parts.Goals as goal
 

@@ -1,5 +1,5 @@
 use Rattle.std.proofs.Common.{length}
-use Rattle.tabled_row.specs.Sent.{Took}
+use Rattle.tabled_line.specs.Sent.{Took}
 use Rattle.tabled.specs.BlockSent.{Advances, block, block_sent}
 use Rattle.tabled.proofs.block_sink.BlockSink.hold_parts.Given as goal
 

@@ -1,10 +1,10 @@
 use Rattle.std.proofs.Common.{◌≡◌, ◌∙◌, [], None, Some, ap, false, refl, subst, sym}
 use Rattle.tabled_base.specs.declared.position.Entity.TheVariants.{Row}
-use Rattle.tabled_change.specs.CellChanges.{if_wider, truncating}
-use Rattle.tabled_change.specs.declared.suffix.SuffixLimit.TheVariants.{Cut}
+use Rattle.tabled_set.specs.CellChanges.{if_wider, truncating}
+use Rattle.tabled_set.specs.declared.suffix.SuffixLimit.TheVariants.{Cut}
 use Rattle.tabled_config.specs.declared.colored.ColoredConfig.{ColoredConfig}
 use Rattle.tabled_config.specs.declared.spanned.SpannedConfig.{SpannedConfig}
-use Rattle.tabled_resize.specs.Narrowed.{Narrows}
+use Rattle.tabled_set.specs.Narrowed.{Narrows}
 use Rattle.tabled_set.specs.Promised.{TruncatesAsPromised, WrapsAsPromised}
 use Rattle.tabled_size.specs.Cleared.{AreCleared}
 use Rattle.tabled_size.specs.Sheet.{estimated}

@@ -1,8 +1,8 @@
 use Rattle.std.proofs.Common.{ℕ, IfSome, None, Option, Some, subst}
 use Rattle.tabled_config.specs.Settings.{style_at}
 use Rattle.tabled_config.specs.declared.spanned.CellStyle.{CellStyle}
-use Rattle.tabled_row.specs.Aims.{IsSpread}
-use Rattle.tabled_row.specs.declared.aim.Spread.{Spread}
+use Rattle.tabled_line.specs.Aims.{IsSpread}
+use Rattle.tabled_line.specs.declared.aim.Spread.{Spread}
 use Rattle.tabled_grid.proofs.grid.Grid.row_spread.Goals as goal
 
 -- what holds of the style of each column

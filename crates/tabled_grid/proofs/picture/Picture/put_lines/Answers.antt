@@ -1,8 +1,8 @@
 use Rattle.std.proofs.Common.{refl, append_assoc, replicate}
 use Rattle.tabled_config.specs.Settings.{frame}
-use Rattle.tabled_row.specs.Fill.{fill}
+use Rattle.tabled_line.specs.Fill.{fill}
 use Rattle.tabled_grid.specs.Picture.{filled_picture}
-use Rattle.tabled_row.proofs.Leading.{lines-further, lines-finished, lines-stopped, lines-stopped-first}
+use Rattle.tabled_line.proofs.Leading.{lines-further, lines-finished, lines-stopped, lines-stopped-first}
 use Rattle.tabled_grid.proofs.picture.Picture.put_lines.Goals as goal
 
 pub returns-in_err-put_margin : goal.returns-in_err-put_margin

@@ -1,6 +1,6 @@
 use Rattle.std.proofs.Common.{refl}
 use Rattle.tabled_grid.specs.Picture.{row_part}
-use Rattle.tabled_row.proofs.Leading.{lines-finished, lines-stopped-first}
+use Rattle.tabled_line.proofs.Leading.{lines-finished, lines-stopped-first}
 use Rattle.tabled_grid.proofs.picture.Picture.put_row_part.Goals as goal
 
 pub returns-in_err-put_rule-clause-printed : goal.returns-in_err-put_rule-clause-printed

@@ -1,7 +1,7 @@
 use Rattle.std.proofs.Common.{◌∙◌}
 use Rattle.tabled_grid.specs.Picture.{row_part}
-use Rattle.tabled_row.proofs.Each.{each-more, each-rest}
-use Rattle.tabled_row.proofs.Leading.{lines-further, lines-stopped}
+use Rattle.tabled_line.proofs.Each.{each-more, each-rest}
+use Rattle.tabled_line.proofs.Leading.{lines-further, lines-stopped}
 use Rattle.tabled_grid.proofs.picture.Picture.put_rows.Goals as goal
 
 pub returns-in_err-put_row_part-clause-printed : goal.returns-in_err-put_row_part-clause-printed

@@ -1,6 +1,6 @@
 use Rattle.std.proofs.Common.{◌≡◌}
 use Rattle.std.specs.List.{flat_map, range_with_len}
-use Rattle.tabled_row.specs.Leading.{LineSends}
+use Rattle.tabled_line.specs.Leading.{LineSends}
 use Rattle.tabled_grid.specs.Picture.{row_part}
 use Rattle.tabled_grid.proofs.picture.Picture.put_rows.Given as goal
 

@@ -1,5 +1,5 @@
 use Rattle.std.proofs.Common.{ap}
-use Rattle.tabled_panels.specs.Colours.{line_marks_of, marks_of}
+use Rattle.tabled_pool.specs.Colours.{line_marks_of, marks_of}
 use Rattle.tabled_pool.proofs.PoolLemmas.{plan_is}
 use Rattle.tabled_pool.proofs.pool_table.PoolTable.drawing.Goals as goal
 

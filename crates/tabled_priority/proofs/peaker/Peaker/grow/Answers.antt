@@ -1,6 +1,5 @@
 use Rattle.std.proofs.Common.{ℕ, ◌+◌, ◌-◌, [], arith, rules, subst}
-use Rattle.tabled_priority.specs.Permitted.{IsAbove}
-use Rattle.tabled_priority.specs.Permitted.{raised}
+use Rattle.tabled_priority.specs.Permitted.{IsAbove, raised}
 use Rattle.tabled_priority.specs.Laws.Grown.{IsNoneSmaller-raised, IsRaised-raised}
 use Rattle.tabled_priority.proofs.Visiting.{changed-le, changed-self}
 use Rattle.tabled_priority.proofs.peaker.Peaker.grow.Goals as goal

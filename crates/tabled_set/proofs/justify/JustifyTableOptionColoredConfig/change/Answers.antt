@@ -1,8 +1,8 @@
 use Rattle.std.proofs.Common.{◌≡◌, refl}
 use Rattle.tabled_base.specs.declared.position.Entity.TheVariants.{Global}
-use Rattle.tabled_change.specs.CellChanges.{StopsEntity, never_in_place}
-use Rattle.tabled_change.specs.Justified.{IsJustified}
-use Rattle.tabled_change.specs.declared.which.Which.TheVariants.{NotAsWide}
+use Rattle.tabled_set.specs.CellChanges.{StopsEntity, never_in_place}
+use Rattle.tabled_set.specs.Justified.{IsJustified}
+use Rattle.tabled_set.specs.declared.which.Which.TheVariants.{NotAsWide}
 use Rattle.tabled_set.proofs.Stopping.{stops-with}
 use Rattle.tabled_set.proofs.justify.JustifyTableOptionColoredConfig.change.Goals as goal
 

@@ -1,3 +1,0 @@
-pub mod Frame
-pub mod Junction
-pub mod Lines

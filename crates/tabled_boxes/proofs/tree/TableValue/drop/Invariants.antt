@@ -1,5 +1,0 @@
-use Rattle.tabled_boxes.specs.Nodes.{nodes_in}
-use Rattle.tabled_boxes.proofs.tree.TableValue.drop.Given as goal
-
-abbrev pub decreases-values : goal.decreases-values
-decreases-values l = nodes_in l.rest.items

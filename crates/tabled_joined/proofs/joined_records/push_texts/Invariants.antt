@@ -1,5 +1,0 @@
-use Rattle.std.proofs.Common.{◌≡◌, ◌++◌, map}
-use Rattle.tabled_joined.proofs.joined_records.push_texts.Given as goal
-
-abbrev pub invariant-loop-cell : goal.invariant-loop-cell
-invariant-loop-cell g l = l.texts ≡ l.initial.texts ++ map g.I.Item.CellText.text l.yielded

@@ -1,6 +1,0 @@
-pub mod Cutting
-pub mod LentCells
-pub mod RowsLeft
-pub mod Spans
-pub mod Splitting
-pub mod TextCells

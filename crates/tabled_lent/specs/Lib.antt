@@ -1,2 +1,0 @@
-pub mod LentRows
-pub mod TextRows

@@ -1,0 +1,211 @@
+-- Rows that are laid over a blank one.
+use Rattle.std.proofs.Common.{◌≡◌, ℕ, suc, ◌+◌, ◌-◌, ◌<◌, ◌≤◌, List, [], ◌∷◌, ◌++◌, length, get_or, take, drop, map, refl, sym, ◌∙◌, ap, subst, append-nil, append_assoc, arith, lit<}
+use Rattle.std.specs.List.{flat_map, range_with_len}
+use Rattle.std.proofs.Math.Seq.{take-append_seam, drop-append-add, drop-append_seam}
+use Rattle.std.specs.Str.{IsCharBoundary, IsUtf8}
+use Rattle.std.proofs.lemmas.List.{get_or-append-add, length-append, take-append-drop}
+use Rattle.std.proofs.lemmas.Str.{IsCharBoundary-after_ascii, IsCharBoundary-before_ascii, IsUtf8-append, IsUtf8-drop, IsUtf8-take}
+use Rattle.tabled_config.specs.Frame.{has_bar}
+use Rattle.tabled_line.specs.Fill.{fill}
+use Rattle.tabled_line.specs.Laid.{StandsAt, blank_line, blank_row, first_place}
+use Rattle.tabled_line.specs.Row.{ColumnSheet, RowSheet, cell_piece, first_of_block, left_edge, piece, right_edge, row_line, row_lines, rule_line, rule_piece}
+use Rattle.tabled_line.proofs.Bars.{later-bar}
+use Rattle.tabled_line.proofs.Each.{each-more}
+use Rattle.tabled_line.proofs.Fills.{fill-first_bytes, fill-length, fill-parts}
+
+-- a text of n bytes in the place of n spaces
+pub lay-text : (front back text bytes : List ℕ) (n place : ℕ) → length text ≡ n → place ≡ length front → bytes ≡ front ++ (fill 32 n ++ back)
+    → take place bytes ++ (text ++ drop (place + length text) bytes) ≡ front ++ (text ++ back)
+lay-text front back text bytes n place size begins whole =
+    let first : take place bytes ≡ front = ap (λ k. take k bytes) begins ∙ ap (take (length front)) whole ∙ take-append_seam front (fill 32 n ++ back) in
+    let next : place + length text ≡ length front + length (fill 32 n) = omega (arith, begins, size, fill-length 32 n (lit< tt)) in
+    let last : drop (place + length text) bytes ≡ back =
+    ap (λ k. drop k bytes) next ∙ ap (drop (length front + length (fill 32 n))) whole
+    ∙ drop-append-add front (fill 32 n ++ back) (length (fill 32 n)) ∙ drop-append_seam (fill 32 n) back in
+    ap (λ u. u ++ (text ++ drop (place + length text) bytes)) first ∙ ap (λ u. front ++ (text ++ u)) last
+
+-- a cell in its place: its text among its spaces
+pub cell-parts : (front back text : List ℕ) (l r : ℕ)
+    → front ++ ((fill 32 l ++ (text ++ fill 32 r)) ++ back) ≡ (front ++ fill 32 l) ++ (text ++ (fill 32 r ++ back))
+cell-parts front back text l r = regroup front (fill 32 l) text (fill 32 r) back
+  where
+    regroup : (a b c d e : List ℕ) → a ++ ((b ++ (c ++ d)) ++ e) ≡ (a ++ b) ++ (c ++ (d ++ e))
+    regroup a b c d e = simp append_assoc
+
+-- likewise as long as it is blank
+pub blank-cell : (front back : List ℕ) (l n r w : ℕ) → l + (n + r) ≡ w
+    → front ++ (fill 32 w ++ back) ≡ (front ++ fill 32 l) ++ (fill 32 n ++ (fill 32 r ++ back))
+blank-cell front back l n r w sum = ap (λ u. front ++ (u ++ back)) (fill-parts 32 l n r w sum) ∙ cell-parts front back (fill 32 n) l r
+
+-- where the text behind l spaces begins
+pub behind-spaces : (front : List ℕ) (l place start : ℕ) → place ≡ length front → start ≡ place + l → start ≡ length (front ++ fill 32 l)
+behind-spaces front l place start begins e = omega (arith, length-append front (fill 32 l), fill-length 32 l (lit< tt), begins, e)
+
+-- of the blank columns of a cell those of its text
+pub stands-inside : {bytes : List ℕ} {place : ℕ} (l n r w start : ℕ) → l + (n + r) ≡ w → start ≡ place + l
+    → StandsAt bytes place (fill 32 w) → StandsAt bytes start (fill 32 n)
+stands-inside {bytes} {place} l n r w start sum e h =
+    record {
+      front = h.front ++ fill 32 l;
+      back = fill 32 r ++ h.back;
+      whole = h.whole ∙ blank-cell h.front h.back l n r w sum;
+      begins = behind-spaces h.front l place start h.begins e;
+    }
+
+-- bytes reach as far as what stands in them
+pub stands-long : {bytes : List ℕ} {place : ℕ} (n : ℕ) → StandsAt bytes place (fill 32 n) → place + n ≤ length bytes
+stands-long {bytes} {place} n h =
+    let b = h.begins in
+    let w = ap length h.whole in
+    omega (arith, b, w, length-append h.front (fill 32 n ++ h.back), length-append (fill 32 n) h.back, fill-length 32 n (lit< tt))
+
+-- each byte of spaces that stand somewhere is one of ASCII
+space-at : {bytes : List ℕ} {place : ℕ} (w j : ℕ) → StandsAt bytes place (fill 32 w) → j < w → get_or bytes (place + j) 0 < 128
+space-at {bytes} {place} w j h l =
+    let e : get_or bytes (place + j) 0 ≡ get_or (fill 32 w ++ h.back) j 0 =
+    ap (λ n. get_or bytes (n + j) 0) h.begins ∙ ap (λ b. get_or b (length h.front + j) 0) h.whole
+    ∙ get_or-append-add h.front (fill 32 w ++ h.back) j 0 in
+    rw e (fill-first_bytes 32 w j h.back (lit< tt) l)
+
+-- a text over spaces of a text leaves a text
+pub laid-utf8 : (bytes text : List ℕ) (place w : ℕ) → StandsAt bytes place (fill 32 w) → length text ≤ w → IsUtf8 text → IsUtf8 bytes
+    → IsUtf8 (take place bytes ++ (text ++ drop (place + length text) bytes))
+laid-utf8 bytes [] place w h l t u =
+    let e : place + 0 ≡ place = omega arith in
+    subst IsUtf8 (sym (ap (λ n. take place bytes ++ drop n bytes) e ∙ take-append-drop place bytes)) u
+laid-utf8 bytes (b ∷ bs) place w h l t u =
+    let long = stands-long w h in
+    let n = length bs in
+    let here : place + 0 ≡ place = omega arith in
+    let first = IsCharBoundary-before_ascii bytes place (omega arith) (subst (λ i. get_or bytes i 0 < 128) here (space-at w 0 h (omega arith))) in
+    let byte = space-at w n h (omega arith) in
+    let behind : place + n + 1 ≡ place + suc n = omega arith in
+    let after = subst (IsCharBoundary bytes) behind (IsCharBoundary-after_ascii bytes (place + n) u (omega arith) byte) in
+    IsUtf8-append (take place bytes) ((b ∷ bs) ++ drop (place + suc n) bytes) (IsUtf8-take bytes place u first)
+    (IsUtf8-append (b ∷ bs) (drop (place + suc n) bytes) t (IsUtf8-drop bytes (place + suc n) u after))
+
+pub laid-length : (l r : ℕ) (text : List ℕ) → length (fill 32 l ++ (text ++ fill 32 r)) ≡ l + (length text + r)
+laid-length l r text =
+    omega (arith, length-append (fill 32 l) (text ++ fill 32 r), length-append text (fill 32 r), fill-length 32 l (lit< tt), fill-length 32 r (lit< tt))
+
+pub written-back : (n : ℕ) (new old : List ℕ) → length new ≡ n → take n (new ++ drop (length new) old) ≡ new
+written-back n new old e = ap (λ k. take k (new ++ drop (length new) old)) (sym e) ∙ take-append_seam new (drop (length new) old)
+
+pub blank-parts : (e f l p r n a b c : List ℕ) → e ≡ [] → n ≡ e ++ f → a ≡ n ++ l → b ≡ a ++ p → c ≡ b ++ r → c ≡ f ++ (l ++ (p ++ r))
+blank-parts e f l p r n a b c none first one two three =
+    three ∙ ap (λ u. u ++ r) (two ∙ ap (λ u. u ++ p) (one ∙ ap (λ u. u ++ l) (first ∙ ap (λ u. u ++ f) none))) ∙ regroup f l p r
+  where
+    regroup : (f l p r : List ℕ) → ((f ++ l) ++ p) ++ r ≡ f ++ (l ++ (p ++ r))
+    regroup f l p r = simp append_assoc
+
+-- ---- a row while its texts are laid, up to a column
+
+-- the edge and the cells before the column
+abbrev pub laid_part : RowSheet → ℕ → List ℕ
+laid_part rs column = left_edge rs.columns.frame rs.columns.frame.left.main ++ flat_map (cell_piece rs 0) (range_with_len 0 column)
+
+-- and the vertical line before it
+abbrev pub front : RowSheet → ℕ → List ℕ
+front rs column = laid_part rs column ++ piece (has_bar rs.columns.frame column) rs.columns.frame.inner.main
+
+-- the blank cells from a column on, and the edge
+abbrev pub blank_from : ColumnSheet → ℕ → ℕ → List ℕ
+blank_from cs column count = flat_map (rule_piece cs (blank_line cs.frame)) (range_with_len column count) ++ right_edge cs.frame cs.frame.right.main
+
+-- the cells before the column are laid, those from it on are blank
+pub record IsLaid (rs : RowSheet) (line : List ℕ) (place before column : ℕ) : Type 0 where
+  pub whole : line ≡ laid_part rs column ++ blank_from rs.columns column (rs.columns.count - column)
+  pub begins : place ≡ length (laid_part rs column)
+  pub bar : before ≡ length (piece (has_bar rs.columns.frame column) rs.columns.frame.inner.main)
+
+pub laid-none : (rs : RowSheet) (line : List ℕ) (place : ℕ) → line ≡ blank_row rs.columns → place ≡ first_place rs.columns → IsLaid rs line place 0 0
+unfolding rule_line
+laid-none rs line place blank start =
+    let cs = rs.columns in
+    let edge = left_edge cs.frame cs.frame.left.main in
+    let e : cs.count ≡ cs.count - 0 = omega arith in
+    record {
+      whole = blank ∙ ap (λ n. edge ++ blank_from cs 0 n) e ∙ ap (λ u. u ++ blank_from cs 0 (cs.count - 0)) (sym (append-nil edge));
+      begins = start ∙ ap length (sym (append-nil edge));
+      bar = refl;
+    }
+
+-- the blank columns of the next cell
+pub laid-next : {rs : RowSheet} {line : List ℕ} {place before column : ℕ} → IsLaid rs line place before column → column < rs.columns.count
+    → line ≡ front rs column ++ (fill 32 (rs.columns.width column) ++ blank_from rs.columns (column + 1) (rs.columns.count - column - 1))
+unfolding rule_piece
+laid-next {rs} {line} {place} {before} {column} h l =
+    let cs = rs.columns in
+    let e : cs.count - column ≡ suc (cs.count - column - 1) = omega arith in
+    h.whole ∙ ap (λ n. laid_part rs column ++ blank_from cs column n) e
+    ∙ regroup (laid_part rs column) (piece (has_bar cs.frame column) cs.frame.inner.main) (fill 32 (cs.width column))
+    (flat_map (rule_piece cs (blank_line cs.frame)) (range_with_len (column + 1) (cs.count - column - 1))) (right_edge cs.frame cs.frame.right.main)
+  where
+    regroup : (a b c d e : List ℕ) → a ++ (((b ++ c) ++ d) ++ e) ≡ (a ++ b) ++ (c ++ (d ++ e))
+    regroup a b c d e = simp append_assoc
+
+pub laid-begins : {rs : RowSheet} {line : List ℕ} {place before column : ℕ} → IsLaid rs line place before column → place + before ≡ length (front rs column)
+laid-begins {rs} {line} {place} {before} {column} h =
+    let b = h.begins in
+    let p = h.bar in
+    omega (arith, b, p, length-append (laid_part rs column) (piece (has_bar rs.columns.frame column) rs.columns.frame.inner.main))
+
+pub laid-stands : {rs : RowSheet} {line : List ℕ} {place before column : ℕ} → IsLaid rs line place before column → column < rs.columns.count
+    → StandsAt line (place + before) (fill 32 (rs.columns.width column))
+laid-stands {rs} {line} {place} {before} {column} h l =
+    record { front = front rs column; back = blank_from rs.columns (column + 1) (rs.columns.count - column - 1); whole = laid-next h l; begins = laid-begins h }
+
+-- a cell was laid
+laid-one : {rs : RowSheet} {line : List ℕ} {place before column : ℕ} (laid next : List ℕ) (stop bar : ℕ)
+    → cell_piece rs 0 column ≡ piece (has_bar rs.columns.frame column) rs.columns.frame.inner.main ++ laid
+    → IsLaid rs line place before column → column < rs.columns.count
+    → next ≡ front rs column ++ (laid ++ blank_from rs.columns (column + 1) (rs.columns.count - column - 1))
+    → stop ≡ length (front rs column) + length laid
+    → bar ≡ length (piece rs.columns.frame.inner.there rs.columns.frame.inner.main) → IsLaid rs next stop bar (column + 1)
+laid-one {rs} {line} {place} {before} {column} laid next stop bar cell h l whole stops same =
+    let cs = rs.columns in
+    let f = cs.frame in
+    let cells = flat_map (cell_piece rs 0) (range_with_len 0 column) in
+    let edge = left_edge f f.left.main in
+    let more : laid_part rs (column + 1) ≡ front rs column ++ laid =
+    ap (λ u. edge ++ u) (each-more (cell_piece rs 0) column) ∙ ap (λ u. edge ++ (cells ++ u)) cell
+    ∙ regroup edge cells (piece (has_bar f column) f.inner.main) laid in
+    let e : cs.count - column - 1 ≡ cs.count - (column + 1) = omega arith in
+    let later : has_bar f (column + 1) ≡ f.inner.there = (let P : ℕ → Type 0 = λ k. has_bar f k ≡ f.inner.there in let g : suc column ≡ column + 1 = omega arith in subst P g (later-bar column f.inner.there)) in
+    record {
+      whole = whole ∙ sym (append_assoc (front rs column) laid (blank_from cs (column + 1) (cs.count - column - 1)))
+          ∙ ap (λ u. u ++ blank_from cs (column + 1) (cs.count - column - 1)) (sym more)
+          ∙ ap (λ n. laid_part rs (column + 1) ++ blank_from cs (column + 1) n) e;
+      begins = stops ∙ sym (length-append (front rs column) laid) ∙ ap length (sym more);
+      bar = same ∙ ap (λ b. length (piece b f.inner.main)) (sym later);
+    }
+  where
+    regroup : (a b c d : List ℕ) → a ++ (b ++ (c ++ d)) ≡ ((a ++ b) ++ c) ++ d
+    regroup a b c d = simp append_assoc
+
+-- the text of a column was laid
+pub laid-more : {rs : RowSheet} {line : List ℕ} {place before column : ℕ} (laid next : List ℕ) (stop bar : ℕ)
+    → first_of_block rs column ≡ laid → IsLaid rs line place before column → column < rs.columns.count
+    → next ≡ front rs column ++ (laid ++ blank_from rs.columns (column + 1) (rs.columns.count - column - 1))
+    → stop ≡ length (front rs column) + length laid
+    → bar ≡ length (piece rs.columns.frame.inner.there rs.columns.frame.inner.main) → IsLaid rs next stop bar (column + 1)
+unfolding cell_piece
+laid-more {rs} {line} {place} {before} {column} laid next stop bar first h l whole stops same =
+    laid-one laid next stop bar (ap (λ u. piece (has_bar rs.columns.frame column) rs.columns.frame.inner.main ++ u) first) h l whole stops same
+
+-- all texts were laid
+pub laid-all : {rs : RowSheet} {line : List ℕ} {place before column : ℕ} → IsLaid rs line place before column → column ≡ rs.columns.count → line ≡ row_line rs 0
+unfolding row_line
+laid-all {rs} {line} {place} {before} {column} h all =
+    let cs = rs.columns in
+    let f = cs.frame in
+    let cells = flat_map (cell_piece rs 0) (range_with_len 0 column) in
+    let none : cs.count - column ≡ 0 = omega arith in
+    h.whole ∙ ap (λ n. laid_part rs column ++ blank_from cs column n) none
+    ∙ append_assoc (left_edge f f.left.main) cells (right_edge f f.right.main)
+    ∙ ap (λ n. left_edge f f.left.main ++ (flat_map (cell_piece rs 0) (range_with_len 0 n) ++ right_edge f f.right.main)) all
+
+-- a row of one line has that line alone
+pub one-row_line : (rs : RowSheet) → rs.height ≡ 1 → row_lines rs ≡ row_line rs 0 ∷ []
+unfolding row_lines
+one-row_line rs h = ap (λ n. map (row_line rs) (range_with_len 0 n)) h

@@ -1,0 +1,31 @@
+-- Lines that are printed one below the other: a line feed stands before each but the first.
+use Rattle.std.specs.Prelude.{◌≡◌, ℕ, Bool, true, false, List, [], ◌∷◌, ◌++◌, Result, Ok, Err}
+use Rattle.tabled_base.specs.declared.error.TableError.{TableError}
+use Rattle.tabled_line.specs.Sent.{Sent, Sends, Stops}
+
+-- the line feed before a line, where a line went before
+abbrev pub break : Bool → List ℕ
+break true = 10 ∷ []
+break false = []
+
+-- the text of lines, where a line went before or not
+abbrev pub led : Bool → List (List ℕ) → List ℕ
+led begun [] = []
+led begun (l ∷ ls) = break begun ++ (l ++ led true ls)
+
+-- whether a line went before what follows the lines
+abbrev pub begun_after : Bool → List (List ℕ) → Bool
+begun_after begun [] = begun
+begun_after begun (l ∷ ls) = true
+
+pub record LineSends (old : Sent) (begun : Bool) (new : Sent) (begun' : Bool) (lines : List (List ℕ)) : Type 0 where
+  pub sends : Sends old new (led begun lines)
+  pub after : begun' ≡ begun_after begun lines
+
+pub record LineStops (old : Sent) (begun : Bool) (e : TableError) (new : Sent) (lines : List (List ℕ)) : Type 0 where
+  pub stops : Stops old e new (led begun lines)
+
+-- what a call that prints lines leaves
+abbrev pub WritesLines : {T : Type 0} → Sent → Bool → Result T TableError → Sent → Bool → List (List ℕ) → Type 0
+WritesLines old begun (Ok _) new begun' lines = LineSends old begun new begun' lines
+WritesLines old begun (Err e) new begun' lines = LineStops old begun e new lines

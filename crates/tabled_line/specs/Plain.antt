@@ -1,0 +1,38 @@
+-- What is printed of characters that take known columns.
+use Rattle.std.specs.Prelude.{◌≡◌, ℕ, List, Option, unwrap_or}
+use Rattle.std.specs.List.{All}
+use Rattle.tabled_text.specs.Measure.{line_columns}
+use Rattle.tabled_text.specs.Plain.{IsAdditiveColumn}
+use Rattle.tabled_config.specs.declared.borders.HorizontalLine.{HorizontalLine}
+use Rattle.tabled_config.specs.declared.frame.Frame.{Frame}
+use Rattle.tabled_config.specs.declared.spanned.CellStyle.{CellStyle}
+
+-- a character that is missing is a space
+abbrev pub IsPlainPiece : Option ℕ → Type 0
+IsPlainPiece c = IsAdditiveColumn (unwrap_or c 32)
+
+pub record IsPlainRule (line : HorizontalLine) : Type 0 where
+  pub main : IsPlainPiece line.main
+  pub left : IsPlainPiece line.left
+  pub intersection : IsPlainPiece line.intersection
+  pub right : IsPlainPiece line.right
+
+pub record IsPlainStyle (style : CellStyle) : Type 0 where
+  pub left : IsAdditiveColumn style.padding.left.fill
+  pub right : IsAdditiveColumn style.padding.right.fill
+  pub top : IsAdditiveColumn style.padding.top.fill
+  pub bottom : IsAdditiveColumn style.padding.bottom.fill
+
+-- of a frame the characters of its vertical lines on the lines of rows, and the fills of its margin
+pub record IsPlainFrame (frame : Frame) : Type 0 where
+  pub vertical : IsAdditiveColumn frame.inner.main
+  pub left : IsAdditiveColumn frame.left.main
+  pub right : IsAdditiveColumn frame.right.main
+  pub margin_left : IsAdditiveColumn frame.margin.left.fill
+  pub margin_right : IsAdditiveColumn frame.margin.right.fill
+  pub margin_top : IsAdditiveColumn frame.margin.top.fill
+  pub margin_bottom : IsAdditiveColumn frame.margin.bottom.fill
+
+-- each line takes n columns
+abbrev pub EachLineTakes : ℕ → List (List ℕ) → Type 0
+EachLineTakes n lines = All (λ line. line_columns line ≡ n) lines

@@ -1,0 +1,76 @@
+-- A row as it is printed, and the horizontal lines between rows.
+use Rattle.std.specs.Prelude.{ℕ, if◌then◌else◌, Bool, List, [], ◌∷◌, ◌++◌, map, Option, Some, None, encode_utf8, unwrap_or}
+use Rattle.std.specs.List.{flat_map, range_with_len, slice_index_or}
+use Rattle.tabled_config.specs.declared.borders.HorizontalLine.{HorizontalLine}
+use Rattle.tabled_config.specs.declared.frame.Frame.{Frame}
+use Rattle.tabled_config.specs.declared.spanned.CellStyle.{CellStyle}
+use Rattle.tabled_config.specs.Frame.{has_bar}
+use Rattle.tabled_line.specs.Block.{block}
+use Rattle.tabled_line.specs.Fill.{fill, indent}
+
+-- the columns of a table: how many there are, how wide each is, and what stands around and between them
+pub record ColumnSheet : Type 0 where
+  pub count : ℕ
+  pub width : ℕ → ℕ
+  pub frame : Frame
+
+-- a row of cells over columns: its lines, the text of each cell, and how that stands
+pub record RowSheet : Type 0 where
+  pub columns : ColumnSheet
+  pub height : ℕ
+  pub text : ℕ → List ℕ
+  pub style : ℕ → CellStyle
+
+-- a character of a vertical line, if that is there
+abbrev pub piece : Bool → ℕ → List ℕ
+piece there c = if there then encode_utf8 c else []
+
+-- the left margin, and the left vertical line
+unfoldable pub left_edge : Frame → ℕ → List ℕ
+left_edge frame c = indent frame.margin.left ++ piece frame.left.there c
+
+-- the right vertical line, and the right margin
+unfoldable pub right_edge : Frame → ℕ → List ℕ
+right_edge frame c = piece frame.right.there c ++ indent frame.margin.right
+
+-- a cell in its room
+abbrev pub cell_block : RowSheet → ℕ → List (List ℕ)
+cell_block row column = block (row.style column) (row.columns.width column) row.height (row.text column)
+
+-- the first line of a cell in its room
+abbrev pub first_of_block : RowSheet → ℕ → List ℕ
+first_of_block row column = slice_index_or (cell_block row column) 0 []
+
+-- a line of the block of a cell, behind the vertical line before it
+unfoldable pub cell_piece : RowSheet → ℕ → ℕ → List ℕ
+cell_piece row index column =
+    let f = row.columns.frame in
+    piece (has_bar f column) f.inner.main ++ slice_index_or (cell_block row column) index []
+
+-- a line of a row: the pieces of its cells between the edges
+unfoldable pub row_line : RowSheet → ℕ → List ℕ
+row_line row index =
+    let f = row.columns.frame in
+    left_edge f f.left.main
+    ++ (flat_map (cell_piece row index) (range_with_len 0 row.columns.count) ++ right_edge f f.right.main)
+
+-- the lines of a row, as many as its height
+unfoldable pub row_lines : RowSheet → List (List ℕ)
+row_lines row = map (row_line row) (range_with_len 0 row.height)
+
+-- the part of a horizontal line at a column
+unfoldable pub rule_piece : ColumnSheet → HorizontalLine → ℕ → List ℕ
+rule_piece columns line column =
+    piece (has_bar columns.frame column) (unwrap_or line.intersection 32) ++ fill (unwrap_or line.main 32) (columns.width column)
+
+-- a horizontal line; where a character is missing, a space stands
+unfoldable pub rule_line : ColumnSheet → HorizontalLine → List ℕ
+rule_line columns line =
+    let f = columns.frame in
+    left_edge f (unwrap_or line.left 32)
+    ++ (flat_map (rule_piece columns line) (range_with_len 0 columns.count) ++ right_edge f (unwrap_or line.right 32))
+
+-- a horizontal line that may be there
+abbrev pub rule_if : ColumnSheet → Option HorizontalLine → List (List ℕ)
+rule_if columns None = []
+rule_if columns (Some line) = rule_line columns line ∷ []

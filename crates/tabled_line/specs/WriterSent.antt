@@ -1,0 +1,48 @@
+-- What a call that prints to a borrowed writer leaves of it.
+use Rattle.std.specs.Prelude.{ℕ, ◌-◌, ◌^◌, false, List, [], ◌∷◌, Option, None, Some, Result, Err, is_some}
+use Rattle.std.specs.Io.KnownBytes.{append_known, prepend_known}
+use Rattle.tabled_base.specs.declared.error.TableError.{TableError}
+use Rattle.tabled_base.specs.declared.error.TableError.TheVariants.{Writer}
+use Rattle.tabled_line.specs.Sent.{Sent}
+use Rattle.tabled_line.specs.declared.writer_sink.WriterSink.{WriterSink}
+
+-- the byte at which a write failed, if one did
+abbrev pub failed_byte : Option ℕ → List ℕ
+failed_byte None = []
+failed_byte (Some byte) = byte ∷ []
+
+-- the greatest count of failures where a write failed
+abbrev pub failed_count : Option ℕ → ℕ
+failed_count None = 0
+failed_count (Some byte) = 2 ^ 64 - 1
+
+-- what the sink of a borrowed writer was sent, by the name of the reference and the writer's contents. The bytes start with
+-- that name, so that what is known of a call's bytes says that the writer is the same. They end with the byte at which a
+-- write failed, so that they are a beginning of the text longer than the writer's. A failed sink counts as one that grows,
+-- so that no call succeeds with it
+abbrev pub named_sent : ℕ → Option (List ℕ) → Option ℕ → Sent
+named_sent name contents failed_at =
+    record {
+      bytes = prepend_known (name ∷ []) (append_known contents (failed_byte failed_at));
+      failures = failed_count failed_at;
+      grows = is_some failed_at;
+    }
+
+abbrev pub writer_sink_sent : {W : Type 0} → (W → Option (List ℕ)) → WriterSink W → Sent
+writer_sink_sent contents s = named_sent s.writer.ghost_name (contents s.writer.now) s.failed_at
+
+-- ---- for the caller
+
+-- the contents of a writer, if they were known before
+abbrev pub known_since : Option (List ℕ) → Option (List ℕ) → Option (List ℕ)
+known_since None new = None
+known_since (Some held) new = new
+
+-- a writer before a call
+abbrev pub writer_before : Option (List ℕ) → Sent
+writer_before contents = record { bytes = contents; failures = 0; grows = false }
+
+-- a writer after a call: it has exactly what was sent, or a write failed, and the text goes on with a byte that it doesn't have
+abbrev pub writer_after : {T : Type 0} → Result T TableError → Option (List ℕ) → ℕ → Sent
+writer_after (Err Writer) contents byte = record { bytes = append_known contents (byte ∷ []); failures = 1; grows = false }
+writer_after _ contents byte = record { bytes = contents; failures = 0; grows = false }

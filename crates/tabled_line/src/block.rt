@@ -1,0 +1,149 @@
+//! The lines of the block of a cell.
+ghost use Rattle.std.specs.Prelude.{◌≡◌, ◌≤◌, ◌<◌, ◌-◌, ◌^◌, List, ℕ, []};
+ghost use Rattle.std.specs.List.{slice_index_or};
+ghost use Rattle.tabled_text.specs.Measure.{line_columns};
+ghost use Rattle.tabled_line.specs.Block.{above_text, before_text, block, cell_line, columns_before, fill_above, free_lines, text_room};
+ghost use Rattle.tabled_line.specs.Cursors.{IsCursor};
+ghost use Rattle.tabled_line.specs.Sent.{Sent, Writes};
+
+use crate::content::Content;
+use crate::cursors::Cursor;
+use crate::pieces::{put_before, put_behind, put_fill};
+use crate::text_sink::TextSink;
+use tabled_base::TableError;
+use tabled_config::{AlignmentHorizontal, AlignmentVertical, CellStyle};
+
+/// The part of the free columns that stands before the text.
+pub(crate) fn before_text(alignment: AlignmentHorizontal, free: usize) -> usize
+    ensures { result ≡ before_text alignment free }
+{
+    // As two choices of a number, and not as three ways to go on, since alignments may differ from cell to cell.
+    let centered = if let AlignmentHorizontal::Center = alignment {
+        free / 2
+    } else {
+        free
+    };
+    if let AlignmentHorizontal::Left = alignment {
+        0
+    } else {
+        centered
+    }
+}
+
+/// The part of the free lines that stands above the text.
+fn above_text(alignment: AlignmentVertical, free: usize) -> usize
+    ensures value { result ≡ above_text alignment free }
+    ensures within { result ≤ free }
+{
+    match alignment {
+        AlignmentVertical::Top => 0,
+        AlignmentVertical::Center => free / 2,
+        AlignmentVertical::Bottom => free,
+    }
+}
+
+/// A cell as it is laid out: its text in a width and a height.
+#[derive(Clone, Copy)]
+pub struct CellBlock<'a> {
+    /// How the text stands.
+    pub style: CellStyle,
+    /// The columns of the cell.
+    pub width: usize,
+    /// Its lines.
+    pub height: usize,
+    /// Its text.
+    pub content: Content<'a>,
+    ghost in_range: { height < 2 ^ 64 },
+}
+
+impl<'a> CellBlock<'a> {
+    /// The columns that the padding leaves to the text.
+    fn text_room(&self) -> usize
+        ensures { result ≡ text_room self.now.style self.now.width }
+    {
+        self.width
+            .saturating_sub(self.style.padding.left.size)
+            .saturating_sub(self.style.padding.right.size)
+    }
+
+    /// The columns before a line of the text, which takes so many columns itself.
+    fn columns_before(&self, columns: usize) -> usize
+        ensures { (line : List ℕ) → columns ≡ line_columns line
+            → result ≡ columns_before self.now.style (text_room self.now.style self.now.width)
+            self.now.content.text.now line }
+    {
+        let used = if self.style.line_alignment {
+            columns
+        } else {
+            self.content.columns
+        };
+        before_text(self.style.horizontal, self.text_room().saturating_sub(used))
+    }
+
+    /// A line of the text, of so many columns, in the width of the cell.
+    pub fn put_text_line<S: TextSink>(
+        &self,
+        sink: &mut S,
+        line: &str,
+        columns: usize,
+    ) -> Result<(), TableError>
+        requires { columns ≡ line_columns line.now }
+        ensures { Writes (S.sent sink.old) result (S.sent sink.new)
+            (cell_line self.now.style self.now.width self.now.content.text.now line.now) }
+    {
+        let before = self.columns_before(columns);
+        let behind = self
+            .text_room()
+            .saturating_sub(before)
+            .saturating_sub(columns);
+        put_before(sink, self.style.padding.left, before)?;
+        sink.write_text(line)?;
+        put_behind(sink, behind, self.style.padding.right)
+    }
+
+    /// The lines above the text that its alignment adds.
+    pub fn lines_above(&self) -> usize
+        ensures value { result ≡ above_text self.now.style.vertical (free_lines self.now.style self.now.height
+            self.now.content.text.now) }
+        ensures within { result ≤ self.now.height - self.now.style.padding.top.size }
+    {
+        let padding = self.style.padding;
+        let free = self
+            .height
+            .saturating_sub(self.content.lines)
+            .saturating_sub(padding.top.size)
+            .saturating_sub(padding.bottom.size);
+        above_text(self.style.vertical, free)
+    }
+
+    /// The lines of the top fill above the text. In range: what alignment adds is at most the height less
+    /// the padding.
+    fn fill_above(&self) -> usize
+        ensures { result ≡ fill_above self.now.style self.now.height self.now.content.text.now }
+    {
+        self.style.padding.top.size + self.lines_above()
+    }
+
+    /// A line of the block. A line of the text is looked for from a cursor on.
+    pub(crate) fn put_line<S: TextSink>(
+        &self,
+        sink: &mut S,
+        cursor: &mut Cursor<'a>,
+        index: usize,
+    ) -> Result<(), TableError>
+        requires index { index < self.now.height }
+        requires stands { IsCursor self.now.content.text.now cursor.old }
+        ensures printed { Writes (S.sent sink.old) result (S.sent sink.new)
+            (slice_index_or (block self.now.style self.now.width self.now.height self.now.content.text.now) index []) }
+        ensures stands { IsCursor self.now.content.text.now cursor.new }
+    {
+        let above = self.fill_above();
+        if index < above {
+            return put_fill(sink, self.style.padding.top.fill, self.width);
+        }
+        match self.content.line(index - above, cursor) {
+            Some((line, columns)) => self.put_text_line(sink, line, columns),
+            None => put_fill(sink, self.style.padding.bottom.fill, self.width),
+        }
+    }
+}

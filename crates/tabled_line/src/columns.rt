@@ -1,0 +1,97 @@
+//! The columns of a table, and horizontal lines over them.
+ghost use Rattle.std.specs.Prelude.{◌≡◌, ◌<◌, ◌≤◌, ℕ, false};
+ghost use Rattle.std.specs.List.{flat_map, range_with_len};
+ghost use Rattle.tabled_config.specs.Frame.{has_bar};
+ghost use Rattle.tabled_line.specs.Row.{ColumnSheet, rule_line, rule_piece};
+ghost use Rattle.tabled_line.specs.Sent.{Sent, Writes};
+
+use crate::edges::{put_left, put_piece, put_right};
+use crate::pieces::put_fill;
+use crate::text_sink::TextSink;
+use tabled_base::TableError;
+use tabled_config::{Frame, HorizontalLine};
+
+/// The columns of a table: how many there are, how wide each is, and what stands around and between them.
+pub trait Columns {
+    // What contracts see.
+    ghost sheet: { Self → ColumnSheet };
+
+    /// How many columns there are.
+    fn count_columns(&self) -> usize
+        ensures { result ≡ (sheet self.now).count };
+
+    /// How many text columns a column takes, padding included.
+    fn width(&self, column: usize) -> usize
+        requires { column < (sheet self.now).count }
+        ensures { result ≡ (sheet self.now).width column };
+
+    /// What stands around and between the columns.
+    fn frame(&self) -> &Frame
+        ensures { result.now ≡ (sheet self.now).frame };
+
+    /// A column from which on all are as wide as it, or else the number of columns. So many columns are counted at once.
+    fn alike_from(&self) -> usize
+        ensures { (column : ℕ) → result ≤ column → column < (sheet self.now).count
+            → (sheet self.now).width column ≡ (sheet self.now).width result }
+    {
+        self.count_columns()
+    }
+}
+
+/// How many first columns are drawn: each one behind them has no width, and no vertical line stands before it.
+pub fn count_drawn<C: Columns>(columns: &C) -> usize
+    ensures within { result ≤ (C.sheet columns.now).count }
+    ensures rest { (column : ℕ) → result ≤ column → column < (C.sheet columns.now).count
+        → ((C.sheet columns.now).width column ≡ 0) × (has_bar (C.sheet columns.now).frame column ≡ false) }
+{
+    let count = columns.count_columns();
+    let from = columns.alike_from();
+    if from < count && !columns.frame().inner.there && columns.width(from) == 0 {
+        from
+    } else {
+        count
+    }
+}
+
+fn put_rule_piece<C: Columns, S: TextSink>(
+    sink: &mut S,
+    columns: &C,
+    line: &HorizontalLine,
+    column: usize,
+) -> Result<(), TableError>
+    requires { column < (C.sheet columns.now).count }
+    ensures { Writes (S.sent sink.old) result (S.sent sink.new) (rule_piece (C.sheet columns.now) line.now column) }
+{
+    let there = columns.frame().has_bar(column);
+    put_piece(sink, there, line.intersection.unwrap_or(' '))?;
+    put_fill(sink, line.main.unwrap_or(' '), columns.width(column))
+}
+
+/// The pieces of a horizontal line between the outer vertical lines: over each column, with what stands where a vertical line meets it.
+pub fn put_rule_pieces<C: Columns, S: TextSink>(
+    sink: &mut S,
+    columns: &C,
+    line: &HorizontalLine,
+) -> Result<(), TableError>
+    ensures { Writes (S.sent sink.old) result (S.sent sink.new)
+        (flat_map (rule_piece (C.sheet columns.now) line.now) (range_with_len 0 (C.sheet columns.now).count)) }
+{
+    'pieces: for column in 0..count_drawn(columns) {
+        put_rule_piece(sink, columns, line, column)?;
+    }
+    Ok(())
+}
+
+/// A horizontal line.
+pub fn put_rule_line<C: Columns, S: TextSink>(
+    sink: &mut S,
+    columns: &C,
+    line: &HorizontalLine,
+) -> Result<(), TableError>
+    ensures { Writes (S.sent sink.old) result (S.sent sink.new) (rule_line (C.sheet columns.now) line.now) }
+{
+    let frame = columns.frame();
+    put_left(sink, frame, line.left.unwrap_or(' '))?;
+    put_rule_pieces(sink, columns, line)?;
+    put_right(sink, frame, line.right.unwrap_or(' '))
+}

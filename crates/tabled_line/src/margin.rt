@@ -1,0 +1,42 @@
+//! The lines of a margin above or below a table.
+ghost use Rattle.std.specs.Prelude.{◌≡◌, [], ◌∷◌, replicate};
+ghost use Rattle.tabled_config.specs.declared.sides.Indent.{Indent};
+ghost use Rattle.tabled_line.specs.Fill.{fill};
+ghost use Rattle.tabled_line.specs.Leading.{WritesLines};
+ghost use Rattle.tabled_line.specs.Sent.{Sent};
+
+use crate::line_feed::put_break;
+use crate::pieces::put_fill;
+use crate::text_sink::TextSink;
+use tabled_base::TableError;
+use tabled_config::Indent;
+
+/// A line of one character.
+fn put_fill_line<S: TextSink>(
+    sink: &mut S,
+    begun: &mut bool,
+    c: char,
+    width: usize,
+) -> Result<(), TableError>
+    ensures { WritesLines (S.sent sink.old) begun.old result (S.sent sink.new) begun.new
+        (fill c width ∷ []) }
+{
+    put_break(sink, begun)?;
+    put_fill(sink, c, width)
+}
+
+/// The lines of a margin, each as wide as the whole.
+pub fn put_margin<S: TextSink>(
+    sink: &mut S,
+    begun: &mut bool,
+    side: Indent,
+    width: usize,
+) -> Result<(), TableError>
+    ensures { WritesLines (S.sent sink.old) begun.old result (S.sent sink.new) begun.new
+        (replicate side.size (fill side.fill width)) }
+{
+    'lines: for _i in 0..side.size {
+        put_fill_line(sink, begun, side.fill, width)?;
+    }
+    Ok(())
+}

@@ -1,0 +1,131 @@
+//! Runs of one character.
+ghost use Rattle.std.specs.Prelude.{◌≡◌, ◌≤◌, ◌++◌, encode_utf8};
+ghost use Rattle.tabled_line.specs.Fill.{fill, indent};
+ghost use Rattle.tabled_line.specs.Sent.{Sent, Writes};
+
+use crate::text_sink::TextSink;
+use tabled_base::TableError;
+use tabled_config::Indent;
+
+const SPACES: &str = "                                                                ";
+
+const DASHES: &str = "----------------------------------------------------------------";
+
+/// One character.
+pub fn put_char<S: TextSink>(sink: &mut S, c: char) -> Result<(), TableError>
+    ensures { Writes (S.sent sink.old) result (S.sent sink.new) (encode_utf8 c) }
+{
+    let mut room = [0u8; 4];
+    let text = c.encode_utf8(&mut room);
+    sink.write_text(text)
+}
+
+/// Up to 64 spaces.
+fn spaces(count: usize) -> &'static str
+    requires { count ≤ 64 }
+    ensures { result.now ≡ fill 32 count }
+{
+    &SPACES[..count]
+}
+
+/// Up to 64 dashes.
+fn dashes(count: usize) -> &'static str
+    requires { count ≤ 64 }
+    ensures { result.now ≡ fill 45 count }
+{
+    &DASHES[..count]
+}
+
+/// A number of spaces, 64 at a time. Mostly there are few, and a call would take longer than they do.
+#[inline(always)]
+pub(crate) fn put_spaces<S: TextSink>(sink: &mut S, count: usize) -> Result<(), TableError>
+    ensures { Writes (S.sent sink.old) result (S.sent sink.new) (fill 32 count) }
+{
+    let mut left = count;
+    while left > 0 {
+        let part = left.min(64);
+        sink.write_text(spaces(part))?;
+        left -= part;
+    }
+    Ok(())
+}
+
+/// A padding, and spaces behind it; where it is of spaces too, they go out together.
+pub(crate) fn put_before<S: TextSink>(
+    sink: &mut S,
+    side: Indent,
+    spaces: usize,
+) -> Result<(), TableError>
+    ensures { Writes (S.sent sink.old) result (S.sent sink.new) (indent side ++ fill 32 spaces) }
+{
+    if side.fill == ' '
+        && let Some(all) = side.size.checked_add(spaces)
+    {
+        return put_spaces(sink, all);
+    }
+    put_indent(sink, side)?;
+    put_spaces(sink, spaces)
+}
+
+/// Spaces, and a padding behind them; where that is of spaces too, they go out together.
+pub(crate) fn put_behind<S: TextSink>(
+    sink: &mut S,
+    spaces: usize,
+    side: Indent,
+) -> Result<(), TableError>
+    ensures { Writes (S.sent sink.old) result (S.sent sink.new) (fill 32 spaces ++ indent side) }
+{
+    if side.fill == ' '
+        && let Some(all) = spaces.checked_add(side.size)
+    {
+        return put_spaces(sink, all);
+    }
+    put_spaces(sink, spaces)?;
+    put_indent(sink, side)
+}
+
+/// A number of dashes, 64 at a time.
+fn put_dashes<S: TextSink>(sink: &mut S, count: usize) -> Result<(), TableError>
+    ensures { Writes (S.sent sink.old) result (S.sent sink.new) (fill 45 count) }
+{
+    let mut left = count;
+    while left > 0 {
+        let part = left.min(64);
+        sink.write_text(dashes(part))?;
+        left -= part;
+    }
+    Ok(())
+}
+
+/// Any character a number of times.
+fn put_copies<S: TextSink>(sink: &mut S, c: char, count: usize) -> Result<(), TableError>
+    ensures { Writes (S.sent sink.old) result (S.sent sink.new) (fill c count) }
+{
+    let mut room = [0u8; 4];
+    let text = c.encode_utf8(&mut room);
+    'copies: for _i in 0..count {
+        sink.write_text(text)?;
+    }
+    Ok(())
+}
+
+/// A character a number of times; spaces and dashes go out in blocks.
+pub fn put_fill<S: TextSink>(sink: &mut S, c: char, count: usize) -> Result<(), TableError>
+    ensures { Writes (S.sent sink.old) result (S.sent sink.new) (fill c count) }
+{
+    match c {
+        ' ' => put_spaces(sink, count),
+        '-' => put_dashes(sink, count),
+        _ => put_copies(sink, c, count),
+    }
+}
+
+/// An indent: its character, as many times as its size.
+pub fn put_indent<S: TextSink>(sink: &mut S, side: Indent) -> Result<(), TableError>
+    ensures { Writes (S.sent sink.old) result (S.sent sink.new) (indent side) }
+{
+    if side.size == 0 {
+        return Ok(());
+    }
+    put_fill(sink, side.fill, side.size)
+}

@@ -1,0 +1,241 @@
+//! A row of cells, a line at a time.
+ghost use Rattle.std.specs.Prelude.{◌≡◌, ◌<◌, ◌≤◌, ℕ, IfSome, []};
+ghost use Rattle.std.specs.List.{flat_map, range_with_len, slice_index_or};
+ghost use Rattle.tabled_config.specs.RowStyles.{style_in};
+ghost use Rattle.tabled_config.specs.ToldSides.{TellsSides};
+ghost use Rattle.tabled_line.specs.Aims.{AreAims, IsSpread};
+ghost use Rattle.tabled_line.specs.Cursors.{AreCursors};
+ghost use Rattle.tabled_line.specs.Row.{RowSheet, cell_block, cell_piece, row_line};
+ghost use Rattle.tabled_line.specs.Sent.{Sent, Writes};
+
+use crate::aim::{CellAim, Spread};
+use crate::block::CellBlock;
+use crate::content::Content;
+use crate::cursors::{Cursor, cursor_at, keep_cursor};
+use crate::edges::{put_left, put_piece, put_right};
+use crate::gap::{Gap, GapText};
+use crate::row_aims::{KeptAims, SetAims, ToldAims};
+use crate::spaced::put_spaced_cells;
+use crate::text_sink::TextSink;
+use tabled_base::TableError;
+use tabled_config::{CellStyle, Frame, RowStyles, ToldSides};
+
+/// A row of cells as it is printed: the blocks of the cells, and what stands around and between them.
+pub trait Row<'a> {
+    // What contracts see.
+    ghost sheet: { Self → RowSheet };
+
+    /// How many cells there are.
+    fn count_columns(&self) -> usize
+        ensures { result ≡ (sheet self.now).columns.count };
+
+    /// How many lines the row takes, padding included.
+    fn height(&self) -> usize
+        ensures { result ≡ (sheet self.now).height };
+
+    /// What stands around and between the cells.
+    fn frame(&self) -> &Frame
+        ensures { result.now ≡ (sheet self.now).columns.frame };
+
+    /// What stands between the texts of two columns in a row of one line.
+    fn gap(&self) -> &Gap
+        ensures { result.now.bar ≡ (sheet self.now).columns.frame.inner };
+
+    /// How the texts of all cells stand between spaces, if it is known that they stand alike, and so.
+    fn spread(&self) -> Option<Spread>
+        ensures { IfSome result (λ spread. (column : ℕ) → column < (sheet self.now).columns.count
+            → IsSpread ((sheet self.now).style column) spread) };
+
+    /// The padding and the alignment of the text in each column, if they are told by its place.
+    fn sides(&self) -> Option<ToldSides<'_>>
+        ensures { IfSome result (λ sides. TellsSides sides (sheet self.now).columns.count (sheet self.now).style) };
+
+    /// How the texts of the columns stand, from left to right.
+    fn styles(&self) -> RowStyles<'_>
+        ensures { (column : ℕ) → column < (sheet self.now).columns.count
+            → style_in result column ≡ (sheet self.now).style column };
+
+    /// Where the cells of the columns begin and their texts stand if the row takes one line, if that is known for all of them.
+    fn aims(&self) -> Option<&[CellAim]>
+        ensures { IfSome result (λ aims. AreAims (sheet self.now).style (sheet self.now).columns aims.now) };
+
+    /// How many text columns a column takes, padding included.
+    fn width(&self, column: usize) -> usize
+        requires { column < (sheet self.now).columns.count }
+        ensures { result ≡ (sheet self.now).columns.width column };
+
+    /// The text of a cell, with its measures.
+    fn content(&self, column: usize) -> Content<'a>
+        requires { column < (sheet self.now).columns.count }
+        ensures { result.text.now ≡ (sheet self.now).text column };
+
+    /// A cell as it is laid out in its style.
+    fn cell(&self, column: usize, style: CellStyle) -> CellBlock<'a>
+        requires inside { column < (sheet self.now).columns.count }
+        requires style { style ≡ (sheet self.now).style column }
+        ensures style { result.style ≡ (sheet self.now).style column }
+        ensures width { result.width ≡ (sheet self.now).columns.width column }
+        ensures height { result.height ≡ (sheet self.now).height }
+        ensures text { result.content.text.now ≡ (sheet self.now).text column };
+
+    /// How many first cells are drawn: nothing stands in a line at each one behind them. So many cells are passed over at once.
+    fn count_drawn(&self) -> usize
+        ensures within { result ≤ (sheet self.now).columns.count }
+        ensures rest { (column index : ℕ) → result ≤ column → column < (sheet self.now).columns.count
+            → cell_piece (sheet self.now) index column ≡ [] };
+}
+
+/// A line of a cell: the column of the cell, how its text stands, and which of its lines it is.
+#[derive(Clone, Copy)]
+pub(crate) struct CellLine {
+    pub column: usize,
+    pub style: CellStyle,
+    pub index: usize,
+}
+
+/// A line of the block of a cell. Where its text has some lines, the cursor at its column moves to the next one.
+fn put_block_line<'a, R: Row<'a>, S: TextSink>(
+    sink: &mut S,
+    row: &R,
+    cursors: &mut [Cursor<'a>],
+    line: &CellLine,
+) -> Result<(), TableError>
+    requires column_in { line.now.column < (R.sheet row.now).columns.count }
+    requires style { line.now.style ≡ (R.sheet row.now).style line.now.column }
+    requires index_in { line.now.index < (R.sheet row.now).height }
+    requires cursors { AreCursors (R.sheet row.now).text cursors.old }
+    ensures printed { Writes (S.sent sink.old) result (S.sent sink.new)
+        (slice_index_or (cell_block (R.sheet row.now) line.now.column) line.now.index []) }
+    ensures cursors { AreCursors (R.sheet row.now).text cursors.new }
+{
+    let cell = row.cell(line.column, line.style);
+    let content = cell.content;
+    if content.lines <= 1 {
+        return cell.put_line(sink, &mut Cursor::start(content.text), line.index);
+    }
+    let mut cursor = cursor_at(cursors, line.column, content.text);
+    cell.put_line(sink, &mut cursor, line.index)?;
+    keep_cursor(cursors, line.column, cursor);
+    Ok(())
+}
+
+/// A line of a cell, with the vertical line before it.
+pub(crate) fn put_cell<'a, R: Row<'a>, S: TextSink>(
+    sink: &mut S,
+    row: &R,
+    cursors: &mut [Cursor<'a>],
+    line: &CellLine,
+) -> Result<(), TableError>
+    requires column_in { line.now.column < (R.sheet row.now).columns.count }
+    requires style { line.now.style ≡ (R.sheet row.now).style line.now.column }
+    requires index_in { line.now.index < (R.sheet row.now).height }
+    requires cursors { AreCursors (R.sheet row.now).text cursors.old }
+    ensures printed { Writes (S.sent sink.old) result (S.sent sink.new)
+        (cell_piece (R.sheet row.now) line.now.index line.now.column) }
+    ensures cursors { AreCursors (R.sheet row.now).text cursors.new }
+{
+    let frame = row.frame();
+    put_piece(sink, frame.has_bar(line.column), frame.inner.main)?;
+    put_block_line(sink, row, cursors, line)
+}
+
+fn put_each_cell<'a, R: Row<'a>, S: TextSink>(
+    sink: &mut S,
+    row: &R,
+    cursors: &mut [Cursor<'a>],
+    index: usize,
+) -> Result<(), TableError>
+    requires index_in { index < (R.sheet row.now).height }
+    requires cursors { AreCursors (R.sheet row.now).text cursors.old }
+    ensures printed { Writes (S.sent sink.old) result (S.sent sink.new)
+        (flat_map (cell_piece (R.sheet row.now) index) (range_with_len 0 (R.sheet row.now).columns.count)) }
+    ensures cursors { AreCursors (R.sheet row.now).text cursors.new }
+{
+    let mut styles = row.styles();
+    'cells: for column in 0..row.count_drawn() {
+        let line = CellLine {
+            column,
+            style: styles.at(column),
+            index,
+        };
+        put_cell(sink, row, cursors, &line)?;
+    }
+    Ok(())
+}
+
+/// The cells of a row of one line, of which each text stands as it was set.
+#[inline(never)]
+fn put_set_cells<'a, R: Row<'a>, S: TextSink>(
+    sink: &mut S,
+    row: &R,
+    gap: GapText<'_>,
+) -> Result<(), TableError>
+    requires height { (R.sheet row.now).height ≡ 1 }
+    requires bar { gap.bar ≡ (R.sheet row.now).columns.frame.inner }
+    ensures { Writes (S.sent sink.old) result (S.sent sink.new)
+        (flat_map (cell_piece (R.sheet row.now) 0) (range_with_len 0 (R.sheet row.now).columns.count)) }
+{
+    put_spaced_cells(sink, row, SetAims::new(row.styles()), gap)
+}
+
+/// The cells of a row of one line, as it is known where its texts stand.
+fn put_spaced<'a, R: Row<'a>, S: TextSink>(
+    sink: &mut S,
+    row: &R,
+    gap: GapText<'_>,
+) -> Result<(), TableError>
+    requires height { (R.sheet row.now).height ≡ 1 }
+    requires bar { gap.bar ≡ (R.sheet row.now).columns.frame.inner }
+    ensures { Writes (S.sent sink.old) result (S.sent sink.new)
+        (flat_map (cell_piece (R.sheet row.now) 0) (range_with_len 0 (R.sheet row.now).columns.count)) }
+{
+    if let Some(kept) = row.aims() {
+        return put_spaced_cells(sink, row, KeptAims(kept), gap);
+    }
+    if let Some(spread) = row.spread() {
+        return put_spaced_cells(sink, row, spread, gap);
+    }
+    match row.sides() {
+        Some(sides) => put_spaced_cells(sink, row, ToldAims::new(sides), gap),
+        None => put_set_cells(sink, row, gap),
+    }
+}
+
+/// The cells of a line. Those of a row of one line mostly need no blocks.
+fn put_cells<'a, R: Row<'a>, S: TextSink>(
+    sink: &mut S,
+    row: &R,
+    cursors: &mut [Cursor<'a>],
+    index: usize,
+) -> Result<(), TableError>
+    requires index_in { index < (R.sheet row.now).height }
+    requires cursors { AreCursors (R.sheet row.now).text cursors.old }
+    ensures printed { Writes (S.sent sink.old) result (S.sent sink.new)
+        (flat_map (cell_piece (R.sheet row.now) index) (range_with_len 0 (R.sheet row.now).columns.count)) }
+    ensures cursors { AreCursors (R.sheet row.now).text cursors.new }
+{
+    if row.height() == 1
+        && let Some(gap) = row.gap().text()
+    {
+        return put_spaced(sink, row, gap);
+    }
+    put_each_cell(sink, row, cursors, index)
+}
+
+/// A line of a row, in whose texts the cursors stand.
+pub fn put_row_line<'a, R: Row<'a>, S: TextSink>(
+    sink: &mut S,
+    row: &R,
+    cursors: &mut [Cursor<'a>],
+    index: usize,
+) -> Result<(), TableError>
+    requires index_in { index < (R.sheet row.now).height }
+    requires cursors { AreCursors (R.sheet row.now).text cursors.old }
+    ensures printed { Writes (S.sent sink.old) result (S.sent sink.new) (row_line (R.sheet row.now) index) }
+    ensures cursors { AreCursors (R.sheet row.now).text cursors.new }
+{
+    let frame = row.frame();
+    put_left(sink, frame, frame.left.main)?;
+    put_cells(sink, row, cursors, index)?;
+    put_right(sink, frame, frame.right.main)
+}

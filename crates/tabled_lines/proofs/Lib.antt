@@ -1,3 +1,0 @@
-pub mod Laying
-pub mod LedLines
-pub mod Placing

@@ -1,4 +1,0 @@
-pub mod Blank
-pub mod Kept
-pub mod Laid
-pub mod Spots

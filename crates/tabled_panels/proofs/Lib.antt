@@ -1,3 +1,0 @@
-pub mod Drawers
-pub mod PanelLines
-pub mod PoolBlocks

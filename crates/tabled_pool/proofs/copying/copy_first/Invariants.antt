@@ -1,0 +1,11 @@
+use Rattle.std.proofs.Common.{◌≡◌, ◌+◌, ◌≤◌}
+use Rattle.tabled_pool.specs.Tree.{tree_of}
+use Rattle.tabled_pool.specs.Nodes.{nodes}
+use Rattle.tabled_pool.specs.Levels.{GoesDown}
+use Rattle.tabled_pool.proofs.copying.copy_first.Given as goal
+
+abbrev pub invariant-values : goal.invariant-values
+invariant-values l = GoesDown l.fn.levels.items l.fn.value l.levels.items l.now
+
+abbrev pub decreases-values : goal.decreases-values
+decreases-values l = nodes l.now

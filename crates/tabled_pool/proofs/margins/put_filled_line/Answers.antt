@@ -1,0 +1,14 @@
+use Rattle.std.proofs.Common.{append_assoc, refl}
+use Rattle.tabled_line.proofs.Sending.{further, finished, stopped, stopped-first}
+use Rattle.tabled_pool.proofs.margins.put_filled_line.Goals as goal
+
+pub returns-in_err-put_left : goal.returns-in_err-put_left
+returns-in_err-put_left g c = stopped-first _ _ _ c.in_err-put_left.ensures c.from_residual.ensures.1 refl
+
+pub returns-in_err-put_colored_fill : goal.returns-in_err-put_colored_fill
+returns-in_err-put_colored_fill g c =
+    stopped _ _ _ c.in_ok-put_left.ensures c.in_err-put_colored_fill.ensures c.from_residual-in_err-put_colored_fill.ensures.1 refl
+
+pub returns : goal.returns
+returns g c =
+    finished _ _ _ _ (further c.in_ok-put_left.ensures c.in_ok-put_colored_fill.ensures refl) c.put_right.ensures (simp append_assoc)

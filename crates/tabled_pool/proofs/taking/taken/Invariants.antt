@@ -1,0 +1,7 @@
+use Rattle.std.proofs.Common.{◌≡◌, ◌++◌, drop}
+use Rattle.tabled_pool.specs.Handed.{taken}
+use Rattle.tabled_pool.proofs.taking.taken.Given as goal
+
+abbrev pub invariant-loop-index : goal.invariant-loop-index
+invariant-loop-index l =
+    let t = taken l.left (drop l.index l.sizes) in record t { part = l.part.items ++ t.part } ≡ taken l.size l.sizes

@@ -1,0 +1,62 @@
+-- The marks of colours: they stand around a run, and take no columns.
+use Rattle.std.specs.Prelude.{ℕ, Bool, ◌&&◌, List, [], ◌++◌, Option, None, option_map}
+use Rattle.std.specs.Str.{bytes_eq}
+use Rattle.tabled_config.specs.declared.borders.Borders.{Borders}
+use Rattle.tabled_config.specs.declared.sides.Sides.{Sides}
+use Rattle.tabled_config.specs.declared.ansi.ANSIStr.{ANSIStr}
+
+-- what stands before and behind a run
+pub record Mark : Type 0 where
+  pub prefix : List ℕ
+  pub suffix : List ℕ
+
+abbrev pub mark_of : ANSIStr → Mark
+mark_of color = record { prefix = color.prefix.now; suffix = color.suffix.now }
+
+abbrev pub no_mark : Mark
+no_mark = record { prefix = []; suffix = [] }
+
+abbrev pub marks_of : Sides ANSIStr → Sides Mark
+marks_of s = record { left = mark_of s.left; right = mark_of s.right; top = mark_of s.top; bottom = mark_of s.bottom }
+
+-- a run between its marks, be it empty or not
+abbrev pub coloured : Mark → List ℕ → List ℕ
+coloured mark run = mark.prefix ++ (run ++ mark.suffix)
+
+abbrev pub is_same : Mark → Mark → Bool
+is_same a b = bytes_eq a.prefix b.prefix && bytes_eq a.suffix b.suffix
+
+-- the marks of the lines around a text, whichever characters stand there
+pub record LineMarks : Type 0 where
+  pub top_left : Option Mark
+  pub top : Option Mark
+  pub top_right : Option Mark
+  pub bottom_left : Option Mark
+  pub bottom : Option Mark
+  pub bottom_right : Option Mark
+  pub left : Option Mark
+  pub right : Option Mark
+
+abbrev pub line_marks_of : Borders ANSIStr → LineMarks
+line_marks_of b = record {
+  top_left = option_map mark_of b.top_left;
+  top = option_map mark_of b.top;
+  top_right = option_map mark_of b.top_right;
+  bottom_left = option_map mark_of b.bottom_left;
+  bottom = option_map mark_of b.bottom;
+  bottom_right = option_map mark_of b.bottom_right;
+  left = option_map mark_of b.left;
+  right = option_map mark_of b.right;
+}
+
+abbrev pub no_line_marks : LineMarks
+no_line_marks = record {
+  top_left = None;
+  top = None;
+  top_right = None;
+  bottom_left = None;
+  bottom = None;
+  bottom_right = None;
+  left = None;
+  right = None;
+}

@@ -1,0 +1,119 @@
+//! The lines of the block of a text.
+ghost use Rattle.std.specs.Prelude.{◌≡◌, ◌<◌, [], slice_get};
+ghost use Rattle.std.specs.List.{slice_index_or};
+ghost use Rattle.std.specs.Option.{option_map};
+ghost use Rattle.tabled_text.specs.Measure.{lines_of};
+ghost use Rattle.tabled_line.specs.Block.{text_room};
+ghost use Rattle.tabled_line.specs.Sent.{Sent, Writes};
+ghost use Rattle.tabled_pool.specs.Block.{line_below, pool_block, text_line, without_sides};
+ghost use Rattle.tabled_pool.specs.Colours.{marks_of};
+
+use crate::colors::put_colored_fill;
+use tabled_base::TableError;
+use tabled_config::{ANSIStr, CellStyle, Indent, Sides};
+use tabled_line::{CellBlock, TextSink, put_fill};
+use tabled_text::line_width;
+
+/// The line of a text at an index.
+fn nth_line(text: &str, index: usize) -> Option<&str>
+    ensures { option_map (λ line. line.now) result ≡ slice_get (lines_of text.now) index }
+{
+    text.split('\n').nth(index)
+}
+
+/// A line below the text: of the bottom padding first, and of spaces behind that.
+fn put_line_below<S: TextSink>(
+    sink: &mut S,
+    style: &CellStyle,
+    colors: &Sides<ANSIStr<'static>>,
+    width: usize,
+    index: usize,
+) -> Result<(), TableError>
+    ensures { Writes (S.sent sink.old) result (S.sent sink.new) (line_below style.now (marks_of colors.now) width index) }
+{
+    if index < style.padding.bottom.size {
+        put_colored_fill(sink, colors.bottom, style.padding.bottom.fill, width)
+    } else {
+        put_fill(sink, ' ', width)
+    }
+}
+
+/// A style without padding at the sides.
+fn without_sides(style: CellStyle) -> CellStyle
+    ensures { result ≡ without_sides style }
+{
+    CellStyle {
+        padding: Sides {
+            left: Indent::zero(),
+            right: Indent::zero(),
+            top: style.padding.top,
+            bottom: style.padding.bottom,
+        },
+        ..style
+    }
+}
+
+/// The columns that the side padding leaves of a width.
+fn text_room(style: &CellStyle, width: usize) -> usize
+    ensures { result ≡ text_room style.now width }
+{
+    width
+        .saturating_sub(style.padding.left.size)
+        .saturating_sub(style.padding.right.size)
+}
+
+/// A line of the text between its side paddings.
+fn put_text_line<S: TextSink>(
+    sink: &mut S,
+    cell: &CellBlock<'_>,
+    colors: &Sides<ANSIStr<'static>>,
+    line: &str,
+) -> Result<(), TableError>
+    ensures { Writes (S.sent sink.old) result (S.sent sink.new)
+        (text_line cell.now.style (marks_of colors.now) cell.now.width cell.now.content.text.now line.now) }
+{
+    let left = cell.style.padding.left;
+    let right = cell.style.padding.right;
+    let inner = CellBlock {
+        style: without_sides(cell.style),
+        width: text_room(&cell.style, cell.width),
+        height: cell.height,
+        content: cell.content,
+    };
+    put_colored_fill(sink, colors.left, left.fill, left.size)?;
+    inner.put_text_line(sink, line, line_width(line))?;
+    put_colored_fill(sink, colors.right, right.fill, right.size)
+}
+
+/// A line of the block of a text.
+pub fn put_block_line<S: TextSink>(
+    sink: &mut S,
+    cell: &CellBlock<'_>,
+    colors: &Sides<ANSIStr<'static>>,
+    index: usize,
+) -> Result<(), TableError>
+    requires { index < cell.now.height }
+    ensures { Writes (S.sent sink.old) result (S.sent sink.new)
+        (slice_index_or (pool_block cell.now.style (marks_of colors.now) cell.now.width cell.now.height cell.now.content.text.now) index []) }
+{
+    let above = cell.lines_above();
+    if index < above {
+        return put_fill(sink, ' ', cell.width);
+    }
+    let top = cell.style.padding.top;
+    let padded = index - above;
+    if padded < top.size {
+        return put_colored_fill(sink, colors.top, top.fill, cell.width);
+    }
+    let row = padded - top.size;
+    match nth_line(cell.content.text, row) {
+        Some(line) => put_text_line(sink, cell, colors, line),
+        None => put_line_below(
+            sink,
+            &cell.style,
+            colors,
+            cell.width,
+            row - cell.content.lines,
+        ),
+    }
+}

@@ -1,0 +1,143 @@
+//! Copies of trees.
+ghost use Rattle.std.specs.Prelude.{◌≡◌, ◌<◌, ◌≤◌, ◌+◌, [], IfErr, IfOk, MatchOption, map};
+ghost use Rattle.tabled_base.specs.declared.error.TableError.TheVariants.{Memory};
+ghost use Rattle.tabled_pool.specs.Tree.{tree_of};
+ghost use Rattle.tabled_pool.specs.Nodes.{nodes, nodes_in};
+ghost use Rattle.tabled_pool.specs.Levels.{IsBegun, IsCopied, IsUp, left_in, list, within};
+
+use crate::tree::TableValue;
+use std::alloc::Global;
+use tabled_base::TableError;
+
+/// A list that is being copied: the copies of its first values, and the values behind the one that
+/// is copied now.
+#[derive(Drop)]
+pub(crate) struct Level<'a> {
+    is_row: bool,
+    copies: Vec<TableValue>,
+    left: &'a [TableValue],
+}
+
+/// What comes after a copy: another value to copy, or nothing, and the copy is whole.
+pub(crate) enum Step<'a> {
+    Next(&'a TableValue),
+    Done(TableValue),
+}
+
+/// A list of the copies of all of its values.
+fn list_of(is_row: bool, children: Vec<TableValue>) -> TableValue
+    ensures { tree_of result ≡ list is_row (map tree_of children.items) }
+{
+    if is_row {
+        TableValue::Row(children)
+    } else {
+        TableValue::Column(children)
+    }
+}
+
+/// Begins to copy a list, and returns its first value if there is one.
+#[tactic(auto, using(crate::proofs::Levels::within_push, crate::proofs::Levels::left_in_push))]
+fn begin<'a>(
+    alloc: Global,
+    is_row: bool,
+    children: &'a [TableValue],
+    levels: &mut Vec<Level<'a>>,
+) -> Result<Option<&'a TableValue>, TableError>
+    ensures ok { IfOk result (λ first. MatchOption first ((children.now ≡ []) × (levels.new.items ≡ levels.old.items))
+        (λ v. IsBegun levels.old.items (list is_row (map tree_of children.now)) (nodes_in children.now) levels.new.items v.now)) }
+    ensures only { IfErr result (λ e. e ≡ Memory) }
+{
+    let Some((first, left)) = children.split_first() else {
+        return Ok(None);
+    };
+    let copies = Vec::with_capacity(alloc, children.len())?;
+    levels.push(Level {
+        is_row,
+        copies,
+        left,
+    })?;
+    Ok(Some(first))
+}
+
+/// Goes down to the first text or empty list of a value, and copies that.
+fn copy_first<'a>(
+    value: &'a TableValue,
+    levels: &mut Vec<Level<'a>>,
+) -> Result<TableValue, TableError>
+    ensures copy { IfOk result (λ copy. within levels.new.items (tree_of copy) ≡ within levels.old.items (tree_of value.now)) }
+    ensures left { IfOk result (λ _. left_in levels.new.items < nodes value.now + left_in levels.old.items) }
+    ensures only { IfErr result (λ e. e ≡ Memory) }
+{
+    let mut now = value;
+    'values: loop {
+        match now {
+            TableValue::Cell(text) => return Ok(TableValue::Cell(text.clone()?)),
+            TableValue::Row(children) => {
+                let alloc = *children.allocator();
+                match begin(alloc, true, children.as_slice(), levels)? {
+                    Some(first) => now = first,
+                    None => return Ok(TableValue::Row(Vec::new(alloc))),
+                }
+            }
+            TableValue::Column(children) => {
+                let alloc = *children.allocator();
+                match begin(alloc, false, children.as_slice(), levels)? {
+                    Some(first) => now = first,
+                    None => return Ok(TableValue::Column(Vec::new(alloc))),
+                }
+            }
+        }
+    }
+}
+
+impl<'a> Level<'a> {
+    /// Adds a copy, and returns the next value if there is one.
+    fn add(&mut self, copy: TableValue) -> Result<Option<&'a TableValue>, TableError>
+        ensures ok { IfOk result (λ next. IsCopied self.old (tree_of copy) self.new next) }
+        ensures only { IfErr result (λ e. e ≡ Memory) }
+    {
+        self.copies.push(copy)?;
+        let Some((next, left)) = self.left.split_first() else {
+            return Ok(None);
+        };
+        self.left = left;
+        Ok(Some(next))
+    }
+}
+
+/// Puts a copy into its list. A list without further values is put into the one above it.
+#[tactic(auto, using(crate::proofs::Levels::within_push, crate::proofs::Levels::left_in_push))]
+fn put_copy<'a>(copy: TableValue, levels: &mut Vec<Level<'a>>) -> Result<Step<'a>, TableError>
+    ensures ok { IfOk result (λ step. IsUp levels.old.items (tree_of copy) levels.new.items step) }
+    ensures only { IfErr result (λ e. e ≡ Memory) }
+{
+    let mut copy = copy;
+    'levels: loop {
+        let Some(mut level) = levels.pop() else {
+            return Ok(Step::Done(copy));
+        };
+        if let Some(next) = level.add(copy)? {
+            levels.push(level)?;
+            return Ok(Step::Next(next));
+        }
+        copy = list_of(level.is_row, level.copies);
+    }
+}
+
+impl TableValue {
+    /// A copy of the tree, made without recursion, so that no tree is too deep. Fails only with
+    /// `Memory`, where an allocation fails.
+    pub fn clone(&self) -> Result<TableValue, TableError>
+        ensures ok { IfOk result (λ copy. tree_of copy ≡ tree_of self.now) }
+        ensures only { IfErr result (λ e. e ≡ Memory) }
+    {
+        let mut levels = Vec::new(self.allocator());
+        let mut copy = copy_first(self, &mut levels)?;
+        'values: loop {
+            match put_copy(copy, &mut levels)? {
+                Step::Next(value) => copy = copy_first(value, &mut levels)?,
+                Step::Done(whole) => return Ok(whole),
+            }
+        }
+    }
+}

@@ -1,0 +1,168 @@
+//! Where a box of a tree with a text of no column stands, and the characters that its lines have there.
+ghost use Rattle.std.specs.Prelude.{◌≡◌, None, if◌then◌else◌};
+ghost use Rattle.tabled_pool.specs.Handed.{first_in_column, first_in_row, is_bottom, is_left, is_right, is_top, later_in_column, later_in_row, own_borders, top_left, whole_flags};
+
+use tabled_config::Borders;
+
+/// Where a box stands in its tree, and which lines meet at its upper left corner.
+#[derive(Clone, Copy)]
+pub(crate) struct Flags {
+    /// Nothing stands to its left.
+    pub first_column: bool,
+    /// Nothing stands to its right.
+    pub last_column: bool,
+    /// Nothing stands above it.
+    pub first_row: bool,
+    /// Nothing stands below it.
+    pub last_row: bool,
+    /// A box stands to its left, and it is the first of each column that it is in from there on.
+    pub leans: bool,
+    /// A box stands above it in a column, at whose left edge it begins.
+    pub side: bool,
+    /// A line between the boxes above, or between those to the left, ends at its upper left corner.
+    pub cross: bool,
+}
+
+impl Flags {
+    /// The flags of the whole.
+    pub fn whole() -> Flags
+        ensures { result ≡ whole_flags }
+    {
+        Flags {
+            first_column: true,
+            last_column: true,
+            first_row: true,
+            last_row: true,
+            leans: false,
+            side: false,
+            cross: false,
+        }
+    }
+
+    /// The flags of the first of some boxes side by side.
+    pub fn first_in_row(self, last: bool) -> Flags
+        ensures { result ≡ first_in_row self last }
+    {
+        Flags {
+            last_column: self.last_column && last,
+            leans: !self.first_column,
+            ..self
+        }
+    }
+
+    /// The flags of the others of some boxes side by side.
+    pub fn later_in_row(self, met: bool) -> Flags
+        ensures { result ≡ later_in_row self met }
+    {
+        Flags {
+            first_column: false,
+            side: false,
+            cross: met,
+            ..self
+        }
+    }
+
+    /// The flags of the first of some boxes below each other.
+    pub fn first_in_column(self, last: bool) -> Flags
+        ensures { result ≡ first_in_column self last }
+    {
+        Flags {
+            last_row: self.last_row && last,
+            ..self
+        }
+    }
+
+    /// The flags of the others of some boxes below each other.
+    pub fn later_in_column(self, met: bool) -> Flags
+        ensures { result ≡ later_in_column self met }
+    {
+        Flags {
+            first_row: false,
+            leans: false,
+            side: true,
+            cross: met,
+            ..self
+        }
+    }
+}
+
+/// The character of the upper left corner.
+fn top_left(borders: &Borders<char>, flags: Flags) -> Option<char>
+    ensures { result ≡ top_left borders.now flags }
+{
+    if flags.cross {
+        borders.intersection
+    } else if flags.side {
+        borders.left_intersection
+    } else if flags.leans {
+        borders.top_intersection
+    } else if flags.first_column && !flags.first_row {
+        borders.left_intersection
+    } else {
+        borders.top_left
+    }
+}
+
+/// One of two characters.
+fn either(first: bool, c: Option<char>, d: Option<char>) -> Option<char>
+    ensures { result ≡ (if first then c else d) }
+{
+    if first { c } else { d }
+}
+
+/// The borders of a text: a line that it doesn't draw has no character.
+pub(crate) fn own_borders(borders: &Borders<char>, flags: Flags) -> Borders<char>
+    ensures { result ≡ own_borders borders.now flags }
+{
+    let top_right = either(
+        flags.first_row,
+        borders.top_right,
+        borders.right_intersection,
+    );
+    let bottom_left = either(
+        flags.first_column,
+        borders.bottom_left,
+        borders.bottom_intersection,
+    );
+    Borders {
+        top_left: top_left(borders, flags),
+        top_right: either(flags.last_column, top_right, None),
+        right: either(flags.last_column, borders.right, None),
+        bottom_left: either(flags.last_row, bottom_left, None),
+        bottom: either(flags.last_row, borders.bottom, None),
+        bottom_right: either(
+            flags.last_row && flags.last_column,
+            borders.bottom_right,
+            None,
+        ),
+        ..*borders
+    }
+}
+
+/// Whether a text has a top line: its character is there, or that of a corner.
+pub(crate) fn is_top(own: &Borders<char>) -> bool
+    ensures { result ≡ is_top own.now }
+{
+    own.top.is_some() || own.top_left.is_some() || own.top_right.is_some()
+}
+
+/// Whether a text has a bottom line.
+pub(crate) fn is_bottom(own: &Borders<char>) -> bool
+    ensures { result ≡ is_bottom own.now }
+{
+    own.bottom.is_some() || own.bottom_left.is_some() || own.bottom_right.is_some()
+}
+
+/// Whether a text has a left line.
+pub(crate) fn is_left(own: &Borders<char>) -> bool
+    ensures { result ≡ is_left own.now }
+{
+    own.left.is_some() || own.top_left.is_some() || own.bottom_left.is_some()
+}
+
+/// Whether a text has a right line.
+pub(crate) fn is_right(own: &Borders<char>) -> bool
+    ensures { result ≡ is_right own.now }
+{
+    own.right.is_some() || own.top_right.is_some() || own.bottom_right.is_some()
+}

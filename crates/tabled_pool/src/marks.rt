@@ -1,0 +1,102 @@
+//! The marks around a character of a line, for its colour.
+ghost use Rattle.std.specs.Prelude.{◌≡◌};
+ghost use Rattle.std.specs.Option.{option_map};
+ghost use Rattle.tabled_pool.specs.Colours.{mark_of};
+ghost use Rattle.tabled_pool.specs.Marks.{alone, begun, ended, nothing_around, used_after};
+ghost use Rattle.tabled_pool.specs.Plans.{around_of};
+
+use crate::colors::is_same;
+use tabled_config::ANSIStr;
+
+/// What is written around a character.
+#[derive(Clone, Copy)]
+pub struct Marks {
+    /// The suffix that ends the colour before.
+    pub close: &'static str,
+    /// The prefix.
+    pub start: &'static str,
+    /// The suffix behind the character.
+    pub behind: &'static str,
+}
+
+impl Marks {
+    /// No marks.
+    pub fn none() -> Marks
+        ensures { around_of result ≡ nothing_around }
+    {
+        Marks {
+            close: "",
+            start: "",
+            behind: "",
+        }
+    }
+}
+
+/// The colours of the top or the bottom line of a text.
+#[derive(Clone, Copy)]
+pub struct LineColors {
+    pub corner: Option<ANSIStr<'static>>,
+    pub main: Option<ANSIStr<'static>>,
+    pub right: Option<ANSIStr<'static>>,
+}
+
+/// The colour that is used behind a part.
+pub fn used_after(
+    used: Option<ANSIStr<'static>>,
+    color: Option<ANSIStr<'static>>,
+) -> Option<ANSIStr<'static>>
+    ensures { option_map mark_of result ≡ used_after (option_map mark_of used.entry) (option_map mark_of color.entry) }
+{
+    match used {
+        Some(used) => Some(used),
+        None => color,
+    }
+}
+
+/// What begins a part of a line.
+pub fn begun(used: Option<ANSIStr<'static>>, color: Option<ANSIStr<'static>>) -> Marks
+    ensures { around_of result ≡ begun (option_map mark_of used.entry) (option_map mark_of color.entry) }
+{
+    let Some(color) = color else {
+        return Marks::none();
+    };
+    let Some(used) = used else {
+        return Marks {
+            close: "",
+            start: color.get_prefix(),
+            behind: "",
+        };
+    };
+    if is_same(used, color) {
+        return Marks::none();
+    }
+    Marks {
+        close: used.get_suffix(),
+        start: color.get_prefix(),
+        behind: "",
+    }
+}
+
+/// What ends a line.
+pub fn ended(used: Option<ANSIStr<'static>>) -> &'static str
+    ensures { result.now ≡ ended (option_map mark_of used.entry) }
+{
+    match used {
+        Some(used) => used.get_suffix(),
+        None => "",
+    }
+}
+
+/// What stands around one character by itself.
+pub fn alone(color: Option<ANSIStr<'static>>) -> Marks
+    ensures { around_of result ≡ alone (option_map mark_of color.entry) }
+{
+    match color {
+        Some(color) => Marks {
+            close: "",
+            start: color.get_prefix(),
+            behind: color.get_suffix(),
+        },
+        None => Marks::none(),
+    }
+}

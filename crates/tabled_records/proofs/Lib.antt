@@ -1,0 +1,16 @@
+pub mod BufferedRuns
+pub mod CutRuns
+pub mod Cutting
+pub mod EmptyRuns
+pub mod FirstRuns
+pub mod Joining
+pub mod LaterRuns
+pub mod LentBegin
+pub mod LimitedRuns
+pub mod PassRuns
+pub mod Rows
+pub mod RowsLeft
+pub mod RowsRead
+pub mod Runs
+pub mod Splitting
+pub mod TextCells

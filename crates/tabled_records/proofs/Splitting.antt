@@ -1,0 +1,30 @@
+-- The rows of a text.
+use Rattle.std.proofs.Common.{◌≡◌, ℕ, ◌≤◌, ◌==◌, false, cond, List, [], ◌∷◌, length, map, get_or, ap, ◌∙◌, arith, All}
+use Rattle.std.proofs.lemmas.List.Elements.{All-cons, All-nil, All-map}
+use Rattle.tabled_text.specs.Measure.{lines_of}
+use Rattle.tabled_base.specs.Cells.{IsRectangular, lengthened}
+use Rattle.tabled_records.specs.TextRows.{cells_of, most_cells, row_lines, text_rows, without_last_feed}
+use Rattle.tabled_base.proofs.Lengthening.{length-lengthened, rectangular-from_length}
+
+-- no line has more cells than the longest
+most-above : (lines : List (List ℕ)) → All (λ line. length (cells_of line) ≤ most_cells lines) lines
+most-above [] = All-nil (λ line. length (cells_of line) ≤ 0)
+most-above (line ∷ lines) =
+    All-cons (λ l. length (cells_of l) ≤ most_cells (line ∷ lines)) line lines (omega arith)
+    (λ k d h. let own = most-above lines k d h in omega arith)
+
+pub rows-rectangular : (lines : List (List ℕ)) → IsRectangular (map (λ line. lengthened (most_cells lines) (cells_of line)) lines)
+rows-rectangular lines =
+    let n = most_cells lines in
+    rectangular-from_length n (map (λ line. lengthened n (cells_of line)) lines)
+    (All-map (λ row. length row ≡ n) (λ line. lengthened n (cells_of line)) lines
+    (λ k d h. let own = most-above lines k d h in omega (arith, length-lengthened n (cells_of (get_or lines k d)))))
+
+-- a text that is not empty has the lines of what stands before its last line feed
+pub text_rows-some : (text whole : List ℕ) → false ≡ (length text == 0) → whole ≡ without_last_feed text → map
+    (λ line. lengthened (most_cells (lines_of whole)) (cells_of line)) (lines_of whole) ≡ text_rows text
+unfolding text_rows
+text_rows-some text whole h e =
+    let same : lines_of whole ≡ row_lines text =
+    ap lines_of e ∙ ap (λ b. cond b [] (lines_of (without_last_feed text))) h in
+    ap (λ lines. map (λ line. lengthened (most_cells lines) (cells_of line)) lines) same

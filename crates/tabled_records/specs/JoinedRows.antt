@@ -1,0 +1,32 @@
+-- Rows of texts. A range is where the texts of a row begin among all texts, and how many they are.
+use Rattle.std.specs.Prelude.{◌≡◌, ℕ, ◌+◌, ◌<◌, ◌≤◌, List, [], drop, length, map, slice_index_or, take}
+use Rattle.std.specs.List.{All}
+use Rattle.tabled_text.specs.Measure.{greatest, text_columns}
+use Rattle.tabled_base.specs.Cells.{lengthened_rows}
+
+-- the texts of a row
+abbrev pub part : List (List ℕ) → ℕ × ℕ → List (List ℕ)
+part texts range = take range.1 (drop range.0 texts)
+
+-- the texts of all rows
+abbrev pub parts : List (List ℕ) → List (ℕ × ℕ) → List (List (List ℕ))
+parts texts ranges = map (part texts) ranges
+
+-- the rows, each lengthened to the longest
+abbrev pub rows_in : List (List ℕ) → List (ℕ × ℕ) → List (List (List ℕ))
+rows_in texts ranges = lengthened_rows (parts texts ranges)
+
+-- how many texts the longest row has
+abbrev pub longest_range : List (ℕ × ℕ) → ℕ
+longest_range ranges = greatest (map (λ range. range.1) ranges)
+
+-- all rows' texts are there
+abbrev pub AreRanges : ℕ → List (ℕ × ℕ) → Type 0
+AreRanges count ranges = All (λ range. range.0 + range.1 ≤ count) ranges
+
+-- a cell's text is told, with its columns and its place among all texts
+pub record IsCell (texts : List (List ℕ)) (cell told : List ℕ) (columns place : ℕ) : Type 0 where
+  pub there : place < length texts
+  pub found : slice_index_or texts place [] ≡ cell
+  pub same : told ≡ cell
+  pub wide : columns ≡ text_columns cell

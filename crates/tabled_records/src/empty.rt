@@ -1,0 +1,113 @@
+//! Records of empty cells.
+ghost use Rattle.std.specs.Prelude.{◌≡◌, ℕ, List, [], map, replicate, ⊤};
+ghost use Rattle.std.specs.Iterator.{YieldsFirst, YieldsFirstBy, item_count};
+ghost use Rattle.tabled_records.specs.Empty.{cells_left, rows_left};
+
+use tabled_base::{ExactRecords, PeekableRecords, Position, Records};
+
+/// So many rows of so many empty cells. They take no memory.
+#[derive(Clone, Copy, Debug, Default, Eq, PartialEq)]
+pub struct EmptyRecords {
+    pub rows: usize,
+    pub columns: usize,
+}
+
+impl EmptyRecords {
+    /// So many rows of so many empty cells.
+    pub fn new(rows: usize, columns: usize) -> EmptyRecords
+        ensures rows { result.rows ≡ rows }
+        ensures columns { result.columns ≡ columns }
+    {
+        EmptyRecords { rows, columns }
+    }
+}
+
+/// The cells of a row that are left, all of them empty.
+#[derive(Clone, Copy, Debug, Drop)]
+pub struct EmptyCells {
+    pub(crate) count: usize,
+}
+
+impl Iterator for EmptyCells {
+    type Item = &'static str;
+
+    ghost next_gives = { YieldsFirstBy (λ cell. cell.now) cells_left };
+
+    ghost remaining = { item_count cells_left };
+
+    fn next(&mut self) -> Option<&'static str> {
+        if self.count == 0 {
+            return None;
+        }
+        self.count -= 1;
+        Some("")
+    }
+}
+
+/// The rows that are left.
+#[derive(Clone, Copy, Debug, Drop)]
+pub struct EmptyRows {
+    pub(crate) count: usize,
+    pub(crate) columns: usize,
+}
+
+impl Iterator for EmptyRows {
+    type Item = EmptyCells;
+
+    ghost next_gives = { YieldsFirst rows_left };
+
+    ghost remaining = { item_count rows_left };
+
+    fn next(&mut self) -> Option<EmptyCells> {
+        if self.count == 0 {
+            return None;
+        }
+        self.count -= 1;
+        Some(EmptyCells {
+            count: self.columns,
+        })
+    }
+}
+
+impl Records for EmptyRecords {
+    type Iter = EmptyRows;
+
+    ghost ends = { λ _. ⊤ };
+
+    ghost gives = { λ records cells. map (map (λ cell. cell.now)) cells
+        ≡ replicate records.rows (replicate records.columns []) };
+
+    fn iter_rows(self) -> EmptyRows {
+        EmptyRows {
+            count: self.rows,
+            columns: self.columns,
+        }
+    }
+}
+
+/// Where there is no row, no columns are counted, whatever number of them is kept in `columns`.
+impl ExactRecords for EmptyRecords {
+    ghost cells = { λ records. replicate records.rows (replicate records.columns []) };
+
+    fn count_rows(&self) -> usize {
+        self.rows
+    }
+
+    fn count_columns(&self) -> usize {
+        if self.rows == 0 { 0 } else { self.columns }
+    }
+}
+
+impl PeekableRecords for EmptyRecords {
+    fn get_text(&self, _at: Position) -> &str {
+        ""
+    }
+
+    fn get_width(&self, _at: Position) -> usize {
+        0
+    }
+
+    fn count_lines(&self, _at: Position) -> usize {
+        1
+    }
+}

@@ -1,0 +1,117 @@
+//! Rows that are read of a source one by one.
+ghost use Rattle.std.specs.Prelude.{◌≡◌, ◌<◌, ◌≤◌, ◌∷◌, ◌++◌, List, [], false, true, map, length, IfErr, IfOk, OnErr, OnOk, MatchOption, Some, None};
+ghost use Rattle.std.specs.Iterator.{IsFinite, IsFiniteIterable, YieldsThen, size};
+ghost use Rattle.tabled_base.specs.declared.error.TableError.TheVariants.{Memory};
+ghost use Rattle.tabled_base.specs.Given.{Given};
+ghost use Rattle.tabled_records.specs.Buffered.{cells_ahead};
+ghost use Rattle.tabled_records.specs.Reading.{MayGive, Reads, ReadsSome, ReadsTo, Walked};
+
+use crate::walk::walk_rest;
+use std::alloc::Global;
+use tabled_base::TableError;
+
+/// Puts the cells that come into a row. Fails only with `Memory`, behind the cell that wanted it.
+fn keep_cells<I: Iterator<Item = C>, C: Drop>(
+    row: &mut Vec<C>,
+    cells: &mut I,
+) -> Result<(), TableError>
+    requires can { I.can_next cells.old }
+    requires finite { IsFinite (I.remaining cells.old) }
+    ensures ok { OnOk result ((items : List C) × YieldsThen I.next_gives cells.old items None cells.new
+        × (row.new.items ≡ row.old.items ++ items)) }
+    ensures err { OnErr result (Walked I.can_next I.next_gives I.remaining cells.old cells.new) }
+    ensures only { IfErr result (λ e. e ≡ Memory) }
+{
+    'cells: while let Some(cell) = cells.next() {
+        row.push(cell)?;
+    }
+    Ok(())
+}
+
+/// The cells of a row. Fails only with `Memory`; the others are walked then, so that a source whose
+/// rows share what they read goes on with its next row.
+fn collect_cells<I: IntoIterator<Item = C>, C: Drop>(
+    alloc: Global,
+    cells: I,
+) -> Result<Vec<C>, TableError>
+    requires { IsFiniteIterable I.into_iter_gives I.IntoIter.can_next I.IntoIter.remaining cells }
+    ensures ok { IfOk result (λ row. Given I.into_iter_gives I.IntoIter.next_gives cells row.items) }
+    ensures err { OnErr result ((items : List C)
+        × Given I.into_iter_gives I.IntoIter.next_gives cells items) }
+    ensures only { IfErr result (λ e. e ≡ Memory) }
+{
+    let mut cells = cells.into_iter();
+    let mut row = Vec::new(alloc);
+    if let Err(error) = keep_cells(&mut row, &mut cells) {
+        walk_rest(&mut cells);
+        return Err(error);
+    }
+    Ok(row)
+}
+
+/// The cells of the next row, if one comes. Fails only with `Memory`, where a row came: its cells
+/// were walked to their end then.
+pub fn next_cells<I: Iterator<Item = W>, W: IntoIterator<Item = C>, C: Drop>(
+    alloc: Global,
+    rows: &mut I,
+) -> Result<Option<Vec<C>>, TableError>
+    requires { MayGive I.can_next I.next_gives I.remaining W.into_iter_gives W.IntoIter.can_next W.IntoIter.remaining rows.old }
+    ensures ok { IfOk result (λ next. MatchOption next (I.next_gives rows.old None rows.new)
+        (λ row. Reads I.next_gives W.into_iter_gives W.IntoIter.next_gives rows.old (row.items ∷ []) rows.new)) }
+    ensures goes { IfOk result (λ next. MatchOption next (Unit {0})
+        (λ row. MayGive I.can_next I.next_gives I.remaining W.into_iter_gives W.IntoIter.can_next W.IntoIter.remaining rows.new
+        × (size (I.remaining rows.new) < size (I.remaining rows.old)))) }
+    ensures err { OnErr result ((row : List C)
+        × Reads I.next_gives W.into_iter_gives W.IntoIter.next_gives rows.old (row ∷ []) rows.new) }
+    ensures only { IfErr result (λ e. e ≡ Memory) }
+{
+    match rows.next() {
+        Some(row) => Ok(Some(collect_cells(alloc, row)?)),
+        None => Ok(None),
+    }
+}
+
+/// Rows that were read, and whether these are all.
+#[derive(Drop)]
+pub struct Taken<C> {
+    /// The cells of each row.
+    pub rows: Vec<Vec<C>>,
+    /// Whether no more rows come.
+    pub whole: bool,
+}
+
+/// The first rows, as many as are wanted, or all where fewer come. Fails only with `Memory`, where
+/// a row came; none past those that are wanted did.
+pub fn take_rows<I: Iterator<Item = W>, W: IntoIterator<Item = C>, C: Drop>(
+    alloc: Global,
+    rows: &mut I,
+    count: usize,
+) -> Result<Taken<C>, TableError>
+    requires { MayGive I.can_next I.next_gives I.remaining W.into_iter_gives W.IntoIter.can_next W.IntoIter.remaining rows.old }
+    ensures ok { IfOk result (λ taken. ReadsTo I.next_gives W.into_iter_gives W.IntoIter.next_gives rows.old
+        (cells_ahead taken.rows.items) taken.whole rows.new) }
+    ensures open { IfOk result (λ taken. taken.whole ≡ false → (length taken.rows.items ≡ count)
+        × MayGive I.can_next I.next_gives I.remaining W.into_iter_gives W.IntoIter.can_next W.IntoIter.remaining rows.new) }
+    ensures within { IfOk result (λ taken. length taken.rows.items ≤ count) }
+    ensures fewer { IfOk result (λ taken. taken.whole ≡ true → length taken.rows.items < count) }
+    ensures only { IfErr result (λ e. e ≡ Memory) }
+    ensures err { OnErr result (ReadsSome I.next_gives W.into_iter_gives W.IntoIter.next_gives
+        rows.old count rows.new) }
+{
+    let mut taken = Vec::new(alloc);
+    'rows: while taken.len() < count {
+        match next_cells(alloc, rows)? {
+            Some(cells) => taken.push(cells)?,
+            None => {
+                return Ok(Taken {
+                    rows: taken,
+                    whole: true,
+                });
+            }
+        }
+    }
+    Ok(Taken {
+        rows: taken,
+        whole: false,
+    })
+}

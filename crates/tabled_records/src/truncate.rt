@@ -1,0 +1,145 @@
+//! Cells that are cut to the width of their column.
+ghost use Rattle.std.specs.Prelude.{◌≡◌, ℕ, List, Bool, map, IfErr, IfOk, OnErr, MatchOption};
+ghost use Rattle.std.specs.Cow.{cow_str_bytes, IsOwnedStr};
+ghost use Rattle.tabled_base.specs.declared.error.TableError.TheVariants.{Memory};
+ghost use Rattle.tabled_text.specs.Cut.{IsCut, NeedsFill};
+ghost use Rattle.tabled_records.specs.RowByRow.{AreChanged, RowOfRow};
+ghost use Rattle.tabled_records.specs.CutRows.{IsShown, WantsFill, cut_cells_steps, with_widths};
+
+use std::alloc::Global;
+use std::borrow::CowStr;
+use tabled_base::{CellText, IntoRecords, TableError};
+use tabled_text::cut_str;
+
+/// A cell, and the columns that its text is cut to, if any.
+///
+/// It is no `CellText`: the cut of a text may need a U+FFFD in place of a wide character, and so
+/// memory, which `CellText::text` can't ask for. Take `text(alloc)` of each cell.
+#[derive(Clone, Copy, Debug, Drop)]
+pub struct CutCell<C> {
+    pub cell: C,
+    pub width: Option<usize>,
+}
+
+impl<C: CellText> CutCell<C> {
+    /// The text of the cell, cut to its columns, or as it is where it isn't cut. It is borrowed, and
+    /// allocates only where it ends with U+FFFD: then it may fail with `Memory`.
+    pub fn text(&self, alloc: Global) -> Result<CowStr<'_, Global>, TableError>
+        ensures text { IfOk result (λ answer. IsShown self.now.width (C.text self.now.cell) (cow_str_bytes answer)) }
+        ensures owned { IfOk result (λ answer. IsOwnedStr answer → WantsFill self.now.width (C.text self.now.cell)) }
+        ensures only { IfErr result (λ e. e ≡ Memory) }
+        ensures err { OnErr result (WantsFill self.now.width (C.text self.now.cell)) }
+    {
+        match self.width {
+            Some(width) => Ok(cut_str(alloc, self.cell.text(), width)?),
+            None => Ok(CowStr::Borrowed(self.cell.text())),
+        }
+    }
+}
+
+/// The rows of records, each cell with the width of its column, to which its text is cut. The cells of
+/// columns past the list of widths are as they are.
+///
+/// No table prints this view, since its cells are no `CellText`: take `text(alloc)` of each cell, and
+/// print a table of these texts.
+#[derive(Clone, Copy, Debug, Drop)]
+pub struct TruncateContent<'a, R> {
+    records: R,
+    widths: &'a [usize],
+}
+
+impl<'a, R> TruncateContent<'a, R> {
+    /// The records, the texts of their cells cut to so many columns each.
+    pub fn new(records: R, widths: &'a [usize]) -> TruncateContent<'a, R>
+        ensures records { result.records ≡ records }
+        ensures widths { result.widths.now ≡ widths.now }
+    {
+        TruncateContent { records, widths }
+    }
+}
+
+/// The cells of a row, with the widths of their columns.
+#[derive(Clone, Copy, Debug, Drop)]
+pub struct CutCells<'a, I> {
+    pub(crate) cells: I,
+    pub(crate) widths: &'a [usize],
+}
+
+impl<'a, I: Iterator> Iterator for CutCells<'a, I> {
+    type Item = CutCell<I::Item>;
+
+    ghost can_next = { λ s. I.can_next s.cells };
+
+    ghost next_gives = { cut_cells_steps I.next_gives };
+
+    ghost remaining = { λ s. I.remaining s.cells };
+
+    fn next(&mut self) -> Option<CutCell<I::Item>> {
+        let cell = self.cells.next()?;
+        match self.widths.split_first() {
+            Some((width, others)) => {
+                self.widths = others;
+                Some(CutCell {
+                    cell,
+                    width: Some(*width),
+                })
+            }
+            None => Some(CutCell { cell, width: None }),
+        }
+    }
+}
+
+/// Rows of cells with the widths of their columns.
+#[derive(Clone, Copy, Debug, Drop)]
+pub struct CutRows<'a, I> {
+    pub(crate) rows: I,
+    pub(crate) widths: &'a [usize],
+}
+
+impl<'a, I: Iterator> Iterator for CutRows<'a, I>
+where
+    I::Item: IntoIterator,
+{
+    type Item = CutCells<'a, <I::Item as IntoIterator>::IntoIter>;
+
+    ghost can_next = { λ s. I.can_next s.rows };
+
+    ghost next_gives = { λ s r t. (t.widths.now ≡ s.widths.now) × RowOfRow I.next_gives
+        (λ row cells. I.Item.into_iter_gives row cells.cells × (cells.widths.now ≡ s.widths.now)) s.rows r t.rows };
+
+    ghost remaining = { λ s. I.remaining s.rows };
+
+    fn next(&mut self) -> Option<CutCells<'a, <I::Item as IntoIterator>::IntoIter>> {
+        match self.rows.next() {
+            Some(row) => Some(CutCells {
+                cells: row.into_iter(),
+                widths: self.widths,
+            }),
+            None => None,
+        }
+    }
+}
+
+impl<'a, R: IntoRecords> IntoRecords for TruncateContent<'a, R> {
+    type Cell = CutCell<R::Cell>;
+
+    type IterColumns = CutCells<'a, <R::IterColumns as IntoIterator>::IntoIter>;
+
+    type IterRows = CutRows<'a, <R::IterRows as IntoIterator>::IntoIter>;
+
+    ghost ends = { λ view. R.ends view.records };
+
+    ghost gives = { λ view. AreChanged (R.gives view.records) (map (with_widths view.widths.now)) };
+
+    ghost begins = { λ view cells whole. AreChanged (λ all. R.begins view.records all whole)
+        (map (with_widths view.widths.now)) cells };
+
+    fn iter_rows(self) -> CutRows<'a, <R::IterRows as IntoIterator>::IntoIter> {
+        CutRows {
+            rows: self.records.iter_rows().into_iter(),
+            widths: self.widths,
+        }
+    }
+
+    ghost whole_rows = { λ view cells begun. record { all = begun.all; given = R.whole_rows view.records begun.all begun.given; changed = begun.changed } };
+}

@@ -1,5 +1,0 @@
-use Rattle.tabled_row.proofs.ApartLines.{row_line_takes}
-use Rattle.tabled_row.proofs.laws.rows_of_any_text.Goals as goal
-
-pub returns : goal.returns
-returns g = row_line_takes

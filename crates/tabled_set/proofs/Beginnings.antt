@@ -1,0 +1,93 @@
+-- What is truncated in its place is truncated, and takes just so many bytes.
+use Rattle.std.proofs.Common.{◌≡◌, ◌-◌, ℕ, zero, suc, Bool, true, false, List, [], ◌∷◌, ◌++◌, MatchBool, length, nat_lt, take, refl, sym, ap, subst, ◌∙◌, ⊎_elim}
+use Rattle.std.proofs.Math.Dec.{eqb-suc-zero}
+use Rattle.std.proofs.lemmas.Bool.{MatchBool-at_true, MatchBool-at_false, cases_Bool}
+use Rattle.std.proofs.lemmas.List.{length-take-le}
+use Rattle.tabled_base.specs.ShortOr.{FitsBehind}
+use Rattle.tabled_text.specs.Measure.{lines_of}
+use Rattle.tabled_text.proofs.CutOnce.{cut-once}
+use Rattle.tabled_set.specs.InPlace.{IsCutAt, IsLeftAt, IsTruncatedInPlace}
+use Rattle.tabled_set.specs.Truncated.{HasEndedLines, IsCutBefore, IsEnded, IsLimited, IsTruncated, IsUsed, suffix_columns}
+use Rattle.tabled_set.specs.declared.suffix.SuffixLimit.{SuffixLimit}
+use Rattle.tabled_set.specs.declared.suffix.SuffixLimit.TheVariants.{Cut, Ignore, Replace}
+use Rattle.tabled_set.proofs.ChangingCells.{match-false}
+
+-- ---- what is left of a text is truncated
+
+ended : (left : ℕ) (used text : List ℕ) (bytes : ℕ) → IsLeftAt left text bytes → IsEnded left used text (take bytes text ++ used)
+ended zero used text bytes none = ap (λ n. take n text ++ used) none
+ended (suc k) used text bytes kept =
+    let at = MatchBool-at_false (bytes ≡ 0) (IsCutAt (suc k) text bytes) (eqb-suc-zero k) kept in
+    let answer = take bytes text ++ used in
+    match-false (answer ≡ used) (IsCutBefore (suc k) used text answer) (eqb-suc-zero k)
+    (record { front = take bytes text; cut = at.cut; answered = refl })
+
+ended_lines : (multiline : Bool) (left : ℕ) (used text answer : List ℕ) → (multiline ≡ true → lines_of text ≡ text ∷ []) → IsEnded left used text answer
+    → MatchBool multiline (HasEndedLines left used text answer) (IsEnded left used text answer)
+ended_lines false left used text answer one h = h
+ended_lines true left used text answer one h =
+    record {
+      lines = answer ∷ [];
+      each = rw (one refl) (h, tt);
+      joined = refl;
+    }
+
+pub truncated-in_place : (room : ℕ) (suffix : List ℕ) (limit : SuffixLimit) (multiline : Bool) (text used : List ℕ) (left bytes : ℕ)
+    → (multiline ≡ true → lines_of text ≡ text ∷ []) → IsUsed room suffix limit used left → IsLeftAt left text bytes
+    → IsTruncated room suffix limit multiline text (take bytes text ++ used)
+truncated-in_place room suffix limit multiline text used left bytes one u kept =
+    record {
+      used = used;
+      left = left;
+      suffix_used = u;
+      answered = ended_lines multiline left used text (take bytes text ++ used) one (ended left used text bytes kept);
+    }
+
+-- ---- in one way
+
+limited-once : (room : ℕ) (suffix : List ℕ) (limit : SuffixLimit) (used used' : List ℕ) (left left' : ℕ)
+    → IsLimited room suffix limit used left → IsLimited room suffix limit used' left' → (used ≡ used') × (left ≡ left')
+limited-once room suffix Cut used used' left left' one other = (cut-once one.0 other.0, one.1 ∙ sym other.1)
+limited-once room suffix Ignore used used' left left' one other = (one.0 ∙ sym other.0, one.1 ∙ sym other.1)
+limited-once room suffix (Replace c) used used' left left' one other = (one.0 ∙ sym other.0, one.1 ∙ sym other.1)
+
+used-once : (room : ℕ) (suffix : List ℕ) (limit : SuffixLimit) (used used' : List ℕ) (left left' : ℕ)
+    → IsUsed room suffix limit used left → IsUsed room suffix limit used' left' → (used ≡ used') × (left ≡ left')
+used-once zero suffix limit used used' left left' one other = (one.0 ∙ sym other.0, one.1 ∙ sym other.1)
+used-once (suc r) suffix limit used used' left left' one other =
+    let room = suc r in
+    let whole : List ℕ → ℕ → Type 0 = λ u l. (u ≡ suffix) × (l ≡ room - suffix_columns suffix) in
+    let limited : List ℕ → ℕ → Type 0 = λ u l. IsLimited room suffix limit u l in
+    let beside = nat_lt (suffix_columns suffix) room in
+    let some = MatchBool-at_false ((used ≡ []) × (left ≡ 0)) (MatchBool beside (whole used left) (limited used left)) (eqb-suc-zero r) one in
+    let some' = MatchBool-at_false ((used' ≡ []) × (left' ≡ 0)) (MatchBool beside (whole used' left') (limited used' left')) (eqb-suc-zero r) other in
+    ⊎_elim
+    (λ yes.
+    let a = MatchBool-at_true (whole used left) (limited used left) yes some in
+    let b = MatchBool-at_true (whole used' left') (limited used' left') yes some' in
+    (a.0 ∙ sym b.0, a.1 ∙ sym b.1))
+    (λ no.
+    limited-once room suffix limit used used' left left'
+    (MatchBool-at_false (whole used left) (limited used left) no some)
+    (MatchBool-at_false (whole used' left') (limited used' left') no some'))
+    (cases_Bool beside)
+
+left-once : (left : ℕ) (text : List ℕ) (bytes bytes' : ℕ) → IsLeftAt left text bytes → IsLeftAt left text bytes' → bytes ≡ bytes'
+left-once zero text bytes bytes' one other = one ∙ sym other
+left-once (suc k) text bytes bytes' one other =
+    let a = MatchBool-at_false (bytes ≡ 0) (IsCutAt (suc k) text bytes) (eqb-suc-zero k) one in
+    let b = MatchBool-at_false (bytes' ≡ 0) (IsCutAt (suc k) text bytes') (eqb-suc-zero k) other in
+    sym (length-take-le bytes text a.boundary.0) ∙ ap length (cut-once a.cut b.cut) ∙ length-take-le bytes' text b.boundary.0
+
+module _ {room : ℕ} {suffix : List ℕ} {limit : SuffixLimit} {multiline : Bool} {text : List ℕ} (h : IsTruncatedInPlace room suffix limit multiline text) where
+  same_kept : (used : List ℕ) (left : ℕ) → IsUsed room suffix limit used left → IsLeftAt left text h.bytes
+  same_kept used left u =
+      let same = used-once room suffix limit h.used used h.left left h.suffix_used u in
+      subst (λ l. IsLeftAt l text h.bytes) same.1 h.kept
+
+  -- as many bytes are left, and the ending finds room behind them
+  pub in_place-fits : (used : List ℕ) (left bytes : ℕ) → IsUsed room suffix limit used left → IsLeftAt left text bytes → FitsBehind bytes used
+  in_place-fits used left bytes u kept =
+      let same = used-once room suffix limit h.used used h.left left h.suffix_used u in
+      let bytes_same = left-once left text h.bytes bytes (same_kept used left u) kept in
+      subst (λ n. FitsBehind n used) bytes_same (subst (FitsBehind h.bytes) same.0 h.fits)

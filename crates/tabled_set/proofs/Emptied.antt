@@ -1,0 +1,64 @@
+-- Cells without a text: as many, and their columns are no wider than the padding asks for.
+use Rattle.std.proofs.Common.{◌≡◌, ℕ, ◌<◌, ◌≤◌, ◌==◌, ◌||◌, List, [], ◌∷◌, length, map, refl, ap, sym, ◌∙◌, arith, slice_index_or}
+use Rattle.std.proofs.Math.ListN.{get_or-map}
+use Rattle.std.proofs.lemmas.List.{get_or_default, length-map}
+use Rattle.tabled_base.specs.Cells.{IsRectangular, cell_at, columns}
+use Rattle.tabled_config.specs.declared.spanned.SpannedConfig.{SpannedConfig}
+use Rattle.tabled_size.specs.Estimates.{column_width, estimated_widths, needed_width}
+use Rattle.tabled_priority.specs.Permitted.{at}
+use Rattle.tabled_size.specs.Sheet.{is_empty}
+use Rattle.tabled_size.proofs.Passing.{width_at, width_ge}
+use Rattle.tabled_size.proofs.ShrunkTotals.{estimated_widths-le}
+use Rattle.tabled_size.proofs.Totalling.{widths_length}
+use Rattle.tabled_text.specs.Measure.{text_columns}
+use Rattle.tabled_text.proofs.StayLemmas.{StaysWithin-none, text_columns-stays}
+use Rattle.tabled_set.specs.Minimums.{emptied, minimums, side_padding}
+
+no_text : List ℕ → List ℕ
+no_text text = []
+
+pub emptied-rows : (cells : List (List (List ℕ))) → length (emptied cells) ≡ length cells
+emptied-rows cells = length-map cells (map (λ text. []))
+
+pub emptied-columns : (cells : List (List (List ℕ))) → columns (emptied cells) ≡ columns cells
+emptied-columns [] = refl
+emptied-columns (row ∷ rows) = length-map row (λ text. [])
+
+pub emptied-cell : (cells : List (List (List ℕ))) (row column : ℕ) → cell_at (emptied cells) row column ≡ []
+emptied-cell cells row column =
+    ap (λ r. slice_index_or r column []) (get_or-map (map (λ text. [])) cells row [])
+    ∙ get_or-map (λ text. []) (slice_index_or cells row []) column []
+
+pub emptied-rectangular : (cells : List (List (List ℕ))) → IsRectangular cells → IsRectangular (emptied cells)
+emptied-rectangular cells q =
+    λ k d l. let inside : k < length cells = omega (arith, emptied-rows cells) in
+    ap length (get_or_default (emptied cells) k d [] l ∙ get_or-map (map (λ text. [])) cells k [])
+    ∙ length-map (slice_index_or cells k []) (λ text. []) ∙ q k [] inside ∙ sym (emptied-columns cells)
+
+pub emptied-empty : (cells : List (List (List ℕ))) → is_empty (emptied cells) ≡ is_empty cells
+emptied-empty cells = ap (λ n. (n == 0) || (columns (emptied cells) == 0)) (emptied-rows cells) ∙ ap (λ n. (length cells == 0) || (n == 0)) (emptied-columns cells)
+
+emptied-narrow : (cells : List (List (List ℕ))) (row column : ℕ) → text_columns (cell_at (emptied cells) row column) ≡ 0
+emptied-narrow cells row column =
+    let none : text_columns [] ≤ 0 = text_columns-stays {n = 0} {text = []} StaysWithin-none in
+    let same = ap text_columns (emptied-cell cells row column) in
+    omega arith
+
+pub minimums-length : (cells : List (List (List ℕ))) (config : SpannedConfig) → length (minimums cells config) ≡ columns cells
+minimums-length cells config = widths_length (emptied cells) config ∙ emptied-columns cells
+
+-- a minimum is at most the estimated width
+pub minimums-le : (cells : List (List (List ℕ))) (config : SpannedConfig) (i : ℕ) → at (minimums cells config) i ≤ at (estimated_widths cells config) i
+minimums-le cells config =
+    estimated_widths-le cells (emptied cells) config (emptied-rows cells) (emptied-columns cells)
+    (λ row column. let none = emptied-narrow cells row column in omega arith)
+
+-- and no cell has more padding on its sides
+pub side_padding-le : (cells : List (List (List ℕ))) (config : SpannedConfig) (row column : ℕ) → row < length cells → column < columns cells → side_padding config row column ≤ at (minimums cells config) column
+side_padding-le cells config row column r c =
+    let rows = emptied-rows cells in
+    let count = emptied-columns cells in
+    let a = width_at (emptied cells) config column (omega arith) in
+    let b : needed_width (emptied cells) config row column ≤ column_width (emptied cells) config column = width_ge (emptied cells) config row column (omega arith) in
+    let none = emptied-narrow cells row column in
+    omega arith

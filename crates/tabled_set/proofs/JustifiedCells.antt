@@ -1,0 +1,34 @@
+-- Cells that are justified: those that have the columns already are.
+use Rattle.std.proofs.Common.{◌≡◌, ℕ, false, nat_lt, List, [], refl, arith, ⊎_elim}
+use Rattle.std.proofs.lemmas.Bool.{MatchBool-at_false, MatchBool-at_true, cases_Bool}
+use Rattle.std.proofs.lemmas.Bool.Decides.{nat_tests}
+use Rattle.tabled_base.specs.declared.position.Entity.{Entity}
+use Rattle.tabled_set.proofs.ChangingCells.{AreChanged-as, match-false}
+use Rattle.tabled_set.specs.CellChanges.{ChangesEntity, if_taken, is_taken, truncating}
+use Rattle.tabled_set.specs.Justified.{IsJustified}
+use Rattle.tabled_set.specs.TextLines.{filling}
+use Rattle.tabled_set.specs.declared.suffix.SuffixLimit.TheVariants.{Cut}
+use Rattle.tabled_set.specs.declared.which.Which.TheVariants.{NotAsWide}
+use Rattle.tabled_text.specs.Measure.{text_columns}
+
+-- a text of just the columns of its room stays
+stays-justified : (room : ℕ) (before after : List ℕ) → text_columns before ≡ room → after ≡ before → IsJustified room before after
+stays-justified room before after e same =
+    let not-narrower : nat_lt (text_columns before) room ≡ false = grind (arith, nat_tests, e) in
+    let not-wider : nat_lt room (text_columns before) ≡ false = grind (arith, nat_tests, e) in
+    record {
+      between = before;
+      increased = match-false (filling 32 room before before) (before ≡ before) not-narrower refl;
+      truncated = match-false (truncating [] Cut false room before after) (after ≡ before) not-wider same;
+    }
+
+pub justified-as : (room : ℕ) (before after : List ℕ) → if_taken NotAsWide IsJustified room before after → IsJustified room before after
+justified-as room before after h = ⊎_elim
+    (λ yes. MatchBool-at_true (IsJustified room before after) (after ≡ before) yes h)
+    (λ no.
+    let e : text_columns before ≡ room = grind (arith, nat_tests, no) in
+    stays-justified room before after e (MatchBool-at_false (IsJustified room before after) (after ≡ before) no h))
+    (cases_Bool (is_taken NotAsWide room before))
+
+pub justified-entity : (room : ℕ) (entity : Entity) (old new : List (List (List ℕ))) → ChangesEntity (if_taken NotAsWide IsJustified) room entity old new → ChangesEntity IsJustified room entity old new
+justified-entity room entity old new h = AreChanged-as h (λ r c inside yes made. justified-as room _ _ made)

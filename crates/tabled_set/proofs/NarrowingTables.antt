@@ -1,0 +1,149 @@
+-- Tables that are narrowed.
+use Rattle.std.proofs.Common.{◌≡◌, ℕ, ◌⊎◌, ⊎_elim, inl, inr, Result, Ok, Err, IfErr, IsOk, IsTrue, Bool, ◌-◌, ◌<◌, ◌≤◌, ◌^◌, true, false, nat_le, List, Option, Some, None, length, take, unwrap_or, refl, sym, ap, subst, ◌∙◌, cond, arith}
+use Rattle.std.specs.Result.{IsErrAnd}
+use Rattle.std.proofs.Math.Seq.{take-length}
+use Rattle.std.proofs.lemmas.Bool.Decides.{nat_tests}
+use Rattle.std.proofs.lemmas.List.{length-take}
+use Rattle.tabled_base.specs.Cells.{columns}
+use Rattle.tabled_base.specs.declared.error.TableError.{TableError}
+use Rattle.tabled_base.specs.declared.error.TableError.TheVariants.{Memory, Range}
+use Rattle.tabled_config.specs.declared.spanned.SpannedConfig.{SpannedConfig}
+use Rattle.tabled_size.specs.Estimates.{IsTooWide, estimated_heights, estimated_widths}
+use Rattle.tabled_size.specs.FilledIn.{HasNoEstimate, IsFilledIn}
+use Rattle.tabled_priority.specs.Permitted.{FitsMinimums, IsPermitted}
+use Rattle.tabled_size.specs.Sheet.{Sheet, is_empty}
+use Rattle.tabled_size.specs.Standing.{standing, standing_sizes}
+use Rattle.tabled_size.specs.Stored.{heights_of, widths_of}
+use Rattle.tabled_size.specs.Totals.{filled_width, total_width}
+use Rattle.tabled_size.specs.declared.complete_dimension.CompleteDimension.{CompleteDimension}
+use Rattle.tabled_size.proofs.Totalling.{heights_length, widths_length}
+use Rattle.tabled_set.specs.CellChanges.{AreChanged, AreChangedBefore, if_taken}
+use Rattle.tabled_set.specs.declared.order.Order.TheVariants.{ByColumn}
+use Rattle.tabled_set.specs.declared.which.Which.{Which}
+use Rattle.tabled_set.specs.ColumnChanges.{for_width, needs_for_width}
+use Rattle.tabled_set.specs.Minimums.{emptied, minimums}
+use Rattle.tabled_set.specs.Narrowed.{IsNarrowed, Narrows, StopsNarrowing, WiderOutOfRange}
+use Rattle.tabled_set.specs.Shrinking.{IsFound, IsShrunkBy}
+use Rattle.tabled_set.proofs.ChangingCells.{match-false, match-true}
+use Rattle.tabled_set.proofs.ChangingColumns.{rooms-before, rooms-made}
+use Rattle.tabled_set.proofs.Emptied.{minimums-length}
+
+-- ---- sizes that are filled in
+
+pub filled-size : (stored : Option (List ℕ)) (estimates : List ℕ) (count : ℕ) → length estimates ≡ count → standing_sizes (Some (unwrap_or stored estimates)) estimates count ≡ standing_sizes stored estimates count
+filled-size None estimates count long = ap (λ k. take k estimates) (sym long) ∙ take-length estimates
+filled-size (Some sizes) estimates count long = refl
+
+abbrev sheet : List (List (List ℕ)) → SpannedConfig → List ℕ → List ℕ → Sheet
+sheet cells config widths heights = record { cells = cells; config = config; widths = widths; heights = heights }
+
+-- the sizes that stand are the same after they were filled in
+pub standing-filled : (cells : List (List (List ℕ))) (config : SpannedConfig) (old new : CompleteDimension) → IsFilledIn old cells config new → standing cells config new ≡ standing cells config old
+standing-filled cells config old new h =
+    let widths = estimated_widths cells config in
+    let heights = estimated_heights cells config in
+    let wide = ap (λ o. standing_sizes o widths (columns cells)) h.widths ∙ filled-size (widths_of old) widths (columns cells) (widths_length cells config) in
+    let high = ap (λ o. standing_sizes o heights (length cells)) h.heights ∙ filled-size (heights_of old) heights (length cells) (heights_length cells config) in
+    ap (λ w. sheet cells config w (standing_sizes (heights_of new) heights (length cells))) wide
+    ∙ ap (λ k. sheet cells config (standing_sizes (widths_of old) widths (columns cells)) k) high
+
+-- ---- the widths to which columns shrink
+
+pub standing-widths : (cells : List (List (List ℕ))) (config : SpannedConfig) (sizes : CompleteDimension) (stored widths : List ℕ) (count : ℕ) → widths_of sizes ≡ Some stored → count ≡ columns cells → widths ≡ take count stored → widths ≡ (standing cells config sizes).widths
+standing-widths cells config sizes stored widths count s e w =
+    w ∙ ap (λ k. take k stored) e ∙ ap (λ o. standing_sizes o (estimated_widths cells config) (columns cells)) (sym s)
+
+pub standing-total : (cells : List (List (List ℕ))) (config : SpannedConfig) (sizes : CompleteDimension) (widths : List ℕ) (count : ℕ) → is_empty cells ≡ false → count ≡ columns cells → widths ≡ (standing cells config sizes).widths → filled_width config count widths ≡ total_width (standing cells config sizes)
+standing-total cells config sizes widths count filled e w =
+    ap (λ k. filled_width config k widths) e ∙ ap (filled_width config (columns cells)) w
+    ∙ ap (λ b. cond b 0 (filled_width config (columns cells) (standing cells config sizes).widths)) (sym filled)
+
+-- as many minimums as widths
+pub minimums-fit : (cells : List (List (List ℕ))) (config : SpannedConfig) (stored widths mins : List ℕ) (count : ℕ) → count ≡ columns cells → widths ≡ take count stored → mins ≡ take (length widths) (minimums cells config) → FitsMinimums widths mins
+minimums-fit cells config stored widths mins count e w m =
+    let long = ap length m ∙ length-take (length widths) (minimums cells config) in
+    let short = ap length w ∙ length-take count stored in
+    inr (omega (arith, long, short, minimums-length cells config, e))
+
+module _ {P : Type 0} (shrinks : P → List ℕ → List ℕ → ℕ → List ℕ → P → Type 0) (priority : P) (n : ℕ) where
+  pub found : (t : Sheet) (old mins new : List ℕ) (by total : ℕ) → n < total → by ≡ total - n → total ≡ total_width t → old ≡ t.widths → mins ≡ take (length old) (minimums t.cells t.config) → length new ≡ length old → IsShrunkBy shrinks priority old mins by new → IsFound shrinks priority n t new mins
+  found t old mins new by total wider b e w m long s =
+      let same : mins ≡ take (length t.widths) (minimums t.cells t.config) = m ∙ ap (λ l. take (length l) (minimums t.cells t.config)) w in
+      record {
+        wider = omega (arith, wider, e);
+        shrunk = record {
+          last = s.last;
+          shrunk =
+              subst (λ k. shrinks priority t.widths (take (length t.widths) (minimums t.cells t.config)) k new s.last) (b ∙ ap (λ k. k - n) e)
+              (subst (λ ms. shrinks priority t.widths ms by new s.last) same
+              (subst (λ ws. shrinks priority ws mins by new s.last) w s.shrunk));
+          permitted =
+              subst (λ ms. IsPermitted t.widths ms new) same
+              (subst (λ ws. IsPermitted ws mins new) w s.permitted);
+        };
+        fits = m ∙ ap (λ k. take k (minimums t.cells t.config)) (sym long);
+      }
+
+  -- ---- what narrowing leaves
+
+  module _ (change : ℕ → List ℕ → List ℕ → Type 0) (cells : List (List (List ℕ))) (config : SpannedConfig) (old mid : CompleteDimension) (some : is_empty cells ≡ false) (filled : IsFilledIn old cells config mid) where
+    pub narrows-none : total_width (standing cells config mid) ≤ n → Narrows shrinks priority change n cells config old cells mid
+    narrows-none fits =
+        let e = ap total_width (standing-filled cells config old mid filled) in
+        let within : nat_le (total_width (standing cells config old)) n ≡ true = let le : total_width (standing cells config old) ≤ n = omega (arith, fits, e) in grind (arith, nat_tests) in
+        match-false ((cells ≡ cells) × (mid ≡ old)) _ some
+        (match-true ((cells ≡ cells) × IsFilledIn old cells config mid) (IsNarrowed shrinks priority change n (standing cells config old) cells mid) within (refl, filled))
+
+    found-old : (widths mins : List ℕ) → IsFound shrinks priority n (standing cells config mid) widths mins → IsFound shrinks priority n (standing cells config old) widths mins
+    found-old widths mins h = subst (λ t. IsFound shrinks priority n t widths mins) (standing-filled cells config old mid filled) h
+
+    pub narrows-some : (cells' : List (List (List ℕ))) (new : CompleteDimension) (widths mins : List ℕ) → IsFound shrinks priority n (standing cells config mid) widths mins → AreChanged (λ r c. true) (for_width change config widths mins) cells cells' → widths_of new ≡ Some widths → heights_of new ≡ None → Narrows shrinks priority change n cells config old cells' new
+    narrows-some cells' new widths mins found changed stored cleared =
+        let t = standing cells config old in
+        let is = found-old widths mins found in
+        let above : nat_le (total_width t) n ≡ false = let lt : n < total_width t = is.wider in grind (arith, nat_tests) in
+        match-false ((cells' ≡ cells) × (new ≡ old)) _ some
+        (match-false ((cells' ≡ cells) × IsFilledIn old cells config new) (IsNarrowed shrinks priority change n t cells' new) above
+        (record { widths = widths; shrunk = is.shrunk; changed = rooms-made change t widths mins is.fits changed; stored = stored; cleared = cleared }))
+
+    -- a failure at a cell
+    pub stops-some : (which : Which) (in_place : ℕ → List ℕ → Type 0) (cells' : List (List (List ℕ))) (error : TableError) (widths mins : List ℕ) → error ≡ Memory
+        → IsFound shrinks priority n (standing cells config mid) widths mins
+        → AreChangedBefore ByColumn (λ r c. true) (needs_for_width which in_place config widths mins) (for_width (if_taken which change) config widths mins) cells cells'
+        → StopsNarrowing shrinks priority which in_place change n error cells config old cells' mid
+    stops-some which in_place cells' error widths mins e found changed =
+        let t = standing cells config old in
+        let is = found-old widths mins found in
+        inr (record {
+          wider = is.wider;
+          filled = filled;
+          stopped = inr (e, record { wider = is.wider; widths = widths; shrunk = is.shrunk; changed = rooms-before which in_place change t widths mins is.fits changed });
+        })
+
+    -- one before a cell has changed
+    pub stops-wider : (which : Which) (in_place : ℕ → List ℕ → Type 0) (error : TableError) → n < total_width (standing cells config mid)
+        → StopsNarrowing shrinks priority which in_place change n error cells config old cells mid
+    stops-wider which in_place error wide =
+        inr (record {
+          wider = subst (λ t. n < total_width t) (standing-filled cells config old mid filled) wide;
+          filled = filled;
+          stopped = inl refl;
+        })
+
+-- ---- what fails
+
+-- a call that doesn't fail where both lists are stored
+pub fails-lacking : {A : Type 0} (stored : Bool) (r : Result A TableError) (e : TableError) → (IsTrue stored → IsOk r) → r ≡ Err e → stored ≡ false
+fails-lacking {A} false r e h is = refl
+fails-lacking {A} true r e h is = let ok : false ≡ true = subst (λ (s : Result A TableError). IsOk s) is (h refl) in sym ok
+
+-- the error that a call hands on
+pub if-err : {T : Type 0} (P : TableError → Type 0) (r : Result T TableError) (e : TableError) → IsErrAnd r (λ d. d ≡ e) → P e → IfErr r P
+if-err P (Ok x) e h p = absurd h
+if-err P (Err d) e h p = subst P (sym h) p
+
+-- a total that passes the range is that of the sizes before they were filled in
+pub passes-before : (n : ℕ) (cells : List (List (List ℕ))) (config : SpannedConfig) (old mid : CompleteDimension) (e : TableError) → IsFilledIn old cells config mid → (e ≡ Memory) ⊎ ((e ≡ Range) × WiderOutOfRange n cells config mid) → (e ≡ Memory) ⊎ ((e ≡ Range) × (HasNoEstimate old cells config ⊎ WiderOutOfRange n cells config old))
+passes-before n cells config old mid e filled cause =
+    let P : Sheet → Type 0 = λ t. (2 ^ 64 ≤ total_width t) ⊎ ((n < total_width t) × IsTooWide (emptied cells) config) in
+    ⊎_elim (λ m. inl m) (λ h. inr (h.0, inr (subst P (standing-filled cells config old mid filled) h.1))) cause

@@ -1,0 +1,13 @@
+use Rattle.tabled_set.proofs.Bare.{IsCut-truncated, longest_lines, longest_truncated}
+use Rattle.tabled_set.proofs.Staying.{StaysWithin-truncated}
+use Rattle.tabled_set.proofs.TruncatedTexts.{fits-truncated}
+use Rattle.tabled_set.proofs.laws.truncated_texts.Goals as goal
+
+pub returns : goal.returns
+returns g = record {
+  fits = fits-truncated;
+  room = StaysWithin-truncated;
+  cut = IsCut-truncated;
+  longest = longest_truncated;
+  lines = longest_lines;
+}

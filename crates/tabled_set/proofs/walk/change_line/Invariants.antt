@@ -1,0 +1,10 @@
+use Rattle.std.proofs.Common.{◌&&◌}
+use Rattle.tabled_set.specs.CellChanges.{AreChanged, precedes}
+use Rattle.tabled_set.specs.Walking.{leaves, on_line}
+use Rattle.tabled_set.proofs.walk.change_line.Given as goal
+
+abbrev pub invariant-places : goal.invariant-places
+invariant-places g l =
+    AreChanged (λ r c. on_line l.order l.line l.fn.band r c && precedes l.order l.line l.place r c)
+    (leaves l.by.which (g.T.TextRule.makes l.by.rule.now) (g.M.Rooms.room_at l.by.rooms.now))
+    (g.R.ExactRecords.cells l.fn.records) (g.R.ExactRecords.cells l.records)

@@ -1,0 +1,11 @@
+use Rattle.std.proofs.Common.{◌&&◌}
+use Rattle.tabled_entity.specs.Changes.{covers}
+use Rattle.tabled_set.specs.CellChanges.{AreChanged, precedes}
+use Rattle.tabled_set.specs.Walking.{leaves}
+use Rattle.tabled_set.proofs.walk.walk_cells.Given as goal
+
+abbrev pub invariant-lines : goal.invariant-lines
+invariant-lines g l =
+    AreChanged (λ r c. covers l.fn.entity r c && precedes l.order l.line 0 r c)
+    (leaves l.by.which (g.T.TextRule.makes l.by.rule.now) (g.M.Rooms.room_at l.by.rooms.now))
+    (g.R.ExactRecords.cells l.fn.records) (g.R.ExactRecords.cells l.records)

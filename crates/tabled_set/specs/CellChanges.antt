@@ -1,0 +1,114 @@
+-- Cells of which some are changed, and the others stay.
+use Rattle.std.specs.Prelude.{◌≡◌, ◌⊎◌, ℕ, Bool, true, not, ◌&&◌, ◌||◌, ◌==◌, nat_lt, List, [], MatchBool, Option, Some, None, length, slice_index_or}
+use Rattle.tabled_base.specs.Cells.{IsInside, cell_at}
+use Rattle.tabled_base.specs.declared.error.TableError.{TableError}
+use Rattle.tabled_base.specs.declared.error.TableError.TheVariants.{Memory, Range}
+use Rattle.tabled_base.specs.declared.position.Entity.{Entity}
+use Rattle.tabled_entity.specs.Changes.{covers}
+use Rattle.tabled_text.specs.Measure.{lines_of, text_columns}
+use Rattle.tabled_text.specs.Wrapping.{IsWrapped}
+use Rattle.tabled_set.specs.Truncated.{IsTruncated}
+use Rattle.tabled_set.specs.declared.order.Order.{Order}
+use Rattle.tabled_set.specs.declared.order.Order.TheVariants.{ByColumn, ByRow}
+use Rattle.tabled_set.specs.declared.suffix.SuffixLimit.{SuffixLimit}
+use Rattle.tabled_set.specs.declared.which.Which.{Which}
+use Rattle.tabled_set.specs.declared.which.Which.TheVariants.{Every, Higher, Lower, Narrower, NotAsWide, Wider}
+
+-- ---- one text
+
+-- a text is wrapped in a room, words kept or not
+abbrev pub wrapping : Bool → ℕ → List ℕ → List ℕ → Type 0
+wrapping words room before after = IsWrapped room words before after
+
+-- a text is truncated to a room
+abbrev pub truncating : List ℕ → SuffixLimit → Bool → ℕ → List ℕ → List ℕ → Type 0
+truncating suffix limit multiline room before after = IsTruncated room suffix limit multiline before after
+
+-- whether a text is changed for a room: any text, one of more or fewer columns or of either, or of more or fewer lines
+abbrev pub is_taken : Which → ℕ → List ℕ → Bool
+is_taken Every room text = true
+is_taken Wider room text = nat_lt room (text_columns text)
+is_taken Narrower room text = nat_lt (text_columns text) room
+is_taken NotAsWide room text = not (text_columns text == room)
+is_taken Higher room text = nat_lt room (length (lines_of text))
+is_taken Lower room text = nat_lt (length (lines_of text)) room
+
+-- such a text is changed, another stays
+abbrev pub if_taken : Which → (ℕ → List ℕ → List ℕ → Type 0) → ℕ → List ℕ → List ℕ → Type 0
+if_taken which change room before after = MatchBool (is_taken which room before) (change room before after) (after ≡ before)
+
+-- a text wider than its room is changed, another stays
+abbrev pub if_wider : (ℕ → List ℕ → List ℕ → Type 0) → ℕ → List ℕ → List ℕ → Type 0
+if_wider change room before after = MatchBool (nat_lt room (text_columns before)) (change room before after) (after ≡ before)
+
+-- a text that has a room is changed for it, another stays
+abbrev pub in_room : (ℕ → List ℕ → List ℕ → Type 0) → Option ℕ → List ℕ → List ℕ → Type 0
+in_room change None before after = after ≡ before
+in_room change (Some room) before after = change room before after
+
+-- a text can't be changed without memory: it is changed for a room, and not in its place
+pub record NeedsMemory (which : Which) (in_place : ℕ → List ℕ → Type 0) (room : ℕ) (text : List ℕ) : Type 0 where
+  pub taken : is_taken which room text ≡ true
+  pub apart : in_place room text → ⊥
+
+-- so for the room that it has, if it has one
+abbrev pub NeedsMemoryIn : Which → (ℕ → List ℕ → Type 0) → Option ℕ → List ℕ → Type 0
+NeedsMemoryIn which in_place None text = ⊥
+NeedsMemoryIn which in_place (Some room) text = NeedsMemory which in_place room text
+
+-- a rule that changes no text in its place
+abbrev pub never_in_place : ℕ → List ℕ → Type 0
+never_in_place = λ room text. ⊥
+
+-- ---- cells
+
+-- the cells at the chosen places are changed, each as its row and column say, and the others are the old ones
+pub record AreChanged (chosen : ℕ → ℕ → Bool) (change : ℕ → ℕ → List ℕ → List ℕ → Type 0) (old new : List (List (List ℕ))) : Type 0 where
+  pub rows : length new ≡ length old
+  pub row_lengths : (row : ℕ) → length (slice_index_or new row []) ≡ length (slice_index_or old row [])
+  pub cells : (row column : ℕ) → IsInside old row column
+      → MatchBool (chosen row column) (change row column (cell_at old row column) (cell_at new row column)) (cell_at new row column ≡ cell_at old row column)
+
+-- the line in which a cell is visited, a row or a column, and its place there
+abbrev pub line_of : Order → ℕ → ℕ → ℕ
+line_of ByRow row column = row
+line_of ByColumn row column = column
+
+abbrev pub place_of : Order → ℕ → ℕ → ℕ
+place_of ByRow row column = column
+place_of ByColumn row column = row
+
+-- a cell is visited before a place of a line
+abbrev pub precedes : Order → ℕ → ℕ → ℕ → ℕ → Bool
+precedes order line place row column = nat_lt (line_of order row column) line || (line_of order row column == line && nat_lt (place_of order row column) place)
+
+-- where a change stopped: at one of the chosen cells, whose text can't be changed without memory.
+-- The chosen cells before it are changed, and it and all others are the old ones
+pub record AreChangedBefore (order : Order) (chosen : ℕ → ℕ → Bool) (needs : ℕ → ℕ → List ℕ → Type 0) (change : ℕ → ℕ → List ℕ → List ℕ → Type 0)
+    (old new : List (List (List ℕ))) : Type 0 where
+  pub row : ℕ
+  pub column : ℕ
+  pub inside : IsInside old row column
+  pub stopped : chosen row column ≡ true
+  pub wanting : needs row column (cell_at old row column)
+  pub changed : AreChanged (λ r c. chosen r c && precedes order (line_of order row column) (place_of order row column) r c) change old new
+
+-- what a failure leaves: with `Range` all cells as they were, and with `Memory` the cells before
+-- the one at which it stopped changed
+abbrev pub StopsChanging : Order → (ℕ → ℕ → Bool) → (ℕ → ℕ → List ℕ → Type 0) → (ℕ → ℕ → List ℕ → List ℕ → Type 0) → TableError
+    → List (List (List ℕ)) → List (List (List ℕ)) → Type 0
+StopsChanging order chosen needs change error old new =
+    ((error ≡ Range) × (new ≡ old)) ⊎ ((error ≡ Memory) × AreChangedBefore order chosen needs change old new)
+
+-- ---- the cells of an entity, all for one room
+
+-- each of them is changed, and all others stay
+abbrev pub ChangesEntity : (ℕ → List ℕ → List ℕ → Type 0) → ℕ → Entity → List (List (List ℕ)) → List (List (List ℕ)) → Type 0
+ChangesEntity change room entity old new = AreChanged (covers entity) (λ row column. change room) old new
+
+-- what a failure leaves where those of them are changed that a rule is for, row by row, some of
+-- them in their place
+abbrev pub StopsEntity : Which → (ℕ → List ℕ → Type 0) → (ℕ → List ℕ → List ℕ → Type 0) → ℕ → Entity → TableError → List (List (List ℕ))
+    → List (List (List ℕ)) → Type 0
+StopsEntity which in_place change room entity error old new =
+    StopsChanging ByRow (covers entity) (λ row column. NeedsMemory which in_place room) (λ row column. if_taken which change room) error old new

@@ -1,0 +1,26 @@
+-- Tables that were narrowed to a total.
+use Rattle.std.specs.Prelude.{◌≡◌, ℕ, max}
+use Rattle.tabled_set.specs.Minimums.{emptied}
+use Rattle.tabled_size.specs.Estimates.{estimated_widths}
+use Rattle.tabled_size.specs.Holds.{Holds, IsSized}
+use Rattle.tabled_size.specs.PlainCells.{AreAdditive}
+use Rattle.tabled_size.specs.Sheet.{Sheet, estimated}
+use Rattle.tabled_size.specs.TextCells.{AreTexts}
+use Rattle.tabled_size.specs.Totals.{total_width}
+
+-- the widths are the estimated ones
+abbrev pub HasEstimatedWidths : Sheet → Type 0
+HasEstimatedWidths t = t.widths ≡ estimated_widths t.cells t.config
+
+-- the columns that the table takes with empty cells
+abbrev pub empty_width : Sheet → ℕ
+empty_width t = total_width (estimated (emptied t.cells) t.config)
+
+-- a table narrowed to n: its total is n, or that of the empty table where this is greater, and it holds its cells,
+-- which are texts, and additive where they were
+pub record HasExactTotal (n : ℕ) (old new : Sheet) : Type 0 where
+  pub total : total_width new ≡ max n (empty_width old)
+  pub sized : IsSized new
+  pub holds : Holds new
+  pub texts : AreTexts new.cells
+  pub additive : AreAdditive old.cells → AreAdditive new.cells

@@ -1,0 +1,74 @@
+-- Tables whose columns or rows grow to a total.
+use Rattle.std.specs.Prelude.{◌≡◌, ℕ, ◌-◌, ◌⊎◌, ◌<◌, ◌≤◌, ◌^◌, nat_le, false, List, MatchBool, Some, unwrap_or}
+use Rattle.tabled_base.specs.declared.error.TableError.{TableError}
+use Rattle.tabled_base.specs.declared.error.TableError.TheVariants.{Memory}
+use Rattle.tabled_config.specs.declared.spanned.SpannedConfig.{SpannedConfig}
+use Rattle.tabled_size.specs.Estimates.{IsTooHigh, estimated_heights}
+use Rattle.tabled_size.specs.FilledIn.{HasNoEstimate, IsFilledIn}
+use Rattle.tabled_size.specs.Sheet.{estimated, is_empty}
+use Rattle.tabled_size.specs.Standing.{standing}
+use Rattle.tabled_size.specs.Stored.{heights_of, widths_of}
+use Rattle.tabled_size.specs.Totals.{total_height, total_width}
+use Rattle.tabled_size.specs.declared.complete_dimension.CompleteDimension.{CompleteDimension}
+use Rattle.tabled_set.specs.Filling.{StopsFilling}
+use Rattle.tabled_set.specs.Growing.{IsGrownBy}
+
+-- ---- the width
+
+-- a table of fewer than n columns: the widths that stand grow by what is wanting and are stored, and so are the
+-- heights that stand
+pub record IsWidened {P : Type 0} (grows : P → List ℕ → ℕ → List ℕ → P → Type 0) (priority : P) (n : ℕ) (cells : List (List (List ℕ)))
+    (config : SpannedConfig) (old new : CompleteDimension) : Type 0 where
+  pub widths : List ℕ
+  pub grown : IsGrownBy grows priority (standing cells config old).widths (n - total_width (standing cells config old)) widths
+  pub stored : widths_of new ≡ Some widths
+  pub heights : heights_of new ≡ Some (unwrap_or (heights_of old) (estimated_heights cells config))
+
+-- what is left of the sizes where a table is to be n columns wide at least: all as they were of an empty table, filled
+-- in where it is so wide already, and else widened
+abbrev pub IncreasesWidth : {P : Type 0} → (P → List ℕ → ℕ → List ℕ → P → Type 0) → P → ℕ → List (List (List ℕ)) → SpannedConfig → CompleteDimension
+    → CompleteDimension → Type 0
+IncreasesWidth grows priority n cells config old new =
+    MatchBool (is_empty cells) (new ≡ old)
+    (MatchBool (nat_le n (total_width (standing cells config old))) (IsFilledIn old cells config new)
+    (IsWidened grows priority n cells config old new))
+
+-- a failure of a table whose sizes were filled in: of memory, only where it has fewer than n
+-- columns
+pub record StopsWidening (n : ℕ) (error : TableError) (cells : List (List (List ℕ))) (config : SpannedConfig)
+    (old new : CompleteDimension) : Type 0 where
+  pub narrower : error ≡ Memory → total_width (standing cells config old) < n
+  pub filled : IsFilledIn old cells config new
+
+-- what a failure leaves of the sizes: as they were, or filled in
+abbrev pub StopsIncreasing : ℕ → TableError → List (List (List ℕ)) → SpannedConfig → CompleteDimension → CompleteDimension → Type 0
+StopsIncreasing n error cells config old new = StopsFilling error old new ⊎ StopsWidening n error cells config old new
+
+-- a sum passes the greatest number: the measure's, a cell's that isn't stored, or the total
+abbrev pub WidthOutOfRange : Type 0 → List (List (List ℕ)) → SpannedConfig → CompleteDimension → Type 0
+WidthOutOfRange measure_out_of_range cells config sizes =
+    (is_empty cells ≡ false) × (measure_out_of_range ⊎ (HasNoEstimate sizes cells config ⊎ (2 ^ 64 ≤ total_width (standing cells config sizes))))
+
+-- ---- the height, for which stored heights don't count
+
+-- a table of fewer than n lines: the estimated heights grow by what is wanting and are stored, and the widths stay
+pub record IsHeightened {P : Type 0} (grows : P → List ℕ → ℕ → List ℕ → P → Type 0) (priority : P) (n : ℕ) (cells : List (List (List ℕ)))
+    (config : SpannedConfig) (old new : CompleteDimension) : Type 0 where
+  pub heights : List ℕ
+  pub grown : IsGrownBy grows priority (estimated_heights cells config) (n - total_height (estimated cells config)) heights
+  pub stored : heights_of new ≡ Some heights
+  pub widths : widths_of new ≡ widths_of old
+
+-- what is left of the sizes where a table is to be n lines high at least: all as they were of an empty table and of one
+-- that is so high already
+abbrev pub IncreasesHeight : {P : Type 0} → (P → List ℕ → ℕ → List ℕ → P → Type 0) → P → ℕ → List (List (List ℕ)) → SpannedConfig → CompleteDimension
+    → CompleteDimension → Type 0
+IncreasesHeight grows priority n cells config old new =
+    MatchBool (is_empty cells) (new ≡ old)
+    (MatchBool (nat_le n (total_height (estimated cells config))) (new ≡ old)
+    (IsHeightened grows priority n cells config old new))
+
+-- a sum passes the greatest number: the measure's, a cell's, or the total
+abbrev pub HeightOutOfRange : Type 0 → List (List (List ℕ)) → SpannedConfig → Type 0
+HeightOutOfRange measure_out_of_range cells config =
+    (is_empty cells ≡ false) × (measure_out_of_range ⊎ (IsTooHigh cells config ⊎ (2 ^ 64 ≤ total_height (estimated cells config))))

@@ -1,0 +1,58 @@
+-- Tables whose rows shrink to a total.
+use Rattle.std.specs.Prelude.{◌≡◌, ◌⊎◌, ◌<◌, ℕ, ◌-◌, nat_le, List, [], MatchBool, Some, true}
+use Rattle.tabled_base.specs.declared.error.TableError.{TableError}
+use Rattle.tabled_base.specs.declared.error.TableError.TheVariants.{Memory}
+use Rattle.tabled_config.specs.declared.spanned.SpannedConfig.{SpannedConfig}
+use Rattle.tabled_priority.specs.Permitted.{at}
+use Rattle.tabled_size.specs.Estimates.{estimated_heights}
+use Rattle.tabled_size.specs.Sheet.{estimated, is_empty}
+use Rattle.tabled_size.specs.Stored.{heights_of, widths_of}
+use Rattle.tabled_size.specs.Totals.{total_height}
+use Rattle.tabled_size.specs.declared.complete_dimension.CompleteDimension.{CompleteDimension}
+use Rattle.tabled_set.specs.CellChanges.{AreChanged, AreChangedBefore, NeedsMemory, if_taken, never_in_place}
+use Rattle.tabled_set.specs.declared.order.Order.TheVariants.{ByRow}
+use Rattle.tabled_set.specs.declared.which.Which.TheVariants.{Higher}
+use Rattle.tabled_set.specs.TextLines.{limiting}
+use Rattle.tabled_set.specs.Shrinking.{IsShrunkBy}
+
+-- a cell of more lines than its row's height keeps as many, the first ones, whatever its padding is
+abbrev pub for_height : List ℕ → ℕ → ℕ → List ℕ → List ℕ → Type 0
+for_height heights row column = if_taken Higher limiting (at heights row)
+
+-- a cell has more lines than its row's height, and so can't stay
+abbrev pub needs_for_height : List ℕ → ℕ → ℕ → List ℕ → Type 0
+needs_for_height heights row column = NeedsMemory Higher never_in_place (at heights row)
+
+-- a table of more than n lines: the estimated heights shrink by what is too much, with no minimums, and are stored, the
+-- cells are limited to their rows' heights, and the widths stay
+pub record IsLowered {P : Type 0} (shrinks : P → List ℕ → List ℕ → ℕ → List ℕ → P → Type 0) (priority : P) (n : ℕ) (cells : List (List (List ℕ)))
+    (config : SpannedConfig) (old : CompleteDimension) (cells' : List (List (List ℕ))) (new : CompleteDimension) : Type 0 where
+  pub heights : List ℕ
+  pub shrunk : IsShrunkBy shrinks priority (estimated_heights cells config) [] (total_height (estimated cells config) - n) heights
+  pub changed : AreChanged (λ row column. true) (for_height heights) cells cells'
+  pub stored : heights_of new ≡ Some heights
+  pub widths : widths_of new ≡ widths_of old
+
+-- what is left where a table is to be n lines high at most: all as it was of an empty table and of one of so few lines
+abbrev pub LimitsHeight : {P : Type 0} → (P → List ℕ → List ℕ → ℕ → List ℕ → P → Type 0) → P → ℕ → List (List (List ℕ)) → SpannedConfig
+    → CompleteDimension → List (List (List ℕ)) → CompleteDimension → Type 0
+LimitsHeight shrinks priority n cells config old cells' new =
+    MatchBool (is_empty cells) ((cells' ≡ cells) × (new ≡ old))
+    (MatchBool (nat_le (total_height (estimated cells config)) n) ((cells' ≡ cells) × (new ≡ old))
+    (IsLowered shrinks priority n cells config old cells' new))
+
+-- memory failed at a cell of more lines than its row's height, of a table of more than n lines: the
+-- cells before it, row by row, are limited, and it and the others are the old ones
+pub record IsLoweredBefore {P : Type 0} (shrinks : P → List ℕ → List ℕ → ℕ → List ℕ → P → Type 0) (priority : P) (n : ℕ)
+    (cells : List (List (List ℕ))) (config : SpannedConfig) (cells' : List (List (List ℕ))) : Type 0 where
+  pub higher : n < total_height (estimated cells config)
+  pub heights : List ℕ
+  pub shrunk : IsShrunkBy shrinks priority (estimated_heights cells config) [] (total_height (estimated cells config) - n) heights
+  pub changed : AreChangedBefore ByRow (λ row column. true) (needs_for_height heights) (for_height heights) cells cells'
+
+-- what a failure leaves of the cells: all as they were, or with `Memory` those before the one at
+-- which it stopped limited
+abbrev pub StopsLimiting : {P : Type 0} → (P → List ℕ → List ℕ → ℕ → List ℕ → P → Type 0) → P → ℕ → TableError → List (List (List ℕ)) → SpannedConfig
+    → List (List (List ℕ)) → Type 0
+StopsLimiting shrinks priority n error cells config cells' =
+    (cells' ≡ cells) ⊎ ((error ≡ Memory) × IsLoweredBefore shrinks priority n cells config cells')

@@ -1,0 +1,60 @@
+-- What a text becomes where it is truncated to a room of some columns with a suffix. Texts are lists of bytes.
+use Rattle.std.specs.Prelude.{◌≡◌, ℕ, ◌+◌, ◌-◌, Bool, ◌==◌, nat_lt, List, [], ◌++◌, MatchBool, encode_utf8_all, length, replicate, sum_by}
+use Rattle.std.specs.List.{AllZip, join_with_byte}
+use Rattle.tabled_text.specs.Cut.{IsCut}
+use Rattle.tabled_text.specs.Measure.{line_columns, lines_of}
+use Rattle.tabled_set.specs.declared.suffix.SuffixLimit.{SuffixLimit}
+use Rattle.tabled_set.specs.declared.suffix.SuffixLimit.TheVariants.{Cut, Ignore, Replace}
+
+-- ---- the suffix
+
+-- the columns of a suffix: those of its lines, and one for each line feed
+abbrev pub suffix_columns : List ℕ → ℕ
+suffix_columns suffix = sum_by line_columns (lines_of suffix) + (length (lines_of suffix) - 1)
+
+-- what stands for a suffix that takes its whole room or more, and the columns that it leaves to the text
+abbrev pub IsLimited : ℕ → List ℕ → SuffixLimit → List ℕ → ℕ → Type 0
+IsLimited room suffix Cut used left = IsCut room suffix used × (left ≡ 0)
+IsLimited room suffix Ignore used left = (used ≡ []) × (left ≡ room)
+IsLimited room suffix (Replace c) used left = (used ≡ encode_utf8_all (replicate room c)) × (left ≡ 0)
+
+-- what stands for a suffix, and the columns that it leaves: the whole suffix where it leaves any, else what its limit
+-- says; nothing stands in no room
+abbrev pub IsUsed : ℕ → List ℕ → SuffixLimit → List ℕ → ℕ → Type 0
+IsUsed room suffix limit used left =
+    MatchBool (room == 0) ((used ≡ []) × (left ≡ 0))
+    (MatchBool (nat_lt (suffix_columns suffix) room) ((used ≡ suffix) × (left ≡ room - suffix_columns suffix))
+    (IsLimited room suffix limit used left))
+
+-- ---- the text
+
+-- a text cut to n columns, and then what stands for the suffix
+pub record IsCutBefore (n : ℕ) (used text answer : List ℕ) : Type 0 where
+  pub front : List ℕ
+  pub cut : IsCut n text front
+  pub answered : answer ≡ front ++ used
+
+-- what stands for the suffix alone where it leaves no column to the text
+abbrev pub IsEnded : ℕ → List ℕ → List ℕ → List ℕ → Type 0
+IsEnded left used text answer = MatchBool (left == 0) (answer ≡ used) (IsCutBefore left used text answer)
+
+-- each line by itself, short ones too
+pub record HasEndedLines (left : ℕ) (used text answer : List ℕ) : Type 0 where
+  pub lines : List (List ℕ)
+  pub each : AllZip (IsEnded left used) (lines_of text) lines
+  pub joined : answer ≡ join_with_byte 10 lines
+
+-- a text truncated to a room with a suffix, as a whole or each of its lines
+pub record IsTruncated (room : ℕ) (suffix : List ℕ) (limit : SuffixLimit) (multiline : Bool) (text answer : List ℕ) : Type 0 where
+  pub used : List ℕ
+  pub left : ℕ
+  pub suffix_used : IsUsed room suffix limit used left
+  pub answered : MatchBool multiline (HasEndedLines left used text answer) (IsEnded left used text answer)
+
+-- ---- for the private functions that append a text
+
+-- what was appended is the text with its ending
+pub record AddsEnded (left : ℕ) (used text old new : List ℕ) : Type 0 where
+  pub piece : List ℕ
+  pub ended : IsEnded left used text piece
+  pub added : new ≡ old ++ piece

@@ -1,0 +1,93 @@
+//! Columns whose cells are changed for the rooms that their widths leave.
+ghost use Rattle.std.specs.Prelude.{◌≡◌, None, Some, if◌then◌else◌, ◌-◌, IfErr, OnErr, OnOk, true};
+ghost use Rattle.tabled_base.specs.declared.error.TableError.TheVariants.{Memory};
+ghost use Rattle.tabled_set.specs.CellChanges.{AreChanged, AreChangedBefore, if_taken};
+ghost use Rattle.tabled_set.specs.declared.order.Order.TheVariants.{ByColumn};
+ghost use Rattle.tabled_priority.specs.Permitted.{at};
+ghost use Rattle.tabled_set.specs.ColumnChanges.{for_width, is_permitted, needs_for_width};
+ghost use Rattle.tabled_set.specs.Minimums.{side_padding};
+
+use crate::changing::{Change, TextRule};
+use crate::order::Order;
+use crate::rooms::Rooms;
+use crate::walk::change_cells;
+use crate::which::Which;
+use tabled_base::{Entity, Position, RecordsMut, TableError};
+use tabled_config::SpannedConfig;
+
+/// The columns that a width leaves beside the side padding of a cell, 0 where it leaves none.
+fn room_beside(config: &SpannedConfig, at: Position, width: usize) -> usize
+    ensures { result ≡ width - side_padding config.now at.row at.column }
+{
+    let padding = config.get_padding(at);
+    width
+        .saturating_sub(padding.left.size)
+        .saturating_sub(padding.right.size)
+}
+
+/// The widths of the columns of a table, from the left, and the minimum of each.
+#[derive(Drop)]
+pub(crate) struct ColumnWidths {
+    pub(crate) widths: Vec<usize>,
+    pub(crate) mins: Vec<usize>,
+}
+
+impl ColumnWidths {
+    /// The width of a column, if it has one that is not below its minimum.
+    fn permitted_width(&self, column: usize) -> Option<usize>
+        ensures { result ≡ (if is_permitted self.now.widths.items self.now.mins.items column
+            then Some (at self.now.widths.items column) else None) }
+    {
+        let width = *self.widths.get(column)?;
+        let least = self.mins.get(column).copied().unwrap_or(0);
+        if width < least { None } else { Some(width) }
+    }
+}
+
+/// The room that a column leaves each of its cells beside the cell's own padding. The cells of a column below its
+/// minimum have none.
+#[derive(Drop)]
+struct ColumnRooms<'a> {
+    config: &'a SpannedConfig,
+    sizes: &'a ColumnWidths,
+}
+
+impl<'a> Rooms for ColumnRooms<'a> {
+    ghost room_at = { λ s row column. if is_permitted s.sizes.now.widths.items s.sizes.now.mins.items column
+        then Some (at s.sizes.now.widths.items column - side_padding s.config.now row column) else None };
+
+    fn room(&self, at: Position) -> Option<usize> {
+        match self.sizes.permitted_width(at.column) {
+            None => None,
+            Some(width) => Some(room_beside(self.config, at, width)),
+        }
+    }
+}
+
+/// Changes the cells of each column that has one of the widths, not below its minimum, column by column
+/// from the top.
+pub(crate) fn change_columns<T: TextRule, R: RecordsMut>(
+    rule: &T,
+    which: Which,
+    records: &mut R,
+    config: &SpannedConfig,
+    sizes: &ColumnWidths,
+) -> Result<(), TableError>
+    ensures ok { OnOk result (AreChanged (λ r c. true)
+        (for_width (if_taken which (T.makes rule.now)) config.now sizes.now.widths.items sizes.now.mins.items)
+        (R.cells records.old) (R.cells records.new)) }
+    ensures err { OnErr result (AreChangedBefore ByColumn (λ r c. true)
+        (needs_for_width which (T.shortens rule.now) config.now
+        sizes.now.widths.items sizes.now.mins.items)
+        (for_width (if_taken which (T.makes rule.now)) config.now sizes.now.widths.items sizes.now.mins.items)
+        (R.cells records.old) (R.cells records.new)) }
+    ensures only { IfErr result (λ e. e ≡ Memory) }
+{
+    let rooms = &ColumnRooms { config, sizes };
+    change_cells(
+        &Change { rule, which, rooms },
+        records,
+        Order::ByColumn,
+        Entity::Global,
+    )
+}

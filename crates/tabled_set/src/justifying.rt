@@ -1,0 +1,42 @@
+//! The rule by which a text gets just the columns of its room.
+ghost use Rattle.std.specs.Prelude.{◌≡◌};
+ghost use Rattle.tabled_set.specs.Justified.{IsJustified};
+
+use crate::changing::{Beginning, TextRule};
+use crate::filling::Filling;
+use crate::suffix::SuffixLimit;
+use crate::truncating::Truncating;
+use std::alloc::Global;
+use tabled_base::TableError;
+use tabled_text::text_width;
+
+/// Fills a text of fewer columns up with spaces, and then cuts what is wider.
+#[derive(Clone, Copy, Debug)]
+pub struct Justifying;
+
+impl TextRule for Justifying {
+    ghost makes = { λ s. IsJustified };
+
+    ghost shortens = { λ s room text. ⊥ };
+
+    fn beginning(&self, _text: &str, _room: usize) -> Option<Beginning<'_>> {
+        None
+    }
+
+    fn changed_text(&self, alloc: Global, text: &str, room: usize) -> Result<String, TableError> {
+        let filled = if text_width(text) < room {
+            Filling { fill: ' ' }.changed_text(alloc, text, room)?
+        } else {
+            String::from_str(alloc, text)?
+        };
+        if text_width(&filled) <= room {
+            return Ok(filled);
+        }
+        let cut = Truncating {
+            suffix: "",
+            limit: SuffixLimit::Cut,
+            multiline: false,
+        };
+        cut.changed_text(alloc, &filled, room)
+    }
+}

@@ -1,0 +1,49 @@
+//! Tables that are narrowed to a total.
+ghost use Rattle.std.specs.Prelude.{◌≡◌, ◌⊎◌, IfErr, OnOk, false};
+ghost use Rattle.tabled_base.specs.declared.error.TableError.TheVariants.{Memory, Range};
+ghost use Rattle.tabled_set.specs.CellChanges.{if_taken};
+ghost use Rattle.tabled_set.specs.Narrowed.{Narrows, StopsNarrowing, WiderOutOfRange};
+ghost use Rattle.tabled_size.specs.FilledIn.{HasNoEstimate};
+ghost use Rattle.tabled_size.specs.Sheet.{is_empty};
+
+use crate::changing::TextRule;
+use crate::columns::change_columns;
+use crate::shrinking::narrowed_widths;
+use crate::which::Which;
+use tabled_base::{RecordsMut, TableError};
+use tabled_config::SpannedConfig;
+use tabled_size::{CompleteDimension, Estimate, Peaker};
+
+/// Narrows a table that has a row and a column to a total of n columns. Sizes that aren't stored
+/// are estimated first, and stay stored on a later error. Fails with `Memory` only where sizes
+/// aren't stored or the table is wider than n; with `Range` where an estimate, the total or, in a
+/// table that is wider, the side padding of a cell passes the greatest `usize`.
+pub fn narrow_table<T: TextRule, P: Peaker + Drop, R: RecordsMut>(
+    rule: &T,
+    which: Which,
+    priority: P,
+    records: &mut R,
+    config: &SpannedConfig,
+    sizes: &mut CompleteDimension,
+    n: usize,
+) -> Result<(), TableError>
+    requires { is_empty (R.cells records.old) ≡ false }
+    ensures ok { OnOk result (Narrows P.shrinks priority (if_taken which (T.makes rule.now)) n
+        (R.cells records.old) config.now sizes.old (R.cells records.new) sizes.new) }
+    ensures err { IfErr result (λ e. StopsNarrowing P.shrinks priority which
+        (T.shortens rule.now) (T.makes rule.now) n e
+        (R.cells records.old) config.now sizes.old (R.cells records.new) sizes.new) }
+    ensures only { IfErr result (λ e. (e ≡ Memory) ⊎ ((e ≡ Range)
+        × (HasNoEstimate sizes.old (R.cells records.old) config.now
+        ⊎ WiderOutOfRange n (R.cells records.old) config.now sizes.old))) }
+{
+    sizes.estimate(records, config)?;
+    let alloc = records.allocator();
+    let Some(found) = narrowed_widths(alloc, priority, records, config, sizes, n)? else {
+        return Ok(());
+    };
+    change_columns(rule, which, records, config, &found)?;
+    sizes.set_widths(found.widths);
+    sizes.clear_height();
+    Ok(())
+}

@@ -1,0 +1,156 @@
+//! The padding of cells.
+ghost use Rattle.std.specs.Prelude.{◌≡◌, if◌then◌else◌};
+ghost use Rattle.tabled_config.specs.Options.{Becomes, colored};
+ghost use Rattle.tabled_entity.specs.Changes.{for_all, with_change};
+ghost use Rattle.tabled_entity.specs.Places.{IsPart};
+ghost use Rattle.tabled_base.specs.declared.error.TableError.TheVariants.{Memory};
+ghost use Rattle.tabled_set.specs.Sides.{filled, spaced};
+ghost use Rattle.tabled_set.specs.declared.padding.PaddingExpand.TheVariants.{Horizontal, Vertical};
+
+use crate::sides::{filled, spaced};
+use tabled_base::{CellOption, Entity, TableError, TableOption};
+use tabled_config::{ColoredConfig, CompactConfig, CompactMultilineConfig, Indent, Sides};
+
+/// Columns and lines kept free around the texts of cells. As an option of a table it replaces the padding of all
+/// cells, as one of an entity that of its cells.
+#[derive(Clone, Copy, Debug, PartialEq, Eq, PartialOrd, Ord)]
+pub struct Padding {
+    indent: Sides<Indent>,
+}
+
+/// A direction in which padding expands.
+#[derive(Debug, Drop)]
+pub enum PaddingExpand {
+    /// To the left and right.
+    Horizontal,
+    /// To the top and bottom.
+    Vertical,
+}
+
+impl Padding {
+    /// A padding of so many columns and lines of spaces.
+    pub fn new(left: usize, right: usize, top: usize, bottom: usize) -> Padding
+        ensures { result ≡ record { indent = spaced left right top bottom } }
+    {
+        Padding {
+            indent: spaced(left, right, top, bottom),
+        }
+    }
+
+    /// No padding.
+    pub fn zero() -> Padding
+        ensures { result ≡ record { indent = spaced 0 0 0 0 } }
+    {
+        Padding::new(0, 0, 0, 0)
+    }
+
+    /// The same padding, filled with other characters.
+    pub fn fill(self, left: char, right: char, top: char, bottom: char) -> Padding
+        ensures { result ≡ record { indent = filled self.indent left right top bottom } }
+    {
+        Padding {
+            indent: filled(self.indent, left, right, top, bottom),
+        }
+    }
+
+    /// The direction across a table, or down it.
+    pub fn expand(horizontal: bool) -> PaddingExpand
+        ensures { result ≡ (if horizontal then Horizontal else Vertical) }
+    {
+        if horizontal {
+            PaddingExpand::Horizontal
+        } else {
+            PaddingExpand::Vertical
+        }
+    }
+}
+
+impl From<Padding> for Sides<Indent> {
+    ghost from_gives = { λ padding sides. sides ≡ padding.indent };
+
+    fn from(padding: Padding) -> Sides<Indent> {
+        padding.indent
+    }
+}
+
+impl From<Sides<Indent>> for Padding {
+    ghost from_gives = { λ sides padding. padding ≡ record { indent = sides } };
+
+    fn from(indent: Sides<Indent>) -> Padding {
+        Padding { indent }
+    }
+}
+
+/// Refused with `Memory` alone, for a part of a table, and then all is as it was.
+impl<R> CellOption<R, ColoredConfig> for Padding {
+    ghost changes = { λ s r c e r' c'. (r' ≡ r)
+        × (c' ≡ colored (record c.config { padding = with_change c.config.padding e s.indent })) };
+
+    ghost refuses = { λ s f r c e r' c'. IsPart e × ((f ≡ Memory) × ((r' ≡ r) × (c' ≡ c))) };
+
+    fn change(
+        &self,
+        _records: &mut R,
+        cfg: &mut ColoredConfig,
+        entity: Entity,
+    ) -> Result<(), TableError> {
+        cfg.as_mut().set_padding(entity, self.indent)
+    }
+
+    fn hint_change(&self) -> Option<Entity> {
+        Some(Entity::Global)
+    }
+}
+
+impl<R, D> TableOption<R, ColoredConfig, D> for Padding {
+    ghost changes = { λ s r c d. Becomes (colored (record c.config { padding = for_all s.indent })) r d };
+
+    fn change(
+        self,
+        _records: &mut R,
+        cfg: &mut ColoredConfig,
+        _dims: &mut D,
+    ) -> Result<(), TableError> {
+        cfg.as_mut().set_padding(Entity::Global, self.indent)
+    }
+
+    fn hint_change(&self) -> Option<Entity> {
+        Some(Entity::Global)
+    }
+}
+
+impl<R, D> TableOption<R, CompactConfig, D> for Padding {
+    ghost changes = { λ s r c d. Becomes (record c { padding = s.indent }) r d };
+
+    fn change(
+        self,
+        _records: &mut R,
+        cfg: &mut CompactConfig,
+        _dims: &mut D,
+    ) -> Result<(), TableError> {
+        *cfg = cfg.set_padding(self.indent);
+        Ok(())
+    }
+
+    fn hint_change(&self) -> Option<Entity> {
+        Some(Entity::Global)
+    }
+}
+
+impl<R, D> TableOption<R, CompactMultilineConfig, D> for Padding {
+    ghost changes = { λ s r c d. Becomes (record c { config = record c.config { padding = s.indent } }) r d };
+
+    fn change(
+        self,
+        _records: &mut R,
+        cfg: &mut CompactMultilineConfig,
+        _dims: &mut D,
+    ) -> Result<(), TableError> {
+        cfg.set_padding(self.indent);
+        Ok(())
+    }
+
+    fn hint_change(&self) -> Option<Entity> {
+        Some(Entity::Global)
+    }
+}

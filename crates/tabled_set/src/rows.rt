@@ -1,0 +1,49 @@
+//! Rows whose cells are limited to their heights.
+ghost use Rattle.std.specs.Prelude.{◌≡◌, IfErr, OnErr, OnOk, Some, true};
+ghost use Rattle.tabled_base.specs.declared.error.TableError.TheVariants.{Memory};
+ghost use Rattle.tabled_set.specs.CellChanges.{AreChanged, AreChangedBefore};
+ghost use Rattle.tabled_set.specs.declared.order.Order.TheVariants.{ByRow};
+ghost use Rattle.tabled_priority.specs.Permitted.{at};
+ghost use Rattle.tabled_set.specs.Limited.{for_height, needs_for_height};
+
+use crate::changing::Change;
+use crate::line_counts::Limiting;
+use crate::order::Order;
+use crate::rooms::Rooms;
+use crate::walk::change_cells;
+use crate::which::Which;
+use tabled_base::{Entity, Position, RecordsMut, TableError};
+
+/// The lines that a row leaves each of its cells: its height, whatever the padding is.
+#[derive(Drop)]
+struct RowRooms<'a> {
+    heights: &'a [usize],
+}
+
+impl<'a> Rooms for RowRooms<'a> {
+    ghost room_at = { λ s row column. Some (at s.heights.now row) };
+
+    fn room(&self, at: Position) -> Option<usize> {
+        Some(self.heights.get(at.row).copied().unwrap_or(0))
+    }
+}
+
+/// Limits each cell of more lines than its row's height to these, row by row.
+pub(crate) fn limit_rows<R: RecordsMut>(
+    records: &mut R,
+    heights: &[usize],
+) -> Result<(), TableError>
+    ensures ok { OnOk result (AreChanged (λ r c. true) (for_height heights.now)
+        (R.cells records.old) (R.cells records.new)) }
+    ensures err { OnErr result (AreChangedBefore ByRow (λ r c. true)
+        (needs_for_height heights.now) (for_height heights.now)
+        (R.cells records.old) (R.cells records.new)) }
+    ensures only { IfErr result (λ e. e ≡ Memory) }
+{
+    let change = Change {
+        rule: &Limiting,
+        which: Which::Higher,
+        rooms: &RowRooms { heights },
+    };
+    change_cells(&change, records, Order::ByRow, Entity::Global)
+}

@@ -1,0 +1,110 @@
+//! Lists of sizes as options.
+ghost use Rattle.std.specs.Prelude.{◌≡◌, IfErr, IfOk, None, length};
+ghost use Rattle.std.specs.Iterator.{IsFiniteIterable};
+ghost use Rattle.tabled_base.specs.Cells.{columns};
+ghost use Rattle.tabled_base.specs.Given.{Given};
+ghost use Rattle.tabled_base.specs.declared.error.TableError.TheVariants.{Memory};
+ghost use Rattle.tabled_set.specs.Lists.{StoresHeights, StoresWidths};
+
+use crate::measurement::{Height, Width};
+use std::alloc::Global;
+use std::marker::PhantomData;
+use tabled_base::{Entity, ExactRecords, TableError, TableOption};
+use tabled_size::CompleteDimension;
+
+/// The sizes of a table in a direction, as an option that stores them. A list that is shorter than the table changes
+/// nothing; entries past the table are passed over where sizes are read. Never refused.
+#[derive(Debug, Drop)]
+pub struct SizeList<A> {
+    list: Vec<usize>,
+    direction: PhantomData<A>,
+}
+
+/// The widths of a table, one a column.
+pub type WidthList = SizeList<Width>;
+
+/// The heights of a table, one a row.
+pub type HeightList = SizeList<Height>;
+
+impl<A> SizeList<A> {
+    /// These sizes.
+    pub fn new(list: Vec<usize>) -> SizeList<A>
+        ensures { result.list ≡ list }
+    {
+        SizeList {
+            list,
+            direction: PhantomData,
+        }
+    }
+
+    /// The sizes that an iterator gives. Refused with `Memory` alone.
+    pub fn from_iter<I: IntoIterator<Item = usize>>(
+        alloc: Global,
+        sizes: I,
+    ) -> Result<SizeList<A>, TableError>
+    where
+        requires { IsFiniteIterable I.into_iter_gives I.IntoIter.can_next I.IntoIter.remaining sizes }
+        ensures ok { IfOk result (λ answer. Given I.into_iter_gives I.IntoIter.next_gives sizes answer.list.items) }
+        ensures only { IfErr result (λ e. e ≡ Memory) }
+    {
+        let mut list = Vec::new(alloc);
+        'sizes: for size in sizes {
+            list.push(size)?;
+        }
+        Ok(SizeList::new(list))
+    }
+}
+
+impl<A> From<Vec<usize>> for SizeList<A> {
+    ghost from_gives = { λ list sizes. sizes.list ≡ list };
+
+    fn from(list: Vec<usize>) -> SizeList<A> {
+        SizeList::new(list)
+    }
+}
+
+impl<R: ExactRecords, C> TableOption<R, C, CompleteDimension> for SizeList<Width> {
+    ghost changes = { λ s r c d r' c' d'. (r' ≡ r) × ((c' ≡ c) × StoresWidths s.list.items (columns (R.cells r)) d d') };
+
+    ghost hint = { λ s. None };
+
+    fn change(
+        self,
+        records: &mut R,
+        _cfg: &mut C,
+        dims: &mut CompleteDimension,
+    ) -> Result<(), TableError> {
+        if self.list.len() < records.count_columns() {
+            return Ok(());
+        }
+        dims.set_widths(self.list);
+        Ok(())
+    }
+
+    fn hint_change(&self) -> Option<Entity> {
+        None
+    }
+}
+
+impl<R: ExactRecords, C> TableOption<R, C, CompleteDimension> for SizeList<Height> {
+    ghost changes = { λ s r c d r' c' d'. (r' ≡ r) × ((c' ≡ c) × StoresHeights s.list.items (length (R.cells r)) d d') };
+
+    ghost hint = { λ s. None };
+
+    fn change(
+        self,
+        records: &mut R,
+        _cfg: &mut C,
+        dims: &mut CompleteDimension,
+    ) -> Result<(), TableError> {
+        if self.list.len() < records.count_rows() {
+            return Ok(());
+        }
+        dims.set_heights(self.list);
+        Ok(())
+    }
+
+    fn hint_change(&self) -> Option<Entity> {
+        None
+    }
+}

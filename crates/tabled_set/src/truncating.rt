@@ -1,0 +1,99 @@
+//! The rule by which a text is truncated.
+ghost use Rattle.std.specs.Prelude.{◌≡◌, ◌≢◌, IfNone, IfOk, IfSome, OnOk, string_bytes};
+ghost use Rattle.std.specs.Cow.{cow_str_bytes};
+ghost use Rattle.tabled_set.specs.CellChanges.{truncating};
+ghost use Rattle.tabled_set.specs.InPlace.{IsLeftAt, truncating_in_place};
+ghost use Rattle.tabled_set.specs.Truncated.{AddsEnded, HasEndedLines};
+ghost use Rattle.tabled_text.specs.Cut.{NeedsFill};
+
+use crate::changing::{Beginning, TextRule};
+use crate::suffix::{SuffixLimit, UsedSuffix, lent_suffix, used_suffix};
+use std::alloc::{AllocError, Global};
+use tabled_base::{SHORT_TEXT, TableError};
+use tabled_text::{count_lines, cut_length, cut_str, lines};
+
+/// Truncates a text to the columns of its room. Where the suffix leaves columns of the room, the text is cut to these
+/// and the suffix follows; else the limit says what stands there. In no column stands nothing.
+#[derive(Clone, Copy, Debug, PartialEq, Eq, PartialOrd, Ord)]
+pub struct Truncating<'a> {
+    /// The text at the end of what was truncated.
+    pub suffix: &'a str,
+    /// What is done with a suffix that takes its whole room, or more.
+    pub limit: SuffixLimit,
+    /// Whether each line is truncated by itself, and the suffix stands at the end of each.
+    pub multiline: bool,
+}
+
+impl<'a> TextRule for Truncating<'a> {
+    ghost makes = { λ s. truncating s.suffix.now s.limit s.multiline };
+
+    ghost shortens = { λ s. truncating_in_place s.suffix.now s.limit s.multiline };
+
+    fn beginning(&self, text: &str, room: usize) -> Option<Beginning<'_>> {
+        if self.multiline && count_lines(text) > 1 {
+            return None;
+        }
+        let used = lent_suffix(self.suffix, self.limit, room)?;
+        let bytes = length_left(text, used.left)?;
+        if used.text.len() > SHORT_TEXT.saturating_sub(bytes) {
+            return None;
+        }
+        Some(Beginning {
+            bytes,
+            ending: used.text,
+        })
+    }
+
+    fn changed_text(&self, alloc: Global, text: &str, room: usize) -> Result<String, TableError> {
+        let used = used_suffix(alloc, self.suffix, self.limit, room)?;
+        if self.multiline {
+            return Ok(ended_lines(alloc, text, &used)?);
+        }
+        let mut answer = String::new(alloc);
+        push_ended(&mut answer, text, &used)?;
+        Ok(answer)
+    }
+}
+
+/// How many bytes are left of a text in some columns, where no U+FFFD stands behind them.
+fn length_left(text: &str, columns: usize) -> Option<usize>
+    ensures some { IfSome result (λ bytes. IsLeftAt columns text.now bytes) }
+    ensures none { IfNone result ((columns ≢ 0) × NeedsFill columns text.now) }
+{
+    if columns == 0 {
+        Some(0)
+    } else {
+        cut_length(text, columns)
+    }
+}
+
+/// Appends a text that is cut to the columns left, and what stands for the suffix.
+fn push_ended(answer: &mut String, text: &str, used: &UsedSuffix<'_>) -> Result<(), AllocError>
+    ensures { OnOk result (AddsEnded used.now.left (cow_str_bytes used.now.text) text.now
+        (string_bytes answer.old) (string_bytes answer.new)) }
+{
+    if used.left == 0 {
+        answer.push_str(&used.text)?;
+        return Ok(());
+    }
+    let front = cut_str(*answer.allocator(), text, used.left)?;
+    answer.push_str(&front)?;
+    answer.push_str(&used.text)?;
+    Ok(())
+}
+
+/// The lines of a text, each with what stands for the suffix.
+fn ended_lines(alloc: Global, text: &str, used: &UsedSuffix<'_>) -> Result<String, AllocError>
+    ensures { IfOk result (λ answer. HasEndedLines used.now.left (cow_str_bytes used.now.text) text.now (string_bytes answer)) }
+{
+    let mut answer = String::new(alloc);
+    let mut begun = false;
+    for line in lines(text) {
+        if begun {
+            answer.push('\n')?;
+        }
+        begun = true;
+        push_ended(&mut answer, line, used)?;
+    }
+    Ok(answer)
+}

@@ -1,9 +1,0 @@
-use Rattle.tabled_stream.proofs.StreamedTexts.{streamed_holds, streamed_rectangular, streamed_texts}
-use Rattle.tabled_stream.proofs.laws.streams_hold.Goals as goal
-
-pub returns : goal.returns
-returns g = record {
-  rectangular = λ settings config ahead_rows rows t s. streamed_rectangular s;
-  texts = λ settings config ahead_rows rows t s. streamed_texts s;
-  holds = λ settings config ahead_rows rows t s. streamed_holds s;
-}

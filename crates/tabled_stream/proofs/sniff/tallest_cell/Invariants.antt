@@ -1,6 +1,0 @@
-use Rattle.std.proofs.Common.{◌≡◌, length, map, max, take}
-use Rattle.tabled_text.specs.Measure.{greatest, lines_of}
-use Rattle.tabled_stream.proofs.sniff.tallest_cell.Given as goal
-
-abbrev pub invariant-cells : goal.invariant-cells
-invariant-cells g l = l.lines ≡ max 1 (greatest (map (λ text. length (lines_of text)) (take l.column (map g.C.CellText.text l.cells))))

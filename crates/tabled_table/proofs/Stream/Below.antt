@@ -1,0 +1,54 @@
+-- Texts that are sent below lines that are out.
+use Rattle.std.proofs.Common.{◌≡◌, Bool, false, List, [], ◌++◌, ℕ, Result, Ok, Err, refl, sym, ◌∙◌, ap, subst, append_assoc}
+use Rattle.std.specs.List.{join_with_byte}
+use Rattle.tabled_base.specs.declared.error.TableError.{TableError}
+use Rattle.tabled_line.specs.Leading.{LineSends, LineStops, WritesLines, led}
+use Rattle.tabled_line.specs.Sent.{Sent, Sends, Stops}
+use Rattle.tabled_line.proofs.Leading.{led-append, led-joined, lines-further}
+use Rattle.tabled_line.proofs.Sending.{Appends-then, sends-along, stops-then}
+use Rattle.tabled_table.specs.Stream.Below.{StopsBelow, WritesBelow}
+
+-- nothing stands above
+pub stops-first : {a c : Sent} {e : TableError} {text : List ℕ} → Stops a e c text → StopsBelow [] a e c text
+stops-first q = record { stops = q; more = q.front; out = refl }
+
+-- what was sent stands above
+pub stops-below : {a b c : Sent} {e : TableError} {s t : List ℕ} (whole : List ℕ) → Sends a b s → Stops b e c t → whole ≡ s ++ t
+    → StopsBelow s a e c whole
+stops-below {a} {b} {c} {e} {s} {t} whole p q w =
+    let both = stops-then a b c e s t p q in
+    record {
+      stops =
+          record {
+            front = s ++ q.front;
+            rest = q.rest;
+            whole = append_assoc s q.front q.rest ∙ ap (λ u. s ++ u) q.whole ∙ sym w;
+            added = Appends-then a.bytes b.bytes c.bytes s q.front p.added q.added;
+            cause = both.cause;
+          };
+      more = q.front;
+      out = refl;
+    }
+
+-- lines that were sent stand above
+pub lines-below : {a b c : Sent} {p q : Bool} {e : TableError} {xs ys : List (List ℕ)} (whole : List (List ℕ)) → LineSends a p b q xs
+    → LineStops b q e c ys → whole ≡ xs ++ ys → StopsBelow (led p xs) a e c (led p whole)
+lines-below {p = p} {q = q} {xs = xs} {ys = ys} whole h k w =
+    stops-below (led p whole) h.sends k.stops (ap (led p) w ∙ led-append p xs ys ∙ ap (λ r. led p xs ++ led r ys) (sym h.after))
+
+-- the texts of lines, as they are joined by line feeds
+pub joined-below : {a c : Sent} {e : TableError} (above lines : List (List ℕ)) → StopsBelow (led false above) a e c (led false lines)
+    → StopsBelow (join_with_byte 10 above) a e c (join_with_byte 10 lines)
+joined-below {a} {c} {e} above lines h =
+    let P : List ℕ → Type 0 = λ text. StopsBelow (led false above) a e c text in
+    let Q : List ℕ → Type 0 = λ text. StopsBelow text a e c (join_with_byte 10 lines) in
+    subst Q (led-joined above) (subst P (led-joined lines) h)
+
+-- lines were sent, and printing others below them is the end
+pub ends-below : {R : Type 0} {a b : Sent} {q : Bool} {xs : List (List ℕ)} (c : Sent) (after : Bool) (ys whole : List (List ℕ)) (r : Result R TableError)
+    → LineSends a false b q xs → WritesLines b q r c after ys → whole ≡ xs ++ ys
+    → WritesBelow (join_with_byte 10 xs) a r c (join_with_byte 10 whole)
+ends-below {a = a} c after ys whole (Ok x) h k w =
+    let both = lines-further h k w in
+    sends-along a c _ _ both.sends (led-joined whole)
+ends-below {xs = xs} c after ys whole (Err e) h k w = joined-below xs whole (lines-below whole h k w)

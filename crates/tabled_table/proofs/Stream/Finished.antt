@@ -1,0 +1,215 @@
+-- What a stream leaves, put together of what its parts left.
+use Rattle.std.proofs.Common.{◌≡◌, ◌⊎◌, ℕ, ◌<◌, ◌≤◌, ◌^◌, Bool, true, false, List, [], ◌∷◌, ◌++◌, length, max, take, drop, Option, Some, None, Result, Ok, Err, refl, sym, ◌∙◌, ap, subst, arith, inl, inr, ⊎_elim, append-nil, append_assoc, length-append}
+use Rattle.std.specs.List.{slice_index}
+use Rattle.std.specs.Result.{IsErrAnd}
+use Rattle.std.proofs.lemmas.List.{take-append-drop}
+use Rattle.tabled_base.specs.declared.error.TableError.{TableError}
+use Rattle.tabled_base.specs.declared.error.TableError.TheVariants.{Memory, Range}
+use Rattle.tabled_config.specs.declared.compact.CompactConfig.{CompactConfig}
+use Rattle.tabled_grid.specs.Picture.{table_text}
+use Rattle.tabled_line.specs.Sent.{Sent, Sends}
+use Rattle.tabled_line.proofs.Leading.{led-joined}
+use Rattle.tabled_table.specs.declared.iter_table.layout.Layout.{Layout}
+use Rattle.tabled_table.specs.declared.iter_table.settings.Settings.{Settings}
+use Rattle.tabled_table.specs.Stream.Below.{StopsBelow}
+use Rattle.tabled_table.specs.Stream.Printed.{lines_above, lines_before, text_above}
+use Rattle.tabled_table.specs.Stream.Progress.{AreFirst, AreFurther, EndsSheet, Halts, HaltsBefore, HaltsWithin, IsLaidOut, IsLimited, left_of}
+use Rattle.tabled_table.specs.Stream.Streamed.{IsStreamed, ahead, column_count, limited, sniffed}
+use Rattle.tabled_table.specs.Stream.Streams.{AreEnough, AreSniffed, IsTooHighFirst, IsWholeStream, StreamStops, Streams, reaches, stream_total}
+use Rattle.tabled_table.proofs.Stream.Below.{joined-below}
+use Rattle.tabled_table.proofs.Stream.FirstRows.{few-first, few-more, length-limited, limited-more, read-more}
+
+high-more : (settings : Settings) (config : CompactConfig) (ahead_rows : List (List (List ℕ))) (index : ℕ) (rest others : List (List (List ℕ)))
+    → IsTooHighFirst settings config ahead_rows index rest → IsTooHighFirst settings config ahead_rows index (rest ++ others)
+high-more settings config ahead_rows index [] others h = absurd h
+high-more settings config ahead_rows index (row ∷ rest) others h = h
+
+module _ {settings : Settings} {config : CompactConfig} {rows : List (List (List ℕ))} {whole : Bool} {old new : Sent} {e : TableError} where
+  halted-by : (some others shown rest : List (List (List ℕ))) → limited settings.rows rows ≡ some ++ others → some ≡ shown ++ rest
+      → length rows ≤ max (ahead settings) (max 1 (length some)) → AreSniffed settings rows whole → 0 < column_count settings (sniffed settings rows)
+      → stream_total settings config (sniffed settings rows) < 2 ^ 64
+      → (HaltsBefore settings config (sniffed settings rows) shown rest old (column_count settings (sniffed settings rows)) e new
+      ⊎ ((rest ≡ []) × HaltsWithin settings config (sniffed settings rows) shown old (column_count settings (sniffed settings rows)) e new))
+      → StreamStops settings config rows whole old e new
+  halted-by some others shown rest p q m s c w (inl b) =
+      let lines = lines_above b.sheet (column_count settings (sniffed settings rows)) (length shown) in
+      let S : List ℕ → Type 0 = λ text. Sends old new text in
+      inr (inl (record {
+        shown = shown;
+        rest = rest ++ others;
+        sheet = b.sheet;
+        begun = record {
+          read = s;
+          parts = p ∙ ap (λ l. l ++ others) q ∙ append_assoc shown rest others;
+          streamed = b.in_reach.streamed;
+          heights = b.in_reach.heights;
+          columns = c;
+          width = w;
+        };
+        taken = (let t = b.taken in omega (arith, ap length q, length-append shown rest));
+        cause = ⊎_elim (λ h. inl (h.0, high-more settings config (sniffed settings rows) (length shown) rest others h.1))
+            (λ h. inr (h.0, (let some = h.1 in omega (arith, length-append rest others)))) b.cause;
+        sends = subst S (led-joined lines) b.sends.sends;
+      }))
+  halted-by some others shown rest p q m s c w (inr h) =
+      let b = h.1 in
+      let count = column_count settings (sniffed settings rows) in
+      inr (inr (inl (record {
+        shown = shown;
+        rest = rest ++ others;
+        sheet = b.sheet;
+        begun = record {
+          read = s;
+          parts = p ∙ ap (λ l. l ++ others) q ∙ append_assoc shown rest others;
+          streamed = b.in_reach.streamed;
+          heights = b.in_reach.heights;
+          columns = c;
+          width = w;
+        };
+        taken = omega (arith, ap length q, length-append shown rest, ap length h.0);
+        stops = joined-below (lines_before b.sheet count (length shown)) (lines_above b.sheet count (length shown)) b.stops;
+      })))
+
+  -- printing of some of the rows halted
+  pub halted : (some others : List (List (List ℕ))) → limited settings.rows rows ≡ some ++ others
+      → length rows ≤ max (ahead settings) (max 1 (length some)) → AreSniffed settings rows whole → 0 < column_count settings (sniffed settings rows)
+      → stream_total settings config (sniffed settings rows) < 2 ^ 64
+      → Halts settings config (sniffed settings rows) some old (column_count settings (sniffed settings rows)) e new
+      → StreamStops settings config rows whole old e new
+  halted some others p m s c w h = halted-by some others h.shown h.rest p h.parts m s c w h.halts
+
+pub err-streams : {R : Type 0} {settings : Settings} {config : CompactConfig} {rows : List (List (List ℕ))} {whole : Bool} {old new : Sent}
+    (r : Result R TableError) (e : TableError) → IsErrAnd r (λ d. d ≡ e) → StreamStops settings config rows whole old e new
+    → Streams settings config rows whole old r new
+err-streams (Ok x) e i h = absurd i
+err-streams {settings = settings} {config} {rows} {whole} {old} {new} (Err d) e i h =
+    let P : TableError → Type 0 = λ d. StreamStops settings config rows whole old d new in subst P (sym i) h
+
+reached : (limit : Option ℕ) (kept more : List (List (List ℕ))) → IsLimited (left_of limit (length kept)) (length more) false
+    → reaches limit (length (kept ++ more))
+reached None kept more h = let never = h in absurd (cc)
+reached (Some n) kept more h = let l = h.1 refl in omega (arith, length-append kept more)
+
+enough-by : (settings : Settings) (kept more : List (List (List ℕ))) (whole : Bool) → AreSniffed settings (kept ++ more) whole
+    → IsLimited (left_of settings.rows (length kept)) (length more) whole → AreEnough settings (kept ++ more) whole
+enough-by settings kept more true s l = inl refl
+enough-by settings kept more false (inl never) l = absurd (cc)
+enough-by settings kept more false (inr h) l = inr (h, inl (reached settings.rows kept more l))
+
+whole-stream : {settings : Settings} {config : CompactConfig} {rows some : List (List (List ℕ))} {old new : Sent} {R : Type 0} {r : Result R TableError}
+    → limited settings.rows rows ≡ some → stream_total settings config (sniffed settings rows) < 2 ^ 64
+    → (h : EndsSheet settings config (sniffed settings rows) some old r new) → IsWholeStream settings config rows h.sheet
+whole-stream {settings} {config} {rows} {some} p w h =
+    let S : List (List (List ℕ)) → Type 0 = λ l. IsStreamed settings config (sniffed settings rows) l h.sheet in
+    let H : List (List (List ℕ)) → Type 0 = λ l. (index : ℕ) → index < length l → slice_index h.sheet.heights index < 2 ^ 64 in
+    record {
+      streamed = subst S (sym p) h.in_reach.streamed;
+      heights = λ _. subst H (sym p) h.in_reach.heights;
+      width = λ _. w;
+    }
+
+-- the end was printed, or refused there
+ended : {R : Type 0} {settings : Settings} {config : CompactConfig}
+    (rows : List (List (List ℕ))) {some : List (List (List ℕ))} {whole : Bool} {old new : Sent} (r : Result R TableError)
+    → AreEnough settings rows whole → limited settings.rows rows ≡ some → stream_total settings config (sniffed settings rows) < 2 ^ 64
+    → EndsSheet settings config (sniffed settings rows) some old r new → Streams settings config rows whole old r new
+ended rows (Ok x) enough p w h = record { enough = enough; sheet = h.sheet; streamed = whole-stream p w h; sends = h.writes }
+ended {settings = settings} rows {old = old} {new} (Err e) enough p w h =
+    let P : ℕ → Type 0 = λ n. StopsBelow (text_above h.sheet (column_count settings (sniffed settings rows)) n) old e new (table_text h.sheet) in
+    inr (inr (inr (record { enough = enough; sheet = h.sheet; streamed = whole-stream p w h; stops = subst P (ap length (sym p)) h.writes })))
+
+sniffed-first : {settings : Settings} {kept : List (List (List ℕ))} (all : Bool) → AreFirst settings kept all → AreSniffed settings kept all
+sniffed-first true f = inl refl
+sniffed-first false f = inr (f.sniffed refl)
+
+module _ {settings : Settings} {config : CompactConfig} {kept : List (List (List ℕ))} {all : Bool} {old new : Sent} (f : AreFirst settings kept all)
+    (c : 0 < column_count settings (sniffed settings kept)) (w : stream_total settings config (sniffed settings kept) < 2 ^ 64) where
+  -- printing halted in the rows that were taken first
+  pub halted-first : {e : TableError} (count : ℕ)
+      → Halts settings config (sniffed settings kept) (take count (limited settings.rows kept)) old (column_count settings (sniffed settings kept)) e new
+      → StreamStops settings config kept all old e new
+  halted-first count h =
+      let few = few-first f in
+      halted (take count (limited settings.rows kept)) (drop count (limited settings.rows kept)) (sym (take-append-drop count (limited settings.rows kept)))
+      (omega arith) (sniffed-first all f) c w h
+
+  -- it went on behind them
+  pub finished : {R : Type 0} (r : Result R TableError) (more : List (List (List ℕ))) (whole : Bool)
+      → AreFurther settings.rows (length kept) all (length more) whole
+      → (IsLimited (left_of settings.rows (length kept)) (length more) whole
+      × EndsSheet settings config (sniffed settings kept) (limited settings.rows kept ++ more) old r new)
+      ⊎ IsErrAnd r (λ e. Halts settings config (sniffed settings kept) (limited settings.rows kept ++ more) old
+      (column_count settings (sniffed settings kept)) e new)
+      → Streams settings config (kept ++ more) whole old r new
+  finished r more whole g (inl h) =
+      let read = read-more f more whole g in
+      let W : List (List (List ℕ)) → Type 0 = λ a. stream_total settings config a < 2 ^ 64 in
+      let E : List (List (List ℕ)) → Type 0 = λ a. EndsSheet settings config a (limited settings.rows kept ++ more) old r new in
+      ended (kept ++ more) r (enough-by settings kept more whole read.1 h.0) (limited-more settings.rows kept more g.permitted)
+      (subst W (sym read.0) w) (subst E (sym read.0) h.1)
+  finished (Ok x) more whole g (inr h) = absurd h
+  finished (Err e) more whole g (inr h) =
+      let read = read-more f more whole g in
+      let W : List (List (List ℕ)) → Type 0 = λ a. stream_total settings config a < 2 ^ 64 in
+      let C : List (List (List ℕ)) → Type 0 = λ a. 0 < column_count settings a in
+      let H : List (List (List ℕ)) → Type 0 = λ a. Halts settings config a (limited settings.rows kept ++ more) old (column_count settings a) e new in
+      halted (limited settings.rows kept ++ more) [] (limited-more settings.rows kept more g.permitted ∙ sym (append-nil (limited settings.rows kept ++ more)))
+      (few-more f more whole g) read.1 (subst C (sym read.0) c) (subst W (sym read.0) w) (subst H (sym read.0) h)
+
+-- ---- for the functions that print: what they know is told of vectors and of a layout
+
+module _ {settings : Settings} {config : CompactConfig} (kept : List (List (List ℕ))) {layout : Layout} {total : ℕ}
+    (l : IsLaidOut settings config (sniffed settings kept) layout) (some : 0 < layout.count)
+    (t : total ≡ stream_total settings config (sniffed settings kept)) (b : total < 2 ^ 64) where
+  in-range : stream_total settings config (sniffed settings kept) < 2 ^ 64
+  in-range = subst (λ n. n < 2 ^ 64) t b
+
+  some-columns : 0 < column_count settings (sniffed settings kept)
+  some-columns = subst (λ n. 0 < n) l.count some
+
+module _ {settings : Settings} {config : CompactConfig} {kept : List (List (List ℕ))} {all : Bool} {layout : Layout} {old new : Sent} {total : ℕ}
+    (f : AreFirst settings kept all) (l : IsLaidOut settings config (sniffed settings kept) layout) (some : 0 < layout.count)
+    (t : total ≡ stream_total settings config (sniffed settings kept)) (b : total < 2 ^ 64) where
+  pub put-halted : {R : Type 0} (r : Result R TableError) (e : TableError) (shown : List (List (List ℕ))) → shown ≡ limited settings.rows kept
+      → IsErrAnd r (λ d. d ≡ e) → (n : ℕ) × Halts settings config (sniffed settings kept) (take n shown) old layout.count e new
+      → Streams settings config (kept ++ []) all old r new
+  put-halted r e shown s i h =
+      let H : ℕ → List (List (List ℕ)) → Type 0 = λ k rows. Halts settings config (sniffed settings kept) (take h.0 rows) old k e new in
+      let P : List (List (List ℕ)) → Type 0 = λ rows. Streams settings config rows all old r new in
+      let laid = subst (λ rows. H (column_count settings (sniffed settings kept)) rows) s (subst (λ k. H k shown) l.count h.1) in
+      subst P (sym (append-nil kept)) (err-streams r e i (halted-first f (some-columns kept l some t b) (in-range kept l some t b) h.0 laid))
+
+  pub put-finished : {R : Type 0} (r : Result R TableError) (more : List (List (List ℕ))) (whole : Bool) (items count : ℕ) → items ≡ length kept
+      → count ≡ length more
+      → AreFurther settings.rows items all count whole
+      → (IsLimited (left_of settings.rows items) (length more) whole
+      × EndsSheet settings config (sniffed settings kept) (limited settings.rows kept ++ more) old r new)
+      ⊎ IsErrAnd r (λ e. Halts settings config (sniffed settings kept) (limited settings.rows kept ++ more) old layout.count e new)
+      → Streams settings config (kept ++ more) whole old r new
+  put-finished r more whole items count i n g h =
+      let F : ℕ → ℕ → Type 0 = λ k m. AreFurther settings.rows k all m whole in
+      let Q : ℕ → ℕ → Type 0 = λ k c.
+      (IsLimited (left_of settings.rows k) (length more) whole
+      × EndsSheet settings config (sniffed settings kept) (limited settings.rows kept ++ more) old r new)
+      ⊎ IsErrAnd r (λ e. Halts settings config (sniffed settings kept) (limited settings.rows kept ++ more) old c e new) in
+      finished f (some-columns kept l some t b) (in-range kept l some t b) r more whole (subst (λ m. F (length kept) m) n (subst (λ k. F k count) i g))
+      (subst (λ c. Q (length kept) c) l.count (subst (λ k. Q k layout.count) i h))
+
+-- nothing was printed, since the whole is too wide or memory was refused
+pub unplanned : {R : Type 0} {settings : Settings} (config : CompactConfig) {kept : List (List (List ℕ))} {all : Bool} (old : Sent)
+    (r : Result R TableError) (e : TableError)
+    → AreFirst settings kept all → 0 < column_count settings (sniffed settings kept) → 0 < length (limited settings.rows kept) → IsErrAnd r (λ d. d ≡ e)
+    → ((e ≡ Range) × (2 ^ 64 ≤ stream_total settings config (sniffed settings kept))) ⊎ (e ≡ Memory)
+    → Streams settings config (kept ++ []) all old r old
+unplanned {settings = settings} config {kept} {all} old r e f c s i h =
+    let P : List (List (List ℕ)) → Type 0 = λ rows. Streams settings config rows all old r old in
+    subst P (sym (append-nil kept)) (err-streams r e i (inl (record {
+      same = refl;
+      cause = ⊎_elim (λ w. inl (w.0, sniffed-first all f, record { shown = s; columns = c }, w.1))
+          (λ m. inr (m, (let most = length-limited settings.rows kept in omega arith))) h;
+    })))
+
+-- an allocation failed for a row that was read
+pub unread : {R : Type 0} (settings : Settings) (config : CompactConfig) (rows : List (List (List ℕ))) (old : Sent) (r : Result R TableError) (e : TableError)
+    → 0 < length rows → IsErrAnd r (λ d. d ≡ e) → e ≡ Memory → Streams settings config rows false old r old
+unread settings config rows old r e some i m = err-streams r e i (inl (record { same = refl; cause = inr (m, some) }))

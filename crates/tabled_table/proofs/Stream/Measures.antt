@@ -1,0 +1,96 @@
+-- What is measured of rows, cell by cell and row by row.
+use Rattle.std.proofs.Common.{◌≡◌, ℕ, zero, suc, ◌+◌, ◌<◌, ◌≤◌, List, [], ◌∷◌, ◌++◌, length, map, max, min, take, refl, sym, ◌∙◌, ap, arith, get_or, ◌≢◌, below_more, ⊎_elim}
+use Rattle.std.proofs.lemmas.Bool.{cases_lt}
+use Rattle.std.proofs.lemmas.List.{get_or-map, length-map, map-append, take_more}
+use Rattle.std.specs.declared.alloc.Global.{Global}
+use Rattle.std.specs.declared.vec.Vec.{Vec}
+use Rattle.tabled_base.specs.Cells.{longest, texts_of}
+use Rattle.tabled_text.specs.Measure.{greatest, lines_of, text_columns}
+use Rattle.tabled_text.proofs.FittingLaws.{fits-none}
+use Rattle.tabled_table.specs.Stream.Streamed.{tallest, widest}
+
+pub greatest-pushed : (xs : List ℕ) (y : ℕ) → greatest (xs ++ y ∷ []) ≡ max (greatest xs) y
+greatest-pushed [] y = omega arith
+greatest-pushed (x ∷ xs) y = let e = greatest-pushed xs y in omega arith
+
+-- of what a function makes of the first items, one item further
+pub greatest-next : {A : Type 0} (f : A → ℕ) (xs : List A) (n : ℕ) (d : A) → n < length xs
+    → greatest (map f (take (n + 1) xs)) ≡ max (greatest (map f (take n xs))) (f (get_or xs n d))
+greatest-next f xs n d h =
+    ap (λ l. greatest (map f l)) (take_more xs n d h)
+    ∙ ap greatest (map-append f (take n xs) (get_or xs n d ∷ []))
+    ∙ greatest-pushed (map f (take n xs)) (f (get_or xs n d))
+
+pub take-min : {A : Type 0} (n : ℕ) (xs : List A) → take (min n (length xs)) xs ≡ take n xs
+take-min zero xs = let e : min zero (length xs) ≡ zero = omega arith in ap (λ k. take k xs) e
+take-min {A = A} (suc n) [] = let e : min (suc n) zero ≡ zero = omega arith in ap (λ k. take {A = A} k []) e
+take-min (suc n) (x ∷ xs) =
+    let e : min (suc n) (suc (length xs)) ≡ suc (min n (length xs)) = omega arith in
+    ap (λ k. take k (x ∷ xs)) e ∙ ap (λ l. x ∷ l) (take-min n xs)
+
+-- a row further: what its cells' texts are
+module _ {T : Type 0} (text : T → List ℕ) where
+  pub row-at : (rows : List (Vec T Global)) (k : ℕ) (row : Vec T Global) → k < length rows → row ≡ get_or rows k row
+      → get_or (texts_of text rows) k [] ≡ map text row.items
+  row-at rows k row h e = get_or-map (λ r. map text r.items) rows k row [] h ∙ ap (λ r. map text r.items) (sym e)
+
+  pub longest-next : (rows : List (Vec T Global)) (k columns : ℕ) (row : Vec T Global) → k < length rows → row ≡ get_or rows k row
+      → columns ≡ longest (take k (texts_of text rows)) → max columns (length row.items) ≡ longest (take (k + 1) (texts_of text rows))
+  longest-next rows k columns row h e c =
+      let within : k < length (texts_of text rows) = omega (arith, length-map rows (λ r. map text r.items)) in
+      let at : length (get_or (texts_of text rows) k []) ≡ length row.items = ap length (row-at rows k row h e) ∙ length-map row.items text in
+      let next = greatest-next length (texts_of text rows) k [] within in
+      omega arith
+
+  pub widest-next : (rows : List (Vec T Global)) (k column : ℕ) (row : Vec T Global) (old new : ℕ) → k < length rows → row ≡ get_or rows k row
+      → old ≡ widest (take k (texts_of text rows)) column → new ≡ max old (text_columns (get_or (map text row.items) column []))
+      → new ≡ widest (take (k + 1) (texts_of text rows)) column
+  widest-next rows k column row old new h e c n =
+      let within : k < length (texts_of text rows) = omega (arith, length-map rows (λ r. map text r.items)) in
+      let f : List (List ℕ) → ℕ = λ r. text_columns (get_or r column []) in
+      let at : f (get_or (texts_of text rows) k []) ≡ f (map text row.items) = ap f (row-at rows k row h e) in
+      n ∙ ap (λ m. max m (f (map text row.items))) c ∙ ap (λ m. max (widest (take k (texts_of text rows)) column) m) (sym at)
+      ∙ sym (greatest-next f (texts_of text rows) k [] within)
+
+  pub tallest-next : (cells : List T) (k lines : ℕ) (cell : T) (height : ℕ) → k < length cells → cell ≡ get_or cells k cell
+      → lines ≡ max 1 (greatest (map (λ t. length (lines_of t)) (take k (map text cells)))) → height ≡ length (lines_of (text cell))
+      → max lines height ≡ max 1 (greatest (map (λ t. length (lines_of t)) (take (k + 1) (map text cells))))
+  tallest-next cells k lines cell height h e c n =
+      let within : k < length (map text cells) = omega (arith, length-map cells text) in
+      let f : List ℕ → ℕ = λ t. length (lines_of t) in
+      let at : f (get_or (map text cells) k []) ≡ f (text cell) = ap f (get_or-map text cells k cell [] h ∙ ap text (sym e)) in
+      let next = greatest-next f (map text cells) k [] within in
+      omega arith
+
+  pub tallest-all : (cells : List T) (count lines : ℕ)
+      → lines ≡ max 1 (greatest (map (λ t. length (lines_of t)) (take (min count (length cells)) (map text cells)))) → lines ≡ tallest count (map text cells)
+  tallest-all cells count lines c =
+      c ∙ ap (λ n. max 1 (greatest (map (λ t. length (lines_of t)) (take n (map text cells))))) (ap (λ n. min count n) (sym (length-map cells text)))
+      ∙ ap (λ l. max 1 (greatest (map (λ t. length (lines_of t)) l))) (take-min count (map text cells))
+
+-- ---- what each column leaves, a cell further
+
+past-end : {A : Type 0} (xs : List A) (k : ℕ) (d : A) → length xs ≤ k → get_or xs k d ≡ d
+past-end [] k d h = refl
+past-end (x ∷ xs) zero d h = absurd (omega arith)
+past-end (x ∷ xs) (suc k) d h = past-end xs k d (omega arith)
+
+columns-none : text_columns [] ≡ 0
+columns-none = let h = (fits-none 0).columns in omega arith
+
+pub widen-done : (old mid new : List ℕ) (n v : ℕ) (f : ℕ → ℕ) → ((k : ℕ) → k < n → get_or mid k 0 ≡ max (get_or old k 0) (f k))
+    → ((k : ℕ) → n ≤ k → get_or mid k 0 ≡ get_or old k 0) → get_or new n 0 ≡ max (get_or mid n 0) v
+    → ((k : ℕ) → k ≢ n → get_or new k 0 ≡ get_or mid k 0) → v ≡ f n → (k : ℕ) → k < n + 1 → get_or new k 0 ≡ max (get_or old k 0) (f k)
+widen-done old mid new n v f done kept at others vis =
+    below_more (λ k. get_or new k 0 ≡ max (get_or old k 0) (f k)) n (λ k h. others k (omega arith) ∙ done k h)
+    (at ∙ ap (λ m. max m v) (kept n (omega arith)) ∙ ap (λ m. max (get_or old n 0) m) vis)
+
+pub widen-all : (old new : List ℕ) (texts : List (List ℕ)) (m count : ℕ)
+    → ((k : ℕ) → k < m → get_or new k 0 ≡ max (get_or old k 0) (text_columns (get_or texts k [])))
+    → ((k : ℕ) → m ≤ k → get_or new k 0 ≡ get_or old k 0) → min count (length texts) ≤ m
+    → (k : ℕ) → k < count → get_or new k 0 ≡ max (get_or old k 0) (text_columns (get_or texts k []))
+widen-all old new texts m count done kept w k h =
+    ⊎_elim (λ l. done k l)
+    (λ (l : m ≤ k).
+    let none : text_columns (get_or texts k []) ≡ 0 = ap text_columns (past-end texts k [] (omega arith)) ∙ columns-none in
+    let same = kept k l in omega arith) (cases_lt k m)

@@ -1,0 +1,96 @@
+-- The cells of a streamed table are texts in equally long rows, and its columns hold them.
+use Rattle.std.proofs.Common.{◌≡◌, ℕ, ◌+◌, ◌-◌, ◌<◌, List, [], length, replicate, inl, inr, refl, sym, ◌∙◌, ap, subst, arith, get_or}
+use Rattle.std.specs.List.{All, slice_index}
+use Rattle.std.specs.Str.{IsUtf8}
+use Rattle.std.proofs.lemmas.Bool.{cases_lt}
+use Rattle.std.proofs.lemmas.List.{get_or_append_left, get_or-append_right, get_or_past, get_or-replicate, length-replicate}
+use Rattle.std.proofs.lemmas.List.Elements.{All-from_get_or}
+use Rattle.tabled_text.specs.Measure.{text_columns}
+use Rattle.tabled_text.specs.Fitting.{FitsIn}
+use Rattle.tabled_text.proofs.FittingLaws.{fits-cut, fits-none}
+use Rattle.tabled_base.specs.Cells.{IsRectangular, cell_at, columns}
+use Rattle.tabled_base.proofs.Lengthening.{rectangular-from_length}
+use Rattle.tabled_config.specs.declared.compact.CompactConfig.{CompactConfig}
+use Rattle.tabled_config.specs.declared.spanned.SpannedConfig.{SpannedConfig}
+use Rattle.tabled_config.specs.Settings.{style_at}
+use Rattle.tabled_config.specs.Spanned.{spanned_of_compact}
+use Rattle.tabled_size.specs.Estimates.{needed_width}
+use Rattle.tabled_size.specs.Holds.{Holds}
+use Rattle.tabled_size.specs.Sheet.{Sheet}
+use Rattle.tabled_size.specs.TextCells.{AreTexts}
+use Rattle.tabled_table.specs.declared.iter_table.settings.Settings.{Settings}
+use Rattle.tabled_table.specs.Stream.Streamed.{IsCutRow, IsStreamed, column_count, content_width, stream_width}
+use Rattle.tabled_table.proofs.Stream.Parts.{length-cut}
+use Rattle.tabled_table.proofs.Stream.Widths.{listed}
+
+none-there : (n k : ℕ) → get_or {A = List ℕ} (replicate n []) k [] ≡ []
+none-there n k = elim (cases_lt k n) [
+  | inl inside ↦ get_or-replicate n k [] [] inside
+  | inr past ↦ get_or_past (replicate n []) k [] (omega (arith, length-replicate {A = List ℕ} n []))
+]
+
+-- a cell of a cut row takes no more columns than its column leaves to texts
+cell-fits : (content : ℕ → ℕ) (count : ℕ) (row cells : List (List ℕ)) (column : ℕ) → IsCutRow content count row cells
+    → FitsIn (content column) (get_or cells column [])
+cell-fits content count row cells column c =
+    let n = length c.cut in
+    let P : List ℕ → Type 0 = FitsIn (content column) in
+    subst (λ l. P (get_or l column [])) (sym c.whole)
+    (elim (cases_lt column n) [
+      | inl inside ↦
+          subst P (sym (get_or_append_left c.cut (replicate (count - n) []) [] column inside))
+          (fits-cut (content column) (get_or row column []) (get_or c.cut column []) (c.each column inside))
+      | inr past ↦
+          subst P (sym (get_or-append_right c.cut (replicate (count - n) []) n column [] refl past ∙ none-there (count - n) (column - n))) (fits-none (content column))
+    ])
+
+padded : SpannedConfig → ℕ → ℕ → ℕ
+padded config row column = let padding = (style_at config row column).padding in padding.left.size + padding.right.size
+
+padded-alike : (config : CompactConfig) (row column : ℕ) → padded (spanned_of_compact config) row column ≡ config.padding.left.size + config.padding.right.size
+unfolding padded style_at
+padded-alike config row column = refl
+
+needed-is : (cells : List (List (List ℕ))) (config : SpannedConfig) (row column : ℕ)
+    → needed_width cells config row column ≡ text_columns (cell_at cells row column) + padded config row column
+unfolding padded
+needed-is cells config row column = refl
+
+module _ {settings : Settings} {config : CompactConfig} {ahead_rows rows : List (List (List ℕ))} {t : Sheet} where
+  row-long : IsStreamed settings config ahead_rows rows t → (row : ℕ) → row < length t.cells → length (get_or t.cells row []) ≡ column_count settings ahead_rows
+  row-long s row h =
+      length-cut (content_width settings ahead_rows) (column_count settings ahead_rows) (get_or rows row []) (get_or t.cells row [])
+      (s.cells row (let m = s.as_many in omega arith))
+
+  pub streamed_rectangular : IsStreamed settings config ahead_rows rows t → IsRectangular t.cells
+  streamed_rectangular s =
+      rectangular-from_length (column_count settings ahead_rows) t.cells
+      (All-from_get_or (λ row. length row ≡ column_count settings ahead_rows) t.cells [] (row-long s))
+
+  -- it has its columns, where it has a row
+  pub streamed_columns : IsStreamed settings config ahead_rows rows t → 0 < length rows → columns t.cells ≡ column_count settings ahead_rows
+  streamed_columns s h =
+      let some : 0 < length t.cells = let m = s.as_many in omega arith in
+      sym (streamed_rectangular s 0 [] some) ∙ row-long s 0 some
+
+  row-fits : IsStreamed settings config ahead_rows rows t → (row column : ℕ) → row < length t.cells
+      → FitsIn (content_width settings ahead_rows column) (cell_at t.cells row column)
+  row-fits s row column h =
+      cell-fits (content_width settings ahead_rows) (column_count settings ahead_rows) (get_or rows row []) (get_or t.cells row []) column
+      (s.cells row (let m = s.as_many in omega arith))
+
+  pub streamed_texts : IsStreamed settings config ahead_rows rows t → AreTexts t.cells
+  streamed_texts s =
+      All-from_get_or (All IsUtf8) t.cells []
+      (λ row h. All-from_get_or IsUtf8 (get_or t.cells row []) [] (λ column l. (row-fits s row column h).utf8))
+
+  pub streamed_holds : IsStreamed settings config ahead_rows rows t → Holds t
+  streamed_holds s row column h l =
+      let fits = (row-fits s row column h).columns in
+      let count = streamed_columns s (let m = s.as_many in omega arith) in
+      let padding : padded t.config row column ≡ config.padding.left.size + config.padding.right.size =
+      ap (λ g. padded g row column) s.settings_of ∙ padded-alike config row column in
+      let width : slice_index t.widths column ≡ stream_width settings config ahead_rows column =
+      ap (λ ws. slice_index ws column) s.widths ∙ listed (stream_width settings config ahead_rows) (column_count settings ahead_rows) column (omega arith) in
+      let needed = needed-is t.cells t.config row column in
+      omega arith

@@ -1,0 +1,91 @@
+-- Streams that are printed to a borrowed writer.
+use Rattle.std.proofs.Common.{◌≡◌, ℕ, Bool, List, Option, None, Result, Ok, Err, ◌∙◌, subst, inl, inr, ⊎_elim}
+use Rattle.tabled_base.specs.declared.error.TableError.{TableError}
+use Rattle.tabled_base.specs.declared.error.TableError.TheVariants.{Memory, Range, Writer}
+use Rattle.tabled_config.specs.declared.compact.CompactConfig.{CompactConfig}
+use Rattle.tabled_line.specs.Sent.{Sent}
+use Rattle.tabled_line.specs.WriterSent.{named_sent}
+use Rattle.tabled_line.proofs.Writers.{LeavesSo, byte_of, writer-leaves, writer-sends}
+use Rattle.tabled_table.specs.Stream.Below.{StopsBelow}
+use Rattle.tabled_table.specs.declared.iter_table.settings.Settings.{Settings}
+use Rattle.tabled_table.specs.Stream.Streams.{BuildsStream, PrintsStream, StopsAtEnd, StopsAtRow, StopsEarly, StopsInRows, StreamStops}
+
+not_range : (e : TableError) → e ≡ Range → e ≡ Writer → ⊥
+not_range e h k = cc
+
+not_memory : (e : TableError) → e ≡ Memory → e ≡ Writer → ⊥
+not_memory e h k = cc
+
+-- a text that stops below some lines, for another sink
+below-so : {a b a' b' : Sent} {e : TableError} (above text : List ℕ) → LeavesSo a b e a' b' → StopsBelow above a e b text
+    → StopsBelow above a' e b' text
+below-so above text so p = record { stops = so.stops text p.stops; more = p.more; out = so.front text p.stops ∙ p.out }
+
+-- why a stream stops, for another sink
+stops-so : {a b a' b' : Sent} {e : TableError} (settings : Settings) (config : CompactConfig) (rows : List (List (List ℕ))) (whole : Bool)
+    → LeavesSo a b e a' b' → StreamStops settings config rows whole a e b → StreamStops settings config rows whole a' e b'
+stops-so {a} {b} {a'} {b'} {e} settings config rows whole so h =
+    let early : StopsEarly settings config rows whole a e b → StopsEarly settings config rows whole a' e b' =
+    λ p. record { same = so.same (⊎_elim (λ c. not_range e c.0) (λ c. not_memory e c.0) p.cause) p.same; cause = p.cause } in
+    let at_row : StopsAtRow settings config rows whole a e b → StopsAtRow settings config rows whole a' e b' =
+    λ p. record {
+      shown = p.shown;
+      rest = p.rest;
+      sheet = p.sheet;
+      begun = p.begun;
+      taken = p.taken;
+      cause = p.cause;
+      sends = so.sends (⊎_elim (λ c. not_range e c.0) (λ c. not_memory e c.0) p.cause) _ p.sends;
+    } in
+    let in_rows : StopsInRows settings config rows whole a e b → StopsInRows settings config rows whole a' e b' =
+    λ p. record {
+      shown = p.shown;
+      rest = p.rest;
+      sheet = p.sheet;
+      begun = p.begun;
+      taken = p.taken;
+      stops = below-so _ _ so p.stops;
+    } in
+    let at_end : StopsAtEnd settings config rows whole a e b → StopsAtEnd settings config rows whole a' e b' =
+    λ p. record { enough = p.enough; sheet = p.sheet; streamed = p.streamed; stops = below-so _ _ so p.stops } in
+    ⊎_elim (λ p. inl (early p)) (λ q. inr (⊎_elim (λ p. inl (at_row p)) (λ r. inr (⊎_elim (λ p. inl (in_rows p)) (λ p. inr (at_end p)) r)) q)) h
+
+-- what the sink of a borrowed writer was sent, the writer took, if it is the one that is known in the end
+written : (settings : Settings) (config : CompactConfig) (comes : List (List (List ℕ)) → Bool → Type 0)
+    (na nb : ℕ) (ca cb cf : Option (List ℕ)) (failed_at : Option ℕ) (r : Result (Unit {0}) TableError) → (nb ≡ na → cf ≡ cb)
+    → PrintsStream settings config comes (named_sent na ca None) r (named_sent nb cb failed_at)
+    → BuildsStream settings config comes ca r cf
+written settings config comes na nb ca cb cf failed_at (Ok x) k p = (
+  0,
+  record {
+    rows = p.rows;
+    whole = p.whole;
+    came = p.came;
+    permitted = p.permitted;
+    streams = record {
+      enough = p.streams.enough;
+      sheet = p.streams.sheet;
+      streamed = p.streams.streamed;
+      sends = writer-sends na nb ca cb cf failed_at _ k p.streams.sends;
+    };
+  },
+)
+written settings config comes na nb ca cb cf failed_at (Err e) k p = (
+  byte_of failed_at,
+  record {
+    rows = p.rows;
+    whole = p.whole;
+    came = p.came;
+    permitted = p.permitted;
+    streams = stops-so settings config p.rows p.whole (writer-leaves na nb ca cb cf failed_at e k) p.streams;
+  },
+)
+
+pub prints-written : (settings : Settings) (config : CompactConfig) (comes : List (List (List ℕ)) → Bool → Type 0)
+    (na nb : ℕ) (ca held cb cf : Option (List ℕ)) (was failed_at : Option ℕ) (r : Result (Unit {0}) TableError) → was ≡ None
+    → held ≡ ca → (nb ≡ na → cf ≡ cb) → PrintsStream settings config comes (named_sent na held was) r (named_sent nb cb failed_at)
+    → BuildsStream settings config comes ca r cf
+prints-written settings config comes na nb ca held cb cf was failed_at r unfailed same k p =
+    let P : Option ℕ → Type 0 = λ o. PrintsStream settings config comes (named_sent na held o) r (named_sent nb cb failed_at) in
+    let Q : Option (List ℕ) → Type 0 = λ h. PrintsStream settings config comes (named_sent na h None) r (named_sent nb cb failed_at) in
+    written settings config comes na nb ca cb cf failed_at r k (subst Q same (subst P unfailed p))

@@ -1,0 +1,12 @@
+use Rattle.std.proofs.Common.{◌∙◌, ap, rules}
+use Rattle.tabled_table.proofs.Stream.ToWriters.{prints-written}
+use Rattle.tabled_table.proofs.iter_table.IterTable.build.Goals as goal
+
+pub returns : goal.returns
+returns g c =
+    let a = c.new-sink.result in
+    let b = c.fmt-result.new.sink in
+    let contents = g.W.Write.contents in
+    prints-written _ _ _ a.writer.ghost_name b.writer.ghost_name (contents c.args.writer.now) (contents a.writer.now) (contents b.writer.now)
+    _ a.failed_at b.failed_at c.fmt-result.result c.new-sink.ensures.unfailed (ap contents c.new-sink.ensures.writer)
+    (λ n. let m = n ∙ c.new-sink.ensures.same_reference in ap contents (search rules)) c.fmt-result.ensures.printed

@@ -1,0 +1,24 @@
+-- How a new streamed table is set.
+use Rattle.std.specs.Prelude.{◌≡◌, None}
+use Rattle.tabled_config.specs.declared.sides.Indent.{Indent}
+use Rattle.tabled_config.specs.declared.sides.Sides.{Sides}
+use Rattle.tabled_config.specs.declared.alignment.AlignmentHorizontal.TheVariants.{Left}
+use Rattle.tabled_config.specs.declared.compact.CompactConfig.{CompactConfig}
+use Rattle.tabled_config.specs.Compact.{IsPlainCompact, no_indent}
+use Rattle.tabled_config.specs.Styles.{ascii}
+use Rattle.tabled_table.specs.declared.iter_table.settings.Settings.{Settings}
+
+-- one column on the left and right
+abbrev pub one_beside : Sides Indent
+one_beside =
+    let one : Indent = record { size = 1; fill = 32 } in record { left = one; right = one; top = no_indent; bottom = no_indent }
+
+-- ascii borders, one column of padding left and right, texts at the left; all else as in a new configuration
+pub record IsNewConfig (config : CompactConfig) : Type 0 where
+  pub plain : CompactConfig
+  pub is_plain : IsPlainCompact plain
+  pub set : config ≡ record plain { padding = one_beside; borders = ascii.borders; alignment_horizontal = Left }
+
+-- a thousand rows are read ahead, and nothing else is given
+abbrev pub new_settings : Settings
+new_settings = record { sniff = 1000; columns = None; rows = None; width = None; height = None }

@@ -1,0 +1,28 @@
+-- The lines of a table that is printed row by row.
+use Rattle.std.specs.Prelude.{ℕ, zero, suc, ◌++◌, List, [], replicate}
+use Rattle.std.specs.List.{flat_map, join_with_byte, range_with_len}
+use Rattle.tabled_config.specs.Settings.{frame}
+use Rattle.tabled_line.specs.Fill.{fill}
+use Rattle.tabled_size.specs.Sheet.{Sheet}
+use Rattle.tabled_size.specs.Totals.{filled_width}
+use Rattle.tabled_grid.specs.Picture.{row_part}
+
+-- of a table with so many columns the lines above a row and above its horizontal line: the top margin, and the rows before
+-- it with the horizontal lines above them
+unfoldable pub lines_above : Sheet → ℕ → ℕ → List (List ℕ)
+lines_above t count row =
+    let margin = (frame t.config).margin in
+    replicate margin.top.size (fill margin.top.fill (filled_width t.config count t.widths))
+    ++ flat_map (row_part t) (range_with_len 0 row)
+
+-- the lines above the last of so many rows; above the top margin there is none
+abbrev pub lines_before : Sheet → ℕ → ℕ → List (List ℕ)
+lines_before t count zero = []
+lines_before t count (suc row) = lines_above t count row
+
+-- their texts
+abbrev pub text_above : Sheet → ℕ → ℕ → List ℕ
+text_above t count row = join_with_byte 10 (lines_above t count row)
+
+abbrev pub text_before : Sheet → ℕ → ℕ → List ℕ
+text_before t count rows = join_with_byte 10 (lines_before t count rows)

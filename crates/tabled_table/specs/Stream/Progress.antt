@@ -1,0 +1,152 @@
+-- How far a stream was printed.
+use Rattle.std.specs.Prelude.{◌≡◌, ◌≢◌, ℕ, ◌+◌, ◌-◌, ◌==◌, ◌^◌, ◌<◌, ◌≤◌, ◌⊎◌, Bool, true, false, List, [], ◌∷◌, ◌++◌, Option, Some, None, Result, Ok, Err, length, slice_index, unwrap_or}
+use Rattle.std.specs.Result.{IsErrAnd}
+use Rattle.tabled_base.specs.declared.error.TableError.{TableError}
+use Rattle.tabled_base.specs.declared.error.TableError.TheVariants.{Memory, Range}
+use Rattle.tabled_config.specs.Frame.{frame_of}
+use Rattle.tabled_config.specs.Settings.{rule_at}
+use Rattle.tabled_config.specs.Spanned.{spanned_of_compact}
+use Rattle.tabled_config.specs.declared.compact.CompactConfig.{CompactConfig}
+use Rattle.tabled_line.specs.Leading.{LineSends, led}
+use Rattle.tabled_grid.specs.Picture.{table_text}
+use Rattle.tabled_line.specs.Sent.{Sent}
+use Rattle.tabled_size.specs.Sheet.{Sheet}
+use Rattle.tabled_table.specs.declared.iter_table.layout.Layout.{Layout}
+use Rattle.tabled_table.specs.declared.iter_table.settings.Settings.{Settings}
+use Rattle.tabled_table.specs.Stream.Below.{StopsBelow, WritesBelow}
+use Rattle.tabled_table.specs.Stream.Printed.{lines_above, lines_before, text_above}
+use Rattle.tabled_table.specs.Stream.Row.{compact_style, content_at}
+use Rattle.tabled_table.specs.Stream.Streamed.{IsStreamed, ahead, column_count, content_height, content_width}
+use Rattle.tabled_table.specs.Stream.Streams.{IsTooHighFirst, stream_total}
+
+-- a layout is that of some settings, where some rows were read ahead
+pub record IsLaidOut (settings : Settings) (config : CompactConfig) (ahead_rows : List (List (List ℕ))) (layout : Layout) : Type 0 where
+  pub count : layout.count ≡ column_count settings ahead_rows
+  pub contents : (column : ℕ) → column < layout.count → content_at layout column ≡ content_width settings ahead_rows column
+  pub side : layout.side ≡ config.padding.left.size + config.padding.right.size
+  pub around : layout.frame ≡ frame_of config.borders config.margin
+  pub style : layout.style ≡ compact_style config
+  pub top : layout.top ≡ rule_at (spanned_of_compact config) 1 0
+  pub inner : layout.inner ≡ rule_at (spanned_of_compact config) 2 1
+  pub bottom : layout.bottom ≡ rule_at (spanned_of_compact config) 1 1
+
+-- the table of some rows, whose heights are in range
+pub record IsInReach (settings : Settings) (config : CompactConfig) (ahead_rows shown : List (List (List ℕ))) (t : Sheet) : Type 0 where
+  pub streamed : IsStreamed settings config ahead_rows shown t
+  pub heights : (index : ℕ) → index < length shown → slice_index t.heights index < 2 ^ 64
+
+-- the top margin and some rows were printed since the start
+pub record HasPut (settings : Settings) (config : CompactConfig) (ahead_rows shown : List (List (List ℕ))) (start : Sent)
+    (layout : Layout) (first : Bool) (now : Sent) (begun : Bool) : Type 0 where
+  pub laid : IsLaidOut settings config ahead_rows layout
+  pub sheet : Sheet
+  pub in_reach : IsInReach settings config ahead_rows shown sheet
+  pub is_first : first ≡ (length shown == 0)
+  pub sends : LineSends start false now begun (lines_above sheet layout.count (length shown))
+
+-- printing halts before a row, which is too high, or an allocation for it failed; no other row follows
+pub record HaltsBefore (settings : Settings) (config : CompactConfig) (ahead_rows shown rest : List (List (List ℕ))) (start : Sent)
+    (count : ℕ) (error : TableError) (now : Sent) : Type 0 where
+  pub sheet : Sheet
+  pub in_reach : IsInReach settings config ahead_rows shown sheet
+  pub begun : Bool
+  pub sends : LineSends start false now begun (lines_above sheet count (length shown))
+  pub taken : length rest ≤ 1
+  pub cause : ((error ≡ Range) × IsTooHighFirst settings config ahead_rows (length shown) rest) ⊎ ((error ≡ Memory) × (0 < length rest))
+
+-- the sink failed in the top margin or in the last row, and the lines above that row are out
+pub record HaltsWithin (settings : Settings) (config : CompactConfig) (ahead_rows shown : List (List (List ℕ))) (start : Sent)
+    (count : ℕ) (error : TableError) (now : Sent) : Type 0 where
+  pub sheet : Sheet
+  pub in_reach : IsInReach settings config ahead_rows shown sheet
+  pub stops : StopsBelow (led false (lines_before sheet count (length shown))) start error now (led false (lines_above sheet count (length shown)))
+
+-- printing of some rows halts
+pub record Halts (settings : Settings) (config : CompactConfig) (ahead_rows rows : List (List (List ℕ))) (start : Sent)
+    (count : ℕ) (error : TableError) (now : Sent) : Type 0 where
+  pub shown : List (List (List ℕ))
+  pub rest : List (List (List ℕ))
+  pub parts : rows ≡ shown ++ rest
+  pub halts : HaltsBefore settings config ahead_rows shown rest start count error now
+      ⊎ ((rest ≡ []) × HaltsWithin settings config ahead_rows shown start count error now)
+
+-- what printing of some rows leaves, by its answer
+abbrev pub PutsRows : {R : Type 0} → Settings → CompactConfig → List (List (List ℕ)) → List (List (List ℕ)) → Sent → Layout → Result R TableError
+    → Bool → Sent → Bool → Type 0
+PutsRows settings config ahead_rows rows start layout (Ok _) first now begun = HasPut settings config ahead_rows rows start layout first now begun
+PutsRows settings config ahead_rows rows start layout (Err error) first now begun = Halts settings config ahead_rows rows start layout.count error now
+
+-- the same of a row behind those that were printed, which leaves so many lines to texts
+abbrev pub PutsNext : {R : Type 0} → ℕ → List (List ℕ) → Layout → Bool → Sent → Bool → Result R TableError → Bool → Sent → Bool → Type 0
+PutsNext lines row layout first old begun result first' new begun' =
+    (settings : Settings) (config : CompactConfig) (ahead_rows shown : List (List (List ℕ))) (start : Sent)
+    → HasPut settings config ahead_rows shown start layout first old begun → lines ≡ content_height settings ahead_rows (length shown) row
+    → PutsRows settings config ahead_rows (shown ++ row ∷ []) start layout result first' new begun'
+
+-- further rows were printed behind those that were read ahead
+abbrev pub HasPutMore : ℕ → List (List (List ℕ)) → Layout → Bool → Sent → Bool → Bool → Sent → Bool → Type 0
+HasPutMore lines more layout first old begun first' new begun' =
+    (settings : Settings) (config : CompactConfig) (ahead_rows shown : List (List (List ℕ))) (start : Sent)
+    → length ahead_rows ≤ length shown → lines ≡ unwrap_or settings.height 1 → HasPut settings config ahead_rows shown start layout first old begun
+    → HasPut settings config ahead_rows (shown ++ more) start layout first' new begun'
+
+-- and printing of them halts
+abbrev pub HaltsMore : ℕ → List (List (List ℕ)) → Layout → Bool → Sent → Bool → TableError → Sent → Type 0
+HaltsMore lines more layout first old begun error new =
+    (settings : Settings) (config : CompactConfig) (ahead_rows shown : List (List (List ℕ))) (start : Sent)
+    → length ahead_rows ≤ length shown → lines ≡ unwrap_or settings.height 1 → HasPut settings config ahead_rows shown start layout first old begun
+    → Halts settings config ahead_rows (shown ++ more) start layout.count error new
+
+-- how many rows may still be shown after so many
+abbrev pub left_of : Option ℕ → ℕ → Option ℕ
+left_of None count = None
+left_of (Some limit) count = Some (limit - count)
+
+-- rows that were taken are as many as are shown at most, or all there are
+abbrev pub IsLimited : Option ℕ → ℕ → Bool → Type 0
+IsLimited None count whole = whole ≡ true
+IsLimited (Some limit) count whole = (count ≤ limit) × (whole ≡ false → count ≡ limit)
+
+-- no more are taken than are shown at most
+abbrev pub IsPermitted : Option ℕ → ℕ → Type 0
+IsPermitted None count = Unit {0}
+IsPermitted (Some limit) count = count ≤ limit
+
+-- rows that were taken before the first byte: all there are, or those that are read ahead, or where there are none of these, one
+-- that is shown
+pub record AreFirst (settings : Settings) (kept : List (List (List ℕ))) (all : Bool) : Type 0 where
+  pub sniffed : all ≡ false → ahead settings ≤ length kept
+  pub needed : (length kept ≤ ahead settings)
+      ⊎ ((length kept ≤ 1) × (0 < unwrap_or settings.columns 0) × (settings.rows ≢ Some 0))
+  pub none : all ≡ false → length kept ≡ 0 → (unwrap_or settings.columns 0 ≡ 0) ⊎ (settings.rows ≡ Some 0)
+
+-- how many were taken behind them: none where they were all, and no more than may be shown
+pub record AreFurther (limit : Option ℕ) (kept : ℕ) (all : Bool) (more : ℕ) (whole : Bool) : Type 0 where
+  pub permitted : IsPermitted (left_of limit kept) more
+  pub none : all ≡ true → (more ≡ 0) × (whole ≡ true)
+
+-- what printing the end of a table leaves: its whole text, or a beginning of that which has all rows
+pub record EndsSheet {R : Type 0} (settings : Settings) (config : CompactConfig) (ahead_rows shown : List (List (List ℕ))) (start : Sent)
+    (result : Result R TableError) (now : Sent) : Type 0 where
+  pub sheet : Sheet
+  pub in_reach : IsInReach settings config ahead_rows shown sheet
+  pub writes : WritesBelow (text_above sheet (column_count settings ahead_rows) (length shown)) start result now (table_text sheet)
+
+-- printing of further rows behind those that were printed, as many as may be, and of the end of the table: it is done, or was
+-- refused there, or halts before
+abbrev pub FinishesMore : {R : Type 0} → Option ℕ → ℕ → ℕ → Bool → List (List (List ℕ)) → Layout → Bool → Sent → Bool → Result R TableError → Sent → Type 0
+FinishesMore limit lines total whole more layout first old begun result new =
+    (settings : Settings) (config : CompactConfig) (ahead_rows shown : List (List (List ℕ))) (start : Sent)
+    → length ahead_rows ≤ length shown → lines ≡ unwrap_or settings.height 1 → 0 < length shown → 0 < layout.count
+    → total ≡ stream_total settings config ahead_rows → HasPut settings config ahead_rows shown start layout first old begun
+    → (IsLimited limit (length more) whole × EndsSheet settings config ahead_rows (shown ++ more) start result new)
+    ⊎ IsErrAnd result (λ e. Halts settings config ahead_rows (shown ++ more) start layout.count e new)
+
+-- the same behind the rows that were taken first, where rows may follow behind those that are read ahead alone
+abbrev pub FinishesBehind : {R : Type 0} → Option ℕ → ℕ → ℕ → Bool → List (List (List ℕ)) → Layout → Bool → Sent → Bool → Result R TableError → Sent → Type 0
+FinishesBehind left lines total whole more layout first old begun result new =
+    (settings : Settings) (config : CompactConfig) (ahead_rows shown : List (List (List ℕ))) (start : Sent)
+    → (left ≢ Some 0 → length ahead_rows ≤ length shown) → lines ≡ unwrap_or settings.height 1 → 0 < length shown → 0 < layout.count
+    → total ≡ stream_total settings config ahead_rows → HasPut settings config ahead_rows shown start layout first old begun
+    → (IsLimited left (length more) whole × EndsSheet settings config ahead_rows (shown ++ more) start result new)
+    ⊎ IsErrAnd result (λ e. Halts settings config ahead_rows (shown ++ more) start layout.count e new)

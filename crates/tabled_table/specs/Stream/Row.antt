@@ -1,0 +1,99 @@
+-- A row as it is printed.
+use Rattle.std.specs.Prelude.{◌≡◌, ℕ, ◌+◌, ◌-◌, ◌*◌, if◌then◌else◌, Bool, false, List, [], ◌++◌, ◌⊎◌, Option, map, Result, Ok, Err}
+use Rattle.std.specs.List.{range_with_len, slice_index, slice_index_or}
+use Rattle.tabled_base.specs.declared.error.TableError.{TableError}
+use Rattle.tabled_base.specs.declared.error.TableError.TheVariants.{Memory}
+use Rattle.tabled_base.specs.Cells.{lengthened}
+use Rattle.tabled_config.specs.declared.alignment.AlignmentVertical.TheVariants.{Top}
+use Rattle.tabled_config.specs.declared.compact.CompactConfig.{CompactConfig}
+use Rattle.tabled_config.specs.declared.spanned.CellStyle.{CellStyle}
+use Rattle.tabled_config.specs.declared.borders.HorizontalLine.{HorizontalLine}
+use Rattle.tabled_priority.specs.Sums.{one_if, sum_below}
+use Rattle.tabled_line.specs.Leading.{LineSends, LineStops}
+use Rattle.tabled_line.specs.Row.{ColumnSheet, RowSheet, row_lines, rule_if}
+use Rattle.tabled_line.specs.Sent.{Sent}
+use Rattle.tabled_table.specs.declared.iter_table.layout.Layout.{Layout}
+use Rattle.tabled_table.specs.Stream.Streamed.{IsCutRow}
+
+-- the columns that a column leaves to texts
+abbrev pub content_at : Layout → ℕ → ℕ
+content_at layout column = slice_index_or layout.contents.items column layout.rest
+
+-- its width
+abbrev pub width_at : Layout → ℕ → ℕ
+width_at layout column = content_at layout column + layout.side
+
+-- each further column takes nothing where its cell is empty: no width, no padding, and no vertical line before it
+pub record TakesNoMore (layout : Layout) : Type 0 where
+  pub rest : layout.rest ≡ 0
+  pub side : layout.side ≡ 0
+  pub left : layout.style.padding.left.size ≡ 0
+  pub right : layout.style.padding.right.size ≡ 0
+  pub bar : layout.frame.inner.there ≡ false
+
+-- the widths of all columns, the vertical lines that are there, and the side margins
+unfoldable pub layout_total : Layout → ℕ
+layout_total layout =
+    let f = layout.frame in
+    (f.margin.left.size + one_if f.left.there)
+    + ((sum_below (width_at layout) layout.count + (layout.count - 1) * one_if f.inner.there) + (one_if f.right.there + f.margin.right.size))
+
+-- all columns
+abbrev pub layout_columns : Layout → ColumnSheet
+layout_columns layout = record {
+  count = layout.count;
+  width = slice_index (map (width_at layout) (range_with_len 0 layout.count));
+  frame = layout.frame;
+}
+
+-- a row of some cells
+abbrev pub layout_row : Layout → ℕ → List (List ℕ) → RowSheet
+layout_row layout height cells = record {
+  columns = layout_columns layout;
+  height = height;
+  text = λ column. slice_index_or cells column [];
+  style = λ _. layout.style;
+}
+
+-- how the texts of all cells stand
+abbrev pub compact_style : CompactConfig → CellStyle
+compact_style config = record {
+  padding = config.padding;
+  horizontal = config.alignment_horizontal;
+  vertical = Top;
+  line_alignment = false;
+}
+
+-- the lines of a row of cut cells, below a horizontal line
+abbrev pub record_lines : Layout → Option HorizontalLine → ℕ → List (List ℕ) → List (List ℕ)
+record_lines layout rule height cells = rule_if (layout_columns layout) rule ++ row_lines (layout_row layout height cells)
+
+-- the horizontal line above a row, which is the first or not
+abbrev pub rule_of : Layout → Bool → Option HorizontalLine
+rule_of layout first = if first then layout.top else layout.inner
+
+-- a row of cells is printed whole, or memory was refused before its first byte, or the sink refused in its lines
+abbrev pub PutsCut : {R : Type 0} → Layout → Option HorizontalLine → ℕ → List (List ℕ) → Sent → Bool → Result R TableError → Sent → Bool → Type 0
+PutsCut layout rule height cut old begun (Ok _) new begun' =
+    LineSends old begun new begun' (record_lines layout rule height (lengthened layout.count cut))
+PutsCut layout rule height cut old begun (Err error) new begun' =
+    ((error ≡ Memory) × (new ≡ old) × (begun' ≡ begun))
+    ⊎ LineStops old begun error new (record_lines layout rule height (lengthened layout.count cut))
+
+-- the same of a row that is cut
+pub record IsPut (layout : Layout) (rule : Option HorizontalLine) (height : ℕ) (row : List (List ℕ)) (old : Sent) (begun : Bool)
+    (new : Sent) (begun' : Bool) : Type 0 where
+  pub cells : List (List ℕ)
+  pub cut : IsCutRow (content_at layout) layout.count row cells
+  pub sends : LineSends old begun new begun' (record_lines layout rule height cells)
+
+pub record IsStoppedIn (layout : Layout) (rule : Option HorizontalLine) (height : ℕ) (row : List (List ℕ)) (old : Sent) (begun : Bool)
+    (error : TableError) (new : Sent) : Type 0 where
+  pub cells : List (List ℕ)
+  pub cut : IsCutRow (content_at layout) layout.count row cells
+  pub stops : LineStops old begun error new (record_lines layout rule height cells)
+
+abbrev pub Puts : {R : Type 0} → Layout → Option HorizontalLine → ℕ → List (List ℕ) → Sent → Bool → Result R TableError → Sent → Bool → Type 0
+Puts layout rule height row old begun (Ok _) new begun' = IsPut layout rule height row old begun new begun'
+Puts layout rule height row old begun (Err error) new begun' =
+    ((error ≡ Memory) × (new ≡ old) × (begun' ≡ begun)) ⊎ IsStoppedIn layout rule height row old begun error new

@@ -1,0 +1,148 @@
+//! The columns of a stream, laid out by its settings and the rows that are read ahead.
+ghost use Rattle.std.specs.Prelude.{◌≡◌, ◌+◌, ◌<◌, ◌≤◌, ◌^◌, ◌⊎◌, ℕ, IfErr, IfOk, MatchOption, MatchResult};
+ghost use Rattle.std.specs.List.{slice_index_or};
+ghost use Rattle.tabled_base.specs.Cells.{texts_of};
+ghost use Rattle.tabled_base.specs.declared.error.TableError.TheVariants.{Memory, Range};
+ghost use Rattle.tabled_table.specs.Stream.Progress.{IsLaidOut};
+ghost use Rattle.tabled_table.specs.Stream.Row.{compact_style, content_at, layout_total};
+ghost use Rattle.tabled_table.specs.Stream.Streamed.{column_count, content_width};
+ghost use Rattle.tabled_table.specs.Stream.Streams.{stream_total};
+
+use crate::iter_table::layout::Layout;
+use crate::iter_table::settings::Settings;
+use crate::iter_table::sniff::{longest_row, widest_cells};
+use crate::iter_table::total::total_width;
+use std::alloc::Global;
+use tabled_base::{CellText, TableError};
+use tabled_config::{AlignmentVertical, CellStyle, CompactConfig, SpannedConfig};
+use tabled_line::{Gap, Spread};
+
+/// How many columns there are.
+pub(crate) fn count_columns<C: CellText>(settings: &Settings, rows: &[Vec<C>]) -> usize
+    ensures { result ≡ column_count settings.now (texts_of C.text rows.now) }
+{
+    match settings.columns {
+        Some(columns) => columns,
+        None => longest_row(rows),
+    }
+}
+
+/// The columns that the first columns leave to texts, and those that each further one does.
+#[derive(Drop)]
+struct Contents {
+    first: Vec<usize>,
+    rest: usize,
+}
+
+fn contents_of<C: CellText>(
+    alloc: Global,
+    settings: &Settings,
+    rows: &[Vec<C>],
+    count: usize,
+) -> Result<Contents, TableError>
+    ensures ok { IfOk result (λ contents. (column : ℕ) → column < count
+        → slice_index_or contents.first.items column contents.rest ≡ content_width settings.now (texts_of C.text rows.now) column) }
+    ensures only { IfErr result (λ e. e ≡ Memory) }
+{
+    match settings.width {
+        Some(width) => Ok(Contents {
+            first: Vec::new(alloc),
+            rest: width,
+        }),
+        None => Ok(Contents {
+            first: widest_cells(alloc, rows, count)?,
+            rest: 0,
+        }),
+    }
+}
+
+/// How the texts of all cells stand.
+fn style_of(config: &CompactConfig) -> CellStyle
+    ensures { result ≡ compact_style config.now }
+{
+    CellStyle {
+        padding: *config.get_padding(),
+        horizontal: config.get_alignment_horizontal(),
+        vertical: AlignmentVertical::Top,
+        line_alignment: false,
+    }
+}
+
+/// So many columns of a stream, with so many columns of side padding. Refused for memory.
+fn lay_out<C: CellText>(
+    alloc: Global,
+    settings: &Settings,
+    config: &CompactConfig,
+    count: usize,
+    side: usize,
+    rows: &[Vec<C>],
+) -> Result<Layout, TableError>
+    requires count { count ≡ column_count settings.now (texts_of C.text rows.now) }
+    requires side { side ≡ config.now.padding.left.size + config.now.padding.right.size }
+    ensures ok { IfOk result (λ layout. IsLaidOut settings.now config.now (texts_of C.text rows.now) layout) }
+    ensures only { IfErr result (λ e. e ≡ Memory) }
+{
+    let contents = contents_of(alloc, settings, rows, count)?;
+    let spanned = SpannedConfig::from_compact(alloc, *config);
+    let style = style_of(config);
+    let frame = config.frame();
+    let Contents { first, rest } = contents;
+    Ok(Layout {
+        count,
+        contents: first,
+        rest,
+        side,
+        frame,
+        top: spanned.rule_at(1, 0),
+        inner: spanned.rule_at(2, 1),
+        bottom: spanned.rule_at(1, 1),
+        style,
+        gap: Gap::new(frame.inner),
+        spread: Spread::new(&style),
+    })
+}
+
+/// What a stream is laid out as.
+#[derive(Drop)]
+pub(crate) struct Plan {
+    /// Its columns.
+    pub layout: Layout,
+    /// How many columns the whole takes.
+    pub total: usize,
+    ghost whole: { total ≡ layout_total layout },
+    ghost in_range: { layout_total layout < 2 ^ 64 },
+}
+
+/// The columns of left and right padding. Refused with `Range` where they pass the greatest `usize`.
+fn side_of(config: &CompactConfig) -> Result<usize, TableError>
+    ensures { let side = config.now.padding.left.size + config.now.padding.right.size in
+        MatchResult result (λ n. n ≡ side) (λ e. (e ≡ Range) × (2 ^ 64 ≤ side)) }
+{
+    let padding = config.get_padding();
+    match padding.left.size.checked_add(padding.right.size) {
+        Some(side) => Ok(side),
+        None => Err(TableError::Range),
+    }
+}
+
+/// So many columns of a stream, at least one, and the whole that they make. Refused with `Range` where that passes the greatest
+/// `usize`, and for memory.
+pub(crate) fn make_plan<C: CellText>(
+    alloc: Global,
+    settings: &Settings,
+    config: &CompactConfig,
+    count: usize,
+    rows: &[Vec<C>],
+) -> Result<Plan, TableError>
+    requires count { count ≡ column_count settings.now (texts_of C.text rows.now) }
+    requires some { 0 < count }
+    ensures ok { IfOk result (λ plan. IsLaidOut settings.now config.now (texts_of C.text rows.now) plan.layout) }
+    ensures err { IfErr result (λ e. ((e ≡ Range) × (2 ^ 64 ≤ stream_total settings.now config.now (texts_of C.text rows.now))) ⊎ (e ≡ Memory)) }
+{
+    let side = side_of(config)?;
+    let layout = lay_out(alloc, settings, config, count, side, rows)?;
+    match total_width(&layout) {
+        Some(total) => Ok(Plan { layout, total }),
+        None => Err(TableError::Range),
+    }
+}

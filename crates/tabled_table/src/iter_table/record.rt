@@ -1,0 +1,116 @@
+//! A row of a stream, cut to its columns.
+ghost use Rattle.std.specs.Prelude.{◌≡◌, ℕ, [], ◌<◌, ◌^◌, min, map, length, IfErr, IfOk};
+ghost use Rattle.std.specs.List.{slice_index_or};
+ghost use Rattle.tabled_base.specs.declared.error.TableError.TheVariants.{Memory};
+ghost use Rattle.tabled_base.specs.Cells.{lengthened};
+ghost use Rattle.tabled_text.specs.Cut.{IsCut};
+ghost use Rattle.tabled_table.specs.Stream.Row.{content_at, layout_row, width_at};
+
+use crate::iter_table::layout::Layout;
+use std::alloc::Global;
+use std::borrow::CowStr;
+use tabled_base::{CellText, TableError, Text};
+use tabled_config::{CellStyle, Frame, RowStyles, ToldSides};
+use tabled_line::{CellAim, CellBlock, Content, Gap, Row, Spread};
+use tabled_text::cut_str;
+
+/// A row of a stream whose cells are cut; missing ones are empty.
+#[derive(Drop)]
+pub(crate) struct CutRow<'a> {
+    /// Its columns.
+    pub layout: &'a Layout,
+    /// Its first cells.
+    pub cells: &'a [Text<CowStr<'a>>],
+    /// Its lines.
+    pub height: usize,
+    ghost in_range: { (column : ℕ) → column < layout.now.count → width_at layout.now column < 2 ^ 64 },
+    ghost high: { height < 2 ^ 64 },
+}
+
+impl<'a> Row<'a> for CutRow<'a> {
+    ghost sheet = { λ r. layout_row r.layout.now r.height (lengthened r.layout.now.count r.cells.now) };
+
+    fn count_columns(&self) -> usize {
+        self.layout.count
+    }
+
+    fn height(&self) -> usize {
+        self.height
+    }
+
+    fn frame(&self) -> &Frame {
+        &self.layout.frame
+    }
+
+    fn gap(&self) -> &Gap {
+        &self.layout.gap
+    }
+
+    fn spread(&self) -> Option<Spread> {
+        self.layout.spread
+    }
+
+    fn sides(&self) -> Option<ToldSides<'_>> {
+        None
+    }
+
+    fn styles(&self) -> RowStyles<'_> {
+        RowStyles::Alike(self.layout.style)
+    }
+
+    fn aims(&self) -> Option<&[CellAim]> {
+        None
+    }
+
+    fn width(&self, column: usize) -> usize {
+        self.layout.content_width(column) + self.layout.side
+    }
+
+    fn content(&self, column: usize) -> Content<'a> {
+        match self.cells.get(column) {
+            Some(cell) => Content {
+                text: cell.text(),
+                columns: cell.width(),
+                lines: cell.count_lines(),
+            },
+            None => Content::new(""),
+        }
+    }
+
+    fn cell(&self, column: usize, style: CellStyle) -> CellBlock<'a> {
+        CellBlock {
+            style,
+            width: self.layout.content_width(column) + self.layout.side,
+            height: self.height,
+            content: self.content(column),
+        }
+    }
+
+    fn count_drawn(&self) -> usize {
+        if self.layout.takes_more() {
+            return self.layout.count;
+        }
+        let known = self.layout.contents.len().max(self.cells.len());
+        known.min(self.layout.count)
+    }
+}
+
+/// The cells of a row as far as its columns go, each cut to its column and measured.
+pub(crate) fn cut_cells<'a, C: CellText>(
+    alloc: Global,
+    layout: &Layout,
+    cells: &'a [C],
+) -> Result<Vec<Text<CowStr<'a>>>, TableError>
+    ensures as_many { IfOk result (λ cut. length cut.items ≡ min layout.now.count (length cells.now)) }
+    ensures each { IfOk result (λ cut. (column : ℕ) → column < length cut.items
+        → IsCut (content_at layout.now column) (slice_index_or (map C.text cells.now) column []) (slice_index_or cut.items column [])) }
+    ensures only { IfErr result (λ e. e ≡ Memory) }
+{
+    let mut cut = Vec::new(alloc);
+    let count = layout.count.min(cells.len());
+    'cells: for column in 0..count {
+        let text = cut_str(alloc, cells[column].text(), layout.content_width(column))?;
+        cut.push(Text::new(text))?;
+    }
+    Ok(cut)
+}

@@ -1,0 +1,101 @@
+//! What is measured of the rows that are read ahead.
+ghost use Rattle.std.specs.Prelude.{◌≡◌, ◌+◌, ◌<◌, ◌≤◌, ◌≢◌, ◌||◌, ℕ, [], IfErr, IfOk, OnErr, OnOk, if◌then◌else◌, is_some, length, map, max, nat_lt, not, unwrap_or};
+ghost use Rattle.std.specs.List.{slice_index, slice_index_or};
+ghost use Rattle.tabled_base.specs.Cells.{longest, texts_of};
+ghost use Rattle.tabled_base.specs.declared.error.TableError.TheVariants.{Memory};
+ghost use Rattle.tabled_text.specs.Measure.{text_columns};
+ghost use Rattle.tabled_table.specs.Stream.Streamed.{tallest, widest};
+
+use crate::iter_table::settings::Settings;
+use std::alloc::Global;
+use tabled_base::{CellText, TableError};
+
+/// How many cells the longest row has.
+pub(crate) fn longest_row<C: CellText>(rows: &[Vec<C>]) -> usize
+    ensures { result ≡ longest (texts_of C.text rows.now) }
+{
+    let mut columns: usize = 0;
+    for row in rows {
+        columns = columns.max(row.as_slice().len());
+    }
+    columns
+}
+
+/// Has a column leave at least so much to texts. It is among the first ones, or the next.
+fn raise(contents: &mut Vec<usize>, column: usize, columns: usize) -> Result<(), TableError>
+    requires { column ≤ length contents.old.items }
+    ensures at { OnOk result (slice_index contents.new.items column ≡ max (slice_index contents.old.items column) columns) }
+    ensures others { OnOk result ((other : ℕ) → other ≢ column → slice_index contents.new.items other ≡ slice_index contents.old.items other) }
+    ensures longer { OnOk result (column < length contents.new.items) }
+    ensures only { IfErr result (λ e. e ≡ Memory) }
+{
+    if column < contents.len() {
+        contents[column] = contents[column].max(columns);
+        return Ok(());
+    }
+    contents.push(columns)?;
+    Ok(())
+}
+
+/// Has each column leave as much to texts as its cell in a row takes.
+fn widen<C: CellText>(
+    contents: &mut Vec<usize>,
+    cells: &[C],
+    count: usize,
+) -> Result<(), TableError>
+    ensures ok { OnOk result ((column : ℕ) → column < count → slice_index contents.new.items column
+        ≡ max (slice_index contents.old.items column) (text_columns (slice_index_or (map C.text cells.now) column []))) }
+    ensures only { IfErr result (λ e. e ≡ Memory) }
+{
+    let known = count.min(cells.len());
+    'cells: for column in 0..known {
+        raise(contents, column, cells[column].width())?;
+    }
+    Ok(())
+}
+
+/// The columns of the widest cell of each column.
+pub(crate) fn widest_cells<C: CellText>(
+    alloc: Global,
+    rows: &[Vec<C>],
+    count: usize,
+) -> Result<Vec<usize>, TableError>
+    ensures ok { IfOk result (λ contents. (column : ℕ) → column < count → slice_index contents.items column
+        ≡ widest (texts_of C.text rows.now) column) }
+    ensures only { IfErr result (λ e. e ≡ Memory) }
+{
+    let mut contents = Vec::new(alloc);
+    'rows: for row in rows {
+        widen(&mut contents, row.as_slice(), count)?;
+    }
+    Ok(contents)
+}
+
+/// The lines of the tallest of a row's first cells, and one at least.
+fn tallest_cell<C: CellText>(cells: &[C], count: usize) -> usize
+    ensures { result ≡ tallest count (map C.text cells.now) }
+{
+    let mut lines: usize = 1;
+    let known = count.min(cells.len());
+    'cells: for column in 0..known {
+        lines = lines.max(cells[column].count_lines());
+    }
+    lines
+}
+
+/// How many lines a row leaves to texts, which is read ahead or not.
+pub(crate) fn content_height<C: CellText>(
+    settings: &Settings,
+    count: usize,
+    ahead: bool,
+    cells: &[C],
+) -> usize
+    ensures { result ≡ unwrap_or settings.now.height
+        (if is_some settings.now.width || not ahead then 1 else tallest count (map C.text cells.now)) }
+{
+    match settings.height {
+        Some(height) => height,
+        None if settings.width.is_some() || !ahead => 1,
+        None => tallest_cell(cells, count),
+    }
+}

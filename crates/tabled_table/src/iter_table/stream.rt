@@ -1,0 +1,383 @@
+//! A stream while it is printed, from its first line to its last.
+ghost use Rattle.std.specs.Prelude.{◌≡◌, ◌<◌, ◌^◌, ◌++◌, Bool, ℕ, List, [], IfErr, IfOk, MatchResult, OnOk, false, true, length, map, take, unwrap_or};
+ghost use Rattle.std.proofs.Props.{props};
+ghost use Rattle.tabled_base.specs.Cells.{texts_of};
+ghost use Rattle.tabled_config.specs.declared.compact.CompactConfig.{CompactConfig};
+ghost use Rattle.tabled_line.specs.Kept.{Keeps};
+ghost use Rattle.tabled_line.specs.Sent.{Sent};
+ghost use Rattle.tabled_records.specs.Reading.{MayGive, Reads, ReadsTo};
+ghost use Rattle.tabled_table.specs.declared.iter_table.settings.Settings.{Settings};
+ghost use Rattle.tabled_table.specs.Stream.Progress.{AreFirst, AreFurther, EndsSheet, FinishesBehind, FinishesMore, Halts, HaltsMore, HaltsWithin, HasPut, HasPutMore, IsLaidOut, IsLimited, IsPermitted, PutsNext, left_of};
+ghost use Rattle.tabled_table.specs.Stream.Reading.{ReadsOn};
+ghost use Rattle.tabled_table.specs.Stream.Row.{Puts, PutsCut, layout_columns, rule_of};
+ghost use Rattle.tabled_table.specs.Stream.Streamed.{limited, sniffed};
+ghost use Rattle.tabled_table.specs.Stream.Streams.{Streams, stream_total};
+
+use crate::iter_table::columns::LentColumns;
+use crate::iter_table::record::{CutRow, cut_cells};
+use crate::iter_table::settings::ahead;
+use crate::iter_table::sniff::content_height;
+use crate::iter_table::take::{fewer, is_none_left, one_fewer, up_to};
+use std::alloc::Global;
+use std::borrow::CowStr;
+use tabled_base::{CellText, TableError, Text};
+use tabled_line::{Cursor, FEW_CURSORS, Lines, TextSink};
+use tabled_records::reading::{Taken, next_cells};
+
+/// A stream while it is printed.
+#[derive(Drop)]
+pub(crate) struct Stream<'a> {
+    alloc: Global,
+    // Over the columns, which come with the settings and the total width.
+    lines: Lines<LentColumns<'a>>,
+    // Whether no row was printed so far.
+    first: bool,
+    ghost kept: { Keeps (layout_columns lines.columns.layout.now) lines.kept } by { Prim.hlevel props },
+}
+
+impl<'a> Stream<'a> {
+    /// No line so far.
+    pub fn new(alloc: Global, columns: LentColumns<'a>) -> Stream<'a>
+        ensures columns { result.lines.columns ≡ columns.entry }
+        ensures begun { result.lines.begun ≡ false }
+        ensures first { result.first ≡ true }
+    {
+        Stream {
+            alloc,
+            lines: Lines::new(columns, Some(alloc)),
+            first: true,
+        }
+    }
+
+    /// A row of cut cells, below its horizontal line. The cursors are those of its first columns.
+    fn put_cut<'c, S: TextSink>(
+        &mut self,
+        sink: &mut S,
+        height: usize,
+        cells: &'c [Text<CowStr<'c>>],
+        cursors: &mut [Cursor<'c>],
+    ) -> Result<(), TableError>
+    where
+        'a: 'c,
+        ensures printed { PutsCut self.old.lines.columns.layout.now
+            (rule_of self.old.lines.columns.layout.now self.old.first) height cells.now
+            (S.sent sink.old) self.old.lines.begun result
+            (S.sent sink.new) self.new.lines.begun }
+        ensures same { self.new.lines.columns ≡ self.old.lines.columns }
+        ensures first { OnOk result (self.new.first ≡ false) }
+    {
+        let layout = self.lines.columns.layout;
+        let row = CutRow {
+            layout,
+            cells,
+            height,
+        };
+        self.lines.put_rule(sink, layout.rule(self.first))?;
+        self.first = false;
+        self.lines.put_row(sink, &row, cursors)
+    }
+
+    /// The same with a cursor for each column. Only a row of several lines needs them; for more
+    /// than a few they are allocated, which may fail before the first byte.
+    fn put_cells<'c, S: TextSink>(
+        &mut self,
+        sink: &mut S,
+        height: usize,
+        cells: &'c [Text<CowStr<'c>>],
+    ) -> Result<(), TableError>
+    where
+        'a: 'c,
+        ensures printed { PutsCut self.old.lines.columns.layout.now
+            (rule_of self.old.lines.columns.layout.now self.old.first) height cells.now
+            (S.sent sink.old) self.old.lines.begun result
+            (S.sent sink.new) self.new.lines.begun }
+        ensures same { self.new.lines.columns ≡ self.old.lines.columns }
+        ensures first { OnOk result (self.new.first ≡ false) }
+    {
+        if height <= 1 {
+            return self.put_cut(sink, height, cells, &mut []);
+        }
+        if cells.len() <= FEW_CURSORS {
+            return self.put_cut(sink, height, cells, &mut [Cursor::nowhere(); FEW_CURSORS]);
+        }
+        let mut cursors = vec![in self.alloc; Cursor::nowhere(); cells.len()]?;
+        self.put_cut(sink, height, cells, &mut cursors)
+    }
+
+    /// A row, cut to its columns, below its horizontal line. Fails with `Memory` before its first
+    /// byte, and with the sink's errors.
+    fn put_record<C: CellText, S: TextSink>(
+        &mut self,
+        sink: &mut S,
+        height: usize,
+        cells: &[C],
+    ) -> Result<(), TableError>
+        ensures printed { Puts self.old.lines.columns.layout.now
+            (rule_of self.old.lines.columns.layout.now self.old.first) height
+            (map C.text cells.now) (S.sent sink.old) self.old.lines.begun result
+            (S.sent sink.new) self.new.lines.begun }
+        ensures same { self.new.lines.columns ≡ self.old.lines.columns }
+        ensures first { OnOk result (self.new.first ≡ false) }
+    {
+        let cut = cut_cells(self.alloc, self.lines.columns.layout, cells)?;
+        self.put_cells(sink, height, cut.as_slice())
+    }
+
+    /// The next row, which leaves so many lines to texts. Fails, before its first byte, with
+    /// `Range` where its height exceeds the greatest `usize`, and with `Memory`.
+    fn put_next<C: CellText, S: TextSink>(
+        &mut self,
+        sink: &mut S,
+        lines: usize,
+        cells: &[C],
+    ) -> Result<(), TableError>
+        ensures printed { PutsNext lines (map C.text cells.now) self.old.lines.columns.layout.now
+            self.old.first (S.sent sink.old) self.old.lines.begun result
+            self.new.first (S.sent sink.new) self.new.lines.begun }
+        ensures same { self.new.lines.columns ≡ self.old.lines.columns }
+    {
+        match self.lines.columns.layout.padded_height(lines) {
+            Some(height) => self.put_record(sink, height, cells),
+            None => Err(TableError::Range),
+        }
+    }
+
+    /// The top margin.
+    fn put_top<S: TextSink>(&mut self, sink: &mut S) -> Result<(), TableError>
+        requires begun { self.old.lines.begun ≡ false }
+        requires first { self.old.first ≡ true }
+        ensures printed { (settings : Settings) (config : CompactConfig)
+            (ahead_rows : List (List (List ℕ)))
+            → IsLaidOut settings config ahead_rows self.old.lines.columns.layout.now
+            → self.old.lines.columns.total ≡ stream_total settings config ahead_rows
+            → MatchResult result
+            (λ _. HasPut settings config ahead_rows [] (S.sent sink.old)
+            self.old.lines.columns.layout.now self.new.first (S.sent sink.new)
+            self.new.lines.begun)
+            (λ e. HaltsWithin settings config ahead_rows [] (S.sent sink.old)
+            self.old.lines.columns.layout.now.count e (S.sent sink.new)) }
+        ensures same { self.new.lines.columns ≡ self.old.lines.columns }
+    {
+        let margin = self.lines.columns.layout.frame.margin;
+        let total = self.lines.columns.total;
+        self.lines.put_margin(sink, margin.top, total)
+    }
+
+    /// The horizontal line below the last row, and the bottom margin.
+    fn put_bottom<S: TextSink>(&mut self, sink: &mut S) -> Result<(), TableError>
+        ensures printed { (settings : Settings) (config : CompactConfig)
+            (ahead_rows shown : List (List (List ℕ))) (start : Sent)
+            → 0 < length shown → 0 < self.old.lines.columns.layout.now.count
+            → self.old.lines.columns.total ≡ stream_total settings config ahead_rows
+            → HasPut settings config ahead_rows shown start self.old.lines.columns.layout.now
+            self.old.first (S.sent sink.old) self.old.lines.begun
+            → EndsSheet settings config ahead_rows shown start result (S.sent sink.new) }
+        ensures same { self.new.lines.columns ≡ self.old.lines.columns }
+    {
+        let layout = self.lines.columns.layout;
+        let total = self.lines.columns.total;
+        self.lines.put_rule(sink, layout.bottom)?;
+        self.lines
+            .put_margin(sink, layout.frame.margin.bottom, total)
+    }
+
+    /// The first rows, of which some were read ahead.
+    fn put_kept<C: CellText, S: TextSink>(
+        &mut self,
+        sink: &mut S,
+        ahead: usize,
+        rows: &[Vec<C>],
+    ) -> Result<(), TableError>
+        ensures printed { (config : CompactConfig) (ahead_rows : List (List (List ℕ)))
+            (start : Sent)
+            → length ahead_rows ≡ ahead
+            → HasPut self.old.lines.columns.settings.now config ahead_rows [] start
+            self.old.lines.columns.layout.now self.old.first (S.sent sink.old)
+            self.old.lines.begun
+            → MatchResult result
+            (λ _. HasPut self.old.lines.columns.settings.now config ahead_rows
+            (texts_of C.text rows.now) start
+            self.old.lines.columns.layout.now self.new.first (S.sent sink.new)
+            self.new.lines.begun)
+            (λ e. (count : ℕ) × Halts self.old.lines.columns.settings.now config ahead_rows
+            (take count (texts_of C.text rows.now)) start
+            self.old.lines.columns.layout.now.count e (S.sent sink.new)) }
+        ensures same { self.new.lines.columns ≡ self.old.lines.columns }
+    {
+        let settings = self.lines.columns.settings;
+        'rows: for index in 0..rows.len() {
+            let cells = rows[index].as_slice();
+            let count = self.lines.columns.layout.count;
+            let lines = content_height(settings, count, index < ahead, cells);
+            self.put_next(sink, lines, cells)?;
+        }
+        Ok(())
+    }
+
+    /// The top margin, and the first rows, of which some were read ahead.
+    fn put_first<C: CellText, S: TextSink>(
+        &mut self,
+        sink: &mut S,
+        ahead: usize,
+        rows: &[Vec<C>],
+    ) -> Result<(), TableError>
+        requires begun { self.old.lines.begun ≡ false }
+        requires first { self.old.first ≡ true }
+        ensures printed { (config : CompactConfig) (ahead_rows : List (List (List ℕ)))
+            → length ahead_rows ≡ ahead
+            → IsLaidOut self.old.lines.columns.settings.now config ahead_rows
+            self.old.lines.columns.layout.now
+            → self.old.lines.columns.total ≡ stream_total self.old.lines.columns.settings.now
+            config ahead_rows
+            → MatchResult result
+            (λ _. HasPut self.old.lines.columns.settings.now config ahead_rows
+            (texts_of C.text rows.now) (S.sent sink.old) self.old.lines.columns.layout.now
+            self.new.first (S.sent sink.new) self.new.lines.begun)
+            (λ e. (count : ℕ) × Halts self.old.lines.columns.settings.now config ahead_rows
+            (take count (texts_of C.text rows.now)) (S.sent sink.old)
+            self.old.lines.columns.layout.now.count e (S.sent sink.new)) }
+        ensures same { self.new.lines.columns ≡ self.old.lines.columns }
+    {
+        self.put_top(sink)?;
+        self.put_kept(sink, ahead, rows)
+    }
+
+    /// The rows that come, as many as may be printed. Each is taken once the lines above it are
+    /// out. Returns whether these are all.
+    fn put_rest<I: Iterator<Item = W>, W: IntoIterator<Item = C>, C: CellText + Drop, S: TextSink>(
+        &mut self,
+        sink: &mut S,
+        rows: &mut I,
+        limit: Option<usize>,
+        lines: usize,
+    ) -> Result<bool, TableError>
+        requires { MayGive I.can_next I.next_gives I.remaining
+            W.into_iter_gives W.IntoIter.can_next W.IntoIter.remaining rows.old }
+        ensures ok { IfOk result (λ whole. (more : List (List C))
+            × IsLimited limit (length more) whole
+            × ReadsTo I.next_gives W.into_iter_gives W.IntoIter.next_gives rows.old more whole
+            rows.new
+            × HasPutMore lines (map (map C.text) more) self.old.lines.columns.layout.now
+            self.old.first (S.sent sink.old) self.old.lines.begun
+            self.new.first (S.sent sink.new) self.new.lines.begun) }
+        ensures err { IfErr result (λ e. (more : List (List C)) × IsPermitted limit (length more)
+            × Reads I.next_gives W.into_iter_gives W.IntoIter.next_gives rows.old more rows.new
+            × HaltsMore lines (map (map C.text) more) self.old.lines.columns.layout.now
+            self.old.first (S.sent sink.old) self.old.lines.begun
+            e (S.sent sink.new)) }
+        ensures same { self.new.lines.columns ≡ self.old.lines.columns }
+    {
+        let mut left = limit;
+        'rows: loop {
+            if is_none_left(left) {
+                return Ok(false);
+            }
+            match next_cells(self.alloc, rows)? {
+                Some(cells) => self.put_next(sink, lines, cells.as_slice())?,
+                None => return Ok(true),
+            }
+            left = one_fewer(left);
+        }
+    }
+
+    /// The rows that come, as many as may be printed, and what stands below the last row.
+    fn put_others<
+        I: Iterator<Item = W>,
+        W: IntoIterator<Item = C>,
+        C: CellText + Drop,
+        S: TextSink,
+    >(
+        &mut self,
+        sink: &mut S,
+        rows: &mut I,
+        limit: Option<usize>,
+        lines: usize,
+    ) -> Result<(), TableError>
+        requires { MayGive I.can_next I.next_gives I.remaining
+            W.into_iter_gives W.IntoIter.can_next W.IntoIter.remaining rows.old }
+        ensures printed { (more : List (List C)) × (whole : Bool) × IsPermitted limit (length more)
+            × ReadsTo I.next_gives W.into_iter_gives W.IntoIter.next_gives rows.old more whole
+            rows.new
+            × FinishesMore limit lines self.old.lines.columns.total whole (map (map C.text) more)
+            self.old.lines.columns.layout.now self.old.first (S.sent sink.old)
+            self.old.lines.begun result (S.sent sink.new) }
+    {
+        self.put_rest(sink, rows, limit, lines)?;
+        self.put_bottom(sink)
+    }
+
+    /// What stands behind the rows that were taken first: those that come, unless these were all,
+    /// and what stands below the last row.
+    fn put_behind<
+        I: Iterator<Item = W>,
+        W: IntoIterator<Item = C>,
+        C: CellText + Drop,
+        S: TextSink,
+    >(&mut self, sink: &mut S, rows: &mut I, taken: &Taken<C>) -> Result<(), TableError>
+        requires { taken.now.whole ≡ false
+            → MayGive I.can_next I.next_gives I.remaining
+            W.into_iter_gives W.IntoIter.can_next W.IntoIter.remaining rows.old }
+        ensures { (more : List (List C)) × (whole : Bool)
+            × AreFurther self.old.lines.columns.settings.now.rows (length taken.now.rows.items)
+            taken.now.whole (length more) whole
+            × ReadsOn I.next_gives W.into_iter_gives W.IntoIter.next_gives
+            (map (λ row. row.items) taken.now.rows.items) taken.now.whole rows.old more whole
+            rows.new
+            × FinishesBehind
+            (left_of self.old.lines.columns.settings.now.rows (length taken.now.rows.items))
+            (unwrap_or self.old.lines.columns.settings.now.height 1)
+            self.old.lines.columns.total whole (map (map C.text) more)
+            self.old.lines.columns.layout.now self.old.first (S.sent sink.old)
+            self.old.lines.begun result (S.sent sink.new) }
+    {
+        let settings = self.lines.columns.settings;
+        let left = fewer(settings.rows, taken.rows.len());
+        if taken.whole || is_none_left(left) {
+            return self.put_bottom(sink);
+        }
+        let lines = settings.height.unwrap_or(1);
+        self.put_others(sink, rows, left, lines)
+    }
+
+    /// The rows that were taken first, as many as are shown, and what stands behind them.
+    pub fn put_all<
+        I: Iterator<Item = W>,
+        W: IntoIterator<Item = C>,
+        C: CellText + Drop,
+        S: TextSink,
+    >(&mut self, sink: &mut S, rows: &mut I, taken: &Taken<C>) -> Result<(), TableError>
+        requires begun { self.old.lines.begun ≡ false }
+        requires first { self.old.first ≡ true }
+        requires some { 0 < self.old.lines.columns.layout.now.count }
+        requires open { taken.now.whole ≡ false
+            → MayGive I.can_next I.next_gives I.remaining
+            W.into_iter_gives W.IntoIter.can_next W.IntoIter.remaining rows.old }
+        requires filled { 0 < length (limited self.old.lines.columns.settings.now.rows
+            (texts_of C.text taken.now.rows.items)) }
+        requires in_range { self.old.lines.columns.total < 2 ^ 64 }
+        requires kept { AreFirst self.old.lines.columns.settings.now
+            (texts_of C.text taken.now.rows.items) taken.now.whole }
+        ensures { (more : List (List C)) × (whole : Bool)
+            × AreFurther self.old.lines.columns.settings.now.rows (length taken.now.rows.items)
+            taken.now.whole (length more) whole
+            × ReadsOn I.next_gives W.into_iter_gives W.IntoIter.next_gives
+            (map (λ row. row.items) taken.now.rows.items) taken.now.whole rows.old more whole
+            rows.new
+            × ((config : CompactConfig)
+            → IsLaidOut self.old.lines.columns.settings.now config
+            (sniffed self.old.lines.columns.settings.now (texts_of C.text taken.now.rows.items))
+            self.old.lines.columns.layout.now
+            → self.old.lines.columns.total ≡ stream_total self.old.lines.columns.settings.now config
+            (sniffed self.old.lines.columns.settings.now (texts_of C.text taken.now.rows.items))
+            → Streams self.old.lines.columns.settings.now config
+            (texts_of C.text taken.now.rows.items ++ map (map C.text) more) whole
+            (S.sent sink.old) result (S.sent sink.new)) }
+    {
+        let settings = self.lines.columns.settings;
+        let kept = taken.rows.as_slice();
+        let ahead = ahead(settings).min(kept.len());
+        let shown = &kept[..up_to(settings.rows, kept.len())];
+        self.put_first(sink, ahead, shown)?;
+        self.put_behind(sink, rows, taken)
+    }
+}

@@ -1,0 +1,67 @@
+//! How many rows of a stream are taken, and how many of them are shown.
+ghost use Rattle.std.specs.Prelude.{◌≡◌, ◌<◌, ◌≤◌, ◌-◌, ◌==◌, ◌&&◌, ◌⊎◌, ◌≢◌, ℕ, MatchOption, None, Some, false, min, true, unwrap_or};
+ghost use Rattle.tabled_table.specs.Stream.Progress.{left_of};
+ghost use Rattle.tabled_table.specs.Stream.Streamed.{ahead};
+
+use crate::iter_table::settings::{Settings, ahead};
+
+/// One row fewer that may be printed.
+pub(crate) fn one_fewer(left: Option<usize>) -> Option<usize>
+    ensures { MatchOption left (result ≡ None) (λ n. result ≡ Some (n - 1)) }
+{
+    match left {
+        Some(n) => Some(n.saturating_sub(1)),
+        None => None,
+    }
+}
+
+/// Whether no further row may be printed.
+pub(crate) fn is_none_left(left: Option<usize>) -> bool
+    ensures going { result ≡ false → left ≢ Some 0 }
+    ensures reached { result ≡ true → left ≡ Some 0 }
+{
+    matches!(left, Some(0))
+}
+
+/// Whether a row may be shown where none is read ahead: there is a column, and rows may be printed.
+fn shows_unread(settings: &Settings) -> bool
+    ensures shown { result ≡ true → (0 < unwrap_or settings.now.columns 0) × (settings.now.rows ≢ Some 0) }
+    ensures none { result ≡ false → (unwrap_or settings.now.columns 0 ≡ 0) ⊎ (settings.now.rows ≡ Some 0) }
+{
+    settings.columns.unwrap_or(0) > 0 && !is_none_left(settings.rows)
+}
+
+/// How many rows are taken before the first byte: those that are read ahead, or else the first that may be shown.
+pub(crate) fn first_rows(settings: &Settings) -> usize
+    ensures ahead { ahead settings.now ≤ result }
+    ensures needed { (result ≡ ahead settings.now) ⊎ ((ahead settings.now ≡ 0) × (result ≡ 1)
+        × (0 < unwrap_or settings.now.columns 0) × (settings.now.rows ≢ Some 0)) }
+    ensures none { result ≡ 0 → (unwrap_or settings.now.columns 0 ≡ 0) ⊎ (settings.now.rows ≡ Some 0) }
+{
+    let ahead = ahead(settings);
+    if ahead == 0 && shows_unread(settings) {
+        1
+    } else {
+        ahead
+    }
+}
+
+/// How many of so many rows are shown.
+pub(crate) fn up_to(limit: Option<usize>, count: usize) -> usize
+    ensures { MatchOption limit (result ≡ count) (λ n. result ≡ min n count) }
+{
+    match limit {
+        Some(limit) => limit.min(count),
+        None => count,
+    }
+}
+
+/// How many more may be shown after so many.
+pub(crate) fn fewer(limit: Option<usize>, count: usize) -> Option<usize>
+    ensures { result ≡ left_of limit count }
+{
+    match limit {
+        Some(limit) => Some(limit.saturating_sub(count)),
+        None => None,
+    }
+}

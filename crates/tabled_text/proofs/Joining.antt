@@ -1,0 +1,373 @@
+-- What steps do that lose no column of the count, and what is known of single characters.
+use Rattle.std.proofs.Common.{◌≡◌, ℕ, ◌+◌, Bool, true, false, cond, not, ◌==◌, ◌&&◌, ◌||◌, [], ◌∷◌, Option, Some, None, refl, ap, ◌∙◌, arith, eqb-true, subst, max, ⊎_elim}
+use Rattle.std.proofs.lemmas.Bool.{or_cases}
+use Rattle.std.proofs.lemmas.Bool.Decides.{nat_tests}
+use Rattle.ucd_bidi.specs.JoiningType.{joining_type, joining_type_eq}
+use Rattle.ucd_bidi.specs.declared.JoiningType.TheVariants.{Transparent}
+use Rattle.ucd_emoji.specs.Binary.{is_emoji_variation_base}
+use Rattle.ucd_emoji.proofs.BinaryLemmas.{is_emoji_variation_base_stepped}
+use Rattle.ucd_table.specs.Rows.{in_ranges}
+use Rattle.ucd_table.proofs.Computing.{tables}
+use Rattle.ucd_table.proofs.Facts.{always, ends_by, Stepped-everywhere}
+use Rattle.ucd_table.proofs.Stepped.{Stepped, of_ranges, zip_stepped}
+use Rattle.ucd_table.proofs.StepsLemmas.{rises_from}
+use Rattle.unicode_width.specs.declared.kind.Kind.{Kind}
+use Rattle.unicode_width.specs.declared.kind.Kind.TheVariants as kinds
+use Rattle.unicode_width.specs.declared.state.After.{After}
+use Rattle.unicode_width.specs.declared.state.After.TheVariants.{
+  Nothing,
+  LineFeed,
+  EmojiModifier,
+  RegionalIndicator,
+  RegionalIndicators,
+  Emoji,
+  ZwjEmoji,
+  KeycapZwjEmoji,
+  IndicatorZwj,
+  EvenIndicatorsZwj,
+  OddIndicatorsZwj,
+  TagEnd,
+  TagDigit1,
+  TagDigit2,
+  TagDigit3,
+  TagLetter1,
+  TagLetter2,
+  TagLetter3,
+  TagLetter4,
+  TagLetter5,
+  TagLetter6,
+  KiratE,
+  KiratAi,
+  Alef,
+  Solidus,
+  SolidusAlef,
+  Lamed,
+  ZwjLamed,
+  Ya,
+  ZwjYa,
+  VowelZwjYa,
+  Tifinagh,
+  ZwjTifinagh,
+  JoinerTifinagh,
+  LisuTone,
+  OrkhonI,
+  ZwjOrkhonI,
+  KhmerLetter,
+}
+use Rattle.unicode_width.specs.declared.state.State.{State}
+use Rattle.unicode_width.specs.declared.state.Change.{Change}
+use Rattle.unicode_width.specs.declared.state.Change.TheVariants.{Less, Same, One, Three}
+use Rattle.unicode_width.specs.Kind.{kind}
+use Rattle.unicode_width.specs.Width.{before, plain, single, of_kind, alone, before_alef, joins, is_lam, is_quote, is_indicator}
+use Rattle.unicode_width.proofs.Computing.{unicode_width}
+use Rattle.unicode_width.proofs.KindLemmas.{kind_stepped}
+use Rattle.tabled_text.proofs.CountBound.{slack_after, slack}
+
+-- ---- states that are reached where no column is lost
+
+-- behind a joiner and an emoji
+abbrev pub is_linked : After → Bool
+is_linked ZwjEmoji = true
+is_linked IndicatorZwj = true
+is_linked EvenIndicatorsZwj = true
+is_linked OddIndicatorsZwj = true
+is_linked _ = false
+
+-- no text selector, one other selector at most, and behind no joiner of emoji
+abbrev pub is_open : State → Bool
+is_open s = not (is_linked s.after) && (not s.text && not (s.emoji && s.quote))
+
+-- the characters that take a column by a join, by the state that they lead to
+abbrev pub takes_column : After → ℕ → Bool
+takes_column RegionalIndicators c = is_indicator c
+takes_column JoinerTifinagh c = c == 0x2D7F
+takes_column KiratE c = c == 0x16D68
+takes_column _ c = false
+
+-- what a join does to such a state
+abbrev pub IsCalm : ℕ → Option (Change × After) → Type 0
+IsCalm c None = Unit {0}
+IsCalm c (Some (Less, next)) = slack_after next ≡ 0
+IsCalm c (Some (Same, next)) = slack_after next ≡ 0
+IsCalm c (Some (One, next)) = takes_column next c ≡ true
+IsCalm c (Some (Three, next)) = true ≡ false
+
+IsCalm-cond : (c : ℕ) (b : Bool) (x y : Option (Change × After)) → IsCalm c x → IsCalm c y → IsCalm c (cond b x y)
+IsCalm-cond c true x y f g = f
+IsCalm-cond c false x y f g = g
+
+pub joins-calm : (after : After) (c : ℕ) → is_linked after ≡ false → IsCalm c (joins false after c)
+unfolding joins before_alef
+joins-calm Nothing c h = grind arith
+joins-calm LineFeed c h = grind arith
+joins-calm EmojiModifier c h = grind arith
+joins-calm RegionalIndicator c h = grind arith
+joins-calm RegionalIndicators c h = grind arith
+joins-calm Emoji c h = grind arith
+joins-calm ZwjEmoji c h = absurd cc
+joins-calm KeycapZwjEmoji c h = grind arith
+joins-calm IndicatorZwj c h = absurd cc
+joins-calm EvenIndicatorsZwj c h = absurd cc
+joins-calm OddIndicatorsZwj c h = absurd cc
+joins-calm TagEnd c h = grind arith
+joins-calm TagDigit1 c h = grind arith
+joins-calm TagDigit2 c h = grind arith
+joins-calm TagDigit3 c h = grind arith
+joins-calm TagLetter1 c h = grind arith
+joins-calm TagLetter2 c h = grind arith
+joins-calm TagLetter3 c h = grind arith
+joins-calm TagLetter4 c h = grind arith
+joins-calm TagLetter5 c h = grind arith
+joins-calm TagLetter6 c h = grind arith
+joins-calm KiratE c h = grind arith
+joins-calm KiratAi c h = grind arith
+joins-calm Alef c h =
+    IsCalm-cond c (is_lam c) _ _ refl (IsCalm-cond c (((alone false c).0 == 0) && joining_type_eq (joining_type c) Transparent) _ _ refl tt)
+joins-calm Solidus c h = grind arith
+joins-calm SolidusAlef c h = grind arith
+joins-calm Lamed c h = grind arith
+joins-calm ZwjLamed c h = grind arith
+joins-calm Ya c h = grind arith
+joins-calm ZwjYa c h = grind arith
+joins-calm VowelZwjYa c h = grind arith
+joins-calm Tifinagh c h = grind arith
+joins-calm ZwjTifinagh c h = grind arith
+joins-calm JoinerTifinagh c h = grind arith
+joins-calm LisuTone c h = grind arith
+joins-calm OrkhonI c h = grind arith
+joins-calm ZwjOrkhonI c h = grind arith
+joins-calm KhmerLetter c h = grind arith
+
+-- what is linked alone keeps back a column
+pub calm-slack : (after : After) → is_linked after ≡ false → slack_after after ≡ 0
+calm-slack Nothing h = refl
+calm-slack LineFeed h = refl
+calm-slack EmojiModifier h = refl
+calm-slack RegionalIndicator h = refl
+calm-slack RegionalIndicators h = refl
+calm-slack Emoji h = refl
+calm-slack ZwjEmoji h = cc
+calm-slack KeycapZwjEmoji h = refl
+calm-slack IndicatorZwj h = cc
+calm-slack EvenIndicatorsZwj h = cc
+calm-slack OddIndicatorsZwj h = cc
+calm-slack TagEnd h = refl
+calm-slack TagDigit1 h = refl
+calm-slack TagDigit2 h = refl
+calm-slack TagDigit3 h = refl
+calm-slack TagLetter1 h = refl
+calm-slack TagLetter2 h = refl
+calm-slack TagLetter3 h = refl
+calm-slack TagLetter4 h = refl
+calm-slack TagLetter5 h = refl
+calm-slack TagLetter6 h = refl
+calm-slack KiratE h = refl
+calm-slack KiratAi h = refl
+calm-slack Alef h = refl
+calm-slack Solidus h = refl
+calm-slack SolidusAlef h = refl
+calm-slack Lamed h = refl
+calm-slack ZwjLamed h = refl
+calm-slack Ya h = refl
+calm-slack ZwjYa h = refl
+calm-slack VowelZwjYa h = refl
+calm-slack Tifinagh h = refl
+calm-slack ZwjTifinagh h = refl
+calm-slack JoinerTifinagh h = refl
+calm-slack LisuTone h = refl
+calm-slack OrkhonI h = refl
+calm-slack ZwjOrkhonI h = refl
+calm-slack KhmerLetter h = refl
+
+pub takes-linked : (after : After) (c : ℕ) → takes_column after c ≡ true → is_linked after ≡ false
+takes-linked Nothing c h = refl
+takes-linked LineFeed c h = refl
+takes-linked EmojiModifier c h = refl
+takes-linked RegionalIndicator c h = refl
+takes-linked RegionalIndicators c h = refl
+takes-linked Emoji c h = refl
+takes-linked ZwjEmoji c h = cc
+takes-linked KeycapZwjEmoji c h = refl
+takes-linked IndicatorZwj c h = cc
+takes-linked EvenIndicatorsZwj c h = cc
+takes-linked OddIndicatorsZwj c h = cc
+takes-linked TagEnd c h = refl
+takes-linked TagDigit1 c h = refl
+takes-linked TagDigit2 c h = refl
+takes-linked TagDigit3 c h = refl
+takes-linked TagLetter1 c h = refl
+takes-linked TagLetter2 c h = refl
+takes-linked TagLetter3 c h = refl
+takes-linked TagLetter4 c h = refl
+takes-linked TagLetter5 c h = refl
+takes-linked TagLetter6 c h = refl
+takes-linked KiratE c h = refl
+takes-linked KiratAi c h = refl
+takes-linked Alef c h = refl
+takes-linked Solidus c h = refl
+takes-linked SolidusAlef c h = refl
+takes-linked Lamed c h = refl
+takes-linked ZwjLamed c h = refl
+takes-linked Ya c h = refl
+takes-linked ZwjYa c h = refl
+takes-linked VowelZwjYa c h = refl
+takes-linked Tifinagh c h = refl
+takes-linked ZwjTifinagh c h = refl
+takes-linked JoinerTifinagh c h = refl
+takes-linked LisuTone c h = refl
+takes-linked OrkhonI c h = refl
+takes-linked ZwjOrkhonI c h = refl
+takes-linked KhmerLetter c h = refl
+
+-- ---- characters by themselves
+
+-- a character of no column keeps nothing back but for an open state
+single-open : (c : ℕ) → is_open (single false c).1 ≡ false → (single false c).0 + slack (single false c).1 ≡ 0
+single-open c h = grind arith
+
+of_kind-open : (c : ℕ) (k : Kind) → is_open (of_kind false c k).1 ≡ false → (of_kind false c k).0 + slack (of_kind false c k).1 ≡ 0
+of_kind-open c kinds.Zero h = cc
+of_kind-open c kinds.Narrow h = cc
+of_kind-open c kinds.Wide h = cc
+of_kind-open c kinds.Ambiguous h = cc
+of_kind-open c kinds.Alef h = cc
+of_kind-open c kinds.KhmerLetter h = cc
+of_kind-open c kinds.TifinaghConsonant h = cc
+of_kind-open c kinds.LisuTone h = cc
+of_kind-open c kinds.RegionalIndicator h = cc
+of_kind-open c kinds.EmojiModifier h = cc
+of_kind-open c kinds.Emoji h = cc
+of_kind-open c kinds.Single h = single-open c h
+
+pub alone-open : (c : ℕ) → is_open (alone false c).1 ≡ false → (alone false c).0 + slack (alone false c).1 ≡ 0
+unfolding alone
+alone-open c h = of_kind-open c (kind c) h
+
+pub alone-emoji_selector : alone false 0xFE0F ≡ (0, record plain { emoji = true })
+unfolding unicode_width
+alone-emoji_selector = refl
+
+pub alone-quote_selector : alone false 0xFE01 ≡ (0, record plain { quote = true })
+unfolding unicode_width
+alone-quote_selector = refl
+
+pub alone-joiner : alone false 0x2D7F ≡ (1, plain)
+unfolding unicode_width
+alone-joiner = refl
+
+pub alone-vowel : alone false 0x16D68 ≡ (1, before KiratAi)
+unfolding unicode_width
+alone-vowel = refl
+
+quote-1 : alone false 0x2018 ≡ (1, plain)
+unfolding unicode_width
+quote-1 = refl
+
+quote-2 : alone false 0x2019 ≡ (1, plain)
+unfolding unicode_width
+quote-2 = refl
+
+quote-3 : alone false 0x201C ≡ (1, plain)
+unfolding unicode_width
+quote-3 = refl
+
+quote-4 : alone false 0x201D ≡ (1, plain)
+unfolding unicode_width
+quote-4 = refl
+
+quote-cases : (c : ℕ) → is_quote c ≡ true → (((c == 0x2018) || (c == 0x2019)) || ((c == 0x201C) || (c == 0x201D))) ≡ true
+quote-cases c h = grind (arith, nat_tests)
+
+quote-at : (c q : ℕ) → alone false q ≡ (1, plain) → (c == q) ≡ true → alone false c ≡ (1, plain)
+quote-at c q known e = ap (alone false) (eqb-true c q e) ∙ known
+
+pub alone-quote : (c : ℕ) → is_quote c ≡ true → alone false c ≡ (1, plain)
+alone-quote c h =
+    ⊎_elim
+    (λ single. ⊎_elim (quote-at c 0x2018 quote-1) (quote-at c 0x2019 quote-2) (or_cases (c == 0x2018) (c == 0x2019) single))
+    (λ double. ⊎_elim (quote-at c 0x201C quote-3) (quote-at c 0x201D quote-4) (or_cases (c == 0x201C) (c == 0x201D) double))
+    (or_cases ((c == 0x2018) || (c == 0x2019)) ((c == 0x201C) || (c == 0x201D)) (quote-cases c h))
+
+-- ---- kinds of whole ranges
+
+abbrev is_solid : Kind → Bool
+is_solid kinds.Narrow = true
+is_solid kinds.Wide = true
+is_solid kinds.Ambiguous = true
+is_solid kinds.Emoji = true
+is_solid _ = false
+
+abbrev is_indicator_kind : Kind → Bool
+is_indicator_kind kinds.RegionalIndicator = true
+is_indicator_kind _ = false
+
+unfoldable solid_bases_stepped : Stepped (λ c. not (is_emoji_variation_base c) || is_solid (kind c))
+solid_bases_stepped =
+    zip_stepped (λ b k. not b || is_solid k) is_emoji_variation_base kind is_emoji_variation_base_stepped kind_stepped
+
+solid_bases_ok : (always (λ c. not (is_emoji_variation_base c) || is_solid (kind c)) solid_bases_stepped
+    && (ends_by 0x11_0000 solid_bases_stepped.steps && solid_bases_stepped.default)) ≡ true
+unfolding tables ends_by solid_bases_stepped is_emoji_variation_base_stepped kind_stepped
+solid_bases_ok = refl
+
+base-solid : (c : ℕ) → is_emoji_variation_base c ≡ true → is_solid (kind c) ≡ true
+base-solid c h =
+    let all = Stepped-everywhere (λ x. not (is_emoji_variation_base x) || is_solid (kind x)) solid_bases_stepped solid_bases_ok c in
+    subst (λ b. (not b || is_solid (kind c)) ≡ true) h all
+
+base-of_kind : (c : ℕ) (k : Kind) → is_solid k ≡ true → max 1 (of_kind false c k).0 ≡ 1 → of_kind false c k ≡ (1, plain)
+base-of_kind c kinds.Zero h n = cc
+base-of_kind c kinds.Narrow h n = refl
+base-of_kind c kinds.Wide h n = absurd (omega arith)
+base-of_kind c kinds.Ambiguous h n = refl
+base-of_kind c kinds.Alef h n = cc
+base-of_kind c kinds.KhmerLetter h n = cc
+base-of_kind c kinds.TifinaghConsonant h n = cc
+base-of_kind c kinds.LisuTone h n = cc
+base-of_kind c kinds.RegionalIndicator h n = cc
+base-of_kind c kinds.EmojiModifier h n = cc
+base-of_kind c kinds.Emoji h n = absurd (omega arith)
+base-of_kind c kinds.Single h n = cc
+
+-- the base of a sequence, if it counts one column, takes one by itself
+pub alone-base : (c : ℕ) → is_emoji_variation_base c ≡ true → max 1 (alone false c).0 ≡ 1 → alone false c ≡ (1, plain)
+unfolding alone
+alone-base c h n = base-of_kind c (kind c) (base-solid c h) n
+
+pub feed-no_base : is_emoji_variation_base 0x0A ≡ false
+unfolding unicode_width
+feed-no_base = refl
+
+unfoldable indicators_stepped : Stepped (λ c. not (in_ranges ((0x1F1E6, 0x1F1FF) ∷ []) c) || is_indicator_kind (kind c))
+unfolding rises_from
+indicators_stepped =
+    zip_stepped (λ b k. not b || is_indicator_kind k) (in_ranges ((0x1F1E6, 0x1F1FF) ∷ [])) kind (of_ranges ((0x1F1E6, 0x1F1FF) ∷ []) refl) kind_stepped
+
+indicators_ok : (always (λ c. not (in_ranges ((0x1F1E6, 0x1F1FF) ∷ []) c) || is_indicator_kind (kind c)) indicators_stepped
+    && (ends_by 0x11_0000 indicators_stepped.steps && indicators_stepped.default)) ≡ true
+unfolding tables ends_by indicators_stepped kind_stepped
+indicators_ok = refl
+
+indicator-kind : (c : ℕ) → is_indicator c ≡ true → is_indicator_kind (kind c) ≡ true
+unfolding in_ranges
+indicator-kind c h =
+    let all = Stepped-everywhere (λ x. not (in_ranges ((0x1F1E6, 0x1F1FF) ∷ []) x) || is_indicator_kind (kind x)) indicators_stepped indicators_ok c in
+    grind (arith, nat_tests)
+
+indicator-of_kind : (c : ℕ) (k : Kind) → is_indicator_kind k ≡ true → of_kind false c k ≡ (1, before RegionalIndicator)
+indicator-of_kind c kinds.Zero h = cc
+indicator-of_kind c kinds.Narrow h = cc
+indicator-of_kind c kinds.Wide h = cc
+indicator-of_kind c kinds.Ambiguous h = cc
+indicator-of_kind c kinds.Alef h = cc
+indicator-of_kind c kinds.KhmerLetter h = cc
+indicator-of_kind c kinds.TifinaghConsonant h = cc
+indicator-of_kind c kinds.LisuTone h = cc
+indicator-of_kind c kinds.RegionalIndicator h = refl
+indicator-of_kind c kinds.EmojiModifier h = cc
+indicator-of_kind c kinds.Emoji h = cc
+indicator-of_kind c kinds.Single h = cc
+
+pub alone-indicator : (c : ℕ) → is_indicator c ≡ true → alone false c ≡ (1, before RegionalIndicator)
+unfolding alone
+alone-indicator c h = indicator-of_kind c (kind c) (indicator-kind c h)

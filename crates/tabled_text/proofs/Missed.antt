@@ -1,0 +1,133 @@
+-- Characters that the tables of special sequences do not have.
+use Rattle.std.proofs.Common.{◌≡◌, ℕ, true, false, nat_le, ◌||◌, refl, sym, ap, arith, subst, ⊎_elim}
+use Rattle.std.proofs.lemmas.Bool.{and_parts, or_cases, leb-true, eqb-true}
+use Rattle.std.proofs.lemmas.Bool.Decides.{nat_tests}
+use Rattle.std.specs.Int.{is_in_range}
+use Rattle.ucd_bidi.specs.JoiningGroup.{joining_group, joining_group_eq}
+use Rattle.ucd_bidi.specs.JoiningGroupRows.{joining_group_rows}
+use Rattle.ucd_bidi.specs.declared.JoiningGroup.TheVariants.{NoJoiningGroup, Lam}
+use Rattle.ucd_derived.specs.Binary.{is_default_ignorable_code_point}
+use Rattle.ucd_derived.specs.DefaultIgnorableCodePointRanges.{default_ignorable_code_point_ranges}
+use Rattle.ucd_emoji.specs.Binary.{is_emoji_variation_base, is_emoji_modifier_base}
+use Rattle.ucd_emoji.specs.Ranges.{emoji_variation_base_ranges, emoji_modifier_base_ranges}
+use Rattle.unicode_width.specs.Width.{is_lam}
+use Rattle.tabled_text.specs.Plain.{is_listed, is_drawn, is_listed_or_drawn}
+use Rattle.tabled_text.proofs.Tables.{in_ranges-missed, misses, misses_rows, value_in-missed}
+use Rattle.tabled_text.specs.Separators.{is_keycap_base}
+
+-- ---- a character that joins nothing by the tables
+
+pub record IsUnmarked (c : ℕ) : Type 0 where
+  pub variation : is_emoji_variation_base c ≡ false
+  pub base : is_emoji_modifier_base c ≡ false
+  pub ignorable : is_default_ignorable_code_point c ≡ false
+  pub lam : is_lam c ≡ false
+
+record IsMissed (low high : ℕ) : Type 0 where
+  variations : misses low high emoji_variation_base_ranges ≡ true
+  bases : misses low high emoji_modifier_base_ranges ≡ true
+  ignorables : misses low high default_ignorable_code_point_ranges ≡ true
+  joining : misses_rows low high joining_group_rows ≡ true
+
+unmarked-missed : (low high : ℕ) → IsMissed low high → (c : ℕ) → is_in_range low high c ≡ true → IsUnmarked c
+unfolding is_emoji_variation_base is_emoji_modifier_base is_default_ignorable_code_point joining_group
+unmarked-missed low high m c h =
+    let parts = and_parts (nat_le low c) (nat_le c high) h in
+    let l = leb-true low c parts.0 in
+    let u = leb-true c high parts.1 in
+    let group = value_in-missed NoJoiningGroup low high joining_group_rows m.joining c l u in
+    record {
+      variation = in_ranges-missed low high emoji_variation_base_ranges m.variations c l u;
+      base = in_ranges-missed low high emoji_modifier_base_ranges m.bases c l u;
+      ignorable = in_ranges-missed low high default_ignorable_code_point_ranges m.ignorables c l u;
+      lam = ap (λ g. joining_group_eq g Lam) group;
+    }
+
+missed-signs : IsMissed 0x20 0x22
+unfolding emoji_variation_base_ranges emoji_modifier_base_ranges default_ignorable_code_point_ranges joining_group_rows
+missed-signs = record { variations = refl; bases = refl; ignorables = refl; joining = refl }
+
+missed-dollar : IsMissed 0x24 0x29
+unfolding emoji_variation_base_ranges emoji_modifier_base_ranges default_ignorable_code_point_ranges joining_group_rows
+missed-dollar = record { variations = refl; bases = refl; ignorables = refl; joining = refl }
+
+missed-plus : IsMissed 0x2B 0x2F
+unfolding emoji_variation_base_ranges emoji_modifier_base_ranges default_ignorable_code_point_ranges joining_group_rows
+missed-plus = record { variations = refl; bases = refl; ignorables = refl; joining = refl }
+
+missed-letters : IsMissed 0x3A 0x7E
+unfolding emoji_variation_base_ranges emoji_modifier_base_ranges default_ignorable_code_point_ranges joining_group_rows
+missed-letters = record { variations = refl; bases = refl; ignorables = refl; joining = refl }
+
+missed-latin : IsMissed 0xC0 0xFF
+unfolding emoji_variation_base_ranges emoji_modifier_base_ranges default_ignorable_code_point_ranges joining_group_rows
+missed-latin = record { variations = refl; bases = refl; ignorables = refl; joining = refl }
+
+missed-cyrillic : IsMissed 0x410 0x44F
+unfolding emoji_variation_base_ranges emoji_modifier_base_ranges default_ignorable_code_point_ranges joining_group_rows
+missed-cyrillic = record { variations = refl; bases = refl; ignorables = refl; joining = refl }
+
+missed-dashes : IsMissed 0x2010 0x2017
+unfolding emoji_variation_base_ranges emoji_modifier_base_ranges default_ignorable_code_point_ranges joining_group_rows
+missed-dashes = record { variations = refl; bases = refl; ignorables = refl; joining = refl }
+
+missed-low_quotes : IsMissed 0x201A 0x201B
+unfolding emoji_variation_base_ranges emoji_modifier_base_ranges default_ignorable_code_point_ranges joining_group_rows
+missed-low_quotes = record { variations = refl; bases = refl; ignorables = refl; joining = refl }
+
+missed-dots : IsMissed 0x201E 0x2027
+unfolding emoji_variation_base_ranges emoji_modifier_base_ranges default_ignorable_code_point_ranges joining_group_rows
+missed-dots = record { variations = refl; bases = refl; ignorables = refl; joining = refl }
+
+missed-boxes : IsMissed 0x2500 0x257F
+unfolding emoji_variation_base_ranges emoji_modifier_base_ranges default_ignorable_code_point_ranges joining_group_rows
+missed-boxes = record { variations = refl; bases = refl; ignorables = refl; joining = refl }
+
+missed-blocks : IsMissed 0x2580 0x259F
+unfolding emoji_variation_base_ranges emoji_modifier_base_ranges default_ignorable_code_point_ranges joining_group_rows
+missed-blocks = record { variations = refl; bases = refl; ignorables = refl; joining = refl }
+
+missed-braille : IsMissed 0x2800 0x28FF
+unfolding emoji_variation_base_ranges emoji_modifier_base_ranges default_ignorable_code_point_ranges joining_group_rows
+missed-braille = record { variations = refl; bases = refl; ignorables = refl; joining = refl }
+
+missed-ideographs : IsMissed 0x4E00 0x9FFF
+unfolding emoji_variation_base_ranges emoji_modifier_base_ranges default_ignorable_code_point_ranges joining_group_rows
+missed-ideographs = record { variations = refl; bases = refl; ignorables = refl; joining = refl }
+
+missed-replacement : IsMissed 0xFFFD 0xFFFD
+unfolding emoji_variation_base_ranges emoji_modifier_base_ranges default_ignorable_code_point_ranges joining_group_rows
+missed-replacement = record { variations = refl; bases = refl; ignorables = refl; joining = refl }
+
+printable_parts : (c : ℕ) → is_in_range 0x20 0x7E c ≡ true → is_keycap_base c ≡ false
+    → (is_in_range 0x20 0x22 c || (is_in_range 0x24 0x29 c || (is_in_range 0x2B 0x2F c || is_in_range 0x3A 0x7E c))) ≡ true
+printable_parts c h k = grind (arith, nat_tests)
+
+unmarked-printable : (c : ℕ) → is_in_range 0x20 0x7E c ≡ true → is_keycap_base c ≡ false → IsUnmarked c
+unmarked-printable c h k =
+    ⊎_elim (unmarked-missed 0x20 0x22 missed-signs c)
+    (λ h₁. ⊎_elim (unmarked-missed 0x24 0x29 missed-dollar c)
+    (λ h₂. ⊎_elim (unmarked-missed 0x2B 0x2F missed-plus c) (unmarked-missed 0x3A 0x7E missed-letters c)
+    (or_cases _ _ h₂)) (or_cases _ _ h₁)) (or_cases _ _ (printable_parts c h k))
+
+unmarked-list : (c : ℕ) → is_listed c ≡ true → is_keycap_base c ≡ false → IsUnmarked c
+unmarked-list c h k =
+    ⊎_elim (λ a. unmarked-printable c a k)
+    (λ h₁. ⊎_elim (unmarked-missed 0xC0 0xFF missed-latin c)
+    (λ h₂. ⊎_elim (unmarked-missed 0x410 0x44F missed-cyrillic c)
+    (λ h₃. ⊎_elim (unmarked-missed 0x2500 0x257F missed-boxes c)
+    (λ h₄. ⊎_elim (unmarked-missed 0x4E00 0x9FFF missed-ideographs c)
+    (λ a. unmarked-missed 0xFFFD 0xFFFD missed-replacement c (subst (λ x. is_in_range 0xFFFD 0xFFFD x ≡ true) (sym (eqb-true c 0xFFFD a)) refl))
+    (or_cases _ _ h₄)) (or_cases _ _ h₃)) (or_cases _ _ h₂))
+    (or_cases _ _ h₁)) (or_cases _ _ h)
+
+unmarked-drawn : (c : ℕ) → is_drawn c ≡ true → IsUnmarked c
+unmarked-drawn c h =
+    ⊎_elim (unmarked-missed 0x2010 0x2017 missed-dashes c)
+    (λ h₁. ⊎_elim (unmarked-missed 0x201A 0x201B missed-low_quotes c)
+    (λ h₂. ⊎_elim (unmarked-missed 0x201E 0x2027 missed-dots c)
+    (λ h₃. ⊎_elim (unmarked-missed 0x2580 0x259F missed-blocks c) (unmarked-missed 0x2800 0x28FF missed-braille c)
+    (or_cases _ _ h₃)) (or_cases _ _ h₂)) (or_cases _ _ h₁)) (or_cases _ _ h)
+
+pub unmarked-listed : (c : ℕ) → is_listed_or_drawn c ≡ true → is_keycap_base c ≡ false → IsUnmarked c
+unmarked-listed c h k = ⊎_elim (λ a. unmarked-list c a k) (unmarked-drawn c) (or_cases _ _ h)

@@ -1,0 +1,418 @@
+-- A separator adds its own columns to every reading, and leaves the plain state.
+use Rattle.std.proofs.Common.{
+  ◌≡◌,
+  ℕ,
+  ◌+◌,
+  Bool,
+  true,
+  false,
+  cond,
+  not,
+  nat_le,
+  nat_lt,
+  ◌==◌,
+  ◌&&◌,
+  ◌||◌,
+  Option,
+  Some,
+  None,
+  refl,
+  sym,
+  ap,
+  ◌∙◌,
+  arith,
+  subst,
+  ⊎_elim,
+}
+use Rattle.std.proofs.lemmas.Bool.{and_parts, eqb-true, cases_Bool}
+use Rattle.std.proofs.lemmas.Bool.Decides.{nat_tests}
+use Rattle.std.proofs.Math.Bool.{and-false}
+use Rattle.std.specs.Int.{is_in_range}
+use Rattle.ucd_emoji.specs.Binary.{is_emoji_variation_base}
+use Rattle.ucd_table.specs.Rows.{in_ranges}
+use Rattle.unicode_width.specs.declared.kind.Kind.{Kind}
+use Rattle.unicode_width.specs.declared.kind.Kind.TheVariants as kinds
+use Rattle.unicode_width.specs.declared.state.After.{After}
+use Rattle.unicode_width.specs.declared.state.After.TheVariants.{
+  Nothing,
+  LineFeed,
+  EmojiModifier,
+  RegionalIndicator,
+  RegionalIndicators,
+  Emoji,
+  ZwjEmoji,
+  KeycapZwjEmoji,
+  IndicatorZwj,
+  EvenIndicatorsZwj,
+  OddIndicatorsZwj,
+  TagEnd,
+  TagDigit1,
+  TagDigit2,
+  TagDigit3,
+  TagLetter1,
+  TagLetter2,
+  TagLetter3,
+  TagLetter4,
+  TagLetter5,
+  TagLetter6,
+  KiratE,
+  KiratAi,
+  Alef,
+  Solidus,
+  SolidusAlef,
+  Lamed,
+  ZwjLamed,
+  Ya,
+  ZwjYa,
+  VowelZwjYa,
+  Tifinagh,
+  ZwjTifinagh,
+  JoinerTifinagh,
+  LisuTone,
+  OrkhonI,
+  ZwjOrkhonI,
+  KhmerLetter,
+}
+use Rattle.unicode_width.specs.declared.state.State.{State}
+use Rattle.unicode_width.specs.declared.state.Change.{Change}
+use Rattle.unicode_width.specs.Kind.{kind, is_ligature_transparent, is_text_presentation_base}
+use Rattle.unicode_width.specs.Width.{
+  before,
+  plain,
+  of_kind,
+  alone,
+  char_width,
+  before_alef,
+  joins,
+  Reading,
+  added,
+  joined_or,
+  is_emoji,
+  is_tifinagh,
+  is_indicator,
+  is_tag_letter,
+  is_tag_digit,
+  skips_marks,
+  is_quote,
+  is_plain,
+  is_kept,
+  is_line_feed,
+  is_joined_emoji,
+  single,
+  if_kept,
+  past_selectors,
+  in_context,
+  past_emoji,
+  step,
+}
+use Rattle.unicode_width.proofs.Rules.{is_simple, is_simple_kind}
+use Rattle.tabled_text.specs.Measure.{char_columns}
+use Rattle.tabled_text.specs.Plain.{is_listed_or_drawn, has_plain_width, is_additive}
+use Rattle.tabled_text.specs.Separators.{is_keycap_base}
+use Rattle.tabled_text.proofs.Missed.{IsUnmarked, unmarked-listed}
+
+-- ---- numbers that no sequence names
+
+-- gaps between the characters that the rules name, above U+00A0
+abbrev is_clear : ℕ → Bool
+is_clear c =
+    is_in_range 0xA1 0x5CF c || (is_in_range 0x2010 0x2017 c || (is_in_range 0x201A 0x201B c || (is_in_range 0x201E 0x2027 c
+    || (is_in_range 0x2100 0x2CFF c || (is_in_range 0x2E00 0x9FFF c || is_in_range 0xFE20 0xFFFF c)))))
+
+clear-listed : (c : ℕ) → is_listed_or_drawn c ≡ true → is_in_range 0x20 0x7E c ≡ false → is_clear c ≡ true
+clear-listed c h k = grind (arith, nat_tests)
+
+not_named : (c k : ℕ) → is_clear c ≡ true → is_clear k ≡ false → (c == k) ≡ false
+not_named c k h n = ⊎_elim
+    (λ y. absurd (let e : true ≡ false = sym h ∙ ap is_clear (eqb-true c k y) ∙ n in cc))
+    (λ no. no) (cases_Bool (c == k))
+
+-- a character that joins nothing, and is seen by itself in no state
+record IsCalm (c : ℕ) : Type 0 where
+  unmarked : IsUnmarked c
+  clear : is_clear c ≡ true
+  simple : is_simple_kind (kind c) ≡ true
+  width : ((alone false c).0 == 0) ≡ false
+
+not_emoji : (k : Kind) → is_simple_kind k ≡ true → is_emoji k ≡ false
+not_emoji kinds.Zero h = refl
+not_emoji kinds.Narrow h = refl
+not_emoji kinds.Wide h = refl
+not_emoji kinds.Ambiguous h = refl
+not_emoji kinds.Alef h = cc
+not_emoji kinds.KhmerLetter h = cc
+not_emoji kinds.TifinaghConsonant h = cc
+not_emoji kinds.LisuTone h = cc
+not_emoji kinds.RegionalIndicator h = cc
+not_emoji kinds.EmojiModifier h = cc
+not_emoji kinds.Emoji h = cc
+not_emoji kinds.Single h = cc
+
+not_tifinagh : (c : ℕ) → is_clear c ≡ true → is_tifinagh c ≡ false
+not_tifinagh c h = grind (arith, nat_tests)
+
+not_indicator : (c : ℕ) → is_clear c ≡ true → is_indicator c ≡ false
+not_indicator c h = grind (arith, nat_tests)
+
+not_tag_letter : (c : ℕ) → is_clear c ≡ true → is_tag_letter c ≡ false
+not_tag_letter c h = grind (arith, nat_tests)
+
+not_tag_digit : (c : ℕ) → is_clear c ≡ true → is_tag_digit c ≡ false
+not_tag_digit c h = grind (arith, nat_tests)
+
+not_tone : (c : ℕ) → is_clear c ≡ true → is_in_range 0xA4F8 0xA4FB c ≡ false
+not_tone c h = grind (arith, nat_tests)
+
+not_modifier : (c : ℕ) → is_clear c ≡ true → is_in_range 0x1F3FB 0x1F3FF c ≡ false
+not_modifier c h = grind (arith, nat_tests)
+
+not_quote : (c : ℕ) → is_clear c ≡ true → is_quote c ≡ false
+not_quote c h = grind (arith, nat_tests)
+
+not_low : (c : ℕ) → is_clear c ≡ true → nat_le c 0xA0 ≡ false
+not_low c h = grind (arith, nat_tests)
+
+abbrev nothing_joined : Option (Change × After)
+nothing_joined = None
+
+joins-calm : (after : After) (c : ℕ) → IsCalm c → joins false after c ≡ nothing_joined
+unfolding joins before_alef
+joins-calm Nothing c h = refl
+joins-calm LineFeed c h = refl
+joins-calm EmojiModifier c h = rw (h.unmarked.base, not_named c 0x200D h.clear refl) refl
+joins-calm RegionalIndicator c h = rw (not_indicator c h.clear) refl
+joins-calm RegionalIndicators c h = rw (not_indicator c h.clear, not_named c 0x200D h.clear refl) refl
+joins-calm Emoji c h = rw (not_named c 0x200D h.clear refl) refl
+joins-calm ZwjEmoji c h = rw
+    (not_named c 0x20E3 h.clear refl, not_indicator c h.clear, not_modifier c h.clear, not_named c 0xE007F h.clear refl, not_emoji (kind c) h.simple) refl
+joins-calm KeycapZwjEmoji c h = refl
+joins-calm IndicatorZwj c h = rw (not_indicator c h.clear) refl
+joins-calm EvenIndicatorsZwj c h = rw (not_indicator c h.clear, not_named c 0x200D h.clear refl) refl
+joins-calm OddIndicatorsZwj c h = rw (not_indicator c h.clear, not_named c 0x200D h.clear refl) refl
+joins-calm TagEnd c h = rw (not_tag_letter c h.clear, not_tag_digit c h.clear) refl
+joins-calm TagDigit1 c h = rw (not_tag_digit c h.clear) refl
+joins-calm TagDigit2 c h = rw (not_tag_digit c h.clear) refl
+joins-calm TagDigit3 c h = rw (not_named c 0x1F3F4 h.clear refl) refl
+joins-calm TagLetter1 c h = rw (not_tag_letter c h.clear, not_tag_digit c h.clear) refl
+joins-calm TagLetter2 c h = rw (not_tag_letter c h.clear, not_tag_digit c h.clear) refl
+joins-calm TagLetter3 c h = rw (not_tag_letter c h.clear, not_tag_digit c h.clear, not_named c 0x1F3F4 h.clear refl) refl
+joins-calm TagLetter4 c h = rw (not_tag_letter c h.clear, not_tag_digit c h.clear, not_named c 0x1F3F4 h.clear refl) refl
+joins-calm TagLetter5 c h = rw (not_tag_letter c h.clear, not_named c 0x1F3F4 h.clear refl) refl
+joins-calm TagLetter6 c h = rw (not_named c 0x1F3F4 h.clear refl) refl
+joins-calm KiratE c h = rw
+    (not_named c 0x16D63 h.clear refl, not_named c 0x16D67 h.clear refl, not_named c 0x16D68 h.clear refl, not_named c 0x16D69 h.clear refl) refl
+joins-calm KiratAi c h = rw (not_named c 0x16D63 h.clear refl) refl
+joins-calm Alef c h = rw (h.unmarked.lam, h.width) refl
+joins-calm Solidus c h = refl
+joins-calm SolidusAlef c h = refl
+joins-calm Lamed c h = refl
+joins-calm ZwjLamed c h = rw (not_named c 0x05D0 h.clear refl) refl
+joins-calm Ya c h = refl
+joins-calm ZwjYa c h = rw (not_named c 0x1A17 h.clear refl) refl
+joins-calm VowelZwjYa c h = rw (not_named c 0x1A15 h.clear refl) refl
+joins-calm Tifinagh c h = rw (not_named c 0x2D7F h.clear refl) refl
+joins-calm ZwjTifinagh c h = rw (not_named c 0x2D7F h.clear refl, not_tifinagh c h.clear) refl
+joins-calm JoinerTifinagh c h = rw (not_tifinagh c h.clear) refl
+joins-calm LisuTone c h = rw (not_tone c h.clear) refl
+joins-calm OrkhonI c h = refl
+joins-calm ZwjOrkhonI c h = rw (not_named c 0x10C32 h.clear refl) refl
+joins-calm KhmerLetter c h = rw (not_named c 0x17D2 h.clear refl) refl
+
+-- ---- one step
+
+alone-simple : (c : ℕ) (k : Kind) → is_simple_kind k ≡ true → (of_kind false c k).1 ≡ plain
+alone-simple c kinds.Zero h = refl
+alone-simple c kinds.Narrow h = refl
+alone-simple c kinds.Wide h = refl
+alone-simple c kinds.Ambiguous h = refl
+alone-simple c kinds.Alef h = cc
+alone-simple c kinds.KhmerLetter h = cc
+alone-simple c kinds.TifinaghConsonant h = cc
+alone-simple c kinds.LisuTone h = cc
+alone-simple c kinds.RegionalIndicator h = cc
+alone-simple c kinds.EmojiModifier h = cc
+alone-simple c kinds.Emoji h = cc
+alone-simple c kinds.Single h = cc
+
+-- the reading that a character leaves which adds its own width
+abbrev apart : ℕ → ℕ → Reading
+apart c total = (total + (alone false c).0, plain)
+
+added-calm : (c total : ℕ) → IsCalm c → added total (alone false c) ≡ apart c total
+unfolding alone
+added-calm c total h = ap (λ s. (total + (alone false c).0, s)) (alone-simple c (kind c) h.simple)
+
+ligature-calm : (c : ℕ) → IsCalm c → is_ligature_transparent c ≡ false
+unfolding is_ligature_transparent in_ranges
+ligature-calm c h = rw (h.unmarked.ignorable) (grind (arith, nat_tests, not_named c 0x200D h.clear refl))
+
+text-calm : (c : ℕ) → IsCalm c → is_text_presentation_base c ≡ false
+unfolding is_text_presentation_base
+text-calm c h = rw (h.unmarked.variation) refl
+
+past_selectors-calm : (c total : ℕ) (after : After) → IsCalm c → past_selectors false c total after ≡ apart c total
+unfolding past_selectors
+past_selectors-calm c total after h =
+    rw (not_named c 0x200D h.clear refl, ligature-calm c h, joins-calm after c h, and-false (skips_marks after)) (added-calm c total h)
+
+in_context-calm : (c total : ℕ) (s : State) → IsCalm c → in_context false c total s ≡ apart c total
+unfolding in_context
+in_context-calm c total s h =
+    rw (not_named c 0xFE0F h.clear refl, not_named c 0xFE01 h.clear refl, not_named c 0xFE0E h.clear refl, text-calm c h, not_quote c h.clear, and-false s.text, and-false s.quote)
+    (past_selectors-calm c total s.after h)
+
+cond-same : (b : Bool) (x y z : Reading) → x ≡ z → y ≡ z → cond b x y ≡ z
+cond-same true x y z p q = p
+cond-same false x y z p q = q
+
+past_emoji-calm : (c total : ℕ) (s : State) → IsCalm c → past_emoji false c total s ≡ apart c total
+unfolding past_emoji
+past_emoji-calm c total s h =
+    rw (not_named c 0x0A h.clear refl, not_named c 0x0D h.clear refl, not_low c h.clear)
+    (cond-same (is_plain s) _ _ _ (added-calm c total h) (in_context-calm c total s h))
+
+-- a character that U+FE0F leaves as it is takes a step as it does without that
+step-steady : (c total : ℕ) (s : State) (r : Reading) → is_emoji_variation_base c ≡ false → ((s : State) → past_emoji false c total s ≡ r)
+    → step false c (total, s) ≡ r
+unfolding step
+step-steady c total s r v p = rw v (cond-same (not s.emoji) _ _ _ (p s) (p (record (if_kept s) { emoji = false })))
+
+columns-high : (c : ℕ) → nat_le c 0xA0 ≡ false → char_columns c ≡ (alone false c).0
+unfolding char_width
+columns-high c h = grind (arith, nat_tests)
+
+columns-printable : (c : ℕ) → is_in_range 0x20 0x7E c ≡ true → char_columns c ≡ 1
+unfolding char_width
+columns-printable c h = grind (arith, nat_tests)
+
+past_emoji-printable : (c total : ℕ) (s : State) → is_in_range 0x20 0x7E c ≡ true → past_emoji false c total s ≡ (total + 1, plain)
+unfolding past_emoji
+past_emoji-printable c total s h = grind (arith, nat_tests)
+
+abbrev adds_own : ℕ → ℕ → Reading
+adds_own c total = (total + char_columns c, plain)
+
+step-printable : (c total : ℕ) (s : State) → is_emoji_variation_base c ≡ false → is_in_range 0x20 0x7E c ≡ true → step false c (total, s) ≡ adds_own c total
+step-printable c total s v h =
+    step-steady c total s (adds_own c total) v (λ u. past_emoji-printable c total u h ∙ ap (λ n. (total + n, plain)) (sym (columns-printable c h)))
+
+step-calm : (c total : ℕ) (s : State) → IsCalm c → step false c (total, s) ≡ adds_own c total
+step-calm c total s h =
+    step-steady c total s (adds_own c total) h.unmarked.variation
+    (λ u. past_emoji-calm c total u h ∙ ap (λ n. (total + n, plain)) (sym (columns-high c (not_low c h.clear))))
+
+not_zero : (n : ℕ) → ((n == 1) || (n == 2)) ≡ true → (n == 0) ≡ false
+not_zero n h = grind (arith, nat_tests)
+
+-- not printable, but simple
+high-simple : (c : ℕ) → is_in_range 0x20 0x7E c ≡ false → is_simple c ≡ true → is_simple_kind (kind c) ≡ true
+high-simple c p h = (and_parts (nat_lt 0xA0 c) (is_simple_kind (kind c)) (subst (λ b. (b || (nat_lt 0xA0 c && is_simple_kind (kind c))) ≡ true) p h)).1
+
+calm-listed : (c : ℕ) → is_additive c ≡ true → is_keycap_base c ≡ false → is_in_range 0x20 0x7E c ≡ false → IsCalm c
+calm-listed c h k p =
+    let parts = and_parts (is_listed_or_drawn c) (has_plain_width c && is_simple c) h in
+    let own = and_parts (has_plain_width c) (is_simple c) parts.1 in
+    let clear = clear-listed c parts.0 p in
+    record {
+      unmarked = unmarked-listed c parts.0 k;
+      clear = clear;
+      simple = high-simple c p own.1;
+      width = ap (λ n. n == 0) (sym (columns-high c (not_low c clear))) ∙ not_zero (char_columns c) own.0;
+    }
+
+-- a separator adds its own columns to every reading, and leaves the plain state
+pub step-separator : (c total : ℕ) (s : State) → is_additive c ≡ true → is_keycap_base c ≡ false
+    → step false c (total, s) ≡ (total + char_columns c, plain)
+step-separator c total s h k =
+    let listed = (and_parts (is_listed_or_drawn c) (has_plain_width c && is_simple c) h).0 in
+    ⊎_elim (λ y. step-printable c total s (unmarked-listed c listed k).variation y)
+    (λ n. step-calm c total s (calm-listed c h k n)) (cases_Bool (is_in_range 0x20 0x7E c))
+
+pub keycap-printable : (c : ℕ) → is_keycap_base c ≡ true → is_in_range 0x20 0x7E c ≡ true
+keycap-printable c h = grind (arith, nat_tests)
+
+-- so does a keycap base where no U+FE0F follows
+pub step-keycap : (c total : ℕ) (s : State) → is_keycap_base c ≡ true → s.emoji ≡ false → step false c (total, s) ≡ (total + char_columns c, plain)
+unfolding step
+step-keycap c total s h e =
+    let p = keycap-printable c h in
+    ap (λ b. cond (not b) (past_emoji false c total s)
+    (cond (is_emoji_variation_base c) (total + cond (is_joined_emoji s.after) 0 2, before Emoji)
+    (past_emoji false c total (record (if_kept s) { emoji = false })))) e
+    ∙ past_emoji-printable c total s p ∙ ap (λ n. (total + n, plain)) (sym (columns-printable c p))
+
+-- ---- only U+FE0F leaves its flag
+
+single-flag : (c : ℕ) → (c == 0xFE0F) ≡ false → (single false c).1.emoji ≡ false
+single-flag c h = grind arith
+
+of_kind-flag : (c : ℕ) (k : Kind) → (c == 0xFE0F) ≡ false → (of_kind false c k).1.emoji ≡ false
+of_kind-flag c kinds.Zero h = refl
+of_kind-flag c kinds.Narrow h = refl
+of_kind-flag c kinds.Wide h = refl
+of_kind-flag c kinds.Ambiguous h = refl
+of_kind-flag c kinds.Alef h = refl
+of_kind-flag c kinds.KhmerLetter h = refl
+of_kind-flag c kinds.TifinaghConsonant h = refl
+of_kind-flag c kinds.LisuTone h = refl
+of_kind-flag c kinds.RegionalIndicator h = refl
+of_kind-flag c kinds.EmojiModifier h = refl
+of_kind-flag c kinds.Emoji h = refl
+of_kind-flag c kinds.Single h = single-flag c h
+
+record IsUnflagged (r : Reading) : Type 0 where
+  unflagged : r.1.emoji ≡ false
+
+IsUnflagged-cond : (b : Bool) (x y : Reading) → IsUnflagged x → IsUnflagged y → IsUnflagged (cond b x y)
+IsUnflagged-cond true x y f g = f
+IsUnflagged-cond false x y f g = g
+
+unflagged-alone : (c total : ℕ) → (c == 0xFE0F) ≡ false → IsUnflagged (added total (alone false c))
+unfolding alone
+unflagged-alone c total h = record { unflagged = of_kind-flag c (kind c) h }
+
+unflagged-joined : (total : ℕ) (j : Option (Change × After)) (own : ℕ × State) → IsUnflagged (added total own) → IsUnflagged (joined_or total j own)
+unflagged-joined total None own h = h
+unflagged-joined total (Some j) own h = record { unflagged = refl }
+
+unflagged-kept : (b : Bool) (s : State) → s.emoji ≡ false → (cond b s plain).emoji ≡ false
+unflagged-kept true s h = h
+unflagged-kept false s h = refl
+
+unflagged-past_selectors : (c total : ℕ) (after : After) → (c == 0xFE0F) ≡ false → IsUnflagged (past_selectors false c total after)
+unfolding past_selectors
+unflagged-past_selectors c total after h =
+    IsUnflagged-cond (skips_marks after && (c == 0x200D)) _ _ (record { unflagged = refl })
+    (IsUnflagged-cond (skips_marks after && is_ligature_transparent c) _ _ (record { unflagged = refl })
+    (unflagged-joined total (joins false after c) (alone false c) (unflagged-alone c total h)))
+
+unflagged-in_context : (c total : ℕ) (s : State) → (c == 0xFE0F) ≡ false → s.emoji ≡ false → IsUnflagged (in_context false c total s)
+unfolding in_context
+unflagged-in_context c total s h e =
+    rw h
+    (IsUnflagged-cond (c == 0xFE01) _ _ (record { unflagged = unflagged-kept (is_kept s.after) s e })
+    (IsUnflagged-cond (c == 0xFE0E) _ _ (record { unflagged = unflagged-kept (is_kept s.after) s e })
+    (IsUnflagged-cond (s.text && is_text_presentation_base c) _ _ (record { unflagged = refl })
+    (IsUnflagged-cond (s.quote && is_quote c) _ _ (record { unflagged = refl }) (unflagged-past_selectors c total s.after h)))))
+
+unflagged-past_emoji : (c total : ℕ) (s : State) → (c == 0xFE0F) ≡ false → s.emoji ≡ false → IsUnflagged (past_emoji false c total s)
+unfolding past_emoji
+unflagged-past_emoji c total s h e =
+    IsUnflagged-cond (c == 0x0A) _ _ (record { unflagged = refl })
+    (IsUnflagged-cond ((c == 0x0D) && is_line_feed s.after) _ _ (record { unflagged = refl })
+    (IsUnflagged-cond (nat_le c 0xA0) _ _ (record { unflagged = refl })
+    (IsUnflagged-cond (is_plain s) _ _ (unflagged-alone c total h) (unflagged-in_context c total s h e))))
+
+unflagged-first : (b : Bool) (x y : Reading) → (b ≡ false → IsUnflagged x) → IsUnflagged y → IsUnflagged (cond (not b) x y)
+unflagged-first true x y f g = g
+unflagged-first false x y f g = f refl
+
+unflagged-step : (c total : ℕ) (s : State) → (c == 0xFE0F) ≡ false → IsUnflagged (step false c (total, s))
+unfolding step
+unflagged-step c total s h =
+    unflagged-first s.emoji _ _ (λ e. unflagged-past_emoji c total s h e)
+    (IsUnflagged-cond (is_emoji_variation_base c) _ _ (record { unflagged = refl })
+    (unflagged-past_emoji c total (record (if_kept s) { emoji = false }) h refl))
+
+pub step-flag : (c total : ℕ) (s : State) → (c == 0xFE0F) ≡ false → (step false c (total, s)).1.emoji ≡ false
+step-flag c total s h = (unflagged-step c total s h).unflagged

@@ -1,0 +1,268 @@
+-- A wrapped text stays in its columns, whatever its characters are.
+use Rattle.std.proofs.Common.{
+  ◌≡◌,
+  ℕ,
+  ◌+◌,
+  ◌-◌,
+  ◌<◌,
+  ◌≤◌,
+  ◌⊎◌,
+  inl,
+  inr,
+  ⊎_elim,
+  Bool,
+  true,
+  false,
+  cond,
+  ◌==◌,
+  nat_le,
+  List,
+  [],
+  ◌∷◌,
+  ◌++◌,
+  map,
+  refl,
+  sym,
+  ap,
+  ◌∙◌,
+  arith,
+  subst,
+  replicate,
+  chars,
+}
+use Rattle.std.specs.Prelude.{MatchBool, ⊤}
+use Rattle.std.specs.List.{list_all, flat_map, AllZip}
+use Rattle.std.proofs.lemmas.Bool.{and_from, cases_Bool, leb-false}
+use Rattle.std.proofs.lemmas.Bool.Decides.{nat_tests}
+use Rattle.std.proofs.lemmas.List.{append_assoc, append-nil}
+use Rattle.std.proofs.lemmas.List.Folds.{list_all-append}
+use Rattle.std.proofs.lemmas.List.Sums.{sum_by_push}
+use Rattle.std.proofs.lemmas.Str.{chars-nil}
+use Rattle.tabled_text.specs.Measure.{lines_of, columns_of, char_count, count_of, text_columns}
+use Rattle.tabled_text.specs.Units.{TextUnit, unit_of_char, space, units_of_word, words_of, units_of_words, units}
+use Rattle.tabled_text.specs.Wrapping.{Fits, AreFullest, IsFullest, shown, text_from, text_of_groups, text_of_lines, IsFullestText, IsWrapped}
+use Rattle.tabled_text.proofs.Each.{Each, Each-lines, EachUnit, EachUnit-parts, EachUnit-units, list_all-copies}
+use Rattle.tabled_text.proofs.JoinLemmas.{lines_of-feed}
+use Rattle.tabled_text.proofs.WrapRoom.{plain_space}
+use Rattle.tabled_text.specs.FramedLines.{is_no_feed}
+use Rattle.tabled_text.specs.Separators.{is_separator}
+use Rattle.tabled_text.proofs.CountBound.{columns-count}
+use Rattle.tabled_text.proofs.SeparatorLaws.{columns-between}
+use Rattle.tabled_text.proofs.Within.{Within, Within-append, Within-nothing, text_columns-within, lines_of-feedless, columns-filled}
+
+-- ---- units as they stand in a line
+
+record IsSpace (unit : TextUnit) : Type 0 where
+  text : unit.text ≡ 32 ∷ []
+  width : unit.width ≡ 1
+
+record IsCharacter (unit : TextUnit) : Type 0 where
+  character : ℕ
+  text : unit.text ≡ character ∷ []
+  width : unit.width ≡ char_count character
+
+record IsWord (unit : TextUnit) : Type 0 where
+  width : unit.width ≡ columns_of unit.text
+
+-- a space stands anywhere (0 before it), a character behind a space or a character (1), a whole word behind a space
+-- only (2)
+abbrev Laid : ℕ → List TextUnit → Type 0
+Laid k [] = ⊤
+Laid k (u ∷ us) = (IsSpace u × Laid 0 us) ⊎ (((k ≤ 1) × (IsCharacter u × Laid 1 us)) ⊎ ((k ≡ 0) × (IsWord u × Laid 2 us)))
+
+Laid-less : (k : ℕ) (us : List TextUnit) → Laid k us → Laid 0 us
+Laid-less k [] h = tt
+Laid-less k (u ∷ us) h = ⊎_elim (λ a. inl a) (λ o. ⊎_elim (λ a. inr (inl (omega arith, a.1))) (λ a. inr (inr (refl, a.1))) o) h
+
+Laid-parts : (k : ℕ) (us vs : List TextUnit) → Laid k (us ++ vs) → Laid k us × Laid 0 vs
+Laid-parts k [] vs h = (tt, Laid-less k vs h)
+Laid-parts k (u ∷ us) vs h = ⊎_elim
+    (λ a. let r = Laid-parts 0 us vs a.1 in (inl (a.0, r.0), r.1))
+    (λ o. ⊎_elim (λ a. let r = Laid-parts 1 us vs a.1.1 in (inr (inl (a.0, (a.1.0, r.0))), r.1))
+    (λ a. let r = Laid-parts 2 us vs a.1.1 in (inr (inr (a.0, (a.1.0, r.0))), r.1)) o)
+    h
+
+Laid-chars : (k : ℕ) → k ≤ 1 → (cs : List ℕ) (tail : List TextUnit) → ((j : ℕ) → Laid j tail) → Laid k (map unit_of_char cs ++ tail)
+Laid-chars k le [] tail h = h k
+Laid-chars k le (c ∷ cs) tail h = inr (inl (le, (record { character = c; text = refl; width = refl }, Laid-chars 1 (omega arith) cs tail h)))
+
+Laid-cond : (b : Bool) (us vs tail : List TextUnit) → Laid 0 (us ++ tail) → Laid 0 (vs ++ tail) → Laid 0 (cond b us vs ++ tail)
+Laid-cond true us vs tail f g = f
+Laid-cond false us vs tail f g = g
+
+Laid-word : (n : ℕ) (word : List ℕ) (tail : List TextUnit) → ((j : ℕ) → Laid j tail) → Laid 0 (units_of_word n word ++ tail)
+Laid-word n [] tail h = h 0
+Laid-word n (c ∷ cs) tail h =
+    let whole : TextUnit = record { text = c ∷ cs; width = columns_of (c ∷ cs) } in
+    Laid-cond (nat_le (columns_of (c ∷ cs)) n) (whole ∷ []) (map unit_of_char (c ∷ cs)) tail
+    (inr (inr (refl, (record { width = refl }, h 2)))) (Laid-chars 0 (omega arith) (c ∷ cs) tail h)
+
+Laid-words : (n : ℕ) (words : List (List ℕ)) → Laid 0 (units_of_words n words)
+Laid-words n [] = tt
+Laid-words n (w ∷ []) = subst (Laid 0) (append-nil (units_of_word n w)) (Laid-word n w [] (λ j. tt))
+Laid-words n (w ∷ x ∷ ws) = Laid-word n w (space ∷ units_of_words n (x ∷ ws)) (λ j. inl (record { text = refl; width = refl }, Laid-words n (x ∷ ws)))
+
+Laid-units : (n : ℕ) (words : Bool) (line : List ℕ) → Laid 0 (units n words line)
+Laid-units n false line = subst (Laid 0) (append-nil (map unit_of_char line)) (Laid-chars 0 (omega arith) line [] (λ j. tt))
+Laid-units n true line = Laid-words n (words_of line)
+
+-- ---- the columns of a group
+
+separator-space : is_separator 32 ≡ true
+separator-space = and_from _ true plain_space.0 refl
+
+-- what stands behind the last space takes at most so many columns
+record Held (k : ℕ) (front : List ℕ) (columns : ℕ) : Type 0 where
+  bound : columns_of front ≤ columns
+  counted : k ≤ 1 → columns ≡ count_of front
+  empty : k ≡ 0 → front ≡ []
+
+held-nothing : Held 0 [] 0
+held-nothing = record { bound = columns-count []; counted = λ _. refl; empty = λ _. refl }
+
+none_follows : (n used : ℕ) (us : List TextUnit) → Fits n used us → n < used → us ≡ []
+none_follows n used [] f h = refl
+none_follows n used (u ∷ us) f h = absurd (let a = f.0 in omega arith)
+
+-- b columns up to the last space, and m behind it
+columns-group : (n : ℕ) → 0 < n → (k b m : ℕ) (front : List ℕ) (us : List TextUnit) → Held k front m → b + m ≤ n → Laid k us → Fits n (b + m) us
+    → b + columns_of (front ++ text_from n (b + m) us) ≤ n
+columns-group n pos k b m front [] held le laid fits =
+    let e = ap columns_of (append-nil front) in let h = held.bound in omega arith
+columns-group n pos k b m front (u ∷ us) held le laid fits =
+    let more = text_from n (b + m + u.width) us in
+    let here = fits.0 in
+    let P : List ℕ → Type 0 = λ l. b + columns_of (front ++ (l ++ more)) ≤ n in
+    ⊎_elim
+    (λ yes.
+    let own : b + m + u.width ≤ n = subst (λ t. b + m + cond t u.width 1 ≤ n) yes here in
+    subst (λ t. P (cond t u.text (replicate (n - (b + m)) 0xFFFD))) (sym yes)
+    (⊎_elim
+    (λ (s : IsSpace u × Laid 0 us).
+    let w = s.0.width in
+    let e : b + m + u.width ≡ b + m + 1 + 0 = omega arith in
+    let rest = columns-group n pos 0 (b + m + 1) 0 [] us held-nothing (omega arith) s.1 (subst (λ x. Fits n x us) e fits.1) in
+    let same : columns_of more ≡ columns_of (text_from n (b + m + 1 + 0) us) = ap (λ x. columns_of (text_from n x us)) e in
+    let one = plain_space.1 in
+    let bound = held.bound in
+    let split = columns-between 32 front more separator-space in
+    subst P (sym s.0.text) (omega arith))
+    (λ o. ⊎_elim
+    (λ (s : (k ≤ 1) × (IsCharacter u × Laid 1 us)).
+    let c = s.1.0.character in
+    let w = s.1.0.width in
+    let counted = held.counted s.0 in
+    let push : count_of (front ++ c ∷ []) ≡ count_of front + char_count c = sum_by_push char_count front c in
+    let e : b + m + u.width ≡ b + (m + char_count c) = omega arith in
+    let next : Held 1 (front ++ c ∷ []) (m + char_count c) = record {
+      bound = (let a = columns-count (front ++ c ∷ []) in omega arith);
+      counted = λ _. omega arith;
+      empty = λ z. absurd (omega arith);
+    } in
+    let rest = columns-group n pos 1 b (m + char_count c) (front ++ c ∷ []) us next (omega arith) s.1.1 (subst (λ x. Fits n x us) e fits.1) in
+    let back = subst (λ x. b + columns_of ((front ++ c ∷ []) ++ text_from n x us) ≤ n) (sym e) rest in
+    subst P (sym s.1.0.text) (subst (λ l. b + columns_of l ≤ n) (append_assoc front (c ∷ []) more) back))
+    (λ (s : (k ≡ 0) × (IsWord u × Laid 2 us)).
+    let w = s.1.0.width in
+    let z = s.0 in
+    let none = held.empty z in
+    let counted = held.counted (omega arith) in
+    let m0 : m ≡ 0 = counted ∙ ap count_of none in
+    let e : b + m + u.width ≡ b + u.width = omega arith in
+    let next : Held 2 u.text u.width = record { bound = omega arith; counted = λ x. absurd (omega arith); empty = λ x. absurd (omega arith) } in
+    let rest = columns-group n pos 2 b u.width u.text us next (omega arith) s.1.1 (subst (λ x. Fits n x us) e fits.1) in
+    let back = subst (λ x. b + columns_of (u.text ++ text_from n x us) ≤ n) (sym e) rest in
+    subst (λ f. b + columns_of (f ++ (u.text ++ more)) ≤ n) (sym none) back)
+    o)
+    laid))
+    (λ no.
+    let l = leb-false u.width n no in
+    let tail = none_follows n (b + m + u.width) us fits.1 (omega arith) in
+    let fill = columns-filled front (n - (b + m)) in
+    let bound = held.bound in
+    let last : b + columns_of (front ++ replicate (n - (b + m)) 0xFFFD) ≤ n = omega arith in
+    let drop : front ++ (replicate (n - (b + m)) 0xFFFD ++ more) ≡ front ++ replicate (n - (b + m)) 0xFFFD =
+    ap (λ us. front ++ (replicate (n - (b + m)) 0xFFFD ++ text_from n (b + m + u.width) us)) tail ∙ ap (λ l. front ++ l)
+    (append-nil (replicate (n - (b + m)) 0xFFFD)) in
+    subst (λ t. P (cond t u.text (replicate (n - (b + m)) 0xFFFD))) (sym no) (subst (λ l. b + columns_of l ≤ n) (sym drop) last))
+    (cases_Bool (nat_le u.width n))
+
+-- ---- groups are lines
+
+feedless-shown : (b : Bool) (n used : ℕ) (xs : List ℕ) → list_all is_no_feed xs ≡ true → list_all is_no_feed (cond b xs (replicate (n - used) 0xFFFD)) ≡ true
+feedless-shown true n used xs h = h
+feedless-shown false n used xs h = list_all-copies is_no_feed 0xFFFD (n - used) refl
+
+feedless-group : (n used : ℕ) (us : List TextUnit) → EachUnit is_no_feed us → list_all is_no_feed (text_from n used us) ≡ true
+feedless-group n used [] h = refl
+feedless-group n used (u ∷ us) h =
+    list_all-append is_no_feed (shown n used u) (text_from n (used + u.width) us)
+    ∙ and_from (list_all is_no_feed (shown n used u)) _ (feedless-shown (nat_le u.width n) n used u.text h.0) (feedless-group n (used + u.width) us h.1)
+
+Within-group : (n : ℕ) → 0 < n → (us : List TextUnit) → Laid 0 us → EachUnit is_no_feed us → Fits n 0 us → Within n (lines_of (text_from n 0 us))
+Within-group n pos us laid feedless fits =
+    let all = columns-group n pos 0 0 0 [] us held-nothing (omega arith) laid fits in
+    let own : columns_of (text_from n 0 us) ≤ n = omega arith in
+    subst (Within n) (sym (lines_of-feedless (text_from n 0 us) (feedless-group n 0 us feedless))) (own, tt)
+
+-- what holds of all units of the groups
+record Sound (units : List TextUnit) : Type 0 where
+  laid : Laid 0 units
+  feedless : EachUnit is_no_feed units
+
+sound-parts : (us vs : List TextUnit) → Sound (us ++ vs) → Sound us × Sound vs
+sound-parts us vs s =
+    let l = Laid-parts 0 us vs s.laid in
+    let f = EachUnit-parts is_no_feed us vs s.feedless in
+    (record { laid = l.0; feedless = f.0 }, record { laid = l.1; feedless = f.1 })
+
+Within-groups : (n : ℕ) → 0 < n → (groups : List (List TextUnit)) → Sound (flat_map (λ g. g) groups) → AreFullest n groups
+    → Within n (lines_of (text_of_groups n groups))
+Within-groups n pos [] s f = Within-nothing n
+Within-groups n pos (g ∷ []) s f = let own = (sound-parts g [] s).0 in Within-group n pos g own.laid own.feedless f
+Within-groups n pos (g ∷ h ∷ gs) s f =
+    let parts = sound-parts g (flat_map (λ g. g) (h ∷ gs)) s in
+    let own = parts.0 in
+    subst (Within n) (sym (lines_of-feed (text_from n 0 g) (text_of_groups n (h ∷ gs))))
+    (Within-append n (lines_of (text_from n 0 g)) (lines_of (text_of_groups n (h ∷ gs)))
+    (Within-group n pos g own.laid own.feedless f.0) (Within-groups n pos (h ∷ gs) parts.1 f.2))
+
+Within-line : (n : ℕ) → 0 < n → (words : Bool) (line : List ℕ) (groups : List (List TextUnit)) → list_all is_no_feed line ≡ true
+    → IsFullest n (units n words line) groups → Within n (lines_of (text_of_groups n groups))
+Within-line n pos words line groups h f =
+    let sound : Sound (units n words line) = record { laid = Laid-units n words line; feedless = EachUnit-units is_no_feed refl n words line h } in
+    Within-groups n pos groups (subst Sound (sym f.grouping.whole) sound) f.fullest
+
+Within-lines : (n : ℕ) (words : Bool) → 0 < n → (lines : List (List ℕ)) (broken : List (List (List TextUnit))) → Each is_no_feed lines
+    → AllZip (λ line groups. IsFullest n (units n words line) groups) lines broken → Within n (lines_of (text_of_lines n broken))
+Within-lines n words pos [] [] p f = Within-nothing n
+Within-lines n words pos [] (g ∷ gs) p f = absurd f
+Within-lines n words pos (l ∷ ls) [] p f = absurd f
+Within-lines n words pos (l ∷ []) (g ∷ []) p f = Within-line n pos words l g p.0 f.0
+Within-lines n words pos (l ∷ []) (g ∷ h ∷ gs) p f = absurd f.1
+Within-lines n words pos (l ∷ m ∷ ls) (g ∷ []) p f = absurd f.1
+Within-lines n words pos (l ∷ m ∷ ls) (g ∷ h ∷ gs) p f =
+    subst (Within n) (sym (lines_of-feed (text_of_groups n g) (text_of_lines n (h ∷ gs))))
+    (Within-append n (lines_of (text_of_groups n g)) (lines_of (text_of_lines n (h ∷ gs)))
+    (Within-line n pos words l g p.0 f.0) (Within-lines n words pos (m ∷ ls) (h ∷ gs) p.1 f.1))
+
+all_characters : (cs : List ℕ) → list_all (λ c. true) cs ≡ true
+all_characters [] = refl
+all_characters (c ∷ cs) = all_characters cs
+
+is_no_feed-from : (c : ℕ) → (c == 10) ≡ false → is_no_feed c ≡ true
+is_no_feed-from c h = grind (arith, h)
+
+pub wrap_bound : (n : ℕ) (words : Bool) (text answer : List ℕ) → IsWrapped n words text answer → text_columns answer ≤ n
+wrap_bound n words text answer w = ⊎_elim
+    (λ y.
+    let empty : answer ≡ [] = subst (λ b. MatchBool b (answer ≡ []) (IsFullestText n words (chars text) (chars answer))) y w.wrapped in
+    text_columns-within n answer w.utf8 (subst (λ t. Within n (lines_of t)) (sym (ap chars empty ∙ chars-nil)) (Within-nothing n)))
+    (λ no.
+    let full : IsFullestText n words (chars text) (chars answer) = subst
+    (λ b. MatchBool b (answer ≡ []) (IsFullestText n words (chars text) (chars answer))) no w.wrapped in
+    let pos : 0 < n = grind (arith, nat_tests) in
+    let each = Each-lines is_no_feed (λ c. true) (λ c a b. is_no_feed-from c b) (chars text) (all_characters (chars text)) in
+    text_columns-within n answer w.utf8
+    (subst (λ t. Within n (lines_of t)) (sym full.answered) (Within-lines n words pos (lines_of (chars text)) full.broken each full.fullest)))
+    (cases_Bool (n == 0))

@@ -1,0 +1,5 @@
+use Rattle.tabled_text.proofs.SeparatorLaws.{additive_column-splits, columns-separator, columns-between, columns-meet}
+use Rattle.tabled_text.proofs.general_laws.separators.Goals as goal
+
+pub returns : goal.returns
+returns g = record { additive = additive_column-splits; first = columns-separator; between = columns-between; meet = columns-meet }

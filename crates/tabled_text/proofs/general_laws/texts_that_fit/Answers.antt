@@ -1,0 +1,13 @@
+use Rattle.tabled_text.proofs.FittingLaws.{fits-cut, fits-followed, fits-suffix, fits-wrapped, fits-joined, fits-none, fits-filled}
+use Rattle.tabled_text.proofs.general_laws.texts_that_fit.Goals as goal
+
+pub returns : goal.returns
+returns g = record {
+  cut = fits-cut;
+  suffix = fits-suffix;
+  followed = fits-followed;
+  wrapped = fits-wrapped;
+  joined = fits-joined;
+  none = fits-none;
+  filled = fits-filled;
+}

@@ -1,9 +1,0 @@
-use Rattle.std.proofs.Common.{◌≡◌, ◌++◌}
-use Rattle.tabled_views.specs.Reading.{Walked}
-use Rattle.tabled_views.proofs.reading.keep_cells.Given as goal
-
-abbrev pub invariant-cells : goal.invariant-cells
-invariant-cells g l = record {
-  kept : l.row.items ≡ l.initial.row.items ++ l.yielded;
-  walked : Walked g.I.Iterator.can_next g.I.Iterator.next_gives g.I.Iterator.remaining l.initial.cells l.cells;
-}
