@@ -37,7 +37,7 @@ fn main(rt: HostRuntime) -> Result<()> {
     put_alignments(&rt)?;
     put_center(&rt)?;
     put_block_alignments(&rt)?;
-    put_spaces(&rt)?;
+    write_spaces(&rt)?;
     put_widths(&rt)?;
     put_priorities(&rt)?;
     put_increases(&rt)?;
@@ -73,7 +73,7 @@ fn put_block_alignments(rt: &HostRuntime) -> Result<()> {
     show!(rt, of_lines; alignments::block, alignments::lines, alignments::middle, alignments::bottom)
 }
 
-fn put_spaces(rt: &HostRuntime) -> Result<()> {
+fn write_spaces(rt: &HostRuntime) -> Result<()> {
     show!(rt, of_cities;
         spaces::padding, spaces::zero, spaces::filled, spaces::expanded, spaces::of_a_column, spaces::configured, spaces::margin,
         spaces::filled_margin)

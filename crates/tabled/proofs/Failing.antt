@@ -7,7 +7,7 @@ use Rattle.tabled_base.specs.declared.error.TableError.TheVariants as refusal
 use Rattle.tabled.specs.Faults.{fault_of}
 use Rattle.tabled.specs.Output.{Begins, IsBegunOn}
 use Rattle.tabled.specs.Runs.{HasFailed, HasRead}
-use Rattle.tabled.specs.Words.{SpellsPlan}
+use Rattle.tabled.specs.Arguments.{SpellsPlan}
 use Rattle.tabled.specs.declared.fault.Fault.{Fault}
 use Rattle.tabled.specs.declared.plan.Plan.{Plan}
 

@@ -9,9 +9,9 @@ use Rattle.tabled_set.specs.CellChanges.{AreChanged}
 use Rattle.tabled_config.specs.declared.spanned.SpannedConfig.{SpannedConfig}
 use Rattle.tabled_grid.specs.Printed.{IsOutOfRange}
 use Rattle.tabled_grid.proofs.EstimatedSizes.{passes_too_high, passes_too_wide}
-use Rattle.tabled_grid.proofs.StandingSizes.{standing_estimated}
+use Rattle.tabled_grid.proofs.EffectiveSizes.{effective_estimated}
 use Rattle.tabled_set.specs.Minimums.{emptied, minimums}
-use Rattle.tabled_set.specs.Narrowed.{IsNarrowed, Narrows, NarrowingOutOfRange, for_room}
+use Rattle.tabled_set.specs.Narrowed.{IsNarrowed, Narrows, NarrowingOutOfRange, for_content_size}
 use Rattle.tabled_set.specs.Priorities.{TakesFrom}
 use Rattle.tabled_set.proofs.Emptied.{emptied-cell, emptied-columns, emptied-rows, minimums-length}
 use Rattle.tabled_set.proofs.ExactTotals.{new_widths}
@@ -20,7 +20,7 @@ use Rattle.tabled_size.specs.Entries.{clears_heights, clears_widths, unless_clea
 use Rattle.tabled_size.specs.Estimates.{IsTooWide, estimated_heights, estimated_widths}
 use Rattle.tabled_size.specs.FilledIn.{HasNoEstimate, IsFilledIn}
 use Rattle.tabled_size.specs.Sheet.{Sheet, estimated, is_empty}
-use Rattle.tabled_size.specs.Standing.{standing, standing_sizes}
+use Rattle.tabled_size.specs.Effective.{effective, effective_sizes}
 use Rattle.tabled_size.specs.Stored.{heights_of, widths_of}
 use Rattle.tabled_size.specs.Totals.{filled_width, total_width}
 use Rattle.tabled_size.specs.declared.complete_dimension.CompleteDimension.{CompleteDimension}
@@ -53,7 +53,7 @@ whole_list : (xs : List ℕ) (count : ℕ) → length xs ≡ count → take coun
 whole_list xs count e = ap (λ k. take k xs) (sym e) ∙ take-length xs
 
 -- a list that was filled in stands, whether it was cleared then or not
-filled_stands : (b : Bool) (xs : List ℕ) (count : ℕ) → length xs ≡ count → standing_sizes (unless_cleared b (Some xs)) xs count ≡ xs
+filled_stands : (b : Bool) (xs : List ℕ) (count : ℕ) → length xs ≡ count → effective_sizes (unless_cleared b (Some xs)) xs count ≡ xs
 filled_stands true xs count e = refl
 filled_stands false xs count e = whole_list xs count e
 
@@ -61,41 +61,41 @@ filled_stands false xs count e = whole_list xs count e
 module _ (s : OrderPriority) (begins : s.round.kept ≡ 0) (change : ℕ → List ℕ → List ℕ → Type 0) (n : ℕ)
     (cells new : Cells) (config : SpannedConfig) (none left last : CompleteDimension) (hint : Option Entity) (no_widths : widths_of none ≡ None) (no_heights : heights_of none ≡ None)
     (hinted : clears_widths hint ≡ false) (narrows : Narrows Shrinks s change n cells config none new left) (cleared : AreCleared hint left last) where
-  before_is : standing cells config none ≡ estimated cells config
-  before_is = standing_estimated cells config none no_widths no_heights
+  before_is : effective cells config none ≡ estimated cells config
+  before_is = effective_estimated cells config none no_widths no_heights
 
   widths_last : widths_of last ≡ widths_of left
   widths_last = cleared.widths ∙ ap (λ b. unless_cleared b (widths_of left)) hinted
 
   -- nothing was stored
-  unmeasured : new ≡ cells → left ≡ none → standing new config last ≡ estimated cells config
+  unmeasured : new ≡ cells → left ≡ none → effective new config last ≡ estimated cells config
   unmeasured e f =
-      ap (λ c. standing c config last) e
-      ∙ standing_estimated cells config last (widths_last ∙ ap widths_of f ∙ no_widths)
+      ap (λ c. effective c config last) e
+      ∙ effective_estimated cells config last (widths_last ∙ ap widths_of f ∙ no_widths)
       (cleared.heights ∙ ap (unless_cleared (clears_heights hint)) (ap heights_of f ∙ no_heights) ∙ cleared_none (clears_heights hint))
 
   -- the estimates were stored
-  measured : new ≡ cells → IsFilledIn none cells config left → standing new config last ≡ estimated cells config
+  measured : new ≡ cells → IsFilledIn none cells config left → effective new config last ≡ estimated cells config
   measured e f =
       let wide = estimated_widths cells config in
       let high = estimated_heights cells config in
-      let widths : standing_sizes (widths_of last) wide (columns cells) ≡ wide =
-      ap (λ o. standing_sizes o wide (columns cells)) (widths_last ∙ f.widths ∙ ap (λ o. Some (unwrap_or o wide)) no_widths)
+      let widths : effective_sizes (widths_of last) wide (columns cells) ≡ wide =
+      ap (λ o. effective_sizes o wide (columns cells)) (widths_last ∙ f.widths ∙ ap (λ o. Some (unwrap_or o wide)) no_widths)
       ∙ whole_list wide (columns cells) (widths_length cells config) in
-      let heights : standing_sizes (heights_of last) high (length cells) ≡ high =
-      ap (λ o. standing_sizes o high (length cells))
+      let heights : effective_sizes (heights_of last) high (length cells) ≡ high =
+      ap (λ o. effective_sizes o high (length cells))
       (cleared.heights ∙ ap (unless_cleared (clears_heights hint)) (f.heights ∙ ap (λ o. Some (unwrap_or o high)) no_heights))
       ∙ filled_stands (clears_heights hint) high (length cells) (heights_length cells config) in
-      ap (λ c. standing c config last) e
-      ∙ ap (λ w. sized_by cells config w (standing_sizes (heights_of last) high (length cells))) widths ∙ ap (λ h. sized_by cells config wide h) heights
+      ap (λ c. effective c config last) e
+      ∙ ap (λ w. sized_by cells config w (effective_sizes (heights_of last) high (length cells))) widths ∙ ap (λ h. sized_by cells config wide h) heights
 
-  narrowed_to : IsNarrowed Shrinks s change n (standing cells config none) new left
-      → IsNarrowedTo (OrderShrinks s.order) change n (estimated cells config) (standing new config last)
+  narrowed_to : IsNarrowed Shrinks s change n (effective cells config none) new left
+      → IsNarrowedTo (OrderShrinks s.order) change n (estimated cells config) (effective new config last)
   narrowed_to h =
-      let t = standing cells config none in
+      let t = effective cells config none in
       let mins = minimums cells config in
       let estimates : t.widths ≡ estimated_widths cells config = ap (λ (u : Sheet). u.widths) before_is in
-      let stored : (standing new config last).widths ≡ h.widths =
+      let stored : (effective new config last).widths ≡ h.widths =
       new_widths Shrinks s change n cells config none new left last (takes_all s) estimates h widths_last in
       let whole : take (length t.widths) mins ≡ mins =
       whole_list mins (length t.widths) (minimums-length cells config ∙ sym (ap length estimates ∙ widths_length cells config)) in
@@ -107,26 +107,26 @@ module _ (s : OrderPriority) (begins : s.round.kept ≡ 0) (change : ℕ → Lis
       record {
         config = refl;
         widths = in_order s begins h.shrunk.last _ mins by _ (subst (λ w. Shrinks s (estimated cells config).widths mins by w h.shrunk.last) (sym stored) shrunk);
-        cells = subst (λ w. AreChanged (λ row column. true) (for_room change (estimated cells config) w) cells new) (sym stored) h.changed;
-        heights = ap (λ o. standing_sizes o (estimated_heights new config) (length new))
+        cells = subst (λ w. AreChanged (λ row column. true) (for_content_size change (estimated cells config) w) cells new) (sym stored) h.changed;
+        heights = ap (λ o. effective_sizes o (estimated_heights new config) (length new))
             (cleared.heights ∙ ap (unless_cleared (clears_heights hint)) h.cleared ∙ cleared_none (clears_heights hint));
       }
 
   abbrev Same : Type 0
-  Same = standing new config last ≡ estimated cells config
+  Same = effective new config last ≡ estimated cells config
 
   abbrev Smaller : Type 0
-  Smaller = IsNarrowedTo (OrderShrinks s.order) change n (estimated cells config) (standing new config last)
+  Smaller = IsNarrowedTo (OrderShrinks s.order) change n (estimated cells config) (effective new config last)
 
   abbrev Filled : Type 0
   Filled = (new ≡ cells) × IsFilledIn none cells config left
 
   abbrev Narrowed : Type 0
-  Narrowed = IsNarrowed Shrinks s change n (standing cells config none) new left
+  Narrowed = IsNarrowed Shrinks s change n (effective cells config none) new left
 
   empty_fits : is_empty cells ≡ true → MatchBool (nat_le (total_width (estimated cells config)) n) Same Smaller
   empty_fits e =
-      let stays = MatchBool-at_true ((new ≡ cells) × (left ≡ none)) (MatchBool (nat_le (total_width (standing cells config none)) n) Filled Narrowed) e narrows in
+      let stays = MatchBool-at_true ((new ≡ cells) × (left ≡ none)) (MatchBool (nat_le (total_width (effective cells config none)) n) Filled Narrowed) e narrows in
       let zero : total_width (estimated cells config) ≡ 0 =
       ap (λ b. cond b 0 (filled_width config (columns cells) (estimated_widths cells config))) e in
       let fits : nat_le (total_width (estimated cells config)) n ≡ true = le-leb (total_width (estimated cells config)) n (omega arith) in
@@ -134,8 +134,8 @@ module _ (s : OrderPriority) (begins : s.round.kept ≡ 0) (change : ℕ → Lis
 
   full_fits : is_empty cells ≡ false → MatchBool (nat_le (total_width (estimated cells config)) n) Same Smaller
   full_fits e =
-      let m = MatchBool-at_false ((new ≡ cells) × (left ≡ none)) (MatchBool (nat_le (total_width (standing cells config none)) n) Filled Narrowed) e narrows in
-      let moved : nat_le (total_width (standing cells config none)) n ≡ nat_le (total_width (estimated cells config)) n =
+      let m = MatchBool-at_false ((new ≡ cells) × (left ≡ none)) (MatchBool (nat_le (total_width (effective cells config none)) n) Filled Narrowed) e narrows in
+      let moved : nat_le (total_width (effective cells config none)) n ≡ nat_le (total_width (estimated cells config)) n =
       ap (λ (u : Sheet). nat_le (total_width u) n) before_is in
       ⊎_elim
       (λ y.
@@ -145,7 +145,7 @@ module _ (s : OrderPriority) (begins : s.round.kept ≡ 0) (change : ℕ → Lis
       (cases_Bool (nat_le (total_width (estimated cells config)) n))
 
   -- the table that is printed is the new one, fitted
-  pub fitted : FitsInto (OrderShrinks s.order) change n (estimated cells config) (standing new config last)
+  pub fitted : FitsInto (OrderShrinks s.order) change n (estimated cells config) (effective new config last)
   fitted = ⊎_elim empty_fits full_fits (cases_Bool (is_empty cells))
 
 -- ---- where a sum passes the range
@@ -175,7 +175,7 @@ passes n cells config none no_widths no_heights h =
     (λ c. ⊎_elim unestimated
     (λ d. ⊎_elim
     (λ t.
-    let wide : 2 ^ 64 ≤ total_width (estimated cells config) = subst (λ (u : Sheet). 2 ^ 64 ≤ total_width u) (standing_estimated cells config none no_widths no_heights) t in
+    let wide : 2 ^ 64 ≤ total_width (estimated cells config) = subst (λ (u : Sheet). 2 ^ 64 ≤ total_width u) (effective_estimated cells config none no_widths no_heights) t in
     inl (subst (λ k. 2 ^ 64 ≤ k) whole wide))
     (λ t. passes_too_wide cells config (too_wide_without cells config t.1)) d) c)
     h.1

@@ -8,9 +8,9 @@ pub mod Outputs
 pub mod PlannedTables
 pub mod Reading
 pub mod RenderedTables
-pub mod Since
+pub mod BytesSince
 pub mod Spelling
 pub mod StreamedTables
-pub mod Telling
+pub mod Knowing
 pub mod TextLines
 pub mod TextTables

@@ -5,7 +5,7 @@ use Rattle.tabled_base.specs.declared.position.Entity.TheVariants.{Row}
 use Rattle.tabled_set.specs.CellChanges.{if_wider, truncating, wrapping}
 use Rattle.tabled_set.specs.declared.suffix.SuffixLimit.TheVariants.{Cut}
 use Rattle.tabled_config.specs.declared.spanned.SpannedConfig.{SpannedConfig}
-use Rattle.tabled_grid.proofs.StandingSizes.{standing_estimated}
+use Rattle.tabled_grid.proofs.EffectiveSizes.{effective_estimated}
 use Rattle.tabled_set.specs.BestNarrowing.{HasLeastWidth}
 use Rattle.tabled_set.specs.ExactTotal.{HasExactTotal}
 use Rattle.tabled_set.specs.Narrowed.{Narrows}
@@ -13,7 +13,7 @@ use Rattle.tabled_set.specs.Priorities.{TakesGreatest}
 use Rattle.tabled_set.specs.Promised.{TruncatesAsPromised, WrapsAsPromised}
 use Rattle.tabled_size.specs.Cleared.{AreCleared}
 use Rattle.tabled_size.specs.Sheet.{Sheet, estimated}
-use Rattle.tabled_size.specs.Standing.{standing}
+use Rattle.tabled_size.specs.Effective.{effective}
 use Rattle.tabled_size.specs.Stored.{heights_of, widths_of}
 use Rattle.tabled_size.specs.TextCells.{AreTexts}
 use Rattle.tabled_size.specs.Totals.{total_width}
@@ -44,10 +44,10 @@ module _ (s : OrderPriority) (begins : s.round.kept ≡ 0) (n : ℕ) (cells new 
   whole = estimated cells config
 
   abbrev t : Sheet
-  t = standing new config last
+  t = effective new config last
 
-  before_is : standing cells config none ≡ whole
-  before_is = standing_estimated cells config none no_widths no_heights
+  before_is : effective cells config none ≡ whole
+  before_is = effective_estimated cells config none no_widths no_heights
 
   made : (plan : Plan) (change : ℕ → List ℕ → List ℕ → Type 0) → IsPlannedOf plan whole t → FitsInto (OrderShrinks s.order) change n whole t
       → (n < total_width whole → HasExactTotal n whole t) → HasWantedTotal plan whole t → HasLeastGreatestWidth plan whole t → HasFewestBreaks plan whole t
@@ -69,7 +69,7 @@ module _ (s : OrderPriority) (begins : s.round.kept ≡ 0) (n : ℕ) (cells new 
   }
 
   pub wrapped : (words : Bool) → Narrows Shrinks s (wrapping words) n cells config none new left → AreCleared (Some (Row 0)) left last
-      → WrapsAsPromised Shrinks s words n (standing cells config none) t → IsMade (Wrapped n words s.order) whole t
+      → WrapsAsPromised Shrinks s words n (effective cells config none) t → IsMade (Wrapped n words s.order) whole t
   wrapped words narrows cleared promise =
       let change = wrapping words in
       let fits = fitted s begins change n cells new config none left last (Some (Row 0)) no_widths no_heights refl narrows cleared in
@@ -80,7 +80,7 @@ module _ (s : OrderPriority) (begins : s.round.kept ≡ 0) (n : ℕ) (cells new 
       (λ h. p.best (takes_all s) (whole_wider n cells config h)) tt tt
 
   pub truncated : Narrows Shrinks s (if_wider (truncating [] Cut false)) n cells config none new left → AreCleared None left last
-      → TruncatesAsPromised Shrinks s [] Cut false n (standing cells config none) t → IsMade (Shortened n s.order) whole t
+      → TruncatesAsPromised Shrinks s [] Cut false n (effective cells config none) t → IsMade (Shortened n s.order) whole t
   truncated narrows cleared promise =
       let change = if_wider (truncating [] Cut false) in
       let fits = fitted s begins change n cells new config none left last None no_widths no_heights refl narrows cleared in

@@ -9,11 +9,11 @@ use Rattle.std.proofs.Math.Seq.{get_or-append_seam}
 use Rattle.tabled.specs.declared.plan.Order.{Order}
 use Rattle.tabled.specs.declared.plan.Plan.{Plan}
 use Rattle.tabled.specs.declared.plan.Plan.TheVariants.{Buffered, Streamed, Wrapped, Shortened}
-use Rattle.tabled.specs.declared.words.Setting.{Setting}
-use Rattle.tabled.specs.declared.words.Setting.TheVariants.{Wrap, Cut, Priority, Words, Stream}
-use Rattle.tabled.specs.declared.words.Settings.{Settings}
+use Rattle.tabled.specs.declared.arguments.Argument.{Argument}
+use Rattle.tabled.specs.declared.arguments.Argument.TheVariants.{Wrap, Cut, Priority, Words, Stream}
+use Rattle.tabled.specs.declared.arguments.Arguments.{Arguments}
 use Rattle.tabled.specs.Noted.{Adds, Notes, NotesAll, NotesName, NotesWords}
-use Rattle.tabled.specs.Words.{Begins, GoTogether, IsCutting, IsOnce, IsOrder, IsWrapping, Makes, Spells, SpellsPlan, name_of}
+use Rattle.tabled.specs.Arguments.{Begins, GoTogether, IsCutting, IsOnce, IsOrder, IsWrapping, Makes, Spells, SpellsPlan, name_of}
 use Rattle.tabled.proofs.Spelling.{SpellsBefore, begins_with_one, spells_all, spells_more, spells_one, spells_rest}
 
 -- the value that is there
@@ -22,29 +22,29 @@ there None h = absurd cc
 there (Some x) h = (x, refl)
 
 -- a setting is noted by its name where one with another value is
-pub notes_wrap : (noted : Settings) (setting : Setting) (target : ℕ) → setting ≡ Wrap target → is_some noted.wrap ≡ true → NotesName noted setting
+pub notes_wrap : (noted : Arguments) (setting : Argument) (target : ℕ) → setting ≡ Wrap target → is_some noted.wrap ≡ true → NotesName noted setting
 notes_wrap noted setting target is found = let (old, e) = there noted.wrap found in (Wrap old, e, ap name_of (sym is))
 
-pub notes_cut : (noted : Settings) (setting : Setting) (target : ℕ) → setting ≡ Cut target → is_some noted.cut ≡ true → NotesName noted setting
+pub notes_cut : (noted : Arguments) (setting : Argument) (target : ℕ) → setting ≡ Cut target → is_some noted.cut ≡ true → NotesName noted setting
 notes_cut noted setting target is found = let (old, e) = there noted.cut found in (Cut old, e, ap name_of (sym is))
 
-pub notes_priority : (noted : Settings) (setting : Setting) (order : Order) → setting ≡ Priority order → is_some noted.order ≡ true
+pub notes_priority : (noted : Arguments) (setting : Argument) (order : Order) → setting ≡ Priority order → is_some noted.order ≡ true
     → NotesName noted setting
 notes_priority noted setting order is found = let (old, e) = there noted.order found in (Priority old, e, ap name_of (sym is))
 
 -- no setting begins no words
-nothing_begins : (rest behind : List (List ℕ)) (setting : Setting) → rest ≡ [] → ¬ Begins rest setting behind
+nothing_begins : (rest behind : List (List ℕ)) (setting : Argument) → rest ≡ [] → ¬ Begins rest setting behind
 nothing_begins rest behind setting e (values, begins, own) = cc
 
 -- the words up to the rest spell settings of different names, which are noted
-pub record ReadsTo (words : List (List ℕ)) (noted : Settings) (rest : List (List ℕ)) : Type 0 where
-  pub settings : List Setting
+pub record ReadsTo (words : List (List ℕ)) (noted : Arguments) (rest : List (List ℕ)) : Type 0 where
+  pub settings : List Argument
   pub spelled : SpellsBefore words settings rest
   pub once : IsOnce settings
   pub noted_all : NotesAll noted settings
 
 -- a setting that begins the rest, of a name that wasn't noted, is read too
-pub reads_more : (words : List (List ℕ)) (noted new : Settings) (rest left : List (List ℕ)) (setting : Setting)
+pub reads_more : (words : List (List ℕ)) (noted new : Arguments) (rest left : List (List ℕ)) (setting : Argument)
     → ReadsTo words noted rest → Begins rest setting left → Adds noted setting new → ReadsTo words new left
 reads_more words noted new rest left setting read begins adds = record {
   settings = read.settings ++ setting ∷ [];
@@ -64,18 +64,18 @@ reads_more words noted new rest left setting read begins adds = record {
 }
 
 -- where no setting begins the rest, no settings are spelled
-pub reads_no_more : (words : List (List ℕ)) (noted : Settings) (rest : List (List ℕ)) → ReadsTo words noted rest → rest ≢ []
-    → ((setting : Setting) (left : List (List ℕ)) → ¬ Begins rest setting left) → (all : List Setting) → ¬ Spells words all
+pub reads_no_more : (words : List (List ℕ)) (noted : Arguments) (rest : List (List ℕ)) → ReadsTo words noted rest → rest ≢ []
+    → ((setting : Argument) (left : List (List ℕ)) → ¬ Begins rest setting left) → (all : List Argument) → ¬ Spells words all
 reads_no_more words noted rest read more none all spelled =
     let (left, e, others) = spells_rest words read.settings rest all read.spelled spelled in
     nothing left others
   where
-    nothing : (left : List Setting) → ¬ Spells rest left
+    nothing : (left : List Argument) → ¬ Spells rest left
     nothing [] h = more h
     nothing (setting ∷ left) (others, begins, h) = none setting others begins
 
 -- where nothing is left, all words were read
-pub reads_all : (words : List (List ℕ)) (noted : Settings) (rest : List (List ℕ)) → ReadsTo words noted rest → rest ≡ [] → NotesWords words noted
+pub reads_all : (words : List (List ℕ)) (noted : Arguments) (rest : List (List ℕ)) → ReadsTo words noted rest → rest ≡ [] → NotesWords words noted
 reads_all words noted rest read none = record {
   settings = read.settings;
   spelled = spells_all words read.settings (subst (SpellsBefore words read.settings) none read.spelled);
@@ -84,7 +84,7 @@ reads_all words noted rest read none = record {
 }
 
 -- a name that settings have stands twice where another setting of that name follows
-twice : (settings left : List Setting) (other setting : Setting) → Contains settings other → name_of other ≡ name_of setting
+twice : (settings left : List Argument) (other setting : Argument) → Contains settings other → name_of other ≡ name_of setting
     → ¬ IsOnce (settings ++ setting ∷ left)
 twice settings left other setting (k, within, at) name once =
     once k (length settings) other within (simp length-append (omega arith))
@@ -92,20 +92,20 @@ twice settings left other setting (k, within, at) name once =
     ∙ ap name_of (sym (get_or-append_seam settings setting left other)))
 
 -- where the next name was noted, it stands twice in what is spelled
-pub reads_twice : (words : List (List ℕ)) (noted : Settings) (rest behind : List (List ℕ)) (setting : Setting)
-    → ReadsTo words noted rest → Begins rest setting behind → NotesName noted setting → (all : List Setting) → Spells words all → ¬ IsOnce all
+pub reads_twice : (words : List (List ℕ)) (noted : Arguments) (rest behind : List (List ℕ)) (setting : Argument)
+    → ReadsTo words noted rest → Begins rest setting behind → NotesName noted setting → (all : List Argument) → Spells words all → ¬ IsOnce all
 reads_twice words noted rest behind setting read begins (other, old, name) all spelled once =
     let (left, e, others) = spells_rest words read.settings rest all read.spelled spelled in
     stands_twice left others (subst IsOnce e once)
   where
-    stands_twice : (left : List Setting) → Spells rest left → ¬ IsOnce (read.settings ++ left)
+    stands_twice : (left : List Argument) → Spells rest left → ¬ IsOnce (read.settings ++ left)
     stands_twice [] h = absurd (nothing_begins rest behind setting h begins)
     stands_twice (next ∷ left) (others, begun, h) =
         twice read.settings left other next ((read.noted_all other).0 old)
         (name ∙ ap name_of (begins_with_one rest setting next behind others begins begun).0)
 
 -- What is told of settings by which are given is the same where the same are given.
-module _ (P Q : Setting → Type 0) (same : (setting : Setting) → P setting ↔ Q setting) where
+module _ (P Q : Argument → Type 0) (same : (setting : Argument) → P setting ↔ Q setting) where
   wraps : IsWrapping P → IsWrapping Q
   wraps (target, h) = (target, (same (Wrap target)).0 h)
 
@@ -149,7 +149,7 @@ module _ (P Q : Setting → Type 0) (same : (setting : Setting) → P setting �
   makes_same (Shortened target order) h = ((same (Cut target)).0 h.0, order_same order h.1)
 
 -- the plan of the noted settings is the one that the words spell
-pub notes_plan : (words : List (List ℕ)) (noted : Settings) → NotesWords words noted → (plan : Plan)
+pub notes_plan : (words : List (List ℕ)) (noted : Arguments) → NotesWords words noted → (plan : Plan)
     → (GoTogether (Notes noted) × Makes (Notes noted) plan) ↔ SpellsPlan words plan
 notes_plan words noted h plan = (
   λ made. record {
@@ -161,8 +161,8 @@ notes_plan words noted h plan = (
   },
   λ spells.
       let e = spells_one words h.settings spells.settings h.spelled spells.spelled in
-      let back : (setting : Setting) → Contains spells.settings setting ↔ Notes noted setting =
-      let Same : List Setting → Type 0 = λ settings. (setting : Setting) → Contains settings setting ↔ Notes noted setting in
+      let back : (setting : Argument) → Contains spells.settings setting ↔ Notes noted setting =
+      let Same : List Argument → Type 0 = λ settings. (setting : Argument) → Contains settings setting ↔ Notes noted setting in
       subst Same (sym e) (λ setting. ((h.noted_all setting).1, (h.noted_all setting).0)) in (
         together_same (Contains spells.settings) (Notes noted) back spells.together,
         makes_same (Contains spells.settings) (Notes noted) back plan spells.made,

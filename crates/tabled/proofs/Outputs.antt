@@ -12,7 +12,7 @@ use Rattle.tabled.specs.Headline.{IsBestPlanned}
 use Rattle.tabled.specs.Output.{IsBegunOn, IsOutput, Overflows, PutsOutput, with_feed}
 use Rattle.tabled.specs.Planned.{IsPlanned}
 use Rattle.tabled.specs.Rendered.{BreaksOff, Halts, IsRendered, SendsTable}
-use Rattle.tabled.proofs.Since.{begun_none}
+use Rattle.tabled.proofs.BytesSince.{begun_none}
 use Rattle.tabled.proofs.TextTables.{feed_whole}
 
 -- in the middle of an output, memory is refused or the writer fails

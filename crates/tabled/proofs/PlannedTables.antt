@@ -13,7 +13,7 @@ use Rattle.tabled_grid.specs.Printed.{IsRefused, Prints}
 use Rattle.tabled_grid.proofs.EstimatedSizes.{holds_estimated, sized_estimated}
 use Rattle.tabled_set.proofs.ExactTotals.{changed_empty}
 use Rattle.tabled_set.specs.ExactTotal.{HasExactTotal}
-use Rattle.tabled_set.specs.Narrowed.{for_room}
+use Rattle.tabled_set.specs.Narrowed.{for_content_size}
 use Rattle.tabled_line.specs.Plain.{EachLineTakes}
 use Rattle.tabled_line.specs.Sent.{Sent}
 use Rattle.tabled_set.specs.Promised.{IsWiderThan}
@@ -77,14 +77,14 @@ module _ (shrinks : List ℕ → List ℕ → ℕ → List ℕ → Type 0) (chan
   pub fitted_empty : is_empty t.cells ≡ is_empty cells
   fitted_empty =
       either (λ (u : Sheet). is_empty u.cells ≡ is_empty cells) refl
-      (λ s e. changed_empty (λ row column. true) (for_room change (estimated cells config) t.widths) cells t.cells s.cells)
+      (λ s e. changed_empty (λ row column. true) (for_content_size change (estimated cells config) t.widths) cells t.cells s.cells)
 
   -- each line takes the total width, where texts are kept apart
   pub fitted_lines : IsRectangular cells → AreTexts cells → KeepsApart config → EachLineTakes (total_width t) (picture t)
   fitted_lines rectangular texts apart =
       either (λ (u : Sheet). EachLineTakes (total_width u) (picture u)) (whole_lines cells config rectangular texts apart)
       (λ s e.
-      sheet_texts t (changed_rectangular (λ row column. true) (for_room change (estimated cells config) t.widths) cells t.cells s.cells rectangular)
+      sheet_texts t (changed_rectangular (λ row column. true) (for_content_size change (estimated cells config) t.widths) cells t.cells s.cells rectangular)
       (subst (λ c. IsApartConfig c (length t.cells) (columns t.cells)) (sym s.config) (apart (length t.cells) (columns t.cells)))
       e.texts e.holds)
 

@@ -18,7 +18,7 @@ use Rattle.tabled_grid.specs.ApartSheet.{IsApartConfig}
 use Rattle.tabled_grid.specs.Printed.{IsPrintable}
 use Rattle.tabled_grid.proofs.EstimatedSizes.{sized_estimated}
 use Rattle.tabled_priority.specs.Permitted.{at}
-use Rattle.tabled_set.specs.BestNarrowing.{text_room}
+use Rattle.tabled_set.specs.BestNarrowing.{inner_width}
 use Rattle.tabled_set.specs.Minimums.{side_padding}
 use Rattle.tabled_line.specs.Sent.{IsCause, Sent}
 use Rattle.tabled_size.specs.Estimates.{column_width, estimated_heights, estimated_widths}
@@ -33,7 +33,7 @@ use Rattle.tabled_table.specs.Stream.NewTable.{IsNewConfig, new_settings}
 use Rattle.tabled_table.specs.Stream.Printed.{text_above}
 use Rattle.tabled_table.specs.Stream.Streamed.{IsStreamed, column_count, content_width, sniffed, stream_height, stream_widths, tallest}
 use Rattle.tabled_table.specs.Stream.Streams.{AreSniffed, IsFilled, IsTooHighFirst, PrintsStream, StreamStops, StopsAtEnd, StopsAtRow, StopsEarly, StopsInRows, Streams, stream_total}
-use Rattle.tabled_table.specs.declared.iter_table.settings.Settings.{Settings}
+use Rattle.tabled_table.specs.declared.iter_table.settings.StreamSettings.{StreamSettings}
 use Rattle.tabled_table.proofs.Stream.SameSheet.{all-sniffed, counted-columns, heights-same, like_table, row-cut, width-same, widths-same}
 use Rattle.tabled_table.proofs.Stream.StreamedTexts.{streamed_holds, streamed_rectangular, streamed_texts}
 use Rattle.tabled_table.proofs.Stream.TakenRows.{enough_sniffed}
@@ -72,7 +72,7 @@ behind_all P [] ys h = h
 behind_all P (x ∷ xs) ys h = behind_all P xs ys (All-tail P x (xs ++ ys) h)
 
 -- all rows are read ahead, and nothing else is given
-abbrev pub all_ahead : Cells → Settings
+abbrev pub all_ahead : Cells → StreamSettings
 all_ahead cells = record new_settings { sniff = length cells }
 
 low_none : (k : ℕ) → greatest (map (λ text. length (lines_of text)) (take k [])) ≤ 1
@@ -127,7 +127,7 @@ module _ (cells : Cells) (full : is_empty cells ≡ false) (rectangular : IsRect
   }
 
   module _ (c : CompactConfig) (n : IsNewConfig c) where
-    room_is : (row column : ℕ) → column < columns cells → text_room (new_sheet cells) row column ≡ content_width (all_ahead cells) cells column
+    room_is : (row column : ℕ) → column < columns cells → inner_width (new_sheet cells) row column ≡ content_width (all_ahead cells) cells column
     room_is row column h =
         let there : at (estimated_widths cells new_config) column ≡ column_width cells new_config column = width_at cells new_config column h in
         let same : column_width cells (spanned_of_compact c) column ≡ column_width cells new_config column = ap (λ g. column_width cells g column) (new_spanned_is c n) in
@@ -137,7 +137,7 @@ module _ (cells : Cells) (full : is_empty cells ≡ false) (rectangular : IsRect
         omega arith
 
     cells_cut : (t : Sheet) → IsStreamed (all_ahead cells) c cells cells t
-        → AreChanged (λ row column. true) (λ row column. IsCut (text_room (new_sheet cells) row column)) cells t.cells
+        → AreChanged (λ row column. true) (λ row column. IsCut (inner_width (new_sheet cells) row column)) cells t.cells
     cells_cut t s = record {
       rows = s.as_many;
       row_lengths = λ row. ⊎_elim
@@ -164,7 +164,7 @@ module _ (cells : Cells) (full : is_empty cells ≡ false) (rectangular : IsRect
     streamed_planned t s =
         let e = new_spanned_is c n in
         record {
-          config = s.settings_of ∙ e;
+          config = s.arguments_of ∙ e;
           widths = s.widths ∙ widths-same measured c ∙ ap (estimated_widths cells) e;
           cells = cells_cut t s;
           heights = heights-same measured c t.heights s.as_high s.heights ∙ ap (estimated_heights cells) e;
@@ -186,7 +186,7 @@ module _ (cells : Cells) (full : is_empty cells ≡ false) (rectangular : IsRect
     streamed_best : (t : Sheet) → IsStreamed (all_ahead cells) c cells cells t → IsBestPlanned Streamed cells t
     streamed_best t s =
         let e = new_spanned_is c n in
-        let apart = subst (λ g. IsApartConfig g (length t.cells) (columns t.cells)) (sym (s.settings_of ∙ e)) (new_apart (length t.cells) (columns t.cells)) in
+        let apart = subst (λ g. IsApartConfig g (length t.cells) (columns t.cells)) (sym (s.arguments_of ∙ e)) (new_apart (length t.cells) (columns t.cells)) in
         record {
           edges = sheet_texts t (streamed_rectangular s) apart (streamed_texts s) (streamed_holds s);
           lines = sheet_lines t;
@@ -207,7 +207,7 @@ module _ (cells : Cells) (full : is_empty cells ≡ false) (rectangular : IsRect
     streamed_printable lines few within t s =
         let p = streamed_planned t s in
         let many : columns t.cells ≡ columns cells =
-        changed_columns (λ row column. true) (λ row column. IsCut (text_room (new_sheet cells) row column)) cells t.cells p.cells in
+        changed_columns (λ row column. true) (λ row column. IsCut (inner_width (new_sheet cells) row column)) cells t.cells p.cells in
         let wide : filled_width t.config (columns t.cells) t.widths ≡ filled_width new_config (columns cells) (estimated_widths cells new_config) =
         ap (λ g. filled_width g (columns t.cells) t.widths) p.config ∙ ap (λ k. filled_width new_config k t.widths) many
         ∙ ap (filled_width new_config (columns cells)) p.widths in
@@ -383,7 +383,7 @@ module _ (cells : Cells) (full : is_empty cells ≡ false) (rectangular : IsRect
         let b = first p.rows p.whole p.came in rendered_err texts lines few p.rows b.0 p.whole b.1 b.2 R e old new p.streams
 
     -- where the settings say that all rows are read ahead
-    pub streamed_by : {R : Type 0} (settings : Settings) (comes : Cells → Bool → Type 0) (old : Sent) (r : Result R TableError) (new : Sent) → settings ≡ all_ahead cells
+    pub streamed_by : {R : Type 0} (settings : StreamSettings) (comes : Cells → Bool → Type 0) (old : Sent) (r : Result R TableError) (new : Sent) → settings ≡ all_ahead cells
         → AreTexts cells → All (All (λ cell. length (lines_of cell) ≡ 1)) cells → length cells < 2 ^ 63 → PrintsStream settings c comes old r new
         → ((rows : Cells) (whole : Bool) → comes rows whole → (behind : Cells) × (cells ≡ rows ++ behind) × (whole ≡ true → behind ≡ []))
         → IsRendered Streamed cells old r new

@@ -15,8 +15,8 @@ use Rattle.tabled_records.proofs.Splitting.{rows-rectangular}
 use Rattle.tabled_records.proofs.TextCells.{text_cells}
 use Rattle.tabled_set.specs.CellChanges.{AreChanged, if_wider, truncating, wrapping}
 use Rattle.tabled_set.specs.declared.suffix.SuffixLimit.TheVariants.{Cut}
-use Rattle.tabled_set.specs.BestNarrowing.{text_room}
-use Rattle.tabled_set.specs.Narrowed.{for_room}
+use Rattle.tabled_set.specs.BestNarrowing.{inner_width}
+use Rattle.tabled_set.specs.Narrowed.{for_content_size}
 use Rattle.tabled_set.proofs.ExactTotals.{changed_empty}
 use Rattle.tabled_size.specs.Sheet.{Sheet, is_empty}
 use Rattle.tabled_size.specs.TextCells.{AreTexts}
@@ -92,12 +92,12 @@ rows_fitted shrinks change n cells t h =
     ⊎_elim (λ y. rows_new cells t (MatchBool-at_true (t ≡ old) small y h))
     (λ no.
     let s : small = MatchBool-at_false (t ≡ old) small no h in
-    rows_changed (for_room change old t.widths) cells t s.cells s.config)
+    rows_changed (for_content_size change old t.widths) cells t s.cells s.config)
     (cases_Bool (nat_le (total_width old) n))
 
 planned_rows : (plan : Plan) (cells : Cells) (t : Sheet) → IsPlanned plan cells t → HasRows cells t
 planned_rows Buffered cells t h = rows_new cells t h
-planned_rows Streamed cells t h = rows_changed (λ row column. IsCut (text_room (new_sheet cells) row column)) cells t h.cells h.config
+planned_rows Streamed cells t h = rows_changed (λ row column. IsCut (inner_width (new_sheet cells) row column)) cells t h.cells h.config
 planned_rows (Wrapped n words order) cells t h = rows_fitted (OrderShrinks order) (wrapping words) n cells t h
 planned_rows (Shortened n order) cells t h = rows_fitted (OrderShrinks order) (if_wider (truncating [] Cut false)) n cells t h
 

@@ -3,10 +3,10 @@ use Rattle.std.specs.Prelude.{◌≡◌, ℕ, ◌==◌, ◌&&◌, if◌then◌el
 use Rattle.std.specs.Io.KnownBytes.{Appends, append_known}
 use Rattle.tabled_line.specs.Sent.{Sent}
 use Rattle.tabled.specs.declared.block_sink.BlockSink.{BlockSink}
-use Rattle.tabled.specs.declared.held.Held.{Held}
+use Rattle.tabled.specs.declared.block_buffer.BlockBuffer.{BlockBuffer}
 
 -- the bytes that still wait for a writer
-abbrev pub waiting : Held → List ℕ
+abbrev pub waiting : BlockBuffer → List ℕ
 waiting held = drop held.taken (take held.used held.bytes.items)
 
 -- a block before a writer: the name of the reference to the writer, the bytes that the writer holds,

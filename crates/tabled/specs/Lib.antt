@@ -9,4 +9,4 @@ pub mod Output
 pub mod Planned
 pub mod Rendered
 pub mod Runs
-pub mod Words
+pub mod Arguments

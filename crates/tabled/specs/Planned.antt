@@ -2,9 +2,9 @@
 use Rattle.std.specs.Prelude.{◌≡◌, ℕ, ◌-◌, true, false, List, [], MatchBool, nat_le}
 use Rattle.tabled_set.specs.CellChanges.{AreChanged, if_wider, truncating, wrapping}
 use Rattle.tabled_set.specs.declared.suffix.SuffixLimit.TheVariants.{Cut}
-use Rattle.tabled_set.specs.BestNarrowing.{text_room}
+use Rattle.tabled_set.specs.BestNarrowing.{inner_width}
 use Rattle.tabled_set.specs.Minimums.{minimums}
-use Rattle.tabled_set.specs.Narrowed.{for_room}
+use Rattle.tabled_set.specs.Narrowed.{for_content_size}
 use Rattle.tabled_size.specs.Estimates.{estimated_heights}
 use Rattle.tabled_size.specs.Sheet.{Sheet}
 use Rattle.tabled_size.specs.Totals.{total_width}
@@ -28,7 +28,7 @@ OrderShrinks order old mins by new = (kept : ℕ) × IsShrunk order 0 old mins b
 pub record IsNarrowedTo (shrinks : List ℕ → List ℕ → ℕ → List ℕ → Type 0) (change : ℕ → List ℕ → List ℕ → Type 0) (n : ℕ) (old new : Sheet) : Type 0 where
   pub config : new.config ≡ old.config
   pub widths : shrinks old.widths (minimums old.cells old.config) (total_width old - n) new.widths
-  pub cells : AreChanged (λ row column. true) (for_room change old new.widths) old.cells new.cells
+  pub cells : AreChanged (λ row column. true) (for_content_size change old new.widths) old.cells new.cells
   pub heights : new.heights ≡ estimated_heights new.cells new.config
 
 -- one of at most n columns stays as it is
@@ -39,7 +39,7 @@ FitsInto shrinks change n old new = MatchBool (nat_le (total_width old) n) (new 
 pub record IsStreamedFrom (old new : Sheet) : Type 0 where
   pub config : new.config ≡ old.config
   pub widths : new.widths ≡ old.widths
-  pub cells : AreChanged (λ row column. true) (λ row column. IsCut (text_room old row column)) old.cells new.cells
+  pub cells : AreChanged (λ row column. true) (λ row column. IsCut (inner_width old row column)) old.cells new.cells
   pub heights : new.heights ≡ old.heights
 
 -- the table that a plan makes of a whole one: that one, and with some columns to keep to, that one fitted into them

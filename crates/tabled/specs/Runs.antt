@@ -5,7 +5,7 @@ use Rattle.tabled.specs.declared.fault.Fault.{Fault}
 use Rattle.tabled.specs.declared.fault.Fault.TheVariants.{Input, Memory, Range, Writer}
 use Rattle.tabled.specs.declared.plan.Plan.{Plan}
 use Rattle.tabled.specs.Output.{Begins, IsOutput, Overflows}
-use Rattle.tabled.specs.Words.{SpellsPlan}
+use Rattle.tabled.specs.Arguments.{SpellsPlan}
 
 -- a text is all that a reader had left, and now it has nothing left
 pub record HasRead (old new : Option (List ℕ)) (text : List ℕ) : Type 0 where

@@ -4,7 +4,7 @@ ghost use Rattle.tabled_base.specs.declared.error.TableError.TheVariants.{Writer
 ghost use Rattle.tabled_line.specs.Sent.{Rose, Sends, Writes};
 ghost use Rattle.tabled.specs.BlockSent.{Advances, Block, block, block_sent, sent_since, waiting};
 
-use crate::held::{BLOCK, Held};
+use crate::block_buffer::{BLOCK, BlockBuffer};
 use std::io::Write;
 use std::marker::{Brand, PhantomData};
 use tabled_base::TableError;
@@ -15,13 +15,13 @@ use tabled_grid::TextSink;
 #[derive(Drop)]
 pub(crate) struct BlockSink<'a, W> {
     pub writer: &'a mut W,
-    held: &'a mut Held,
+    held: &'a mut BlockBuffer,
     failures: usize,
 }
 
 impl<'a, W: Write> BlockSink<'a, W> {
     /// A sink over a writer, with a place for a block.
-    pub fn new(writer: &'a mut W, held: &'a mut Held) -> BlockSink<'a, W>
+    pub fn new(writer: &'a mut W, held: &'a mut BlockBuffer) -> BlockSink<'a, W>
         ensures same_reference { result.writer.ghost_name ≡ writer.entry.ghost_name }
         ensures writer { result.writer.now ≡ writer.old }
         ensures held { result.held.now ≡ held.old }
@@ -45,7 +45,7 @@ impl<'a, W: Write> BlockSink<'a, W> {
     }
 
     /// Hands what waits to the writer.
-    fn hand_over(&mut self) -> Result<(), TableError>
+    fn flush_block(&mut self) -> Result<(), TableError>
         ensures written { Writes (block_sent (block W.contents self.old)) result
             (block_sent (block W.contents self.new)) [] }
         ensures advanced { Advances (block W.contents self.old) (block W.contents self.new) }
@@ -76,12 +76,12 @@ impl<'a, W: Write> BlockSink<'a, W> {
         if self.held.len() < BLOCK {
             return Ok(());
         }
-        self.hand_over()
+        self.flush_block()
     }
 
     /// Holds some bytes back, for which the block has to have room.
     #[inline(always)]
-    fn hold(&mut self, bytes: &[u8])
+    fn buffer_bytes(&mut self, bytes: &[u8])
         requires room { self.old.held.now.used + length bytes.now ≤ BLOCK }
         ensures written { Sends (block_sent (block W.contents self.old))
             (block_sent (block W.contents self.new)) bytes.now }
@@ -92,7 +92,7 @@ impl<'a, W: Write> BlockSink<'a, W> {
 
     /// Holds any bytes back, and hands each block that is full to the writer.
     #[inline(never)]
-    fn hold_parts(&mut self, bytes: &[u8]) -> Result<(), TableError>
+    fn buffer_parts(&mut self, bytes: &[u8]) -> Result<(), TableError>
         ensures written { Writes (block_sent (block W.contents self.old)) result
             (block_sent (block W.contents self.new)) bytes.now }
         ensures advanced { Advances (block W.contents self.old) (block W.contents self.new) }
@@ -102,7 +102,7 @@ impl<'a, W: Write> BlockSink<'a, W> {
             self.make_room()?;
             let room = BLOCK - self.held.len();
             let (front, back) = rest.split_at(room.min(rest.len()));
-            self.hold(front);
+            self.buffer_bytes(front);
             rest = back;
         }
         Ok(())
@@ -115,7 +115,7 @@ impl<'a, W: Write> BlockSink<'a, W> {
         ensures emptied { OnOk result (waiting self.new.held.now ≡ []) }
         ensures only { IfErr result (λ e. e ≡ Writer) }
     {
-        self.hand_over()?;
+        self.flush_block()?;
         if self.writer.flush().is_err() {
             return Err(self.fail());
         }
@@ -124,7 +124,7 @@ impl<'a, W: Write> BlockSink<'a, W> {
 }
 
 /// A sink that says of which writer it is, and what that holds.
-pub(crate) trait Blocked {
+pub(crate) trait SinkOverWriter {
     // The writer, and what waits before it.
     ghost block: { Self → Block };
 
@@ -134,21 +134,21 @@ pub(crate) trait Blocked {
         ensures advanced { Advances (block self.old) (block self.new) };
 }
 
-impl<'a, W: Write> Blocked for BlockSink<'a, W> {
+impl<'a, W: Write> SinkOverWriter for BlockSink<'a, W> {
     ghost block = { block W.contents };
 
     #[inline(always)]
     fn add_text(&mut self, text: &str) -> Result<(), TableError> {
         if self.held.len() + text.len() <= BLOCK {
-            self.hold(text.as_bytes());
+            self.buffer_bytes(text.as_bytes());
             return Ok(());
         }
-        self.hold_parts(text.as_bytes())
+        self.buffer_parts(text.as_bytes())
     }
 }
 
 /// What a writer was before a sink was put before it.
-pub(crate) trait Start {
+pub(crate) trait WriterStart {
     // The name of the reference to it.
     ghost name: { ℕ };
 
@@ -156,7 +156,7 @@ pub(crate) trait Start {
     ghost held: { List ℕ };
 }
 
-impl Start for Brand {
+impl WriterStart for Brand {
     ghost name = { 0 };
 
     ghost held = { [] };
@@ -164,12 +164,12 @@ impl Start for Brand {
 
 /// A sink whose bytes are known while it is before the writer of its start, and that holds what it held.
 #[derive(Drop)]
-pub(crate) struct Since<S, B> {
+pub(crate) struct BytesSince<S, B> {
     pub sink: S,
     pub start: PhantomData<B>,
 }
 
-impl<S: Blocked, B: Start> TextSink for Since<S, B> {
+impl<S: SinkOverWriter, B: WriterStart> TextSink for BytesSince<S, B> {
     ghost sent = { λ s. sent_since B.name B.held (S.block s.sink) };
 
     #[inline(always)]

@@ -10,9 +10,10 @@
 //! and `docs_gallery` run.
 #![tactic(auto)]
 
+mod arguments;
+mod block_buffer;
 mod block_sink;
 mod fault;
-mod held;
 mod input;
 mod narrowing;
 mod order_priority;
@@ -20,7 +21,6 @@ mod plan;
 mod program;
 mod rendering;
 mod streaming;
-mod words;
 
 pub use plan::{Order, Plan};
 pub use program::run;
@@ -44,16 +44,15 @@ pub use tabled_value::Tabled;
 /// }
 /// ```
 pub mod laws {
-    pub use tabled_text::general_laws::{
-        count_is_bound, exact_lines, lines_of_any_text, separators, texts_that_fit,
-    };
     pub use tabled_grid::laws::pictures;
     pub use tabled_line::laws::rows_of_any_text;
     pub use tabled_set::laws::truncated_texts;
     pub use tabled_table::laws::{
-        streams_go_on, streams_hold, streams_like_tables, texts_can_be_cut,
+        new_tables, streams_go_on, streams_hold, streams_like_tables, texts_can_be_cut,
     };
-    pub use tabled_table::laws::new_tables;
+    pub use tabled_text::general_laws::{
+        count_is_bound, exact_lines, lines_of_any_text, separators, texts_that_fit,
+    };
     pub use tabled_text::laws::{
         breakings, cut_texts, joined_lines, plain_characters, plain_columns, plain_line_width,
         plain_lines, text_bounds, texts_that_stay, wrapped_texts,
@@ -72,8 +71,7 @@ pub mod tables {
     pub use tabled_compact::CompactTable;
     pub use tabled_extended::{ExtendedTable, FnTemplate, LabelFn, RecordTemplate, Template};
     pub use tabled_pool::{PoolTable, TableValue};
-    pub use tabled_table::IterTable;
-    pub use tabled_table::Table;
+    pub use tabled_table::{IterTable, Table};
 }
 
 /// Places in tables, one after another: where batches begin.
@@ -278,9 +276,7 @@ pub mod grid {
             CellText, ExactRecords, IntoRecords, PeekableRecords, Records, RecordsMut, Text,
             VecRecords,
         };
-        pub use tabled_records::JoinedRecords;
-        pub use tabled_records::{LentRows, lend_cells};
-        pub use tabled_records::{EmptyRecords, IterRecords};
+        pub use tabled_records::{EmptyRecords, IterRecords, JoinedRecords, LentRows, lend_cells};
 
         /// Views of records, which are taken row by row.
         ///
@@ -318,10 +314,10 @@ pub mod grid {
         /// let beginning = cut_str(alloc, "goes to the next field", 12)?;
         /// ```
         pub mod string {
-            pub use tabled_text::is_separator_column;
             pub use tabled_text::{
                 TextLines, count_lines, cut_str, is_additive, is_additive_column, is_fullest,
-                is_plain, is_plain_column, line_width, lines, split_str, text_width, wrap_text,
+                is_plain, is_plain_column, is_separator_column, line_width, lines, split_str,
+                text_width, wrap_text,
             };
         }
     }

@@ -6,7 +6,7 @@ ghost use Rattle.tabled_set.specs.declared.suffix.SuffixLimit.TheVariants.{Cut};
 ghost use Rattle.tabled_grid.specs.Printed.{IsOutOfRange};
 ghost use Rattle.tabled_line.specs.Sent.{Sent};
 ghost use Rattle.tabled_size.specs.Sheet.{estimated, is_empty};
-ghost use Rattle.tabled_size.specs.Standing.{standing};
+ghost use Rattle.tabled_size.specs.Effective.{effective};
 ghost use Rattle.tabled_size.specs.TextCells.{AreTexts};
 ghost use Rattle.tabled.specs.declared.plan.Plan.TheVariants.{Buffered, Shortened, Wrapped};
 ghost use Rattle.tabled.specs.Narrowing.{IsMade, plan_of};
@@ -97,7 +97,7 @@ impl Narrowing {
         requires texts { AreTexts (R.cells records.old) }
         requires rectangular { IsRectangular (R.cells records.old) }
         ensures made { IfOk result (λ sizes. IsMade (plan_of self) (estimated (R.cells records.old) config.old.config)
-            (standing (R.cells records.new) config.new.config sizes)) }
+            (effective (R.cells records.new) config.new.config sizes)) }
         ensures only { IfErr result (λ e. (e ≡ Memory) ⊎ (e ≡ Range)) }
         ensures range { IfErr result (λ e. e ≡ Range → (is_empty (R.cells records.old) ≡ false)
             × IsOutOfRange (estimated (R.cells records.old) config.old.config)) }

@@ -7,15 +7,15 @@ ghost use Rattle.tabled.specs.BlockSent.{Advances, block_sent};
 ghost use Rattle.tabled.specs.Faults.{line_of, usage, word_of};
 ghost use Rattle.tabled.specs.Output.{Begins, Puts, PutsOutput};
 ghost use Rattle.tabled.specs.Runs.{HasFailed, HasPrinted};
-ghost use Rattle.tabled.specs.Words.{SpellsPlan};
+ghost use Rattle.tabled.specs.Arguments.{SpellsPlan};
 
-use crate::block_sink::{BlockSink, Blocked, Since, Start};
+use crate::arguments::plan_of;
+use crate::block_buffer::BlockBuffer;
+use crate::block_sink::{BlockSink, BytesSince, SinkOverWriter, WriterStart};
 use crate::fault::Fault;
-use crate::held::Held;
 use crate::input::read_text;
 use crate::plan::Plan;
 use crate::rendering::render;
-use crate::words::plan_of;
 use std::alloc::Global;
 use std::io::{Read, Write};
 use std::marker::{Brand, PhantomData};
@@ -23,7 +23,7 @@ use tabled_base::TableError;
 use tabled_grid::TextSink;
 
 /// The table that a plan makes of a text, and a line feed behind it unless it is empty.
-fn put_output<S: TextSink>(
+fn print_output<S: TextSink>(
     alloc: Global,
     text: &str,
     plan: Plan,
@@ -39,7 +39,7 @@ fn put_output<S: TextSink>(
 }
 
 /// The same to a block, which is handed back.
-fn put_blocked<S: Blocked, B: Start>(
+fn print_blocked<S: SinkOverWriter, B: WriterStart>(
     alloc: Global,
     text: &String,
     plan: Plan,
@@ -51,16 +51,16 @@ fn put_blocked<S: Blocked, B: Start>(
         (block_sent (S.block result.1)).bytes }
     ensures advanced { IfSome (S.block sink).contents (λ _. Advances (S.block sink) (S.block result.1)) }
 {
-    let mut since: Since<S, B> = Since {
+    let mut since: BytesSince<S, B> = BytesSince {
         sink,
         start: PhantomData,
     };
-    let result = put_output(alloc, text.as_str(), plan, &mut since);
+    let result = print_output(alloc, text.as_str(), plan, &mut since);
     (result, since.sink)
 }
 
 /// The same to a writer, which has taken all of it on `Ok`, and else a beginning.
-fn put_through<O: Write>(
+fn print_through<O: Write>(
     alloc: Global,
     text: &String,
     plan: Plan,
@@ -68,9 +68,9 @@ fn put_through<O: Write>(
 ) -> Result<(), TableError>
     ensures { PutsOutput plan (string_bytes text.now) (O.contents out.old) result (O.contents out.new) }
 {
-    let mut held = Held::new(alloc)?;
+    let mut held = BlockBuffer::new(alloc)?;
     let sink = BlockSink::new(out, &mut held);
-    let (result, mut sink) = put_blocked::<BlockSink<'_, O>, Brand>(alloc, text, plan, sink);
+    let (result, mut sink) = print_blocked::<BlockSink<'_, O>, Brand>(alloc, text, plan, sink);
     let result = match result {
         Ok(()) => sink.finish(),
         Err(error) => Err(error),
@@ -100,7 +100,7 @@ fn attempt<I: Read, O: Write>(
         return Err(Fault::Usage);
     };
     let text = read_text(alloc, input)?;
-    put_through(alloc, &text, plan, out)?;
+    print_through(alloc, &text, plan, out)?;
     Ok(())
 }
 
@@ -115,7 +115,7 @@ fn status(fault: &Fault) -> u8
 }
 
 /// Hands a text to a writer, without a second try.
-fn put_text<W: Write>(text: &str, writer: &mut W) -> Result<(), TableError>
+fn write_once<W: Write>(text: &str, writer: &mut W) -> Result<(), TableError>
     ensures { Puts (W.contents writer.old) result (W.contents writer.new) text.now }
 {
     let mut rest = text.as_bytes();
@@ -129,11 +129,11 @@ fn put_text<W: Write>(text: &str, writer: &mut W) -> Result<(), TableError>
 }
 
 /// The same with a line feed behind it.
-fn put_line<W: Write>(word: &str, writer: &mut W) -> Result<(), TableError>
+fn write_line_once<W: Write>(word: &str, writer: &mut W) -> Result<(), TableError>
     ensures { Puts (W.contents writer.old) result (W.contents writer.new) (line_of word.now) }
 {
-    put_text(word, writer)?;
-    put_text("\n", writer)
+    write_once(word, writer)?;
+    write_once("\n", writer)
 }
 
 /// Tells a failure on a line of its own, and answers its status.
@@ -142,7 +142,7 @@ pub(crate) fn report<E: Write>(fault: &Fault, err: &mut E) -> u8
     ensures range { (1 ≤ result) × (result ≤ 2) }
     ensures told { Begins (E.contents err.old) (E.contents err.new) (line_of (word_of fault.now)) }
 {
-    let _ = put_line(fault.word(), err);
+    let _ = write_line_once(fault.word(), err);
     status(fault)
 }
 

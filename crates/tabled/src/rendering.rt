@@ -15,7 +15,7 @@ ghost use Rattle.tabled.specs.Rendered.{IsRendered, IsRenderedOf};
 
 use crate::narrowing::{Narrowing, print_narrowed};
 use crate::plan::Plan;
-use crate::streaming::put_streamed;
+use crate::streaming::print_streamed;
 use std::alloc::Global;
 use tabled_base::{PeekableRecords, TableError, TableOption};
 use tabled_config::{ColoredConfig, Style};
@@ -41,7 +41,7 @@ fn styled_settings(alloc: Global, style: Style) -> Result<ColoredConfig, TableEr
 }
 
 /// Prints the table that a plan makes of records under some settings, once all of it is measured.
-fn put_measured<R: PeekableRecords, S: TextSink>(
+fn print_measured<R: PeekableRecords, S: TextSink>(
     alloc: Global,
     rows: &R,
     config: ColoredConfig,
@@ -59,7 +59,7 @@ fn put_measured<R: PeekableRecords, S: TextSink>(
 }
 
 /// Prints the table that a plan makes of records of single lines.
-fn put_rows<R: PeekableRecords, S: TextSink>(
+fn print_records<R: PeekableRecords, S: TextSink>(
     alloc: Global,
     rows: &R,
     plan: Plan,
@@ -72,8 +72,8 @@ fn put_rows<R: PeekableRecords, S: TextSink>(
     ensures { IsRendered plan (R.cells rows.now) (S.sent sink.old) result (S.sent sink.new) }
 {
     match plan {
-        Plan::Streamed => put_streamed(alloc, sink, &lend_cells(alloc, rows)?),
-        _ => put_measured(alloc, rows, new_settings(alloc), plan, sink),
+        Plan::Streamed => print_streamed(alloc, sink, &lend_cells(alloc, rows)?),
+        _ => print_measured(alloc, rows, new_settings(alloc), plan, sink),
     }
 }
 
@@ -94,7 +94,7 @@ pub fn render<S: TextSink>(
         return Ok(());
     }
     let rows = text_rows(alloc, text)?;
-    put_rows(alloc, &rows, plan, sink)
+    print_records(alloc, &rows, plan, sink)
 }
 
 /// `render` under the frame of a style. All of the table is measured before it is printed, under `Plan::Streamed` too, which
@@ -115,5 +115,5 @@ pub fn render_styled<S: TextSink>(
     }
     let config = styled_settings(alloc, style)?;
     let rows = text_rows(alloc, text)?;
-    put_measured(alloc, &rows, config, plan, sink)
+    print_measured(alloc, &rows, config, plan, sink)
 }

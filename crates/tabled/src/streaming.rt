@@ -15,7 +15,7 @@ use tabled_grid::TextSink;
 use tabled_table::IterTable;
 
 /// Prints records as a stream that reads all of their rows ahead.
-pub(crate) fn put_streamed<T: CellText, S: TextSink>(
+pub(crate) fn print_streamed<T: CellText, S: TextSink>(
     alloc: Global,
     sink: &mut S,
     records: &VecRecords<T>,

@@ -14,7 +14,7 @@ use Rattle.tabled.specs.declared.plan.Plan.TheVariants.{Buffered, Streamed, Wrap
 use Rattle.tabled.specs.Headline.{IsBestOf}
 use Rattle.tabled.specs.Planned.{IsPlannedOf, measured}
 use Rattle.tabled.specs.Rendered.{IsRenderedOf, PassesRange, SendsTable}
-use Rattle.tabled_c.specs.declared.asked.StyleName.{StyleName}
+use Rattle.tabled_c.specs.declared.arguments.StyleName.{StyleName}
 use Rattle.tabled_c.specs.Asked.{Asks, style_of}
 use Rattle.tabled_c.specs.Printed.{IsAsked, IsTable, whole_table}
 use Rattle.tabled_c.proofs.Styles.{styles_apart}

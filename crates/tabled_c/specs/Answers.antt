@@ -1,10 +1,10 @@
 -- What a caller gets: a number, and what is written into the room that it lends.
 use Rattle.std.specs.Prelude.{◌≡◌, ◌⊎◌, ℕ, ℤ, pos, negsuc, List, ◌++◌, length, drop, nat_le, if◌then◌else◌}
-use Rattle.tabled_c.specs.declared.refusal.Refusal.{Refusal}
-use Rattle.tabled_c.specs.declared.refusal.Refusal.TheVariants.{Memory, Range, NoText, NoStyle, NoPlan}
+use Rattle.tabled_c.specs.declared.error_code.ErrorCode.{ErrorCode}
+use Rattle.tabled_c.specs.declared.error_code.ErrorCode.TheVariants.{Memory, Range, NoText, NoStyle, NoPlan}
 
 -- -1 to -5
-abbrev pub code_of : Refusal → ℤ
+abbrev pub code_of : ErrorCode → ℤ
 code_of Memory = negsuc 0
 code_of Range = negsuc 1
 code_of NoText = negsuc 2
@@ -21,11 +21,11 @@ pub record IsPut (text old : List ℕ) (answer : ℤ) (new : List ℕ) : Type 0 
   pub room : new ≡ with_text text old
 
 -- by its number it is told why nothing is answered, and the room stays as it was
-pub record IsRefused (refusal : Refusal) (old : List ℕ) (answer : ℤ) (new : List ℕ) : Type 0 where
+pub record IsRefused (refusal : ErrorCode) (old : List ℕ) (answer : ℤ) (new : List ℕ) : Type 0 where
   pub code : answer ≡ code_of refusal
   pub room : new ≡ old
 
 -- a text that was asked for is given, or refused for a cause
-abbrev pub Answers : (List ℕ → Type 0) → (Refusal → Type 0) → List ℕ → ℤ → List ℕ → Type 0
+abbrev pub Answers : (List ℕ → Type 0) → (ErrorCode → Type 0) → List ℕ → ℤ → List ℕ → Type 0
 Answers asked cause old answer new =
-    ((text : List ℕ) × asked text × IsPut text old answer new) ⊎ ((refusal : Refusal) × cause refusal × IsRefused refusal old answer new)
+    ((text : List ℕ) × asked text × IsPut text old answer new) ⊎ ((refusal : ErrorCode) × cause refusal × IsRefused refusal old answer new)

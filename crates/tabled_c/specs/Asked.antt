@@ -6,8 +6,8 @@ use Rattle.tabled.specs.declared.plan.Order.{Order}
 use Rattle.tabled.specs.declared.plan.Order.TheVariants.{Round, Least, Greatest, Leftmost, Rightmost}
 use Rattle.tabled.specs.declared.plan.Plan.{Plan}
 use Rattle.tabled.specs.declared.plan.Plan.TheVariants.{Buffered, Streamed, Wrapped, Shortened}
-use Rattle.tabled_c.specs.declared.asked.StyleName.{StyleName}
-use Rattle.tabled_c.specs.declared.asked.StyleName.TheVariants.{Ascii, Modern, Extended, Markdown, Psql, Empty}
+use Rattle.tabled_c.specs.declared.arguments.StyleName.{StyleName}
+use Rattle.tabled_c.specs.declared.arguments.StyleName.TheVariants.{Ascii, Modern, Extended, Markdown, Psql, Empty}
 
 -- the word for a style
 abbrev pub style_word : StyleName → List ℕ

@@ -16,9 +16,9 @@ use Rattle.tabled.specs.declared.plan.Plan.{Plan}
 use Rattle.tabled.specs.Headline.{IsBestOf}
 use Rattle.tabled.specs.Planned.{IsPlannedOf}
 use Rattle.tabled.specs.Rendered.{PassesRange}
-use Rattle.tabled_c.specs.declared.asked.StyleName.{StyleName}
-use Rattle.tabled_c.specs.declared.refusal.Refusal.{Refusal}
-use Rattle.tabled_c.specs.declared.refusal.Refusal.TheVariants.{Memory, Range, NoText, NoStyle, NoPlan}
+use Rattle.tabled_c.specs.declared.arguments.StyleName.{StyleName}
+use Rattle.tabled_c.specs.declared.error_code.ErrorCode.{ErrorCode}
+use Rattle.tabled_c.specs.declared.error_code.ErrorCode.TheVariants.{Memory, Range, NoText, NoStyle, NoPlan}
 use Rattle.tabled_c.specs.Answers.{code_of}
 use Rattle.tabled_c.specs.Asked.{Asks, style_of, style_word}
 
@@ -46,7 +46,7 @@ pub record IsTable (text style : List ℕ) (kind order columns : ℕ) (printed :
 
 -- why no table is given: no style has the name, no plan the numbers, the bytes are no text; or what was asked for has a meaning,
 -- and a total passes the greatest `usize`, or memory was refused
-abbrev pub IsTableCause : List ℕ → List ℕ → ℕ → ℕ → ℕ → Refusal → Type 0
+abbrev pub IsTableCause : List ℕ → List ℕ → ℕ → ℕ → ℕ → ErrorCode → Type 0
 IsTableCause text style kind order columns Memory = (name : StyleName) × (plan : Plan) × IsAsked text style kind order columns name plan
 IsTableCause text style kind order columns Range =
     (name : StyleName) × (plan : Plan) × IsAsked text style kind order columns name plan
@@ -56,7 +56,7 @@ IsTableCause text style kind order columns NoStyle = (name : StyleName) → ¬ (
 IsTableCause text style kind order columns NoPlan = (plan : Plan) → ¬ Asks plan kind order columns
 
 -- why no text is given: the bytes are none; or they are one, and memory was refused, which is wanted for a cause
-abbrev pub IsTextCause : List ℕ → Type 0 → Refusal → Type 0
+abbrev pub IsTextCause : List ℕ → Type 0 → ErrorCode → Type 0
 IsTextCause text wanted Memory = IsUtf8 text × wanted
 IsTextCause text wanted Range = ⊥
 IsTextCause text wanted NoText = ¬ IsUtf8 text

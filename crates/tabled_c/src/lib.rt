@@ -6,9 +6,9 @@
 //! it takes, or a refusal below zero. No memory is left to the caller.
 #![tactic(auto)]
 
-mod asked;
+mod arguments;
+mod error_code;
 mod exports;
-mod refusal;
 mod room;
 mod tables;
 mod texts;

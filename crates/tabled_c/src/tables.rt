@@ -2,8 +2,8 @@
 ghost use Rattle.std.specs.Prelude.{IfErr, IfOk, string_bytes};
 ghost use Rattle.tabled_c.specs.Printed.{IsTable, IsTableCause};
 
-use crate::asked::{plan_of, style_named, style_of};
-use crate::refusal::Refusal;
+use crate::arguments::{plan_of, style_named, style_of};
+use crate::error_code::ErrorCode;
 use simdutf8::compat::from_utf8;
 use std::alloc::Global;
 use tabled::{TableError, render_styled};
@@ -16,23 +16,23 @@ pub(crate) fn table_of(
     kind: u32,
     order: u32,
     columns: usize,
-) -> Result<String, Refusal>
+) -> Result<String, ErrorCode>
     ensures table { IfOk result (λ printed. IsTable text.now style.now kind order columns (string_bytes printed)) }
     ensures cause { IfErr result (IsTableCause text.now style.now kind order columns) }
 {
     let Some(name) = style_named(style) else {
-        return Err(Refusal::NoStyle);
+        return Err(ErrorCode::NoStyle);
     };
     let Some(plan) = plan_of(kind, order, columns) else {
-        return Err(Refusal::NoPlan);
+        return Err(ErrorCode::NoPlan);
     };
     let Ok(text) = from_utf8(text) else {
-        return Err(Refusal::NoText);
+        return Err(ErrorCode::NoText);
     };
     let mut out = String::new(alloc);
     match render_styled(alloc, text, style_of(name), plan, &mut out) {
         Ok(()) => Ok(out),
-        Err(TableError::Range) => Err(Refusal::Range),
-        Err(_) => Err(Refusal::Memory),
+        Err(TableError::Range) => Err(ErrorCode::Range),
+        Err(_) => Err(ErrorCode::Memory),
     }
 }

@@ -4,7 +4,7 @@ ghost use Rattle.std.specs.Cow.{cow_str_bytes};
 ghost use Rattle.tabled_text.specs.Cut.{NeedsFill};
 ghost use Rattle.tabled_c.specs.Printed.{IsCutText, IsMeasured, IsTextCause, IsWrappedText};
 
-use crate::refusal::Refusal;
+use crate::error_code::ErrorCode;
 use simdutf8::compat::from_utf8;
 use std::alloc::Global;
 use std::borrow::CowStr;
@@ -15,11 +15,11 @@ pub(crate) fn columns_of(text: &[u8]) -> isize
     ensures { IsMeasured text.now result }
 {
     let Ok(text) = from_utf8(text) else {
-        return Refusal::NoText.code();
+        return ErrorCode::NoText.code();
     };
     let columns = text_width(text);
     if columns > isize::MAX as usize {
-        return Refusal::Range.code();
+        return ErrorCode::Range.code();
     }
     columns as isize
 }
@@ -29,16 +29,16 @@ pub(crate) fn cut_text(
     alloc: Global,
     text: &[u8],
     columns: usize,
-) -> Result<CowStr<'_, Global>, Refusal>
+) -> Result<CowStr<'_, Global>, ErrorCode>
     ensures cut { IfOk result (λ cut. IsCutText columns text.now (cow_str_bytes cut)) }
     ensures cause { IfErr result (IsTextCause text.now (NeedsFill columns text.now)) }
 {
     let Ok(text) = from_utf8(text) else {
-        return Err(Refusal::NoText);
+        return Err(ErrorCode::NoText);
     };
     match cut_str(alloc, text, columns) {
         Ok(cut) => Ok(cut),
-        Err(_) => Err(Refusal::Memory),
+        Err(_) => Err(ErrorCode::Memory),
     }
 }
 
@@ -48,15 +48,15 @@ pub(crate) fn wrapped_text(
     text: &[u8],
     columns: usize,
     words: bool,
-) -> Result<String, Refusal>
+) -> Result<String, ErrorCode>
     ensures wrapped { IfOk result (λ wrapped. IsWrappedText columns words text.now (string_bytes wrapped)) }
     ensures cause { IfErr result (IsTextCause text.now (0 < columns)) }
 {
     let Ok(text) = from_utf8(text) else {
-        return Err(Refusal::NoText);
+        return Err(ErrorCode::NoText);
     };
     match wrap_text(alloc, text, columns, words) {
         Ok(wrapped) => Ok(wrapped),
-        Err(_) => Err(Refusal::Memory),
+        Err(_) => Err(ErrorCode::Memory),
     }
 }

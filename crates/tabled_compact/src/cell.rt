@@ -9,7 +9,7 @@ ghost use Rattle.tabled_compact.specs.CompactCells.{compact_cell, compact_piece,
 use crate::columns::CompactColumns;
 use tabled_base::{CellText, TableError};
 use tabled_config::{AlignmentHorizontal, CompactConfig, Indent, Sides};
-use tabled_line::{Columns, TextSink, put_fill, put_indent, put_piece};
+use tabled_line::{TableColumns, TextSink, write_bar, write_fill, write_indent};
 use tabled_size::Dimension;
 
 /// The part of some free columns that stands before a text.
@@ -36,7 +36,7 @@ fn free_columns<T: CellText>(config: &CompactConfig, width: usize, cell: &T) -> 
 }
 
 /// A text between padding and spaces.
-fn put_spaced<S: TextSink>(
+fn write_padded_text<S: TextSink>(
     sink: &mut S,
     padding: &Sides<Indent>,
     before: usize,
@@ -46,16 +46,16 @@ fn put_spaced<S: TextSink>(
     ensures { Writes (S.sent sink.old) result (S.sent sink.new) (indent padding.now.left
         ++ (fill 32 before ++ (text.now ++ (fill 32 behind ++ indent padding.now.right)))) }
 {
-    put_indent(sink, padding.left)?;
-    put_fill(sink, ' ', before)?;
+    write_indent(sink, padding.left)?;
+    write_fill(sink, ' ', before)?;
     sink.write_text(text)?;
-    put_fill(sink, ' ', behind)?;
-    put_indent(sink, padding.right)
+    write_fill(sink, ' ', behind)?;
+    write_indent(sink, padding.right)
 }
 
 /// A text in its room. One that is wider goes out whole too, without indent and spaces.
 #[tactic(auto, unfolding(crate::specs::CompactCells::compact_cell))]
-fn put_text<T: CellText, S: TextSink>(
+fn write_aligned_text<T: CellText, S: TextSink>(
     sink: &mut S,
     config: &CompactConfig,
     width: usize,
@@ -65,7 +65,7 @@ fn put_text<T: CellText, S: TextSink>(
 {
     let free = free_columns(config, width, cell);
     let before = columns_before(config.get_alignment_horizontal(), free);
-    put_spaced(
+    write_padded_text(
         sink,
         config.get_padding(),
         before,
@@ -75,7 +75,7 @@ fn put_text<T: CellText, S: TextSink>(
 }
 
 /// A text in a column, behind the vertical line before it.
-pub(crate) fn put_cell<D: Dimension, T: CellText, S: TextSink>(
+pub(crate) fn write_cell<D: Dimension, T: CellText, S: TextSink>(
     sink: &mut S,
     columns: &CompactColumns<'_, D>,
     column: usize,
@@ -85,6 +85,6 @@ pub(crate) fn put_cell<D: Dimension, T: CellText, S: TextSink>(
     ensures { Writes (S.sent sink.old) result (S.sent sink.new) (compact_piece columns.now column (T.text cell.now)) }
 {
     let frame = columns.frame();
-    put_piece(sink, frame.has_bar(column), frame.inner.main)?;
-    put_text(sink, columns.config(), columns.width(column), cell)
+    write_bar(sink, frame.has_bar(column), frame.inner.main)?;
+    write_aligned_text(sink, columns.config(), columns.width(column), cell)
 }

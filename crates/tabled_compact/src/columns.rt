@@ -9,7 +9,7 @@ ghost use Rattle.tabled_compact.specs.CompactCells.{CompactSheet, columns_of, sh
 use std::marker::Model;
 use tabled_base::TableError;
 use tabled_config::{CompactConfig, Frame};
-use tabled_line::Columns;
+use tabled_line::TableColumns;
 use tabled_size::{Dimension, check_widths};
 
 /// The columns of a compact table whose widths are there. Contracts see the sheet that they make.
@@ -58,7 +58,7 @@ impl<'a, D: Dimension> CompactColumns<'a, D> {
     }
 }
 
-impl<'a, D: Dimension> Columns for CompactColumns<'a, D> {
+impl<'a, D: Dimension> TableColumns for CompactColumns<'a, D> {
     ghost sheet = { λ c. columns_of c };
 
     fn count_columns(&self) -> usize {

@@ -9,15 +9,15 @@ ghost use Rattle.tabled_compact.specs.CompactLines.{above, compact_width, head_l
 ghost use Rattle.tabled_compact.specs.GoesOn.{GoesOn, GoesOnLines};
 
 use crate::columns::CompactColumns;
-use crate::row::put_row_line;
-use crate::rules::{put_rule, separator};
+use crate::row::write_compact_row;
+use crate::rules::{separator, write_rule};
 use tabled_base::{CellText, TableError};
-use tabled_line::{TextSink, put_break, put_margin};
+use tabled_line::{TextSink, write_break, write_margin};
 use tabled_size::Dimension;
 
 /// What stands above the first row: the margin, and the top line.
 #[tactic(auto, unfolding(crate::specs::CompactLines::head_lines))]
-fn put_head<D: Dimension, S: TextSink>(
+fn write_head<D: Dimension, S: TextSink>(
     sink: &mut S,
     begun: &mut bool,
     columns: &CompactColumns<'_, D>,
@@ -27,13 +27,13 @@ fn put_head<D: Dimension, S: TextSink>(
     ensures { WritesLines (S.sent sink.old) begun.old result (S.sent sink.new) begun.new (head_lines columns.now) }
 {
     let config = columns.config();
-    put_margin(sink, begun, config.get_margin().top, whole)?;
-    put_rule(sink, begun, columns, config.get_borders().line_at(1, 0))
+    write_margin(sink, begun, config.get_margin().top, whole)?;
+    write_rule(sink, begun, columns, config.get_borders().line_at(1, 0))
 }
 
 /// What stands below the last row: the bottom line, and the margin.
 #[tactic(auto, unfolding(crate::specs::CompactLines::tail_lines))]
-pub(crate) fn put_tail<D: Dimension, S: TextSink>(
+pub(crate) fn write_tail<D: Dimension, S: TextSink>(
     sink: &mut S,
     begun: &mut bool,
     columns: &CompactColumns<'_, D>,
@@ -43,13 +43,13 @@ pub(crate) fn put_tail<D: Dimension, S: TextSink>(
     ensures { WritesLines (S.sent sink.old) begun.old result (S.sent sink.new) begun.new (tail_lines columns.now) }
 {
     let config = columns.config();
-    put_rule(sink, begun, columns, config.get_borders().line_at(1, 1))?;
-    put_margin(sink, begun, config.get_margin().bottom, whole)
+    write_rule(sink, begun, columns, config.get_borders().line_at(1, 1))?;
+    write_margin(sink, begun, config.get_margin().bottom, whole)
 }
 
 /// What stands above a row that follows another one, or above the first.
 #[tactic(auto, unfolding(crate::specs::CompactLines::above))]
-fn put_above<D: Dimension, S: TextSink>(
+fn write_above<D: Dimension, S: TextSink>(
     sink: &mut S,
     begun: &mut bool,
     columns: &CompactColumns<'_, D>,
@@ -60,19 +60,19 @@ fn put_above<D: Dimension, S: TextSink>(
     ensures { WritesLines (S.sent sink.old) begun.old result (S.sent sink.new) begun.new (above columns.now follows) }
 {
     if follows {
-        put_rule(
+        write_rule(
             sink,
             begun,
             columns,
             separator(columns.config().get_borders()),
         )
     } else {
-        put_head(sink, begun, columns, whole)
+        write_head(sink, begun, columns, whole)
     }
 }
 
 /// The line feed before a row, unless the sink refused something before.
-fn put_row_break<S: TextSink>(
+fn write_row_break<S: TextSink>(
     sink: &mut S,
     begun: &mut bool,
     before: Result<(), TableError>,
@@ -81,11 +81,11 @@ fn put_row_break<S: TextSink>(
     ensures after { OnOk result (begun.new ≡ true) }
 {
     before?;
-    put_break(sink, begun)
+    write_break(sink, begun)
 }
 
 /// A row, unless the sink refused something before. The cells are walked to their end in any case.
-fn put_led_row<C: IntoIterator, D: Dimension, S: TextSink>(
+fn write_next_row<C: IntoIterator, D: Dimension, S: TextSink>(
     sink: &mut S,
     begun: &mut bool,
     columns: &CompactColumns<'_, D>,
@@ -99,12 +99,12 @@ where
         × GoesOnLines before (S.sent sink.old) begun.old result (S.sent sink.new) begun.new
         (compact_row columns.now (map C.Item.text items) ∷ []) }
 {
-    let before = put_row_break(sink, begun, before);
-    put_row_line(sink, columns, cells, before)
+    let before = write_row_break(sink, begun, before);
+    write_compact_row(sink, columns, cells, before)
 }
 
 /// A row with what stands above it. The cells are walked to their end, also where the sink refuses something.
-pub(crate) fn put_row_part<C: IntoIterator, D: Dimension, S: TextSink>(
+pub(crate) fn write_row_part<C: IntoIterator, D: Dimension, S: TextSink>(
     sink: &mut S,
     begun: &mut bool,
     columns: &CompactColumns<'_, D>,
@@ -120,8 +120,8 @@ where
         × WritesLines (S.sent sink.old) begun.old result (S.sent sink.new) begun.new
         (row_part columns.now follows (map C.Item.text items)) }
 {
-    let before = put_above(sink, begun, columns, whole, follows);
-    put_led_row(sink, begun, columns, cells, before)
+    let before = write_above(sink, begun, columns, whole, follows);
+    write_next_row(sink, begun, columns, cells, before)
 }
 
 /// Walks a row that isn't shown.

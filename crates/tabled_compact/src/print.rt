@@ -97,7 +97,7 @@ where
         Err(error) => return refuse(rows, window.skip, error),
     };
     match line_total(&table) {
-        Some(whole) => RowPrinter::new(table, whole, window).put_table(sink, rows),
+        Some(whole) => RowPrinter::new(table, whole, window).print_table(sink, rows),
         None => refuse(rows, window.skip, TableError::Range),
     }
 }

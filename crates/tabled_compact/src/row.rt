@@ -7,14 +7,14 @@ ghost use Rattle.tabled_line.specs.Sent.{Sent, Writes};
 ghost use Rattle.tabled_compact.specs.CompactCells.{compact_piece, compact_row, pieces, row_end, row_start};
 ghost use Rattle.tabled_compact.specs.GoesOn.{GoesOn};
 
-use crate::cell::put_cell;
+use crate::cell::write_cell;
 use crate::columns::CompactColumns;
 use tabled_base::{CellText, TableError};
-use tabled_line::{Columns, TextSink, count_drawn, put_left, put_right};
+use tabled_line::{TableColumns, TextSink, count_drawn, write_left_edge, write_right_edge};
 use tabled_size::Dimension;
 
 /// The left edge of a row, unless the sink refused something before.
-fn put_row_start<D: Dimension, S: TextSink>(
+fn write_row_start<D: Dimension, S: TextSink>(
     sink: &mut S,
     columns: &CompactColumns<'_, D>,
     before: Result<(), TableError>,
@@ -23,11 +23,11 @@ fn put_row_start<D: Dimension, S: TextSink>(
 {
     before?;
     let frame = columns.frame();
-    put_left(sink, frame, frame.left.main)
+    write_left_edge(sink, frame, frame.left.main)
 }
 
 /// The next cell that came, unless the sink refused something before. One past the columns is passed over.
-fn put_next<D: Dimension, T: CellText, S: TextSink>(
+fn write_next_cell<D: Dimension, T: CellText, S: TextSink>(
     sink: &mut S,
     columns: &CompactColumns<'_, D>,
     column: &mut usize,
@@ -45,12 +45,12 @@ fn put_next<D: Dimension, T: CellText, S: TextSink>(
     }
     *column = at + 1;
     before?;
-    put_cell(sink, columns, at, cell)
+    write_cell(sink, columns, at, cell)
 }
 
 /// The cells that come, each in its column. All are walked, also where the sink refuses one. The answer is the column
 /// behind them.
-fn put_given<C: IntoIterator, D: Dimension, S: TextSink>(
+fn write_given_cells<C: IntoIterator, D: Dimension, S: TextSink>(
     sink: &mut S,
     columns: &CompactColumns<'_, D>,
     cells: C,
@@ -67,7 +67,7 @@ where
     let mut column = 0;
     let mut so_far = before;
     'cells: for cell in cells {
-        so_far = put_next(sink, columns, &mut column, &cell, so_far);
+        so_far = write_next_cell(sink, columns, &mut column, &cell, so_far);
     }
     so_far?;
     Ok(column)
@@ -87,7 +87,7 @@ fn count_drawn_cells<D: Dimension>(columns: &CompactColumns<'_, D>) -> usize
 }
 
 /// The cells that a row lacks, from a column on. They are empty.
-fn put_missing<D: Dimension, S: TextSink>(
+fn write_missing_cells<D: Dimension, S: TextSink>(
     sink: &mut S,
     columns: &CompactColumns<'_, D>,
     from: usize,
@@ -98,13 +98,13 @@ fn put_missing<D: Dimension, S: TextSink>(
 {
     let end = count_drawn_cells(columns).max(from);
     'columns: for column in from..end {
-        put_cell(sink, columns, column, &"")?;
+        write_cell(sink, columns, column, &"")?;
     }
     Ok(())
 }
 
 /// What stands behind the cells that came: those that the row lacks, and the right edge.
-fn put_row_end<D: Dimension, S: TextSink>(
+fn write_row_end<D: Dimension, S: TextSink>(
     sink: &mut S,
     columns: &CompactColumns<'_, D>,
     from: usize,
@@ -112,13 +112,13 @@ fn put_row_end<D: Dimension, S: TextSink>(
     requires { from ≤ columns.now.count }
     ensures { Writes (S.sent sink.old) result (S.sent sink.new) (row_end columns.now from) }
 {
-    put_missing(sink, columns, from)?;
+    write_missing_cells(sink, columns, from)?;
     let frame = columns.frame();
-    put_right(sink, frame, frame.right.main)
+    write_right_edge(sink, frame, frame.right.main)
 }
 
 /// The line of a row, unless the sink refused something before. The cells are walked to their end in any case.
-pub(crate) fn put_row_line<C: IntoIterator, D: Dimension, S: TextSink>(
+pub(crate) fn write_compact_row<C: IntoIterator, D: Dimension, S: TextSink>(
     sink: &mut S,
     columns: &CompactColumns<'_, D>,
     cells: C,
@@ -130,7 +130,7 @@ where
     ensures { (items : List C.Item) × Given C.into_iter_gives C.IntoIter.next_gives cells items
         × GoesOn before (S.sent sink.old) result (S.sent sink.new) (compact_row columns.now (map C.Item.text items)) }
 {
-    let before = put_row_start(sink, columns, before);
-    let column = put_given(sink, columns, cells, before)?;
-    put_row_end(sink, columns, column)
+    let before = write_row_start(sink, columns, before);
+    let column = write_given_cells(sink, columns, cells, before)?;
+    write_row_end(sink, columns, column)
 }

@@ -10,7 +10,7 @@ ghost use Rattle.tabled_compact.specs.RowsPut.{PutsRows, PutsTable};
 ghost use Rattle.tabled_compact.specs.Shown.{IsSpent, window_after};
 
 use crate::columns::CompactColumns;
-use crate::lines::{put_row_part, put_tail, walk};
+use crate::lines::{walk, write_row_part, write_tail};
 use crate::window::Window;
 use tabled_base::{CellText, TableError};
 use tabled_line::TextSink;
@@ -50,7 +50,7 @@ impl<'a, D: Dimension> RowPrinter<'a, D> {
     }
 
     /// The next row, which is skipped or shown. It is walked to its end in any case.
-    fn put_row<C: IntoIterator, S: TextSink>(
+    fn print_next_row<C: IntoIterator, S: TextSink>(
         &mut self,
         sink: &mut S,
         cells: C,
@@ -69,7 +69,7 @@ impl<'a, D: Dimension> RowPrinter<'a, D> {
         let follows = self.any;
         if self.window.take_row() {
             self.any = true;
-            put_row_part(
+            write_row_part(
                 sink,
                 &mut self.begun,
                 &self.columns,
@@ -84,7 +84,11 @@ impl<'a, D: Dimension> RowPrinter<'a, D> {
     }
 
     /// All rows that are wanted, of which there is one at least. No further row is asked for.
-    pub fn put_rows<R, C, S: TextSink>(&mut self, sink: &mut S, rows: R) -> Result<(), TableError>
+    pub fn print_wanted_rows<R, C, S: TextSink>(
+        &mut self,
+        sink: &mut S,
+        rows: R,
+    ) -> Result<(), TableError>
     where
         R: IntoIterator<Item = C>,
         C: IntoIterator,
@@ -100,7 +104,7 @@ impl<'a, D: Dimension> RowPrinter<'a, D> {
         ensures same { self.new.columns ≡ self.old.columns }
     {
         'rows: for row in rows {
-            self.put_row(sink, row)?;
+            self.print_next_row(sink, row)?;
             if self.window.is_spent() {
                 return Ok(());
             }
@@ -109,20 +113,20 @@ impl<'a, D: Dimension> RowPrinter<'a, D> {
     }
 
     /// What stands below the rows, if one was shown.
-    fn put_end<S: TextSink>(&mut self, sink: &mut S) -> Result<(), TableError>
+    fn print_end<S: TextSink>(&mut self, sink: &mut S) -> Result<(), TableError>
         ensures put { WritesLines (S.sent sink.old) self.old.begun result (S.sent sink.new) self.new.begun
             (if self.old.any then tail_lines self.old.columns else []) }
         ensures refused { OnErr result (self.old.any ≡ true) }
     {
         if self.any {
-            put_tail(sink, &mut self.begun, &self.columns, self.whole)
+            write_tail(sink, &mut self.begun, &self.columns, self.whole)
         } else {
             Ok(())
         }
     }
 
     /// The whole table. The text of the rows that came goes out, and nothing where none is shown.
-    pub fn put_table<R, C, S: TextSink>(mut self, sink: &mut S, rows: R) -> Result<(), TableError>
+    pub fn print_table<R, C, S: TextSink>(mut self, sink: &mut S, rows: R) -> Result<(), TableError>
     where
         R: IntoIterator<Item = C>,
         C: IntoIterator,
@@ -136,7 +140,7 @@ impl<'a, D: Dimension> RowPrinter<'a, D> {
             × RowsBegin R.into_iter_gives R.IntoIter.next_gives C.into_iter_gives C.IntoIter.next_gives rows cells whole
             × PutsTable self.entry.columns self.entry.window (S.sent sink.old) result (S.sent sink.new) (map (map C.Item.text) cells) whole }
     {
-        self.put_rows(sink, rows)?;
-        self.put_end(sink)
+        self.print_wanted_rows(sink, rows)?;
+        self.print_end(sink)
     }
 }

@@ -7,7 +7,7 @@ ghost use Rattle.tabled_compact.specs.CompactLines.{separator};
 
 use tabled_base::TableError;
 use tabled_config::{Borders, HorizontalLine};
-use tabled_line::{Columns, TextSink, put_break, put_rule_line};
+use tabled_line::{TableColumns, TextSink, write_break, write_rule_line};
 
 /// The line between two rows, if it is there. At its edges stand the characters of the vertical lines.
 pub(crate) fn separator(borders: &Borders<char>) -> Option<HorizontalLine>
@@ -25,7 +25,7 @@ pub(crate) fn separator(borders: &Borders<char>) -> Option<HorizontalLine>
     })
 }
 
-fn put_led_rule<C: Columns, S: TextSink>(
+fn write_next_rule<C: TableColumns, S: TextSink>(
     sink: &mut S,
     begun: &mut bool,
     columns: &C,
@@ -34,12 +34,12 @@ fn put_led_rule<C: Columns, S: TextSink>(
     ensures { WritesLines (S.sent sink.old) begun.old result (S.sent sink.new) begun.new
         (rule_line (C.sheet columns.now) line.now ∷ []) }
 {
-    put_break(sink, begun)?;
-    put_rule_line(sink, columns, line)
+    write_break(sink, begun)?;
+    write_rule_line(sink, columns, line)
 }
 
 /// A horizontal line, if it is there.
-pub(crate) fn put_rule<C: Columns, S: TextSink>(
+pub(crate) fn write_rule<C: TableColumns, S: TextSink>(
     sink: &mut S,
     begun: &mut bool,
     columns: &C,
@@ -49,7 +49,7 @@ pub(crate) fn put_rule<C: Columns, S: TextSink>(
         (rule_if (C.sheet columns.now) rule) }
 {
     match rule {
-        Some(line) => put_led_rule(sink, begun, columns, &line),
+        Some(line) => write_next_rule(sink, begun, columns, &line),
         None => Ok(()),
     }
 }

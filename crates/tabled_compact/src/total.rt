@@ -4,7 +4,7 @@ ghost use Rattle.tabled_priority.specs.Sums.{one_if, sum_below};
 ghost use Rattle.tabled_line.specs.Apart.{line_total};
 ghost use Rattle.tabled_line.specs.Row.{ColumnSheet};
 
-use tabled_line::Columns;
+use tabled_line::TableColumns;
 
 fn one_if(there: bool) -> usize
     ensures { result ≡ one_if there }
@@ -14,7 +14,7 @@ fn one_if(there: bool) -> usize
 
 /// The widths of so many first columns.
 #[tactic(auto, using(tabled_priority::proofs::Sums::sum_step))]
-fn known_widths<C: Columns>(columns: &C, known: usize) -> Option<usize>
+fn known_widths<C: TableColumns>(columns: &C, known: usize) -> Option<usize>
     requires { known ≤ (C.sheet columns.now).count }
     ensures { let width = (C.sheet columns.now).width in
         MatchOption result (2 ^ 64 ≤ sum_below width known) (λ n. n ≡ sum_below width known) }
@@ -34,7 +34,7 @@ fn add_times(sum: usize, times: usize, each: usize) -> Option<usize>
 }
 
 /// The widths of some columns from one on, which are all as wide as it, besides what was summed up.
-fn add_alike<C: Columns>(columns: &C, sum: usize, from: usize) -> Option<usize>
+fn add_alike<C: TableColumns>(columns: &C, sum: usize, from: usize) -> Option<usize>
     requires within { from ≤ (C.sheet columns.now).count }
     requires summed { sum ≡ sum_below (C.sheet columns.now).width from }
     requires alike { (column : ℕ) → from ≤ column → column < (C.sheet columns.now).count
@@ -50,7 +50,7 @@ fn add_alike<C: Columns>(columns: &C, sum: usize, from: usize) -> Option<usize>
 }
 
 /// The widths of all columns. Those that are alike are counted at once.
-fn sum_widths<C: Columns>(columns: &C) -> Option<usize>
+fn sum_widths<C: TableColumns>(columns: &C) -> Option<usize>
     ensures { let sheet = C.sheet columns.now in
         MatchOption result (2 ^ 64 ≤ sum_below sheet.width sheet.count) (λ n. n ≡ sum_below sheet.width sheet.count) }
 {
@@ -62,7 +62,7 @@ fn sum_widths<C: Columns>(columns: &C) -> Option<usize>
 /// The columns of each line: the widths, the vertical lines and the side margins. `None` where they pass the greatest
 /// `usize`.
 #[tactic(auto, unfolding(tabled_line::specs::Apart::line_total))]
-pub(crate) fn line_total<C: Columns>(columns: &C) -> Option<usize>
+pub(crate) fn line_total<C: TableColumns>(columns: &C) -> Option<usize>
     ensures { let whole = line_total (C.sheet columns.now) in MatchOption result (2 ^ 64 ≤ whole)
         (λ n. (n ≡ whole) × (whole < 2 ^ 64)) }
 {

@@ -8,4 +8,4 @@ pub mod RowStyles
 pub mod Settings
 pub mod Spanned
 pub mod Styles
-pub mod ToldSides
+pub mod KnownSides

@@ -45,5 +45,5 @@ pub record SameStyles (old new : RowStyles) : Type 0 where
   pub at : (column : ℕ) → style_in new column ≡ style_in old column
 
 -- each text stands as is told
-pub record TellsStyles (styles : RowStyles) (told : ℕ → CellStyle) : Type 0 where
+pub record DescribesStyles (styles : RowStyles) (told : ℕ → CellStyle) : Type 0 where
   pub at : (column : ℕ) → style_in styles column ≡ told column

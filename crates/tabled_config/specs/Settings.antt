@@ -12,7 +12,7 @@ use Rattle.tabled_config.specs.declared.sides.Sides.{Sides}
 use Rattle.tabled_config.specs.declared.spanned.CellStyle.{CellStyle}
 use Rattle.tabled_config.specs.declared.spanned.SpannedConfig.{SpannedConfig}
 use Rattle.tabled_entity.specs.Changes.{setting_at, shared}
-use Rattle.tabled_entity.specs.Places.{IsWhole}
+use Rattle.tabled_entity.specs.ChangeIndex.{IsWhole}
 use Rattle.tabled_config.specs.Frame.{border_at, frame_of}
 use Rattle.tabled_config.specs.Lines.{line_set}
 

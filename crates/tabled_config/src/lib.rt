@@ -45,5 +45,5 @@ pub use compact_multiline::CompactMultilineConfig;
 pub use formatting::Formatting;
 pub use frame::{Frame, VerticalLine};
 pub use sides::{Indent, Sides};
-pub use spanned::{CellStyle, RowStyles, SetStyles, SpannedConfig, ToldSides};
+pub use spanned::{CellStyle, KnownSides, RowStyles, SetStyles, SpannedConfig};
 pub use style::Style;

@@ -9,11 +9,11 @@ use std::marker::Model;
 
 /// Lines by index.
 #[derive(Debug, Drop)]
-pub struct Lines {
+pub struct HorizontalLines {
     lines: BTreeMap<usize, HorizontalLine>,
 }
 
-impl Model for Lines {
+impl Model for HorizontalLines {
     ghost use Rattle.std.specs.Prelude.{ℕ, List};
     ghost use Rattle.tabled_config.specs.declared.borders.HorizontalLine.{HorizontalLine};
 
@@ -22,21 +22,21 @@ impl Model for Lines {
     ghost view = { λ l. l.lines.entries };
 }
 
-impl Lines {
+impl HorizontalLines {
     /// No line.
-    pub fn new(alloc: Global) -> Lines
+    pub fn new(alloc: Global) -> HorizontalLines
         ensures { result ≡ [] }
     {
-        Lines {
+        HorizontalLines {
             lines: BTreeMap::new(alloc),
         }
     }
 
     /// The same lines.
-    pub fn clone(&self) -> Result<Lines, AllocError>
+    pub fn clone(&self) -> Result<HorizontalLines, AllocError>
         ensures { IfOk result (λ copy. copy ≡ self.now) }
     {
-        Ok(Lines {
+        Ok(HorizontalLines {
             lines: self.lines.clone()?,
         })
     }
@@ -68,7 +68,7 @@ impl Lines {
     }
 }
 
-impl PartialEq for Lines {
+impl PartialEq for HorizontalLines {
     ghost use Rattle.std.specs.Prelude.{◌&&◌, nat_eq};
     ghost use Rattle.std.specs.Cmp.{and_per, nat_eq_equiv, on_per, partial_equiv_from_equiv};
     ghost use Rattle.std.specs.Cmp.Lexicographic.{lists_per, pointwise};
@@ -79,12 +79,12 @@ impl PartialEq for Lines {
     ghost laws = { lists_per (and_per (on_per (λ p. p.0) (partial_equiv_from_equiv nat_eq_equiv))
         (on_per (λ p. p.1) line_per)) };
 
-    fn eq(&self, other: &Lines) -> bool {
+    fn eq(&self, other: &HorizontalLines) -> bool {
         self.lines == other.lines
     }
 }
 
-impl Eq for Lines {
+impl Eq for HorizontalLines {
     ghost use Rattle.std.specs.Cmp.{and_equiv, nat_eq_equiv, on_equiv};
     ghost use Rattle.std.specs.Cmp.Lexicographic.{lists_equiv};
     ghost use Rattle.tabled_config.specs.contracts.borders.HorizontalLineEq.TheImpl.Laws.{laws-law as line_eq};

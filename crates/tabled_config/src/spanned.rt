@@ -5,22 +5,22 @@ ghost use Rattle.tabled_entity.specs.Changes.{setting_at, with_change};
 ghost use Rattle.tabled_config.specs.Lines.{line_set, with_line};
 
 mod alike;
+mod known_sides;
 mod row_styles;
-mod told_sides;
 
 use crate::alignment::{AlignmentHorizontal, AlignmentVertical};
 use crate::borders::{Borders, HorizontalLine};
 use crate::compact::CompactConfig;
 use crate::compact_multiline::CompactMultilineConfig;
 use crate::frame::Frame;
-use crate::lines::Lines;
+use crate::lines::HorizontalLines;
 use crate::sides::{Indent, Sides};
 use crate::style::Style;
+pub use known_sides::KnownSides;
 pub use row_styles::{RowStyles, SetStyles};
 use std::alloc::Global;
 use tabled_base::{Entity, Position, TableError};
 use tabled_entity::EntityMap;
-pub use told_sides::ToldSides;
 
 /// How the text of a cell stands in its place.
 #[derive(Clone, Copy, Debug)]
@@ -50,7 +50,7 @@ pub struct SpannedConfig {
     line_alignment: EntityMap<bool>,
     trim_horizontal: EntityMap<bool>,
     trim_vertical: EntityMap<bool>,
-    lines: Lines,
+    lines: HorizontalLines,
 }
 
 /// One call lets all settings go, so that whoever lets them go needn't prove it of each.
@@ -93,7 +93,7 @@ impl SpannedConfig {
             line_alignment: EntityMap::new(alloc, false),
             trim_horizontal: EntityMap::new(alloc, false),
             trim_vertical: EntityMap::new(alloc, false),
-            lines: Lines::new(alloc),
+            lines: HorizontalLines::new(alloc),
         }
     }
 
@@ -343,7 +343,7 @@ impl SpannedConfig {
         ensures line { OnErr result (IsSome style.now.below_first) }
         ensures only { IfErr result (λ e. e ≡ Memory) }
     {
-        let mut lines = Lines::new(self.allocator());
+        let mut lines = HorizontalLines::new(self.allocator());
         if let Some(line) = style.get_horizontal_line(1) {
             lines.insert(1, line)?;
         }

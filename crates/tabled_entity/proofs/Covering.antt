@@ -26,7 +26,7 @@ use Rattle.std.proofs.Common.{
 use Rattle.tabled_base.specs.declared.position.Entity.{Entity}
 use Rattle.tabled_base.specs.declared.position.Entity.TheVariants.{Global, Row, Column, Cell}
 use Rattle.tabled_entity.specs.Changes.{covers, first_covering}
-use Rattle.tabled_entity.specs.Places.{last_for, later, latest, same}
+use Rattle.tabled_entity.specs.ChangeIndex.{last_for, later, latest, same}
 
 -- a place before the end, if there is one
 abbrev pub IsBelow : ℕ → Option ℕ → Type 0

@@ -3,13 +3,13 @@ use Rattle.std.proofs.Common.{cond, [], ◌∷◌, suc, refl, arith, ◌≡◌, 
 use Rattle.std.proofs.lemmas.List.{length-reverse, reverse-reverse, get_or-reverse}
 use Rattle.tabled_base.specs.declared.position.Entity.{Entity}
 use Rattle.tabled_base.specs.declared.position.Entity.TheVariants.{Global, Row, Column, Cell}
-use Rattle.tabled_entity.specs.declared.places.Places.{Places}
+use Rattle.tabled_entity.specs.declared.change_index.ChangeIndex.{ChangeIndex}
 use Rattle.tabled_entity.specs.Changes.{first_covering, if_unparted}
-use Rattle.tabled_entity.specs.Places.{IsIndexed, IsPlaced, found, last_for, later, latest, same}
+use Rattle.tabled_entity.specs.ChangeIndex.{IsIndexed, IsReindexed, found, last_for, later, latest, same}
 use Rattle.tabled_entity.proofs.Covering.{IsBelow, latest_place, below-latest_place, said_at, said_at-latest}
 
 module _ {T : Type 0} where
-  pub indexed-latest : (places : Places) (parts : List (Entity × T)) (row column : ℕ) → IsIndexed places parts
+  pub indexed-latest : (places : ChangeIndex) (parts : List (Entity × T)) (row column : ℕ) → IsIndexed places parts
       → latest (found places) row column ≡ latest_place parts row column
   indexed-latest places parts row column p =
       ap (λ a. later a (later (found places (Column column)) (found places (Cell row column)))) (p.found (Row row))
@@ -24,21 +24,21 @@ module _ {T : Type 0} where
   latest-below parts row column None e = tt
   latest-below parts row column (Some i) e = placed-below parts row column i e
 
-  pub said_at-placed : (whole : T) (places : Places) (parts : List (Entity × T)) (row column : ℕ) (o : Option ℕ)
+  pub said_at-placed : (whole : T) (places : ChangeIndex) (parts : List (Entity × T)) (row column : ℕ) (o : Option ℕ)
       → IsIndexed places parts → o ≡ latest_place parts row column → said_at whole parts o ≡ first_covering whole parts row column
   said_at-placed whole places parts row column o p e =
       ap (said_at whole parts) e ∙ said_at-latest whole parts row column (sym (p.found Global))
 
   -- rows whose cells have the same latest places have the same settings
-  pub alike-found : (whole : T) (places : Places) (parts : List (Entity × T)) (row other column : ℕ) → IsIndexed places parts
+  pub alike-found : (whole : T) (places : ChangeIndex) (parts : List (Entity × T)) (row other column : ℕ) → IsIndexed places parts
       → latest (found places) row column ≡ latest (found places) other column → first_covering whole parts row column ≡ first_covering whole parts other column
   alike-found whole places parts row other column p e =
       sym (said_at-placed whole places parts row column (latest (found places) row column) p (indexed-latest places parts row column p))
       ∙ said_at-placed whole places parts other column (latest (found places) row column) p (e ∙ indexed-latest places parts other column p)
 
 -- one change more
-pub indexed-more : {T : Type 0} (old new : Places) (items : List (Entity × T)) (entity : Entity) (value : T) (place : ℕ)
-    → IsIndexed old (reverse items) → IsPlaced old new entity place → place ≡ length items → IsIndexed new ((entity, value) ∷ reverse items)
+pub indexed-more : {T : Type 0} (old new : ChangeIndex) (items : List (Entity × T)) (entity : Entity) (value : T) (place : ℕ)
+    → IsIndexed old (reverse items) → IsReindexed old new entity place → place ≡ length items → IsIndexed new ((entity, value) ∷ reverse items)
 indexed-more old new items entity value place indexed placed is =
     record {
       found = λ other.

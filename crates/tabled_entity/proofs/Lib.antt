@@ -1,5 +1,5 @@
 pub mod Covering
 pub mod Indexed
 pub mod SameCells
-pub mod Telling
+pub mod Knowing
 pub mod Walking

@@ -13,7 +13,7 @@ use Rattle.std.specs.Map.{keys_of}
 use Rattle.std.specs.Ordering.{is_eq, is_le, is_lt, nat_cmp, ordering_reverse, ordering_then}
 use Rattle.std.specs.declared.cmp.Ordering.{Ordering}
 use Rattle.std.specs.declared.cmp.Ordering.TheVariants.{Less, Equal, Greater}
-use Rattle.tabled_entity.specs.Ahead.{AreInOrder, LieAhead, PlacedCell, cell_cmp, place_in}
+use Rattle.tabled_entity.specs.UpcomingCells.{AreInOrder, LieAhead, PlacedCell, cell_cmp, place_in}
 
 cell_total : IsTotalOrder cell_cmp
 cell_total = then_total (on_total (λ p. p.0) nat_cmp_total) (on_total (λ p. p.1) nat_cmp_total)

@@ -1,7 +1,7 @@
-pub mod Ahead
+pub mod UpcomingCells
 pub mod Changes
-pub mod Places
-pub mod RowList
-pub mod RowPlaces
-pub mod Series
-pub mod ToldValues
+pub mod ChangeIndex
+pub mod DenseRowRun
+pub mod RowChangeIndex
+pub mod DenseRun
+pub mod KnownValues

@@ -1,15 +1,15 @@
 //! One setting of a table: for the whole of it, for rows, for columns and for cells.
 ghost use Rattle.std.specs.Prelude.{◌≡◌, ◌<◌, ℕ, IfOk, IfSome, IsOk, OnErr, OnOk, length, reverse, true};
 ghost use Rattle.tabled_entity.specs.Changes.{for_all, setting_at, shared, with_change};
-ghost use Rattle.tabled_entity.specs.Places.{IsPart, IsWhole, last_for, latest};
-ghost use Rattle.tabled_entity.specs.Series.{AreListed, IsTold};
-ghost use Rattle.tabled_entity.specs.ToldValues.{told_value};
+ghost use Rattle.tabled_entity.specs.ChangeIndex.{IsPart, IsWhole, last_for, latest};
+ghost use Rattle.tabled_entity.specs.DenseRun.{AreListed, IsKnown};
+ghost use Rattle.tabled_entity.specs.KnownValues.{known_value};
 
-use crate::places::Places;
-use crate::row_list::RowList;
+use crate::change_index::ChangeIndex;
+use crate::dense_row_run::DenseRowRun;
+use crate::dense_run::{DenseRun, Distinct};
+use crate::known_values::KnownValues;
 use crate::row_values::RowValues;
-use crate::series::{Distinct, Series};
-use crate::told_values::ToldValues;
 use std::alloc::{AllocError, Global};
 use std::marker::Model;
 use tabled_base::Entity;
@@ -25,24 +25,24 @@ pub struct EntityMap<T> {
     // What was set for parts of it since then, in order.
     changes: Vec<(Entity, T)>,
     // Where the latest change for each part stands.
-    places: Places,
+    places: ChangeIndex,
     // Those of cells or columns that were set one after another.
-    series: Series<T>,
+    dense_run: DenseRun<T>,
     // Those of rows that were.
-    rows: RowList<T>,
+    rows: DenseRowRun<T>,
 }
 
-/// The values of some changes that were made one after another, as far as they are told.
-fn series_of<T: Copy + Distinct>(alloc: Global, changes: &[(Entity, T)]) -> Series<T>
+/// The values of some changes that were made one after another, as far as they are known.
+fn dense_run_of<T: Copy + Distinct>(alloc: Global, changes: &[(Entity, T)]) -> DenseRun<T>
     ensures listed { AreListed result }
-    ensures told { (whole : T) → IsTold whole (reverse changes.now) result }
+    ensures known { (whole : T) → IsKnown whole (reverse changes.now) result }
 {
-    let mut series = Series::new(alloc);
+    let mut dense_run = DenseRun::new(alloc);
     'places: for place in 0..changes.len() {
         let change = changes[place];
-        series.put(change.0, change.1);
+        dense_run.insert(change.0, change.1);
     }
-    series
+    dense_run
 }
 
 /// One call lets a setting go with all its changes, so that whoever lets it go needn't prove it of each part.
@@ -52,7 +52,7 @@ impl<T: Drop> Drop for EntityMap<T> {
             whole: _,
             changes: _,
             places: _,
-            series: _,
+            dense_run: _,
             rows: _,
         } = self;
     }
@@ -61,17 +61,17 @@ impl<T: Drop> Drop for EntityMap<T> {
 impl<T> Model for EntityMap<T> {
     ghost use Rattle.std.specs.Prelude.{reverse};
     ghost use Rattle.tabled_entity.specs.Changes.{Changes};
-    ghost use Rattle.tabled_entity.specs.Places.{IsIndexed};
-    ghost use Rattle.tabled_entity.specs.RowList.{AreToldRows};
-    ghost use Rattle.tabled_entity.specs.Series.{AreListed, IsTold};
+    ghost use Rattle.tabled_entity.specs.ChangeIndex.{IsIndexed};
+    ghost use Rattle.tabled_entity.specs.DenseRowRun.{AreKnownRows};
+    ghost use Rattle.tabled_entity.specs.DenseRun.{AreListed, IsKnown};
 
     ghost Value = { Changes T };
 
     ghost view = { λ m. record { whole = m.whole; parts = reverse m.changes.items } };
 
     ghost invariant = { λ m. IsIndexed m.places (reverse m.changes.items)
-        × (AreListed m.series × IsTold m.whole (reverse m.changes.items) m.series)
-        × AreToldRows m.whole (reverse m.changes.items) m.rows };
+        × (AreListed m.dense_run × IsKnown m.whole (reverse m.changes.items) m.dense_run)
+        × AreKnownRows m.whole (reverse m.changes.items) m.rows };
 }
 
 impl<T: Copy> EntityMap<T> {
@@ -82,9 +82,9 @@ impl<T: Copy> EntityMap<T> {
         EntityMap {
             whole: value,
             changes: Vec::new(alloc),
-            places: Places::new(alloc),
-            series: Series::new(alloc),
-            rows: RowList::new(alloc),
+            places: ChangeIndex::new(alloc),
+            dense_run: DenseRun::new(alloc),
+            rows: DenseRowRun::new(alloc),
         }
     }
 
@@ -95,7 +95,7 @@ impl<T: Copy> EntityMap<T> {
         self.whole = value;
         self.changes.clear();
         self.places.clear();
-        self.series.clear();
+        self.dense_run.clear();
         self.rows.clear();
     }
 
@@ -138,7 +138,7 @@ impl<T: Copy> EntityMap<T> {
 
     /// The value of the cells whose latest change stands at a place, if there is one.
     #[inline]
-    pub(crate) fn said(&self, place: Option<usize>) -> &T
+    pub(crate) fn value_at_change(&self, place: Option<usize>) -> &T
         requires { IfSome place (λ i. i < length self.now.parts) }
         ensures { (row column : ℕ) → place ≡ latest (λ entity. last_for entity self.now.parts) row column
             → result.now ≡ setting_at self.now row column }
@@ -153,7 +153,7 @@ impl<T: Copy> EntityMap<T> {
     fn found(&self, row: usize, column: usize) -> &T
         ensures { result.now ≡ setting_at self.now row column }
     {
-        self.said(self.places.latest(row, column))
+        self.value_at_change(self.places.latest(row, column))
     }
 
     /// The value of a cell.
@@ -179,23 +179,23 @@ impl<T: Copy> EntityMap<T> {
             return Some(value);
         }
         let place = self.places.of_row(row)?;
-        Some(self.said(place))
+        Some(self.value_at_change(place))
     }
 
-    /// The values of a row's first columns, if all are known to be one, or each is told by its place.
+    /// The values of a row's first columns, if all are known to be one, or each is known by its place.
     #[inline(always)]
-    pub fn told_in(&self, row: usize, columns: usize) -> Option<ToldValues<'_, T>>
+    pub fn known_values(&self, row: usize, columns: usize) -> Option<KnownValues<'_, T>>
         ensures { IfSome result (λ values. (column : ℕ) → column < columns
-            → told_value values column ≡ setting_at self.now row column) }
+            → known_value values column ≡ setting_at self.now row column) }
     {
         if let Some(value) = self.row_value(row) {
-            return Some(ToldValues::alike(value));
+            return Some(KnownValues::alike(value));
         }
-        let series = self.series.row(row)?;
-        if series.len() < columns {
+        let dense_run = self.dense_run.row(row)?;
+        if dense_run.len() < columns {
             return None;
         }
-        Some(ToldValues::each(series, &self.whole))
+        Some(KnownValues::each(dense_run, &self.whole))
     }
 
     /// The values of a row's cells, from left to right: each takes a step, and no look-up among the cells.
@@ -206,7 +206,13 @@ impl<T: Copy> EntityMap<T> {
             return RowValues::new(self, row, value, None, None);
         }
         let places = self.places.in_row(row);
-        RowValues::new(self, row, &self.whole, Some(places), self.series.row(row))
+        RowValues::new(
+            self,
+            row,
+            &self.whole,
+            Some(places),
+            self.dense_run.row(row),
+        )
     }
 }
 
@@ -219,7 +225,7 @@ impl<T: Copy + Distinct> EntityMap<T> {
             whole: self.whole,
             changes: Vec::from_slice(*self.changes.allocator(), &self.changes)?,
             places: self.places.clone()?,
-            series: series_of(*self.changes.allocator(), &self.changes),
+            dense_run: dense_run_of(*self.changes.allocator(), &self.changes),
             rows: self.rows.clone()?,
         })
     }
@@ -232,10 +238,10 @@ impl<T: Copy + Distinct> EntityMap<T> {
     {
         let place = self.changes.len();
         self.changes.try_reserve(1)?;
-        self.places.put(entity, place)?;
+        self.places.insert(entity, place)?;
         self.changes.push((entity, value))?;
-        self.series.put(entity, value);
-        self.rows.put(entity, value);
+        self.dense_run.insert(entity, value);
+        self.rows.insert(entity, value);
         Ok(())
     }
 

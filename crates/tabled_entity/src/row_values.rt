@@ -1,13 +1,13 @@
 //! The values of a row's cells, from left to right.
 ghost use Rattle.std.specs.Prelude.{◌≡◌, ℕ, IfSome, MatchOption};
 ghost use Rattle.tabled_entity.specs.Changes.{setting_at, value_at};
-ghost use Rattle.tabled_entity.specs.Places.{last_for, latest};
-ghost use Rattle.tabled_entity.specs.RowPlaces.{latest_at};
-ghost use Rattle.tabled_entity.specs.Series.{numbered};
+ghost use Rattle.tabled_entity.specs.ChangeIndex.{last_for, latest};
+ghost use Rattle.tabled_entity.specs.RowChangeIndex.{latest_at};
+ghost use Rattle.tabled_entity.specs.DenseRun.{numbered};
 
+use crate::dense_run::DenseRunRow;
 use crate::entity_map::EntityMap;
-use crate::row_places::RowPlaces;
-use crate::series::RowSeries;
+use crate::row_change_index::RowChangeIndex;
 use std::marker::Model;
 
 /// The values of a row's cells. Where cells or columns were set one after another, each is found by its
@@ -19,17 +19,17 @@ pub struct RowValues<'a, T> {
     // The value of all cells of the row, if no places are kept.
     whole: &'a T,
     // Where the latest changes stand, unless all cells have the same value.
-    places: Option<RowPlaces<'a>>,
-    // Those of the first columns, if they are told by their places.
-    told: Option<RowSeries<'a, T>>,
+    places: Option<RowChangeIndex<'a>>,
+    // Those of the first columns, if they are known by their places.
+    known: Option<DenseRunRow<'a, T>>,
 }
 
 impl<'a, T> Model for RowValues<'a, T> {
     ghost use Rattle.std.specs.Prelude.{◌≡◌, ℕ, IfSome, MatchOption};
     ghost use Rattle.tabled_entity.specs.Changes.{ChangesAndRow, setting_at};
-    ghost use Rattle.tabled_entity.specs.Series.{numbered};
-    ghost use Rattle.tabled_entity.specs.Places.{last_for, latest};
-    ghost use Rattle.tabled_entity.specs.RowPlaces.{latest_at};
+    ghost use Rattle.tabled_entity.specs.DenseRun.{numbered};
+    ghost use Rattle.tabled_entity.specs.ChangeIndex.{last_for, latest};
+    ghost use Rattle.tabled_entity.specs.RowChangeIndex.{latest_at};
 
     ghost Value = { ChangesAndRow T };
 
@@ -38,24 +38,24 @@ impl<'a, T> Model for RowValues<'a, T> {
     ghost invariant = { λ v. MatchOption v.places
         ((column : ℕ) → v.whole.now ≡ setting_at v.map.now v.row column)
         (λ places. (column : ℕ) → latest_at places column ≡ latest (λ entity. last_for entity v.map.now.parts) v.row column)
-        × IfSome v.told (λ kept. (column : ℕ) → IfSome (numbered kept.distinct.now kept.numbers.now column)
+        × IfSome v.known (λ kept. (column : ℕ) → IfSome (numbered kept.distinct.now kept.numbers.now column)
         (λ value. value ≡ setting_at v.map.now v.row column)) };
 }
 
 impl<'a, T: Copy> RowValues<'a, T> {
-    /// The values of the cells of a row, by the places of the latest changes for them and by what is told of the first ones, or the one
+    /// The values of the cells of a row, by the places of the latest changes for them and by what is known of the first ones, or the one
     /// of all where it is known to be one.
     pub(crate) fn new(
         map: &'a EntityMap<T>,
         row: usize,
         whole: &'a T,
-        places: Option<RowPlaces<'a>>,
-        told: Option<RowSeries<'a, T>>,
+        places: Option<RowChangeIndex<'a>>,
+        known: Option<DenseRunRow<'a, T>>,
     ) -> RowValues<'a, T>
         requires places { MatchOption places
             ((column : ℕ) → whole.now ≡ setting_at map.now row column)
             (λ places. (column : ℕ) → latest_at places column ≡ latest (λ entity. last_for entity map.now.parts) row column) }
-        requires told { IfSome told (λ kept. (column : ℕ) → IfSome (numbered kept.distinct.now kept.numbers.now column)
+        requires known { IfSome known (λ kept. (column : ℕ) → IfSome (numbered kept.distinct.now kept.numbers.now column)
             (λ value. value ≡ setting_at map.now row column)) }
         ensures { result ≡ record { changes = map.now; row = row } }
     {
@@ -64,7 +64,7 @@ impl<'a, T: Copy> RowValues<'a, T> {
             row,
             whole,
             places,
-            told,
+            known,
         }
     }
 
@@ -79,13 +79,13 @@ impl<'a, T: Copy> RowValues<'a, T> {
         }
     }
 
-    /// The value of the cell in a column, if it is told by its place.
+    /// The value of the cell in a column, if it is known by its place.
     #[inline(always)]
-    fn told(&self, column: usize) -> Option<&'a T>
+    fn known(&self, column: usize) -> Option<&'a T>
         ensures { IfSome result (λ value. value.now ≡ value_at self.now column) }
     {
-        match &self.told {
-            Some(told) => told.value(column),
+        match &self.known {
+            Some(known) => known.value(column),
             None => None,
         }
     }
@@ -99,7 +99,7 @@ impl<'a, T: Copy> RowValues<'a, T> {
             return self.whole;
         };
         let place = places.at(column);
-        self.map.said(place)
+        self.map.value_at_change(place)
     }
 
     /// The value of the cell in a column.
@@ -111,7 +111,7 @@ impl<'a, T: Copy> RowValues<'a, T> {
         if let None = &self.places {
             return self.whole;
         }
-        match self.told(column) {
+        match self.known(column) {
             Some(value) => value,
             None => self.look_up(column),
         }

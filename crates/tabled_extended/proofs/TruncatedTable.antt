@@ -4,7 +4,7 @@ use Rattle.std.specs.Prelude.{OnErr, OnOk}
 use Rattle.std.specs.List.{AllZip}
 use Rattle.tabled_set.specs.CellChanges.{in_room}
 use Rattle.tabled_extended.specs.Truncated.{AreTruncated, IsTruncated}
-use Rattle.tabled_extended.specs.declared.rooms.Rooms.{Rooms}
+use Rattle.tabled_extended.specs.declared.text_widths.TextWidths.{TextWidths}
 
 pub on_err : {T E P Q : Type 0} (r : Result T E) → (P → Q) → OnErr r P → OnErr r Q
 on_err (Ok x) f h = h
@@ -15,11 +15,11 @@ pub err_in_some : {T E : Type 0} (r : Result T E) (room : Option ℕ) (n : ℕ) 
 err_in_some (Ok x) room n stops e h = h
 err_in_some (Err d) room n stops e h = (n, e, h)
 
-pub ok_both : {T E : Type 0} (r : Result T E) (suffix : List ℕ) (rooms : Rooms) (fields : List (List ℕ)) (records : List (List (List ℕ)))
-    (fields' : List (List ℕ)) (records' : List (List (List ℕ))) → AllZip (in_room (IsTruncated suffix) rooms.fields) fields fields'
-    → OnOk r (AllZip (AllZip (IsTruncated suffix rooms.values)) records records') → OnOk r (AreTruncated suffix rooms fields records fields' records')
-ok_both (Ok x) suffix rooms fields records fields' records' f h = record { each_field = f; each_value = h }
-ok_both (Err d) suffix rooms fields records fields' records' f h = h
+pub ok_both : {T E : Type 0} (r : Result T E) (suffix : List ℕ) (text_widths : TextWidths) (fields : List (List ℕ)) (records : List (List (List ℕ)))
+    (fields' : List (List ℕ)) (records' : List (List (List ℕ))) → AllZip (in_room (IsTruncated suffix) text_widths.fields) fields fields'
+    → OnOk r (AllZip (AllZip (IsTruncated suffix text_widths.values)) records records') → OnOk r (AreTruncated suffix text_widths fields records fields' records')
+ok_both (Ok x) suffix text_widths fields records fields' records' f h = record { each_field = f; each_value = h }
+ok_both (Err d) suffix text_widths fields records fields' records' f h = h
 
 each_as : (R S : List ℕ → List ℕ → Type 0) → ((x y : List ℕ) → R x y → S x y) → (xs ys : List (List ℕ)) → AllZip R xs ys → AllZip S xs ys
 each_as R S f [] [] h = tt

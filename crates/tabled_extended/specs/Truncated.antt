@@ -34,28 +34,28 @@ use Rattle.tabled_set.specs.CellChanges.{in_room}
 use Rattle.tabled_set.specs.Truncated.{suffix_columns}
 use Rattle.tabled_text.specs.Cut.{IsCut, IsLongestReached, missing_columns}
 use Rattle.tabled_extended.specs.RecordLines.{widest}
-use Rattle.tabled_extended.specs.declared.rooms.Rooms.{Rooms}
+use Rattle.tabled_extended.specs.declared.text_widths.TextWidths.{TextWidths}
 
--- ---- the rooms of the texts
+-- ---- the text widths of the texts
 
 -- the columns of the usual header that has the number of the records: 13, and its digits
 abbrev pub least_columns : ℕ → ℕ
 least_columns count = 13 + length (decimal count)
 
 -- values have what fields of f columns, the bar and a suffix of s columns leave
-abbrev pub value_rooms : ℕ → ℕ → ℕ → Option Rooms
-value_rooms f s left = if nat_lt left (f + 3 + s) then None else Some (record { fields = None; values = left - (f + 3 + s) })
+abbrev pub value_widths : ℕ → ℕ → ℕ → Option TextWidths
+value_widths f s left = if nat_lt left (f + 3 + s) then None else Some (record { fields = None; values = left - (f + 3 + s) })
 
 -- fields have what the bar and the suffix leave, and values have nothing
-abbrev pub field_rooms : ℕ → ℕ → Option Rooms
-field_rooms s left = if nat_lt left (3 + s) then None else Some (record { fields = Some (left - (3 + s)); values = 0 })
+abbrev pub field_widths : ℕ → ℕ → Option TextWidths
+field_widths s left = if nat_lt left (3 + s) then None else Some (record { fields = Some (left - (3 + s)); values = 0 })
 
--- the rooms in so many columns, over fields of f columns and a suffix of s: fields stay where they and the bar find room
+-- the text widths in so many columns, over fields of f columns and a suffix of s: fields stay where they and the bar find room
 -- beside the suffix. None where the usual header doesn't, or the suffix, or the texts
-abbrev pub rooms_in : ℕ → ℕ → ℕ → ℕ → Option Rooms
-rooms_in max count f s =
+abbrev pub text_widths_in : ℕ → ℕ → ℕ → ℕ → Option TextWidths
+text_widths_in max count f s =
     if nat_lt max (least_columns count) || nat_lt max s then None
-    else (if nat_lt (max - s) (f + 3) then field_rooms s (max - s) else value_rooms f s (max - s))
+    else (if nat_lt (max - s) (f + 3) then field_widths s (max - s) else value_widths f s (max - s))
 
 -- ---- one text
 
@@ -106,30 +106,30 @@ StopsInRecords suffix n old new = IsStopped (AllZip (IsTruncated suffix n)) (Sto
 
 -- ---- the table
 
--- fields and values are truncated to their rooms
-pub record AreTruncated (suffix : List ℕ) (rooms : Rooms) (fields : List (List ℕ)) (records : List (List (List ℕ)))
+-- fields and values are truncated to their text widths
+pub record AreTruncated (suffix : List ℕ) (text_widths : TextWidths) (fields : List (List ℕ)) (records : List (List (List ℕ)))
     (fields' : List (List ℕ)) (records' : List (List (List ℕ))) : Type 0 where
-  pub each_field : AllZip (in_room (IsTruncated suffix) rooms.fields) fields fields'
-  pub each_value : AllZip (AllZip (IsTruncated suffix rooms.values)) records records'
+  pub each_field : AllZip (in_room (IsTruncated suffix) text_widths.fields) fields fields'
+  pub each_value : AllZip (AllZip (IsTruncated suffix text_widths.values)) records records'
 
 -- memory was refused: at a field, and all records stay, or at a value, below truncated fields
-abbrev pub StopsTruncating : List ℕ → Rooms → List (List ℕ) → List (List (List ℕ)) → List (List ℕ) → List (List (List ℕ)) → Type 0
-StopsTruncating suffix rooms fields records fields' records' =
-    ((n : ℕ) × (rooms.fields ≡ Some n) × StopsInRecord suffix n fields fields' × (records' ≡ records))
-    ⊎ (AllZip (in_room (IsTruncated suffix) rooms.fields) fields fields' × StopsInRecords suffix rooms.values records records')
+abbrev pub StopsTruncating : List ℕ → TextWidths → List (List ℕ) → List (List (List ℕ)) → List (List ℕ) → List (List (List ℕ)) → Type 0
+StopsTruncating suffix text_widths fields records fields' records' =
+    ((n : ℕ) × (text_widths.fields ≡ Some n) × StopsInRecord suffix n fields fields' × (records' ≡ records))
+    ⊎ (AllZip (in_room (IsTruncated suffix) text_widths.fields) fields fields' × StopsInRecords suffix text_widths.values records records')
 
--- the table has rooms in so many columns, and by these
-pub record InRooms (max : ℕ) (suffix : List ℕ) (fields : List (List ℕ)) (records : List (List (List ℕ))) (leaves : Rooms → Type 0) : Type 0 where
-  pub rooms : Rooms
-  pub found : rooms_in max (length records) (widest fields) (suffix_columns suffix) ≡ Some rooms
-  pub left : leaves rooms
+-- the table has text widths in so many columns, and by these
+pub record InTextWidths (max : ℕ) (suffix : List ℕ) (fields : List (List ℕ)) (records : List (List (List ℕ))) (leaves : TextWidths → Type 0) : Type 0 where
+  pub text_widths : TextWidths
+  pub found : text_widths_in max (length records) (widest fields) (suffix_columns suffix) ≡ Some text_widths
+  pub left : leaves text_widths
 
--- what truncating leaves, by its answer: yes, and all texts are truncated; no, and they stay, for want of rooms; refused for
+-- what truncating leaves, by its answer: yes, and all texts are truncated; no, and they stay, for want of text widths; refused for
 -- memory alone, and they are truncated up to one
 abbrev pub Truncates : ℕ → List ℕ → List (List ℕ) → List (List (List ℕ)) → Result Bool TableError → List (List ℕ) → List (List (List ℕ)) → Type 0
-Truncates max suffix fields records (Ok true) fields' records' = InRooms max suffix fields records
-    (λ rooms. AreTruncated suffix rooms fields records fields' records')
+Truncates max suffix fields records (Ok true) fields' records' = InTextWidths max suffix fields records
+    (λ text_widths. AreTruncated suffix text_widths fields records fields' records')
 Truncates max suffix fields records (Ok false) fields' records' =
-    (rooms_in max (length records) (widest fields) (suffix_columns suffix) ≡ None) × (fields' ≡ fields) × (records' ≡ records)
+    (text_widths_in max (length records) (widest fields) (suffix_columns suffix) ≡ None) × (fields' ≡ fields) × (records' ≡ records)
 Truncates max suffix fields records (Err e) fields' records' =
-    (e ≡ Memory) × InRooms max suffix fields records (λ rooms. StopsTruncating suffix rooms fields records fields' records')
+    (e ≡ Memory) × InTextWidths max suffix fields records (λ text_widths. StopsTruncating suffix text_widths fields records fields' records')

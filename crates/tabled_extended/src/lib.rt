@@ -4,7 +4,7 @@
 //!   copies.
 //! - `printing.rt`: the lines of records.
 //! - `template.rt`, `fn_template.rt`, `label_fn.rt`, `titles.rt`: the header of a record.
-//! - `truncating.rt`, `rooms.rt`: records truncated to a width, and what it leaves for each text.
+//! - `truncating.rt`, `text_widths.rt`: records truncated to a width, and what it leaves for each text.
 //! - `escaping.rt`: control characters, quotes and backslashes, escaped.
 #![tactic(auto)]
 
@@ -15,8 +15,8 @@ mod fn_template;
 mod label_fn;
 mod making;
 mod printing;
-mod rooms;
 mod template;
+mod text_widths;
 mod titles;
 mod truncating;
 

@@ -12,10 +12,10 @@ ghost use Rattle.tabled_extended.specs.PrintedRecords.{IsTooWide, PrintsRecord, 
 
 use crate::extended_table::ExtendedTable;
 use crate::template::Template;
-use crate::titles::{put_title, title_width};
+use crate::titles::{title_width, write_title};
 use std::fmt;
 use tabled_base::{CellText, TableError, Text};
-use tabled_line::{TextSink, put_break, put_fill};
+use tabled_line::{TextSink, write_break, write_fill};
 
 /// The columns of the widest field and of the widest value.
 #[derive(Clone, Copy)]
@@ -47,26 +47,30 @@ pub(crate) fn widest_value(records: &[Vec<Text<String>>]) -> usize
 }
 
 /// The dashes over a record from the column of the bar on.
-fn put_cross<S: TextSink>(sink: &mut S, before: usize, behind: usize) -> Result<(), TableError>
+fn write_cross<S: TextSink>(sink: &mut S, before: usize, behind: usize) -> Result<(), TableError>
     ensures { Writes (S.sent sink.old) result (S.sent sink.new)
         (fill 45 before ++ (43 ∷ fill 45 behind)) }
 {
-    put_fill(sink, '-', before)?;
+    write_fill(sink, '-', before)?;
     sink.write_text("+")?;
-    put_fill(sink, '-', behind)
+    write_fill(sink, '-', behind)
 }
 
 /// What stands behind a title of so many columns.
-fn put_rule<S: TextSink>(sink: &mut S, widths: Widths, columns: usize) -> Result<(), TableError>
+fn write_title_rule<S: TextSink>(
+    sink: &mut S,
+    widths: Widths,
+    columns: usize,
+) -> Result<(), TableError>
     requires { widths.field + 3 + widths.value < 2 ^ 64 }
     ensures { Writes (S.sent sink.old) result (S.sent sink.new) (rule_behind widths.field widths.value columns) }
 {
     let whole = widths.field + 3 + widths.value;
     if columns < whole {
         if columns < widths.field + 2 {
-            put_cross(sink, widths.field + 1 - columns, widths.value + 1)
+            write_cross(sink, widths.field + 1 - columns, widths.value + 1)
         } else {
-            put_fill(sink, '-', whole - columns)
+            write_fill(sink, '-', whole - columns)
         }
     } else {
         Ok(())
@@ -74,16 +78,16 @@ fn put_rule<S: TextSink>(sink: &mut S, widths: Widths, columns: usize) -> Result
 }
 
 /// The text of a template between dashes, and what stands behind it.
-fn put_titled<S: TextSink>(sink: &mut S, widths: Widths, label: &str) -> Result<(), TableError>
+fn write_titled<S: TextSink>(sink: &mut S, widths: Widths, label: &str) -> Result<(), TableError>
     requires { widths.field + 3 + widths.value < 2 ^ 64 }
     ensures { Writes (S.sent sink.old) result (S.sent sink.new) (header widths.field widths.value (title label.now)) }
 {
-    put_title(sink, label)?;
-    put_rule(sink, widths, title_width(label))
+    write_title(sink, label)?;
+    write_title_rule(sink, widths, title_width(label))
 }
 
 /// The first line of a record.
-fn put_header<S: TextSink>(
+fn write_header<S: TextSink>(
     sink: &mut S,
     begun: &mut bool,
     widths: Widths,
@@ -93,8 +97,8 @@ fn put_header<S: TextSink>(
     ensures { WritesLines (S.sent sink.old) begun.old result (S.sent sink.new) begun.new
         (header widths.field widths.value (title label.now) ∷ []) }
 {
-    put_break(sink, begun)?;
-    put_titled(sink, widths, label)
+    write_break(sink, begun)?;
+    write_titled(sink, widths, label)
 }
 
 /// The columns that are left behind a field.
@@ -105,7 +109,7 @@ fn padding(columns: usize, field: &Text<String>) -> usize
 }
 
 /// A field, spaces, the bar and a value.
-fn put_pieces<S: TextSink>(
+fn write_field_line<S: TextSink>(
     sink: &mut S,
     field: &str,
     spaces: usize,
@@ -115,13 +119,13 @@ fn put_pieces<S: TextSink>(
         (field.now ++ (fill 32 spaces ++ (codes " | " ++ value.now))) }
 {
     sink.write_text(field)?;
-    put_fill(sink, ' ', spaces)?;
+    write_fill(sink, ' ', spaces)?;
     sink.write_text(" | ")?;
     sink.write_text(value)
 }
 
 /// A field and its value.
-fn put_shown<S: TextSink>(
+fn write_shown_field<S: TextSink>(
     sink: &mut S,
     columns: usize,
     field: &Text<String>,
@@ -129,11 +133,11 @@ fn put_shown<S: TextSink>(
 ) -> Result<(), TableError>
     ensures { Writes (S.sent sink.old) result (S.sent sink.new) (value_line columns (field.now, value.now)) }
 {
-    put_pieces(sink, field.text(), padding(columns, field), value.text())
+    write_field_line(sink, field.text(), padding(columns, field), value.text())
 }
 
 /// The line of a field.
-fn put_value<S: TextSink>(
+fn write_value_line<S: TextSink>(
     sink: &mut S,
     begun: &mut bool,
     columns: usize,
@@ -143,12 +147,12 @@ fn put_value<S: TextSink>(
     ensures { WritesLines (S.sent sink.old) begun.old result (S.sent sink.new) begun.new
         (value_line columns (field.now, value.now) ∷ []) }
 {
-    put_break(sink, begun)?;
-    put_shown(sink, columns, field, value)
+    write_break(sink, begun)?;
+    write_shown_field(sink, columns, field, value)
 }
 
 /// A line for each field that has a value.
-fn put_values<S: TextSink>(
+fn write_value_lines<S: TextSink>(
     sink: &mut S,
     begun: &mut bool,
     columns: usize,
@@ -160,13 +164,13 @@ fn put_values<S: TextSink>(
 {
     let count = fields.len().min(values.len());
     'values: for index in 0..count {
-        put_value(sink, begun, columns, &fields[index], &values[index])?;
+        write_value_line(sink, begun, columns, &fields[index], &values[index])?;
     }
     Ok(())
 }
 
 /// The lines of a record under a text of the template.
-fn put_lines<S: TextSink>(
+fn write_record_lines<S: TextSink>(
     sink: &mut S,
     begun: &mut bool,
     widths: Widths,
@@ -178,8 +182,8 @@ fn put_lines<S: TextSink>(
     ensures { WritesLines (S.sent sink.old) begun.old result (S.sent sink.new) begun.new
         (record_lines widths.field widths.value fields.now label.now values.now) }
 {
-    put_header(sink, begun, widths, label)?;
-    put_values(sink, begun, widths.field, fields, values)
+    write_header(sink, begun, widths, label)?;
+    write_value_lines(sink, begun, widths.field, fields, values)
 }
 
 /// The values of a record.
@@ -191,7 +195,7 @@ fn values_at(records: &[Vec<Text<String>>], index: usize) -> &[Text<String>]
 }
 
 /// The lines of a record, under a text that the template answers for its index.
-fn put_record<F: Template, S: TextSink>(
+fn write_record<F: Template, S: TextSink>(
     sink: &mut S,
     begun: &mut bool,
     table: &ExtendedTable<F>,
@@ -208,11 +212,11 @@ fn put_record<F: Template, S: TextSink>(
     let alloc = *table.fields.allocator();
     let label = table.template.label(alloc, index)?;
     let values = values_at(table.records.as_slice(), index);
-    put_lines(sink, begun, widths, table.fields.as_slice(), &label, values)
+    write_record_lines(sink, begun, widths, table.fields.as_slice(), &label, values)
 }
 
 /// The lines of all records.
-fn put_records<F: Template, S: TextSink>(
+fn write_records<F: Template, S: TextSink>(
     sink: &mut S,
     table: &ExtendedTable<F>,
     widths: Widths,
@@ -225,7 +229,7 @@ fn put_records<F: Template, S: TextSink>(
 {
     let mut begun = false;
     'records: for index in 0..table.records.len() {
-        put_record(sink, &mut begun, table, widths, index)?;
+        write_record(sink, &mut begun, table, widths, index)?;
     }
     Ok(())
 }
@@ -251,7 +255,7 @@ impl<F: Template> ExtendedTable<F> {
         if !is_in_range(widths) {
             return Err(TableError::Range);
         }
-        put_records(sink, self, widths)
+        write_records(sink, self, widths)
     }
 
     /// The text that `write_to` writes. Refused as `write_to` is.

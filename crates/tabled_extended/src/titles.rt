@@ -9,7 +9,7 @@ use tabled_line::TextSink;
 use tabled_text::{line_width, lines};
 
 /// A text between dashes.
-pub(crate) fn put_title<S: TextSink>(sink: &mut S, label: &str) -> Result<(), TableError>
+pub(crate) fn write_title<S: TextSink>(sink: &mut S, label: &str) -> Result<(), TableError>
     ensures { Writes (S.sent sink.old) result (S.sent sink.new) (title label.now) }
 {
     sink.write_text("-")?;

@@ -8,23 +8,23 @@ ghost use Rattle.tabled_extended.specs.Truncated.{AreTruncated, IsRefused, IsTru
 
 use crate::extended_table::ExtendedTable;
 use crate::printing::widest;
-use crate::rooms::{Rooms, rooms_in};
+use crate::text_widths::{TextWidths, text_widths_in};
 use std::alloc::{AllocError, Global};
 use tabled_base::{CellText, TableError, Text};
 use tabled_text::cut_str;
 
-/// A text cut to a room, with the suffix behind it; none where nothing was cut off.
+/// A text cut to a width limit, with the suffix behind it; none where nothing was cut off.
 fn truncated(
     alloc: Global,
     text: &str,
-    room: usize,
+    width_limit: usize,
     suffix: &str,
 ) -> Result<Option<String>, AllocError>
-    ensures ok { IfOk result (λ answer. MatchOption answer (IsTruncated suffix.now room text.now text.now)
-        (λ answer. IsTruncated suffix.now room text.now (string_bytes answer))) }
-    ensures err { OnErr result (TakesMemory suffix.now room text.now) }
+    ensures ok { IfOk result (λ answer. MatchOption answer (IsTruncated suffix.now width_limit text.now text.now)
+        (λ answer. IsTruncated suffix.now width_limit text.now (string_bytes answer))) }
+    ensures err { OnErr result (TakesMemory suffix.now width_limit text.now) }
 {
-    let cut = cut_str(alloc, text, room)?;
+    let cut = cut_str(alloc, text, width_limit)?;
     if *cut == *text {
         return Ok(None);
     }
@@ -38,14 +38,14 @@ fn truncated(
 fn truncate_text(
     alloc: Global,
     text: &mut Text<String>,
-    room: usize,
+    width_limit: usize,
     suffix: &str,
 ) -> Result<(), TableError>
-    ensures ok { OnOk result (IsTruncated suffix.now room text.old text.new) }
-    ensures err { OnErr result (IsRefused suffix.now room text.old text.new) }
+    ensures ok { OnOk result (IsTruncated suffix.now width_limit text.old text.new) }
+    ensures err { OnErr result (IsRefused suffix.now width_limit text.old text.new) }
     ensures only { IfErr result (λ e. e ≡ Memory) }
 {
-    if let Some(answer) = truncated(alloc, text.text(), room, suffix)? {
+    if let Some(answer) = truncated(alloc, text.text(), width_limit, suffix)? {
         *text = Text::new(answer);
     }
     Ok(())
@@ -55,31 +55,31 @@ fn truncate_text(
 fn truncate_row(
     alloc: Global,
     row: &mut Vec<Text<String>>,
-    room: usize,
+    width_limit: usize,
     suffix: &str,
 ) -> Result<(), TableError>
-    ensures ok { OnOk result (AllZip (IsTruncated suffix.now room) row.old.items row.new.items) }
-    ensures err { OnErr result (StopsInRecord suffix.now room row.old.items row.new.items) }
+    ensures ok { OnOk result (AllZip (IsTruncated suffix.now width_limit) row.old.items row.new.items) }
+    ensures err { OnErr result (StopsInRecord suffix.now width_limit row.old.items row.new.items) }
     ensures only { IfErr result (λ e. e ≡ Memory) }
 {
     'texts: for index in 0..row.len() {
-        truncate_text(alloc, &mut row[index], room, suffix)?;
+        truncate_text(alloc, &mut row[index], width_limit, suffix)?;
     }
     Ok(())
 }
 
-/// Truncates the texts of a row that has a room.
-fn truncate_in_room(
+/// Truncates the texts of a row that has a width limit.
+fn truncate_if_limited(
     alloc: Global,
     row: &mut Vec<Text<String>>,
-    room: Option<usize>,
+    width_limit: Option<usize>,
     suffix: &str,
 ) -> Result<(), TableError>
-    ensures ok { OnOk result (AllZip (in_room (IsTruncated suffix.now) room) row.old.items row.new.items) }
-    ensures err { OnErr result ((n : ℕ) × (room ≡ Some n) × StopsInRecord suffix.now n row.old.items row.new.items) }
+    ensures ok { OnOk result (AllZip (in_room (IsTruncated suffix.now) width_limit) row.old.items row.new.items) }
+    ensures err { OnErr result ((n : ℕ) × (width_limit ≡ Some n) × StopsInRecord suffix.now n row.old.items row.new.items) }
     ensures only { IfErr result (λ e. e ≡ Memory) }
 {
-    match room {
+    match width_limit {
         Some(columns) => truncate_row(alloc, row, columns, suffix),
         None => Ok(()),
     }
@@ -89,32 +89,32 @@ fn truncate_in_room(
 fn truncate_rows(
     alloc: Global,
     rows: &mut Vec<Vec<Text<String>>>,
-    room: usize,
+    width_limit: usize,
     suffix: &str,
 ) -> Result<(), TableError>
-    ensures ok { OnOk result (AllZip (AllZip (IsTruncated suffix.now room)) (row_texts rows.old.items) (row_texts rows.new.items)) }
-    ensures err { OnErr result (StopsInRecords suffix.now room (row_texts rows.old.items) (row_texts rows.new.items)) }
+    ensures ok { OnOk result (AllZip (AllZip (IsTruncated suffix.now width_limit)) (row_texts rows.old.items) (row_texts rows.new.items)) }
+    ensures err { OnErr result (StopsInRecords suffix.now width_limit (row_texts rows.old.items) (row_texts rows.new.items)) }
     ensures only { IfErr result (λ e. e ≡ Memory) }
 {
     'rows: for index in 0..rows.len() {
-        truncate_row(alloc, &mut rows[index], room, suffix)?;
+        truncate_row(alloc, &mut rows[index], width_limit, suffix)?;
     }
     Ok(())
 }
 
 impl<F> ExtendedTable<F> {
-    /// Truncates fields, if they have a room, and values.
-    fn truncate_to(&mut self, rooms: Rooms, suffix: &str) -> Result<(), TableError>
-        ensures ok { OnOk result (AreTruncated suffix.now rooms self.old.fields.items (row_texts self.old.records.items)
+    /// Truncates fields, if they have a width limit, and values.
+    fn truncate_to(&mut self, text_widths: TextWidths, suffix: &str) -> Result<(), TableError>
+        ensures ok { OnOk result (AreTruncated suffix.now text_widths self.old.fields.items (row_texts self.old.records.items)
             self.new.fields.items (row_texts self.new.records.items)) }
-        ensures err { OnErr result (StopsTruncating suffix.now rooms self.old.fields.items (row_texts self.old.records.items)
+        ensures err { OnErr result (StopsTruncating suffix.now text_widths self.old.fields.items (row_texts self.old.records.items)
             self.new.fields.items (row_texts self.new.records.items)) }
         ensures only { IfErr result (λ e. e ≡ Memory) }
         ensures template { self.new.template ≡ self.old.template }
     {
         let alloc = *self.fields.allocator();
-        truncate_in_room(alloc, &mut self.fields, rooms.fields, suffix)?;
-        truncate_rows(alloc, &mut self.records, rooms.values, suffix)
+        truncate_if_limited(alloc, &mut self.fields, text_widths.fields, suffix)?;
+        truncate_rows(alloc, &mut self.records, text_widths.values, suffix)
     }
 
     /// Truncates the texts for lines of `max` columns, less those of the suffix, and answers whether it could. Where a bar
@@ -131,9 +131,9 @@ impl<F> ExtendedTable<F> {
         ensures template { self.new.template ≡ self.old.template }
     {
         let field = widest(self.fields.as_slice());
-        match rooms_in(max, self.records.len(), field, suffix) {
-            Some(rooms) => {
-                self.truncate_to(rooms, suffix)?;
+        match text_widths_in(max, self.records.len(), field, suffix) {
+            Some(text_widths) => {
+                self.truncate_to(text_widths, suffix)?;
                 Ok(true)
             }
             None => Ok(false),

@@ -4,5 +4,5 @@ pub mod ApartPictures
 pub mod EstimatedSizes
 pub mod Measuring
 pub mod Printing
-pub mod StandingSizes
+pub mod EffectiveSizes
 pub mod Whole

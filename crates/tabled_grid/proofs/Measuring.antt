@@ -15,7 +15,7 @@ use Rattle.tabled_config.specs.Settings.{frame, style_at}
 use Rattle.tabled_size.specs.Sheet.{Sheet}
 use Rattle.tabled_priority.specs.Sums.{one_if, sum_below}
 use Rattle.tabled_size.specs.Totals.{filled_width}
-use Rattle.tabled_line.specs.Block.{text_room, columns_before, cell_line, block, fill_above}
+use Rattle.tabled_line.specs.Block.{inner_width, columns_before, cell_line, block, fill_above}
 use Rattle.tabled_size.specs.Holds.{Holds}
 use Rattle.tabled_line.specs.Row.{cell_piece, row_line, rule_line}
 use Rattle.tabled_grid.specs.Picture.{columns_of, row_of}
@@ -60,8 +60,8 @@ plain-cell_line s w text j p l =
     let line = get_or (lines_of text) j [] in
     let le = line_columns-le text j l in
     let fits = p.fits in
-    let before = columns_before-fits s (text_room s w) text line le (omega arith) in
-    let room = text_room s w in
+    let before = columns_before-fits s (inner_width s w) text line le (omega arith) in
+    let room = inner_width s w in
     let indented = columns_before s room text line in
     plain_line-as
     (plain_line-append (plain-fill s.padding.left.fill s.padding.left.size p.style.left)

@@ -9,8 +9,8 @@ ghost use Rattle.tabled_line.specs.Plain.{IsPlainRule};
 ghost use Rattle.tabled_grid.specs.ApartSheet.{IsApartConfig};
 
 use crate::plain::are_plain_rules;
-use tabled_text::{is_additive_column, is_separator_column};
 use tabled_config::{CellStyle, Frame, SpannedConfig};
+use tabled_text::{is_additive_column, is_separator_column};
 
 fn is_apart_frame(frame: Frame) -> bool
     ensures { IsTrue result ↔ IsApartFrame frame }

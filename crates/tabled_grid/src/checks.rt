@@ -4,10 +4,10 @@ ghost use Rattle.std.specs.List.{slice_index};
 ghost use Rattle.tabled_base.specs.Cells.{columns};
 ghost use Rattle.tabled_base.specs.declared.error.TableError.TheVariants.{ShortHeights, ShortWidths};
 ghost use Rattle.tabled_config.specs.Settings.{style_at};
-ghost use Rattle.tabled_entity.specs.ToldValues.{told_value};
-ghost use Rattle.tabled_line.specs.Aims.{AreAims, IsAimed, aim_of};
+ghost use Rattle.tabled_entity.specs.KnownValues.{known_value};
+ghost use Rattle.tabled_line.specs.Placements.{ArePlacements, IsPlaceable, placement_of};
 ghost use Rattle.tabled_size.specs.Reached.{reached};
-ghost use Rattle.tabled_size.specs.Standing.{standing};
+ghost use Rattle.tabled_size.specs.Effective.{effective};
 ghost use Rattle.tabled_size.specs.Totals.{filled_width};
 ghost use Rattle.tabled_size.specs.Holds.{Holds, IsHeld, IsSized};
 ghost use Rattle.tabled_grid.specs.Narrow.{IsNarrow, IsNarrowIn};
@@ -17,8 +17,8 @@ ghost use Rattle.tabled_grid.specs.Printed.{IsInRange, IsRefused};
 use crate::grid::Grid;
 use tabled_base::{PeekableRecords, Position, TableError};
 use tabled_config::{Indent, Sides, SpannedConfig};
-use tabled_entity::ToldValues;
-use tabled_line::{Aim, CellAim};
+use tabled_entity::KnownValues;
+use tabled_line::{CellPlacement, Placement};
 use tabled_size::{
     CompleteDimension, Dimension, check_heights, check_widths, filled_height, filled_width,
 };
@@ -43,36 +43,36 @@ fn is_held<R: PeekableRecords, D: Dimension>(
 }
 
 /// Whether a text finds room in its column, in which padding leaves it so much.
-fn has_room<R: PeekableRecords, D: Dimension>(
+fn fits_placement<R: PeekableRecords, D: Dimension>(
     grid: &Grid<'_, R, D>,
     row: usize,
     column: usize,
-    aim: Aim,
+    placement: Placement,
 ) -> bool
     requires row_in { row < length grid.now.cells }
     requires column_in { column < columns grid.now.cells }
-    requires aim { aim ≡ aim_of (style_at grid.now.config row column) (slice_index grid.now.widths column) }
-    requires aimed { IsAimed (style_at grid.now.config row column) (slice_index grid.now.widths column) }
+    requires placement { placement ≡ placement_of (style_at grid.now.config row column) (slice_index grid.now.widths column) }
+    requires placeable { IsPlaceable (style_at grid.now.config row column) (slice_index grid.now.widths column) }
     ensures { IsTrue result ↔ IsHeld grid.now row column }
 {
-    grid.records.get_width(Position { row, column }) <= aim.room
+    grid.records.get_width(Position { row, column }) <= placement.content_width
 }
 
 /// The first column of a row that doesn't hold its cell, where it is known where the texts stand.
-fn narrow_aimed<R: PeekableRecords, D: Dimension>(
+fn narrow_by_placements<R: PeekableRecords, D: Dimension>(
     grid: &Grid<'_, R, D>,
     row: usize,
-    aims: &[CellAim],
+    placements: &[CellPlacement],
 ) -> Option<usize>
     requires sized { columns grid.now.cells ≤ length grid.now.widths }
     requires row_in { row < length grid.now.cells }
-    requires aims { AreAims (style_at grid.now.config row) (columns_of grid.now) aims.now }
+    requires placements { ArePlacements (style_at grid.now.config row) (columns_of grid.now) placements.now }
     ensures none { IfNone result ((c : ℕ) → c < columns grid.now.cells
         → IsHeld grid.now row c) }
     ensures some { IfSome result (IsNarrowIn grid.now row) }
 {
-    'columns: for column in 0..aims.len() {
-        if !has_room(grid, row, column, aims[column].aim) {
+    'columns: for column in 0..placements.len() {
+        if !fits_placement(grid, row, column, placements[column].placement) {
             return Some(column);
         }
     }
@@ -80,15 +80,15 @@ fn narrow_aimed<R: PeekableRecords, D: Dimension>(
 }
 
 /// The first column of a row that doesn't hold its cell, by the padding that is told of each.
-fn narrow_told<R: PeekableRecords, D: Dimension>(
+fn narrow_by_known<R: PeekableRecords, D: Dimension>(
     grid: &Grid<'_, R, D>,
     row: usize,
-    paddings: ToldValues<'_, Sides<Indent>>,
+    paddings: KnownValues<'_, Sides<Indent>>,
 ) -> Option<usize>
     requires sized { columns grid.now.cells ≤ length grid.now.widths }
     requires row_in { row < length grid.now.cells }
     requires told { (column : ℕ) → column < columns grid.now.cells
-        → told_value paddings column ≡ (style_at grid.now.config row column).padding }
+        → known_value paddings column ≡ (style_at grid.now.config row column).padding }
     ensures none { IfNone result ((c : ℕ) → c < columns grid.now.cells
         → IsHeld grid.now row c) }
     ensures some { IfSome result (IsNarrowIn grid.now row) }
@@ -103,7 +103,10 @@ fn narrow_told<R: PeekableRecords, D: Dimension>(
 
 /// The first column of a row that doesn't hold its cell, by the padding that was set for each.
 #[inline(never)]
-fn narrow_set<R: PeekableRecords, D: Dimension>(grid: &Grid<'_, R, D>, row: usize) -> Option<usize>
+fn narrow_by_lookup<R: PeekableRecords, D: Dimension>(
+    grid: &Grid<'_, R, D>,
+    row: usize,
+) -> Option<usize>
     requires sized { columns grid.now.cells ≤ length grid.now.widths }
     requires row_in { row < length grid.now.cells }
     ensures none { IfNone result ((c : ℕ) → c < columns grid.now.cells
@@ -127,12 +130,12 @@ fn narrow_in<R: PeekableRecords, D: Dimension>(grid: &Grid<'_, R, D>, row: usize
         → IsHeld grid.now row c) }
     ensures some { IfSome result (IsNarrowIn grid.now row) }
 {
-    if let Some(aims) = grid.aims(row) {
-        return narrow_aimed(grid, row, aims);
+    if let Some(placements) = grid.placements(row) {
+        return narrow_by_placements(grid, row, placements);
     }
     match grid.config.told_paddings(row, grid.count_columns()) {
-        Some(paddings) => narrow_told(grid, row, paddings),
-        None => narrow_set(grid, row),
+        Some(paddings) => narrow_by_known(grid, row, paddings),
+        None => narrow_by_lookup(grid, row),
     }
 }
 
@@ -191,9 +194,9 @@ fn check_stored_widths<R: PeekableRecords>(
     stored: &CompleteDimension,
 ) -> Result<(), TableError>
     ensures ok { OnOk result (columns (R.cells records.now)
-        ≤ length (standing (R.cells records.now) config.now stored.now).widths) }
+        ≤ length (effective (R.cells records.now) config.now stored.now).widths) }
     ensures err { IfErr result (λ e. (e ≡ ShortWidths)
-        × (length (standing (R.cells records.now) config.now stored.now).widths
+        × (length (effective (R.cells records.now) config.now stored.now).widths
         < columns (R.cells records.now))) }
 {
     let _config = config;
@@ -210,9 +213,9 @@ fn check_stored_heights<R: PeekableRecords>(
     stored: &CompleteDimension,
 ) -> Result<(), TableError>
     ensures ok { OnOk result (length (R.cells records.now)
-        ≤ length (standing (R.cells records.now) config.now stored.now).heights) }
+        ≤ length (effective (R.cells records.now) config.now stored.now).heights) }
     ensures err { IfErr result (λ e. (e ≡ ShortHeights)
-        × (length (standing (R.cells records.now) config.now stored.now).heights
+        × (length (effective (R.cells records.now) config.now stored.now).heights
         < length (R.cells records.now))) }
 {
     let _config = config;
@@ -229,9 +232,9 @@ fn check_stored_cells<R: PeekableRecords>(
     stored: &CompleteDimension,
 ) -> Result<(), TableError>
     requires { columns (R.cells records.now)
-        ≤ length (standing (R.cells records.now) config.now stored.now).widths }
-    ensures ok { OnOk result (Holds (standing (R.cells records.now) config.now stored.now)) }
-    ensures err { IfErr result (IsNarrow (standing (R.cells records.now) config.now stored.now)) }
+        ≤ length (effective (R.cells records.now) config.now stored.now).widths }
+    ensures ok { OnOk result (Holds (effective (R.cells records.now) config.now stored.now)) }
+    ensures err { IfErr result (IsNarrow (effective (R.cells records.now) config.now stored.now)) }
 {
     match stored.get_widths() {
         Some(_) => check_narrow(&Grid::new(records, config, stored, None)),
@@ -246,9 +249,9 @@ pub(crate) fn check_stored<R: PeekableRecords>(
     config: &SpannedConfig,
     stored: &CompleteDimension,
 ) -> Result<(), TableError>
-    ensures sized { OnOk result (IsSized (standing (R.cells records.now) config.now stored.now)) }
-    ensures holds { OnOk result (Holds (standing (R.cells records.now) config.now stored.now)) }
-    ensures err { IfErr result (IsRefused (standing (R.cells records.now) config.now stored.now)) }
+    ensures sized { OnOk result (IsSized (effective (R.cells records.now) config.now stored.now)) }
+    ensures holds { OnOk result (Holds (effective (R.cells records.now) config.now stored.now)) }
+    ensures err { IfErr result (IsRefused (effective (R.cells records.now) config.now stored.now)) }
 {
     check_stored_widths(records, config, stored)?;
     check_stored_heights(records, config, stored)?;

@@ -4,14 +4,14 @@ ghost use Rattle.std.specs.List.{range_with_len, slice_index};
 ghost use Rattle.tabled_base.specs.declared.error.TableError.TheVariants.{Memory};
 ghost use Rattle.tabled_config.specs.Settings.{style_at};
 ghost use Rattle.tabled_grid.specs.ColumnStyles.{AreStyles, columns_in};
-ghost use Rattle.tabled_line.specs.Aims.{AreAims};
+ghost use Rattle.tabled_line.specs.Placements.{ArePlacements};
 ghost use Rattle.tabled_size.specs.Reached.{reached};
 
-use crate::column_aims::ColumnAims;
+use crate::column_placements::ColumnPlacements;
 use std::alloc::Global;
 use tabled_base::TableError;
 use tabled_config::{CellStyle, SpannedConfig};
-use tabled_line::CellAim;
+use tabled_line::CellPlacement;
 use tabled_size::Dimension;
 
 /// For more columns nothing is kept.
@@ -61,7 +61,7 @@ pub(crate) struct ColumnStyles {
     // Kept in memory alone.
     styles: Option<Vec<CellStyle>>,
     // Where they stand in a row of one line, if that is known for all.
-    aims: Option<ColumnAims>,
+    placements: Option<ColumnPlacements>,
 }
 
 impl ColumnStyles {
@@ -83,7 +83,7 @@ impl ColumnStyles {
             row: rows,
             everywhere: config.are_all_alike(),
             styles: listed_styles(memory, config, rows, columns),
-            aims: ColumnAims::new(memory, config, dimension, rows, columns),
+            placements: ColumnPlacements::new(memory, config, dimension, rows, columns),
         })
     }
 
@@ -108,12 +108,12 @@ impl ColumnStyles {
     }
 
     /// Where the texts stand in a row of one line, if that is kept, and the row is known to be set like the one that is kept.
-    pub fn aims_in_row(&self, config: &SpannedConfig, row: usize) -> Option<&[CellAim]>
+    pub fn placements_in_row(&self, config: &SpannedConfig, row: usize) -> Option<&[CellPlacement]>
         ensures { (width : ℕ → ℕ) (columns : ℕ) → AreStyles config.now width columns self.now
-            → IfSome result (λ aims. AreAims (style_at config.now row) (columns_in config.now width columns) aims.now) }
+            → IfSome result (λ placements. ArePlacements (style_at config.now row) (columns_in config.now width columns) placements.now) }
     {
-        match &self.aims {
-            Some(aims) if self.is_set_in(config, row) => Some(aims.listed()),
+        match &self.placements {
+            Some(placements) if self.is_set_in(config, row) => Some(placements.listed()),
             _ => None,
         }
     }

@@ -5,11 +5,11 @@ ghost use Rattle.tabled_base.specs.Cells.{IsInside, cell_at, columns};
 ghost use Rattle.tabled_config.specs.Frame.{if_any, inner_line};
 ghost use Rattle.tabled_config.specs.RowStyles.{style_in};
 ghost use Rattle.tabled_config.specs.Settings.{frame, rule_at, style_at};
-ghost use Rattle.tabled_config.specs.ToldSides.{TellsSides};
+ghost use Rattle.tabled_config.specs.KnownSides.{DescribesSides};
 ghost use Rattle.tabled_grid.specs.ColumnStyles.{AreStyles};
 ghost use Rattle.tabled_grid.specs.Grid.{sheet_by};
 ghost use Rattle.tabled_grid.specs.Picture.{columns_of};
-ghost use Rattle.tabled_line.specs.Aims.{AreAims, IsSpread};
+ghost use Rattle.tabled_line.specs.Placements.{ArePlacements, IsUniform};
 ghost use Rattle.tabled_size.specs.Holds.{IsSized};
 ghost use Rattle.tabled_size.specs.Reached.{reached};
 ghost use Rattle.tabled_size.specs.Sheet.{Sheet};
@@ -18,8 +18,8 @@ use crate::column_styles::ColumnStyles;
 use std::alloc::Global;
 use std::marker::Model;
 use tabled_base::{PeekableRecords, Position};
-use tabled_config::{CellStyle, Frame, HorizontalLine, RowStyles, SpannedConfig, ToldSides};
-use tabled_line::{CellAim, CellBlock, Content, Gap, Spread};
+use tabled_config::{CellStyle, Frame, HorizontalLine, KnownSides, RowStyles, SpannedConfig};
+use tabled_line::{CellBlock, CellPlacement, ColumnSeparator, Content, UniformPlacement};
 use tabled_size::Dimension;
 
 /// Records, how they are set, and their sizes. Contracts see the sheet that they make.
@@ -37,9 +37,9 @@ pub(crate) struct Grid<'a, R: PeekableRecords, D: Dimension> {
     // The line of the borders between two rows.
     between: Option<HorizontalLine>,
     // What stands between the texts of two columns.
-    gap: Gap,
+    separator: ColumnSeparator,
     // How all texts stand between spaces, if they stand alike.
-    spread: Option<Spread>,
+    uniform: Option<UniformPlacement>,
     by_column: Option<ColumnStyles>,
 }
 
@@ -49,19 +49,19 @@ impl<'a, R: PeekableRecords, D: Dimension> Model for Grid<'a, R, D> {
     ghost view = { λ g. sheet_by (R.cells g.records.now) g.config.now (D.width_at g.dimension.now) (D.height_at g.dimension.now) };
 
     ghost invariant = { λ g. (g.around ≡ frame g.config.now)
-        × (g.gap.bar ≡ (frame g.config.now).inner)
-        × IfSome g.spread (λ spread. (row column : ℕ) → IsSpread (style_at g.config.now row column) spread)
+        × (g.separator.bar ≡ (frame g.config.now).inner)
+        × IfSome g.uniform (λ uniform. (row column : ℕ) → IsUniform (style_at g.config.now row column) uniform)
         × IfSome g.by_column (AreStyles g.config.now (slice_index (reached (D.width_at g.dimension.now) (columns (R.cells g.records.now))))
         (columns (R.cells g.records.now)))
         × (g.between ≡ if_any (inner_line g.config.now.borders)) };
 }
 
 /// How all texts stand between spaces, if nothing was set for a part of the table.
-fn spread_of_all(config: &SpannedConfig) -> Option<Spread>
-    ensures { IfSome result (λ spread. (row column : ℕ) → IsSpread (style_at config.now row column) spread) }
+fn uniform_of_table(config: &SpannedConfig) -> Option<UniformPlacement>
+    ensures { IfSome result (λ uniform. (row column : ℕ) → IsUniform (style_at config.now row column) uniform) }
 {
     let style = config.shared_style()?;
-    Spread::new(&style)
+    UniformPlacement::new(&style)
 }
 
 impl<'a, R: PeekableRecords, D: Dimension> Grid<'a, R, D> {
@@ -76,7 +76,7 @@ impl<'a, R: PeekableRecords, D: Dimension> Grid<'a, R, D> {
     {
         let around = config.frame();
         let between = config.borders.line_at(2, 1);
-        let spread = spread_of_all(config);
+        let uniform = uniform_of_table(config);
         let rows = records.count_rows();
         // Where settings were made for rows alone, each row is asked for its own.
         let by_column = match config.row_style(rows) {
@@ -90,8 +90,8 @@ impl<'a, R: PeekableRecords, D: Dimension> Grid<'a, R, D> {
             memory,
             around,
             between,
-            gap: Gap::new(around.inner),
-            spread,
+            separator: ColumnSeparator::new(around.inner),
+            uniform,
             by_column,
         }
     }
@@ -104,36 +104,36 @@ impl<'a, R: PeekableRecords, D: Dimension> Grid<'a, R, D> {
     }
 
     /// What stands between the texts of two columns in a row of one line.
-    pub fn gap(&self) -> &Gap
+    pub fn separator(&self) -> &ColumnSeparator
         ensures { result.now.bar ≡ (frame self.now.config).inner }
     {
-        &self.gap
+        &self.separator
     }
 
     /// How all texts of a row stand between spaces, if nothing of that was set for columns or cells.
     #[inline(always)]
-    fn row_spread(&self, row: usize) -> Option<Spread>
-        ensures { IfSome result (λ spread. (column : ℕ) → IsSpread (style_at self.now.config row column) spread) }
+    fn uniform_of_row(&self, row: usize) -> Option<UniformPlacement>
+        ensures { IfSome result (λ uniform. (column : ℕ) → IsUniform (style_at self.now.config row column) uniform) }
     {
         let (padding, horizontal) = self.config.row_sides(row)?;
-        Spread::of(padding, horizontal)
+        UniformPlacement::of(padding, horizontal)
     }
 
     /// How all texts of a row stand between spaces, if it is known that they stand alike, and so.
     #[inline(always)]
-    pub fn spread(&self, row: usize) -> Option<Spread>
-        ensures { IfSome result (λ spread. (column : ℕ) → IsSpread (style_at self.now.config row column) spread) }
+    pub fn uniform(&self, row: usize) -> Option<UniformPlacement>
+        ensures { IfSome result (λ uniform. (column : ℕ) → IsUniform (style_at self.now.config row column) uniform) }
     {
-        match self.spread {
-            Some(spread) => Some(spread),
-            None => self.row_spread(row),
+        match self.uniform {
+            Some(uniform) => Some(uniform),
+            None => self.uniform_of_row(row),
         }
     }
 
     /// The padding and the alignment of each text of a row, if they are told by its place.
     #[inline(always)]
-    pub fn sides(&self, row: usize) -> Option<ToldSides<'_>>
-        ensures { IfSome result (λ sides. TellsSides sides (columns self.now.cells) (style_at self.now.config row)) }
+    pub fn sides(&self, row: usize) -> Option<KnownSides<'_>>
+        ensures { IfSome result (λ sides. DescribesSides sides (columns self.now.cells) (style_at self.now.config row)) }
     {
         self.config.told_sides(row, self.count_columns())
     }
@@ -152,10 +152,10 @@ impl<'a, R: PeekableRecords, D: Dimension> Grid<'a, R, D> {
     }
 
     /// Where the cells of a row begin and their texts stand if it is of one line, if that is known for all of them.
-    pub fn aims(&self, row: usize) -> Option<&[CellAim]>
-        ensures { IfSome result (λ aims. AreAims (style_at self.now.config row) (columns_of self.now) aims.now) }
+    pub fn placements(&self, row: usize) -> Option<&[CellPlacement]>
+        ensures { IfSome result (λ placements. ArePlacements (style_at self.now.config row) (columns_of self.now) placements.now) }
     {
-        self.by_column.as_ref()?.aims_in_row(self.config, row)
+        self.by_column.as_ref()?.placements_in_row(self.config, row)
     }
 
     /// How many rows there are.

@@ -5,8 +5,10 @@ ghost use Rattle.tabled_size.specs.Holds.{IsSized};
 
 use crate::grid::Grid;
 use tabled_base::{PeekableRecords, Position};
-use tabled_config::{CellStyle, Frame, RowStyles, ToldSides};
-use tabled_line::{CellAim, CellBlock, Columns, Content, Gap, Row, Spread};
+use tabled_config::{CellStyle, Frame, KnownSides, RowStyles};
+use tabled_line::{
+    CellBlock, CellPlacement, ColumnSeparator, Content, Row, TableColumns, UniformPlacement,
+};
 use tabled_size::Dimension;
 
 /// The columns of a table whose sizes are there.
@@ -17,7 +19,7 @@ pub(crate) struct GridColumns<'a, R: PeekableRecords, D: Dimension> {
     ghost sized: { IsSized grid.now },
 }
 
-impl<'a, R: PeekableRecords, D: Dimension> Columns for GridColumns<'a, R, D> {
+impl<'a, R: PeekableRecords, D: Dimension> TableColumns for GridColumns<'a, R, D> {
     ghost sheet = { λ c. columns_of c.grid.now };
 
     fn count_columns(&self) -> usize {
@@ -59,17 +61,17 @@ impl<'a, R: PeekableRecords, D: Dimension> Row<'a> for GridRow<'a, R, D> {
         self.grid.frame()
     }
 
-    fn gap(&self) -> &Gap {
-        self.grid.gap()
+    fn separator(&self) -> &ColumnSeparator {
+        self.grid.separator()
     }
 
     #[inline(always)]
-    fn spread(&self) -> Option<Spread> {
-        self.grid.spread(self.row)
+    fn uniform(&self) -> Option<UniformPlacement> {
+        self.grid.uniform(self.row)
     }
 
     #[inline(always)]
-    fn sides(&self) -> Option<ToldSides<'_>> {
+    fn sides(&self) -> Option<KnownSides<'_>> {
         self.grid.sides(self.row)
     }
 
@@ -77,8 +79,8 @@ impl<'a, R: PeekableRecords, D: Dimension> Row<'a> for GridRow<'a, R, D> {
         self.grid.styles(self.row)
     }
 
-    fn aims(&self) -> Option<&[CellAim]> {
-        self.grid.aims(self.row)
+    fn placements(&self) -> Option<&[CellPlacement]> {
+        self.grid.placements(self.row)
     }
 
     fn width(&self, column: usize) -> usize {

@@ -4,38 +4,38 @@ ghost use Rattle.std.specs.List.{flat_map, join_with_byte, range_with_len};
 ghost use Rattle.tabled_size.specs.Holds.{IsSized};
 ghost use Rattle.tabled_line.specs.Leading.{WritesLines};
 ghost use Rattle.tabled_line.specs.Sent.{Sent, Writes};
-ghost use Rattle.tabled_line.specs.Kept.{Keeps};
+ghost use Rattle.tabled_line.specs.LineCache.{IsCacheOf};
 ghost use Rattle.std.proofs.Props.{props};
 ghost use Rattle.tabled_grid.specs.Picture.{columns_of, filled_picture, row_part, rule};
 
 use crate::grid::Grid;
 use crate::parts::{GridColumns, GridRow};
 use tabled_base::{PeekableRecords, TableError};
-use tabled_line::{Cursor, Lines, TextSink};
+use tabled_line::{Cursor, LinePrinter, TextSink};
 use tabled_size::Dimension;
 
 /// The lines of a table while they are printed.
 #[derive(Drop)]
 struct Picture<'a, R: PeekableRecords, D: Dimension> {
-    lines: Lines<GridColumns<'a, R, D>>,
-    ghost kept: { Keeps (columns_of lines.columns.grid.now) lines.kept } by { Prim.hlevel props },
+    lines: LinePrinter<GridColumns<'a, R, D>>,
+    ghost kept: { IsCacheOf (columns_of lines.columns.grid.now) lines.kept } by { Prim.hlevel props },
 }
 
 impl<'a, R: PeekableRecords, D: Dimension> Picture<'a, R, D> {
     /// The horizontal line at an index, if it is there.
     #[inline(always)]
     #[tactic(auto, unfolding(crate::specs::Picture::rule))]
-    fn put_rule<S: TextSink>(&mut self, sink: &mut S, index: usize) -> Result<(), TableError>
+    fn write_rule<S: TextSink>(&mut self, sink: &mut S, index: usize) -> Result<(), TableError>
         ensures printed { WritesLines (S.sent sink.old) self.old.lines.begun result (S.sent sink.new) self.new.lines.begun
             (rule self.old.lines.columns.grid.now index) }
         ensures same { self.new.lines.columns ≡ self.old.lines.columns }
     {
         let rule = self.lines.columns.grid.rule_at(index);
-        self.lines.put_rule(sink, rule)
+        self.lines.write_rule(sink, rule)
     }
 
     /// A row, with the horizontal line above it.
-    fn put_row_part<S: TextSink>(
+    fn write_row_part<S: TextSink>(
         &mut self,
         sink: &mut S,
         row: usize,
@@ -47,11 +47,11 @@ impl<'a, R: PeekableRecords, D: Dimension> Picture<'a, R, D> {
         ensures same { self.new.lines.columns ≡ self.old.lines.columns }
     {
         let grid = self.lines.columns.grid;
-        self.put_rule(sink, row)?;
-        self.lines.put_row(sink, &GridRow { grid, row }, cursors)
+        self.write_rule(sink, row)?;
+        self.lines.write_row(sink, &GridRow { grid, row }, cursors)
     }
 
-    fn put_rows<S: TextSink>(
+    fn write_rows<S: TextSink>(
         &mut self,
         sink: &mut S,
         cursors: &mut [Cursor<'a>],
@@ -63,12 +63,12 @@ impl<'a, R: PeekableRecords, D: Dimension> Picture<'a, R, D> {
     {
         let grid = self.lines.columns.grid;
         'rows: for row in 0..grid.count_rows() {
-            self.put_row_part(sink, row, cursors)?;
+            self.write_row_part(sink, row, cursors)?;
         }
         Ok(())
     }
 
-    fn put_lines<S: TextSink>(
+    fn write_lines<S: TextSink>(
         &mut self,
         sink: &mut S,
         cursors: &mut [Cursor<'a>],
@@ -79,15 +79,15 @@ impl<'a, R: PeekableRecords, D: Dimension> Picture<'a, R, D> {
     {
         let grid = self.lines.columns.grid;
         let margin = grid.frame().margin;
-        self.lines.put_margin(sink, margin.top, whole)?;
-        self.put_rows(sink, cursors)?;
-        self.put_rule(sink, grid.count_rows())?;
-        self.lines.put_margin(sink, margin.bottom, whole)
+        self.lines.write_margin(sink, margin.top, whole)?;
+        self.write_rows(sink, cursors)?;
+        self.write_rule(sink, grid.count_rows())?;
+        self.lines.write_margin(sink, margin.bottom, whole)
     }
 }
 
 /// The lines of a table that takes so many columns, joined by line feeds. The cursors are those of its first columns, wherever they stand.
-pub(crate) fn put_picture<'a, R: PeekableRecords, D: Dimension, S: TextSink>(
+pub(crate) fn write_picture<'a, R: PeekableRecords, D: Dimension, S: TextSink>(
     sink: &mut S,
     grid: &'a Grid<'a, R, D>,
     cursors: &mut [Cursor<'a>],
@@ -97,7 +97,7 @@ pub(crate) fn put_picture<'a, R: PeekableRecords, D: Dimension, S: TextSink>(
     ensures { Writes (S.sent sink.old) result (S.sent sink.new) (join_with_byte 10 (filled_picture grid.now whole)) }
 {
     let mut picture = Picture {
-        lines: Lines::new(GridColumns { grid }, grid.memory),
+        lines: LinePrinter::new(GridColumns { grid }, grid.memory),
     };
-    picture.put_lines(sink, cursors, whole)
+    picture.write_lines(sink, cursors, whole)
 }

@@ -8,7 +8,7 @@ ghost use Rattle.tabled_line.specs.Sent.{Sent};
 
 use crate::checks::{check_narrow, check_sizes, check_totals};
 use crate::grid::Grid;
-use crate::picture::put_picture;
+use crate::picture::write_picture;
 use tabled_base::{PeekableRecords, TableError};
 use tabled_config::SpannedConfig;
 use tabled_line::{Cursor, FEW_CURSORS, MANY_CURSORS, TextSink};
@@ -17,7 +17,7 @@ use tabled_size::{Dimension, is_empty};
 /// Prints a table whose sizes hold its cells, of whose first columns these are the cursors. Refused, before the first byte, where a
 /// total passes the greatest `usize`.
 #[tactic(auto, unfolding(crate::specs::Picture::picture))]
-pub(crate) fn print_by<'a, R: PeekableRecords, D: Dimension, S: TextSink>(
+pub(crate) fn print_with_cursors<'a, R: PeekableRecords, D: Dimension, S: TextSink>(
     sink: &mut S,
     grid: &'a Grid<'a, R, D>,
     cursors: &mut [Cursor<'a>],
@@ -28,12 +28,12 @@ pub(crate) fn print_by<'a, R: PeekableRecords, D: Dimension, S: TextSink>(
     ensures { Prints false grid.now (S.sent sink.old) result (S.sent sink.new) }
 {
     let whole = check_totals(grid)?;
-    put_picture(sink, grid, cursors, whole)
+    write_picture(sink, grid, cursors, whole)
 }
 
 /// The same with cursors for many columns. They take 24 KiB of the stack, so that this is a call of its own.
 #[inline(never)]
-fn print_many<'a, R: PeekableRecords, D: Dimension, S: TextSink>(
+fn print_with_many_cursors<'a, R: PeekableRecords, D: Dimension, S: TextSink>(
     sink: &mut S,
     grid: &'a Grid<'a, R, D>,
 ) -> Result<(), TableError>
@@ -42,12 +42,12 @@ fn print_many<'a, R: PeekableRecords, D: Dimension, S: TextSink>(
     requires holds { Holds grid.now }
     ensures { Prints false grid.now (S.sent sink.old) result (S.sent sink.new) }
 {
-    print_by(sink, grid, &mut [Cursor::nowhere(); MANY_CURSORS])
+    print_with_cursors(sink, grid, &mut [Cursor::nowhere(); MANY_CURSORS])
 }
 
 /// Prints a table whose sizes hold its cells, in no memory. Refused, before the first byte, where a total passes the
 /// greatest `usize`.
-pub(crate) fn print_held<'a, R: PeekableRecords, D: Dimension, S: TextSink>(
+pub(crate) fn print_checked<'a, R: PeekableRecords, D: Dimension, S: TextSink>(
     sink: &mut S,
     grid: &'a Grid<'a, R, D>,
 ) -> Result<(), TableError>
@@ -57,9 +57,9 @@ pub(crate) fn print_held<'a, R: PeekableRecords, D: Dimension, S: TextSink>(
     ensures { Prints false grid.now (S.sent sink.old) result (S.sent sink.new) }
 {
     if grid.count_columns() > FEW_CURSORS {
-        return print_many(sink, grid);
+        return print_with_many_cursors(sink, grid);
     }
-    print_by(sink, grid, &mut [Cursor::nowhere(); FEW_CURSORS])
+    print_with_cursors(sink, grid, &mut [Cursor::nowhere(); FEW_CURSORS])
 }
 
 /// Prints a table piece by piece, in no memory of its own. A table with no row or no column prints
@@ -82,5 +82,5 @@ pub fn print_grid<R: PeekableRecords, D: Dimension, S: TextSink>(
     let grid = Grid::new(records, config, dimension, None);
     check_sizes(&grid)?;
     check_narrow(&grid)?;
-    print_held(sink, &grid)
+    print_checked(sink, &grid)
 }

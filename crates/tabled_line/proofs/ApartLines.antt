@@ -38,7 +38,7 @@ use Rattle.tabled_config.specs.declared.spanned.CellStyle.{CellStyle}
 use Rattle.tabled_config.specs.Frame.{has_bar}
 use Rattle.tabled_priority.specs.Sums.{one_if, sum_below}
 use Rattle.tabled_line.specs.Apart.{ArePaddedLeft, HoldsTexts, IsApartRow, IsApartStyle, line_total}
-use Rattle.tabled_line.specs.Block.{before_text, text_room, columns_before, cell_line, block, fill_above}
+use Rattle.tabled_line.specs.Block.{before_text, inner_width, columns_before, cell_line, block, fill_above}
 use Rattle.tabled_line.specs.Fill.{fill}
 use Rattle.tabled_line.specs.Row.{ColumnSheet, RowSheet, cell_block, cell_piece, left_edge, piece, right_edge, row_line}
 use Rattle.tabled_line.proofs.Bars.{bar-sum, later-bar}
@@ -118,8 +118,8 @@ block-cell_line s w text j p l =
     let line = get_or (lines_of text) j [] in
     let le = line_columns-le text j l in
     let fits = p.fits in
-    let before = columns_before-fits s (text_room s w) text line le (omega arith) in
-    let room = text_room s w in
+    let before = columns_before-fits s (inner_width s w) text line le (omega arith) in
+    let room = inner_width s w in
     let indented = columns_before s room text line in
     framed_text s w indented (room - indented - line_columns line) (line_columns line) line p.style (line-each text p.utf8 j l) (omega arith)
 

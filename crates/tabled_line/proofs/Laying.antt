@@ -7,7 +7,7 @@ use Rattle.std.proofs.lemmas.List.{get_or-append-add, length-append, take-append
 use Rattle.std.proofs.lemmas.Str.{IsCharBoundary-after_ascii, IsCharBoundary-before_ascii, IsUtf8-append, IsUtf8-drop, IsUtf8-take}
 use Rattle.tabled_config.specs.Frame.{has_bar}
 use Rattle.tabled_line.specs.Fill.{fill}
-use Rattle.tabled_line.specs.Laid.{StandsAt, blank_line, blank_row, first_place}
+use Rattle.tabled_line.specs.BlankRow.{StandsAt, blank_line, blank_row, first_offset}
 use Rattle.tabled_line.specs.Row.{ColumnSheet, RowSheet, cell_piece, first_of_block, left_edge, piece, right_edge, row_line, row_lines, rule_line, rule_piece}
 use Rattle.tabled_line.proofs.Bars.{later-bar}
 use Rattle.tabled_line.proofs.Each.{each-more}
@@ -118,7 +118,7 @@ pub record IsLaid (rs : RowSheet) (line : List ℕ) (place before column : ℕ) 
   pub begins : place ≡ length (laid_part rs column)
   pub bar : before ≡ length (piece (has_bar rs.columns.frame column) rs.columns.frame.inner.main)
 
-pub laid-none : (rs : RowSheet) (line : List ℕ) (place : ℕ) → line ≡ blank_row rs.columns → place ≡ first_place rs.columns → IsLaid rs line place 0 0
+pub laid-none : (rs : RowSheet) (line : List ℕ) (place : ℕ) → line ≡ blank_row rs.columns → place ≡ first_offset rs.columns → IsLaid rs line place 0 0
 unfolding rule_line
 laid-none rs line place blank start =
     let cs = rs.columns in

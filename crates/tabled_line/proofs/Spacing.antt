@@ -9,8 +9,8 @@ use Rattle.tabled_config.specs.declared.alignment.AlignmentHorizontal.TheVariant
 use Rattle.tabled_config.specs.declared.alignment.AlignmentVertical.{AlignmentVertical}
 use Rattle.tabled_config.specs.declared.alignment.AlignmentVertical.TheVariants as vertical
 use Rattle.tabled_config.specs.declared.spanned.CellStyle.{CellStyle}
-use Rattle.tabled_line.specs.Aims.{IsSpaced}
-use Rattle.tabled_line.specs.Block.{above_text, before_text, block, cell_line, columns_before, fill_above, first_line, text_room}
+use Rattle.tabled_line.specs.Placements.{IsSpaced}
+use Rattle.tabled_line.specs.Block.{above_text, before_text, block, cell_line, columns_before, fill_above, first_line, inner_width}
 use Rattle.tabled_line.specs.Fill.{fill, indent}
 use Rattle.tabled_line.specs.Row.{RowSheet, first_of_block}
 use Rattle.tabled_line.proofs.Blocks.{block-text}
@@ -28,7 +28,7 @@ before-within horizontal.Right n = omega arith
 
 -- the free columns of a line, those before it, and the spaces behind it
 abbrev pub free_of : CellStyle → ℕ → List ℕ → ℕ
-free_of s w line = text_room s w - line_columns line
+free_of s w line = inner_width s w - line_columns line
 
 abbrev pub left_of : CellStyle → ℕ → List ℕ → ℕ
 left_of s w line = s.padding.left.size + before_text s.horizontal (free_of s w line)
@@ -48,7 +48,7 @@ cell_line-spaced : (s : CellStyle) (w : ℕ) (text line : List ℕ) → IsSpaced
     → cell_line s w text line ≡ fill 32 (left_of s w line) ++ (line ++ fill 32 (right_of s w line))
 unfolding cell_line
 cell_line-spaced s w text line h widest =
-    let room = text_room s w in
+    let room = inner_width s w in
     let cols = line_columns line in
     let left = s.padding.left in
     let right = s.padding.right in

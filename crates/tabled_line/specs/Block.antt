@@ -26,8 +26,8 @@ above_text vertical.Center free = free / 2
 above_text vertical.Bottom free = free
 
 -- the columns that the padding leaves to the text
-abbrev pub text_room : CellStyle → ℕ → ℕ
-text_room style width = width - style.padding.left.size - style.padding.right.size
+abbrev pub inner_width : CellStyle → ℕ → ℕ
+inner_width style width = width - style.padding.left.size - style.padding.right.size
 
 -- the columns before a line: by those of the whole text, or by the line's own
 abbrev pub columns_before : CellStyle → ℕ → List ℕ → List ℕ → ℕ
@@ -37,7 +37,7 @@ columns_before style room text line =
 -- a line of the text of a cell: left padding, indent, the line, spaces, right padding
 unfoldable pub cell_line : CellStyle → ℕ → List ℕ → List ℕ → List ℕ
 cell_line style width text line =
-    let room = text_room style width in
+    let room = inner_width style width in
     let before = columns_before style room text line in
     indent style.padding.left
     ++ (fill 32 before ++ (line ++ (fill 32 (room - before - line_columns line) ++ indent style.padding.right)))

@@ -9,9 +9,9 @@ break true = 10 ∷ []
 break false = []
 
 -- the text of lines, where a line went before or not
-abbrev pub led : Bool → List (List ℕ) → List ℕ
-led begun [] = []
-led begun (l ∷ ls) = break begun ++ (l ++ led true ls)
+abbrev pub lines_after : Bool → List (List ℕ) → List ℕ
+lines_after begun [] = []
+lines_after begun (l ∷ ls) = break begun ++ (l ++ lines_after true ls)
 
 -- whether a line went before what follows the lines
 abbrev pub begun_after : Bool → List (List ℕ) → Bool
@@ -19,11 +19,11 @@ begun_after begun [] = begun
 begun_after begun (l ∷ ls) = true
 
 pub record LineSends (old : Sent) (begun : Bool) (new : Sent) (begun' : Bool) (lines : List (List ℕ)) : Type 0 where
-  pub sends : Sends old new (led begun lines)
+  pub sends : Sends old new (lines_after begun lines)
   pub after : begun' ≡ begun_after begun lines
 
 pub record LineStops (old : Sent) (begun : Bool) (e : TableError) (new : Sent) (lines : List (List ℕ)) : Type 0 where
-  pub stops : Stops old e new (led begun lines)
+  pub stops : Stops old e new (lines_after begun lines)
 
 -- what a call that prints lines leaves
 abbrev pub WritesLines : {T : Type 0} → Sent → Bool → Result T TableError → Sent → Bool → List (List ℕ) → Type 0

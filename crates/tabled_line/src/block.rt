@@ -2,13 +2,13 @@
 ghost use Rattle.std.specs.Prelude.{◌≡◌, ◌≤◌, ◌<◌, ◌-◌, ◌^◌, List, ℕ, []};
 ghost use Rattle.std.specs.List.{slice_index_or};
 ghost use Rattle.tabled_text.specs.Measure.{line_columns};
-ghost use Rattle.tabled_line.specs.Block.{above_text, before_text, block, cell_line, columns_before, fill_above, free_lines, text_room};
+ghost use Rattle.tabled_line.specs.Block.{above_text, before_text, block, cell_line, columns_before, fill_above, free_lines, inner_width};
 ghost use Rattle.tabled_line.specs.Cursors.{IsCursor};
 ghost use Rattle.tabled_line.specs.Sent.{Sent, Writes};
 
 use crate::content::Content;
 use crate::cursors::Cursor;
-use crate::pieces::{put_before, put_behind, put_fill};
+use crate::pieces::{write_fill, write_left_padding, write_right_padding};
 use crate::text_sink::TextSink;
 use tabled_base::TableError;
 use tabled_config::{AlignmentHorizontal, AlignmentVertical, CellStyle};
@@ -58,8 +58,8 @@ pub struct CellBlock<'a> {
 
 impl<'a> CellBlock<'a> {
     /// The columns that the padding leaves to the text.
-    fn text_room(&self) -> usize
-        ensures { result ≡ text_room self.now.style self.now.width }
+    fn inner_width(&self) -> usize
+        ensures { result ≡ inner_width self.now.style self.now.width }
     {
         self.width
             .saturating_sub(self.style.padding.left.size)
@@ -69,7 +69,7 @@ impl<'a> CellBlock<'a> {
     /// The columns before a line of the text, which takes so many columns itself.
     fn columns_before(&self, columns: usize) -> usize
         ensures { (line : List ℕ) → columns ≡ line_columns line
-            → result ≡ columns_before self.now.style (text_room self.now.style self.now.width)
+            → result ≡ columns_before self.now.style (inner_width self.now.style self.now.width)
             self.now.content.text.now line }
     {
         let used = if self.style.line_alignment {
@@ -77,11 +77,14 @@ impl<'a> CellBlock<'a> {
         } else {
             self.content.columns
         };
-        before_text(self.style.horizontal, self.text_room().saturating_sub(used))
+        before_text(
+            self.style.horizontal,
+            self.inner_width().saturating_sub(used),
+        )
     }
 
     /// A line of the text, of so many columns, in the width of the cell.
-    pub fn put_text_line<S: TextSink>(
+    pub fn write_text_line<S: TextSink>(
         &self,
         sink: &mut S,
         line: &str,
@@ -93,12 +96,12 @@ impl<'a> CellBlock<'a> {
     {
         let before = self.columns_before(columns);
         let behind = self
-            .text_room()
+            .inner_width()
             .saturating_sub(before)
             .saturating_sub(columns);
-        put_before(sink, self.style.padding.left, before)?;
+        write_left_padding(sink, self.style.padding.left, before)?;
         sink.write_text(line)?;
-        put_behind(sink, behind, self.style.padding.right)
+        write_right_padding(sink, behind, self.style.padding.right)
     }
 
     /// The lines above the text that its alignment adds.
@@ -125,7 +128,7 @@ impl<'a> CellBlock<'a> {
     }
 
     /// A line of the block. A line of the text is looked for from a cursor on.
-    pub(crate) fn put_line<S: TextSink>(
+    pub(crate) fn write_line<S: TextSink>(
         &self,
         sink: &mut S,
         cursor: &mut Cursor<'a>,
@@ -139,11 +142,11 @@ impl<'a> CellBlock<'a> {
     {
         let above = self.fill_above();
         if index < above {
-            return put_fill(sink, self.style.padding.top.fill, self.width);
+            return write_fill(sink, self.style.padding.top.fill, self.width);
         }
         match self.content.line(index - above, cursor) {
-            Some((line, columns)) => self.put_text_line(sink, line, columns),
-            None => put_fill(sink, self.style.padding.bottom.fill, self.width),
+            Some((line, columns)) => self.write_text_line(sink, line, columns),
+            None => write_fill(sink, self.style.padding.bottom.fill, self.width),
         }
     }
 }

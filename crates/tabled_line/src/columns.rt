@@ -5,14 +5,14 @@ ghost use Rattle.tabled_config.specs.Frame.{has_bar};
 ghost use Rattle.tabled_line.specs.Row.{ColumnSheet, rule_line, rule_piece};
 ghost use Rattle.tabled_line.specs.Sent.{Sent, Writes};
 
-use crate::edges::{put_left, put_piece, put_right};
-use crate::pieces::put_fill;
+use crate::edges::{write_bar, write_left_edge, write_right_edge};
+use crate::pieces::write_fill;
 use crate::text_sink::TextSink;
 use tabled_base::TableError;
 use tabled_config::{Frame, HorizontalLine};
 
 /// The columns of a table: how many there are, how wide each is, and what stands around and between them.
-pub trait Columns {
+pub trait TableColumns {
     // What contracts see.
     ghost sheet: { Self → ColumnSheet };
 
@@ -39,7 +39,7 @@ pub trait Columns {
 }
 
 /// How many first columns are drawn: each one behind them has no width, and no vertical line stands before it.
-pub fn count_drawn<C: Columns>(columns: &C) -> usize
+pub fn count_drawn<C: TableColumns>(columns: &C) -> usize
     ensures within { result ≤ (C.sheet columns.now).count }
     ensures rest { (column : ℕ) → result ≤ column → column < (C.sheet columns.now).count
         → ((C.sheet columns.now).width column ≡ 0) × (has_bar (C.sheet columns.now).frame column ≡ false) }
@@ -53,7 +53,7 @@ pub fn count_drawn<C: Columns>(columns: &C) -> usize
     }
 }
 
-fn put_rule_piece<C: Columns, S: TextSink>(
+fn write_rule_piece<C: TableColumns, S: TextSink>(
     sink: &mut S,
     columns: &C,
     line: &HorizontalLine,
@@ -63,12 +63,12 @@ fn put_rule_piece<C: Columns, S: TextSink>(
     ensures { Writes (S.sent sink.old) result (S.sent sink.new) (rule_piece (C.sheet columns.now) line.now column) }
 {
     let there = columns.frame().has_bar(column);
-    put_piece(sink, there, line.intersection.unwrap_or(' '))?;
-    put_fill(sink, line.main.unwrap_or(' '), columns.width(column))
+    write_bar(sink, there, line.intersection.unwrap_or(' '))?;
+    write_fill(sink, line.main.unwrap_or(' '), columns.width(column))
 }
 
 /// The pieces of a horizontal line between the outer vertical lines: over each column, with what stands where a vertical line meets it.
-pub fn put_rule_pieces<C: Columns, S: TextSink>(
+pub fn write_rule_pieces<C: TableColumns, S: TextSink>(
     sink: &mut S,
     columns: &C,
     line: &HorizontalLine,
@@ -77,13 +77,13 @@ pub fn put_rule_pieces<C: Columns, S: TextSink>(
         (flat_map (rule_piece (C.sheet columns.now) line.now) (range_with_len 0 (C.sheet columns.now).count)) }
 {
     'pieces: for column in 0..count_drawn(columns) {
-        put_rule_piece(sink, columns, line, column)?;
+        write_rule_piece(sink, columns, line, column)?;
     }
     Ok(())
 }
 
 /// A horizontal line.
-pub fn put_rule_line<C: Columns, S: TextSink>(
+pub fn write_rule_line<C: TableColumns, S: TextSink>(
     sink: &mut S,
     columns: &C,
     line: &HorizontalLine,
@@ -91,7 +91,7 @@ pub fn put_rule_line<C: Columns, S: TextSink>(
     ensures { Writes (S.sent sink.old) result (S.sent sink.new) (rule_line (C.sheet columns.now) line.now) }
 {
     let frame = columns.frame();
-    put_left(sink, frame, line.left.unwrap_or(' '))?;
-    put_rule_pieces(sink, columns, line)?;
-    put_right(sink, frame, line.right.unwrap_or(' '))
+    write_left_edge(sink, frame, line.left.unwrap_or(' '))?;
+    write_rule_pieces(sink, columns, line)?;
+    write_right_edge(sink, frame, line.right.unwrap_or(' '))
 }

@@ -10,7 +10,7 @@
 //! - `io_sink`: a writer that the sink owns
 //! - `writer_sink`: a borrowed writer, of which a contract says what it took
 //! - `memory`: a `String` and a `Vec<u8>`
-//! - `room`: a buffer of 4 KiB, or one of up to 1 MiB
+//! - `buffer`: a buffer of 4 KiB, or one of up to 1 MiB
 //!
 //! Pieces:
 //! - `pieces`: runs of one character
@@ -23,65 +23,65 @@
 //! - `content`: the text with its measures
 //! - `cursors`: where the next line of a text begins
 //! - `block`: the lines of a cell
-//! - `aim`: where a text stands in its column
+//! - `placement`: where a text stands in its column
 //!
 //! Rows:
 //! - `row`: the trait of a row, and a line of it
-//! - `row_aims`: where the texts of a row of one line stand
-//! - `gap`: what stands between two texts
+//! - `row_placements`: where the texts of a row of one line stand
+//! - `column_separator`: what stands between two texts
 //! - `spaced`: rows whose texts stand between spaces
 //! - `laws`: what holds for the lines of a row
 //!
 //! Lines one below the other:
 //! - `lines`: rows, horizontal lines and margins, each behind the line feed that it needs
-//! - `kept`: the horizontal line that is kept
-//! - `led`: lines that are kept behind their line feed
-//! - `places`: where the cells of a blank row begin
-//! - `spots`: those places, listed once for all rows
-//! - `laid`: rows that are laid over a blank one
-//! - `laid_texts`: their texts
+//! - `line_cache`: the horizontal line that is kept
+//! - `leading_feed`: lines that are kept behind their line feed
+//! - `offsets`: where the cells of a blank row begin
+//! - `slots`: those places, listed once for all rows
+//! - `row_template`: rows that are laid over a blank one
+//! - `template_texts`: their texts
 #![tactic(auto)]
 
-mod aim;
 mod block;
+mod buffer;
+mod column_separator;
 mod columns;
 mod content;
 mod cursors;
 mod edges;
-mod gap;
 mod io_sink;
-mod kept;
-mod laid;
-mod laid_texts;
 pub mod laws;
-mod led;
+mod leading_feed;
+mod line_cache;
 mod line_feed;
 mod lines;
 mod margin;
 mod memory;
+mod offsets;
 mod pieces;
-mod places;
-mod room;
+mod placement;
 mod row;
-mod row_aims;
+mod row_placements;
+mod row_template;
+mod slots;
 mod spaced;
-mod spots;
+mod template_texts;
 mod text_sink;
 mod writer_sink;
 
-pub use aim::{Aim, CellAim, Spread};
 pub use block::CellBlock;
-pub use columns::{Columns, count_drawn, put_rule_line};
+pub use column_separator::ColumnSeparator;
+pub use columns::{TableColumns, count_drawn, write_rule_line};
 pub use content::Content;
 pub use cursors::{Cursor, FEW_CURSORS, MANY_CURSORS};
-pub use edges::{put_left, put_piece, put_right};
-pub use gap::Gap;
+pub use edges::{write_bar, write_left_edge, write_right_edge};
 pub use io_sink::IoSink;
-pub use line_feed::put_break;
-pub use lines::Lines;
-pub use margin::put_margin;
-pub use pieces::{put_char, put_fill, put_indent};
-pub use places::{bar_length, next_place};
+pub use line_feed::write_break;
+pub use lines::LinePrinter;
+pub use margin::write_margin;
+pub use offsets::{bar_length, next_offset};
+pub use pieces::{write_char, write_fill, write_indent};
+pub use placement::{CellPlacement, Placement, UniformPlacement};
 pub use row::Row;
 pub use text_sink::TextSink;
 pub use writer_sink::WriterSink;

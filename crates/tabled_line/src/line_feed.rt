@@ -7,7 +7,7 @@ use crate::text_sink::TextSink;
 use tabled_base::TableError;
 
 /// The line feed before a line, if a line went before.
-pub fn put_break<S: TextSink>(sink: &mut S, begun: &mut bool) -> Result<(), TableError>
+pub fn write_break<S: TextSink>(sink: &mut S, begun: &mut bool) -> Result<(), TableError>
     ensures printed { Writes (S.sent sink.old) result (S.sent sink.new) (break begun.old) }
     ensures after { begun.new ≡ true }
 {

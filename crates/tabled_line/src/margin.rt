@@ -5,14 +5,14 @@ ghost use Rattle.tabled_line.specs.Fill.{fill};
 ghost use Rattle.tabled_line.specs.Leading.{WritesLines};
 ghost use Rattle.tabled_line.specs.Sent.{Sent};
 
-use crate::line_feed::put_break;
-use crate::pieces::put_fill;
+use crate::line_feed::write_break;
+use crate::pieces::write_fill;
 use crate::text_sink::TextSink;
 use tabled_base::TableError;
 use tabled_config::Indent;
 
 /// A line of one character.
-fn put_fill_line<S: TextSink>(
+fn write_fill_line<S: TextSink>(
     sink: &mut S,
     begun: &mut bool,
     c: char,
@@ -21,12 +21,12 @@ fn put_fill_line<S: TextSink>(
     ensures { WritesLines (S.sent sink.old) begun.old result (S.sent sink.new) begun.new
         (fill c width ∷ []) }
 {
-    put_break(sink, begun)?;
-    put_fill(sink, c, width)
+    write_break(sink, begun)?;
+    write_fill(sink, c, width)
 }
 
 /// The lines of a margin, each as wide as the whole.
-pub fn put_margin<S: TextSink>(
+pub fn write_margin<S: TextSink>(
     sink: &mut S,
     begun: &mut bool,
     side: Indent,
@@ -36,7 +36,7 @@ pub fn put_margin<S: TextSink>(
         (replicate side.size (fill side.fill width)) }
 {
     'lines: for _i in 0..side.size {
-        put_fill_line(sink, begun, side.fill, width)?;
+        write_fill_line(sink, begun, side.fill, width)?;
     }
     Ok(())
 }

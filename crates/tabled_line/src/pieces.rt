@@ -12,11 +12,11 @@ const SPACES: &str = "                                                          
 const DASHES: &str = "----------------------------------------------------------------";
 
 /// One character.
-pub fn put_char<S: TextSink>(sink: &mut S, c: char) -> Result<(), TableError>
+pub fn write_char<S: TextSink>(sink: &mut S, c: char) -> Result<(), TableError>
     ensures { Writes (S.sent sink.old) result (S.sent sink.new) (encode_utf8 c) }
 {
-    let mut room = [0u8; 4];
-    let text = c.encode_utf8(&mut room);
+    let mut buffer = [0u8; 4];
+    let text = c.encode_utf8(&mut buffer);
     sink.write_text(text)
 }
 
@@ -38,7 +38,7 @@ fn dashes(count: usize) -> &'static str
 
 /// A number of spaces, 64 at a time. Mostly there are few, and a call would take longer than they do.
 #[inline(always)]
-pub(crate) fn put_spaces<S: TextSink>(sink: &mut S, count: usize) -> Result<(), TableError>
+pub(crate) fn write_spaces<S: TextSink>(sink: &mut S, count: usize) -> Result<(), TableError>
     ensures { Writes (S.sent sink.old) result (S.sent sink.new) (fill 32 count) }
 {
     let mut left = count;
@@ -51,7 +51,7 @@ pub(crate) fn put_spaces<S: TextSink>(sink: &mut S, count: usize) -> Result<(), 
 }
 
 /// A padding, and spaces behind it; where it is of spaces too, they go out together.
-pub(crate) fn put_before<S: TextSink>(
+pub(crate) fn write_left_padding<S: TextSink>(
     sink: &mut S,
     side: Indent,
     spaces: usize,
@@ -61,14 +61,14 @@ pub(crate) fn put_before<S: TextSink>(
     if side.fill == ' '
         && let Some(all) = side.size.checked_add(spaces)
     {
-        return put_spaces(sink, all);
+        return write_spaces(sink, all);
     }
-    put_indent(sink, side)?;
-    put_spaces(sink, spaces)
+    write_indent(sink, side)?;
+    write_spaces(sink, spaces)
 }
 
 /// Spaces, and a padding behind them; where that is of spaces too, they go out together.
-pub(crate) fn put_behind<S: TextSink>(
+pub(crate) fn write_right_padding<S: TextSink>(
     sink: &mut S,
     spaces: usize,
     side: Indent,
@@ -78,14 +78,14 @@ pub(crate) fn put_behind<S: TextSink>(
     if side.fill == ' '
         && let Some(all) = spaces.checked_add(side.size)
     {
-        return put_spaces(sink, all);
+        return write_spaces(sink, all);
     }
-    put_spaces(sink, spaces)?;
-    put_indent(sink, side)
+    write_spaces(sink, spaces)?;
+    write_indent(sink, side)
 }
 
 /// A number of dashes, 64 at a time.
-fn put_dashes<S: TextSink>(sink: &mut S, count: usize) -> Result<(), TableError>
+fn write_dashes<S: TextSink>(sink: &mut S, count: usize) -> Result<(), TableError>
     ensures { Writes (S.sent sink.old) result (S.sent sink.new) (fill 45 count) }
 {
     let mut left = count;
@@ -98,11 +98,11 @@ fn put_dashes<S: TextSink>(sink: &mut S, count: usize) -> Result<(), TableError>
 }
 
 /// Any character a number of times.
-fn put_copies<S: TextSink>(sink: &mut S, c: char, count: usize) -> Result<(), TableError>
+fn write_copies<S: TextSink>(sink: &mut S, c: char, count: usize) -> Result<(), TableError>
     ensures { Writes (S.sent sink.old) result (S.sent sink.new) (fill c count) }
 {
-    let mut room = [0u8; 4];
-    let text = c.encode_utf8(&mut room);
+    let mut buffer = [0u8; 4];
+    let text = c.encode_utf8(&mut buffer);
     'copies: for _i in 0..count {
         sink.write_text(text)?;
     }
@@ -110,22 +110,22 @@ fn put_copies<S: TextSink>(sink: &mut S, c: char, count: usize) -> Result<(), Ta
 }
 
 /// A character a number of times; spaces and dashes go out in blocks.
-pub fn put_fill<S: TextSink>(sink: &mut S, c: char, count: usize) -> Result<(), TableError>
+pub fn write_fill<S: TextSink>(sink: &mut S, c: char, count: usize) -> Result<(), TableError>
     ensures { Writes (S.sent sink.old) result (S.sent sink.new) (fill c count) }
 {
     match c {
-        ' ' => put_spaces(sink, count),
-        '-' => put_dashes(sink, count),
-        _ => put_copies(sink, c, count),
+        ' ' => write_spaces(sink, count),
+        '-' => write_dashes(sink, count),
+        _ => write_copies(sink, c, count),
     }
 }
 
 /// An indent: its character, as many times as its size.
-pub fn put_indent<S: TextSink>(sink: &mut S, side: Indent) -> Result<(), TableError>
+pub fn write_indent<S: TextSink>(sink: &mut S, side: Indent) -> Result<(), TableError>
     ensures { Writes (S.sent sink.old) result (S.sent sink.new) (indent side) }
 {
     if side.size == 0 {
         return Ok(());
     }
-    put_fill(sink, side.fill, side.size)
+    write_fill(sink, side.fill, side.size)
 }

@@ -2,23 +2,23 @@
 ghost use Rattle.std.specs.Prelude.{◌≡◌, ◌<◌, ◌≤◌, ℕ, IfSome, []};
 ghost use Rattle.std.specs.List.{flat_map, range_with_len, slice_index_or};
 ghost use Rattle.tabled_config.specs.RowStyles.{style_in};
-ghost use Rattle.tabled_config.specs.ToldSides.{TellsSides};
-ghost use Rattle.tabled_line.specs.Aims.{AreAims, IsSpread};
+ghost use Rattle.tabled_config.specs.KnownSides.{DescribesSides};
+ghost use Rattle.tabled_line.specs.Placements.{ArePlacements, IsUniform};
 ghost use Rattle.tabled_line.specs.Cursors.{AreCursors};
 ghost use Rattle.tabled_line.specs.Row.{RowSheet, cell_block, cell_piece, row_line};
 ghost use Rattle.tabled_line.specs.Sent.{Sent, Writes};
 
-use crate::aim::{CellAim, Spread};
 use crate::block::CellBlock;
+use crate::column_separator::{ColumnSeparator, SeparatorText};
 use crate::content::Content;
 use crate::cursors::{Cursor, cursor_at, keep_cursor};
-use crate::edges::{put_left, put_piece, put_right};
-use crate::gap::{Gap, GapText};
-use crate::row_aims::{KeptAims, SetAims, ToldAims};
-use crate::spaced::put_spaced_cells;
+use crate::edges::{write_bar, write_left_edge, write_right_edge};
+use crate::placement::{CellPlacement, UniformPlacement};
+use crate::row_placements::{CachedPlacements, KnownPlacements, StyledPlacements};
+use crate::spaced::write_spaced_cells;
 use crate::text_sink::TextSink;
 use tabled_base::TableError;
-use tabled_config::{CellStyle, Frame, RowStyles, ToldSides};
+use tabled_config::{CellStyle, Frame, KnownSides, RowStyles};
 
 /// A row of cells as it is printed: the blocks of the cells, and what stands around and between them.
 pub trait Row<'a> {
@@ -38,17 +38,17 @@ pub trait Row<'a> {
         ensures { result.now ≡ (sheet self.now).columns.frame };
 
     /// What stands between the texts of two columns in a row of one line.
-    fn gap(&self) -> &Gap
+    fn separator(&self) -> &ColumnSeparator
         ensures { result.now.bar ≡ (sheet self.now).columns.frame.inner };
 
     /// How the texts of all cells stand between spaces, if it is known that they stand alike, and so.
-    fn spread(&self) -> Option<Spread>
-        ensures { IfSome result (λ spread. (column : ℕ) → column < (sheet self.now).columns.count
-            → IsSpread ((sheet self.now).style column) spread) };
+    fn uniform(&self) -> Option<UniformPlacement>
+        ensures { IfSome result (λ uniform. (column : ℕ) → column < (sheet self.now).columns.count
+            → IsUniform ((sheet self.now).style column) uniform) };
 
-    /// The padding and the alignment of the text in each column, if they are told by its place.
-    fn sides(&self) -> Option<ToldSides<'_>>
-        ensures { IfSome result (λ sides. TellsSides sides (sheet self.now).columns.count (sheet self.now).style) };
+    /// The padding and the alignment of the text in each column, if they are known by its place.
+    fn sides(&self) -> Option<KnownSides<'_>>
+        ensures { IfSome result (λ sides. DescribesSides sides (sheet self.now).columns.count (sheet self.now).style) };
 
     /// How the texts of the columns stand, from left to right.
     fn styles(&self) -> RowStyles<'_>
@@ -56,8 +56,8 @@ pub trait Row<'a> {
             → style_in result column ≡ (sheet self.now).style column };
 
     /// Where the cells of the columns begin and their texts stand if the row takes one line, if that is known for all of them.
-    fn aims(&self) -> Option<&[CellAim]>
-        ensures { IfSome result (λ aims. AreAims (sheet self.now).style (sheet self.now).columns aims.now) };
+    fn placements(&self) -> Option<&[CellPlacement]>
+        ensures { IfSome result (λ placements. ArePlacements (sheet self.now).style (sheet self.now).columns placements.now) };
 
     /// How many text columns a column takes, padding included.
     fn width(&self, column: usize) -> usize
@@ -94,7 +94,7 @@ pub(crate) struct CellLine {
 }
 
 /// A line of the block of a cell. Where its text has some lines, the cursor at its column moves to the next one.
-fn put_block_line<'a, R: Row<'a>, S: TextSink>(
+fn write_block_line<'a, R: Row<'a>, S: TextSink>(
     sink: &mut S,
     row: &R,
     cursors: &mut [Cursor<'a>],
@@ -111,16 +111,16 @@ fn put_block_line<'a, R: Row<'a>, S: TextSink>(
     let cell = row.cell(line.column, line.style);
     let content = cell.content;
     if content.lines <= 1 {
-        return cell.put_line(sink, &mut Cursor::start(content.text), line.index);
+        return cell.write_line(sink, &mut Cursor::start(content.text), line.index);
     }
     let mut cursor = cursor_at(cursors, line.column, content.text);
-    cell.put_line(sink, &mut cursor, line.index)?;
+    cell.write_line(sink, &mut cursor, line.index)?;
     keep_cursor(cursors, line.column, cursor);
     Ok(())
 }
 
 /// A line of a cell, with the vertical line before it.
-pub(crate) fn put_cell<'a, R: Row<'a>, S: TextSink>(
+pub(crate) fn write_cell<'a, R: Row<'a>, S: TextSink>(
     sink: &mut S,
     row: &R,
     cursors: &mut [Cursor<'a>],
@@ -135,11 +135,11 @@ pub(crate) fn put_cell<'a, R: Row<'a>, S: TextSink>(
     ensures cursors { AreCursors (R.sheet row.now).text cursors.new }
 {
     let frame = row.frame();
-    put_piece(sink, frame.has_bar(line.column), frame.inner.main)?;
-    put_block_line(sink, row, cursors, line)
+    write_bar(sink, frame.has_bar(line.column), frame.inner.main)?;
+    write_block_line(sink, row, cursors, line)
 }
 
-fn put_each_cell<'a, R: Row<'a>, S: TextSink>(
+fn write_block_cells<'a, R: Row<'a>, S: TextSink>(
     sink: &mut S,
     row: &R,
     cursors: &mut [Cursor<'a>],
@@ -158,51 +158,51 @@ fn put_each_cell<'a, R: Row<'a>, S: TextSink>(
             style: styles.at(column),
             index,
         };
-        put_cell(sink, row, cursors, &line)?;
+        write_cell(sink, row, cursors, &line)?;
     }
     Ok(())
 }
 
 /// The cells of a row of one line, of which each text stands as it was set.
 #[inline(never)]
-fn put_set_cells<'a, R: Row<'a>, S: TextSink>(
+fn write_styled_cells<'a, R: Row<'a>, S: TextSink>(
     sink: &mut S,
     row: &R,
-    gap: GapText<'_>,
+    separator: SeparatorText<'_>,
 ) -> Result<(), TableError>
     requires height { (R.sheet row.now).height ≡ 1 }
-    requires bar { gap.bar ≡ (R.sheet row.now).columns.frame.inner }
+    requires bar { separator.bar ≡ (R.sheet row.now).columns.frame.inner }
     ensures { Writes (S.sent sink.old) result (S.sent sink.new)
         (flat_map (cell_piece (R.sheet row.now) 0) (range_with_len 0 (R.sheet row.now).columns.count)) }
 {
-    put_spaced_cells(sink, row, SetAims::new(row.styles()), gap)
+    write_spaced_cells(sink, row, StyledPlacements::new(row.styles()), separator)
 }
 
 /// The cells of a row of one line, as it is known where its texts stand.
-fn put_spaced<'a, R: Row<'a>, S: TextSink>(
+fn write_spaced_row<'a, R: Row<'a>, S: TextSink>(
     sink: &mut S,
     row: &R,
-    gap: GapText<'_>,
+    separator: SeparatorText<'_>,
 ) -> Result<(), TableError>
     requires height { (R.sheet row.now).height ≡ 1 }
-    requires bar { gap.bar ≡ (R.sheet row.now).columns.frame.inner }
+    requires bar { separator.bar ≡ (R.sheet row.now).columns.frame.inner }
     ensures { Writes (S.sent sink.old) result (S.sent sink.new)
         (flat_map (cell_piece (R.sheet row.now) 0) (range_with_len 0 (R.sheet row.now).columns.count)) }
 {
-    if let Some(kept) = row.aims() {
-        return put_spaced_cells(sink, row, KeptAims(kept), gap);
+    if let Some(kept) = row.placements() {
+        return write_spaced_cells(sink, row, CachedPlacements(kept), separator);
     }
-    if let Some(spread) = row.spread() {
-        return put_spaced_cells(sink, row, spread, gap);
+    if let Some(uniform) = row.uniform() {
+        return write_spaced_cells(sink, row, uniform, separator);
     }
     match row.sides() {
-        Some(sides) => put_spaced_cells(sink, row, ToldAims::new(sides), gap),
-        None => put_set_cells(sink, row, gap),
+        Some(sides) => write_spaced_cells(sink, row, KnownPlacements::new(sides), separator),
+        None => write_styled_cells(sink, row, separator),
     }
 }
 
 /// The cells of a line. Those of a row of one line mostly need no blocks.
-fn put_cells<'a, R: Row<'a>, S: TextSink>(
+fn write_cells<'a, R: Row<'a>, S: TextSink>(
     sink: &mut S,
     row: &R,
     cursors: &mut [Cursor<'a>],
@@ -215,15 +215,15 @@ fn put_cells<'a, R: Row<'a>, S: TextSink>(
     ensures cursors { AreCursors (R.sheet row.now).text cursors.new }
 {
     if row.height() == 1
-        && let Some(gap) = row.gap().text()
+        && let Some(separator) = row.separator().text()
     {
-        return put_spaced(sink, row, gap);
+        return write_spaced_row(sink, row, separator);
     }
-    put_each_cell(sink, row, cursors, index)
+    write_block_cells(sink, row, cursors, index)
 }
 
 /// A line of a row, in whose texts the cursors stand.
-pub fn put_row_line<'a, R: Row<'a>, S: TextSink>(
+pub fn write_row_line<'a, R: Row<'a>, S: TextSink>(
     sink: &mut S,
     row: &R,
     cursors: &mut [Cursor<'a>],
@@ -235,7 +235,7 @@ pub fn put_row_line<'a, R: Row<'a>, S: TextSink>(
     ensures cursors { AreCursors (R.sheet row.now).text cursors.new }
 {
     let frame = row.frame();
-    put_left(sink, frame, frame.left.main)?;
-    put_cells(sink, row, cursors, index)?;
-    put_right(sink, frame, frame.right.main)
+    write_left_edge(sink, frame, frame.left.main)?;
+    write_cells(sink, row, cursors, index)?;
+    write_right_edge(sink, frame, frame.right.main)
 }

@@ -9,10 +9,10 @@ ghost use Rattle.tabled_line.specs.Row.{cell_piece, piece};
 ghost use Rattle.tabled_line.specs.SendsBut.{WritesBut};
 ghost use Rattle.tabled_line.specs.Sent.{Sent, Writes};
 
-use crate::gap::GapText;
-use crate::pieces::put_spaces;
-use crate::row::{CellLine, Row, put_cell};
-use crate::row_aims::{TellAims, place, style_of};
+use crate::column_separator::SeparatorText;
+use crate::pieces::write_spaces;
+use crate::row::{CellLine, Row, write_cell};
+use crate::row_placements::{RowPlacements, place, style_of};
 use crate::text_sink::TextSink;
 use tabled_base::TableError;
 
@@ -20,82 +20,82 @@ use tabled_base::TableError;
 #[derive(Clone, Copy)]
 struct SpacedLine<'r> {
     /// What stands between two texts.
-    gap: GapText<'r>,
+    separator: SeparatorText<'r>,
     /// The spaces behind the last text, which are still to come.
     behind: usize,
 }
 
 /// The spaces that are still to come, the vertical line before a column, and so many spaces before its text.
 #[inline(always)]
-fn put_between<S: TextSink>(
+fn write_separator<S: TextSink>(
     sink: &mut S,
     line: &SpacedLine<'_>,
     column: usize,
     before: usize,
 ) -> Result<(), TableError>
-    ensures { (frame : Frame) → line.now.gap.bar ≡ frame.inner
+    ensures { (frame : Frame) → line.now.separator.bar ≡ frame.inner
         → Writes (S.sent sink.old) result (S.sent sink.new)
         (fill 32 line.now.behind ++ (piece (has_bar frame column) frame.inner.main ++ fill 32 before)) }
 {
     if column > 0 {
-        return line.gap.put(sink, line.behind, before);
+        return line.separator.write(sink, line.behind, before);
     }
-    put_spaces(sink, line.behind)?;
-    put_spaces(sink, before)
+    write_spaces(sink, line.behind)?;
+    write_spaces(sink, before)
 }
 
 /// The spaces that are still to come, and the next cell but for the spaces behind its text, of which it answers how many there are.
 #[inline(always)]
-fn put_next<'a, R: Row<'a>, S: TextSink, A: TellAims>(
+fn write_next_text<'a, R: Row<'a>, S: TextSink, A: RowPlacements>(
     sink: &mut S,
     row: &R,
-    aims: &mut A,
+    placements: &mut A,
     line: &SpacedLine<'_>,
     column: usize,
 ) -> Result<usize, TableError>
     requires inside { column < (R.sheet row.now).columns.count }
     requires height { (R.sheet row.now).height ≡ 1 }
-    requires bar { line.now.gap.bar ≡ (R.sheet row.now).columns.frame.inner }
-    requires tells { A.tells aims.old (R.sheet row.now) }
+    requires bar { line.now.separator.bar ≡ (R.sheet row.now).columns.frame.inner }
+    requires describes { A.describes placements.old (R.sheet row.now) }
     ensures printed { WritesBut (S.sent sink.old) result (S.sent sink.new) (fill 32 line.now.behind ++ cell_piece (R.sheet row.now) 0 column) }
-    ensures tells { A.tells aims.new (R.sheet row.now) }
+    ensures describes { A.describes placements.new (R.sheet row.now) }
 {
-    match place(row, aims, column, row.width(column)) {
+    match place(row, placements, column, row.width(column)) {
         Some(placed) => {
-            put_between(sink, line, column, placed.before)?;
+            write_separator(sink, line, column, placed.before)?;
             sink.write_text(placed.text)?;
             Ok(placed.behind)
         }
         None => {
-            put_spaces(sink, line.behind)?;
+            write_spaces(sink, line.behind)?;
             let first = CellLine {
                 column,
-                style: style_of(row, aims, column),
+                style: style_of(row, placements, column),
                 index: 0,
             };
-            put_cell(sink, row, &mut [], &first)?;
+            write_cell(sink, row, &mut [], &first)?;
             Ok(0)
         }
     }
 }
 
-/// The cells of a row of one line, of which it is told where they stand.
-pub(crate) fn put_spaced_cells<'a, R: Row<'a>, S: TextSink, A: TellAims + Drop>(
+/// The cells of a row of one line, of which it is known where they stand.
+pub(crate) fn write_spaced_cells<'a, R: Row<'a>, S: TextSink, A: RowPlacements + Drop>(
     sink: &mut S,
     row: &R,
-    mut aims: A,
-    gap: GapText<'_>,
+    mut placements: A,
+    separator: SeparatorText<'_>,
 ) -> Result<(), TableError>
     requires height { (R.sheet row.now).height ≡ 1 }
-    requires bar { gap.bar ≡ (R.sheet row.now).columns.frame.inner }
-    requires tells { A.tells aims (R.sheet row.now) }
+    requires bar { separator.bar ≡ (R.sheet row.now).columns.frame.inner }
+    requires describes { A.describes placements (R.sheet row.now) }
     ensures { Writes (S.sent sink.old) result (S.sent sink.new)
         (flat_map (cell_piece (R.sheet row.now) 0) (range_with_len 0 (R.sheet row.now).columns.count)) }
 {
     let mut behind = 0;
     'cells: for column in 0..row.count_drawn() {
-        let line = SpacedLine { gap, behind };
-        behind = put_next(sink, row, &mut aims, &line, column)?;
+        let line = SpacedLine { separator, behind };
+        behind = write_next_text(sink, row, &mut placements, &line, column)?;
     }
-    put_spaces(sink, behind)
+    write_spaces(sink, behind)
 }

@@ -11,7 +11,7 @@ use Rattle.tabled_text.proofs.LineLaws.{frame-append, frame-one, line-each, line
 use Rattle.tabled_text.proofs.Ends.{closes-append, closes-frame, closes-framed, frame-as, frame-nil, line-as, opens-append, opens-frame, Closes, Opens}
 use Rattle.tabled_config.specs.declared.spanned.CellStyle.{CellStyle}
 use Rattle.tabled_line.specs.Apart.{IsApartStyle}
-use Rattle.tabled_line.specs.Block.{text_room, columns_before, cell_line}
+use Rattle.tabled_line.specs.Block.{inner_width, columns_before, cell_line}
 use Rattle.tabled_line.specs.Fill.{fill}
 use Rattle.tabled_pool.specs.Block.{lines_above, line_below, pool_block, text_line, without_sides}
 use Rattle.tabled_pool.specs.Colours.{coloured, no_mark}
@@ -45,13 +45,13 @@ block-frame : (s : CellStyle) (w : ℕ) (bs : List ℕ) → s.padding.left.size 
 block-frame s w bs le p = record { line = line-frame p; opens = λ z. opens-frame p (omega arith); closes = λ _. closes-frame p }
 
 held-cell_line : (s : CellStyle) (w : ℕ) (text : List ℕ) (j : ℕ) → IsHeldText s w text → j < length (lines_of text)
-    → IsLine (cell_line (without_sides s) (text_room s w) text (get_or (lines_of text) j [])) (text_room s w)
+    → IsLine (cell_line (without_sides s) (inner_width s w) text (get_or (lines_of text) j [])) (inner_width s w)
 unfolding cell_line
 held-cell_line s w text j p l =
     let line = get_or (lines_of text) j [] in
     let le = line_columns-le text j l in
     let fits = p.fits in
-    let room = text_room (without_sides s) (text_room s w) in
+    let room = inner_width (without_sides s) (inner_width s w) in
     let before = columns_before-fits (without_sides s) room text line le (omega arith) in
     let indented = columns_before (without_sides s) room text line in
     line-as

@@ -18,7 +18,7 @@ use Rattle.tabled_text.proofs.Ends.{
 use Rattle.tabled_config.specs.Compact.{each_side}
 use Rattle.tabled_line.specs.Apart.{IsApartStyle}
 use Rattle.tabled_line.proofs.Joined.{IsClosedLine}
-use Rattle.tabled_pool.specs.declared.gaps.Gaps.{Gaps}
+use Rattle.tabled_pool.specs.declared.box_spacing.BoxSpacing.{BoxSpacing}
 use Rattle.tabled_pool.specs.declared.pieces.Kind.{Kind}
 use Rattle.tabled_pool.specs.declared.pieces.Kind.TheVariants.{Leaf, Bar, Rule}
 use Rattle.tabled_pool.specs.declared.pieces.Rectangle.{Rectangle}
@@ -28,7 +28,7 @@ use Rattle.tabled_pool.specs.Block.{pool_block}
 use Rattle.tabled_pool.specs.Colours.{no_mark}
 use Rattle.tabled_pool.specs.Leaf.{leaf_line}
 use Rattle.tabled_pool.specs.Kinds.{is_line_kind}
-use Rattle.tabled_pool.specs.Plan.{Plan}
+use Rattle.tabled_pool.specs.Plan.{DrawingPlan}
 use Rattle.tabled_pool.specs.Characters.{EachCharacter}
 use Rattle.tabled_pool.specs.Drawn.{border_char}
 use Rattle.tabled_pool.specs.Owner.{owner, is_border_before, is_line}
@@ -42,7 +42,7 @@ use Rattle.tabled_pool.proofs.Owners.{within-inside, owner-inside}
 use Rattle.tabled_pool.proofs.Plains.{owner-fits}
 
 -- parts that tile the whole, with room for their texts, under separators
-pub record ApartTree (g : Gaps) (t : Plan) : Type 0 where
+pub record ApartTree (g : BoxSpacing) (t : DrawingPlan) : Type 0 where
   pub once : AreTiles t.parts (whole t)
   pub fits : EachFits g t.parts
   pub left : g.padding.left ≡ t.style.padding.left.size
@@ -55,10 +55,10 @@ pub record ApartTree (g : Gaps) (t : Plan) : Type 0 where
   pub padding_marks : t.padding_marks ≡ each_side no_mark
   pub line_marks : AreNoMarks t.line_marks
 
-char : (g : Gaps) (t : Plan) → ApartTree g t → (k : Kind) (r : Rectangle) (x y : ℕ) → IsSeparatorColumn (border_char t k r x y)
+char : (g : BoxSpacing) (t : DrawingPlan) → ApartTree g t → (k : Kind) (r : Rectangle) (x y : ℕ) → IsSeparatorColumn (border_char t k r x y)
 char g t h k r x y = char-kind IsSeparatorColumn t separator-space h.borders k r x y
 
-leaf-held : (g : Gaps) (t : Plan) → ApartTree g t → (x y : ℕ) (p : Part) → owner t.parts x y ≡ Some p → p.kind ≡ Leaf
+leaf-held : (g : BoxSpacing) (t : DrawingPlan) → ApartTree g t → (x y : ℕ) (p : Part) → owner t.parts x y ≡ Some p → p.kind ≡ Leaf
     → IsBlockLine t.style p.place.width (leaf_line t p (y - p.place.y))
 unfolding leaf_line
 leaf-held g t h x y p o e =
@@ -75,7 +75,7 @@ leaf-held g t h x y p o e =
 abbrev pub LineOut : ℕ → ℕ → List ℕ → ℕ → Type 0
 LineOut y x out n = IsLine out n
 
-pub left_drawable : (g : Gaps) (t : Plan) → ApartTree g t → 0 < t.style.padding.left.size → IsDrawable t LineOut
+pub left_drawable : (g : BoxSpacing) (t : DrawingPlan) → ApartTree g t → 0 < t.style.padding.left.size → IsDrawable t LineOut
 left_drawable g t h z = record {
   once = h.once;
   bare = around-bare t h.line_marks;
@@ -95,7 +95,7 @@ ClosedOut y x out n = IsClosedLine out n
 closed : {out piece : List ℕ} {m n : ℕ} → IsClosedLine out m → IsLine piece n → Closes piece → IsClosedLine (out ++ piece) (m + n)
 closed p l c = record { line = line-closes p.line l p.closes; closes = closes-append p.line p.closes c }
 
-pub right_drawable : (g : Gaps) (t : Plan) → ApartTree g t → 0 < t.style.padding.right.size → IsDrawable t ClosedOut
+pub right_drawable : (g : BoxSpacing) (t : DrawingPlan) → ApartTree g t → 0 < t.style.padding.right.size → IsDrawable t ClosedOut
 right_drawable g t h z = record {
   once = h.once;
   bare = around-bare t h.line_marks;
@@ -110,11 +110,11 @@ right_drawable g t h z = record {
 -- ---- else a line stands before each
 
 -- behind a place of a line, what is out ends apart
-pub record BarOut (t : Plan) (y x : ℕ) (out : List ℕ) (n : ℕ) : Type 0 where
+pub record BarOut (t : DrawingPlan) (y x : ℕ) (out : List ℕ) (n : ℕ) : Type 0 where
   pub line : IsLine out n
   pub closes : is_border_before t.parts x y ≡ true → Closes out
 
-behind-leaf : (t : Plan) (y x : ℕ) (p : Part) (out : List ℕ) → owner t.parts x y ≡ Some p → p.kind ≡ Leaf
+behind-leaf : (t : DrawingPlan) (y x : ℕ) (p : Part) (out : List ℕ) → owner t.parts x y ≡ Some p → p.kind ≡ Leaf
     → is_border_before t.parts (suc x) y ≡ true → Closes out
 behind-leaf t y x p out o e z = by-kind p.kind e (sym (ap is_line o) ∙ z)
   where
@@ -123,7 +123,7 @@ behind-leaf t y x p out o e z = by-kind p.kind e (sym (ap is_line o) ∙ z)
     by-kind Bar e z = cc
     by-kind Rule e z = cc
 
-pub bar_drawable : (g : Gaps) (t : Plan) → ApartTree g t
+pub bar_drawable : (g : BoxSpacing) (t : DrawingPlan) → ApartTree g t
     → ((x y : ℕ) (p : Part) → owner t.parts x y ≡ Some p → p.kind ≡ Leaf → p.place.x ≡ x → is_border_before t.parts x y ≡ true)
     → IsDrawable t (BarOut t)
 bar_drawable g t h behind = record {

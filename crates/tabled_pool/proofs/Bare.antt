@@ -6,9 +6,9 @@ use Rattle.tabled_pool.specs.Boxes.{Part}
 use Rattle.tabled_pool.specs.Marks.{Around, alone, begun, ended, nothing_around, used_after}
 use Rattle.tabled_pool.specs.Colours.{Mark, is_same, no_mark}
 use Rattle.tabled_pool.specs.Kinds.{is_line_kind}
-use Rattle.tabled_pool.specs.Plan.{Plan}
-use Rattle.tabled_pool.specs.declared.around.Spot.{Spot}
-use Rattle.tabled_pool.specs.declared.around.Spot.TheVariants.{Before, Inside, Behind, Outside}
+use Rattle.tabled_pool.specs.Plan.{DrawingPlan}
+use Rattle.tabled_pool.specs.declared.color_marks.RunSide.{RunSide}
+use Rattle.tabled_pool.specs.declared.color_marks.RunSide.TheVariants.{Before, Inside, Behind, Outside}
 use Rattle.tabled_pool.specs.Around.{
   across,
   around_at,
@@ -19,7 +19,7 @@ use Rattle.tabled_pool.specs.Around.{
   is_last_row,
   main_around,
   right_around,
-  spot,
+  run_side,
   used_main,
   written_corner,
 }
@@ -52,10 +52,10 @@ used-none : (used mark : Option Mark) → IsNoMark used → IsNoMark mark → Is
 used-none None mark u m = m
 used-none (Some v) mark u m = u
 
-corner-none : (t : Plan) (mark : Option Mark) → IsNoMark mark → IsNoMark (written_corner t mark)
+corner-none : (t : DrawingPlan) (mark : Option Mark) → IsNoMark mark → IsNoMark (written_corner t mark)
 corner-none t mark h = elim (has_left t.borders) as (λ b. IsNoMark (cond b mark None)) [ true ↦ h | false ↦ refl ]
 
-main-none : (t : Plan) (corner main : Option Mark) → IsNoMark corner → IsNoMark main → IsNoMark (used_main t corner main)
+main-none : (t : DrawingPlan) (corner main : Option Mark) → IsNoMark corner → IsNoMark main → IsNoMark (used_main t corner main)
 main-none t corner main c m = used-none (written_corner t corner) main (corner-none t corner c) m
 
 -- ---- around a text
@@ -74,7 +74,7 @@ behind-nothing a l e h =
     subst (λ (b : Around). record b { behind = l } ≡ nothing_around) (sym e)
     (subst (λ (m : List ℕ). record nothing_around { behind = m } ≡ nothing_around) (sym h) refl)
 
-main-bare : (t : Plan) (corner main : Option Mark) (r : Rectangle) (x : ℕ) → IsNoMark corner → IsNoMark main
+main-bare : (t : DrawingPlan) (corner main : Option Mark) (r : Rectangle) (x : ℕ) → IsNoMark corner → IsNoMark main
     → main_around t corner main r x ≡ nothing_around
 main-bare t corner main r x c m =
     behind-nothing _ _
@@ -83,7 +83,7 @@ main-bare t corner main r x c m =
     (if-nil (is_last_column t r) (r.x + r.width == x + 1) (ended (used_main t corner main))
     (ended-none (used_main t corner main) (main-none t corner main c m)))
 
-right-bare : (t : Plan) (corner main right : Option Mark) → IsNoMark corner → IsNoMark main → IsNoMark right
+right-bare : (t : DrawingPlan) (corner main right : Option Mark) → IsNoMark corner → IsNoMark main → IsNoMark right
     → right_around t corner main right ≡ nothing_around
 right-bare t corner main right c m r =
     let used = main-none t corner main c m in
@@ -97,7 +97,7 @@ if-bare : (b : Bool) (a : Option Around) → IsBare a → IsBare (cond b a None)
 if-bare true a h = h
 if-bare false a h = refl
 
-across-bare : (t : Plan) (corner main right : Option Mark) (r : Rectangle) (s : Spot) (x : ℕ) → IsNoMark corner → IsNoMark main → IsNoMark right
+across-bare : (t : DrawingPlan) (corner main right : Option Mark) (r : Rectangle) (s : RunSide) (x : ℕ) → IsNoMark corner → IsNoMark main → IsNoMark right
     → IsBare (across t corner main right r s x)
 across-bare t corner main right r Before x c m e = if-bare (has_left t.borders) (Some (begun None corner)) (begun-none None corner refl c)
 across-bare t corner main right r Inside x c m e = main-bare t corner main r x c m
@@ -105,20 +105,20 @@ across-bare t corner main right r Behind x c m e =
     if-bare (is_last_column t r) (Some (right_around t corner main right)) (right-bare t corner main right c m e)
 across-bare t corner main right r Outside x c m e = refl
 
-beside-bare : (t : Plan) (r : Rectangle) (s : Spot) → AreNoMarks t.line_marks → IsBare (beside t r s)
+beside-bare : (t : DrawingPlan) (r : Rectangle) (s : RunSide) → AreNoMarks t.line_marks → IsBare (beside t r s)
 beside-bare t r Before h = if-bare (has_left t.borders) (Some (alone t.line_marks.left)) (alone-none t.line_marks.left h.left)
 beside-bare t r Inside h = refl
 beside-bare t r Behind h = if-bare (is_last_column t r) (Some (alone t.line_marks.right)) (alone-none t.line_marks.right h.right)
 beside-bare t r Outside h = refl
 
-text-bare : (t : Plan) (r : Rectangle) (s : Spot) (x : ℕ) → AreNoMarks t.line_marks → IsBare (around_text t r s x)
+text-bare : (t : DrawingPlan) (r : Rectangle) (s : RunSide) (x : ℕ) → AreNoMarks t.line_marks → IsBare (around_text t r s x)
 text-bare t r Before x h =
     if-bare (has_top t.borders) _
-    (across-bare t t.line_marks.top_left t.line_marks.top t.line_marks.top_right r (spot r.x r.width x) x h.top_left h.top h.top_right)
-text-bare t r Inside x h = beside-bare t r (spot r.x r.width x) h
+    (across-bare t t.line_marks.top_left t.line_marks.top t.line_marks.top_right r (run_side r.x r.width x) x h.top_left h.top h.top_right)
+text-bare t r Inside x h = beside-bare t r (run_side r.x r.width x) h
 text-bare t r Behind x h =
     if-bare (is_last_row t r) _
-    (across-bare t t.line_marks.bottom_left t.line_marks.bottom t.line_marks.bottom_right r (spot r.x r.width x) x h.bottom_left h.bottom
+    (across-bare t t.line_marks.bottom_left t.line_marks.bottom t.line_marks.bottom_right r (run_side r.x r.width x) x h.bottom_left h.bottom
     h.bottom_right)
 text-bare t r Outside x h = refl
 
@@ -132,12 +132,12 @@ first-bare : (a : Option Around) (rest : Around) → IsBare a → rest ≡ nothi
 first-bare None rest h e = e
 first-bare (Some a) rest h e = h
 
-at-bare : (t : Plan) (ps : List Part) (x y : ℕ) → AreNoMarks t.line_marks → around_at t ps x y ≡ nothing_around
+at-bare : (t : DrawingPlan) (ps : List Part) (x y : ℕ) → AreNoMarks t.line_marks → around_at t ps x y ≡ nothing_around
 at-bare t [] x y h = refl
 at-bare t (p ∷ ps) x y h =
     first-bare (around_part t p x y) (around_at t ps x y)
-    (none-bare (is_line_kind p.kind) (around_text t p.place (spot p.place.y p.place.height y) x)
-    (text-bare t p.place (spot p.place.y p.place.height y) x h)) (at-bare t ps x y h)
+    (none-bare (is_line_kind p.kind) (around_text t p.place (run_side p.place.y p.place.height y) x)
+    (text-bare t p.place (run_side p.place.y p.place.height y) x h)) (at-bare t ps x y h)
 
-pub around-bare : (t : Plan) → AreNoMarks t.line_marks → (x y : ℕ) → around_at t t.parts x y ≡ nothing_around
+pub around-bare : (t : DrawingPlan) → AreNoMarks t.line_marks → (x y : ℕ) → around_at t t.parts x y ≡ nothing_around
 around-bare t h x y = at-bare t t.parts x y h

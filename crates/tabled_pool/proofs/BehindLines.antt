@@ -30,7 +30,7 @@ use Rattle.std.proofs.Common.{
   string_bytes,
 }
 use Rattle.tabled_config.specs.declared.sides.Sides.{Sides}
-use Rattle.tabled_pool.specs.declared.gaps.Gaps.{Gaps}
+use Rattle.tabled_pool.specs.declared.box_spacing.BoxSpacing.{BoxSpacing}
 use Rattle.tabled_pool.specs.declared.pieces.Rectangle.{Rectangle}
 use Rattle.tabled_pool.specs.declared.pieces.Kind.TheVariants.{Leaf, Bar, Rule}
 use Rattle.tabled_pool.specs.declared.tree.TableValue.{TableValue}
@@ -149,7 +149,7 @@ at-most ps qs q r x y e =
     let le = within-le r x y in
     (omega (arith, e, le), omega (arith, e, le, covering-append ps (q ∷ qs) x y))
 
-row-behind : (g : Gaps) → g.bar ≡ 1 → (b : Box) (bs : List Box) → TextsBehind b → AllBehind bs → Tiles b → AllTile bs → (r : Rectangle) (x y : ℕ) (p : Part)
+row-behind : (g : BoxSpacing) → g.bar ≡ 1 → (b : Box) (bs : List Box) → TextsBehind b → AllBehind bs → Tiles b → AllTile bs → (r : Rectangle) (x y : ℕ) (p : Part)
     → row_width g b bs ≤ r.width → row_height b bs ≤ r.height → owner (row_parts g b bs r) x y ≡ Some p → p.kind ≡ Leaf → p.place.x ≡ x
     → IsBehind (row_parts g b bs r) r.x x y
 row-behind g e b [] t ts u us r x y p w h o k s = t.behind r x y p w h o k s
@@ -178,7 +178,7 @@ row-behind g e b (c ∷ bs) t (t2, ts) u (u2, us) r x y p w h o k s =
     (row-behind g e c bs t2 ts u2 us last x y p (omega arith) (omega arith) z k s))
     (owner-either ps (bar ∷ qs) x y p o)
 
-column-behind : (g : Gaps) (b : Box) (bs : List Box) → TextsBehind b → AllBehind bs → Tiles b → AllTile bs → (r : Rectangle) (x y : ℕ) (p : Part)
+column-behind : (g : BoxSpacing) (b : Box) (bs : List Box) → TextsBehind b → AllBehind bs → Tiles b → AllTile bs → (r : Rectangle) (x y : ℕ) (p : Part)
     → column_width b bs ≤ r.width → column_height g b bs ≤ r.height → owner (column_parts g b bs r) x y ≡ Some p → p.kind ≡ Leaf → p.place.x ≡ x
     → IsBehind (column_parts g b bs r) r.x x y
 column-behind g b [] t ts u us r x y p w h o k s = t.behind r x y p w h o k s
@@ -203,7 +203,7 @@ column-behind g b (c ∷ bs) t (t2, ts) u (u2, us) r x y p w h o k s =
     (column-behind g c bs t2 ts u2 us last x y p (omega arith) (omega arith) z k s))
     (owner-either ps (rule ∷ qs) x y p o)
 
-leaf-behind : (g : Gaps) (text : List ℕ) → TextsBehind (leaf_box g text)
+leaf-behind : (g : BoxSpacing) (text : List ℕ) → TextsBehind (leaf_box g text)
 leaf-behind g text = record {
   behind = λ r x y p w h o k s. ⊎_elim
       (λ i. let e : part_of Leaf r text ≡ p = cc (owner-here (part_of Leaf r text) [] x y i) in inl (sym s ∙ sym (ap (λ z. z.place.x) e)))
@@ -211,28 +211,28 @@ leaf-behind g text = record {
       (is-1 (within r x y));
 }
 
-row_box-behind : (g : Gaps) → g.bar ≡ 1 → (bs : List Box) → AllBehind bs → AllTile bs → TextsBehind (row_box g bs)
+row_box-behind : (g : BoxSpacing) → g.bar ≡ 1 → (bs : List Box) → AllBehind bs → AllTile bs → TextsBehind (row_box g bs)
 row_box-behind g e [] ts us = leaf-behind g []
 row_box-behind g e (b ∷ bs) (t, ts) (u, us) = record { behind = λ r x y p w h o k s. row-behind g e b bs t ts u us r x y p w h o k s }
 
-column_box-behind : (g : Gaps) (bs : List Box) → AllBehind bs → AllTile bs → TextsBehind (column_box g bs)
+column_box-behind : (g : BoxSpacing) (bs : List Box) → AllBehind bs → AllTile bs → TextsBehind (column_box g bs)
 column_box-behind g [] ts us = leaf-behind g []
 column_box-behind g (b ∷ bs) (t, ts) (u, us) = record { behind = λ r x y p w h o k s. column-behind g b bs t ts u us r x y p w h o k s }
 
 -- ---- trees
 
-abbrev Holds : Gaps → TableValue → Type 0
+abbrev Holds : BoxSpacing → TableValue → Type 0
 Holds g t = TextsBehind (box_of g t)
 
-all-behind : (g : Gaps) (es : List ((t : TableValue) × Holds g t)) → AllBehind (map (box_of g) (map (λ e. e.0) es))
+all-behind : (g : BoxSpacing) (es : List ((t : TableValue) × Holds g t)) → AllBehind (map (box_of g) (map (λ e. e.0) es))
 all-behind g [] = tt
 all-behind g (e ∷ es) = (e.1, all-behind g es)
 
-all-tile : (g : Gaps) (es : List ((t : TableValue) × Holds g t)) → AllTile (map (box_of g) (map (λ e. e.0) es))
+all-tile : (g : BoxSpacing) (es : List ((t : TableValue) × Holds g t)) → AllTile (map (box_of g) (map (λ e. e.0) es))
 all-tile g [] = tt
 all-tile g (e ∷ es) = (tree-tiles g e.0, all-tile g es)
 
-tree-behind : (g : Gaps) → g.bar ≡ 1 → (t : TableValue) → TextsBehind (box_of g t)
+tree-behind : (g : BoxSpacing) → g.bar ≡ 1 → (t : TableValue) → TextsBehind (box_of g t)
 tree-behind g e = ind-TableValue (Holds g) (λ x y is.
     subst (λ z. TextsBehind (box_of g (roll-TableValue z))) is
     (subst TextsBehind (sym (fold-roll-TableValue Box (box_step g) (map-TableValue _ TableValue (λ e. e.0) y)))
@@ -243,7 +243,7 @@ tree-behind g e = ind-TableValue (Holds g) (λ x y is.
     ])))
 
 -- a tree in its frame: a line stands before each text
-pub framed-behind : (g : Gaps) → g.bar ≡ 1 → (t : TableValue) (e : Sides ℕ) (w : Rectangle) → e.left ≡ 1
+pub framed-behind : (g : BoxSpacing) → g.bar ≡ 1 → (t : TableValue) (e : Sides ℕ) (w : Rectangle) → e.left ≡ 1
     → e.left + (box_of g t).width + e.right ≤ w.width → e.top + (box_of g t).height + e.bottom ≤ w.height
     → (x y : ℕ) (p : Part) → owner (framed e (box_of g t) w) x y ≡ Some p → p.kind ≡ Leaf → p.place.x ≡ x
     → is_border_before (framed e (box_of g t) w) x y ≡ true

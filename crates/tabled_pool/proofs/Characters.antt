@@ -6,7 +6,7 @@ use Rattle.tabled_config.specs.Junction.{junction}
 use Rattle.tabled_pool.specs.declared.pieces.Rectangle.{Rectangle}
 use Rattle.tabled_pool.specs.declared.pieces.Kind.{Kind}
 use Rattle.tabled_pool.specs.declared.pieces.Kind.TheVariants.{Leaf, Bar, Rule}
-use Rattle.tabled_pool.specs.Plan.{Plan}
+use Rattle.tabled_pool.specs.Plan.{DrawingPlan}
 use Rattle.tabled_pool.specs.Characters.{EachCharacter}
 use Rattle.tabled_pool.specs.Drawn.{main_of, border_char}
 use Rattle.tabled_pool.specs.Frames.{has_bottom}
@@ -38,14 +38,14 @@ junction-kind IsKind b s h false true false false = s
 junction-kind IsKind b s h true false false false = s
 junction-kind IsKind b s h true true false false = s
 
-main-kind : (IsKind : ℕ → Type 0) (t : Plan) → IsKind 32 → EachCharacter IsKind t.borders → (k : Kind) (r : Rectangle) → Of IsKind (main_of t k r)
+main-kind : (IsKind : ℕ → Type 0) (t : DrawingPlan) → IsKind 32 → EachCharacter IsKind t.borders → (k : Kind) (r : Rectangle) → Of IsKind (main_of t k r)
 main-kind IsKind t s h Leaf r = s
 main-kind IsKind t s h Bar r =
     if-kind IsKind (has_right t.borders && (r.x + r.width == t.width)) t.borders.right t.borders.left h.lines.right h.lines.left
 main-kind IsKind t s h Rule r =
     if-kind IsKind (has_bottom t.borders && (r.y + r.height == t.height)) t.borders.bottom t.borders.top h.lines.bottom h.lines.top
 
-pub char-kind : (IsKind : ℕ → Type 0) (t : Plan) → IsKind 32 → EachCharacter IsKind t.borders → (k : Kind) (r : Rectangle) (x y : ℕ)
+pub char-kind : (IsKind : ℕ → Type 0) (t : DrawingPlan) → IsKind 32 → EachCharacter IsKind t.borders → (k : Kind) (r : Rectangle) (x y : ℕ)
     → IsKind (border_char t k r x y)
 unfolding border_char
 char-kind IsKind t s h k r x y =

@@ -7,7 +7,7 @@ use Rattle.tabled_pool.specs.Boxes.{Part}
 use Rattle.tabled_pool.specs.Tiling.{within, covering}
 use Rattle.tabled_pool.specs.Marks.{nothing_around}
 use Rattle.tabled_pool.specs.Leaf.{leaf_line}
-use Rattle.tabled_pool.specs.Plan.{Plan}
+use Rattle.tabled_pool.specs.Plan.{DrawingPlan}
 use Rattle.tabled_pool.specs.Around.{around_at}
 use Rattle.tabled_pool.specs.Drawn.{border_char}
 use Rattle.tabled_pool.specs.Owner.{owner}
@@ -15,7 +15,7 @@ use Rattle.tabled_pool.specs.Whole.{whole}
 
 -- what is known of a text that is out on the line y before the place x, and takes n columns: nothing is out at first,
 -- and each piece that may stand at x adds its columns; a leaf that goes on adds nothing
-pub record IsDrawable (t : Plan) (Out : ℕ → ℕ → List ℕ → ℕ → Type 0) : Type 0 where
+pub record IsDrawable (t : DrawingPlan) (Out : ℕ → ℕ → List ℕ → ℕ → Type 0) : Type 0 where
   pub once : (x y : ℕ) → covering t.parts x y ≡ within (whole t) x y
   pub bare : (x y : ℕ) → around_at t t.parts x y ≡ nothing_around
   pub columns : (y x : ℕ) (out : List ℕ) (n : ℕ) → Out y x out n → line_columns out ≡ n

@@ -1,6 +1,6 @@
 -- Each leaf of a tree is given at least its own size.
 use Rattle.std.proofs.Common.{ℕ, ◌+◌, ◌-◌, ◌≤◌, List, [], ◌∷◌, ◌++◌, map, length, sym, subst, arith, string_bytes}
-use Rattle.tabled_pool.specs.declared.gaps.Gaps.{Gaps}
+use Rattle.tabled_pool.specs.declared.box_spacing.BoxSpacing.{BoxSpacing}
 use Rattle.tabled_pool.specs.declared.pieces.Rectangle.{Rectangle}
 use Rattle.tabled_pool.specs.declared.pieces.Kind.TheVariants.{Bar, Rule}
 use Rattle.tabled_pool.specs.declared.tree.TableValue.{TableValue}
@@ -33,21 +33,21 @@ use Rattle.tabled_pool.specs.Boxes.{
 use Rattle.tabled_pool.specs.Tiling.{FitsLeaf, EachFits, LeavesFit}
 use Rattle.tabled_pool.proofs.Tiling.{share_within}
 
-fits-append : (g : Gaps) (ps qs : List Part) → EachFits g ps → EachFits g qs → EachFits g (ps ++ qs)
+fits-append : (g : BoxSpacing) (ps qs : List Part) → EachFits g ps → EachFits g qs → EachFits g (ps ++ qs)
 fits-append g [] qs p q = q
 fits-append g (x ∷ xs) qs p q = (p.0, fits-append g xs qs p.1 q)
 
-bar-fits : (g : Gaps) (r : Rectangle) → FitsLeaf g (part_of Bar r [])
+bar-fits : (g : BoxSpacing) (r : Rectangle) → FitsLeaf g (part_of Bar r [])
 bar-fits g r e = cc
 
-rule-fits : (g : Gaps) (r : Rectangle) → FitsLeaf g (part_of Rule r [])
+rule-fits : (g : BoxSpacing) (r : Rectangle) → FitsLeaf g (part_of Rule r [])
 rule-fits g r e = cc
 
-abbrev pub AllFit : Gaps → List Box → Type 0
+abbrev pub AllFit : BoxSpacing → List Box → Type 0
 AllFit g [] = Unit {0}
 AllFit g (b ∷ bs) = LeavesFit g b × AllFit g bs
 
-row-fits : (g : Gaps) (b : Box) (bs : List Box) → LeavesFit g b → AllFit g bs → (r : Rectangle)
+row-fits : (g : BoxSpacing) (b : Box) (bs : List Box) → LeavesFit g b → AllFit g bs → (r : Rectangle)
     → row_width g b bs ≤ r.width → row_height b bs ≤ r.height → EachFits g (row_parts g b bs r)
 row-fits g b [] t ts r w h = t.fit r w h
 row-fits g b (c ∷ bs) t (u, ts) r w h =
@@ -58,7 +58,7 @@ row-fits g b (c ∷ bs) t (u, ts) r w h =
     fits-append g (b.parts (left_part n r)) _ (t.fit (left_part n r) (omega arith) (omega arith))
     (bar-fits g (left_part g.bar rest), row-fits g c bs u ts (right_part g.bar rest) (omega arith) (omega arith))
 
-column-fits : (g : Gaps) (b : Box) (bs : List Box) → LeavesFit g b → AllFit g bs → (r : Rectangle)
+column-fits : (g : BoxSpacing) (b : Box) (bs : List Box) → LeavesFit g b → AllFit g bs → (r : Rectangle)
     → column_width b bs ≤ r.width → column_height g b bs ≤ r.height → EachFits g (column_parts g b bs r)
 column-fits g b [] t ts r w h = t.fit r w h
 column-fits g b (c ∷ bs) t (u, ts) r w h =
@@ -69,26 +69,26 @@ column-fits g b (c ∷ bs) t (u, ts) r w h =
     fits-append g (b.parts (top_part n r)) _ (t.fit (top_part n r) (omega arith) (omega arith))
     (rule-fits g (top_part g.rule rest), column-fits g c bs u ts (bottom_part g.rule rest) (omega arith) (omega arith))
 
-leaf-fits : (g : Gaps) (text : List ℕ) → LeavesFit g (leaf_box g text)
+leaf-fits : (g : BoxSpacing) (text : List ℕ) → LeavesFit g (leaf_box g text)
 leaf-fits g text = record { fit = λ r w h. ((λ e. record { wide = w; tall = h }), tt) }
 
-row_box-fits : (g : Gaps) (bs : List Box) → AllFit g bs → LeavesFit g (row_box g bs)
+row_box-fits : (g : BoxSpacing) (bs : List Box) → AllFit g bs → LeavesFit g (row_box g bs)
 row_box-fits g [] ts = leaf-fits g []
 row_box-fits g (b ∷ bs) (t, ts) = record { fit = λ r w h. row-fits g b bs t ts r w h }
 
-column_box-fits : (g : Gaps) (bs : List Box) → AllFit g bs → LeavesFit g (column_box g bs)
+column_box-fits : (g : BoxSpacing) (bs : List Box) → AllFit g bs → LeavesFit g (column_box g bs)
 column_box-fits g [] ts = leaf-fits g []
 column_box-fits g (b ∷ bs) (t, ts) = record { fit = λ r w h. column-fits g b bs t ts r w h }
 
-abbrev Holds : Gaps → TableValue → Type 0
+abbrev Holds : BoxSpacing → TableValue → Type 0
 Holds g t = LeavesFit g (box_of g t)
 
-all-map : (g : Gaps) (es : List ((t : TableValue) × Holds g t)) → AllFit g (map (box_of g) (map (λ e. e.0) es))
+all-map : (g : BoxSpacing) (es : List ((t : TableValue) × Holds g t)) → AllFit g (map (box_of g) (map (λ e. e.0) es))
 all-map g [] = tt
 all-map g (e ∷ es) = (e.1, all-map g es)
 
 -- every tree
-pub tree-fits : (g : Gaps) (t : TableValue) → LeavesFit g (box_of g t)
+pub tree-fits : (g : BoxSpacing) (t : TableValue) → LeavesFit g (box_of g t)
 tree-fits g = ind-TableValue (Holds g) (λ x y is.
     subst (λ z. LeavesFit g (box_of g (roll-TableValue z))) is
     (subst (LeavesFit g) (sym (fold-roll-TableValue Box (box_step g) (map-TableValue _ TableValue (λ e. e.0) y)))

@@ -6,7 +6,7 @@ use Rattle.tabled_pool.specs.Boxes.{Box, left_part, right_part, top_part, bottom
 use Rattle.tabled_pool.specs.Tiling.{within, covering, Tiles, AreTiles, EachFits, LeavesFit, framed}
 use Rattle.tabled_pool.proofs.Tiling.{within-across, within-down, tree-tiles}
 use Rattle.tabled_pool.proofs.Fitting.{tree-fits}
-use Rattle.tabled_pool.specs.declared.gaps.Gaps.{Gaps}
+use Rattle.tabled_pool.specs.declared.box_spacing.BoxSpacing.{BoxSpacing}
 use Rattle.tabled_pool.specs.declared.tree.TableValue.{TableValue}
 
 pub framed-tiles : (e : Sides ℕ) (b : Box) (w : Rectangle) (px py : ℕ) → Tiles b
@@ -26,17 +26,17 @@ framed-tiles e b w px py t h v =
     )
 
 -- the outer lines hold no text
-pub framed-fits : (g : Gaps) (e : Sides ℕ) (b : Box) (w : Rectangle) → LeavesFit g b
+pub framed-fits : (g : BoxSpacing) (e : Sides ℕ) (b : Box) (w : Rectangle) → LeavesFit g b
     → e.left + b.width + e.right ≤ w.width → e.top + b.height + e.bottom ≤ w.height → EachFits g (framed e b w)
 unfolding framed
 framed-fits g e b w t h v = ((λ k. cc), ((λ k. cc), ((λ k. cc), ((λ k. cc), t.fit _ (omega arith) (omega arith)))))
 
 -- ---- every tree in its frame
 
-pub tree_framed_tiles : (g : Gaps) (t : TableValue) (e : Sides ℕ) (w : Rectangle)
+pub tree_framed_tiles : (g : BoxSpacing) (t : TableValue) (e : Sides ℕ) (w : Rectangle)
     → e.left + (box_of g t).width + e.right ≤ w.width → e.top + (box_of g t).height + e.bottom ≤ w.height → AreTiles (framed e (box_of g t) w) w
 tree_framed_tiles g t e w h v = λ px py. framed-tiles e (box_of g t) w px py (tree-tiles g t) h v
 
-pub tree_framed_fits : (g : Gaps) (t : TableValue) (e : Sides ℕ) (w : Rectangle)
+pub tree_framed_fits : (g : BoxSpacing) (t : TableValue) (e : Sides ℕ) (w : Rectangle)
     → e.left + (box_of g t).width + e.right ≤ w.width → e.top + (box_of g t).height + e.bottom ≤ w.height → EachFits g (framed e (box_of g t) w)
 tree_framed_fits g t e w h v = framed-fits g e (box_of g t) w (tree-fits g t) h v

@@ -1,4 +1,4 @@
-pub mod Ahead
+pub mod UpcomingCells
 pub mod ApartBlocks
 pub mod Aparts
 pub mod Bare
@@ -17,7 +17,7 @@ pub mod NearLines
 pub mod NodeSums
 pub mod Owners
 pub mod Padded
-pub mod PanelLines
+pub mod BlockLines
 pub mod PlainBlocks
 pub mod Plains
 pub mod PoolBlocks

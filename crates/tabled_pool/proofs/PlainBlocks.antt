@@ -9,7 +9,7 @@ use Rattle.tabled_text.proofs.PlainLines.{plain_line-append, plain_line-as, plai
 use Rattle.tabled_config.specs.declared.alignment.AlignmentHorizontal.{AlignmentHorizontal}
 use Rattle.tabled_config.specs.declared.alignment.AlignmentHorizontal.TheVariants as horizontal
 use Rattle.tabled_config.specs.declared.spanned.CellStyle.{CellStyle}
-use Rattle.tabled_line.specs.Block.{before_text, text_room, columns_before, cell_line}
+use Rattle.tabled_line.specs.Block.{before_text, inner_width, columns_before, cell_line}
 use Rattle.tabled_line.specs.Plain.{IsPlainStyle}
 use Rattle.tabled_line.specs.Fill.{fill}
 use Rattle.tabled_line.proofs.Plains.{plain-fill}
@@ -45,8 +45,8 @@ plain-cell_line s w text j p l =
     let line = get_or (lines_of text) j [] in
     let le = line_columns-le text j l in
     let fits = p.fits in
-    let before = columns_before-fits s (text_room s w) text line le (omega arith) in
-    let room = text_room s w in
+    let before = columns_before-fits s (inner_width s w) text line le (omega arith) in
+    let room = inner_width s w in
     let indented = columns_before s room text line in
     plain_line-as
     (plain_line-append (plain-fill s.padding.left.fill s.padding.left.size p.style.left)
@@ -67,14 +67,14 @@ plain-text_line : (s : CellStyle) (w : ℕ) (text : List ℕ) (j : ℕ) → IsPl
     → IsAdditiveLine (text_line s bare w text (get_or (lines_of text) j [])) w
 plain-text_line s w text j p l =
     let fits = p.fits in
-    let inner : IsPlainBox (without_sides s) (text_room s w) text = record {
+    let inner : IsPlainBox (without_sides s) (inner_width s w) text = record {
       style = record { left = plain_column-space; right = plain_column-space; top = p.style.top; bottom = p.style.bottom };
       plain = p.plain;
       fits = omega arith;
     } in
     plain_line-as
     (plain_line-append (plain-run (plain-fill s.padding.left.fill s.padding.left.size p.style.left))
-    (plain_line-append (plain-cell_line (without_sides s) (text_room s w) text j inner l)
+    (plain_line-append (plain-cell_line (without_sides s) (inner_width s w) text j inner l)
     (plain-run (plain-fill s.padding.right.fill s.padding.right.size p.style.right))))
     (omega arith)
 

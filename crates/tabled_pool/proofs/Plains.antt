@@ -2,13 +2,13 @@
 use Rattle.std.proofs.Common.{◌≡◌, ℕ, ◌-◌, List, [], ◌∷◌, Some, get_or, sym, ◌∙◌, subst, arith, ⊎_elim}
 use Rattle.tabled_text.specs.Plain.{IsAdditiveColumn, IsAdditiveLine}
 use Rattle.tabled_text.proofs.PlainLines.{plain_column-space, plain_line-append, plain_line-nil, plain_line-one}
-use Rattle.tabled_pool.specs.declared.gaps.Gaps.{Gaps}
+use Rattle.tabled_pool.specs.declared.box_spacing.BoxSpacing.{BoxSpacing}
 use Rattle.tabled_pool.specs.declared.pieces.Kind.TheVariants.{Leaf}
 use Rattle.tabled_pool.specs.Boxes.{Part}
 use Rattle.tabled_pool.specs.Tiling.{within, FitsLeaf, EachFits}
 use Rattle.tabled_pool.specs.Leaf.{leaf_line}
 use Rattle.tabled_pool.specs.Block.{pool_block}
-use Rattle.tabled_pool.specs.Plan.{Plan}
+use Rattle.tabled_pool.specs.Plan.{DrawingPlan}
 use Rattle.tabled_pool.specs.Owner.{owner}
 use Rattle.tabled_pool.specs.PlainTree.{PlainTree}
 use Rattle.tabled_pool.proofs.Bare.{around-bare}
@@ -17,14 +17,14 @@ use Rattle.tabled_pool.proofs.Drawable.{IsDrawable}
 use Rattle.tabled_pool.proofs.Owners.{within-inside, owner-inside, owner-here, owner-behind, is-1}
 use Rattle.tabled_pool.proofs.PlainBlocks.{plain-pool_block}
 
-pub owner-fits : (g : Gaps) (ps : List Part) (x y : ℕ) (p : Part) → EachFits g ps → owner ps x y ≡ Some p → FitsLeaf g p
+pub owner-fits : (g : BoxSpacing) (ps : List Part) (x y : ℕ) (p : Part) → EachFits g ps → owner ps x y ≡ Some p → FitsLeaf g p
 owner-fits g [] x y p f h = cc
 owner-fits g (q ∷ ps) x y p f h = ⊎_elim
     (λ w. let e : q ≡ p = cc (owner-here q ps x y w) in subst (FitsLeaf g) e f.0)
     (λ w. owner-fits g ps x y p f.1 (sym (owner-behind q ps x y w) ∙ h))
     (is-1 (within q.place x y))
 
-leaf-measured : (g : Gaps) (t : Plan) → PlainTree g t → (x y : ℕ) (p : Part) → owner t.parts x y ≡ Some p → p.kind
+leaf-measured : (g : BoxSpacing) (t : DrawingPlan) → PlainTree g t → (x y : ℕ) (p : Part) → owner t.parts x y ≡ Some p → p.kind
     ≡ Leaf → IsAdditiveLine (leaf_line t p (y - p.place.y)) p.place.width
 unfolding leaf_line
 leaf-measured g t h x y p o e =
@@ -40,7 +40,7 @@ leaf-measured g t h x y p o e =
 abbrev pub PlainOut : ℕ → ℕ → List ℕ → ℕ → Type 0
 PlainOut y x out n = IsAdditiveLine out n
 
-pub plain_drawable : (g : Gaps) (t : Plan) → PlainTree g t → IsDrawable t PlainOut
+pub plain_drawable : (g : BoxSpacing) (t : DrawingPlan) → PlainTree g t → IsDrawable t PlainOut
 plain_drawable g t h = record {
   once = h.once;
   bare = around-bare t h.line_marks;

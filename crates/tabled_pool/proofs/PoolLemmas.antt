@@ -8,9 +8,9 @@ use Rattle.tabled_config.specs.declared.spanned.CellStyle.{CellStyle}
 use Rattle.tabled_pool.specs.Boxes.{Part}
 use Rattle.tabled_pool.specs.Margins.{with_margin}
 use Rattle.tabled_pool.specs.Colours.{LineMarks, Mark, line_marks_of, marks_of}
-use Rattle.tabled_pool.specs.Plan.{Plan}
-use Rattle.tabled_pool.specs.Handed.{handed_panel, has_bare}
-use Rattle.tabled_pool.specs.Panels.{Panel}
+use Rattle.tabled_pool.specs.Plan.{DrawingPlan}
+use Rattle.tabled_pool.specs.Inherited.{inherited_block, has_zero_width}
+use Rattle.tabled_pool.specs.DrawnBlocks.{BlockSheet}
 use Rattle.tabled_pool.specs.declared.pool_table.PoolTable.{PoolTable}
 use Rattle.tabled_pool.specs.Drawn.{drawn}
 use Rattle.tabled_pool.specs.Pool.{
@@ -18,7 +18,7 @@ use Rattle.tabled_pool.specs.Pool.{
   borders_of,
   framed_height,
   framed_width,
-  gaps_of,
+  spacing_of,
   margin_around,
   margin_marks,
   margin_of,
@@ -36,32 +36,32 @@ pub lined : (t : PoolTable) → HasColumns t
 unfolding pool_lines
 lined t h = rw h refl
 
-pub handed_lines : (t : PoolTable) → has_bare (plan t).parts ≡ true
-    → pool_lines t ≡ margined t (handed_panel (plan t) (gaps_of t) t.value)
+pub inherited_lines : (t : PoolTable) → has_zero_width (plan t).parts ≡ true
+    → pool_lines t ≡ margined t (inherited_block (plan t) (spacing_of t) t.value)
 unfolding pool_lines
-handed_lines t h = rw h refl
+inherited_lines t h = rw h refl
 
-drawn-text : (t : PoolTable) (p : Plan) (m : Sides Indent) (ms : Sides Mark) → p ≡ plan t → m ≡ margin_of t → ms ≡ margin_marks t
+drawn-text : (t : PoolTable) (p : DrawingPlan) (m : Sides Indent) (ms : Sides Mark) → p ≡ plan t → m ≡ margin_of t → ms ≡ margin_marks t
     → with_margin (margin_of t) (margin_marks t) (framed_width t) (drawn (plan t)) ≡ with_margin m ms p.width (drawn p)
 unfolding plan
 drawn-text t p m ms e1 e2 e3 = rw (e1, e2, e3) refl
 
 -- a plan with its margin is the text of the table whose it is
-pub text_of : (t : PoolTable) (p : Plan) (m : Sides Indent) (ms : Sides Mark) → HasColumns t → p ≡ plan t → m ≡ margin_of t
+pub text_of : (t : PoolTable) (p : DrawingPlan) (m : Sides Indent) (ms : Sides Mark) → HasColumns t → p ≡ plan t → m ≡ margin_of t
     → ms ≡ margin_marks t → pool_text t ≡ join_with_byte 10 (with_margin m ms p.width (drawn p))
 unfolding pool_text
 text_of t p m ms h e1 e2 e3 = ap (join_with_byte 10) (lined t h ∙ drawn-text t p m ms e1 e2 e3)
 
-panel-text : (t : PoolTable) (p q : Panel) (m : Sides Indent) (ms : Sides Mark) → p ≡ q → m ≡ margin_around t p
+block-text : (t : PoolTable) (p q : BlockSheet) (m : Sides Indent) (ms : Sides Mark) → p ≡ q → m ≡ margin_around t p
     → ms ≡ marks_for t m → margined t q ≡ with_margin m ms p.width p.lines
-panel-text t p q m ms e1 e2 e3 = rw (e3, e2, e1) refl
+block-text t p q m ms e1 e2 e3 = rw (e3, e2, e1) refl
 
 -- drawn lines with their margin are the text of the table whose they are
-pub handed_text : (t : PoolTable) (p : Panel) (m : Sides Indent) (ms : Sides Mark) → has_bare (plan t).parts ≡ true
-    → p ≡ handed_panel (plan t) (gaps_of t) t.value → m ≡ margin_around t p → ms ≡ marks_for t m
+pub inherited_text : (t : PoolTable) (p : BlockSheet) (m : Sides Indent) (ms : Sides Mark) → has_zero_width (plan t).parts ≡ true
+    → p ≡ inherited_block (plan t) (spacing_of t) t.value → m ≡ margin_around t p → ms ≡ marks_for t m
     → pool_text t ≡ join_with_byte 10 (with_margin m ms p.width p.lines)
 unfolding pool_text
-handed_text t p m ms h e1 e2 e3 = ap (join_with_byte 10) (handed_lines t h ∙ panel-text t p _ m ms e1 e2 e3)
+inherited_text t p m ms h e1 e2 e3 = ap (join_with_byte 10) (inherited_lines t h ∙ block-text t p _ m ms e1 e2 e3)
 
 pub plan_is : (t : PoolTable) (ps : List Part) (w h : ℕ) (b : Borders ℕ) (s : CellStyle) (pm : Sides Mark) (lm : LineMarks)
     → ps ≡ (plan t).parts → w ≡ framed_width t → h ≡ framed_height t → b ≡ borders_of t → s ≡ style_of t.config

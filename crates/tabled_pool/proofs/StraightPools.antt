@@ -21,7 +21,7 @@ use Rattle.tabled_pool.specs.Tree.{tree_of}
 use Rattle.tabled_pool.proofs.Framing.{tree_framed_tiles, tree_framed_fits}
 use Rattle.tabled_pool.specs.Colours.{marks_of, no_mark}
 use Rattle.tabled_pool.specs.Margins.{margin_line, within_margin, with_margin}
-use Rattle.tabled_pool.specs.Plan.{Plan}
+use Rattle.tabled_pool.specs.Plan.{DrawingPlan}
 use Rattle.tabled_pool.specs.declared.pool_table.PoolTable.{PoolTable}
 use Rattle.tabled_pool.specs.Apart.{IsApartMargin, IsApartPool, IsStraightPool}
 use Rattle.tabled_pool.specs.Drawn.{drawn, drawn_line}
@@ -32,7 +32,7 @@ use Rattle.tabled_pool.specs.Pool.{
   frame_of,
   frame_place,
   framed_width,
-  gaps_of,
+  spacing_of,
   has_margin,
   margin_marks,
   margin_of,
@@ -55,11 +55,11 @@ use Rattle.tabled_pool.proofs.TreeTexts.{additive-each, additive-nil, framed-tex
 
 -- ---- the trees of such tables
 
-plain_plan : (t : PoolTable) → IsAdditivePool t → PlainTree (gaps_of t) (plan t)
+plain_plan : (t : PoolTable) → IsAdditivePool t → PlainTree (spacing_of t) (plan t)
 unfolding plan
 plain_plan t h = record {
-  once = tree_framed_tiles (gaps_of t) t.value (frame_of (borders_of t)) (frame_place t) (omega arith) (omega arith);
-  fits = tree_framed_fits (gaps_of t) t.value (frame_of (borders_of t)) (frame_place t) (omega arith) (omega arith);
+  once = tree_framed_tiles (spacing_of t) t.value (frame_of (borders_of t)) (frame_place t) (omega arith) (omega arith);
+  fits = tree_framed_fits (spacing_of t) t.value (frame_of (borders_of t)) (frame_place t) (omega arith) (omega arith);
   left = refl;
   right = refl;
   top = refl;
@@ -67,16 +67,16 @@ plain_plan t h = record {
   borders = h.settings.borders;
   style = h.settings.style;
   texts = λ x y p o k. owner-text IsAdditive _ x y p
-      (framed-texts IsAdditive additive-nil (gaps_of t) t.value h.texts (frame_of (borders_of t)) (frame_place t)) o;
+      (framed-texts IsAdditive additive-nil (spacing_of t) t.value h.texts (frame_of (borders_of t)) (frame_place t)) o;
   padding_marks = h.settings.uncoloured.padding;
   line_marks = h.settings.uncoloured.borders;
 }
 
-apart_plan : (t : PoolTable) → IsApartPool t → ApartTree (gaps_of t) (plan t)
+apart_plan : (t : PoolTable) → IsApartPool t → ApartTree (spacing_of t) (plan t)
 unfolding plan
 apart_plan t h = record {
-  once = tree_framed_tiles (gaps_of t) t.value (frame_of (borders_of t)) (frame_place t) (omega arith) (omega arith);
-  fits = tree_framed_fits (gaps_of t) t.value (frame_of (borders_of t)) (frame_place t) (omega arith) (omega arith);
+  once = tree_framed_tiles (spacing_of t) t.value (frame_of (borders_of t)) (frame_place t) (omega arith) (omega arith);
+  fits = tree_framed_fits (spacing_of t) t.value (frame_of (borders_of t)) (frame_place t) (omega arith) (omega arith);
   left = refl;
   right = refl;
   top = refl;
@@ -84,18 +84,18 @@ apart_plan t h = record {
   borders = h.borders;
   style = h.style;
   texts = λ x y p o. owner-text IsUtf8 _ x y p
-      (framed-texts IsUtf8 IsUtf8-nil (gaps_of t) t.value (tree-utf8 t.value) (frame_of (borders_of t)) (frame_place t)) o;
+      (framed-texts IsUtf8 IsUtf8-nil (spacing_of t) t.value (tree-utf8 t.value) (frame_of (borders_of t)) (frame_place t)) o;
   padding_marks = h.uncoloured.padding;
   line_marks = h.uncoloured.borders;
 }
 
 -- the lines of a drawing are put together piece by piece, and each of them is a line
-record AreDrawn (t : Plan) : Type 0 where
+record AreDrawn (t : DrawingPlan) : Type 0 where
   tiled : Tiled t
   takes : EachLineTakes t.width (drawn t)
   lines : (y : ℕ) → y < t.height → IsLine (drawn_line t y) t.width
 
-drawn-by : {Out : ℕ → ℕ → List ℕ → ℕ → Type 0} (t : Plan) → IsDrawable t Out → ((y x : ℕ) (out : List ℕ) (n : ℕ) → Out y x out n → IsLine out n)
+drawn-by : {Out : ℕ → ℕ → List ℕ → ℕ → Type 0} (t : DrawingPlan) → IsDrawable t Out → ((y x : ℕ) (out : List ℕ) (n : ℕ) → Out y x out n → IsLine out n)
     → AreDrawn t
 drawn-by t d line = record {
   tiled = drawn_tiles t d;
@@ -109,21 +109,21 @@ bar-is-1 t h = ap one_if h
 bar_drawn : (t : PoolTable) → IsApartPool t → has_left (borders_of t) ≡ true → AreDrawn (plan t)
 unfolding plan
 bar_drawn t h l =
-    drawn-by _ (bar_drawable (gaps_of t) _ (apart_plan t h)
-    (λ x y p o k s. framed-behind (gaps_of t) (bar-is-1 t l) t.value (frame_of (borders_of t)) (frame_place t) (bar-is-1 t l)
+    drawn-by _ (bar_drawable (spacing_of t) _ (apart_plan t h)
+    (λ x y p o k s. framed-behind (spacing_of t) (bar-is-1 t l) t.value (frame_of (borders_of t)) (frame_place t) (bar-is-1 t l)
     (omega arith) (omega arith) x y p o k s))
     (λ y x out n l. l.line)
 
 padded_drawn : (t : PoolTable) → IsApartPool t → (0 < (plan t).style.padding.left.size) ⊎ (0 < (plan t).style.padding.right.size) → AreDrawn (plan t)
-padded_drawn t h (inl z) = drawn-by (plan t) (left_drawable (gaps_of t) (plan t) (apart_plan t h) z) (λ y x out n l. l)
-padded_drawn t h (inr z) = drawn-by (plan t) (right_drawable (gaps_of t) (plan t) (apart_plan t h) z) (λ y x out n l. l.line)
+padded_drawn t h (inl z) = drawn-by (plan t) (left_drawable (spacing_of t) (plan t) (apart_plan t h) z) (λ y x out n l. l)
+padded_drawn t h (inr z) = drawn-by (plan t) (right_drawable (spacing_of t) (plan t) (apart_plan t h) z) (λ y x out n l. l.line)
 
 apart_drawn : (t : PoolTable) → IsApartPool t → AreDrawn (plan t)
 unfolding plan
 apart_drawn t h = ⊎_elim (bar_drawn t h) (padded_drawn t h) h.gap
 
 plain-drawable : (t : PoolTable) → IsAdditivePool t → IsDrawable (plan t) PlainOut
-plain-drawable t h = plain_drawable (gaps_of t) (plan t) (plain_plan t h)
+plain-drawable t h = plain_drawable (spacing_of t) (plan t) (plain_plan t h)
 
 pub pool_tiles : (t : PoolTable) → IsStraightPool t → Tiled (plan t)
 pool_tiles t (inl h) = (apart_drawn t h).tiled
@@ -148,7 +148,7 @@ margin-takes m w n lines top bottom each =
     All-append P _ _ (All-replicate P m.top.size _ top)
     (All-append P _ _ (All-map P (within_margin m bare) lines each) (All-replicate P m.bottom.size _ bottom))
 
-drawn-each : (t : Plan) (P : List ℕ → Type 0) → ((y : ℕ) → y < t.height → P (drawn_line t y)) → All P (drawn t)
+drawn-each : (t : DrawingPlan) (P : List ℕ → Type 0) → ((y : ℕ) → y < t.height → P (drawn_line t y)) → All P (drawn t)
 unfolding drawn
 drawn-each t P each k line l =
     let h : k < t.height = subst (λ n. k < n) (length-map-range_with_len (drawn_line t) 0 t.height) l in

@@ -1,14 +1,14 @@
 -- The sizes of boxes side by side, from the front.
 use Rattle.std.proofs.Common.{◌≡◌, ℕ, ◌+◌, List, [], ◌∷◌, max, arith}
-use Rattle.tabled_pool.specs.declared.gaps.Gaps.{Gaps}
+use Rattle.tabled_pool.specs.declared.box_spacing.BoxSpacing.{BoxSpacing}
 use Rattle.tabled_pool.specs.Boxes.{Box, row_width, row_height, column_width, column_height}
 
 -- what the boxes behind the first add
-abbrev pub more_width : Gaps → List Box → ℕ
+abbrev pub more_width : BoxSpacing → List Box → ℕ
 more_width g [] = 0
 more_width g (b ∷ bs) = g.bar + (b.width + more_width g bs)
 
-abbrev pub more_height : Gaps → List Box → ℕ
+abbrev pub more_height : BoxSpacing → List Box → ℕ
 more_height g [] = 0
 more_height g (b ∷ bs) = g.rule + (b.height + more_height g bs)
 
@@ -20,7 +20,7 @@ abbrev pub most_height : List Box → ℕ
 most_height [] = 0
 most_height (b ∷ bs) = max b.height (most_height bs)
 
-pub row_width_more : (g : Gaps) (b : Box) (bs : List Box) → row_width g b bs ≡ b.width + more_width g bs
+pub row_width_more : (g : BoxSpacing) (b : Box) (bs : List Box) → row_width g b bs ≡ b.width + more_width g bs
 row_width_more g b [] = omega arith
 row_width_more g b (c ∷ bs) = omega (arith, row_width_more g c bs)
 
@@ -32,6 +32,6 @@ pub column_width_most : (b : Box) (bs : List Box) → column_width b bs ≡ max 
 column_width_most b [] = omega arith
 column_width_most b (c ∷ bs) = omega (arith, column_width_most c bs)
 
-pub column_height_more : (g : Gaps) (b : Box) (bs : List Box) → column_height g b bs ≡ b.height + more_height g bs
+pub column_height_more : (g : BoxSpacing) (b : Box) (bs : List Box) → column_height g b bs ≡ b.height + more_height g bs
 column_height_more g b [] = omega arith
 column_height_more g b (c ∷ bs) = omega (arith, column_height_more g c bs)

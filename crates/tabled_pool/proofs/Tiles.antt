@@ -8,17 +8,17 @@ use Rattle.tabled_pool.specs.Boxes.{Part}
 use Rattle.tabled_pool.specs.Tiling.{within}
 use Rattle.tabled_pool.specs.Kinds.{is_line_kind}
 use Rattle.tabled_pool.specs.Leaf.{leaf_line}
-use Rattle.tabled_pool.specs.Plan.{Plan}
+use Rattle.tabled_pool.specs.Plan.{DrawingPlan}
 use Rattle.tabled_pool.specs.Owner.{owner}
 use Rattle.tabled_pool.specs.Drawn.{border_char, part_text, owned_text, place_text, drawn_line}
 use Rattle.tabled_pool.specs.Whole.{whole}
 use Rattle.tabled_pool.specs.Tiled.{StandsAt, Tiled}
 use Rattle.tabled_pool.proofs.Owners.{inside-within, within-inside, within-le, owner-inside, counted}
-use Rattle.tabled_pool.proofs.Ahead.{ahead, whole-inside, unique, Begins, Goes, before, leaf-begins, out-line}
+use Rattle.tabled_pool.proofs.UpcomingCells.{ahead, whole-inside, unique, Begins, Goes, before, leaf-begins, out-line}
 use Rattle.tabled_pool.proofs.Columns.{border-bare, out, prefix}
 use Rattle.tabled_pool.proofs.Drawable.{IsDrawable}
 
-stands : {Out : ℕ → ℕ → List ℕ → ℕ → Type 0} (t : Plan) (d : IsDrawable t Out) (x y : ℕ) (piece : List ℕ) → x < t.width → y < t.height → ahead t y x ≡ x
+stands : {Out : ℕ → ℕ → List ℕ → ℕ → Type 0} (t : DrawingPlan) (d : IsDrawable t Out) (x y : ℕ) (piece : List ℕ) → x < t.width → y < t.height → ahead t y x ≡ x
     → place_text t y x ≡ piece → StandsAt (drawn_line t y) x piece
 unfolding drawn_line
 stands t d x y piece h v e0 e = record {
@@ -29,21 +29,21 @@ stands t d x y piece h v e0 e = record {
   columns = d.columns y x (out t y x) (ahead t y x) (prefix t d y x (omega arith) v) ∙ e0;
 }
 
-text-of : (t : Plan) (x y : ℕ) (p : Part) → owner t.parts x y ≡ Some p → place_text t y x ≡ part_text t p.kind p x y
+text-of : (t : DrawingPlan) (x y : ℕ) (p : Part) → owner t.parts x y ≡ Some p → place_text t y x ≡ part_text t p.kind p x y
 unfolding place_text
 text-of t x y p o = ap (λ z. owned_text t z x y) o
 
-char-of : {Out : ℕ → ℕ → List ℕ → ℕ → Type 0} (t : Plan) (d : IsDrawable t Out) (x y : ℕ) (p : Part) (k : Kind) → is_line_kind k ≡ true
+char-of : {Out : ℕ → ℕ → List ℕ → ℕ → Type 0} (t : DrawingPlan) (d : IsDrawable t Out) (x y : ℕ) (p : Part) (k : Kind) → is_line_kind k ≡ true
     → part_text t k p x y ≡ encode_utf8 (border_char t k p.place x y)
 char-of t d x y p Leaf l = cc
 char-of t d x y p Bar l = border-bare t d Bar p.place x y
 char-of t d x y p Rule l = border-bare t d Rule p.place x y
 
-begins-leaf : (t : Plan) (y : ℕ) (p : Part) → Begins t y p.place.x p ⊎ Goes t y p.place.x p → ahead t y p.place.x ≡ p.place.x
+begins-leaf : (t : DrawingPlan) (y : ℕ) (p : Part) → Begins t y p.place.x p ⊎ Goes t y p.place.x p → ahead t y p.place.x ≡ p.place.x
 begins-leaf t y p (inl b) = b.out
 begins-leaf t y p (inr g) = absurd (omega (arith, g.started))
 
-leaf-stands : {Out : ℕ → ℕ → List ℕ → ℕ → Type 0} (t : Plan) (d : IsDrawable t Out) (u v y : ℕ) (p : Part) → owner t.parts u v ≡ Some p → p.kind ≡ Leaf
+leaf-stands : {Out : ℕ → ℕ → List ℕ → ℕ → Type 0} (t : DrawingPlan) (d : IsDrawable t Out) (u v y : ℕ) (p : Part) → owner t.parts u v ≡ Some p → p.kind ≡ Leaf
     → p.place.y ≤ y → y < p.place.y + p.place.height → StandsAt (drawn_line t y) p.place.x (leaf_line t p (y - p.place.y))
 leaf-stands t d u v y p o e a b =
     let i = within-inside p.place u v (owner-inside t.parts u v p o) in
@@ -58,7 +58,7 @@ leaf-stands t d u v y p o e a b =
     (begins-leaf t y p (before t d.once y p.place.x p wide tall here))
     (text-of t p.place.x y p here ∙ ap (λ k. part_text t k p p.place.x y) e ∙ leaf-begins t p p.place.x y refl)
 
-pub drawn_tiles : {Out : ℕ → ℕ → List ℕ → ℕ → Type 0} (t : Plan) → IsDrawable t Out → Tiled t
+pub drawn_tiles : {Out : ℕ → ℕ → List ℕ → ℕ → Type 0} (t : DrawingPlan) → IsDrawable t Out → Tiled t
 drawn_tiles t d = record {
   once = λ x y h v. d.once x y ∙ whole-inside t x y h v;
   leaf = λ u v y p o e a b. leaf-stands t d u v y p o e a b;

@@ -2,7 +2,7 @@
 use Rattle.std.proofs.Common.{◌≡◌, ℕ, ◌+◌, ◌-◌, ◌/◌, ◌<◌, ◌≤◌, List, [], ◌∷◌, ◌++◌, map, length, refl, sym, subst, arith, string_bytes}
 use Rattle.std.proofs.Math.Nat.{add-mul, mul-add, le-mul_of_pos_right}
 use Rattle.std.proofs.lemmas.Bool.Decides.{nat_tests}
-use Rattle.tabled_pool.specs.declared.gaps.Gaps.{Gaps}
+use Rattle.tabled_pool.specs.declared.box_spacing.BoxSpacing.{BoxSpacing}
 use Rattle.tabled_pool.specs.declared.pieces.Rectangle.{Rectangle}
 use Rattle.tabled_pool.specs.declared.pieces.Kind.TheVariants.{Bar, Rule}
 use Rattle.tabled_size.specs.declared.pool_table_dimension.DimensionPriority.{DimensionPriority}
@@ -62,7 +62,7 @@ abbrev pub AllTile : List Box → Type 0
 AllTile [] = Unit {0}
 AllTile (b ∷ bs) = Tiles b × AllTile bs
 
-row-tiles : (g : Gaps) (b : Box) (bs : List Box) → Tiles b → AllTile bs → (r : Rectangle) (px py : ℕ)
+row-tiles : (g : BoxSpacing) (b : Box) (bs : List Box) → Tiles b → AllTile bs → (r : Rectangle) (px py : ℕ)
     → row_width g b bs ≤ r.width → row_height b bs ≤ r.height → covering (row_parts g b bs r) px py ≡ within r px py
 row-tiles g b [] t ts r px py w h = t.once r px py w h
 row-tiles g b (c ∷ bs) t (u, ts) r px py w h =
@@ -79,7 +79,7 @@ row-tiles g b (c ∷ bs) t (u, ts) r px py w h =
       within-across g.bar rest px py (omega arith),
     )
 
-column-tiles : (g : Gaps) (b : Box) (bs : List Box) → Tiles b → AllTile bs → (r : Rectangle) (px py : ℕ)
+column-tiles : (g : BoxSpacing) (b : Box) (bs : List Box) → Tiles b → AllTile bs → (r : Rectangle) (px py : ℕ)
     → column_width b bs ≤ r.width → column_height g b bs ≤ r.height → covering (column_parts g b bs r) px py ≡ within r px py
 column-tiles g b [] t ts r px py w h = t.once r px py w h
 column-tiles g b (c ∷ bs) t (u, ts) r px py w h =
@@ -96,26 +96,26 @@ column-tiles g b (c ∷ bs) t (u, ts) r px py w h =
       within-down g.rule rest px py (omega arith),
     )
 
-leaf-tiles : (g : Gaps) (text : List ℕ) → Tiles (leaf_box g text)
+leaf-tiles : (g : BoxSpacing) (text : List ℕ) → Tiles (leaf_box g text)
 leaf-tiles g text = record { once = λ r px py w h. omega arith }
 
-pub row_box-tiles : (g : Gaps) (bs : List Box) → AllTile bs → Tiles (row_box g bs)
+pub row_box-tiles : (g : BoxSpacing) (bs : List Box) → AllTile bs → Tiles (row_box g bs)
 row_box-tiles g [] ts = leaf-tiles g []
 row_box-tiles g (b ∷ bs) (t, ts) = record { once = λ r px py w h. row-tiles g b bs t ts r px py w h }
 
-pub column_box-tiles : (g : Gaps) (bs : List Box) → AllTile bs → Tiles (column_box g bs)
+pub column_box-tiles : (g : BoxSpacing) (bs : List Box) → AllTile bs → Tiles (column_box g bs)
 column_box-tiles g [] ts = leaf-tiles g []
 column_box-tiles g (b ∷ bs) (t, ts) = record { once = λ r px py w h. column-tiles g b bs t ts r px py w h }
 
-abbrev Holds : Gaps → TableValue → Type 0
+abbrev Holds : BoxSpacing → TableValue → Type 0
 Holds g t = Tiles (box_of g t)
 
-all-map : (g : Gaps) (es : List ((t : TableValue) × Holds g t)) → AllTile (map (box_of g) (map (λ e. e.0) es))
+all-map : (g : BoxSpacing) (es : List ((t : TableValue) × Holds g t)) → AllTile (map (box_of g) (map (λ e. e.0) es))
 all-map g [] = tt
 all-map g (e ∷ es) = (e.1, all-map g es)
 
 -- every tree
-pub tree-tiles : (g : Gaps) (t : TableValue) → Tiles (box_of g t)
+pub tree-tiles : (g : BoxSpacing) (t : TableValue) → Tiles (box_of g t)
 tree-tiles g = ind-TableValue (Holds g) (λ x y is.
     subst (λ z. Tiles (box_of g (roll-TableValue z))) is
     (subst Tiles (sym (fold-roll-TableValue Box (box_step g) (map-TableValue _ TableValue (λ e. e.0) y)))

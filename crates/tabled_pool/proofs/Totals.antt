@@ -6,13 +6,13 @@ use Rattle.tabled_config.specs.declared.sides.Indent.{Indent}
 use Rattle.tabled_config.specs.declared.sides.Sides.{Sides}
 use Rattle.tabled_pool.specs.Colours.{Mark}
 use Rattle.tabled_pool.specs.Margins.{margin_line, within_margin, with_margin}
-use Rattle.tabled_pool.specs.Plan.{Plan}
+use Rattle.tabled_pool.specs.Plan.{DrawingPlan}
 use Rattle.tabled_pool.specs.declared.pool_table.PoolTable.{PoolTable}
 use Rattle.tabled_pool.specs.Drawn.{drawn, drawn_line}
 use Rattle.tabled_pool.specs.Pool.{HasColumns, framed_height, framed_width, margin_marks, margin_of, plan, pool_lines, total_height}
 use Rattle.tabled_pool.proofs.PoolLemmas.{lined}
 
-drawn-length : (t : Plan) → length (drawn t) ≡ t.height
+drawn-length : (t : DrawingPlan) → length (drawn t) ≡ t.height
 unfolding drawn
 drawn-length t = length-map-range_with_len (drawn_line t) 0 t.height
 

@@ -7,7 +7,7 @@ use Rattle.std.proofs.lemmas.Str.{IsUtf8-nil, IsUtf8-string_bytes, chars-nil}
 use Rattle.tabled_text.specs.Plain.{IsAdditive, IsPlain}
 use Rattle.tabled_text.proofs.PlainLines.{additive-plain}
 use Rattle.tabled_config.specs.declared.sides.Sides.{Sides}
-use Rattle.tabled_pool.specs.declared.gaps.Gaps.{Gaps}
+use Rattle.tabled_pool.specs.declared.box_spacing.BoxSpacing.{BoxSpacing}
 use Rattle.tabled_pool.specs.declared.pieces.Rectangle.{Rectangle}
 use Rattle.tabled_pool.specs.declared.tree.TableValue.{TableValue}
 use Rattle.tabled_pool.specs.declared.tree.TableValue.TheOpen.{TableValue-F, Row, Column, Cell}
@@ -53,53 +53,53 @@ abbrev AllTexts : (List ℕ → Type 0) → List Box → Type 0
 AllTexts P [] = Unit {0}
 AllTexts P (b ∷ bs) = HasTexts P b × AllTexts P bs
 
-row-texts : (P : List ℕ → Type 0) → P [] → (g : Gaps) (b : Box) (bs : List Box) → HasTexts P b → AllTexts P bs → (r : Rectangle)
+row-texts : (P : List ℕ → Type 0) → P [] → (g : BoxSpacing) (b : Box) (bs : List Box) → HasTexts P b → AllTexts P bs → (r : Rectangle)
     → EachPart P (row_parts g b bs r)
 row-texts P e g b [] t ts r = t.texts r
 row-texts P e g b (c ∷ bs) t (u, ts) r =
     let n = first_width g b (c ∷ bs) r.width in
     part-append P (b.parts (left_part n r)) _ (t.texts (left_part n r)) (e, row-texts P e g c bs u ts (right_part g.bar (right_part n r)))
 
-column-texts : (P : List ℕ → Type 0) → P [] → (g : Gaps) (b : Box) (bs : List Box) → HasTexts P b → AllTexts P bs → (r : Rectangle)
+column-texts : (P : List ℕ → Type 0) → P [] → (g : BoxSpacing) (b : Box) (bs : List Box) → HasTexts P b → AllTexts P bs → (r : Rectangle)
     → EachPart P (column_parts g b bs r)
 column-texts P e g b [] t ts r = t.texts r
 column-texts P e g b (c ∷ bs) t (u, ts) r =
     let n = first_height g b (c ∷ bs) r.height in
     part-append P (b.parts (top_part n r)) _ (t.texts (top_part n r)) (e, column-texts P e g c bs u ts (bottom_part g.rule (bottom_part n r)))
 
-leaf-texts : (P : List ℕ → Type 0) (g : Gaps) (text : List ℕ) → P text → HasTexts P (leaf_box g text)
+leaf-texts : (P : List ℕ → Type 0) (g : BoxSpacing) (text : List ℕ) → P text → HasTexts P (leaf_box g text)
 leaf-texts P g text u = record { texts = λ r. (u, tt) }
 
-row_box-texts : (P : List ℕ → Type 0) → P [] → (g : Gaps) (bs : List Box) → AllTexts P bs → HasTexts P (row_box g bs)
+row_box-texts : (P : List ℕ → Type 0) → P [] → (g : BoxSpacing) (bs : List Box) → AllTexts P bs → HasTexts P (row_box g bs)
 row_box-texts P e g [] ts = leaf-texts P g [] e
 row_box-texts P e g (b ∷ bs) (t, ts) = record { texts = row-texts P e g b bs t ts }
 
-column_box-texts : (P : List ℕ → Type 0) → P [] → (g : Gaps) (bs : List Box) → AllTexts P bs → HasTexts P (column_box g bs)
+column_box-texts : (P : List ℕ → Type 0) → P [] → (g : BoxSpacing) (bs : List Box) → AllTexts P bs → HasTexts P (column_box g bs)
 column_box-texts P e g [] ts = leaf-texts P g [] e
 column_box-texts P e g (b ∷ bs) (t, ts) = record { texts = column-texts P e g b bs t ts }
 
-abbrev Holds : (List ℕ → Type 0) → Gaps → TableValue → Type 0
+abbrev Holds : (List ℕ → Type 0) → BoxSpacing → TableValue → Type 0
 Holds P g t = EachText P (tree_of t) → HasTexts P (box_of g t)
 
-all-texts : (P : List ℕ → Type 0) (g : Gaps) (es : List ((t : TableValue) × Holds P g t)) → EachTextIn P (trees (map tree_of (map (λ e. e.0) es)))
+all-texts : (P : List ℕ → Type 0) (g : BoxSpacing) (es : List ((t : TableValue) × Holds P g t)) → EachTextIn P (trees (map tree_of (map (λ e. e.0) es)))
     → AllTexts P (map (box_of g) (map (λ e. e.0) es))
 all-texts P g [] h = tt
 all-texts P g (e ∷ es) h = (e.1 h.0, all-texts P g es h.1)
 
-step-texts : (P : List ℕ → Type 0) → P [] → (g : Gaps) (y : TableValue-F ((t : TableValue) × Holds P g t))
+step-texts : (P : List ℕ → Type 0) → P [] → (g : BoxSpacing) (y : TableValue-F ((t : TableValue) × Holds P g t))
     → EachText P (tree_step (map-TableValue _ Tree tree_of (map-TableValue _ TableValue (λ e. e.0) y)))
     → HasTexts P (box_step g (map-TableValue _ Box (box_of g) (map-TableValue _ TableValue (λ e. e.0) y)))
 step-texts P e g (Cell s) h = leaf-texts P g (string_bytes s) h
 step-texts P e g (Row v) h = row_box-texts P e g _ (all-texts P g v.items h)
 step-texts P e g (Column v) h = column_box-texts P e g _ (all-texts P g v.items h)
 
-tree-texts : (P : List ℕ → Type 0) → P [] → (g : Gaps) (t : TableValue) → EachText P (tree_of t) → HasTexts P (box_of g t)
+tree-texts : (P : List ℕ → Type 0) → P [] → (g : BoxSpacing) (t : TableValue) → EachText P (tree_of t) → HasTexts P (box_of g t)
 tree-texts P e g = ind-TableValue (Holds P g) (λ x y is.
     subst (λ z. Holds P g (roll-TableValue z)) is
     (λ h. subst (HasTexts P) (sym (fold-roll-TableValue Box (box_step g) (map-TableValue _ TableValue (λ e. e.0) y)))
     (step-texts P e g y (subst (EachText P) (fold-roll-TableValue Tree tree_step (map-TableValue _ TableValue (λ e. e.0) y)) h))))
 
-pub framed-texts : (P : List ℕ → Type 0) → P [] → (g : Gaps) (t : TableValue) → EachText P (tree_of t) → (e : Sides ℕ) (w : Rectangle)
+pub framed-texts : (P : List ℕ → Type 0) → P [] → (g : BoxSpacing) (t : TableValue) → EachText P (tree_of t) → (e : Sides ℕ) (w : Rectangle)
     → EachPart P (framed e (box_of g t) w)
 unfolding framed
 framed-texts P n g t h e w = (n, (n, (n, (n, (tree-texts P n g t h).texts _))))

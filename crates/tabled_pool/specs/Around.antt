@@ -7,33 +7,33 @@ use Rattle.tabled_pool.specs.Boxes.{Part}
 use Rattle.tabled_pool.specs.Colours.{Mark}
 use Rattle.tabled_pool.specs.Kinds.{is_line_kind}
 use Rattle.tabled_pool.specs.Marks.{Around, alone, begun, ended, nothing_around, used_after}
-use Rattle.tabled_pool.specs.Plan.{Plan}
-use Rattle.tabled_pool.specs.declared.around.Spot.{Spot}
-use Rattle.tabled_pool.specs.declared.around.Spot.TheVariants.{Before, Inside, Behind, Outside}
+use Rattle.tabled_pool.specs.Plan.{DrawingPlan}
+use Rattle.tabled_pool.specs.declared.color_marks.RunSide.{RunSide}
+use Rattle.tabled_pool.specs.declared.color_marks.RunSide.TheVariants.{Before, Inside, Behind, Outside}
 use Rattle.tabled_pool.specs.Frames.{has_bottom, has_top}
 
 -- where a place stands by a run of places
-abbrev pub spot : ℕ → ℕ → ℕ → Spot
-spot start size at =
+abbrev pub run_side : ℕ → ℕ → ℕ → RunSide
+run_side start size at =
     if at + 1 == start then Before else if leb start at && ltb at (start + size) then Inside else if at == start + size then Behind else Outside
 
 -- whether a text's right line is the outer one, and its bottom line
-abbrev pub is_last_column : Plan → Rectangle → Bool
+abbrev pub is_last_column : DrawingPlan → Rectangle → Bool
 is_last_column t r = has_right t.borders && (r.x + r.width + 1 == t.width)
 
-abbrev pub is_last_row : Plan → Rectangle → Bool
+abbrev pub is_last_row : DrawingPlan → Rectangle → Bool
 is_last_row t r = has_bottom t.borders && (r.y + r.height + 1 == t.height)
 
 -- the colour of a left corner, if it is written
-abbrev pub written_corner : Plan → Option Mark → Option Mark
+abbrev pub written_corner : DrawingPlan → Option Mark → Option Mark
 written_corner t corner = if has_left t.borders then corner else None
 
 -- the colour that is used over a text: that of the left corner if it is written, else the main one
-abbrev pub used_main : Plan → Option Mark → Option Mark → Option Mark
+abbrev pub used_main : DrawingPlan → Option Mark → Option Mark → Option Mark
 used_main t corner main = used_after (written_corner t corner) main
 
 -- over a text: the main part begins at its first column, and ends the line at its last one, unless a right corner follows
-abbrev pub main_around : Plan → Option Mark → Option Mark → Rectangle → ℕ → Around
+abbrev pub main_around : DrawingPlan → Option Mark → Option Mark → Rectangle → ℕ → Around
 main_around t corner main r x =
     let first = if x == r.x then begun (written_corner t corner) main else nothing_around in
     record first {
@@ -41,12 +41,12 @@ main_around t corner main r x =
     }
 
 -- the right corner begins a part and ends the line
-abbrev pub right_around : Plan → Option Mark → Option Mark → Option Mark → Around
+abbrev pub right_around : DrawingPlan → Option Mark → Option Mark → Option Mark → Around
 right_around t corner main right =
     record (begun (used_main t corner main) right) { behind = ended (used_after (used_main t corner main) right) }
 
 -- along the top or the bottom line of a text
-abbrev pub across : Plan → Option Mark → Option Mark → Option Mark → Rectangle → Spot → ℕ → Option Around
+abbrev pub across : DrawingPlan → Option Mark → Option Mark → Option Mark → Rectangle → RunSide → ℕ → Option Around
 across t corner main right r Before x = if has_left t.borders then Some (begun None corner) else None
 across t corner main right r Inside x = Some (main_around t corner main r x)
 across t corner main right r Behind x =
@@ -54,27 +54,27 @@ across t corner main right r Behind x =
 across t corner main right r Outside x = None
 
 -- beside a text
-abbrev pub beside : Plan → Rectangle → Spot → Option Around
+abbrev pub beside : DrawingPlan → Rectangle → RunSide → Option Around
 beside t r Before = if has_left t.borders then Some (alone t.line_marks.left) else None
 beside t r Inside = None
 beside t r Behind = if is_last_column t r then Some (alone t.line_marks.right) else None
 beside t r Outside = None
 
--- around a text, by the spot of the line
-abbrev pub around_text : Plan → Rectangle → Spot → ℕ → Option Around
+-- around a text, by the run side of the line
+abbrev pub around_text : DrawingPlan → Rectangle → RunSide → ℕ → Option Around
 around_text t r Before x =
-    if has_top t.borders then across t t.line_marks.top_left t.line_marks.top t.line_marks.top_right r (spot r.x r.width x) x else None
-around_text t r Inside x = beside t r (spot r.x r.width x)
+    if has_top t.borders then across t t.line_marks.top_left t.line_marks.top t.line_marks.top_right r (run_side r.x r.width x) x else None
+around_text t r Inside x = beside t r (run_side r.x r.width x)
 around_text t r Behind x =
     if is_last_row t r
-    then across t t.line_marks.bottom_left t.line_marks.bottom t.line_marks.bottom_right r (spot r.x r.width x) x
+    then across t t.line_marks.bottom_left t.line_marks.bottom t.line_marks.bottom_right r (run_side r.x r.width x) x
     else None
 around_text t r Outside x = None
 
-abbrev pub around_part : Plan → Part → ℕ → ℕ → Option Around
-around_part t p x y = if is_line_kind p.kind then None else around_text t p.place (spot p.place.y p.place.height y) x
+abbrev pub around_part : DrawingPlan → Part → ℕ → ℕ → Option Around
+around_part t p x y = if is_line_kind p.kind then None else around_text t p.place (run_side p.place.y p.place.height y) x
 
 -- what the text that draws a place puts around its character
-abbrev pub around_at : Plan → List Part → ℕ → ℕ → Around
+abbrev pub around_at : DrawingPlan → List Part → ℕ → ℕ → Around
 around_at t [] x y = nothing_around
 around_at t (p ∷ ps) x y = unwrap_or (around_part t p x y) (around_at t ps x y)

@@ -4,7 +4,7 @@ use Rattle.tabled_text.specs.Measure.{lines_of}
 use Rattle.tabled_config.specs.declared.sides.Sides.{Sides}
 use Rattle.tabled_config.specs.Compact.{no_indent}
 use Rattle.tabled_config.specs.declared.spanned.CellStyle.{CellStyle}
-use Rattle.tabled_line.specs.Block.{above_text, free_lines, cell_line, text_room}
+use Rattle.tabled_line.specs.Block.{above_text, free_lines, cell_line, inner_width}
 use Rattle.tabled_line.specs.Fill.{fill, indent}
 use Rattle.tabled_pool.specs.Colours.{Mark, coloured}
 
@@ -25,7 +25,7 @@ without_sides style = record style { padding = record style.padding { left = no_
 abbrev pub text_line : CellStyle → Sides Mark → ℕ → List ℕ → List ℕ → List ℕ
 text_line style marks width text line =
     coloured marks.left (indent style.padding.left)
-    ++ (cell_line (without_sides style) (text_room style width) text line ++ coloured marks.right (indent style.padding.right))
+    ++ (cell_line (without_sides style) (inner_width style width) text line ++ coloured marks.right (indent style.padding.right))
 
 -- spaces, lines of the top fill, the lines of the text, lines of the bottom fill, spaces
 unfoldable pub pool_block : CellStyle → Sides Mark → ℕ → ℕ → List ℕ → List (List ℕ)

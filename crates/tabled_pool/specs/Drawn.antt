@@ -9,19 +9,19 @@ use Rattle.tabled_config.specs.Frame.{has_right}
 use Rattle.tabled_config.specs.Junction.{junction}
 use Rattle.tabled_pool.specs.Leaf.{leaf_line}
 use Rattle.tabled_pool.specs.Marks.{within_marks}
-use Rattle.tabled_pool.specs.Plan.{Plan}
+use Rattle.tabled_pool.specs.Plan.{DrawingPlan}
 use Rattle.tabled_pool.specs.Around.{around_at}
 use Rattle.tabled_pool.specs.Frames.{has_bottom}
 use Rattle.tabled_pool.specs.Owner.{owner, is_border, is_border_before, is_border_above}
 
 -- the character of a line where no line meets it: the right line and the bottom line have their own
-abbrev pub main_of : Plan → Kind → Rectangle → Option ℕ
+abbrev pub main_of : DrawingPlan → Kind → Rectangle → Option ℕ
 main_of t Leaf r = None
 main_of t Bar r = if has_right t.borders && (r.x + r.width == t.width) then t.borders.right else t.borders.left
 main_of t Rule r = if has_bottom t.borders && (r.y + r.height == t.height) then t.borders.bottom else t.borders.top
 
 -- a place with a place of a line beside it and one above or below it is a junction, with an arm to each such side
-unfoldable pub border_char : Plan → Kind → Rectangle → ℕ → ℕ → ℕ
+unfoldable pub border_char : DrawingPlan → Kind → Rectangle → ℕ → ℕ → ℕ
 border_char t k r x y =
     let left = is_border_before t.parts x y in
     let right = is_border t.parts (x + 1) y in
@@ -30,24 +30,24 @@ border_char t k r x y =
     unwrap_or (if (left || right) && (up || down) then junction t.borders left right up down else main_of t k r) 32
 
 -- a character of a line, between the marks of its colour
-unfoldable pub border_text : Plan → Kind → Rectangle → ℕ → ℕ → List ℕ
+unfoldable pub border_text : DrawingPlan → Kind → Rectangle → ℕ → ℕ → List ℕ
 border_text t k r x y = within_marks (around_at t t.parts x y) (encode_utf8 (border_char t k r x y))
 
-abbrev pub part_text : Plan → Kind → Part → ℕ → ℕ → List ℕ
+abbrev pub part_text : DrawingPlan → Kind → Part → ℕ → ℕ → List ℕ
 part_text t Leaf p x y = if p.place.x == x then leaf_line t p (y - p.place.y) else []
 part_text t Bar p x y = border_text t Bar p.place x y
 part_text t Rule p x y = border_text t Rule p.place x y
 
-abbrev pub owned_text : Plan → Option Part → ℕ → ℕ → List ℕ
+abbrev pub owned_text : DrawingPlan → Option Part → ℕ → ℕ → List ℕ
 owned_text t None x y = []
 owned_text t (Some p) x y = part_text t p.kind p x y
 
 -- what is written at a place
-unfoldable pub place_text : Plan → ℕ → ℕ → List ℕ
+unfoldable pub place_text : DrawingPlan → ℕ → ℕ → List ℕ
 place_text t y x = owned_text t (owner t.parts x y) x y
 
-unfoldable pub drawn_line : Plan → ℕ → List ℕ
+unfoldable pub drawn_line : DrawingPlan → ℕ → List ℕ
 drawn_line t y = flat_map (place_text t y) (range_with_len 0 t.width)
 
-unfoldable pub drawn : Plan → List (List ℕ)
+unfoldable pub drawn : DrawingPlan → List (List ℕ)
 drawn t = map (drawn_line t) (range_with_len 0 t.height)

@@ -7,8 +7,8 @@ pub mod Characters
 pub mod Colours
 pub mod Drawn
 pub mod Frames
-pub mod Handed
-pub mod Handing
+pub mod Inherited
+pub mod Inheriting
 pub mod Kinds
 pub mod Leaf
 pub mod Left
@@ -19,7 +19,7 @@ pub mod Near
 pub mod NewPool
 pub mod Nodes
 pub mod Owner
-pub mod Panels
+pub mod DrawnBlocks
 pub mod Plain
 pub mod PlainTree
 pub mod Plan

@@ -2,7 +2,7 @@
 use Rattle.std.specs.Prelude.{ℕ, ◌+◌, leb, ◌&&◌, if◌then◌else◌, Bool, List, [], ◌∷◌}
 use Rattle.tabled_pool.specs.declared.pieces.Rectangle.{Rectangle}
 use Rattle.tabled_pool.specs.Boxes.{Part}
-use Rattle.tabled_pool.specs.Plan.{Plan}
+use Rattle.tabled_pool.specs.Plan.{DrawingPlan}
 
 -- whether a rectangle has a place on a line, above it or below it
 abbrev pub is_near : ℕ → Rectangle → Bool
@@ -12,5 +12,5 @@ abbrev pub near_parts : ℕ → List Part → List Part
 near_parts y [] = []
 near_parts y (p ∷ ps) = if is_near y p.place then p ∷ near_parts y ps else near_parts y ps
 
-abbrev pub near_plan : ℕ → Plan → Plan
+abbrev pub near_plan : ℕ → DrawingPlan → DrawingPlan
 near_plan y t = record t { parts = near_parts y t.parts }

@@ -3,19 +3,19 @@ use Rattle.std.specs.Prelude.{◌≡◌, ℕ, Some}
 use Rattle.tabled_text.specs.Plain.{IsAdditive, IsAdditiveColumn}
 use Rattle.tabled_config.specs.Compact.{each_side}
 use Rattle.tabled_line.specs.Plain.{IsPlainStyle}
-use Rattle.tabled_pool.specs.declared.gaps.Gaps.{Gaps}
+use Rattle.tabled_pool.specs.declared.box_spacing.BoxSpacing.{BoxSpacing}
 use Rattle.tabled_pool.specs.declared.pieces.Kind.TheVariants.{Leaf}
 use Rattle.tabled_pool.specs.Boxes.{Part}
 use Rattle.tabled_pool.specs.Tiling.{AreTiles, EachFits}
 use Rattle.tabled_pool.specs.Colours.{no_mark}
-use Rattle.tabled_pool.specs.Plan.{Plan}
+use Rattle.tabled_pool.specs.Plan.{DrawingPlan}
 use Rattle.tabled_pool.specs.Owner.{owner}
 use Rattle.tabled_pool.specs.Characters.{EachCharacter}
 use Rattle.tabled_pool.specs.Uncoloured.{AreNoMarks}
 use Rattle.tabled_pool.specs.Whole.{whole}
 
 -- parts that tile the whole, with room for their additive texts
-pub record PlainTree (g : Gaps) (t : Plan) : Type 0 where
+pub record PlainTree (g : BoxSpacing) (t : DrawingPlan) : Type 0 where
   pub once : AreTiles t.parts (whole t)
   pub fits : EachFits g t.parts
   pub left : g.padding.left ≡ t.style.padding.left.size

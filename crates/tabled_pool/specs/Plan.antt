@@ -7,7 +7,7 @@ use Rattle.tabled_pool.specs.Boxes.{Part}
 use Rattle.tabled_pool.specs.Colours.{LineMarks, Mark}
 
 -- parts in a whole of so many columns and lines, and how they look
-pub record Plan : Type 0 where
+pub record DrawingPlan : Type 0 where
   pub parts : List Part
   pub width : ℕ
   pub height : ℕ

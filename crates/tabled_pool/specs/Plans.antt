@@ -5,9 +5,9 @@ use Rattle.tabled_pool.specs.declared.marks.Marks.{Marks}
 use Rattle.tabled_pool.specs.declared.drawing.Drawing.{Drawing}
 use Rattle.tabled_pool.specs.Marks.{Around}
 use Rattle.tabled_pool.specs.Colours.{line_marks_of, marks_of}
-use Rattle.tabled_pool.specs.Plan.{Plan}
+use Rattle.tabled_pool.specs.Plan.{DrawingPlan}
 
-abbrev pub plan_of : Drawing → Plan
+abbrev pub plan_of : Drawing → DrawingPlan
 plan_of d = record {
   parts = map shown d.pieces.now;
   width = d.width;

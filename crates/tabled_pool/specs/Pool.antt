@@ -12,15 +12,15 @@ use Rattle.tabled_config.specs.declared.spanned.CellStyle.{CellStyle}
 use Rattle.tabled_config.specs.Compact.{each_side, no_indent}
 use Rattle.tabled_config.specs.Frame.{has_left, has_right}
 use Rattle.tabled_line.specs.Sent.{Sent, Sends, Stops}
-use Rattle.tabled_pool.specs.declared.gaps.Gaps.{Gaps}
+use Rattle.tabled_pool.specs.declared.box_spacing.BoxSpacing.{BoxSpacing}
 use Rattle.tabled_pool.specs.declared.pieces.Rectangle.{Rectangle}
 use Rattle.tabled_pool.specs.Boxes.{box_of}
 use Rattle.tabled_pool.specs.Tiling.{framed}
 use Rattle.tabled_pool.specs.Colours.{Mark, line_marks_of, marks_of, no_mark}
-use Rattle.tabled_pool.specs.Handed.{handed_panel, has_bare}
+use Rattle.tabled_pool.specs.Inherited.{inherited_block, has_zero_width}
 use Rattle.tabled_pool.specs.Margins.{with_margin}
-use Rattle.tabled_pool.specs.Panels.{Panel}
-use Rattle.tabled_pool.specs.Plan.{Plan}
+use Rattle.tabled_pool.specs.DrawnBlocks.{BlockSheet}
+use Rattle.tabled_pool.specs.Plan.{DrawingPlan}
 use Rattle.tabled_pool.specs.declared.pool_table.PoolTable.{PoolTable}
 use Rattle.tabled_pool.specs.Drawn.{drawn}
 use Rattle.tabled_pool.specs.Frames.{has_bottom, has_top}
@@ -34,8 +34,8 @@ frame_of b =
     record { left = one_if (has_left b); right = one_if (has_right b); top = one_if (has_top b); bottom = one_if (has_bottom b) }
 
 -- a line stands between boxes side by side if the left one is there, between boxes below each other if the top one is
-abbrev pub gaps_of : PoolTable → Gaps
-gaps_of t =
+abbrev pub spacing_of : PoolTable → BoxSpacing
+spacing_of t =
     let padding = t.config.config.padding in
     record {
       padding = record { left = padding.left.size; right = padding.right.size; top = padding.top.size; bottom = padding.bottom.size };
@@ -57,20 +57,20 @@ style_of c =
 -- the columns and lines within the margin: those of the boxes and of the outer lines
 abbrev pub framed_width : PoolTable → ℕ
 framed_width t =
-    (frame_of (borders_of t)).left + (box_of (gaps_of t) t.value).width + (frame_of (borders_of t)).right
+    (frame_of (borders_of t)).left + (box_of (spacing_of t) t.value).width + (frame_of (borders_of t)).right
 
 abbrev pub framed_height : PoolTable → ℕ
 framed_height t =
-    (frame_of (borders_of t)).top + (box_of (gaps_of t) t.value).height + (frame_of (borders_of t)).bottom
+    (frame_of (borders_of t)).top + (box_of (spacing_of t) t.value).height + (frame_of (borders_of t)).bottom
 
 abbrev pub frame_place : PoolTable → Rectangle
 frame_place t = record { x = 0; y = 0; width = framed_width t; height = framed_height t }
 
 -- the boxes in their frame
-unfoldable pub plan : PoolTable → Plan
+unfoldable pub plan : PoolTable → DrawingPlan
 plan t =
     record {
-      parts = framed (frame_of (borders_of t)) (box_of (gaps_of t) t.value) (frame_place t);
+      parts = framed (frame_of (borders_of t)) (box_of (spacing_of t) t.value) (frame_place t);
       width = framed_width t;
       height = framed_height t;
       borders = borders_of t;
@@ -100,24 +100,24 @@ total_height t = (margin_of t).top.size + framed_height t + (margin_of t).bottom
 
 -- each text is given a column at least
 abbrev pub HasColumns : PoolTable → Type 0
-HasColumns t = has_bare (plan t).parts ≡ false
+HasColumns t = has_zero_width (plan t).parts ≡ false
 
 -- each text has padding at a side
 abbrev pub IsPadded : PoolTable → Type 0
 IsPadded t = 0 < t.config.config.padding.left.size + t.config.config.padding.right.size
 
--- the margin around a panel; the empty text has none
-abbrev pub margin_around : PoolTable → Panel → Sides Indent
+-- the margin around a block; the empty text has none
+abbrev pub margin_around : PoolTable → BlockSheet → Sides Indent
 margin_around t p = if p.width == 0 && length p.lines == 1 then each_side no_indent else margin_of t
 
-abbrev pub margined : PoolTable → Panel → List (List ℕ)
+abbrev pub margined : PoolTable → BlockSheet → List (List ℕ)
 margined t p = with_margin (margin_around t p) (marks_for t (margin_around t p)) p.width p.lines
 
--- drawn by the lines that meet, or as handed on from box to box where a text is given no column
+-- drawn by the lines that meet, or as passed on from box to box where a text is given no column
 unfoldable pub pool_lines : PoolTable → List (List ℕ)
 pool_lines t =
-    if has_bare (plan t).parts
-    then margined t (handed_panel (plan t) (gaps_of t) t.value)
+    if has_zero_width (plan t).parts
+    then margined t (inherited_block (plan t) (spacing_of t) t.value)
     else with_margin (margin_of t) (margin_marks t) (framed_width t) (drawn (plan t))
 
 unfoldable pub pool_text : PoolTable → List ℕ

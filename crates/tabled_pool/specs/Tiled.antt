@@ -6,7 +6,7 @@ use Rattle.tabled_pool.specs.Boxes.{Part}
 use Rattle.tabled_pool.specs.Tiling.{covering}
 use Rattle.tabled_pool.specs.Kinds.{is_line_kind}
 use Rattle.tabled_pool.specs.Leaf.{leaf_line}
-use Rattle.tabled_pool.specs.Plan.{Plan}
+use Rattle.tabled_pool.specs.Plan.{DrawingPlan}
 use Rattle.tabled_pool.specs.Owner.{owner}
 use Rattle.tabled_pool.specs.Drawn.{border_char, drawn_line}
 
@@ -19,7 +19,7 @@ pub record StandsAt (line : List ℕ) (x : ℕ) (piece : List ℕ) : Type 0 wher
 
 -- each place of the whole belongs to one part; the lines of a leaf's block stand in its rectangle,
 -- and at each other place one character, which the lines that meet there give
-pub record Tiled (t : Plan) : Type 0 where
+pub record Tiled (t : DrawingPlan) : Type 0 where
   pub once : (x y : ℕ) → x < t.width → y < t.height → covering t.parts x y ≡ 1
   pub leaf : (u v y : ℕ) (p : Part) → owner t.parts u v ≡ Some p → p.kind ≡ Leaf → p.place.y ≤ y
       → y < p.place.y + p.place.height → StandsAt (drawn_line t y) p.place.x (leaf_line t p (y - p.place.y))

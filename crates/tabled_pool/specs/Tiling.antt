@@ -3,7 +3,7 @@ use Rattle.std.specs.Prelude.{◌≡◌, ℕ, ◌+◌, ◌-◌, ◌*◌, ◌≤�
 use Rattle.tabled_config.specs.declared.sides.Sides.{Sides}
 use Rattle.tabled_pool.specs.declared.pieces.Rectangle.{Rectangle}
 use Rattle.tabled_text.specs.Measure.{lines_of, text_columns}
-use Rattle.tabled_pool.specs.declared.gaps.Gaps.{Gaps}
+use Rattle.tabled_pool.specs.declared.box_spacing.BoxSpacing.{BoxSpacing}
 use Rattle.tabled_pool.specs.declared.pieces.Kind.TheVariants.{Leaf, Bar, Rule}
 use Rattle.tabled_pool.specs.Boxes.{Part, Box, part_of, left_part, right_part, top_part, bottom_part}
 
@@ -29,18 +29,18 @@ pub record Tiles (b : Box) : Type 0 where
   pub once : (r : Rectangle) (px py : ℕ) → b.width ≤ r.width → b.height ≤ r.height → covering (b.parts r) px py ≡ within r px py
 
 -- a leaf is given at least the size of its text
-pub record HoldsText (g : Gaps) (p : Part) : Type 0 where
+pub record HoldsText (g : BoxSpacing) (p : Part) : Type 0 where
   pub wide : text_columns p.text + (g.padding.left + g.padding.right) ≤ p.place.width
   pub tall : length (lines_of p.text) + (g.padding.top + g.padding.bottom) ≤ p.place.height
 
-abbrev pub FitsLeaf : Gaps → Part → Type 0
+abbrev pub FitsLeaf : BoxSpacing → Part → Type 0
 FitsLeaf g p = p.kind ≡ Leaf → HoldsText g p
 
-abbrev pub EachFits : Gaps → List Part → Type 0
+abbrev pub EachFits : BoxSpacing → List Part → Type 0
 EachFits g [] = Unit {0}
 EachFits g (p ∷ ps) = FitsLeaf g p × EachFits g ps
 
-pub record LeavesFit (g : Gaps) (b : Box) : Type 0 where
+pub record LeavesFit (g : BoxSpacing) (b : Box) : Type 0 where
   pub fit : (r : Rectangle) → b.width ≤ r.width → b.height ≤ r.height → EachFits g (b.parts r)
 
 -- a box with the outer lines around it

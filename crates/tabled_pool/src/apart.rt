@@ -8,8 +8,8 @@ ghost use Rattle.tabled_pool.specs.Pool.{borders_of, style_of};
 ghost use Rattle.tabled_pool.specs.Uncoloured.{IsUncoloured};
 
 use crate::pool_table::{PoolTable, style_of};
-use tabled_text::is_separator_column;
 use tabled_config::{Borders, CellStyle, Indent, Sides};
+use tabled_text::is_separator_column;
 
 /// Whether a character of a line is a separator; a missing one is a space.
 fn is_separator(c: Option<char>) -> bool

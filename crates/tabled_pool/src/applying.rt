@@ -7,8 +7,8 @@ ghost use Rattle.tabled_pool.specs.Applied.{IsApplied, WasOutOfRange};
 use crate::pool_table::PoolTable;
 use tabled_base::{TableError, TableOption};
 use tabled_config::CompactMultilineConfig;
-use tabled_size::PoolTableDimension;
 use tabled_records::EmptyRecords;
+use tabled_size::PoolTableDimension;
 
 impl PoolTable {
     ghost use Rattle.tabled_pool.specs.contracts.pool_table.PoolTable.{the_row};

@@ -3,15 +3,15 @@ ghost use Rattle.std.specs.Prelude.{◌≡◌, ◌<◌, [], slice_get};
 ghost use Rattle.std.specs.List.{slice_index_or};
 ghost use Rattle.std.specs.Option.{option_map};
 ghost use Rattle.tabled_text.specs.Measure.{lines_of};
-ghost use Rattle.tabled_line.specs.Block.{text_room};
+ghost use Rattle.tabled_line.specs.Block.{inner_width};
 ghost use Rattle.tabled_line.specs.Sent.{Sent, Writes};
 ghost use Rattle.tabled_pool.specs.Block.{line_below, pool_block, text_line, without_sides};
 ghost use Rattle.tabled_pool.specs.Colours.{marks_of};
 
-use crate::colors::put_colored_fill;
+use crate::colors::draw_colored_fill;
 use tabled_base::TableError;
 use tabled_config::{ANSIStr, CellStyle, Indent, Sides};
-use tabled_line::{CellBlock, TextSink, put_fill};
+use tabled_line::{CellBlock, TextSink, write_fill};
 use tabled_text::line_width;
 
 /// The line of a text at an index.
@@ -22,7 +22,7 @@ fn nth_line(text: &str, index: usize) -> Option<&str>
 }
 
 /// A line below the text: of the bottom padding first, and of spaces behind that.
-fn put_line_below<S: TextSink>(
+fn draw_line_below<S: TextSink>(
     sink: &mut S,
     style: &CellStyle,
     colors: &Sides<ANSIStr<'static>>,
@@ -32,9 +32,9 @@ fn put_line_below<S: TextSink>(
     ensures { Writes (S.sent sink.old) result (S.sent sink.new) (line_below style.now (marks_of colors.now) width index) }
 {
     if index < style.padding.bottom.size {
-        put_colored_fill(sink, colors.bottom, style.padding.bottom.fill, width)
+        draw_colored_fill(sink, colors.bottom, style.padding.bottom.fill, width)
     } else {
-        put_fill(sink, ' ', width)
+        write_fill(sink, ' ', width)
     }
 }
 
@@ -54,8 +54,8 @@ fn without_sides(style: CellStyle) -> CellStyle
 }
 
 /// The columns that the side padding leaves of a width.
-fn text_room(style: &CellStyle, width: usize) -> usize
-    ensures { result ≡ text_room style.now width }
+fn inner_width(style: &CellStyle, width: usize) -> usize
+    ensures { result ≡ inner_width style.now width }
 {
     width
         .saturating_sub(style.padding.left.size)
@@ -63,7 +63,7 @@ fn text_room(style: &CellStyle, width: usize) -> usize
 }
 
 /// A line of the text between its side paddings.
-fn put_text_line<S: TextSink>(
+fn write_text_line<S: TextSink>(
     sink: &mut S,
     cell: &CellBlock<'_>,
     colors: &Sides<ANSIStr<'static>>,
@@ -76,17 +76,17 @@ fn put_text_line<S: TextSink>(
     let right = cell.style.padding.right;
     let inner = CellBlock {
         style: without_sides(cell.style),
-        width: text_room(&cell.style, cell.width),
+        width: inner_width(&cell.style, cell.width),
         height: cell.height,
         content: cell.content,
     };
-    put_colored_fill(sink, colors.left, left.fill, left.size)?;
-    inner.put_text_line(sink, line, line_width(line))?;
-    put_colored_fill(sink, colors.right, right.fill, right.size)
+    draw_colored_fill(sink, colors.left, left.fill, left.size)?;
+    inner.write_text_line(sink, line, line_width(line))?;
+    draw_colored_fill(sink, colors.right, right.fill, right.size)
 }
 
 /// A line of the block of a text.
-pub fn put_block_line<S: TextSink>(
+pub fn draw_block_line<S: TextSink>(
     sink: &mut S,
     cell: &CellBlock<'_>,
     colors: &Sides<ANSIStr<'static>>,
@@ -98,17 +98,17 @@ pub fn put_block_line<S: TextSink>(
 {
     let above = cell.lines_above();
     if index < above {
-        return put_fill(sink, ' ', cell.width);
+        return write_fill(sink, ' ', cell.width);
     }
     let top = cell.style.padding.top;
     let padded = index - above;
     if padded < top.size {
-        return put_colored_fill(sink, colors.top, top.fill, cell.width);
+        return draw_colored_fill(sink, colors.top, top.fill, cell.width);
     }
     let row = padded - top.size;
     match nth_line(cell.content.text, row) {
-        Some(line) => put_text_line(sink, cell, colors, line),
-        None => put_line_below(
+        Some(line) => write_text_line(sink, cell, colors, line),
+        None => draw_line_below(
             sink,
             &cell.style,
             colors,

@@ -6,10 +6,10 @@ ghost use Rattle.tabled_pool.specs.Colours.{coloured, is_same, mark_of};
 
 use tabled_base::TableError;
 use tabled_config::ANSIStr;
-use tabled_line::{TextSink, put_fill};
+use tabled_line::{TextSink, write_fill};
 
 /// A run of a character between the marks of its colour, be it empty or not.
-pub(crate) fn put_colored_fill<S: TextSink>(
+pub(crate) fn draw_colored_fill<S: TextSink>(
     sink: &mut S,
     color: ANSIStr<'static>,
     c: char,
@@ -18,7 +18,7 @@ pub(crate) fn put_colored_fill<S: TextSink>(
     ensures { Writes (S.sent sink.old) result (S.sent sink.new) (coloured (mark_of color.entry) (fill c count)) }
 {
     sink.write_text(color.get_prefix())?;
-    put_fill(sink, c, count)?;
+    write_fill(sink, c, count)?;
     sink.write_text(color.get_suffix())
 }
 

@@ -10,36 +10,36 @@ ghost use Rattle.tabled_pool.specs.Plans.{around_of, plan_of};
 ghost use Rattle.tabled_pool.specs.Drawn.{border_char, border_text, place_text, drawn_line, drawn};
 ghost use Rattle.tabled_pool.specs.Tiled.{Tiled};
 
-use crate::around::around_at;
-use crate::block::put_block_line;
+use crate::block::draw_block_line;
+use crate::color_marks::around_at;
 use crate::drawing::Drawing;
 use crate::find::find;
+use crate::line_characters::border_char;
 use crate::marks::Marks;
 use crate::pieces::{Kind, Rectangle};
-use crate::plan::border_char;
 use tabled_base::TableError;
-use tabled_line::{CellBlock, Content, TextSink, put_char};
+use tabled_line::{CellBlock, Content, TextSink, write_char};
 
 /// A character and the marks around it.
-fn put_marked<S: TextSink>(sink: &mut S, marks: Marks, c: char) -> Result<(), TableError>
+fn draw_marked<S: TextSink>(sink: &mut S, marks: Marks, c: char) -> Result<(), TableError>
     ensures { Writes (S.sent sink.old) result (S.sent sink.new) (within_marks (around_of marks) (encode_utf8 c)) }
 {
     sink.write_text(marks.close)?;
-    put_opened(sink, marks, c)
+    draw_opened(sink, marks, c)
 }
 
 /// A character behind its prefix, and what follows it.
-fn put_opened<S: TextSink>(sink: &mut S, marks: Marks, c: char) -> Result<(), TableError>
+fn draw_opened<S: TextSink>(sink: &mut S, marks: Marks, c: char) -> Result<(), TableError>
     ensures { Writes (S.sent sink.old) result (S.sent sink.new) (marks.start.now ++ (encode_utf8 c ++ marks.behind.now)) }
 {
     sink.write_text(marks.start)?;
-    put_char(sink, c)?;
+    write_char(sink, c)?;
     sink.write_text(marks.behind)
 }
 
 /// A character of a line, with its colour.
 #[tactic(auto, unfolding(crate::specs::Drawn::border_text))]
-fn put_border<S: TextSink>(
+fn draw_border<S: TextSink>(
     sink: &mut S,
     drawing: &Drawing<'_, '_>,
     kind: Kind,
@@ -52,12 +52,12 @@ fn put_border<S: TextSink>(
     ensures { Writes (S.sent sink.old) result (S.sent sink.new) (border_text (plan_of drawing.now) kind place x y) }
 {
     let marks = around_at(drawing, x, y);
-    put_marked(sink, marks, border_char(drawing, kind, place, x, y))
+    draw_marked(sink, marks, border_char(drawing, kind, place, x, y))
 }
 
 /// What stands at a place: a leaf's line where it begins, one character of a line.
 #[tactic(auto, unfolding(crate::specs::Drawn::place_text, crate::specs::Leaf::leaf_line))]
-fn put_place<S: TextSink>(
+fn draw_place<S: TextSink>(
     sink: &mut S,
     drawing: &Drawing<'_, '_>,
     y: usize,
@@ -82,16 +82,16 @@ fn put_place<S: TextSink>(
                 height: place.height,
                 content: Content::new(piece.text),
             };
-            put_block_line(sink, &cell, &drawing.padding_colors, y - place.y)
+            draw_block_line(sink, &cell, &drawing.padding_colors, y - place.y)
         }
-        Kind::Bar => put_border(sink, drawing, Kind::Bar, place, x, y),
-        Kind::Rule => put_border(sink, drawing, Kind::Rule, place, x, y),
+        Kind::Bar => draw_border(sink, drawing, Kind::Bar, place, x, y),
+        Kind::Rule => draw_border(sink, drawing, Kind::Rule, place, x, y),
     }
 }
 
 /// A line of a drawing, place by place.
 #[tactic(auto, unfolding(crate::specs::Drawn::drawn_line))]
-pub(crate) fn put_line<S: TextSink>(
+pub(crate) fn draw_line<S: TextSink>(
     sink: &mut S,
     drawing: &Drawing<'_, '_>,
     y: usize,
@@ -100,7 +100,7 @@ pub(crate) fn put_line<S: TextSink>(
     ensures { Writes (S.sent sink.old) result (S.sent sink.new) (drawn_line (plan_of drawing.now) y) }
 {
     'places: for x in 0..drawing.width {
-        put_place(sink, drawing, y, x)?;
+        draw_place(sink, drawing, y, x)?;
     }
     Ok(())
 }

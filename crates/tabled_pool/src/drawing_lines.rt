@@ -8,51 +8,51 @@ ghost use Rattle.tabled_pool.specs.Margins.{with_margin, within_margin};
 ghost use Rattle.tabled_pool.specs.Plans.{plan_of};
 ghost use Rattle.tabled_pool.specs.Drawn.{drawn, drawn_line};
 
-use crate::draw::put_line;
+use crate::draw::draw_line;
 use crate::drawing::Drawing;
-use crate::margins::{Margin, put_margin};
+use crate::margins::{ColoredMargin, draw_margin};
 use crate::near::gather;
 use crate::pieces::Piece;
 use tabled_base::TableError;
-use tabled_line::{TextSink, put_break};
+use tabled_line::{TextSink, write_break};
 
 /// A line of a drawing, between the side margins.
-fn put_inner_line<S: TextSink>(
+fn draw_inner_line<S: TextSink>(
     sink: &mut S,
     drawing: &Drawing<'_, '_>,
-    margin: &Margin,
+    margin: &ColoredMargin,
     y: usize,
 ) -> Result<(), TableError>
     requires down { y < 2 ^ 64 - 1 }
     ensures { Writes (S.sent sink.old) result (S.sent sink.new)
         (within_margin margin.now.indent (marks_of margin.now.colors) (drawn_line (plan_of drawing.now) y)) }
 {
-    margin.put_left(sink)?;
-    put_line(sink, drawing, y)?;
-    margin.put_right(sink)
+    margin.write_left_margin(sink)?;
+    draw_line(sink, drawing, y)?;
+    margin.write_right_margin(sink)
 }
 
-fn put_led_line<S: TextSink>(
+fn draw_next_line<S: TextSink>(
     sink: &mut S,
     begun: &mut bool,
     drawing: &Drawing<'_, '_>,
-    margin: &Margin,
+    margin: &ColoredMargin,
     y: usize,
 ) -> Result<(), TableError>
     requires down { y < 2 ^ 64 - 1 }
     ensures { WritesLines (S.sent sink.old) begun.old result (S.sent sink.new) begun.new
         (within_margin margin.now.indent (marks_of margin.now.colors) (drawn_line (plan_of drawing.now) y) ∷ []) }
 {
-    put_break(sink, begun)?;
-    put_inner_line(sink, drawing, margin, y)
+    write_break(sink, begun)?;
+    draw_inner_line(sink, drawing, margin, y)
 }
 
 /// A line of a drawing, between the side margins, by the pieces near it if there is memory for them.
-fn put_near_line<'a, S: TextSink>(
+fn draw_near_line<'a, S: TextSink>(
     sink: &mut S,
     begun: &mut bool,
     drawing: &Drawing<'_, 'a>,
-    margin: &Margin,
+    margin: &ColoredMargin,
     near: &mut Vec<Piece<'a>>,
     y: usize,
 ) -> Result<(), TableError>
@@ -61,21 +61,21 @@ fn put_near_line<'a, S: TextSink>(
         (within_margin margin.now.indent (marks_of margin.now.colors) (drawn_line (plan_of drawing.now) y) ∷ []) }
 {
     if !gather(near, drawing.pieces, y) {
-        return put_led_line(sink, begun, drawing, margin, y);
+        return draw_next_line(sink, begun, drawing, margin, y);
     }
     let close = Drawing {
         pieces: near.as_slice(),
         ..*drawing
     };
-    put_led_line(sink, begun, &close, margin, y)
+    draw_next_line(sink, begun, &close, margin, y)
 }
 
 /// The lines of a drawing, between the side margins.
-fn put_inner_lines<S: TextSink>(
+fn draw_inner_lines<S: TextSink>(
     sink: &mut S,
     begun: &mut bool,
     drawing: &Drawing<'_, '_>,
-    margin: &Margin,
+    margin: &ColoredMargin,
 ) -> Result<(), TableError>
     ensures { WritesLines (S.sent sink.old) begun.old result (S.sent sink.new) begun.new
         (map (λ y. within_margin margin.now.indent (marks_of margin.now.colors) (drawn_line (plan_of drawing.now) y))
@@ -83,27 +83,27 @@ fn put_inner_lines<S: TextSink>(
 {
     let mut near = Vec::new(drawing.alloc);
     'lines: for y in 0..drawing.height {
-        put_near_line(sink, begun, drawing, margin, &mut near, y)?;
+        draw_near_line(sink, begun, drawing, margin, &mut near, y)?;
     }
     Ok(())
 }
 
 /// The lines of a drawing and of its margin.
 #[tactic(auto, unfolding(crate::specs::Drawn::drawn))]
-fn put_lines<S: TextSink>(
+fn draw_lines<S: TextSink>(
     sink: &mut S,
     begun: &mut bool,
     drawing: &Drawing<'_, '_>,
-    margin: &Margin,
+    margin: &ColoredMargin,
 ) -> Result<(), TableError>
     ensures { WritesLines (S.sent sink.old) begun.old result (S.sent sink.new) begun.new
         (with_margin margin.now.indent (marks_of margin.now.colors) drawing.now.width (drawn (plan_of drawing.now))) }
 {
     let top = margin.indent.top;
     let bottom = margin.indent.bottom;
-    put_margin(sink, begun, margin, margin.colors.top, top, drawing.width)?;
-    put_inner_lines(sink, begun, drawing, margin)?;
-    put_margin(
+    draw_margin(sink, begun, margin, margin.colors.top, top, drawing.width)?;
+    draw_inner_lines(sink, begun, drawing, margin)?;
+    draw_margin(
         sink,
         begun,
         margin,
@@ -114,14 +114,14 @@ fn put_lines<S: TextSink>(
 }
 
 /// A drawing with its margin, its lines joined by line feeds.
-pub(crate) fn put_framed<S: TextSink>(
+pub(crate) fn draw_framed<S: TextSink>(
     sink: &mut S,
     drawing: &Drawing<'_, '_>,
-    margin: &Margin,
+    margin: &ColoredMargin,
 ) -> Result<(), TableError>
     ensures { Writes (S.sent sink.old) result (S.sent sink.new) (join_with_byte 10
         (with_margin margin.now.indent (marks_of margin.now.colors) drawing.now.width (drawn (plan_of drawing.now)))) }
 {
     let mut begun = false;
-    put_lines(sink, &mut begun, drawing, margin)
+    draw_lines(sink, &mut begun, drawing, margin)
 }

@@ -1,6 +1,6 @@
 //! Where a box of a tree with a text of no column stands, and the characters that its lines have there.
 ghost use Rattle.std.specs.Prelude.{◌≡◌, None, if◌then◌else◌};
-ghost use Rattle.tabled_pool.specs.Handed.{first_in_column, first_in_row, is_bottom, is_left, is_right, is_top, later_in_column, later_in_row, own_borders, top_left, whole_flags};
+ghost use Rattle.tabled_pool.specs.Inherited.{first_in_column, first_in_row, is_bottom, is_left, is_right, is_top, later_in_column, later_in_row, own_borders, top_left, whole_flags};
 
 use tabled_config::Borders;
 

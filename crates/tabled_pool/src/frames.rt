@@ -4,7 +4,7 @@ ghost use Rattle.tabled_pool.specs.Boxes.{box_of};
 ghost use Rattle.tabled_pool.specs.Shown.{shown};
 ghost use Rattle.tabled_pool.specs.Tiling.{framed, AreTiles, EachFits};
 
-use crate::gaps::Gaps;
+use crate::box_spacing::BoxSpacing;
 use crate::pieces::{Kind, Piece, Rectangle};
 use crate::places::{place_bar, place_value};
 use crate::tree::TableValue;
@@ -16,37 +16,37 @@ use tabled_config::Sides;
 /// frame has the columns and lines that each outer line takes. The walk recurses as deep as the tree goes.
 pub fn place_tree<'a>(
     value: &'a TableValue,
-    gaps: &Gaps,
+    spacing: &BoxSpacing,
     frame: &Sides<usize>,
     whole: Rectangle,
     pieces: &mut Vec<Piece<'a>>,
 ) -> Result<(), AllocError>
-    requires wide { frame.now.left + (box_of gaps.now value.now).width + frame.now.right ≤ whole.width }
-    requires tall { frame.now.top + (box_of gaps.now value.now).height + frame.now.bottom ≤ whole.height }
+    requires wide { frame.now.left + (box_of spacing.now value.now).width + frame.now.right ≤ whole.width }
+    requires tall { frame.now.top + (box_of spacing.now value.now).height + frame.now.bottom ≤ whole.height }
     requires right { whole.x + whole.width < 2 ^ 64 }
     requires low { whole.y + whole.height < 2 ^ 64 }
-    ensures tiles { AreTiles (framed frame.now (box_of gaps.now value.now) whole) whole }
-    ensures fits { EachFits gaps.now (framed frame.now (box_of gaps.now value.now) whole) }
+    ensures tiles { AreTiles (framed frame.now (box_of spacing.now value.now) whole) whole }
+    ensures fits { EachFits spacing.now (framed frame.now (box_of spacing.now value.now) whole) }
     ensures places { IfOk result (λ _. map shown pieces.new.items ≡ map shown pieces.old.items
-        ++ framed (frame.now) (box_of gaps.now value.now) whole) }
+        ++ framed (frame.now) (box_of spacing.now value.now) whole) }
 {
-    place_framed(value, gaps, frame, whole, pieces)
+    place_framed(value, spacing, frame, whole, pieces)
 }
 
 #[tactic(auto, unfolding(crate::specs::Tiling::framed))]
 fn place_framed<'a>(
     value: &'a TableValue,
-    gaps: &Gaps,
+    spacing: &BoxSpacing,
     frame: &Sides<usize>,
     whole: Rectangle,
     pieces: &mut Vec<Piece<'a>>,
 ) -> Result<(), AllocError>
-    requires wide { frame.now.left + (box_of gaps.now value.now).width + frame.now.right ≤ whole.width }
-    requires tall { frame.now.top + (box_of gaps.now value.now).height + frame.now.bottom ≤ whole.height }
+    requires wide { frame.now.left + (box_of spacing.now value.now).width + frame.now.right ≤ whole.width }
+    requires tall { frame.now.top + (box_of spacing.now value.now).height + frame.now.bottom ≤ whole.height }
     requires right { whole.x + whole.width < 2 ^ 64 }
     requires low { whole.y + whole.height < 2 ^ 64 }
     ensures { IfOk result (λ _. map shown pieces.new.items ≡ map shown pieces.old.items
-        ++ framed (frame.now) (box_of gaps.now value.now) whole) }
+        ++ framed (frame.now) (box_of spacing.now value.now) whole) }
 {
     let left = Rectangle {
         x: whole.x,
@@ -88,6 +88,6 @@ fn place_framed<'a>(
     place_bar(Kind::Bar, right, pieces)?;
     place_bar(Kind::Rule, top, pieces)?;
     place_bar(Kind::Rule, bottom, pieces)?;
-    place_value(value, gaps, inner, pieces)?;
+    place_value(value, spacing, inner, pieces)?;
     Ok(())
 }

@@ -16,7 +16,7 @@
 //! Trees, and the places of their boxes:
 //! - `tree`: `TableValue`, a tree of texts, and how it is dropped
 //! - `copying`: copies of trees
-//! - `gaps`: `Gaps`, what the sizes of boxes rest on, and `Size`
+//! - `box_spacing`: `Gaps`, what the sizes of boxes rest on, and `Size`
 //! - `sizes`: the columns and lines that boxes ask for
 //! - `pieces`: `Rectangle`, and `Piece`, a text or a line in its place
 //! - `places`: the places of texts, and of the lines between boxes
@@ -33,48 +33,48 @@
 //! Drawing place by place:
 //! - `find`: the piece that holds a place
 //! - `near`: the pieces that one line is drawn by
-//! - `plan`: the characters of lines
-//! - `around`: the marks around these characters
+//! - `line_characters`: the characters of lines
+//! - `color_marks`: the marks around these characters
 //! - `draw`: one line of a drawing
 //! - `drawing_lines`: all lines of a drawing, with the margin
 //!
 //! Drawing box by box, for trees with a text of no column:
-//! - `handed`: the walk over the tree, and `draw_tree`
-//! - `handing`: what boxes are handed and hand on
-//! - `taking`: the sizes that a box takes of those that it was handed
+//! - `inherited`: the walk over the tree, and `draw_tree`
+//! - `inheriting`: what boxes inherit and hand on
+//! - `taking`: the sizes that a box takes of those that it inherited
 //! - `flags`: where a box is, and the characters that its lines have there
-//! - `handed_text`: the lines of one text
-//! - `panels`: `DrawnBox`, and how drawn boxes are joined
-//! - `panel_lines`: all lines of the drawn tree, with the margin
+//! - `inherited_text`: the lines of one text
+//! - `drawn_blocks`: `DrawnBlock`, and how drawn boxes are joined
+//! - `block_lines`: all lines of the drawn tree, with the margin
 #![tactic(auto)]
 
 mod apart;
 mod applying;
-mod around;
 mod block;
+mod block_lines;
+mod box_spacing;
+mod color_marks;
 mod colors;
 mod copying;
 mod draw;
 mod drawing;
 mod drawing_lines;
+mod drawn_blocks;
 mod find;
 mod flags;
 mod frames;
-mod gaps;
-mod handed;
-mod handed_text;
-mod handing;
+mod inherited;
+mod inherited_text;
+mod inheriting;
 mod kinds;
+mod line_characters;
 mod making;
 mod margins;
 mod marks;
 mod near;
-mod panel_lines;
-mod panels;
 mod pieces;
 mod places;
 mod plain;
-mod plan;
 mod pool_table;
 mod sizes;
 mod taking;

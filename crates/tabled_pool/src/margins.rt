@@ -6,42 +6,42 @@ ghost use Rattle.tabled_line.specs.Sent.{Sent, Writes};
 ghost use Rattle.tabled_pool.specs.Colours.{coloured, mark_of, marks_of};
 ghost use Rattle.tabled_pool.specs.Margins.{margin_line};
 
-use crate::colors::put_colored_fill;
+use crate::colors::draw_colored_fill;
 use tabled_base::TableError;
 use tabled_config::{ANSIStr, Indent, Sides};
-use tabled_line::{TextSink, put_break};
+use tabled_line::{TextSink, write_break};
 
 /// A margin, and its colours.
 #[derive(Clone, Copy)]
-pub struct Margin {
+pub struct ColoredMargin {
     pub indent: Sides<Indent>,
     pub colors: Sides<ANSIStr<'static>>,
 }
 
-impl Margin {
+impl ColoredMargin {
     /// The left margin of a line.
-    pub fn put_left<S: TextSink>(&self, sink: &mut S) -> Result<(), TableError>
+    pub fn write_left_margin<S: TextSink>(&self, sink: &mut S) -> Result<(), TableError>
         ensures { Writes (S.sent sink.old) result (S.sent sink.new)
             (coloured (mark_of self.now.colors.left) (indent self.now.indent.left)) }
     {
         let left = self.indent.left;
-        put_colored_fill(sink, self.colors.left, left.fill, left.size)
+        draw_colored_fill(sink, self.colors.left, left.fill, left.size)
     }
 
     /// The right margin of a line.
-    pub fn put_right<S: TextSink>(&self, sink: &mut S) -> Result<(), TableError>
+    pub fn write_right_margin<S: TextSink>(&self, sink: &mut S) -> Result<(), TableError>
         ensures { Writes (S.sent sink.old) result (S.sent sink.new)
             (coloured (mark_of self.now.colors.right) (indent self.now.indent.right)) }
     {
         let right = self.indent.right;
-        put_colored_fill(sink, self.colors.right, right.fill, right.size)
+        draw_colored_fill(sink, self.colors.right, right.fill, right.size)
     }
 }
 
 /// A line of the top or bottom margin, between the side margins.
-fn put_filled_line<S: TextSink>(
+fn draw_filled_line<S: TextSink>(
     sink: &mut S,
-    margin: &Margin,
+    margin: &ColoredMargin,
     color: ANSIStr<'static>,
     c: char,
     width: usize,
@@ -49,15 +49,15 @@ fn put_filled_line<S: TextSink>(
     ensures { Writes (S.sent sink.old) result (S.sent sink.new)
         (margin_line margin.now.indent (marks_of margin.now.colors) (mark_of color.entry) c width) }
 {
-    margin.put_left(sink)?;
-    put_colored_fill(sink, color, c, width)?;
-    margin.put_right(sink)
+    margin.write_left_margin(sink)?;
+    draw_colored_fill(sink, color, c, width)?;
+    margin.write_right_margin(sink)
 }
 
-fn put_led_margin<S: TextSink>(
+fn draw_next_margin_line<S: TextSink>(
     sink: &mut S,
     begun: &mut bool,
-    margin: &Margin,
+    margin: &ColoredMargin,
     color: ANSIStr<'static>,
     c: char,
     width: usize,
@@ -65,15 +65,15 @@ fn put_led_margin<S: TextSink>(
     ensures { WritesLines (S.sent sink.old) begun.old result (S.sent sink.new) begun.new
         (margin_line margin.now.indent (marks_of margin.now.colors) (mark_of color.entry) c width ∷ []) }
 {
-    put_break(sink, begun)?;
-    put_filled_line(sink, margin, color, c, width)
+    write_break(sink, begun)?;
+    draw_filled_line(sink, margin, color, c, width)
 }
 
 /// The lines of the top or the bottom margin.
-pub fn put_margin<S: TextSink>(
+pub fn draw_margin<S: TextSink>(
     sink: &mut S,
     begun: &mut bool,
-    margin: &Margin,
+    margin: &ColoredMargin,
     color: ANSIStr<'static>,
     side: Indent,
     width: usize,
@@ -82,7 +82,7 @@ pub fn put_margin<S: TextSink>(
         (replicate side.size (margin_line margin.now.indent (marks_of margin.now.colors) (mark_of color.entry) side.fill width)) }
 {
     'lines: for _i in 0..side.size {
-        put_led_margin(sink, begun, margin, color, side.fill, width)?;
+        draw_next_margin_line(sink, begun, margin, color, side.fill, width)?;
     }
     Ok(())
 }

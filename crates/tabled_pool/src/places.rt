@@ -4,7 +4,7 @@ ghost use Rattle.tabled_pool.specs.declared.pieces.Kind.TheVariants.{Leaf};
 ghost use Rattle.tabled_pool.specs.Boxes.{box_of, leaf_box, row_box, column_box, share, part_of, left_part, right_part, top_part, bottom_part};
 ghost use Rattle.tabled_pool.specs.Shown.{shown, Fits};
 
-use crate::gaps::Gaps;
+use crate::box_spacing::BoxSpacing;
 use crate::pieces::{Kind, Piece, Rectangle};
 use crate::sizes::{column_size, own_size, row_size};
 use crate::tree::TableValue;
@@ -63,7 +63,7 @@ pub fn place_bar<'a>(
 
 /// A place of some boxes, cut behind the first of them.
 #[derive(Clone, Copy)]
-pub struct Cut {
+pub struct SplitPlace {
     /// The first box's own columns, or lines.
     pub own: usize,
     /// The place that the first box is given.
@@ -76,34 +76,40 @@ pub struct Cut {
 
 /// Cuts a place of boxes side by side behind the first of them. The boxes are so many, and their own columns with the
 /// lines between them are those that are left.
-pub fn cut_row(child: &TableValue, gaps: &Gaps, left: usize, count: usize, place: Rectangle) -> Cut
+pub fn split_row(
+    child: &TableValue,
+    spacing: &BoxSpacing,
+    left: usize,
+    count: usize,
+    place: Rectangle,
+) -> SplitPlace
     requires some { 0 < count }
-    requires own { (box_of gaps.now child.now).width + gaps.now.bar ≤ left }
-    requires across { (box_of gaps.now child.now).height ≤ place.height }
+    requires own { (box_of spacing.now child.now).width + spacing.now.bar ≤ left }
+    requires across { (box_of spacing.now child.now).height ≤ place.height }
     requires along { left ≤ place.width }
     requires right { place.x + place.width < 2 ^ 64 }
     requires low { place.y + place.height < 2 ^ 64 }
-    ensures own { result.own ≡ (box_of gaps.now child.now).width }
+    ensures own { result.own ≡ (box_of spacing.now child.now).width }
     ensures given { result.given
-        ≡ left_part ((box_of gaps.now child.now).width + share gaps.now.across (place.width - left) count) place }
+        ≡ left_part ((box_of spacing.now child.now).width + share spacing.now.across (place.width - left) count) place }
     ensures line { result.line
-        ≡ left_part gaps.now.bar (right_part ((box_of gaps.now child.now).width + share gaps.now.across (place.width - left) count) place) }
+        ≡ left_part spacing.now.bar (right_part ((box_of spacing.now child.now).width + share spacing.now.across (place.width - left) count) place) }
     ensures rest { result.rest
-        ≡ right_part gaps.now.bar (right_part ((box_of gaps.now child.now).width + share gaps.now.across (place.width - left) count) place) }
-    ensures fits { Fits (box_of gaps.now child.now) result.given }
+        ≡ right_part spacing.now.bar (right_part ((box_of spacing.now child.now).width + share spacing.now.across (place.width - left) count) place) }
+    ensures fits { Fits (box_of spacing.now child.now) result.given }
 {
-    let Some(size) = own_size(child, gaps) else {
+    let Some(size) = own_size(child, spacing) else {
         unreachable!()
     };
     let own = size.width;
-    let width = own + share(gaps.across, place.width - left, count);
+    let width = own + share(spacing.across, place.width - left, count);
     let behind = Rectangle {
         x: place.x + width,
         y: place.y,
         width: place.width - width,
         height: place.height,
     };
-    Cut {
+    SplitPlace {
         own,
         given: Rectangle {
             x: place.x,
@@ -114,13 +120,13 @@ pub fn cut_row(child: &TableValue, gaps: &Gaps, left: usize, count: usize, place
         line: Rectangle {
             x: behind.x,
             y: behind.y,
-            width: gaps.bar,
+            width: spacing.bar,
             height: behind.height,
         },
         rest: Rectangle {
-            x: behind.x + gaps.bar,
+            x: behind.x + spacing.bar,
             y: behind.y,
-            width: behind.width - gaps.bar,
+            width: behind.width - spacing.bar,
             height: behind.height,
         },
     }
@@ -128,40 +134,40 @@ pub fn cut_row(child: &TableValue, gaps: &Gaps, left: usize, count: usize, place
 
 /// Cuts a place of boxes below each other behind the first of them. The boxes are so many, and their own lines with the
 /// lines between them are those that are left.
-pub fn cut_column(
+pub fn split_column(
     child: &TableValue,
-    gaps: &Gaps,
+    spacing: &BoxSpacing,
     left: usize,
     count: usize,
     place: Rectangle,
-) -> Cut
+) -> SplitPlace
     requires some { 0 < count }
-    requires own { (box_of gaps.now child.now).height + gaps.now.rule ≤ left }
-    requires across { (box_of gaps.now child.now).width ≤ place.width }
+    requires own { (box_of spacing.now child.now).height + spacing.now.rule ≤ left }
+    requires across { (box_of spacing.now child.now).width ≤ place.width }
     requires along { left ≤ place.height }
     requires right { place.x + place.width < 2 ^ 64 }
     requires low { place.y + place.height < 2 ^ 64 }
-    ensures own { result.own ≡ (box_of gaps.now child.now).height }
+    ensures own { result.own ≡ (box_of spacing.now child.now).height }
     ensures given { result.given
-        ≡ top_part ((box_of gaps.now child.now).height + share gaps.now.down (place.height - left) count) place }
+        ≡ top_part ((box_of spacing.now child.now).height + share spacing.now.down (place.height - left) count) place }
     ensures line { result.line
-        ≡ top_part gaps.now.rule (bottom_part ((box_of gaps.now child.now).height + share gaps.now.down (place.height - left) count) place) }
+        ≡ top_part spacing.now.rule (bottom_part ((box_of spacing.now child.now).height + share spacing.now.down (place.height - left) count) place) }
     ensures rest { result.rest
-        ≡ bottom_part gaps.now.rule (bottom_part ((box_of gaps.now child.now).height + share gaps.now.down (place.height - left) count) place) }
-    ensures fits { Fits (box_of gaps.now child.now) result.given }
+        ≡ bottom_part spacing.now.rule (bottom_part ((box_of spacing.now child.now).height + share spacing.now.down (place.height - left) count) place) }
+    ensures fits { Fits (box_of spacing.now child.now) result.given }
 {
-    let Some(size) = own_size(child, gaps) else {
+    let Some(size) = own_size(child, spacing) else {
         unreachable!()
     };
     let own = size.height;
-    let height = own + share(gaps.down, place.height - left, count);
+    let height = own + share(spacing.down, place.height - left, count);
     let below = Rectangle {
         x: place.x,
         y: place.y + height,
         width: place.width,
         height: place.height - height,
     };
-    Cut {
+    SplitPlace {
         own,
         given: Rectangle {
             x: place.x,
@@ -173,13 +179,13 @@ pub fn cut_column(
             x: below.x,
             y: below.y,
             width: below.width,
-            height: gaps.rule,
+            height: spacing.rule,
         },
         rest: Rectangle {
             x: below.x,
-            y: below.y + gaps.rule,
+            y: below.y + spacing.rule,
             width: below.width,
-            height: below.height - gaps.rule,
+            height: below.height - spacing.rule,
         },
     }
 }
@@ -188,64 +194,64 @@ pub fn cut_column(
 #[tactic(auto, using(crate::proofs::Steps::row_step_width, crate::proofs::Steps::row_step_height, crate::proofs::Steps::column_step_width, crate::proofs::Steps::column_step_height, crate::proofs::Steps::left_first, crate::proofs::Steps::left_all, crate::proofs::Steps::left_count,))]
 fn place_row<'a>(
     children: &'a [TableValue],
-    gaps: &Gaps,
+    spacing: &BoxSpacing,
     whole: Rectangle,
     pieces: &mut Vec<Piece<'a>>,
 ) -> Result<(), AllocError>
-    requires { Fits (row_box gaps.now (map (box_of gaps.now) children.now)) whole }
+    requires { Fits (row_box spacing.now (map (box_of spacing.now) children.now)) whole }
     ensures { IfOk result (λ _. map shown pieces.new.items ≡ map shown pieces.old.items
-        ++ (row_box gaps.now (map (box_of gaps.now) children.now)).parts whole) }
+        ++ (row_box spacing.now (map (box_of spacing.now) children.now)).parts whole) }
 {
     let Some((last, front)) = children.split_last() else {
         return place_leaf("", whole, pieces);
     };
-    let Some(own) = row_size(children, gaps) else {
+    let Some(own) = row_size(children, spacing) else {
         unreachable!()
     };
     let mut left = own.width;
     let mut count = children.len();
     let mut place = whole;
     for child in front {
-        let cut = cut_row(child, gaps, left, count, place);
-        place_value(child, gaps, cut.given, pieces)?;
+        let cut = split_row(child, spacing, left, count, place);
+        place_value(child, spacing, cut.given, pieces)?;
         place_bar(Kind::Bar, cut.line, pieces)?;
-        left -= cut.own + gaps.bar;
+        left -= cut.own + spacing.bar;
         count -= 1;
         place = cut.rest;
     }
-    place_value(last, gaps, place, pieces)
+    place_value(last, spacing, place, pieces)
 }
 
 #[cycle(places)]
 #[tactic(auto, using(crate::proofs::Steps::row_step_width, crate::proofs::Steps::row_step_height, crate::proofs::Steps::column_step_width, crate::proofs::Steps::column_step_height, crate::proofs::Steps::left_first, crate::proofs::Steps::left_all, crate::proofs::Steps::left_count,))]
 fn place_column<'a>(
     children: &'a [TableValue],
-    gaps: &Gaps,
+    spacing: &BoxSpacing,
     whole: Rectangle,
     pieces: &mut Vec<Piece<'a>>,
 ) -> Result<(), AllocError>
-    requires { Fits (column_box gaps.now (map (box_of gaps.now) children.now)) whole }
+    requires { Fits (column_box spacing.now (map (box_of spacing.now) children.now)) whole }
     ensures { IfOk result (λ _. map shown pieces.new.items ≡ map shown pieces.old.items
-        ++ (column_box gaps.now (map (box_of gaps.now) children.now)).parts whole) }
+        ++ (column_box spacing.now (map (box_of spacing.now) children.now)).parts whole) }
 {
     let Some((last, front)) = children.split_last() else {
         return place_leaf("", whole, pieces);
     };
-    let Some(own) = column_size(children, gaps) else {
+    let Some(own) = column_size(children, spacing) else {
         unreachable!()
     };
     let mut left = own.height;
     let mut count = children.len();
     let mut place = whole;
     for child in front {
-        let cut = cut_column(child, gaps, left, count, place);
-        place_value(child, gaps, cut.given, pieces)?;
+        let cut = split_column(child, spacing, left, count, place);
+        place_value(child, spacing, cut.given, pieces)?;
         place_bar(Kind::Rule, cut.line, pieces)?;
-        left -= cut.own + gaps.rule;
+        left -= cut.own + spacing.rule;
         count -= 1;
         place = cut.rest;
     }
-    place_value(last, gaps, place, pieces)
+    place_value(last, spacing, place, pieces)
 }
 
 /// The places of the leaves of a tree and of the lines between its boxes.
@@ -253,17 +259,17 @@ fn place_column<'a>(
 #[tactic(auto, using(crate::proofs::Steps::row_step_width, crate::proofs::Steps::row_step_height, crate::proofs::Steps::column_step_width, crate::proofs::Steps::column_step_height, crate::proofs::Steps::left_first, crate::proofs::Steps::left_all, crate::proofs::Steps::left_count,))]
 pub fn place_value<'a>(
     value: &'a TableValue,
-    gaps: &Gaps,
+    spacing: &BoxSpacing,
     whole: Rectangle,
     pieces: &mut Vec<Piece<'a>>,
 ) -> Result<(), AllocError>
-    requires { Fits (box_of gaps.now value.now) whole }
+    requires { Fits (box_of spacing.now value.now) whole }
     ensures { IfOk result (λ _. map shown pieces.new.items ≡ map shown pieces.old.items
-        ++ (box_of gaps.now value.now).parts whole) }
+        ++ (box_of spacing.now value.now).parts whole) }
 {
     match value {
         TableValue::Cell(text) => place_leaf(text.as_str(), whole, pieces),
-        TableValue::Row(children) => place_row(children.as_slice(), gaps, whole, pieces),
-        TableValue::Column(children) => place_column(children.as_slice(), gaps, whole, pieces),
+        TableValue::Row(children) => place_row(children.as_slice(), spacing, whole, pieces),
+        TableValue::Column(children) => place_column(children.as_slice(), spacing, whole, pieces),
     }
 }

@@ -7,8 +7,8 @@ ghost use Rattle.tabled_line.specs.Sent.{Sent, Writes};
 ghost use Rattle.tabled_pool.specs.Shown.{shown};
 ghost use Rattle.tabled_priority.specs.Sums.{one_if};
 ghost use Rattle.tabled_pool.specs.Colours.{marks_of};
-ghost use Rattle.tabled_pool.specs.Handed.{handed_panel, has_bare};
-ghost use Rattle.tabled_pool.specs.Panels.{panel_of};
+ghost use Rattle.tabled_pool.specs.Inherited.{inherited_block, has_zero_width};
+ghost use Rattle.tabled_pool.specs.DrawnBlocks.{block_sheet_of};
 ghost use Rattle.tabled_pool.specs.Plans.{plan_of};
 ghost use Rattle.tabled_pool.specs.Apart.{IsStraightPool};
 ghost use Rattle.tabled_pool.specs.Drawn.{drawn};
@@ -24,7 +24,7 @@ ghost use Rattle.tabled_pool.specs.Pool.{
   frame_place,
   framed_height,
   framed_width,
-  gaps_of,
+  spacing_of,
   has_margin,
   margin_around,
   marks_for,
@@ -38,16 +38,16 @@ ghost use Rattle.tabled_pool.specs.Pool.{
 ghost use Rattle.tabled_pool.specs.NewPool.{IsNewConfig, IsNewPool};
 ghost use Rattle.tabled_pool.specs.Tiled.{Tiled};
 
+use crate::block_lines::draw_block;
+use crate::box_spacing::{BoxSpacing, Size};
 use crate::drawing::Drawing;
-use crate::drawing_lines::put_framed;
+use crate::drawing_lines::draw_framed;
+use crate::drawn_blocks::DrawnBlock;
 use crate::frames::place_tree;
-use crate::gaps::{Gaps, Size};
-use crate::handed::{draw_tree, has_bare};
-use crate::margins::Margin;
-use crate::panel_lines::put_panel;
-use crate::panels::DrawnBox;
+use crate::inherited::{draw_tree, has_zero_width};
+use crate::line_characters::{has_bottom, has_top};
+use crate::margins::ColoredMargin;
 use crate::pieces::{Piece, Rectangle};
-use crate::plan::{has_bottom, has_top};
 use crate::sizes::own_size;
 use crate::tree::TableValue;
 use std::alloc::Global;
@@ -168,12 +168,12 @@ impl PoolTable {
         self.to_text()
     }
 
-    fn gaps(&self) -> Gaps
-        ensures { result ≡ gaps_of self.now }
+    fn spacing(&self) -> BoxSpacing
+        ensures { result ≡ spacing_of self.now }
     {
         let padding = self.config.get_padding();
         let borders = self.config.get_borders();
-        Gaps {
+        BoxSpacing {
             padding: Sides {
                 left: padding.left.size,
                 right: padding.right.size,
@@ -193,7 +193,7 @@ impl PoolTable {
             (λ size. (size.width ≡ framed_width self.now) × (size.height ≡ framed_height self.now)) }
     {
         let frame = frame_of(self.config.get_borders());
-        let Some(own) = own_size(&self.value, &self.gaps()) else {
+        let Some(own) = own_size(&self.value, &self.spacing()) else {
             return None;
         };
         let width = sum(frame.left, own.width, frame.right)?;
@@ -213,10 +213,10 @@ impl PoolTable {
     }
 
     /// The margin around drawn lines; the empty text has none.
-    fn margin_around(&self, panel: &DrawnBox) -> Sides<Indent>
-        ensures { result ≡ margin_around self.now (panel_of panel.now) }
+    fn margin_around(&self, block: &DrawnBlock) -> Sides<Indent>
+        ensures { result ≡ margin_around self.now (block_sheet_of block.now) }
     {
-        if panel.width == 0 && panel.lines.len() == 1 {
+        if block.width == 0 && block.lines.len() == 1 {
             Sides::filled(Indent::zero())
         } else {
             *self.config.get_margin()
@@ -250,7 +250,7 @@ impl PoolTable {
             width: size.width,
             height: size.height,
         };
-        place_tree(&self.value, &self.gaps(), &frame, whole, &mut pieces)?;
+        place_tree(&self.value, &self.spacing(), &frame, whole, &mut pieces)?;
         Ok(pieces)
     }
 
@@ -274,7 +274,7 @@ impl PoolTable {
     }
 
     /// Prints the drawing by the lines that meet.
-    fn put_drawing<S: TextSink>(
+    fn draw_pieces<S: TextSink>(
         &self,
         sink: &mut S,
         drawing: &Drawing<'_, '_>,
@@ -284,33 +284,37 @@ impl PoolTable {
         ensures { Writes (S.sent sink.old) result (S.sent sink.new) (pool_text self.now) }
     {
         let indent = *self.config.get_margin();
-        let margin = Margin {
+        let margin = ColoredMargin {
             indent,
             colors: self.margin_colors(indent),
         };
-        put_framed(sink, drawing, &margin)
+        draw_framed(sink, drawing, &margin)
     }
 
     /// Prints drawn lines.
-    fn put_handed<S: TextSink>(&self, sink: &mut S, panel: &DrawnBox) -> Result<(), TableError>
-        requires bare { has_bare (plan self.now).parts ≡ true }
-        requires panel { panel_of panel.now ≡ handed_panel (plan self.now) (gaps_of self.now) self.now.value }
+    fn draw_inherited<S: TextSink>(
+        &self,
+        sink: &mut S,
+        block: &DrawnBlock,
+    ) -> Result<(), TableError>
+        requires bare { has_zero_width (plan self.now).parts ≡ true }
+        requires block { block_sheet_of block.now ≡ inherited_block (plan self.now) (spacing_of self.now) self.now.value }
         ensures { Writes (S.sent sink.old) result (S.sent sink.new) (pool_text self.now) }
     {
-        let indent = self.margin_around(panel);
-        let margin = Margin {
+        let indent = self.margin_around(block);
+        let margin = ColoredMargin {
             indent,
             colors: self.margin_colors(indent),
         };
-        put_panel(sink, panel, &margin)
+        draw_block(sink, block, &margin)
     }
 
     /// The size of the boxes without the outer lines.
     fn inner_size(&self, size: Size) -> Size
         requires width { size.width ≡ framed_width self.now }
         requires height { size.height ≡ framed_height self.now }
-        ensures width { result.width ≡ (box_of (gaps_of self.now) self.now.value).width }
-        ensures height { result.height ≡ (box_of (gaps_of self.now) self.now.value).height }
+        ensures width { result.width ≡ (box_of (spacing_of self.now) self.now.value).width }
+        ensures height { result.height ≡ (box_of (spacing_of self.now) self.now.value).height }
     {
         let frame = frame_of(self.config.get_borders());
         Size {
@@ -328,11 +332,16 @@ impl PoolTable {
         };
         let pieces = self.pieces(size)?;
         let drawing = self.drawing(pieces.as_slice(), size);
-        if !has_bare(pieces.as_slice()) {
-            return self.put_drawing(sink, &drawing);
+        if !has_zero_width(pieces.as_slice()) {
+            return self.draw_pieces(sink, &drawing);
         }
-        let panel = draw_tree(&self.value, &self.gaps(), &drawing, self.inner_size(size))?;
-        self.put_handed(sink, &panel)
+        let block = draw_tree(
+            &self.value,
+            &self.spacing(),
+            &drawing,
+            self.inner_size(size),
+        )?;
+        self.draw_inherited(sink, &block)
     }
 
     /// Writes the boxes with their lines and the margin, line by line. Where lines meet, the

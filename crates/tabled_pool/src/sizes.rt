@@ -2,38 +2,38 @@
 ghost use Rattle.std.specs.Prelude.{◌≡◌, ◌+◌, ◌^◌, ◌≤◌, ◌⊎◌, map};
 ghost use Rattle.tabled_pool.specs.Boxes.{box_of, leaf_box, row_box, column_box, IsSize};
 
-use crate::gaps::{Gaps, Size};
+use crate::box_spacing::{BoxSpacing, Size};
 use crate::tree::TableValue;
 use tabled_text::{count_lines, text_width};
 
-fn leaf_size(text: &str, gaps: &Gaps) -> Option<Size>
-    ensures { IsSize result (leaf_box gaps.now text.now) }
+fn leaf_size(text: &str, spacing: &BoxSpacing) -> Option<Size>
+    ensures { IsSize result (leaf_box spacing.now text.now) }
 {
     let width = text_width(text)
-        .checked_add(gaps.padding.left)?
-        .checked_add(gaps.padding.right)?;
+        .checked_add(spacing.padding.left)?
+        .checked_add(spacing.padding.right)?;
     let height = count_lines(text)
-        .checked_add(gaps.padding.top)?
-        .checked_add(gaps.padding.bottom)?;
+        .checked_add(spacing.padding.top)?
+        .checked_add(spacing.padding.bottom)?;
     Some(Size { width, height })
 }
 
 /// The own size of boxes side by side, if it is in range.
 #[cycle(sizes)]
 #[tactic(auto, using(crate::proofs::Sums::row_width_more, crate::proofs::Sums::row_height_most, crate::proofs::Sums::column_width_most, crate::proofs::Sums::column_height_more,))]
-pub fn row_size(children: &[TableValue], gaps: &Gaps) -> Option<Size>
-    ensures { IsSize result (row_box gaps.now (map (box_of gaps.now) children.now)) }
+pub fn row_size(children: &[TableValue], spacing: &BoxSpacing) -> Option<Size>
+    ensures { IsSize result (row_box spacing.now (map (box_of spacing.now) children.now)) }
 {
     let Some((first, rest)) = children.split_first() else {
-        return leaf_size("", gaps);
+        return leaf_size("", spacing);
     };
     let Size {
         mut width,
         mut height,
-    } = own_size(first, gaps)?;
+    } = own_size(first, spacing)?;
     for child in rest {
-        let own = own_size(child, gaps)?;
-        width = width.checked_add(gaps.bar)?.checked_add(own.width)?;
+        let own = own_size(child, spacing)?;
+        width = width.checked_add(spacing.bar)?.checked_add(own.width)?;
         height = height.max(own.height);
     }
     Some(Size { width, height })
@@ -42,19 +42,19 @@ pub fn row_size(children: &[TableValue], gaps: &Gaps) -> Option<Size>
 /// The own size of boxes below each other, if it is in range.
 #[cycle(sizes)]
 #[tactic(auto, using(crate::proofs::Sums::row_width_more, crate::proofs::Sums::row_height_most, crate::proofs::Sums::column_width_most, crate::proofs::Sums::column_height_more,))]
-pub fn column_size(children: &[TableValue], gaps: &Gaps) -> Option<Size>
-    ensures { IsSize result (column_box gaps.now (map (box_of gaps.now) children.now)) }
+pub fn column_size(children: &[TableValue], spacing: &BoxSpacing) -> Option<Size>
+    ensures { IsSize result (column_box spacing.now (map (box_of spacing.now) children.now)) }
 {
     let Some((first, rest)) = children.split_first() else {
-        return leaf_size("", gaps);
+        return leaf_size("", spacing);
     };
     let Size {
         mut width,
         mut height,
-    } = own_size(first, gaps)?;
+    } = own_size(first, spacing)?;
     for child in rest {
-        let own = own_size(child, gaps)?;
-        height = height.checked_add(gaps.rule)?.checked_add(own.height)?;
+        let own = own_size(child, spacing)?;
+        height = height.checked_add(spacing.rule)?.checked_add(own.height)?;
         width = width.max(own.width);
     }
     Some(Size { width, height })
@@ -63,12 +63,12 @@ pub fn column_size(children: &[TableValue], gaps: &Gaps) -> Option<Size>
 /// The own size of a tree, if it is in range.
 #[cycle(sizes)]
 #[tactic(auto, using(crate::proofs::Sums::row_width_more, crate::proofs::Sums::row_height_most, crate::proofs::Sums::column_width_most, crate::proofs::Sums::column_height_more,))]
-pub fn own_size(value: &TableValue, gaps: &Gaps) -> Option<Size>
-    ensures { IsSize result (box_of gaps.now value.now) }
+pub fn own_size(value: &TableValue, spacing: &BoxSpacing) -> Option<Size>
+    ensures { IsSize result (box_of spacing.now value.now) }
 {
     match value {
-        TableValue::Cell(text) => leaf_size(text.as_str(), gaps),
-        TableValue::Row(children) => row_size(children.as_slice(), gaps),
-        TableValue::Column(children) => column_size(children.as_slice(), gaps),
+        TableValue::Cell(text) => leaf_size(text.as_str(), spacing),
+        TableValue::Row(children) => row_size(children.as_slice(), spacing),
+        TableValue::Column(children) => column_size(children.as_slice(), spacing),
     }
 }

@@ -1,8 +1,8 @@
-//! Sizes of boxes in a tree with a text of no column: a box takes its part of those that it was handed.
+//! Sizes of boxes in a tree with a text of no column: a box takes its part of those that it inherited.
 ghost use Rattle.std.specs.Prelude.{◌≡◌, ◌==◌, ◌-◌, ◌∷◌, if◌then◌else◌, IfErr, IfOk};
 ghost use Rattle.tabled_base.specs.declared.error.TableError.TheVariants.{Memory};
-ghost use Rattle.tabled_pool.specs.Handed.{is_split, taken};
-ghost use Rattle.tabled_pool.specs.Handing.{taken_of};
+ghost use Rattle.tabled_pool.specs.Inherited.{is_split, taken};
+ghost use Rattle.tabled_pool.specs.Inheriting.{taken_of};
 
 use std::alloc::Global;
 use tabled_base::TableError;

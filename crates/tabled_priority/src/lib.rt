@@ -17,6 +17,7 @@
 mod column;
 mod left;
 mod level;
+mod level_changes;
 mod max;
 mod min;
 mod none;
@@ -28,7 +29,6 @@ mod schedule;
 mod search;
 mod span;
 mod spares;
-mod spread;
 mod steps;
 
 pub use left::PriorityLeft;

@@ -11,11 +11,11 @@ ghost use Rattle.tabled_priority.specs.Laws.Grown.{IsGrownAt-nothing, IsGrownAt-
 ghost use Rattle.tabled_priority.specs.Visits.{counted, IsBounded};
 
 use crate::column::{add_to, visit};
+use crate::level_changes::lower;
 use crate::peaker::{Peaker, TakesAll};
 use crate::reach::reach;
 use crate::schedule::{Schedule, total_amount};
 use crate::span::side_span;
-use crate::spread::lower;
 use crate::steps::Steps;
 
 /// It names the greatest size of those above their minimum, of equal ones that on its side.

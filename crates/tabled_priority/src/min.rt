@@ -11,12 +11,12 @@ ghost use Rattle.tabled_priority.specs.Laws.Grown.{IsMinGrown-nothing, IsMinGrow
 ghost use Rattle.tabled_priority.specs.Visits.{counted, IsBounded};
 
 use crate::column::visit;
+use crate::level_changes::raise;
 use crate::peaker::{Peaker, TakesAll};
 use crate::reach::reach;
 use crate::schedule::{Schedule, total_amount};
 use crate::span::side_span;
 use crate::spares::{Spares, last_giver, take};
-use crate::spread::raise;
 use crate::steps::Steps;
 
 /// It names the least size of those above their minimum, of equal ones that on its side.

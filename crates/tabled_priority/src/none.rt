@@ -10,11 +10,11 @@ ghost use Rattle.tabled_priority.specs.Laws.Grown.{IsRoundGrown-nothing, IsRound
 ghost use Rattle.tabled_priority.specs.Visits.{IsBounded};
 
 use crate::column::visit;
+use crate::level_changes::{lower, raise};
 use crate::peaker::{Peaker, TakesAll};
 use crate::reach::reach;
 use crate::schedule::{Schedule, total_amount};
 use crate::span::round_span;
-use crate::spread::{lower, raise};
 use crate::steps::Steps;
 
 /// It names the next size that is above its minimum, round the list, and keeps the place after it.

@@ -68,7 +68,7 @@ fn note_lines(lines: &mut Vec<usize>, place: usize, count: usize) -> Result<(), 
 
 /// Keeps where a text ends and its columns and lines. Where memory is refused, the texts before it
 /// are told as before.
-fn put_place(
+fn push_ends(
     ends: &mut Pairs,
     lines: &mut Vec<usize>,
     place: (usize, usize),
@@ -132,7 +132,7 @@ impl JoinedTexts {
         let end = self.whole.as_str().len();
         let (columns, lines) = tail_measures(self.whole.as_str(), start);
         let count = self.ends.len();
-        match put_place(&mut self.ends, &mut self.lines, (end, columns), lines) {
+        match push_ends(&mut self.ends, &mut self.lines, (end, columns), lines) {
             Ok(()) => Ok(()),
             Err(error) => {
                 self.lines.truncate(count);

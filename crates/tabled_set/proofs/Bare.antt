@@ -39,44 +39,44 @@ IsCut-bare n left used text answer none whole h =
     subst (IsCut (suc n) text) (sym (before.answered ∙ (ap (λ l. before.front ++ l) none ∙ append-nil before.front))) before.cut
 
 -- what no suffix ends is cut
-IsCut-ended : (room : ℕ) (limit : SuffixLimit) (used : List ℕ) (left : ℕ) (text answer : List ℕ) → IsUsed room [] limit used left → IsEnded left used text answer → IsCut room text answer
+IsCut-ended : (content_size : ℕ) (limit : SuffixLimit) (used : List ℕ) (left : ℕ) (text answer : List ℕ) → IsUsed content_size [] limit used left → IsEnded left used text answer → IsCut content_size text answer
 IsCut-ended zero limit used left text answer u h =
     let nothing = MatchBool-at_true (answer ≡ used) (IsCutBefore left used text answer) (eq-eqb left 0 u.1) h in
     subst (IsCut 0 text) (sym (nothing ∙ u.0)) (IsCut-nothing text)
 IsCut-ended (suc r) limit used left text answer u h =
-    let room = suc r in
-    let whole = (used ≡ []) × (left ≡ room - suffix_columns []) in
-    let limited = IsLimited room [] limit used left in
-    let some = MatchBool-at_false ((used ≡ []) × (left ≡ 0)) (MatchBool (nat_lt (suffix_columns []) room) whole limited) (eqb-suc-zero r) u in
+    let content_size = suc r in
+    let whole = (used ≡ []) × (left ≡ content_size - suffix_columns []) in
+    let limited = IsLimited content_size [] limit used left in
+    let some = MatchBool-at_false ((used ≡ []) × (left ≡ 0)) (MatchBool (nat_lt (suffix_columns []) content_size) whole limited) (eqb-suc-zero r) u in
     ⊎_elim
     (λ yes.
     let k = MatchBool-at_true whole limited yes some in
-    let wide : left ≡ room = let e = k.1 in let none = no_columns in omega (arith, e, none) in
+    let wide : left ≡ content_size = let e = k.1 in let none = no_columns in omega (arith, e, none) in
     IsCut-bare r left used text answer k.0 wide h)
-    (λ no. let e = ltb-false (suffix_columns []) room no in let none = no_columns in absurd (omega (arith, e, none)))
-    (cases_Bool (nat_lt (suffix_columns []) room))
+    (λ no. let e = ltb-false (suffix_columns []) content_size no in let none = no_columns in absurd (omega (arith, e, none)))
+    (cases_Bool (nat_lt (suffix_columns []) content_size))
 
-pub IsCut-truncated : (room : ℕ) (limit : SuffixLimit) (text answer : List ℕ) → IsTruncated room [] limit false text answer → IsCut room text answer
-IsCut-truncated room limit text answer h = IsCut-ended room limit h.used h.left text answer h.suffix_used h.answered
+pub IsCut-truncated : (content_size : ℕ) (limit : SuffixLimit) (text answer : List ℕ) → IsTruncated content_size [] limit false text answer → IsCut content_size text answer
+IsCut-truncated content_size limit text answer h = IsCut-ended content_size limit h.used h.left text answer h.suffix_used h.answered
 
 -- a line whose characters count as its columns is cut to its longest beginning
-pub longest_truncated : (room : ℕ) (limit : SuffixLimit) (text answer : List ℕ) → IsExactLine text → IsTruncated room [] limit false text answer → IsLongestCut room text answer
-longest_truncated room limit text answer exact h = exact-longest room text answer exact (IsCut-truncated room limit text answer h)
+pub longest_truncated : (content_size : ℕ) (limit : SuffixLimit) (text answer : List ℕ) → IsExactLine text → IsTruncated content_size [] limit false text answer → IsLongestCut content_size text answer
+longest_truncated content_size limit text answer exact h = exact-longest content_size text answer exact (IsCut-truncated content_size limit text answer h)
 
-module _ (room : ℕ) (limit : SuffixLimit) (used : List ℕ) (left : ℕ) (u : IsUsed room [] limit used left) where
-  longest_each : (lines cuts : List (List ℕ)) → AllZip (IsEnded left used) lines cuts → AllZip (λ line cut. IsExactLine line → IsLongestCut room line cut) lines cuts
+module _ (content_size : ℕ) (limit : SuffixLimit) (used : List ℕ) (left : ℕ) (u : IsUsed content_size [] limit used left) where
+  longest_each : (lines cuts : List (List ℕ)) → AllZip (IsEnded left used) lines cuts → AllZip (λ line cut. IsExactLine line → IsLongestCut content_size line cut) lines cuts
   longest_each [] [] h = h
   longest_each [] (cut ∷ cuts) h = h
   longest_each (line ∷ lines) [] h = h
   longest_each (line ∷ lines) (cut ∷ cuts) h =
-      (λ exact. exact-longest room line cut exact (IsCut-ended room limit used left line cut u h.0), longest_each lines cuts h.1)
+      (λ exact. exact-longest content_size line cut exact (IsCut-ended content_size limit used left line cut u h.0), longest_each lines cuts h.1)
 
 -- so is each line
-pub longest_lines : (room : ℕ) (limit : SuffixLimit) (text answer : List ℕ) → IsTruncated room [] limit true text answer → HasLongestLines room text answer
-longest_lines room limit text answer h =
+pub longest_lines : (content_size : ℕ) (limit : SuffixLimit) (text answer : List ℕ) → IsTruncated content_size [] limit true text answer → HasLongestLines content_size text answer
+longest_lines content_size limit text answer h =
     let ended = h.answered in
     record {
       lines = ended.lines;
-      each = longest_each room limit h.used h.left h.suffix_used (lines_of text) ended.lines ended.each;
+      each = longest_each content_size limit h.used h.left h.suffix_used (lines_of text) ended.lines ended.each;
       joined = ended.joined;
     }

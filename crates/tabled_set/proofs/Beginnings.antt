@@ -32,10 +32,10 @@ ended_lines true left used text answer one h =
       joined = refl;
     }
 
-pub truncated-in_place : (room : ℕ) (suffix : List ℕ) (limit : SuffixLimit) (multiline : Bool) (text used : List ℕ) (left bytes : ℕ)
-    → (multiline ≡ true → lines_of text ≡ text ∷ []) → IsUsed room suffix limit used left → IsLeftAt left text bytes
-    → IsTruncated room suffix limit multiline text (take bytes text ++ used)
-truncated-in_place room suffix limit multiline text used left bytes one u kept =
+pub truncated-in_place : (content_size : ℕ) (suffix : List ℕ) (limit : SuffixLimit) (multiline : Bool) (text used : List ℕ) (left bytes : ℕ)
+    → (multiline ≡ true → lines_of text ≡ text ∷ []) → IsUsed content_size suffix limit used left → IsLeftAt left text bytes
+    → IsTruncated content_size suffix limit multiline text (take bytes text ++ used)
+truncated-in_place content_size suffix limit multiline text used left bytes one u kept =
     record {
       used = used;
       left = left;
@@ -45,20 +45,20 @@ truncated-in_place room suffix limit multiline text used left bytes one u kept =
 
 -- ---- in one way
 
-limited-once : (room : ℕ) (suffix : List ℕ) (limit : SuffixLimit) (used used' : List ℕ) (left left' : ℕ)
-    → IsLimited room suffix limit used left → IsLimited room suffix limit used' left' → (used ≡ used') × (left ≡ left')
-limited-once room suffix Cut used used' left left' one other = (cut-once one.0 other.0, one.1 ∙ sym other.1)
-limited-once room suffix Ignore used used' left left' one other = (one.0 ∙ sym other.0, one.1 ∙ sym other.1)
-limited-once room suffix (Replace c) used used' left left' one other = (one.0 ∙ sym other.0, one.1 ∙ sym other.1)
+limited-once : (content_size : ℕ) (suffix : List ℕ) (limit : SuffixLimit) (used used' : List ℕ) (left left' : ℕ)
+    → IsLimited content_size suffix limit used left → IsLimited content_size suffix limit used' left' → (used ≡ used') × (left ≡ left')
+limited-once content_size suffix Cut used used' left left' one other = (cut-once one.0 other.0, one.1 ∙ sym other.1)
+limited-once content_size suffix Ignore used used' left left' one other = (one.0 ∙ sym other.0, one.1 ∙ sym other.1)
+limited-once content_size suffix (Replace c) used used' left left' one other = (one.0 ∙ sym other.0, one.1 ∙ sym other.1)
 
-used-once : (room : ℕ) (suffix : List ℕ) (limit : SuffixLimit) (used used' : List ℕ) (left left' : ℕ)
-    → IsUsed room suffix limit used left → IsUsed room suffix limit used' left' → (used ≡ used') × (left ≡ left')
+used-once : (content_size : ℕ) (suffix : List ℕ) (limit : SuffixLimit) (used used' : List ℕ) (left left' : ℕ)
+    → IsUsed content_size suffix limit used left → IsUsed content_size suffix limit used' left' → (used ≡ used') × (left ≡ left')
 used-once zero suffix limit used used' left left' one other = (one.0 ∙ sym other.0, one.1 ∙ sym other.1)
 used-once (suc r) suffix limit used used' left left' one other =
-    let room = suc r in
-    let whole : List ℕ → ℕ → Type 0 = λ u l. (u ≡ suffix) × (l ≡ room - suffix_columns suffix) in
-    let limited : List ℕ → ℕ → Type 0 = λ u l. IsLimited room suffix limit u l in
-    let beside = nat_lt (suffix_columns suffix) room in
+    let content_size = suc r in
+    let whole : List ℕ → ℕ → Type 0 = λ u l. (u ≡ suffix) × (l ≡ content_size - suffix_columns suffix) in
+    let limited : List ℕ → ℕ → Type 0 = λ u l. IsLimited content_size suffix limit u l in
+    let beside = nat_lt (suffix_columns suffix) content_size in
     let some = MatchBool-at_false ((used ≡ []) × (left ≡ 0)) (MatchBool beside (whole used left) (limited used left)) (eqb-suc-zero r) one in
     let some' = MatchBool-at_false ((used' ≡ []) × (left' ≡ 0)) (MatchBool beside (whole used' left') (limited used' left')) (eqb-suc-zero r) other in
     ⊎_elim
@@ -67,7 +67,7 @@ used-once (suc r) suffix limit used used' left left' one other =
     let b = MatchBool-at_true (whole used' left') (limited used' left') yes some' in
     (a.0 ∙ sym b.0, a.1 ∙ sym b.1))
     (λ no.
-    limited-once room suffix limit used used' left left'
+    limited-once content_size suffix limit used used' left left'
     (MatchBool-at_false (whole used left) (limited used left) no some)
     (MatchBool-at_false (whole used' left') (limited used' left') no some'))
     (cases_Bool beside)
@@ -79,15 +79,15 @@ left-once (suc k) text bytes bytes' one other =
     let b = MatchBool-at_false (bytes' ≡ 0) (IsCutAt (suc k) text bytes') (eqb-suc-zero k) other in
     sym (length-take-le bytes text a.boundary.0) ∙ ap length (cut-once a.cut b.cut) ∙ length-take-le bytes' text b.boundary.0
 
-module _ {room : ℕ} {suffix : List ℕ} {limit : SuffixLimit} {multiline : Bool} {text : List ℕ} (h : IsTruncatedInPlace room suffix limit multiline text) where
-  same_kept : (used : List ℕ) (left : ℕ) → IsUsed room suffix limit used left → IsLeftAt left text h.bytes
+module _ {content_size : ℕ} {suffix : List ℕ} {limit : SuffixLimit} {multiline : Bool} {text : List ℕ} (h : IsTruncatedInPlace content_size suffix limit multiline text) where
+  same_kept : (used : List ℕ) (left : ℕ) → IsUsed content_size suffix limit used left → IsLeftAt left text h.bytes
   same_kept used left u =
-      let same = used-once room suffix limit h.used used h.left left h.suffix_used u in
+      let same = used-once content_size suffix limit h.used used h.left left h.suffix_used u in
       subst (λ l. IsLeftAt l text h.bytes) same.1 h.kept
 
   -- as many bytes are left, and the ending finds room behind them
-  pub in_place-fits : (used : List ℕ) (left bytes : ℕ) → IsUsed room suffix limit used left → IsLeftAt left text bytes → FitsBehind bytes used
+  pub in_place-fits : (used : List ℕ) (left bytes : ℕ) → IsUsed content_size suffix limit used left → IsLeftAt left text bytes → FitsBehind bytes used
   in_place-fits used left bytes u kept =
-      let same = used-once room suffix limit h.used used h.left left h.suffix_used u in
+      let same = used-once content_size suffix limit h.used used h.left left h.suffix_used u in
       let bytes_same = left-once left text h.bytes bytes (same_kept used left u) kept in
       subst (λ n. FitsBehind n used) bytes_same (subst (FitsBehind h.bytes) same.0 h.fits)

@@ -15,7 +15,7 @@ use Rattle.tabled_size.specs.FilledIn.{IsFilledIn}
 use Rattle.tabled_priority.specs.Least.{HasLeastGreatest}
 use Rattle.tabled_priority.specs.Permitted.{at, IsTakenFrom}
 use Rattle.tabled_size.specs.Sheet.{Sheet, estimated, is_empty}
-use Rattle.tabled_size.specs.Standing.{standing, standing_sizes}
+use Rattle.tabled_size.specs.Effective.{effective, effective_sizes}
 use Rattle.tabled_size.specs.Stored.{heights_of, widths_of}
 use Rattle.tabled_size.specs.Totals.{filled_width, total_width}
 use Rattle.tabled_size.specs.declared.complete_dimension.CompleteDimension.{CompleteDimension}
@@ -24,8 +24,8 @@ use Rattle.tabled_size.proofs.ShrunkTotals.{above_minimum, filled_width-frame, f
 use Rattle.tabled_size.proofs.Totalling.{heights_length, widths_length}
 use Rattle.tabled_set.specs.CellChanges.{AreChanged}
 use Rattle.tabled_set.specs.Minimums.{emptied, minimums, side_padding}
-use Rattle.tabled_set.specs.Narrowed.{IsNarrowed, Narrows, for_room}
-use Rattle.tabled_set.specs.BestNarrowing.{text_room}
+use Rattle.tabled_set.specs.Narrowed.{IsNarrowed, Narrows, for_content_size}
+use Rattle.tabled_set.specs.BestNarrowing.{inner_width}
 use Rattle.tabled_set.specs.ExactTotal.{HasExactTotal, empty_width}
 use Rattle.tabled_set.specs.Priorities.{TakesFrom, TakesGreatest}
 use Rattle.tabled_set.proofs.Emptied.{emptied-columns, emptied-empty, minimums-le, minimums-length, side_padding-le}
@@ -33,13 +33,13 @@ use Rattle.tabled_size.specs.Holds.{Holds, IsSized}
 use Rattle.tabled_size.specs.PlainCells.{AreAdditive}
 use Rattle.tabled_size.specs.TextCells.{AreTexts}
 
--- a text that is changed for a room fits in it
+-- a text that is changed for a content size fits in it
 abbrev pub FindsRoom : (ℕ → List ℕ → List ℕ → Type 0) → Type 0
-FindsRoom change = (room : ℕ) (before after : List ℕ) → IsUtf8 before → change room before after → FitsIn room after
+FindsRoom change = (content_size : ℕ) (before after : List ℕ) → IsUtf8 before → change content_size before after → FitsIn content_size after
 
 -- and is plain where it was
 abbrev pub KeepsPlain : (ℕ → List ℕ → List ℕ → Type 0) → Type 0
-KeepsPlain change = (room : ℕ) (before after : List ℕ) → IsAdditive before → change room before after → IsAdditive after
+KeepsPlain change = (content_size : ℕ) (before after : List ℕ) → IsAdditive before → change content_size before after → IsAdditive after
 
 -- ---- cells that are changed
 -- the columns of equally long rows are the cells of each
@@ -82,9 +82,9 @@ full_wider t n wider = ⊎_elim
 -- ---- narrowed tables
 -- a table that is wider is narrowed
 pub IsNarrowed-wider : {P : Type 0} (shrinks : P → List ℕ → List ℕ → ℕ → List ℕ → P → Type 0) (s : P) (change : ℕ → List ℕ → List ℕ → Type 0) (n : ℕ) (cells : List (List (List ℕ))) (config : SpannedConfig) (sizes : CompleteDimension)
-    (cells' : List (List (List ℕ))) (sizes' : CompleteDimension) → n < total_width (standing cells config sizes) → Narrows shrinks s change n cells config sizes cells' sizes' → IsNarrowed shrinks s change n (standing cells config sizes) cells' sizes'
+    (cells' : List (List (List ℕ))) (sizes' : CompleteDimension) → n < total_width (effective cells config sizes) → Narrows shrinks s change n cells config sizes cells' sizes' → IsNarrowed shrinks s change n (effective cells config sizes) cells' sizes'
 IsNarrowed-wider shrinks s change n cells config sizes cells' sizes' wider h =
-    let t = standing cells config sizes in
+    let t = effective cells config sizes in
     let narrowed = IsNarrowed shrinks s change n t cells' sizes' in
     let filled = (cells' ≡ cells) × IsFilledIn sizes cells config sizes' in
     let some = MatchBool-at_false ((cells' ≡ cells) × (sizes' ≡ sizes)) (MatchBool (nat_le (total_width t) n) filled narrowed) (full_wider t n wider) h in
@@ -92,36 +92,36 @@ IsNarrowed-wider shrinks s change n cells config sizes cells' sizes' wider h =
 
 module _ {P : Type 0} (shrinks : P → List ℕ → List ℕ → ℕ → List ℕ → P → Type 0) (s : P) (change : ℕ → List ℕ → List ℕ → Type 0) (n : ℕ)
     (cells : List (List (List ℕ))) (config : SpannedConfig) (sizes : CompleteDimension) (new : List (List (List ℕ))) (stored last : CompleteDimension)
-    (takes : TakesFrom shrinks s) (estimates : (standing cells config sizes).widths ≡ estimated_widths cells config)
-    (h : IsNarrowed shrinks s change n (standing cells config sizes) new stored) (widths_stay : widths_of last ≡ widths_of stored) where
-  long : length (standing cells config sizes).widths ≡ columns cells
+    (takes : TakesFrom shrinks s) (estimates : (effective cells config sizes).widths ≡ estimated_widths cells config)
+    (h : IsNarrowed shrinks s change n (effective cells config sizes) new stored) (widths_stay : widths_of last ≡ widths_of stored) where
+  long : length (effective cells config sizes).widths ≡ columns cells
   long = ap length estimates ∙ widths_length cells config
 
-  below : (i : ℕ) → at (minimums cells config) i ≤ at (standing cells config sizes).widths i
+  below : (i : ℕ) → at (minimums cells config) i ≤ at (effective cells config sizes).widths i
   below i = subst (λ w. at (minimums cells config) i ≤ at w i) (sym estimates) (minimums-le cells config i)
 
   -- there is a minimum for each of the widths that stood
-  by_minimums : shrinks s (standing cells config sizes).widths (minimums cells config) (total_width (standing cells config sizes) - n) h.widths h.shrunk.last
+  by_minimums : shrinks s (effective cells config sizes).widths (minimums cells config) (total_width (effective cells config sizes) - n) h.widths h.shrunk.last
   by_minimums =
-      let t = standing cells config sizes in
+      let t = effective cells config sizes in
       let mins = minimums cells config in
       let whole : take (length t.widths) mins ≡ mins = ap (λ k. take k mins) (long ∙ sym (minimums-length cells config)) ∙ take-length mins in
       subst (λ m. shrinks s t.widths m (total_width t - n) h.widths h.shrunk.last) whole h.shrunk.shrunk
 
   -- they lose as much as is wanted, or all above the minimums
-  shrunk : IsTakenFrom (standing cells config sizes).widths (minimums cells config) (total_width (standing cells config sizes) - n) h.widths
-  shrunk = takes h.shrunk.last (standing cells config sizes).widths (minimums cells config) h.widths (total_width (standing cells config sizes) - n) by_minimums
+  shrunk : IsTakenFrom (effective cells config sizes).widths (minimums cells config) (total_width (effective cells config sizes) - n) h.widths
+  shrunk = takes h.shrunk.last (effective cells config sizes).widths (minimums cells config) h.widths (total_width (effective cells config sizes) - n) by_minimums
 
   kept : (i : ℕ) → at (minimums cells config) i ≤ at h.widths i
-  kept = above_minimum (standing cells config sizes).widths (minimums cells config) h.widths below shrunk.permitted
+  kept = above_minimum (effective cells config sizes).widths (minimums cells config) h.widths below shrunk.permitted
 
   width_each : length h.widths ≡ columns cells
   width_each = shrunk.permitted.same_length ∙ long
 
   new_columns : columns new ≡ columns cells
-  new_columns = changed_columns (λ row column. true) (for_room change (standing cells config sizes) h.widths) cells new h.changed
+  new_columns = changed_columns (λ row column. true) (for_content_size change (effective cells config sizes) h.widths) cells new h.changed
 
-  -- every cell is changed for the room that its column leaves
+  -- every cell is changed for the content size that its column leaves
   pub changed_cell : (row column : ℕ) → row < length cells → column < columns cells → change (at h.widths column - side_padding config row column) (cell_at cells row column) (cell_at new row column)
   changed_cell row column r c =
       let before = cell_at cells row column in
@@ -133,41 +133,41 @@ module _ {P : Type 0} (shrinks : P → List ℕ → List ℕ → ℕ → List �
       (h.changed.cells row column (record { row_in = r; column_in = c }))
 
   -- the widths that are stored stand
-  pub new_widths : (standing new config last).widths ≡ h.widths
+  pub new_widths : (effective new config last).widths ≡ h.widths
   new_widths =
-      ap (λ o. standing_sizes o (estimated_widths new config) (columns new)) (widths_stay ∙ h.stored)
+      ap (λ o. effective_sizes o (estimated_widths new config) (columns new)) (widths_stay ∙ h.stored)
       ∙ ap (λ k. take k h.widths) (new_columns ∙ sym width_each) ∙ take-length h.widths
 
   -- where the greatest shrink first, the greatest width is the least possible
-  pub leveled : TakesGreatest shrinks s → HasLeastGreatest (standing cells config sizes).widths (minimums cells config) (standing new config last).widths
+  pub leveled : TakesGreatest shrinks s → HasLeastGreatest (effective cells config sizes).widths (minimums cells config) (effective new config last).widths
   leveled greatest =
-      let t = standing cells config sizes in
+      let t = effective cells config sizes in
       let mins = minimums cells config in
       let by = total_width t - n in
       let (right, shrunk_so) = greatest h.shrunk.last t.widths mins h.widths by by_minimums in
       subst (HasLeastGreatest t.widths mins) (sym new_widths)
       (HasLeastGreatest-from_level t.widths mins h.widths (IsLevel-from_max right t.widths mins by h.widths shrunk_so))
 
-  -- every cell is changed for the room that its column leaves now
-  pub changed_for_room : (row column : ℕ) → row < length cells → column < columns cells → change (text_room (standing new config last) row column) (cell_at cells row column) (cell_at new row column)
+  -- every cell is changed for the content size that its column leaves now
+  pub changed_for_room : (row column : ℕ) → row < length cells → column < columns cells → change (inner_width (effective new config last) row column) (cell_at cells row column) (cell_at new row column)
   changed_for_room row column r c =
       subst (λ ws. change (at ws column - side_padding config row column) (cell_at cells row column) (cell_at new row column)) (sym new_widths) (changed_cell row column r c)
 
-  -- where changed texts fit in their rooms
-  module _ (rooms : FindsRoom change) (keeps : KeepsPlain change) (rectangular : IsRectangular cells) (texts : AreTexts cells)
-      (wider : n < total_width (standing cells config sizes)) (heights_clear : heights_of last ≡ None) where
+  -- where changed texts fit in their content sizes
+  module _ (content_sizes : FindsRoom change) (keeps : KeepsPlain change) (rectangular : IsRectangular cells) (texts : AreTexts cells)
+      (wider : n < total_width (effective cells config sizes)) (heights_clear : heights_of last ≡ None) where
     stays : (row column : ℕ) → row < length cells → column < columns cells → FitsIn (at h.widths column - side_padding config row column) (cell_at new row column)
     stays row column r c =
-        rooms (at h.widths column - side_padding config row column) (cell_at cells row column) (cell_at new row column)
+        content_sizes (at h.widths column - side_padding config row column) (cell_at cells row column) (cell_at new row column)
         (cell_of IsUtf8 cells row column rectangular texts r c) (changed_cell row column r c)
 
-    new_sized : IsSized (standing new config last)
+    new_sized : IsSized (effective new config last)
     new_sized = record {
       columns = let e = ap length new_widths in let f = new_columns in let g = width_each in omega arith;
-      rows = subst (λ o. length new ≤ length (standing_sizes o (estimated_heights new config) (length new))) (sym heights_clear) (omega (arith, heights_length new config));
+      rows = subst (λ o. length new ≤ length (effective_sizes o (estimated_heights new config) (length new))) (sym heights_clear) (omega (arith, heights_length new config));
     }
 
-    new_holds : Holds (standing new config last)
+    new_holds : Holds (effective new config last)
     new_holds row column r c =
         let r' : row < length cells = subst (λ k. row < k) h.changed.rows r in
         let c' : column < columns cells = subst (λ k. column < k) new_columns c in
@@ -195,28 +195,28 @@ module _ {P : Type 0} (shrinks : P → List ℕ → List ℕ → ℕ → List �
         (cell_of IsAdditive cells row column rectangular plain r' c') (changed_cell row column r' c'))
 
     full : is_empty cells ≡ false
-    full = full_wider (standing cells config sizes) n wider
+    full = full_wider (effective cells config sizes) n wider
 
-    old_total : total_width (standing cells config sizes) ≡ sum (standing cells config sizes).widths + frame_width config (columns cells)
-    old_total = full_total (standing cells config sizes) full long
+    old_total : total_width (effective cells config sizes) ≡ sum (effective cells config sizes).widths + frame_width config (columns cells)
+    old_total = full_total (effective cells config sizes) full long
 
-    least_total : empty_width (standing cells config sizes) ≡ sum (minimums cells config) + frame_width config (columns cells)
+    least_total : empty_width (effective cells config sizes) ≡ sum (minimums cells config) + frame_width config (columns cells)
     least_total =
         let none = emptied cells in
         full_total (estimated none config) (emptied-empty cells ∙ full) (widths_length none config)
         ∙ ap (λ k. sum (minimums cells config) + frame_width config k) (emptied-columns cells)
 
-    new_total : total_width (standing new config last) ≡ sum h.widths + frame_width config (columns cells)
+    new_total : total_width (effective new config last) ≡ sum h.widths + frame_width config (columns cells)
     new_total =
-        let t = standing new config last in
-        let empty = changed_empty (λ row column. true) (for_room change (standing cells config sizes) h.widths) cells new h.changed in
+        let t = effective new config last in
+        let empty = changed_empty (λ row column. true) (for_content_size change (effective cells config sizes) h.widths) cells new h.changed in
         full_total t (empty ∙ full) (ap length new_widths ∙ width_each ∙ sym new_columns)
         ∙ ap (λ ws. sum ws + frame_width config (columns new)) new_widths
         ∙ ap (λ k. sum h.widths + frame_width config k) new_columns
 
-    pub exact_total : HasExactTotal n (standing cells config sizes) (standing new config last)
+    pub exact_total : HasExactTotal n (effective cells config sizes) (effective new config last)
     exact_total =
-        let t = standing cells config sizes in
+        let t = effective cells config sizes in
         let frame = frame_width config (columns cells) in
         let mins = minimums cells config in
         let taken : IsTakenFrom t.widths mins (sum t.widths + frame - n) h.widths = subst (λ k. IsTakenFrom t.widths mins (k - n) h.widths) old_total shrunk in

@@ -11,14 +11,14 @@ use Rattle.tabled_priority.specs.Sums.{one_if, sum_below}
 use Rattle.tabled_size.specs.Estimates.{estimated_heights}
 use Rattle.tabled_size.specs.FilledIn.{IsFilledIn}
 use Rattle.tabled_size.specs.Sheet.{estimated, is_empty}
-use Rattle.tabled_size.specs.Standing.{standing}
+use Rattle.tabled_size.specs.Effective.{effective}
 use Rattle.tabled_size.specs.Stored.{heights_of, widths_of}
 use Rattle.tabled_size.specs.Totals.{filled_height, filled_width, part_height, total_height, total_width}
 use Rattle.tabled_size.specs.declared.complete_dimension.CompleteDimension.{CompleteDimension}
 use Rattle.tabled_size.proofs.Totalling.{heights_length}
 use Rattle.tabled_set.specs.Growing.{IsGrownBy}
 use Rattle.tabled_set.specs.Increased.{IncreasesWidth, IsWidened}
-use Rattle.tabled_set.proofs.NarrowingTables.{standing-filled, standing-total, standing-widths}
+use Rattle.tabled_set.proofs.NarrowingTables.{effective-filled, effective-total, effective-widths}
 
 -- ---- the sizes are a part of the total
 
@@ -51,8 +51,8 @@ heights-within config rows heights short =
     omega arith
 
 -- what is wanting of n finds room in a number
-pub room-for : (n total part : ℕ) → part ≤ total → total < n → n < 2 ^ 64 → part + (n - total) < 2 ^ 64
-room-for n total part le lt fits = omega arith
+pub content_size-for : (n total part : ℕ) → part ≤ total → total < n → n < 2 ^ 64 → part + (n - total) < 2 ^ 64
+content_size-for n total part le lt fits = omega arith
 
 -- the lines of a table that is filled
 pub full_height : (cells : List (List (List ℕ))) (config : SpannedConfig) → is_empty cells ≡ false → total_height (estimated cells config) ≡ filled_height config (length cells) (estimated_heights cells config)
@@ -63,21 +63,21 @@ heights-fit cells config n some lt fits =
     let heights = estimated_heights cells config in
     let long = heights_length cells config in
     let le : sum heights ≤ filled_height config (length cells) heights = heights-within config (length cells) heights (omega arith) in
-    room-for n (total_height (estimated cells config)) (sum heights) (subst (λ k. sum heights ≤ k) (sym (full_height cells config some)) le) lt fits
+    content_size-for n (total_height (estimated cells config)) (sum heights) (subst (λ k. sum heights ≤ k) (sym (full_height cells config some)) le) lt fits
 
 -- ---- the widths that stand in a table whose sizes were filled in
 
 module _ (cells : List (List (List ℕ))) (config : SpannedConfig) (old mid : CompleteDimension) (some : is_empty cells ≡ false) (filled : IsFilledIn old cells config mid)
     (stored widths : List ℕ) (count : ℕ) (is_stored : widths_of mid ≡ Some stored) (all : count ≡ columns cells) (first : widths ≡ take count stored) where
-  pub widths-here : widths ≡ (standing cells config old).widths
-  widths-here = standing-widths cells config mid stored widths count is_stored all first ∙ ap (λ t. t.widths) (standing-filled cells config old mid filled)
+  pub widths-here : widths ≡ (effective cells config old).widths
+  widths-here = effective-widths cells config mid stored widths count is_stored all first ∙ ap (λ t. t.widths) (effective-filled cells config old mid filled)
 
-  pub total-here : filled_width config count widths ≡ total_width (standing cells config old)
+  pub total-here : filled_width config count widths ≡ total_width (effective cells config old)
   total-here =
-      standing-total cells config mid widths count some all (standing-widths cells config mid stored widths count is_stored all first)
-      ∙ ap total_width (standing-filled cells config old mid filled)
+      effective-total cells config mid widths count some all (effective-widths cells config mid stored widths count is_stored all first)
+      ∙ ap total_width (effective-filled cells config old mid filled)
 
-  pub widths-pass : (o : Option ℕ) → MatchOption o (2 ^ 64 ≤ filled_width config count widths) (λ n. n ≡ filled_width config count widths) → o ≡ None → 2 ^ 64 ≤ total_width (standing cells config old)
+  pub widths-pass : (o : Option ℕ) → MatchOption o (2 ^ 64 ≤ filled_width config count widths) (λ n. n ≡ filled_width config count widths) → o ≡ None → 2 ^ 64 ≤ total_width (effective cells config old)
   widths-pass o h e =
       subst (λ k. 2 ^ 64 ≤ k) total-here
       (subst (λ (p : Option ℕ). MatchOption p (2 ^ 64 ≤ filled_width config count widths) (λ n. n ≡ filled_width config count widths)) e h)
@@ -86,17 +86,17 @@ module _ (cells : List (List (List ℕ))) (config : SpannedConfig) (old mid : Co
     pub wide-already : n ≤ total → IncreasesWidth grows priority n cells config old mid
     wide-already le =
         let e = total-here in
-        let within : nat_le n (total_width (standing cells config old)) ≡ true = let lt : n ≤ total_width (standing cells config old) = omega (arith, whole, e) in grind (arith, nat_tests) in
+        let within : nat_le n (total_width (effective cells config old)) ≡ true = let lt : n ≤ total_width (effective cells config old) = omega (arith, whole, e) in grind (arith, nat_tests) in
         match-false (mid ≡ old) _ some (match-true (IsFilledIn old cells config mid) (IsWidened grows priority n cells config old mid) within filled)
 
     pub widened : total < n → (new : CompleteDimension) (list : List ℕ) → IsGrownBy grows priority widths (n - total) list → widths_of new ≡ Some list → heights_of new ≡ heights_of mid → IncreasesWidth grows priority n cells config old new
     widened lt new list grown is_new high =
         let e = whole ∙ total-here in
-        let above : nat_le n (total_width (standing cells config old)) ≡ false = let less : total_width (standing cells config old) < n = omega (arith, e) in grind (arith, nat_tests) in
+        let above : nat_le n (total_width (effective cells config old)) ≡ false = let less : total_width (effective cells config old) < n = omega (arith, e) in grind (arith, nat_tests) in
         match-false (new ≡ old) _ some (match-false (IsFilledIn old cells config new) (IsWidened grows priority n cells config old new) above
         (record {
           widths = list;
-          grown = subst (λ k. IsGrownBy grows priority (standing cells config old).widths (n - k) list) e (subst (λ ws. IsGrownBy grows priority ws (n - total) list) widths-here grown);
+          grown = subst (λ k. IsGrownBy grows priority (effective cells config old).widths (n - k) list) e (subst (λ ws. IsGrownBy grows priority ws (n - total) list) widths-here grown);
           stored = is_new;
           heights = high ∙ filled.heights;
         }))

@@ -8,27 +8,27 @@ use Rattle.tabled_set.specs.CellChanges.{ChangesEntity, if_taken, is_taken, trun
 use Rattle.tabled_set.specs.Justified.{IsJustified}
 use Rattle.tabled_set.specs.TextLines.{filling}
 use Rattle.tabled_set.specs.declared.suffix.SuffixLimit.TheVariants.{Cut}
-use Rattle.tabled_set.specs.declared.which.Which.TheVariants.{NotAsWide}
+use Rattle.tabled_set.specs.declared.cell_filter.CellFilter.TheVariants.{NotAsWide}
 use Rattle.tabled_text.specs.Measure.{text_columns}
 
--- a text of just the columns of its room stays
-stays-justified : (room : ℕ) (before after : List ℕ) → text_columns before ≡ room → after ≡ before → IsJustified room before after
-stays-justified room before after e same =
-    let not-narrower : nat_lt (text_columns before) room ≡ false = grind (arith, nat_tests, e) in
-    let not-wider : nat_lt room (text_columns before) ≡ false = grind (arith, nat_tests, e) in
+-- a text of just the columns of its content size stays
+stays-justified : (content_size : ℕ) (before after : List ℕ) → text_columns before ≡ content_size → after ≡ before → IsJustified content_size before after
+stays-justified content_size before after e same =
+    let not-narrower : nat_lt (text_columns before) content_size ≡ false = grind (arith, nat_tests, e) in
+    let not-wider : nat_lt content_size (text_columns before) ≡ false = grind (arith, nat_tests, e) in
     record {
       between = before;
-      increased = match-false (filling 32 room before before) (before ≡ before) not-narrower refl;
-      truncated = match-false (truncating [] Cut false room before after) (after ≡ before) not-wider same;
+      increased = match-false (filling 32 content_size before before) (before ≡ before) not-narrower refl;
+      truncated = match-false (truncating [] Cut false content_size before after) (after ≡ before) not-wider same;
     }
 
-pub justified-as : (room : ℕ) (before after : List ℕ) → if_taken NotAsWide IsJustified room before after → IsJustified room before after
-justified-as room before after h = ⊎_elim
-    (λ yes. MatchBool-at_true (IsJustified room before after) (after ≡ before) yes h)
+pub justified-as : (content_size : ℕ) (before after : List ℕ) → if_taken NotAsWide IsJustified content_size before after → IsJustified content_size before after
+justified-as content_size before after h = ⊎_elim
+    (λ yes. MatchBool-at_true (IsJustified content_size before after) (after ≡ before) yes h)
     (λ no.
-    let e : text_columns before ≡ room = grind (arith, nat_tests, no) in
-    stays-justified room before after e (MatchBool-at_false (IsJustified room before after) (after ≡ before) no h))
-    (cases_Bool (is_taken NotAsWide room before))
+    let e : text_columns before ≡ content_size = grind (arith, nat_tests, no) in
+    stays-justified content_size before after e (MatchBool-at_false (IsJustified content_size before after) (after ≡ before) no h))
+    (cases_Bool (is_taken NotAsWide content_size before))
 
-pub justified-entity : (room : ℕ) (entity : Entity) (old new : List (List (List ℕ))) → ChangesEntity (if_taken NotAsWide IsJustified) room entity old new → ChangesEntity IsJustified room entity old new
-justified-entity room entity old new h = AreChanged-as h (λ r c inside yes made. justified-as room _ _ made)
+pub justified-entity : (content_size : ℕ) (entity : Entity) (old new : List (List (List ℕ))) → ChangesEntity (if_taken NotAsWide IsJustified) content_size entity old new → ChangesEntity IsJustified content_size entity old new
+justified-entity content_size entity old new h = AreChanged-as h (λ r c inside yes made. justified-as content_size _ _ made)

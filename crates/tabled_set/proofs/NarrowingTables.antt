@@ -12,25 +12,25 @@ use Rattle.tabled_size.specs.Estimates.{IsTooWide, estimated_heights, estimated_
 use Rattle.tabled_size.specs.FilledIn.{HasNoEstimate, IsFilledIn}
 use Rattle.tabled_priority.specs.Permitted.{FitsMinimums, IsPermitted}
 use Rattle.tabled_size.specs.Sheet.{Sheet, is_empty}
-use Rattle.tabled_size.specs.Standing.{standing, standing_sizes}
+use Rattle.tabled_size.specs.Effective.{effective, effective_sizes}
 use Rattle.tabled_size.specs.Stored.{heights_of, widths_of}
 use Rattle.tabled_size.specs.Totals.{filled_width, total_width}
 use Rattle.tabled_size.specs.declared.complete_dimension.CompleteDimension.{CompleteDimension}
 use Rattle.tabled_size.proofs.Totalling.{heights_length, widths_length}
 use Rattle.tabled_set.specs.CellChanges.{AreChanged, AreChangedBefore, if_taken}
-use Rattle.tabled_set.specs.declared.order.Order.TheVariants.{ByColumn}
-use Rattle.tabled_set.specs.declared.which.Which.{Which}
+use Rattle.tabled_set.specs.declared.walk_order.WalkOrder.TheVariants.{ByColumn}
+use Rattle.tabled_set.specs.declared.cell_filter.CellFilter.{CellFilter}
 use Rattle.tabled_set.specs.ColumnChanges.{for_width, needs_for_width}
 use Rattle.tabled_set.specs.Minimums.{emptied, minimums}
 use Rattle.tabled_set.specs.Narrowed.{IsNarrowed, Narrows, StopsNarrowing, WiderOutOfRange}
 use Rattle.tabled_set.specs.Shrinking.{IsFound, IsShrunkBy}
 use Rattle.tabled_set.proofs.ChangingCells.{match-false, match-true}
-use Rattle.tabled_set.proofs.ChangingColumns.{rooms-before, rooms-made}
+use Rattle.tabled_set.proofs.ChangingColumns.{content_sizes-before, content_sizes-made}
 use Rattle.tabled_set.proofs.Emptied.{minimums-length}
 
 -- ---- sizes that are filled in
 
-pub filled-size : (stored : Option (List ℕ)) (estimates : List ℕ) (count : ℕ) → length estimates ≡ count → standing_sizes (Some (unwrap_or stored estimates)) estimates count ≡ standing_sizes stored estimates count
+pub filled-size : (stored : Option (List ℕ)) (estimates : List ℕ) (count : ℕ) → length estimates ≡ count → effective_sizes (Some (unwrap_or stored estimates)) estimates count ≡ effective_sizes stored estimates count
 filled-size None estimates count long = ap (λ k. take k estimates) (sym long) ∙ take-length estimates
 filled-size (Some sizes) estimates count long = refl
 
@@ -38,25 +38,25 @@ abbrev sheet : List (List (List ℕ)) → SpannedConfig → List ℕ → List �
 sheet cells config widths heights = record { cells = cells; config = config; widths = widths; heights = heights }
 
 -- the sizes that stand are the same after they were filled in
-pub standing-filled : (cells : List (List (List ℕ))) (config : SpannedConfig) (old new : CompleteDimension) → IsFilledIn old cells config new → standing cells config new ≡ standing cells config old
-standing-filled cells config old new h =
+pub effective-filled : (cells : List (List (List ℕ))) (config : SpannedConfig) (old new : CompleteDimension) → IsFilledIn old cells config new → effective cells config new ≡ effective cells config old
+effective-filled cells config old new h =
     let widths = estimated_widths cells config in
     let heights = estimated_heights cells config in
-    let wide = ap (λ o. standing_sizes o widths (columns cells)) h.widths ∙ filled-size (widths_of old) widths (columns cells) (widths_length cells config) in
-    let high = ap (λ o. standing_sizes o heights (length cells)) h.heights ∙ filled-size (heights_of old) heights (length cells) (heights_length cells config) in
-    ap (λ w. sheet cells config w (standing_sizes (heights_of new) heights (length cells))) wide
-    ∙ ap (λ k. sheet cells config (standing_sizes (widths_of old) widths (columns cells)) k) high
+    let wide = ap (λ o. effective_sizes o widths (columns cells)) h.widths ∙ filled-size (widths_of old) widths (columns cells) (widths_length cells config) in
+    let high = ap (λ o. effective_sizes o heights (length cells)) h.heights ∙ filled-size (heights_of old) heights (length cells) (heights_length cells config) in
+    ap (λ w. sheet cells config w (effective_sizes (heights_of new) heights (length cells))) wide
+    ∙ ap (λ k. sheet cells config (effective_sizes (widths_of old) widths (columns cells)) k) high
 
 -- ---- the widths to which columns shrink
 
-pub standing-widths : (cells : List (List (List ℕ))) (config : SpannedConfig) (sizes : CompleteDimension) (stored widths : List ℕ) (count : ℕ) → widths_of sizes ≡ Some stored → count ≡ columns cells → widths ≡ take count stored → widths ≡ (standing cells config sizes).widths
-standing-widths cells config sizes stored widths count s e w =
-    w ∙ ap (λ k. take k stored) e ∙ ap (λ o. standing_sizes o (estimated_widths cells config) (columns cells)) (sym s)
+pub effective-widths : (cells : List (List (List ℕ))) (config : SpannedConfig) (sizes : CompleteDimension) (stored widths : List ℕ) (count : ℕ) → widths_of sizes ≡ Some stored → count ≡ columns cells → widths ≡ take count stored → widths ≡ (effective cells config sizes).widths
+effective-widths cells config sizes stored widths count s e w =
+    w ∙ ap (λ k. take k stored) e ∙ ap (λ o. effective_sizes o (estimated_widths cells config) (columns cells)) (sym s)
 
-pub standing-total : (cells : List (List (List ℕ))) (config : SpannedConfig) (sizes : CompleteDimension) (widths : List ℕ) (count : ℕ) → is_empty cells ≡ false → count ≡ columns cells → widths ≡ (standing cells config sizes).widths → filled_width config count widths ≡ total_width (standing cells config sizes)
-standing-total cells config sizes widths count filled e w =
+pub effective-total : (cells : List (List (List ℕ))) (config : SpannedConfig) (sizes : CompleteDimension) (widths : List ℕ) (count : ℕ) → is_empty cells ≡ false → count ≡ columns cells → widths ≡ (effective cells config sizes).widths → filled_width config count widths ≡ total_width (effective cells config sizes)
+effective-total cells config sizes widths count filled e w =
     ap (λ k. filled_width config k widths) e ∙ ap (filled_width config (columns cells)) w
-    ∙ ap (λ b. cond b 0 (filled_width config (columns cells) (standing cells config sizes).widths)) (sym filled)
+    ∙ ap (λ b. cond b 0 (filled_width config (columns cells) (effective cells config sizes).widths)) (sym filled)
 
 -- as many minimums as widths
 pub minimums-fit : (cells : List (List (List ℕ))) (config : SpannedConfig) (stored widths mins : List ℕ) (count : ℕ) → count ≡ columns cells → widths ≡ take count stored → mins ≡ take (length widths) (minimums cells config) → FitsMinimums widths mins
@@ -87,45 +87,45 @@ module _ {P : Type 0} (shrinks : P → List ℕ → List ℕ → ℕ → List �
   -- ---- what narrowing leaves
 
   module _ (change : ℕ → List ℕ → List ℕ → Type 0) (cells : List (List (List ℕ))) (config : SpannedConfig) (old mid : CompleteDimension) (some : is_empty cells ≡ false) (filled : IsFilledIn old cells config mid) where
-    pub narrows-none : total_width (standing cells config mid) ≤ n → Narrows shrinks priority change n cells config old cells mid
+    pub narrows-none : total_width (effective cells config mid) ≤ n → Narrows shrinks priority change n cells config old cells mid
     narrows-none fits =
-        let e = ap total_width (standing-filled cells config old mid filled) in
-        let within : nat_le (total_width (standing cells config old)) n ≡ true = let le : total_width (standing cells config old) ≤ n = omega (arith, fits, e) in grind (arith, nat_tests) in
+        let e = ap total_width (effective-filled cells config old mid filled) in
+        let within : nat_le (total_width (effective cells config old)) n ≡ true = let le : total_width (effective cells config old) ≤ n = omega (arith, fits, e) in grind (arith, nat_tests) in
         match-false ((cells ≡ cells) × (mid ≡ old)) _ some
-        (match-true ((cells ≡ cells) × IsFilledIn old cells config mid) (IsNarrowed shrinks priority change n (standing cells config old) cells mid) within (refl, filled))
+        (match-true ((cells ≡ cells) × IsFilledIn old cells config mid) (IsNarrowed shrinks priority change n (effective cells config old) cells mid) within (refl, filled))
 
-    found-old : (widths mins : List ℕ) → IsFound shrinks priority n (standing cells config mid) widths mins → IsFound shrinks priority n (standing cells config old) widths mins
-    found-old widths mins h = subst (λ t. IsFound shrinks priority n t widths mins) (standing-filled cells config old mid filled) h
+    found-old : (widths mins : List ℕ) → IsFound shrinks priority n (effective cells config mid) widths mins → IsFound shrinks priority n (effective cells config old) widths mins
+    found-old widths mins h = subst (λ t. IsFound shrinks priority n t widths mins) (effective-filled cells config old mid filled) h
 
-    pub narrows-some : (cells' : List (List (List ℕ))) (new : CompleteDimension) (widths mins : List ℕ) → IsFound shrinks priority n (standing cells config mid) widths mins → AreChanged (λ r c. true) (for_width change config widths mins) cells cells' → widths_of new ≡ Some widths → heights_of new ≡ None → Narrows shrinks priority change n cells config old cells' new
+    pub narrows-some : (cells' : List (List (List ℕ))) (new : CompleteDimension) (widths mins : List ℕ) → IsFound shrinks priority n (effective cells config mid) widths mins → AreChanged (λ r c. true) (for_width change config widths mins) cells cells' → widths_of new ≡ Some widths → heights_of new ≡ None → Narrows shrinks priority change n cells config old cells' new
     narrows-some cells' new widths mins found changed stored cleared =
-        let t = standing cells config old in
+        let t = effective cells config old in
         let is = found-old widths mins found in
         let above : nat_le (total_width t) n ≡ false = let lt : n < total_width t = is.wider in grind (arith, nat_tests) in
         match-false ((cells' ≡ cells) × (new ≡ old)) _ some
         (match-false ((cells' ≡ cells) × IsFilledIn old cells config new) (IsNarrowed shrinks priority change n t cells' new) above
-        (record { widths = widths; shrunk = is.shrunk; changed = rooms-made change t widths mins is.fits changed; stored = stored; cleared = cleared }))
+        (record { widths = widths; shrunk = is.shrunk; changed = content_sizes-made change t widths mins is.fits changed; stored = stored; cleared = cleared }))
 
     -- a failure at a cell
-    pub stops-some : (which : Which) (in_place : ℕ → List ℕ → Type 0) (cells' : List (List (List ℕ))) (error : TableError) (widths mins : List ℕ) → error ≡ Memory
-        → IsFound shrinks priority n (standing cells config mid) widths mins
-        → AreChangedBefore ByColumn (λ r c. true) (needs_for_width which in_place config widths mins) (for_width (if_taken which change) config widths mins) cells cells'
-        → StopsNarrowing shrinks priority which in_place change n error cells config old cells' mid
-    stops-some which in_place cells' error widths mins e found changed =
-        let t = standing cells config old in
+    pub stops-some : (cell_filter : CellFilter) (in_place : ℕ → List ℕ → Type 0) (cells' : List (List (List ℕ))) (error : TableError) (widths mins : List ℕ) → error ≡ Memory
+        → IsFound shrinks priority n (effective cells config mid) widths mins
+        → AreChangedBefore ByColumn (λ r c. true) (needs_for_width cell_filter in_place config widths mins) (for_width (if_taken cell_filter change) config widths mins) cells cells'
+        → StopsNarrowing shrinks priority cell_filter in_place change n error cells config old cells' mid
+    stops-some cell_filter in_place cells' error widths mins e found changed =
+        let t = effective cells config old in
         let is = found-old widths mins found in
         inr (record {
           wider = is.wider;
           filled = filled;
-          stopped = inr (e, record { wider = is.wider; widths = widths; shrunk = is.shrunk; changed = rooms-before which in_place change t widths mins is.fits changed });
+          stopped = inr (e, record { wider = is.wider; widths = widths; shrunk = is.shrunk; changed = content_sizes-before cell_filter in_place change t widths mins is.fits changed });
         })
 
     -- one before a cell has changed
-    pub stops-wider : (which : Which) (in_place : ℕ → List ℕ → Type 0) (error : TableError) → n < total_width (standing cells config mid)
-        → StopsNarrowing shrinks priority which in_place change n error cells config old cells mid
-    stops-wider which in_place error wide =
+    pub stops-wider : (cell_filter : CellFilter) (in_place : ℕ → List ℕ → Type 0) (error : TableError) → n < total_width (effective cells config mid)
+        → StopsNarrowing shrinks priority cell_filter in_place change n error cells config old cells mid
+    stops-wider cell_filter in_place error wide =
         inr (record {
-          wider = subst (λ t. n < total_width t) (standing-filled cells config old mid filled) wide;
+          wider = subst (λ t. n < total_width t) (effective-filled cells config old mid filled) wide;
           filled = filled;
           stopped = inl refl;
         })
@@ -146,4 +146,4 @@ if-err P (Err d) e h p = subst P (sym h) p
 pub passes-before : (n : ℕ) (cells : List (List (List ℕ))) (config : SpannedConfig) (old mid : CompleteDimension) (e : TableError) → IsFilledIn old cells config mid → (e ≡ Memory) ⊎ ((e ≡ Range) × WiderOutOfRange n cells config mid) → (e ≡ Memory) ⊎ ((e ≡ Range) × (HasNoEstimate old cells config ⊎ WiderOutOfRange n cells config old))
 passes-before n cells config old mid e filled cause =
     let P : Sheet → Type 0 = λ t. (2 ^ 64 ≤ total_width t) ⊎ ((n < total_width t) × IsTooWide (emptied cells) config) in
-    ⊎_elim (λ m. inl m) (λ h. inr (h.0, inr (subst P (standing-filled cells config old mid filled) h.1))) cause
+    ⊎_elim (λ m. inl m) (λ h. inr (h.0, inr (subst P (effective-filled cells config old mid filled) h.1))) cause

@@ -10,7 +10,7 @@ use Rattle.tabled_size.specs.Estimates.{estimated_heights, estimated_widths}
 use Rattle.tabled_size.specs.FilledIn.{IsFilledIn}
 use Rattle.tabled_size.specs.Holds.{IsSized}
 use Rattle.tabled_size.specs.Sheet.{Sheet, estimated, is_empty}
-use Rattle.tabled_size.specs.Standing.{standing, standing_sizes}
+use Rattle.tabled_size.specs.Effective.{effective, effective_sizes}
 use Rattle.tabled_size.specs.Stored.{heights_of, widths_of}
 use Rattle.tabled_size.specs.Totals.{filled_height, filled_width, total_height, total_width}
 use Rattle.tabled_size.specs.declared.complete_dimension.CompleteDimension.{CompleteDimension}
@@ -22,7 +22,7 @@ use Rattle.tabled_set.specs.Priorities.{AddsTo}
 use Rattle.tabled_set.proofs.ExactTotals.{changed_empty}
 use Rattle.tabled_set.proofs.GrowingTables.{full_height}
 use Rattle.tabled_set.proofs.HeightTotals.{filled_height-frame, grown-sum, shrunk-total, some-lines}
-use Rattle.tabled_set.proofs.NarrowingTables.{filled-size, standing-filled}
+use Rattle.tabled_set.proofs.NarrowingTables.{filled-size, effective-filled}
 use Rattle.tabled_set.proofs.WidthTotals.{filled_width-short, short-widths, take-all}
 use Rattle.tabled_set.specs.Promised.{HeightensAsPromised, LimitsAsPromised, WidensAsPromised}
 
@@ -30,11 +30,11 @@ use Rattle.tabled_set.specs.Promised.{HeightensAsPromised, LimitsAsPromised, Wid
 
 -- heights that are stored, one a row, stand
 total-stored : (cells : List (List (List ℕ))) (config : SpannedConfig) (left : CompleteDimension) (heights : List ℕ) → is_empty cells ≡ false → heights_of left ≡ Some heights → length heights ≡ length cells
-    → total_height (standing cells config left) ≡ sum heights + frame_height config (length cells)
+    → total_height (effective cells config left) ≡ sum heights + frame_height config (length cells)
 total-stored cells config left heights some stored long =
-    let stand : standing_sizes (heights_of left) (estimated_heights cells config) (length cells) ≡ heights =
-    ap (λ o. standing_sizes o (estimated_heights cells config) (length cells)) stored ∙ ap (λ k. take k heights) (sym long) ∙ take-length heights in
-    ap (λ b. cond b 0 (filled_height config (length cells) (standing cells config left).heights)) some
+    let stand : effective_sizes (heights_of left) (estimated_heights cells config) (length cells) ≡ heights =
+    ap (λ o. effective_sizes o (estimated_heights cells config) (length cells)) stored ∙ ap (λ k. take k heights) (sym long) ∙ take-length heights in
+    ap (λ b. cond b 0 (filled_height config (length cells) (effective cells config left).heights)) some
     ∙ ap (filled_height config (length cells)) stand
     ∙ filled_height-frame config (length cells) heights long
 
@@ -44,7 +44,7 @@ total-estimated cells config some = full_height cells config some ∙ filled_hei
 
 module _ {P : Type 0} (grows : P → List ℕ → ℕ → List ℕ → P → Type 0) (s : P) (n : ℕ) (cells : List (List (List ℕ))) (config : SpannedConfig) (old new left : CompleteDimension)
     (h : IncreasesHeight grows s n cells config old new) (cleared : AreCleared None new left) where
-  pub heightens : HeightensAsPromised grows s n cells config (standing cells config left)
+  pub heightens : HeightensAsPromised grows s n cells config (effective cells config left)
   heightens = record {
     exact = λ adds some less.
         let heightened = IsHeightened grows s n cells config old new in
@@ -60,7 +60,7 @@ module _ {P : Type 0} (grows : P → List ℕ → ℕ → List ℕ → P → Typ
 
 module _ {P : Type 0} (shrinks : P → List ℕ → List ℕ → ℕ → List ℕ → P → Type 0) (s : P) (n : ℕ) (cells : List (List (List ℕ))) (config : SpannedConfig) (old : CompleteDimension)
     (cells' : List (List (List ℕ))) (new left : CompleteDimension) (h : LimitsHeight shrinks s n cells config old cells' new) (cleared : AreCleared None new left) where
-  pub limits : LimitsAsPromised shrinks s n cells config (standing cells' config left)
+  pub limits : LimitsAsPromised shrinks s n cells config (effective cells' config left)
   limits = record {
     exact = λ takes some more.
         let lowered = IsLowered shrinks s n cells config old cells' new in
@@ -83,10 +83,10 @@ module _ {P : Type 0} (shrinks : P → List ℕ → List ℕ → ℕ → List �
 module _ {P : Type 0} (grows : P → List ℕ → ℕ → List ℕ → P → Type 0) (s : P) (n : ℕ) (cells : List (List (List ℕ))) (config : SpannedConfig) (old new left : CompleteDimension)
     (h : IncreasesWidth grows s n cells config old new) (cleared : AreCleared None new left) where
   abbrev pub before : Sheet
-  before = standing cells config old
+  before = effective cells config old
 
   abbrev pub after : Sheet
-  after = standing cells config left
+  after = effective cells config left
 
   abbrev pub widened : Type 0
   widened = IsWidened grows s n cells config old new
@@ -98,7 +98,7 @@ module _ {P : Type 0} (grows : P → List ℕ → ℕ → List ℕ → P → Typ
   grown-widths : (is : widened) → after.widths ≡ is.widths
   grown-widths is =
       let short : length is.widths ≤ columns cells = subst (λ k. k ≤ columns cells) (sym is.grown.kept.same_length) (short-widths cells config old) in
-      ap (λ o. standing_sizes o (estimated_widths cells config) (columns cells)) (cleared.widths ∙ is.stored)
+      ap (λ o. effective_sizes o (estimated_widths cells config) (columns cells)) (cleared.widths ∙ is.stored)
       ∙ take-all (columns cells) is.widths short
 
   exact : AddsTo grows s → is_empty cells ≡ false → total_width before < n → 0 < sum before.widths → total_width after ≡ n
@@ -117,14 +117,14 @@ module _ {P : Type 0} (grows : P → List ℕ → ℕ → List ℕ → P → Typ
   no-less i = ⊎_elim
       (λ empty.
       let same : new ≡ old = MatchBool-at_true (new ≡ old) (MatchBool (nat_le n (total_width before)) filled widened) empty h in
-      let e : after.widths ≡ before.widths = ap (λ o. standing_sizes o (estimated_widths cells config) (columns cells)) (cleared.widths ∙ ap widths_of same) in
+      let e : after.widths ≡ before.widths = ap (λ o. effective_sizes o (estimated_widths cells config) (columns cells)) (cleared.widths ∙ ap widths_of same) in
       omega (arith, ap (λ ws. at ws i) e))
       (λ some.
       let rest = MatchBool-at_false (new ≡ old) (MatchBool (nat_le n (total_width before)) filled widened) some h in
       ⊎_elim
       (λ wide.
       let is : filled = MatchBool-at_true filled widened wide rest in
-      let e = standing-filled cells config old left (record { widths = cleared.widths ∙ is.widths; heights = cleared.heights ∙ is.heights }) in
+      let e = effective-filled cells config old left (record { widths = cleared.widths ∙ is.widths; heights = cleared.heights ∙ is.heights }) in
       omega (arith, ap (λ t. at t.widths i) e))
       (λ less.
       let is : widened = MatchBool-at_false filled widened less rest in
@@ -139,20 +139,20 @@ module _ {P : Type 0} (grows : P → List ℕ → ℕ → List ℕ → P → Typ
   same-count = ⊎_elim
       (λ empty.
       let same : new ≡ old = MatchBool-at_true (new ≡ old) (MatchBool (nat_le n (total_width before)) filled widened) empty h in (
-        ap (λ o. length (standing_sizes o (estimated_widths cells config) (columns cells))) (cleared.widths ∙ ap widths_of same),
-        ap (λ o. standing_sizes o (estimated_heights cells config) (length cells)) (cleared.heights ∙ ap heights_of same),
+        ap (λ o. length (effective_sizes o (estimated_widths cells config) (columns cells))) (cleared.widths ∙ ap widths_of same),
+        ap (λ o. effective_sizes o (estimated_heights cells config) (length cells)) (cleared.heights ∙ ap heights_of same),
       ))
       (λ some.
       let rest = MatchBool-at_false (new ≡ old) (MatchBool (nat_le n (total_width before)) filled widened) some h in
       ⊎_elim
       (λ wide.
       let is : filled = MatchBool-at_true filled widened wide rest in
-      let e = standing-filled cells config old left (record { widths = cleared.widths ∙ is.widths; heights = cleared.heights ∙ is.heights }) in
+      let e = effective-filled cells config old left (record { widths = cleared.widths ∙ is.widths; heights = cleared.heights ∙ is.heights }) in
       (ap (λ (t : Sheet). length t.widths) e, ap (λ (t : Sheet). t.heights) e))
       (λ less.
       let is : widened = MatchBool-at_false filled widened less rest in (
         ap length (grown-widths is) ∙ is.grown.kept.same_length,
-        ap (λ o. standing_sizes o (estimated_heights cells config) (length cells)) (cleared.heights ∙ is.heights)
+        ap (λ o. effective_sizes o (estimated_heights cells config) (length cells)) (cleared.heights ∙ is.heights)
             ∙ filled-size (heights_of old) (estimated_heights cells config) (length cells) (heights_length cells config),
       ))
       (cases_Bool (nat_le n (total_width before))))

@@ -14,10 +14,10 @@ use Rattle.tabled_config.specs.declared.spanned.SpannedConfig.{SpannedConfig}
 use Rattle.tabled_size.specs.Cleared.{AreCleared}
 use Rattle.tabled_size.specs.TextCells.{AreTexts}
 use Rattle.tabled_size.specs.Entries.{clears_heights, clears_widths, unless_cleared}
-use Rattle.tabled_size.specs.Standing.{standing}
+use Rattle.tabled_size.specs.Effective.{effective}
 use Rattle.tabled_size.specs.Stored.{heights_of, widths_of}
 use Rattle.tabled_size.specs.declared.complete_dimension.CompleteDimension.{CompleteDimension}
-use Rattle.tabled_set.specs.BestNarrowing.{HasLeastWidth, IsBestCut, text_room}
+use Rattle.tabled_set.specs.BestNarrowing.{HasLeastWidth, IsBestCut, inner_width}
 use Rattle.tabled_set.specs.CellChanges.{if_wider, truncating, wrapping}
 use Rattle.tabled_set.specs.ExactTotal.{HasExactTotal}
 use Rattle.tabled_set.specs.Narrowed.{IsNarrowed, Narrows}
@@ -31,29 +31,29 @@ use Rattle.tabled_set.proofs.ExactTotals.{FindsRoom, IsNarrowed-wider, KeepsPlai
 use Rattle.tabled_set.proofs.Staying.{StaysWithin-truncated}
 use Rattle.tabled_set.proofs.TruncatedTexts.{fits-if_wider}
 
--- ---- changed texts stay in their rooms
+-- ---- changed texts stay in their content sizes
 FindsRoom-wrapping : (words : Bool) → FindsRoom (wrapping words)
-FindsRoom-wrapping words room before after p w = fits-wrapped room words before after w
+FindsRoom-wrapping words content_size before after p w = fits-wrapped content_size words before after w
 
 FindsRoom-truncating : (suffix : List ℕ) (limit : SuffixLimit) (multiline : Bool) → IsAdditive suffix → IsAdditiveLimit limit
     → FindsRoom (if_wider (truncating suffix limit multiline))
-FindsRoom-truncating suffix limit multiline q l room before after p w = fits-if_wider room suffix limit multiline before after q l p w
+FindsRoom-truncating suffix limit multiline q l content_size before after p w = fits-if_wider content_size suffix limit multiline before after q l p w
 
 -- ---- and plain where they were
 KeepsPlain-wrapping : (words : Bool) → KeepsPlain (wrapping words)
-KeepsPlain-wrapping words room before after p w = IsAdditive-stays (StaysWithin-wrapped {n = room} p w)
+KeepsPlain-wrapping words content_size before after p w = IsAdditive-stays (StaysWithin-wrapped {n = content_size} p w)
 
 KeepsPlain-truncating : (suffix : List ℕ) (limit : SuffixLimit) (multiline : Bool) → IsAdditive suffix → IsAdditiveLimit limit
     → KeepsPlain (if_wider (truncating suffix limit multiline))
-KeepsPlain-truncating suffix limit multiline q l room before after p w =
-    let ended = IsTruncated room suffix limit multiline before after in
+KeepsPlain-truncating suffix limit multiline q l content_size before after p w =
+    let ended = IsTruncated content_size suffix limit multiline before after in
     let stays = after ≡ before in
     ⊎_elim
-    (λ y. IsAdditive-stays (StaysWithin-truncated room suffix limit multiline before after q l p (MatchBool-at_true ended stays y w)))
+    (λ y. IsAdditive-stays (StaysWithin-truncated content_size suffix limit multiline before after q l p (MatchBool-at_true ended stays y w)))
     (λ no.
     let same : after ≡ before = MatchBool-at_false ended stays no w in
     subst IsAdditive (sym same) p)
-    (cases_Bool (nat_lt room (text_columns before)))
+    (cases_Bool (nat_lt content_size (text_columns before)))
 
 -- ---- a table that was narrowed, once what is hinted was forgotten, the widths never
 cleared_none : (b : Bool) → unless_cleared b None ≡ None
@@ -63,8 +63,8 @@ cleared_none false = refl
 module _ {P : Type 0} (shrinks : P → List ℕ → List ℕ → ℕ → List ℕ → P → Type 0) (s : P) (change : ℕ → List ℕ → List ℕ → Type 0) (n : ℕ)
     (cells : List (List (List ℕ))) (config : SpannedConfig) (sizes : CompleteDimension) (new : List (List (List ℕ))) (stored last : CompleteDimension)
     (hint : Option Entity) (hinted : clears_widths hint ≡ false) (narrows : Narrows shrinks s change n cells config sizes new stored) (cleared : AreCleared hint stored last)
-    (takes : TakesFrom shrinks s) (wide : IsWiderThan n (standing cells config sizes)) where
-  narrowed : IsNarrowed shrinks s change n (standing cells config sizes) new stored
+    (takes : TakesFrom shrinks s) (wide : IsWiderThan n (effective cells config sizes)) where
+  narrowed : IsNarrowed shrinks s change n (effective cells config sizes) new stored
   narrowed = IsNarrowed-wider shrinks s change n cells config sizes new stored wide.wider narrows
 
   widths_stay : widths_of last ≡ widths_of stored
@@ -73,15 +73,15 @@ module _ {P : Type 0} (shrinks : P → List ℕ → List ℕ → ℕ → List �
   heights_clear : heights_of last ≡ None
   heights_clear = cleared.heights ∙ ap (unless_cleared (clears_heights hint)) narrowed.cleared ∙ cleared_none (clears_heights hint)
 
-  exact_of : FindsRoom change → KeepsPlain change → IsRectangular cells → AreTexts cells → HasExactTotal n (standing cells config sizes) (standing new config last)
-  exact_of rooms keeps rectangular texts =
-      exact_total shrinks s change n cells config sizes new stored last takes wide.estimates narrowed widths_stay rooms keeps rectangular texts wide.wider heights_clear
+  exact_of : FindsRoom change → KeepsPlain change → IsRectangular cells → AreTexts cells → HasExactTotal n (effective cells config sizes) (effective new config last)
+  exact_of content_sizes keeps rectangular texts =
+      exact_total shrinks s change n cells config sizes new stored last takes wide.estimates narrowed widths_stay content_sizes keeps rectangular texts wide.wider heights_clear
 
-  cell_of : (row column : ℕ) → IsInside cells row column → change (text_room (standing new config last) row column) (cell_at cells row column) (cell_at new row column)
+  cell_of : (row column : ℕ) → IsInside cells row column → change (inner_width (effective new config last) row column) (cell_at cells row column) (cell_at new row column)
   cell_of row column inside =
       changed_for_room shrinks s change n cells config sizes new stored last takes wide.estimates narrowed widths_stay row column inside.row_in inside.column_in
 
-  least_of : TakesGreatest shrinks s → HasLeastWidth (standing cells config sizes) (standing new config last)
+  least_of : TakesGreatest shrinks s → HasLeastWidth (effective cells config sizes) (effective new config last)
   least_of greatest = leveled shrinks s change n cells config sizes new stored last takes wide.estimates narrowed widths_stay greatest
 
 -- ---- what is promised
@@ -91,10 +91,10 @@ module _ {P : Type 0} (shrinks : P → List ℕ → List ℕ → ℕ → List �
   takes_of greatest end old mins list by h = let (right, shrunk) = greatest end old mins list by h in shrunk.takes
 
   pub wraps : (words : Bool) → Narrows shrinks s (wrapping words) n cells config sizes new stored → AreCleared (Some (Row 0)) stored last
-      → WrapsAsPromised shrinks s words n (standing cells config sizes) (standing new config last)
+      → WrapsAsPromised shrinks s words n (effective cells config sizes) (effective new config last)
   wraps words narrows cleared =
       let change = wrapping words in
-      let room = text_room (standing new config last) in
+      let content_size = inner_width (effective new config last) in
       record {
         exact = λ takes wide texts.
             exact_of shrinks s change n cells config sizes new stored last (Some (Row 0)) refl narrows cleared takes wide
@@ -102,8 +102,8 @@ module _ {P : Type 0} (shrinks : P → List ℕ → List ℕ → ℕ → List �
         best = λ takes wide.
             let changed = cell_of shrinks s change n cells config sizes new stored last (Some (Row 0)) refl narrows cleared takes wide in
             record {
-              fewest = λ row column inside. fewest-wrapped (room row column) words (cell_at cells row column) (cell_at new row column) (changed row column inside);
-              whole = λ row column inside some fits. old_text (room row column) words (cell_at cells row column) (cell_at new row column) some fits (changed row column inside);
+              fewest = λ row column inside. fewest-wrapped (content_size row column) words (cell_at cells row column) (cell_at new row column) (changed row column inside);
+              whole = λ row column inside some fits. old_text (content_size row column) words (cell_at cells row column) (cell_at new row column) some fits (changed row column inside);
             };
         least = λ greatest wide.
             least_of shrinks s change n cells config sizes new stored last (Some (Row 0)) refl narrows cleared (takes_of greatest) wide greatest;
@@ -111,31 +111,31 @@ module _ {P : Type 0} (shrinks : P → List ℕ → List ℕ → ℕ → List �
 
   module _ (suffix : List ℕ) (limit : SuffixLimit) (multiline : Bool)
       (narrows : Narrows shrinks s (if_wider (truncating suffix limit multiline)) n cells config sizes new stored) (cleared : AreCleared None stored last) where
-    -- a cell that was wider than its room is truncated
-    truncated_of : TakesFrom shrinks s → suffix ≡ [] → IsWiderThan n (standing cells config sizes) → (row column : ℕ) → IsInside cells row column
-        → text_room (standing new config last) row column < text_columns (cell_at cells row column)
-        → IsTruncated (text_room (standing new config last) row column) [] limit multiline (cell_at cells row column) (cell_at new row column)
+    -- a cell that was wider than its content size is truncated
+    truncated_of : TakesFrom shrinks s → suffix ≡ [] → IsWiderThan n (effective cells config sizes) → (row column : ℕ) → IsInside cells row column
+        → inner_width (effective new config last) row column < text_columns (cell_at cells row column)
+        → IsTruncated (inner_width (effective new config last) row column) [] limit multiline (cell_at cells row column) (cell_at new row column)
     truncated_of takes bare wide row column inside long =
-        let room = text_room (standing new config last) row column in
+        let content_size = inner_width (effective new config last) row column in
         let before = cell_at cells row column in
         let after = cell_at new row column in
         let changed = cell_of shrinks s (if_wider (truncating suffix limit multiline)) n cells config sizes new stored last None refl narrows cleared takes wide row column inside in
-        subst (λ l. IsTruncated room l limit multiline before after) bare
-        (MatchBool-at_true (IsTruncated room suffix limit multiline before after) (after ≡ before) (lt-ltb room (text_columns before) long) changed)
+        subst (λ l. IsTruncated content_size l limit multiline before after) bare
+        (MatchBool-at_true (IsTruncated content_size suffix limit multiline before after) (after ≡ before) (lt-ltb content_size (text_columns before) long) changed)
 
-    longest_of : TakesFrom shrinks s → suffix ≡ [] → IsWiderThan n (standing cells config sizes) → IsBestCut multiline (standing cells config sizes) (standing new config last)
+    longest_of : TakesFrom shrinks s → suffix ≡ [] → IsWiderThan n (effective cells config sizes) → IsBestCut multiline (effective cells config sizes) (effective new config last)
     longest_of takes bare wide =
-        let room = text_room (standing new config last) in
+        let content_size = inner_width (effective new config last) in
         record {
           line = λ whole row column inside exact long.
-              longest_truncated (room row column) limit (cell_at cells row column) (cell_at new row column) exact
-              (subst (λ b. IsTruncated (room row column) [] limit b (cell_at cells row column) (cell_at new row column)) whole (truncated_of takes bare wide row column inside long));
+              longest_truncated (content_size row column) limit (cell_at cells row column) (cell_at new row column) exact
+              (subst (λ b. IsTruncated (content_size row column) [] limit b (cell_at cells row column) (cell_at new row column)) whole (truncated_of takes bare wide row column inside long));
           lines = λ apart row column inside long.
-              longest_lines (room row column) limit (cell_at cells row column) (cell_at new row column)
-              (subst (λ b. IsTruncated (room row column) [] limit b (cell_at cells row column) (cell_at new row column)) apart (truncated_of takes bare wide row column inside long));
+              longest_lines (content_size row column) limit (cell_at cells row column) (cell_at new row column)
+              (subst (λ b. IsTruncated (content_size row column) [] limit b (cell_at cells row column) (cell_at new row column)) apart (truncated_of takes bare wide row column inside long));
         }
 
-    pub truncates : TruncatesAsPromised shrinks s suffix limit multiline n (standing cells config sizes) (standing new config last)
+    pub truncates : TruncatesAsPromised shrinks s suffix limit multiline n (effective cells config sizes) (effective new config last)
     truncates =
         let change = if_wider (truncating suffix limit multiline) in
         record {

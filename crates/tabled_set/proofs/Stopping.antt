@@ -3,12 +3,12 @@ use Rattle.std.proofs.Common.{◌≡◌, ℕ, Bool, List, Result, Ok, Err, IfErr
 use Rattle.tabled_base.specs.declared.error.TableError.{TableError}
 use Rattle.tabled_base.specs.declared.error.TableError.TheVariants.{Memory, Range}
 use Rattle.tabled_set.specs.CellChanges.{AreChangedBefore, StopsChanging}
-use Rattle.tabled_set.specs.declared.order.Order.{Order}
+use Rattle.tabled_set.specs.declared.walk_order.WalkOrder.{WalkOrder}
 use Rattle.tabled_set.specs.Filling.{StopsFilling}
 use Rattle.tabled_size.specs.declared.complete_dimension.CompleteDimension.{CompleteDimension}
 
 -- with `Memory` the cells before some cell are changed
-pub stops-before : {T : Type 0} (order : Order) (chosen : ℕ → ℕ → Bool) (needs : ℕ → ℕ → List ℕ → Type 0) (change : ℕ → ℕ → List ℕ → List ℕ → Type 0) (old new : List (List (List ℕ))) (r : Result T TableError)
+pub stops-before : {T : Type 0} (order : WalkOrder) (chosen : ℕ → ℕ → Bool) (needs : ℕ → ℕ → List ℕ → Type 0) (change : ℕ → ℕ → List ℕ → List ℕ → Type 0) (old new : List (List (List ℕ))) (r : Result T TableError)
     → OnErr r (AreChangedBefore order chosen needs change old new) → IfErr r (λ e. e ≡ Memory) → IfErr r (λ e. StopsChanging order chosen needs change e old new)
 stops-before order chosen needs change old new (Ok x) h only = tt
 stops-before order chosen needs change old new (Err e) h only = inr (only, h)

@@ -5,24 +5,24 @@ use Rattle.tabled_base.specs.declared.position.Entity.TheVariants.{Cell}
 use Rattle.tabled_entity.specs.Changes.{covers}
 use Rattle.tabled_set.specs.CellChanges.{AreChanged, AreChangedBefore, NeedsMemoryIn, is_taken, line_of, place_of, precedes}
 use Rattle.tabled_set.specs.Walking.{is_within, lines_in, on_line, places_in}
-use Rattle.tabled_set.specs.declared.order.Order.{Order}
-use Rattle.tabled_set.specs.declared.order.Order.TheVariants.{ByColumn, ByRow}
+use Rattle.tabled_set.specs.declared.walk_order.WalkOrder.{WalkOrder}
+use Rattle.tabled_set.specs.declared.walk_order.WalkOrder.TheVariants.{ByColumn, ByRow}
 use Rattle.tabled_set.specs.declared.walk.Band.{Band}
-use Rattle.tabled_set.specs.declared.which.Which.{Which}
+use Rattle.tabled_set.specs.declared.cell_filter.CellFilter.{CellFilter}
 use Rattle.tabled_set.proofs.ChangingCells.{AreChanged-both, AreChanged-same, IsEither, IsInside-before, at-other}
 
 -- a cell on one of the lines is inside
-pub inside_line : (order : Order) (cells : List (List (List ℕ))) (row column line place : ℕ) → line_of order row column ≡ line → place_of order row column ≡ place → line < lines_in order cells → place < places_in order cells → IsInside cells row column
+pub inside_line : (order : WalkOrder) (cells : List (List (List ℕ))) (row column line place : ℕ) → line_of order row column ≡ line → place_of order row column ≡ place → line < lines_in order cells → place < places_in order cells → IsInside cells row column
 inside_line ByRow cells row column line place a b l p = record { row_in = omega (arith, a, l); column_in = omega (arith, b, p) }
 inside_line ByColumn cells row column line place a b l p = record { row_in = omega (arith, b, p); column_in = omega (arith, a, l) }
 
 -- no place of a line comes before itself
-pub on_line-itself : (order : Order) (row column line place : ℕ) (band : Band) → line_of order row column ≡ line → place_of order row column ≡ place → (on_line order line band row column && precedes order line place row column) ≡ false
+pub on_line-itself : (order : WalkOrder) (row column line place : ℕ) (band : Band) → line_of order row column ≡ line → place_of order row column ≡ place → (on_line order line band row column && precedes order line place row column) ≡ false
 on_line-itself ByRow row column line place band a b = grind arith
 on_line-itself ByColumn row column line place band a b = grind arith
 
 -- before the next place of a band come the places before this one, and this one
-pub on_line-next : (order : Order) (row column line place r c : ℕ) (band : Band) → line_of order row column ≡ line → place_of order row column ≡ place → band.first ≤ place → place < band.end → (on_line order line band r c && precedes order line (place + 1) r c) ≡ ((on_line order line band r c && precedes order line place r c) || covers (Cell row column) r c)
+pub on_line-next : (order : WalkOrder) (row column line place r c : ℕ) (band : Band) → line_of order row column ≡ line → place_of order row column ≡ place → band.first ≤ place → place < band.end → (on_line order line band r c && precedes order line (place + 1) r c) ≡ ((on_line order line band r c && precedes order line place r c) || covers (Cell row column) r c)
 on_line-next ByRow row column line place r c band a b from to = grind arith
 on_line-next ByColumn row column line place r c band a b from to = grind arith
 
@@ -39,11 +39,11 @@ all_of covered lines band line x y is from to =
     record { apart = λ yes. grind arith; either = grind arith }
 
 -- the cells of earlier lines, and some first ones of this line
-lines-some : (order : Order) (covered : Bool) (lines band : Band) (line place r c : ℕ) → covered ≡ (is_within lines (line_of order r c) && is_within band (place_of order r c)) → lines.first ≤ line → line < lines.end → IsEither (covered && precedes order line place r c) (covered && precedes order line 0 r c) (on_line order line band r c && precedes order line place r c)
+lines-some : (order : WalkOrder) (covered : Bool) (lines band : Band) (line place r c : ℕ) → covered ≡ (is_within lines (line_of order r c) && is_within band (place_of order r c)) → lines.first ≤ line → line < lines.end → IsEither (covered && precedes order line place r c) (covered && precedes order line 0 r c) (on_line order line band r c && precedes order line place r c)
 lines-some order covered lines band line place r c is from to = some_of covered lines band line place (line_of order r c) (place_of order r c) is from to
 
 -- and all of this line
-pub lines-more : (order : Order) (covered : Bool) (lines band : Band) (line r c : ℕ) → covered ≡ (is_within lines (line_of order r c) && is_within band (place_of order r c)) → lines.first ≤ line → line < lines.end → IsEither (covered && precedes order (line + 1) 0 r c) (covered && precedes order line 0 r c) (on_line order line band r c)
+pub lines-more : (order : WalkOrder) (covered : Bool) (lines band : Band) (line r c : ℕ) → covered ≡ (is_within lines (line_of order r c) && is_within band (place_of order r c)) → lines.first ≤ line → line < lines.end → IsEither (covered && precedes order (line + 1) 0 r c) (covered && precedes order line 0 r c) (on_line order line band r c)
 lines-more order covered lines band line r c is from to = all_of covered lines band line (line_of order r c) (place_of order r c) is from to
 
 -- ---- where a walk stops
@@ -62,7 +62,7 @@ covered-there covered lines band line x y is from to on = grind arith
 first-free : (covered : Bool) (line x y : ℕ) → x ≡ line → (covered && before line 0 x y) ≡ false
 first-free covered line x y e = grind arith
 
-module _ (order : Order) (band : Band) {wants : ℕ → ℕ → List ℕ → Type 0} {change : ℕ → ℕ → List ℕ → List ℕ → Type 0} {old between new : List (List (List ℕ))} where
+module _ (order : WalkOrder) (band : Band) {wants : ℕ → ℕ → List ℕ → Type 0} {change : ℕ → ℕ → List ℕ → List ℕ → Type 0} {old between new : List (List (List ℕ))} where
   -- a walk along a line stops at a place of it
   pub stops-there : (line place row column : ℕ) → line_of order row column ≡ line → place_of order row column ≡ place → line < lines_in order old → band.end ≤ places_in order old → band.first ≤ place → place < band.end
       → AreChanged (λ r c. on_line order line band r c && precedes order line place r c) change old between
@@ -114,8 +114,8 @@ module _ (order : Order) (band : Band) {wants : ℕ → ℕ → List ℕ → Typ
 
 -- ---- texts that need memory
 
--- a text needs memory where it is changed for its room, and not in its place
-pub needs-made : (which : Which) (in_place : ℕ → List ℕ → Type 0) (o : Option ℕ) (room : ℕ) (text : List ℕ) → o ≡ Some room
-    → is_taken which room text ≡ true → (in_place room text → ⊥) → NeedsMemoryIn which in_place o text
-needs-made which in_place o room text e taken apart =
-    subst (λ (p : Option ℕ). NeedsMemoryIn which in_place p text) (sym e) (record { taken = taken; apart = apart })
+-- a text needs memory where it is changed for its content size, and not in its place
+pub needs-made : (cell_filter : CellFilter) (in_place : ℕ → List ℕ → Type 0) (o : Option ℕ) (content_size : ℕ) (text : List ℕ) → o ≡ Some content_size
+    → is_taken cell_filter content_size text ≡ true → (in_place content_size text → ⊥) → NeedsMemoryIn cell_filter in_place o text
+needs-made cell_filter in_place o content_size text e taken apart =
+    subst (λ (p : Option ℕ). NeedsMemoryIn cell_filter in_place p text) (sym e) (record { taken = taken; apart = apart })

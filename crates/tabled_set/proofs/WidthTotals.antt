@@ -8,7 +8,7 @@ use Rattle.tabled_priority.specs.Laws.Sums.{sum-below}
 use Rattle.tabled_priority.specs.Permitted.{at}
 use Rattle.tabled_priority.specs.Sums.{sum_below}
 use Rattle.tabled_size.specs.Estimates.{estimated_widths}
-use Rattle.tabled_size.specs.Standing.{standing, standing_sizes}
+use Rattle.tabled_size.specs.Effective.{effective, effective_sizes}
 use Rattle.tabled_size.specs.Stored.{widths_of}
 use Rattle.tabled_size.specs.Totals.{filled_width}
 use Rattle.tabled_size.specs.declared.complete_dimension.CompleteDimension.{CompleteDimension}
@@ -16,11 +16,11 @@ use Rattle.tabled_size.proofs.ShrunkTotals.{frame_width}
 use Rattle.tabled_size.proofs.Totalling.{widths_length}
 
 -- no list that stands is longer than the table
-pub short-sizes : (stored : Option (List ℕ)) (estimates : List ℕ) (count : ℕ) → length estimates ≡ count → length (standing_sizes stored estimates count) ≤ count
+pub short-sizes : (stored : Option (List ℕ)) (estimates : List ℕ) (count : ℕ) → length estimates ≡ count → length (effective_sizes stored estimates count) ≤ count
 short-sizes None estimates count long = omega (arith, long)
 short-sizes (Some sizes) estimates count long = omega (arith, length-take count sizes)
 
-pub short-widths : (cells : List (List (List ℕ))) (config : SpannedConfig) (sizes : CompleteDimension) → length (standing cells config sizes).widths ≤ columns cells
+pub short-widths : (cells : List (List (List ℕ))) (config : SpannedConfig) (sizes : CompleteDimension) → length (effective cells config sizes).widths ≤ columns cells
 short-widths cells config sizes = short-sizes (widths_of sizes) (estimated_widths cells config) (columns cells) (widths_length cells config)
 
 pub take-all : {A : Type 0} (n : ℕ) (xs : List A) → length xs ≤ n → take n xs ≡ xs

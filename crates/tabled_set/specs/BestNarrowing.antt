@@ -13,30 +13,30 @@ use Rattle.tabled_text.specs.Measure.{text_columns}
 use Rattle.tabled_text.specs.OldText.{HasOldText}
 
 -- what its column leaves for the text of a cell
-abbrev pub text_room : Sheet → ℕ → ℕ → ℕ
-text_room t row column = at t.widths column - side_padding t.config row column
+abbrev pub inner_width : Sheet → ℕ → ℕ → ℕ
+inner_width t row column = at t.widths column - side_padding t.config row column
 
 -- no permitted list of the same sum has a lesser greatest width
 abbrev pub HasLeastWidth : Sheet → Sheet → Type 0
 HasLeastWidth old new = HasLeastGreatest old.widths (minimums old.cells old.config) new.widths
 
--- a wrapped table: no breaking of a cell's old text for its room has fewer lines, and where each unit finds room, the
+-- a wrapped table: no breaking of a cell's old text for its content size has fewer lines, and where each unit finds room, the
 -- new text is the old one with line feeds put in
 pub record IsBestWrapped (words : Bool) (old new : Sheet) : Type 0 where
   pub fewest : (row column : ℕ) → IsInside old.cells row column
-      → HasFewestLines (text_room new row column) words (cell_at old.cells row column) (cell_at new.cells row column)
-  pub whole : (row column : ℕ) → IsInside old.cells row column → 0 < text_room new row column
-      → EachUnitFits (text_room new row column) words (cell_at old.cells row column)
+      → HasFewestLines (inner_width new row column) words (cell_at old.cells row column) (cell_at new.cells row column)
+  pub whole : (row column : ℕ) → IsInside old.cells row column → 0 < inner_width new row column
+      → EachUnitFits (inner_width new row column) words (cell_at old.cells row column)
       → HasOldText (cell_at old.cells row column) (cell_at new.cells row column)
 
--- a truncated table, no suffix put behind the texts: of a cell that was wider than its room a line whose characters count as
+-- a truncated table, no suffix put behind the texts: of a cell that was wider than its content size a line whose characters count as
 -- its columns, as those of plain ones do, is the longest beginning that fits, and where lines are truncated by themselves,
 -- each such line is
 pub record IsBestCut (multiline : Bool) (old new : Sheet) : Type 0 where
   pub line : multiline ≡ false → (row column : ℕ) → IsInside old.cells row column
       → IsExactLine (cell_at old.cells row column)
-      → text_room new row column < text_columns (cell_at old.cells row column)
-      → IsLongestCut (text_room new row column) (cell_at old.cells row column) (cell_at new.cells row column)
+      → inner_width new row column < text_columns (cell_at old.cells row column)
+      → IsLongestCut (inner_width new row column) (cell_at old.cells row column) (cell_at new.cells row column)
   pub lines : multiline ≡ true → (row column : ℕ) → IsInside old.cells row column
-      → text_room new row column < text_columns (cell_at old.cells row column)
-      → HasLongestLines (text_room new row column) (cell_at old.cells row column) (cell_at new.cells row column)
+      → inner_width new row column < text_columns (cell_at old.cells row column)
+      → HasLongestLines (inner_width new row column) (cell_at old.cells row column) (cell_at new.cells row column)

@@ -8,57 +8,57 @@ use Rattle.tabled_entity.specs.Changes.{covers}
 use Rattle.tabled_text.specs.Measure.{lines_of, text_columns}
 use Rattle.tabled_text.specs.Wrapping.{IsWrapped}
 use Rattle.tabled_set.specs.Truncated.{IsTruncated}
-use Rattle.tabled_set.specs.declared.order.Order.{Order}
-use Rattle.tabled_set.specs.declared.order.Order.TheVariants.{ByColumn, ByRow}
+use Rattle.tabled_set.specs.declared.walk_order.WalkOrder.{WalkOrder}
+use Rattle.tabled_set.specs.declared.walk_order.WalkOrder.TheVariants.{ByColumn, ByRow}
 use Rattle.tabled_set.specs.declared.suffix.SuffixLimit.{SuffixLimit}
-use Rattle.tabled_set.specs.declared.which.Which.{Which}
-use Rattle.tabled_set.specs.declared.which.Which.TheVariants.{Every, Higher, Lower, Narrower, NotAsWide, Wider}
+use Rattle.tabled_set.specs.declared.cell_filter.CellFilter.{CellFilter}
+use Rattle.tabled_set.specs.declared.cell_filter.CellFilter.TheVariants.{Every, Higher, Lower, Narrower, NotAsWide, Wider}
 
 -- ---- one text
 
--- a text is wrapped in a room, words kept or not
+-- a text is wrapped in a content size, words kept or not
 abbrev pub wrapping : Bool → ℕ → List ℕ → List ℕ → Type 0
-wrapping words room before after = IsWrapped room words before after
+wrapping words content_size before after = IsWrapped content_size words before after
 
--- a text is truncated to a room
+-- a text is truncated to a content size
 abbrev pub truncating : List ℕ → SuffixLimit → Bool → ℕ → List ℕ → List ℕ → Type 0
-truncating suffix limit multiline room before after = IsTruncated room suffix limit multiline before after
+truncating suffix limit multiline content_size before after = IsTruncated content_size suffix limit multiline before after
 
--- whether a text is changed for a room: any text, one of more or fewer columns or of either, or of more or fewer lines
-abbrev pub is_taken : Which → ℕ → List ℕ → Bool
-is_taken Every room text = true
-is_taken Wider room text = nat_lt room (text_columns text)
-is_taken Narrower room text = nat_lt (text_columns text) room
-is_taken NotAsWide room text = not (text_columns text == room)
-is_taken Higher room text = nat_lt room (length (lines_of text))
-is_taken Lower room text = nat_lt (length (lines_of text)) room
+-- whether a text is changed for a content size: any text, one of more or fewer columns or of either, or of more or fewer lines
+abbrev pub is_taken : CellFilter → ℕ → List ℕ → Bool
+is_taken Every content_size text = true
+is_taken Wider content_size text = nat_lt content_size (text_columns text)
+is_taken Narrower content_size text = nat_lt (text_columns text) content_size
+is_taken NotAsWide content_size text = not (text_columns text == content_size)
+is_taken Higher content_size text = nat_lt content_size (length (lines_of text))
+is_taken Lower content_size text = nat_lt (length (lines_of text)) content_size
 
 -- such a text is changed, another stays
-abbrev pub if_taken : Which → (ℕ → List ℕ → List ℕ → Type 0) → ℕ → List ℕ → List ℕ → Type 0
-if_taken which change room before after = MatchBool (is_taken which room before) (change room before after) (after ≡ before)
+abbrev pub if_taken : CellFilter → (ℕ → List ℕ → List ℕ → Type 0) → ℕ → List ℕ → List ℕ → Type 0
+if_taken cell_filter change content_size before after = MatchBool (is_taken cell_filter content_size before) (change content_size before after) (after ≡ before)
 
--- a text wider than its room is changed, another stays
+-- a text wider than its content size is changed, another stays
 abbrev pub if_wider : (ℕ → List ℕ → List ℕ → Type 0) → ℕ → List ℕ → List ℕ → Type 0
-if_wider change room before after = MatchBool (nat_lt room (text_columns before)) (change room before after) (after ≡ before)
+if_wider change content_size before after = MatchBool (nat_lt content_size (text_columns before)) (change content_size before after) (after ≡ before)
 
--- a text that has a room is changed for it, another stays
+-- a text that has a content size is changed for it, another stays
 abbrev pub in_room : (ℕ → List ℕ → List ℕ → Type 0) → Option ℕ → List ℕ → List ℕ → Type 0
 in_room change None before after = after ≡ before
-in_room change (Some room) before after = change room before after
+in_room change (Some content_size) before after = change content_size before after
 
--- a text can't be changed without memory: it is changed for a room, and not in its place
-pub record NeedsMemory (which : Which) (in_place : ℕ → List ℕ → Type 0) (room : ℕ) (text : List ℕ) : Type 0 where
-  pub taken : is_taken which room text ≡ true
-  pub apart : in_place room text → ⊥
+-- a text can't be changed without memory: it is changed for a content size, and not in its place
+pub record NeedsMemory (cell_filter : CellFilter) (in_place : ℕ → List ℕ → Type 0) (content_size : ℕ) (text : List ℕ) : Type 0 where
+  pub taken : is_taken cell_filter content_size text ≡ true
+  pub apart : in_place content_size text → ⊥
 
--- so for the room that it has, if it has one
-abbrev pub NeedsMemoryIn : Which → (ℕ → List ℕ → Type 0) → Option ℕ → List ℕ → Type 0
-NeedsMemoryIn which in_place None text = ⊥
-NeedsMemoryIn which in_place (Some room) text = NeedsMemory which in_place room text
+-- so for the content size that it has, if it has one
+abbrev pub NeedsMemoryIn : CellFilter → (ℕ → List ℕ → Type 0) → Option ℕ → List ℕ → Type 0
+NeedsMemoryIn cell_filter in_place None text = ⊥
+NeedsMemoryIn cell_filter in_place (Some content_size) text = NeedsMemory cell_filter in_place content_size text
 
--- a rule that changes no text in its place
+-- a transform that changes no text in its place
 abbrev pub never_in_place : ℕ → List ℕ → Type 0
-never_in_place = λ room text. ⊥
+never_in_place = λ content_size text. ⊥
 
 -- ---- cells
 
@@ -70,21 +70,21 @@ pub record AreChanged (chosen : ℕ → ℕ → Bool) (change : ℕ → ℕ → 
       → MatchBool (chosen row column) (change row column (cell_at old row column) (cell_at new row column)) (cell_at new row column ≡ cell_at old row column)
 
 -- the line in which a cell is visited, a row or a column, and its place there
-abbrev pub line_of : Order → ℕ → ℕ → ℕ
+abbrev pub line_of : WalkOrder → ℕ → ℕ → ℕ
 line_of ByRow row column = row
 line_of ByColumn row column = column
 
-abbrev pub place_of : Order → ℕ → ℕ → ℕ
+abbrev pub place_of : WalkOrder → ℕ → ℕ → ℕ
 place_of ByRow row column = column
 place_of ByColumn row column = row
 
 -- a cell is visited before a place of a line
-abbrev pub precedes : Order → ℕ → ℕ → ℕ → ℕ → Bool
+abbrev pub precedes : WalkOrder → ℕ → ℕ → ℕ → ℕ → Bool
 precedes order line place row column = nat_lt (line_of order row column) line || (line_of order row column == line && nat_lt (place_of order row column) place)
 
 -- where a change stopped: at one of the chosen cells, whose text can't be changed without memory.
 -- The chosen cells before it are changed, and it and all others are the old ones
-pub record AreChangedBefore (order : Order) (chosen : ℕ → ℕ → Bool) (needs : ℕ → ℕ → List ℕ → Type 0) (change : ℕ → ℕ → List ℕ → List ℕ → Type 0)
+pub record AreChangedBefore (order : WalkOrder) (chosen : ℕ → ℕ → Bool) (needs : ℕ → ℕ → List ℕ → Type 0) (change : ℕ → ℕ → List ℕ → List ℕ → Type 0)
     (old new : List (List (List ℕ))) : Type 0 where
   pub row : ℕ
   pub column : ℕ
@@ -95,20 +95,20 @@ pub record AreChangedBefore (order : Order) (chosen : ℕ → ℕ → Bool) (nee
 
 -- what a failure leaves: with `Range` all cells as they were, and with `Memory` the cells before
 -- the one at which it stopped changed
-abbrev pub StopsChanging : Order → (ℕ → ℕ → Bool) → (ℕ → ℕ → List ℕ → Type 0) → (ℕ → ℕ → List ℕ → List ℕ → Type 0) → TableError
+abbrev pub StopsChanging : WalkOrder → (ℕ → ℕ → Bool) → (ℕ → ℕ → List ℕ → Type 0) → (ℕ → ℕ → List ℕ → List ℕ → Type 0) → TableError
     → List (List (List ℕ)) → List (List (List ℕ)) → Type 0
 StopsChanging order chosen needs change error old new =
     ((error ≡ Range) × (new ≡ old)) ⊎ ((error ≡ Memory) × AreChangedBefore order chosen needs change old new)
 
--- ---- the cells of an entity, all for one room
+-- ---- the cells of an entity, all for one content size
 
 -- each of them is changed, and all others stay
 abbrev pub ChangesEntity : (ℕ → List ℕ → List ℕ → Type 0) → ℕ → Entity → List (List (List ℕ)) → List (List (List ℕ)) → Type 0
-ChangesEntity change room entity old new = AreChanged (covers entity) (λ row column. change room) old new
+ChangesEntity change content_size entity old new = AreChanged (covers entity) (λ row column. change content_size) old new
 
--- what a failure leaves where those of them are changed that a rule is for, row by row, some of
+-- what a failure leaves where those of them are changed that a transform is for, row by row, some of
 -- them in their place
-abbrev pub StopsEntity : Which → (ℕ → List ℕ → Type 0) → (ℕ → List ℕ → List ℕ → Type 0) → ℕ → Entity → TableError → List (List (List ℕ))
+abbrev pub StopsEntity : CellFilter → (ℕ → List ℕ → Type 0) → (ℕ → List ℕ → List ℕ → Type 0) → ℕ → Entity → TableError → List (List (List ℕ))
     → List (List (List ℕ)) → Type 0
-StopsEntity which in_place change room entity error old new =
-    StopsChanging ByRow (covers entity) (λ row column. NeedsMemory which in_place room) (λ row column. if_taken which change room) error old new
+StopsEntity cell_filter in_place change content_size entity error old new =
+    StopsChanging ByRow (covers entity) (λ row column. NeedsMemory cell_filter in_place content_size) (λ row column. if_taken cell_filter change content_size) error old new

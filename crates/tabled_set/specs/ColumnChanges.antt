@@ -1,7 +1,7 @@
--- Cells that are changed for the rooms that their columns leave.
+-- Cells that are changed for the content sizes that their columns leave.
 use Rattle.std.specs.Prelude.{◌≡◌, ℕ, ◌-◌, Bool, List, ◌&&◌, MatchBool, length, nat_le, nat_lt, true}
 use Rattle.tabled_set.specs.CellChanges.{NeedsMemory}
-use Rattle.tabled_set.specs.declared.which.Which.{Which}
+use Rattle.tabled_set.specs.declared.cell_filter.CellFilter.{CellFilter}
 use Rattle.tabled_config.specs.declared.spanned.SpannedConfig.{SpannedConfig}
 use Rattle.tabled_priority.specs.Permitted.{at}
 use Rattle.tabled_set.specs.Minimums.{side_padding}
@@ -10,13 +10,13 @@ use Rattle.tabled_set.specs.Minimums.{side_padding}
 abbrev pub is_permitted : List ℕ → List ℕ → ℕ → Bool
 is_permitted widths mins column = nat_lt column (length widths) && nat_le (at mins column) (at widths column)
 
--- a cell of such a column is changed for the room that its width leaves beside the cell's own padding, another stays
+-- a cell of such a column is changed for the content size that its width leaves beside the cell's own padding, another stays
 abbrev pub for_width : (ℕ → List ℕ → List ℕ → Type 0) → SpannedConfig → List ℕ → List ℕ → ℕ → ℕ → List ℕ → List ℕ → Type 0
 for_width change config widths mins row column before after =
     MatchBool (is_permitted widths mins column) (change (at widths column - side_padding config row column) before after) (after ≡ before)
 
 -- a text of such a column can't be changed without memory
-abbrev pub needs_for_width : Which → (ℕ → List ℕ → Type 0) → SpannedConfig → List ℕ → List ℕ → ℕ → ℕ → List ℕ → Type 0
-needs_for_width which in_place config widths mins row column text =
+abbrev pub needs_for_width : CellFilter → (ℕ → List ℕ → Type 0) → SpannedConfig → List ℕ → List ℕ → ℕ → ℕ → List ℕ → Type 0
+needs_for_width cell_filter in_place config widths mins row column text =
     (is_permitted widths mins column ≡ true)
-    × NeedsMemory which in_place (at widths column - side_padding config row column) text
+    × NeedsMemory cell_filter in_place (at widths column - side_padding config row column) text

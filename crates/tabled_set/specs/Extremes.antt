@@ -3,8 +3,8 @@ use Rattle.std.specs.Prelude.{ℕ, List, [], ◌∷◌, length, map, min}
 use Rattle.std.specs.List.{range_with_len}
 use Rattle.tabled_base.specs.Cells.{cell_at, columns}
 use Rattle.tabled_text.specs.Measure.{greatest, lines_of, text_columns}
-use Rattle.tabled_set.specs.declared.extremes.Extent.{Extent}
-use Rattle.tabled_set.specs.declared.extremes.Extent.TheVariants.{Columns, Lines}
+use Rattle.tabled_set.specs.declared.extremes.TextMeasure.{TextMeasure}
+use Rattle.tabled_set.specs.declared.extremes.TextMeasure.TheVariants.{Columns, Lines}
 use Rattle.tabled_set.specs.declared.extremes.Pick.{Pick}
 use Rattle.tabled_set.specs.declared.extremes.Pick.TheVariants.{Greatest, Least}
 
@@ -23,16 +23,16 @@ picked Greatest numbers = greatest numbers
 picked Least numbers = least numbers
 
 -- the columns of a text, or its lines
-abbrev pub extent_of : Extent → List ℕ → ℕ
+abbrev pub extent_of : TextMeasure → List ℕ → ℕ
 extent_of Columns text = text_columns text
 extent_of Lines text = length (lines_of text)
 
 -- the greatest or the least of a row's cells
-abbrev pub picked_in_row : Pick → Extent → List (List (List ℕ)) → ℕ → ℕ
+abbrev pub picked_in_row : Pick → TextMeasure → List (List (List ℕ)) → ℕ → ℕ
 picked_in_row pick extent cells row =
     picked pick (map (λ column. extent_of extent (cell_at cells row column)) (range_with_len 0 (columns cells)))
 
 -- the greatest or the least over the rows, of each row's greatest or least cell
-abbrev pub picked_of_rows : Pick → Pick → Extent → List (List (List ℕ)) → ℕ
+abbrev pub picked_of_rows : Pick → Pick → TextMeasure → List (List (List ℕ)) → ℕ
 picked_of_rows across within extent cells =
     picked across (map (picked_in_row within extent cells) (range_with_len 0 (length cells)))

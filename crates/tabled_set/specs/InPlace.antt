@@ -16,16 +16,16 @@ ended_text kept text = take kept.bytes text ++ kept.ending.now
 
 -- ---- the suffix
 
--- what stands for a suffix that takes its whole room or more is no part of it: copies of a character, or a beginning with
+-- what stands for a suffix that takes its whole content size or more is no part of it: copies of a character, or a beginning with
 -- U+FFFD behind it
 abbrev pub IsMadeFor : ℕ → List ℕ → SuffixLimit → Type 0
-IsMadeFor room suffix Cut = NeedsFill room suffix
-IsMadeFor room suffix Ignore = ⊥
-IsMadeFor room suffix (Replace c) = Unit {0}
+IsMadeFor content_size suffix Cut = NeedsFill content_size suffix
+IsMadeFor content_size suffix Ignore = ⊥
+IsMadeFor content_size suffix (Replace c) = Unit {0}
 
--- what stands for a suffix in a room is no part of it; in no room nothing stands, and a suffix that leaves a column is whole
+-- what stands for a suffix in a content size is no part of it; in no content size nothing stands, and a suffix that leaves a column is whole
 abbrev pub IsMade : ℕ → List ℕ → SuffixLimit → Type 0
-IsMade room suffix limit = MatchBool (room == 0) ⊥ (MatchBool (nat_lt (suffix_columns suffix) room) ⊥ (IsMadeFor room suffix limit))
+IsMade content_size suffix limit = MatchBool (content_size == 0) ⊥ (MatchBool (nat_lt (suffix_columns suffix) content_size) ⊥ (IsMadeFor content_size suffix limit))
 
 -- ---- the text
 
@@ -41,16 +41,16 @@ IsLeftAt left text bytes = MatchBool (left == 0) (bytes ≡ 0) (IsCutAt left tex
 
 -- a text is truncated in its place: as a whole, which its only line is too, and with an ending that takes no memory behind
 -- what is left of it
-pub record IsTruncatedInPlace (room : ℕ) (suffix : List ℕ) (limit : SuffixLimit) (multiline : Bool) (text : List ℕ) : Type 0 where
+pub record IsTruncatedInPlace (content_size : ℕ) (suffix : List ℕ) (limit : SuffixLimit) (multiline : Bool) (text : List ℕ) : Type 0 where
   pub one_line : multiline ≡ true → lines_of text ≡ text ∷ []
   pub used : List ℕ
   pub left : ℕ
-  pub suffix_used : IsUsed room suffix limit used left
-  pub lent : IsMade room suffix limit → ⊥
+  pub suffix_used : IsUsed content_size suffix limit used left
+  pub lent : IsMade content_size suffix limit → ⊥
   pub bytes : ℕ
   pub kept : IsLeftAt left text bytes
   pub fits : FitsBehind bytes used
 
--- so it is in a room
+-- so it is in a content size
 abbrev pub truncating_in_place : List ℕ → SuffixLimit → Bool → ℕ → List ℕ → Type 0
-truncating_in_place suffix limit multiline room text = IsTruncatedInPlace room suffix limit multiline text
+truncating_in_place suffix limit multiline content_size text = IsTruncatedInPlace content_size suffix limit multiline text

@@ -6,7 +6,7 @@ use Rattle.tabled_config.specs.declared.spanned.SpannedConfig.{SpannedConfig}
 use Rattle.tabled_size.specs.Estimates.{IsTooHigh, estimated_heights}
 use Rattle.tabled_size.specs.FilledIn.{HasNoEstimate, IsFilledIn}
 use Rattle.tabled_size.specs.Sheet.{estimated, is_empty}
-use Rattle.tabled_size.specs.Standing.{standing}
+use Rattle.tabled_size.specs.Effective.{effective}
 use Rattle.tabled_size.specs.Stored.{heights_of, widths_of}
 use Rattle.tabled_size.specs.Totals.{total_height, total_width}
 use Rattle.tabled_size.specs.declared.complete_dimension.CompleteDimension.{CompleteDimension}
@@ -20,7 +20,7 @@ use Rattle.tabled_set.specs.Growing.{IsGrownBy}
 pub record IsWidened {P : Type 0} (grows : P → List ℕ → ℕ → List ℕ → P → Type 0) (priority : P) (n : ℕ) (cells : List (List (List ℕ)))
     (config : SpannedConfig) (old new : CompleteDimension) : Type 0 where
   pub widths : List ℕ
-  pub grown : IsGrownBy grows priority (standing cells config old).widths (n - total_width (standing cells config old)) widths
+  pub grown : IsGrownBy grows priority (effective cells config old).widths (n - total_width (effective cells config old)) widths
   pub stored : widths_of new ≡ Some widths
   pub heights : heights_of new ≡ Some (unwrap_or (heights_of old) (estimated_heights cells config))
 
@@ -30,14 +30,14 @@ abbrev pub IncreasesWidth : {P : Type 0} → (P → List ℕ → ℕ → List �
     → CompleteDimension → Type 0
 IncreasesWidth grows priority n cells config old new =
     MatchBool (is_empty cells) (new ≡ old)
-    (MatchBool (nat_le n (total_width (standing cells config old))) (IsFilledIn old cells config new)
+    (MatchBool (nat_le n (total_width (effective cells config old))) (IsFilledIn old cells config new)
     (IsWidened grows priority n cells config old new))
 
 -- a failure of a table whose sizes were filled in: of memory, only where it has fewer than n
 -- columns
 pub record StopsWidening (n : ℕ) (error : TableError) (cells : List (List (List ℕ))) (config : SpannedConfig)
     (old new : CompleteDimension) : Type 0 where
-  pub narrower : error ≡ Memory → total_width (standing cells config old) < n
+  pub narrower : error ≡ Memory → total_width (effective cells config old) < n
   pub filled : IsFilledIn old cells config new
 
 -- what a failure leaves of the sizes: as they were, or filled in
@@ -47,7 +47,7 @@ StopsIncreasing n error cells config old new = StopsFilling error old new ⊎ St
 -- a sum passes the greatest number: the measure's, a cell's that isn't stored, or the total
 abbrev pub WidthOutOfRange : Type 0 → List (List (List ℕ)) → SpannedConfig → CompleteDimension → Type 0
 WidthOutOfRange measure_out_of_range cells config sizes =
-    (is_empty cells ≡ false) × (measure_out_of_range ⊎ (HasNoEstimate sizes cells config ⊎ (2 ^ 64 ≤ total_width (standing cells config sizes))))
+    (is_empty cells ≡ false) × (measure_out_of_range ⊎ (HasNoEstimate sizes cells config ⊎ (2 ^ 64 ≤ total_width (effective cells config sizes))))
 
 -- ---- the height, for which stored heights don't count
 

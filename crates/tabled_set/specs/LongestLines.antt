@@ -6,7 +6,7 @@ use Rattle.tabled_text.specs.Longest.{IsLongestCut}
 use Rattle.tabled_text.specs.Measure.{lines_of}
 
 -- each line of a text became a line of its own, of those whose characters count as their columns the longest beginning that fits
-pub record HasLongestLines (room : ℕ) (text answer : List ℕ) : Type 0 where
+pub record HasLongestLines (content_size : ℕ) (text answer : List ℕ) : Type 0 where
   pub lines : List (List ℕ)
-  pub each : AllZip (λ line cut. IsExactLine line → IsLongestCut room line cut) (lines_of text) lines
+  pub each : AllZip (λ line cut. IsExactLine line → IsLongestCut content_size line cut) (lines_of text) lines
   pub joined : answer ≡ join_with_byte 10 lines

@@ -1,4 +1,4 @@
--- Tables whose columns shrink to a total, and whose cells are changed for the rooms that these leave.
+-- Tables whose columns shrink to a total, and whose cells are changed for the content sizes that these leave.
 use Rattle.std.specs.Prelude.{◌≡◌, ◌⊎◌, ◌<◌, ◌≤◌, ◌^◌, ℕ, ◌-◌, true, false, nat_le, List, MatchBool, Some, None, length, take}
 use Rattle.tabled_base.specs.declared.error.TableError.{TableError}
 use Rattle.tabled_base.specs.declared.error.TableError.TheVariants.{Memory}
@@ -7,13 +7,13 @@ use Rattle.tabled_priority.specs.Permitted.{IsPermitted}
 use Rattle.tabled_size.specs.Estimates.{IsTooWide}
 use Rattle.tabled_size.specs.FilledIn.{HasNoEstimate, IsFilledIn}
 use Rattle.tabled_size.specs.Sheet.{Sheet, is_empty}
-use Rattle.tabled_size.specs.Standing.{standing}
+use Rattle.tabled_size.specs.Effective.{effective}
 use Rattle.tabled_size.specs.Stored.{heights_of, widths_of}
 use Rattle.tabled_size.specs.Totals.{total_width}
 use Rattle.tabled_size.specs.declared.complete_dimension.CompleteDimension.{CompleteDimension}
 use Rattle.tabled_set.specs.CellChanges.{AreChanged, AreChangedBefore, if_taken}
-use Rattle.tabled_set.specs.declared.order.Order.TheVariants.{ByColumn}
-use Rattle.tabled_set.specs.declared.which.Which.{Which}
+use Rattle.tabled_set.specs.declared.walk_order.WalkOrder.TheVariants.{ByColumn}
+use Rattle.tabled_set.specs.declared.cell_filter.CellFilter.{CellFilter}
 use Rattle.tabled_set.specs.ColumnChanges.{for_width, needs_for_width}
 use Rattle.tabled_set.specs.Filling.{StopsFilling}
 use Rattle.tabled_set.specs.Minimums.{emptied, minimums}
@@ -25,21 +25,21 @@ pub record IsShrunkTo {P : Type 0} (shrinks : P → List ℕ → List ℕ → �
   pub shrunk : shrinks priority t.widths (take (length t.widths) (minimums t.cells t.config)) (total_width t - n) widths last
   pub permitted : IsPermitted t.widths (take (length t.widths) (minimums t.cells t.config)) widths
 
--- a cell of a column that isn't below its minimum is changed for the room that the column leaves it, another stays
-abbrev pub for_room : (ℕ → List ℕ → List ℕ → Type 0) → Sheet → List ℕ → ℕ → ℕ → List ℕ → List ℕ → Type 0
-for_room change t widths = for_width change t.config widths (minimums t.cells t.config)
+-- a cell of a column that isn't below its minimum is changed for the content size that the column leaves it, another stays
+abbrev pub for_content_size : (ℕ → List ℕ → List ℕ → Type 0) → Sheet → List ℕ → ℕ → ℕ → List ℕ → List ℕ → Type 0
+for_content_size change t widths = for_width change t.config widths (minimums t.cells t.config)
 
--- it has such a room, and a text that can't be changed without memory
-abbrev pub needs_for_room : Which → (ℕ → List ℕ → Type 0) → Sheet → List ℕ → ℕ → ℕ → List ℕ → Type 0
-needs_for_room which in_place t widths = needs_for_width which in_place t.config widths (minimums t.cells t.config)
+-- it has such a content size, and a text that can't be changed without memory
+abbrev pub needs_for_content_size : CellFilter → (ℕ → List ℕ → Type 0) → Sheet → List ℕ → ℕ → ℕ → List ℕ → Type 0
+needs_for_content_size cell_filter in_place t widths = needs_for_width cell_filter in_place t.config widths (minimums t.cells t.config)
 
--- a table wider than n is narrowed: its widths are shrunk and stored, every cell is changed for its room, and its
+-- a table wider than n is narrowed: its widths are shrunk and stored, every cell is changed for its content size, and its
 -- heights are to be estimated anew
 pub record IsNarrowed {P : Type 0} (shrinks : P → List ℕ → List ℕ → ℕ → List ℕ → P → Type 0) (priority : P) (change : ℕ → List ℕ → List ℕ → Type 0)
     (n : ℕ) (t : Sheet) (cells : List (List (List ℕ))) (sizes : CompleteDimension) : Type 0 where
   pub widths : List ℕ
   pub shrunk : IsShrunkTo shrinks priority n t widths
-  pub changed : AreChanged (λ row column. true) (for_room change t widths) t.cells cells
+  pub changed : AreChanged (λ row column. true) (for_content_size change t widths) t.cells cells
   pub stored : widths_of sizes ≡ Some widths
   pub cleared : heights_of sizes ≡ None
 
@@ -49,40 +49,40 @@ abbrev pub Narrows : {P : Type 0} → (P → List ℕ → List ℕ → ℕ → L
     → SpannedConfig → CompleteDimension → List (List (List ℕ)) → CompleteDimension → Type 0
 Narrows shrinks priority change n cells config sizes cells' sizes' =
     MatchBool (is_empty cells) ((cells' ≡ cells) × (sizes' ≡ sizes))
-    (MatchBool (nat_le (total_width (standing cells config sizes)) n) ((cells' ≡ cells) × IsFilledIn sizes cells config sizes')
-    (IsNarrowed shrinks priority change n (standing cells config sizes) cells' sizes'))
+    (MatchBool (nat_le (total_width (effective cells config sizes)) n) ((cells' ≡ cells) × IsFilledIn sizes cells config sizes')
+    (IsNarrowed shrinks priority change n (effective cells config sizes) cells' sizes'))
 
 -- memory failed at a cell of a table wider than n whose text can't be changed without: the cells
 -- before it, column by column, are changed, and it and the others are the old ones
-pub record IsNarrowedBefore {P : Type 0} (shrinks : P → List ℕ → List ℕ → ℕ → List ℕ → P → Type 0) (priority : P) (which : Which)
+pub record IsNarrowedBefore {P : Type 0} (shrinks : P → List ℕ → List ℕ → ℕ → List ℕ → P → Type 0) (priority : P) (cell_filter : CellFilter)
     (in_place : ℕ → List ℕ → Type 0) (change : ℕ → List ℕ → List ℕ → Type 0) (n : ℕ) (t : Sheet) (cells : List (List (List ℕ))) : Type 0 where
   pub wider : n < total_width t
   pub widths : List ℕ
   pub shrunk : IsShrunkTo shrinks priority n t widths
-  pub changed : AreChangedBefore ByColumn (λ row column. true) (needs_for_room which in_place t widths) (for_room (if_taken which change) t widths) t.cells cells
+  pub changed : AreChangedBefore ByColumn (λ row column. true) (needs_for_content_size cell_filter in_place t widths) (for_content_size (if_taken cell_filter change) t widths) t.cells cells
 
 -- a failure of a table whose sizes were filled in: it is wider than n. All cells are as they were,
 -- or with `Memory` those before the one at which it stopped are changed
-pub record StopsShrinking {P : Type 0} (shrinks : P → List ℕ → List ℕ → ℕ → List ℕ → P → Type 0) (priority : P) (which : Which)
+pub record StopsShrinking {P : Type 0} (shrinks : P → List ℕ → List ℕ → ℕ → List ℕ → P → Type 0) (priority : P) (cell_filter : CellFilter)
     (in_place : ℕ → List ℕ → Type 0) (change : ℕ → List ℕ → List ℕ → Type 0) (n : ℕ) (error : TableError) (cells : List (List (List ℕ)))
     (config : SpannedConfig) (sizes : CompleteDimension) (cells' : List (List (List ℕ))) (sizes' : CompleteDimension) : Type 0 where
-  pub wider : n < total_width (standing cells config sizes)
+  pub wider : n < total_width (effective cells config sizes)
   pub filled : IsFilledIn sizes cells config sizes'
-  pub stopped : (cells' ≡ cells) ⊎ ((error ≡ Memory) × IsNarrowedBefore shrinks priority which in_place change n (standing cells config sizes) cells')
+  pub stopped : (cells' ≡ cells) ⊎ ((error ≡ Memory) × IsNarrowedBefore shrinks priority cell_filter in_place change n (effective cells config sizes) cells')
 
 -- what a failure leaves: all as it was while sizes were estimated, or of a wider table what
 -- shrinking leaves
-abbrev pub StopsNarrowing : {P : Type 0} → (P → List ℕ → List ℕ → ℕ → List ℕ → P → Type 0) → P → Which → (ℕ → List ℕ → Type 0)
+abbrev pub StopsNarrowing : {P : Type 0} → (P → List ℕ → List ℕ → ℕ → List ℕ → P → Type 0) → P → CellFilter → (ℕ → List ℕ → Type 0)
     → (ℕ → List ℕ → List ℕ → Type 0) → ℕ → TableError → List (List (List ℕ)) → SpannedConfig → CompleteDimension → List (List (List ℕ))
     → CompleteDimension → Type 0
-StopsNarrowing shrinks priority which in_place change n error cells config sizes cells' sizes' =
+StopsNarrowing shrinks priority cell_filter in_place change n error cells config sizes cells' sizes' =
     ((cells' ≡ cells) × StopsFilling error sizes sizes')
-    ⊎ StopsShrinking shrinks priority which in_place change n error cells config sizes cells' sizes'
+    ⊎ StopsShrinking shrinks priority cell_filter in_place change n error cells config sizes cells' sizes'
 
 -- the total passes the greatest number, or the padding of a cell of a table wider than n
 abbrev pub WiderOutOfRange : ℕ → List (List (List ℕ)) → SpannedConfig → CompleteDimension → Type 0
 WiderOutOfRange n cells config sizes =
-    (2 ^ 64 ≤ total_width (standing cells config sizes)) ⊎ ((n < total_width (standing cells config sizes)) × IsTooWide (emptied cells) config)
+    (2 ^ 64 ≤ total_width (effective cells config sizes)) ⊎ ((n < total_width (effective cells config sizes)) × IsTooWide (emptied cells) config)
 
 -- a sum passes the greatest number: the measure's, a cell's that isn't stored, or one that narrowing to n needs
 abbrev pub NarrowingOutOfRange : Type 0 → ℕ → List (List (List ℕ)) → SpannedConfig → CompleteDimension → Type 0

@@ -1,4 +1,4 @@
--- Endings of additive characters, with which truncated additive texts stay in their room.
+-- Endings of additive characters, with which truncated additive texts stay in their content size.
 use Rattle.tabled_text.specs.Plain.{IsAdditiveColumn}
 use Rattle.tabled_set.specs.declared.suffix.SuffixLimit.{SuffixLimit}
 use Rattle.tabled_set.specs.declared.suffix.SuffixLimit.TheVariants.{Cut, Ignore, Replace}

@@ -3,29 +3,29 @@ use Rattle.std.specs.Prelude.{◌≡◌, ℕ, ◌-◌, List, ◌++◌, encode_ut
 use Rattle.std.specs.List.{join_with_byte}
 use Rattle.tabled_text.specs.Measure.{line_columns, lines_of}
 
--- behind a line as many of a character as the line has columns less than the room
+-- behind a line as many of a character as the line has columns less than the content size
 abbrev pub filled_line : ℕ → ℕ → List ℕ → List ℕ
-filled_line c room line = line ++ encode_utf8_all (replicate (room - line_columns line) c)
+filled_line c content_size line = line ++ encode_utf8_all (replicate (content_size - line_columns line) c)
 
 -- so behind each line of a text
 abbrev pub filled : ℕ → ℕ → List ℕ → List ℕ
-filled c room text = join_with_byte 10 (map (filled_line c room) (lines_of text))
+filled c content_size text = join_with_byte 10 (map (filled_line c content_size) (lines_of text))
 
--- behind the text as many line feeds as it has lines less than the room
+-- behind the text as many line feeds as it has lines less than the content size
 abbrev pub lengthened : ℕ → List ℕ → List ℕ
-lengthened room text = text ++ replicate (room - length (lines_of text)) 10
+lengthened content_size text = text ++ replicate (content_size - length (lines_of text)) 10
 
--- as many lines as the room has, the first ones, or all; no line is the empty text
+-- as many lines as the content size has, the first ones, or all; no line is the empty text
 abbrev pub limited : ℕ → List ℕ → List ℕ
-limited room text = join_with_byte 10 (take room (lines_of text))
+limited content_size text = join_with_byte 10 (take content_size (lines_of text))
 
--- ---- what is made of a text in a room
+-- ---- what is made of a text in a content size
 
 abbrev pub filling : ℕ → ℕ → List ℕ → List ℕ → Type 0
-filling c room before after = after ≡ filled c room before
+filling c content_size before after = after ≡ filled c content_size before
 
 abbrev pub lengthening : ℕ → List ℕ → List ℕ → Type 0
-lengthening room before after = after ≡ lengthened room before
+lengthening content_size before after = after ≡ lengthened content_size before
 
 abbrev pub limiting : ℕ → List ℕ → List ℕ → Type 0
-limiting room before after = after ≡ limited room before
+limiting content_size before after = after ≡ limited content_size before

@@ -1,4 +1,4 @@
--- What a text becomes where it is truncated to a room of some columns with a suffix. Texts are lists of bytes.
+-- What a text becomes where it is truncated to a content size of some columns with a suffix. Texts are lists of bytes.
 use Rattle.std.specs.Prelude.{◌≡◌, ℕ, ◌+◌, ◌-◌, Bool, ◌==◌, nat_lt, List, [], ◌++◌, MatchBool, encode_utf8_all, length, replicate, sum_by}
 use Rattle.std.specs.List.{AllZip, join_with_byte}
 use Rattle.tabled_text.specs.Cut.{IsCut}
@@ -12,19 +12,19 @@ use Rattle.tabled_set.specs.declared.suffix.SuffixLimit.TheVariants.{Cut, Ignore
 abbrev pub suffix_columns : List ℕ → ℕ
 suffix_columns suffix = sum_by line_columns (lines_of suffix) + (length (lines_of suffix) - 1)
 
--- what stands for a suffix that takes its whole room or more, and the columns that it leaves to the text
+-- what stands for a suffix that takes its whole content size or more, and the columns that it leaves to the text
 abbrev pub IsLimited : ℕ → List ℕ → SuffixLimit → List ℕ → ℕ → Type 0
-IsLimited room suffix Cut used left = IsCut room suffix used × (left ≡ 0)
-IsLimited room suffix Ignore used left = (used ≡ []) × (left ≡ room)
-IsLimited room suffix (Replace c) used left = (used ≡ encode_utf8_all (replicate room c)) × (left ≡ 0)
+IsLimited content_size suffix Cut used left = IsCut content_size suffix used × (left ≡ 0)
+IsLimited content_size suffix Ignore used left = (used ≡ []) × (left ≡ content_size)
+IsLimited content_size suffix (Replace c) used left = (used ≡ encode_utf8_all (replicate content_size c)) × (left ≡ 0)
 
 -- what stands for a suffix, and the columns that it leaves: the whole suffix where it leaves any, else what its limit
--- says; nothing stands in no room
+-- says; nothing stands in no content size
 abbrev pub IsUsed : ℕ → List ℕ → SuffixLimit → List ℕ → ℕ → Type 0
-IsUsed room suffix limit used left =
-    MatchBool (room == 0) ((used ≡ []) × (left ≡ 0))
-    (MatchBool (nat_lt (suffix_columns suffix) room) ((used ≡ suffix) × (left ≡ room - suffix_columns suffix))
-    (IsLimited room suffix limit used left))
+IsUsed content_size suffix limit used left =
+    MatchBool (content_size == 0) ((used ≡ []) × (left ≡ 0))
+    (MatchBool (nat_lt (suffix_columns suffix) content_size) ((used ≡ suffix) × (left ≡ content_size - suffix_columns suffix))
+    (IsLimited content_size suffix limit used left))
 
 -- ---- the text
 
@@ -44,11 +44,11 @@ pub record HasEndedLines (left : ℕ) (used text answer : List ℕ) : Type 0 whe
   pub each : AllZip (IsEnded left used) (lines_of text) lines
   pub joined : answer ≡ join_with_byte 10 lines
 
--- a text truncated to a room with a suffix, as a whole or each of its lines
-pub record IsTruncated (room : ℕ) (suffix : List ℕ) (limit : SuffixLimit) (multiline : Bool) (text answer : List ℕ) : Type 0 where
+-- a text truncated to a content size with a suffix, as a whole or each of its lines
+pub record IsTruncated (content_size : ℕ) (suffix : List ℕ) (limit : SuffixLimit) (multiline : Bool) (text answer : List ℕ) : Type 0 where
   pub used : List ℕ
   pub left : ℕ
-  pub suffix_used : IsUsed room suffix limit used left
+  pub suffix_used : IsUsed content_size suffix limit used left
   pub answered : MatchBool multiline (HasEndedLines left used text answer) (IsEnded left used text answer)
 
 -- ---- for the private functions that append a text

@@ -1,22 +1,22 @@
-//! Columns whose cells are changed for the rooms that their widths leave.
+//! Columns whose cells are changed for the content sizes that their widths leave.
 ghost use Rattle.std.specs.Prelude.{◌≡◌, None, Some, if◌then◌else◌, ◌-◌, IfErr, OnErr, OnOk, true};
 ghost use Rattle.tabled_base.specs.declared.error.TableError.TheVariants.{Memory};
 ghost use Rattle.tabled_set.specs.CellChanges.{AreChanged, AreChangedBefore, if_taken};
-ghost use Rattle.tabled_set.specs.declared.order.Order.TheVariants.{ByColumn};
+ghost use Rattle.tabled_set.specs.declared.walk_order.WalkOrder.TheVariants.{ByColumn};
 ghost use Rattle.tabled_priority.specs.Permitted.{at};
 ghost use Rattle.tabled_set.specs.ColumnChanges.{for_width, is_permitted, needs_for_width};
 ghost use Rattle.tabled_set.specs.Minimums.{side_padding};
 
-use crate::changing::{Change, TextRule};
-use crate::order::Order;
-use crate::rooms::Rooms;
+use crate::cell_filter::CellFilter;
+use crate::changing::{Change, TextTransform};
+use crate::content_sizes::ContentSizes;
 use crate::walk::change_cells;
-use crate::which::Which;
+use crate::walk_order::WalkOrder;
 use tabled_base::{Entity, Position, RecordsMut, TableError};
 use tabled_config::SpannedConfig;
 
 /// The columns that a width leaves beside the side padding of a cell, 0 where it leaves none.
-fn room_beside(config: &SpannedConfig, at: Position, width: usize) -> usize
+fn content_width_beside(config: &SpannedConfig, at: Position, width: usize) -> usize
     ensures { result ≡ width - side_padding config.now at.row at.column }
 {
     let padding = config.get_padding(at);
@@ -44,50 +44,54 @@ impl ColumnWidths {
     }
 }
 
-/// The room that a column leaves each of its cells beside the cell's own padding. The cells of a column below its
+/// The content size that a column leaves each of its cells beside the cell's own padding. The cells of a column below its
 /// minimum have none.
 #[derive(Drop)]
-struct ColumnRooms<'a> {
+struct ColumnContentWidths<'a> {
     config: &'a SpannedConfig,
     sizes: &'a ColumnWidths,
 }
 
-impl<'a> Rooms for ColumnRooms<'a> {
-    ghost room_at = { λ s row column. if is_permitted s.sizes.now.widths.items s.sizes.now.mins.items column
+impl<'a> ContentSizes for ColumnContentWidths<'a> {
+    ghost content_size_at = { λ s row column. if is_permitted s.sizes.now.widths.items s.sizes.now.mins.items column
         then Some (at s.sizes.now.widths.items column - side_padding s.config.now row column) else None };
 
-    fn room(&self, at: Position) -> Option<usize> {
+    fn content_size(&self, at: Position) -> Option<usize> {
         match self.sizes.permitted_width(at.column) {
             None => None,
-            Some(width) => Some(room_beside(self.config, at, width)),
+            Some(width) => Some(content_width_beside(self.config, at, width)),
         }
     }
 }
 
 /// Changes the cells of each column that has one of the widths, not below its minimum, column by column
 /// from the top.
-pub(crate) fn change_columns<T: TextRule, R: RecordsMut>(
-    rule: &T,
-    which: Which,
+pub(crate) fn change_columns<T: TextTransform, R: RecordsMut>(
+    transform: &T,
+    cell_filter: CellFilter,
     records: &mut R,
     config: &SpannedConfig,
     sizes: &ColumnWidths,
 ) -> Result<(), TableError>
     ensures ok { OnOk result (AreChanged (λ r c. true)
-        (for_width (if_taken which (T.makes rule.now)) config.now sizes.now.widths.items sizes.now.mins.items)
+        (for_width (if_taken cell_filter (T.makes transform.now)) config.now sizes.now.widths.items sizes.now.mins.items)
         (R.cells records.old) (R.cells records.new)) }
     ensures err { OnErr result (AreChangedBefore ByColumn (λ r c. true)
-        (needs_for_width which (T.shortens rule.now) config.now
+        (needs_for_width cell_filter (T.shortens transform.now) config.now
         sizes.now.widths.items sizes.now.mins.items)
-        (for_width (if_taken which (T.makes rule.now)) config.now sizes.now.widths.items sizes.now.mins.items)
+        (for_width (if_taken cell_filter (T.makes transform.now)) config.now sizes.now.widths.items sizes.now.mins.items)
         (R.cells records.old) (R.cells records.new)) }
     ensures only { IfErr result (λ e. e ≡ Memory) }
 {
-    let rooms = &ColumnRooms { config, sizes };
+    let content_sizes = &ColumnContentWidths { config, sizes };
     change_cells(
-        &Change { rule, which, rooms },
+        &Change {
+            transform,
+            cell_filter,
+            content_sizes,
+        },
         records,
-        Order::ByColumn,
+        WalkOrder::ByColumn,
         Entity::Global,
     )
 }

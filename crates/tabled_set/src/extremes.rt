@@ -8,20 +8,20 @@ use tabled_base::{PeekableRecords, Position};
 
 /// What a text takes: columns, or lines.
 #[derive(Clone, Copy)]
-pub(crate) enum Extent {
+pub(crate) enum TextMeasure {
     Columns,
     Lines,
 }
 
-impl Extent {
+impl TextMeasure {
     /// What a cell takes.
     fn of_cell<R: PeekableRecords>(self, records: &R, at: Position) -> usize
         requires { IsInside (R.cells records.now) at.row at.column }
         ensures { result ≡ extent_of self (cell_at (R.cells records.now) at.row at.column) }
     {
         match self {
-            Extent::Columns => records.get_width(at),
-            Extent::Lines => records.count_lines(at),
+            TextMeasure::Columns => records.get_width(at),
+            TextMeasure::Lines => records.count_lines(at),
         }
     }
 }
@@ -47,7 +47,12 @@ impl Pick {
 }
 
 /// The greatest or the least that the cells of a row take, 0 where it has none.
-fn picked_in_row<R: PeekableRecords>(within: Pick, extent: Extent, records: &R, row: usize) -> usize
+fn picked_in_row<R: PeekableRecords>(
+    within: Pick,
+    extent: TextMeasure,
+    records: &R,
+    row: usize,
+) -> usize
     requires { row < length (R.cells records.now) }
     ensures { result ≡ picked_in_row within extent (R.cells records.now) row }
 {
@@ -66,7 +71,7 @@ fn picked_in_row<R: PeekableRecords>(within: Pick, extent: Extent, records: &R, 
 pub(crate) fn picked_of_rows<R: PeekableRecords>(
     across: Pick,
     within: Pick,
-    extent: Extent,
+    extent: TextMeasure,
     records: &R,
 ) -> usize
     ensures { result ≡ picked_of_rows across within extent (R.cells records.now) }

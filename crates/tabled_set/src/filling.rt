@@ -1,29 +1,34 @@
-//! The rule by which the lines of a text are filled up.
+//! The transform by which the lines of a text are filled up.
 ghost use Rattle.std.specs.Prelude.{◌≡◌};
 ghost use Rattle.tabled_set.specs.TextLines.{filling};
 
-use crate::changing::{Beginning, TextRule};
+use crate::changing::{Beginning, TextTransform};
 use std::alloc::Global;
 use tabled_base::TableError;
 use tabled_text::{line_width, lines, push_copies};
 
-/// Puts a character behind each line of a text, as often as the line has columns less than the room.
+/// Puts a character behind each line of a text, as often as the line has columns less than the content size.
 #[derive(Clone, Copy, Debug, PartialEq, Eq, PartialOrd, Ord)]
 pub struct Filling {
     /// The character, which is taken for one column.
     pub fill: char,
 }
 
-impl TextRule for Filling {
+impl TextTransform for Filling {
     ghost makes = { λ s. filling s.fill };
 
-    ghost shortens = { λ s room text. ⊥ };
+    ghost shortens = { λ s content_size text. ⊥ };
 
     fn beginning(&self, _text: &str, _room: usize) -> Option<Beginning<'_>> {
         None
     }
 
-    fn changed_text(&self, alloc: Global, text: &str, room: usize) -> Result<String, TableError> {
+    fn changed_text(
+        &self,
+        alloc: Global,
+        text: &str,
+        content_size: usize,
+    ) -> Result<String, TableError> {
         let mut answer = String::new(alloc);
         let mut begun = false;
         for line in lines(text) {
@@ -32,7 +37,7 @@ impl TextRule for Filling {
             }
             begun = true;
             answer.push_str(line)?;
-            let wanting = room.saturating_sub(line_width(line));
+            let wanting = content_size.saturating_sub(line_width(line));
             push_copies(&mut answer, self.fill, wanting)?;
         }
         Ok(answer)

@@ -7,7 +7,7 @@ ghost use Rattle.tabled_set.specs.Limited.{LimitsHeight, StopsLimiting};
 ghost use Rattle.tabled_set.specs.Promised.{LimitsAsPromised};
 ghost use Rattle.tabled_size.specs.Cleared.{AreCleared};
 ghost use Rattle.tabled_size.specs.Sheet.{is_empty};
-ghost use Rattle.tabled_size.specs.Standing.{standing};
+ghost use Rattle.tabled_size.specs.Effective.{effective};
 ghost use Rattle.tabled_size.specs.declared.complete_dimension.CompleteDimension.{CompleteDimension};
 
 use crate::height_option::{CellHeight, TableHeight};
@@ -68,7 +68,7 @@ impl<W: Measurement<Height> + Drop, R: RecordsMut> TableOption<R, ColoredConfig,
     // Of the sizes that are left once what is hinted was forgotten.
     ghost promises = { λ s r c d r' c' d'. (left : CompleteDimension) → AreCleared None d' left
         → LimitsAsPromised shrinks_in_turn first_in_turn (W.measures s.height (R.cells r) c.config)
-        (R.cells r) c.config (standing (R.cells r') c'.config left) };
+        (R.cells r) c.config (effective (R.cells r') c'.config left) };
 
     ghost hint = { λ s. None };
 
@@ -108,7 +108,7 @@ impl<W: Measurement<Height> + Drop, P: Peaker + Drop, R: RecordsMut> TableOption
     // Of the sizes that are left once what is hinted was forgotten.
     ghost promises = { λ s r c d r' c' d'. (left : CompleteDimension) → AreCleared None d' left
         → LimitsAsPromised P.shrinks s.priority (W.measures s.height (R.cells r) c.config)
-        (R.cells r) c.config (standing (R.cells r') c'.config left) };
+        (R.cells r) c.config (effective (R.cells r') c'.config left) };
 
     ghost hint = { λ s. None };
 

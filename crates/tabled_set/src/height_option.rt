@@ -1,4 +1,4 @@
-//! Options of heights: a rule for the lines of texts, a measure of lines, and the order in which rows change.
+//! Options of heights: a transform for the lines of texts, a measure of lines, and the order in which rows change.
 ghost use Rattle.std.specs.Prelude.{◌≡◌};
 ghost use Rattle.tabled_set.specs.CellChanges.{ChangesEntity, StopsEntity, if_taken};
 
@@ -9,17 +9,17 @@ use tabled_base::{CellOption, Entity, RecordsMut, TableError};
 use tabled_config::ColoredConfig;
 use tabled_size::{Peaker, PriorityNone};
 
-/// A rule by which cells get the lines of a measure. As an option of a table it changes the rows, one after the other.
+/// A transform by which cells get the lines of a measure. As an option of a table it changes the rows, one after the other.
 #[derive(Clone, Copy, Debug, PartialEq, Eq, PartialOrd, Ord)]
 pub struct CellHeight<T, W = usize> {
-    rule: T,
+    transform: T,
     pub(crate) height: W,
 }
 
-/// A rule by which a table gets the lines of a measure, and the order in which its rows change.
+/// A transform by which a table gets the lines of a measure, and the order in which its rows change.
 #[derive(Clone, Debug, Drop)]
 pub struct TableHeight<T, W = usize, P = PriorityNone> {
-    rule: T,
+    transform: T,
     pub(crate) height: W,
     pub(crate) priority: P,
 }
@@ -45,7 +45,7 @@ impl<T: LineRule, W> CellHeight<T, W> {
         ensures { result.height ≡ height }
     {
         CellHeight {
-            rule: T::rule(),
+            transform: T::transform(),
             height,
         }
     }
@@ -54,10 +54,10 @@ impl<T: LineRule, W> CellHeight<T, W> {
     pub fn priority<P: Peaker>(self, priority: P) -> TableHeight<T, W, P>
     where
         W: Measurement<Height>,
-        ensures { result ≡ record { rule = self.rule; height = self.height; priority = priority } }
+        ensures { result ≡ record { transform = self.transform; height = self.height; priority = priority } }
     {
         TableHeight {
-            rule: self.rule,
+            transform: self.transform,
             height: self.height,
             priority,
         }
@@ -79,25 +79,25 @@ impl<T: LineRule, W> TableHeight<T, W> {
 impl<T, W, P: Drop> TableHeight<T, W, P> {
     /// The order in which the rows grow or shrink.
     pub fn priority<Q: Peaker>(self, priority: Q) -> TableHeight<T, W, Q>
-        ensures { result ≡ record { rule = self.rule; height = self.height; priority = priority } }
+        ensures { result ≡ record { transform = self.transform; height = self.height; priority = priority } }
     {
         TableHeight {
-            rule: self.rule,
+            transform: self.transform,
             height: self.height,
             priority,
         }
     }
 }
 
-/// The entity's cells of fewer lines than the measure, or of more, are changed by the rule, and no other cell changes.
+/// The entity's cells of fewer lines than the measure, or of more, are changed by the transform, and no other cell changes.
 /// Where the measure is refused, with `Range`, no cell has changed; where memory is, those before the refused one have,
 /// row by row.
 impl<T: LineRule, W: Measurement<Height>, R: RecordsMut> CellOption<R, ColoredConfig>
     for CellHeight<T, W> {
-    ghost changes = { λ s r c e r' c'. ChangesEntity (if_taken T.WHICH (T.makes s.rule))
+    ghost changes = { λ s r c e r' c'. ChangesEntity (if_taken T.WHICH (T.makes s.transform))
         (W.measures s.height (R.cells r) c.config) e (R.cells r) (R.cells r') × (c' ≡ c) };
 
-    ghost refuses = { λ s f r c e r' c'. StopsEntity T.WHICH (T.shortens s.rule) (T.makes s.rule)
+    ghost refuses = { λ s f r c e r' c'. StopsEntity T.WHICH (T.shortens s.transform) (T.makes s.transform)
         (W.measures s.height (R.cells r) c.config) e f (R.cells r) (R.cells r') × (c' ≡ c) };
 
     ghost out_of_range = { λ s r c e. W.out_of_range s.height (R.cells r) c.config };
@@ -108,7 +108,14 @@ impl<T: LineRule, W: Measurement<Height>, R: RecordsMut> CellOption<R, ColoredCo
         cfg: &mut ColoredConfig,
         entity: Entity,
     ) -> Result<(), TableError> {
-        change_measured::<Height, _, _, _>(&self.height, &self.rule, T::WHICH, records, cfg, entity)
+        change_measured::<Height, _, _, _>(
+            &self.height,
+            &self.transform,
+            T::WHICH,
+            records,
+            cfg,
+            entity,
+        )
     }
 
     fn hint_change(&self) -> Option<Entity> {

@@ -5,7 +5,7 @@ ghost use Rattle.tabled_set.specs.Increased.{IncreasesHeight, IncreasesWidth, St
 ghost use Rattle.tabled_size.specs.Estimates.{IsTooHigh, estimated_heights};
 ghost use Rattle.tabled_size.specs.FilledIn.{HasNoEstimate};
 ghost use Rattle.tabled_size.specs.Sheet.{estimated, is_empty};
-ghost use Rattle.tabled_size.specs.Standing.{standing};
+ghost use Rattle.tabled_size.specs.Effective.{effective};
 ghost use Rattle.tabled_size.specs.Totals.{total_height, total_width};
 
 use crate::priority_lists::{first_sizes, grown};
@@ -34,7 +34,7 @@ pub fn increase_width<P: Peaker + Drop, R: PeekableRecords>(
         (R.cells records.now) config.now sizes.old sizes.new) }
     ensures err { IfErr result (λ e. (e ≡ Memory) ⊎ ((e ≡ Range)
         × (HasNoEstimate sizes.old (R.cells records.now) config.now
-        ⊎ (2 ^ 64 ≤ total_width (standing (R.cells records.now) config.now sizes.old))))) }
+        ⊎ (2 ^ 64 ≤ total_width (effective (R.cells records.now) config.now sizes.old))))) }
 {
     sizes.estimate(records, config)?;
     let columns = records.count_columns();

@@ -3,13 +3,13 @@ ghost use Rattle.std.specs.Prelude.{◌≡◌};
 ghost use Rattle.tabled_base.specs.declared.position.Entity.TheVariants.{Global};
 ghost use Rattle.tabled_set.specs.CellChanges.{ChangesEntity, StopsEntity, never_in_place};
 ghost use Rattle.tabled_set.specs.Justified.{IsJustified};
-ghost use Rattle.tabled_set.specs.declared.which.Which.TheVariants.{NotAsWide};
+ghost use Rattle.tabled_set.specs.declared.cell_filter.CellFilter.TheVariants.{NotAsWide};
 
+use crate::cell_filter::CellFilter;
 use crate::justifying::Justifying;
 use crate::max_min::{Max, Min};
 use crate::measured::change_measured;
 use crate::measurement::{Measurement, Width};
-use crate::which::Which;
 use tabled_base::{Entity, RecordsMut, TableError, TableOption};
 use tabled_config::ColoredConfig;
 
@@ -67,7 +67,7 @@ impl<W: Measurement<Width> + Drop, R: RecordsMut, D> TableOption<R, ColoredConfi
         change_measured::<Width, _, _, _>(
             &self.width,
             &Justifying,
-            Which::NotAsWide,
+            CellFilter::NotAsWide,
             records,
             cfg,
             Entity::Global,

@@ -1,8 +1,8 @@
-//! The rule by which a text gets just the columns of its room.
+//! The transform by which a text gets just the columns of its content size.
 ghost use Rattle.std.specs.Prelude.{◌≡◌};
 ghost use Rattle.tabled_set.specs.Justified.{IsJustified};
 
-use crate::changing::{Beginning, TextRule};
+use crate::changing::{Beginning, TextTransform};
 use crate::filling::Filling;
 use crate::suffix::SuffixLimit;
 use crate::truncating::Truncating;
@@ -14,22 +14,27 @@ use tabled_text::text_width;
 #[derive(Clone, Copy, Debug)]
 pub struct Justifying;
 
-impl TextRule for Justifying {
+impl TextTransform for Justifying {
     ghost makes = { λ s. IsJustified };
 
-    ghost shortens = { λ s room text. ⊥ };
+    ghost shortens = { λ s content_size text. ⊥ };
 
     fn beginning(&self, _text: &str, _room: usize) -> Option<Beginning<'_>> {
         None
     }
 
-    fn changed_text(&self, alloc: Global, text: &str, room: usize) -> Result<String, TableError> {
-        let filled = if text_width(text) < room {
-            Filling { fill: ' ' }.changed_text(alloc, text, room)?
+    fn changed_text(
+        &self,
+        alloc: Global,
+        text: &str,
+        content_size: usize,
+    ) -> Result<String, TableError> {
+        let filled = if text_width(text) < content_size {
+            Filling { fill: ' ' }.changed_text(alloc, text, content_size)?
         } else {
             String::from_str(alloc, text)?
         };
-        if text_width(&filled) <= room {
+        if text_width(&filled) <= content_size {
             return Ok(filled);
         }
         let cut = Truncating {
@@ -37,6 +42,6 @@ impl TextRule for Justifying {
             limit: SuffixLimit::Cut,
             multiline: false,
         };
-        cut.changed_text(alloc, &filled, room)
+        cut.changed_text(alloc, &filled, content_size)
     }
 }

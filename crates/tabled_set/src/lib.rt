@@ -8,17 +8,17 @@
 //! - `margin`, `padding`: the options `Margin` and `Padding`; `sides` makes their indents
 //!
 //! One text:
-//! - `changing`: the trait `TextRule`, and a change of one cell by a rule
+//! - `changing`: the trait `TextTransform`, and a change of one cell by a transform
 //! - `wrapping`, `truncating`, `filling`, `justifying`, `line_counts`: the rules
 //! - `suffix`: `SuffixLimit`, and what stands for a suffix in few columns
 //! - `laws`: what is known of truncated texts
 //!
 //! Cells, one after another:
-//! - `which`: the cells that a rule is for
-//! - `rooms`: the room of each cell
-//! - `order`: by row or by column
+//! - `cell_filter`: the cells that a transform is for
+//! - `content_sizes`: the content size of each cell
+//! - `walk_order`: by row or by column
 //! - `walk`: the walk that changes the cells of an entity
-//! - `measured`: the walk for one measured room
+//! - `measured`: the walk for one measured content size
 //!
 //! Whole tables:
 //! - `priority_lists`: lists that a priority shrinks or grows
@@ -34,8 +34,10 @@
 //! - `size_list`: `WidthList` and `HeightList`
 #![tactic(auto)]
 
+mod cell_filter;
 mod changing;
 mod columns;
+mod content_sizes;
 mod extremes;
 mod filling;
 mod height_increase;
@@ -54,11 +56,9 @@ mod measurement;
 mod min_width;
 mod minimums;
 mod narrowing;
-mod order;
 mod padding;
 mod percent;
 mod priority_lists;
-mod rooms;
 mod rows;
 mod shrinking;
 mod sides;
@@ -68,7 +68,7 @@ mod totals;
 mod truncate;
 mod truncating;
 mod walk;
-mod which;
+mod walk_order;
 mod wrap;
 mod wrapping;
 

@@ -1,42 +1,51 @@
 //! The rules by which a text gets more lines, or fewer.
 ghost use Rattle.std.specs.Prelude.{◌≡◌};
 ghost use Rattle.tabled_set.specs.TextLines.{lengthening, limiting};
-ghost use Rattle.tabled_set.specs.declared.which.Which.{Which};
-ghost use Rattle.tabled_set.specs.declared.which.Which.TheVariants.{Higher, Lower};
+ghost use Rattle.tabled_set.specs.declared.cell_filter.CellFilter.{CellFilter};
+ghost use Rattle.tabled_set.specs.declared.cell_filter.CellFilter.TheVariants.{Higher, Lower};
 
-use crate::changing::{Beginning, TextRule};
-use crate::which::Which;
+use crate::cell_filter::CellFilter;
+use crate::changing::{Beginning, TextTransform};
 use std::alloc::Global;
 use tabled_base::TableError;
 use tabled_text::{count_lines, lines, push_copies};
 
-/// A rule that gives a text more lines, or fewer, and the cells that it is for.
-pub trait LineRule: TextRule {
-    ghost WHICH: { Which };
+/// A transform that gives a text more lines, or fewer, and the cells that it is for.
+pub trait LineRule: TextTransform {
+    ghost WHICH: { CellFilter };
 
     /// The cells whose texts have too few lines, or too many.
-    const WHICH: Which;
+    const WHICH: CellFilter;
 
-    /// The rule.
-    fn rule() -> Self;
+    /// The transform.
+    fn transform() -> Self;
 }
 
-/// Puts line feeds behind a text, as many as it has lines less than the room.
+/// Puts line feeds behind a text, as many as it has lines less than the content size.
 #[derive(Clone, Copy, Debug, PartialEq, Eq, PartialOrd, Ord)]
 pub struct Lengthening;
 
-impl TextRule for Lengthening {
+impl TextTransform for Lengthening {
     ghost makes = { λ s. lengthening };
 
-    ghost shortens = { λ s room text. ⊥ };
+    ghost shortens = { λ s content_size text. ⊥ };
 
     fn beginning(&self, _text: &str, _room: usize) -> Option<Beginning<'_>> {
         None
     }
 
-    fn changed_text(&self, alloc: Global, text: &str, room: usize) -> Result<String, TableError> {
+    fn changed_text(
+        &self,
+        alloc: Global,
+        text: &str,
+        content_size: usize,
+    ) -> Result<String, TableError> {
         let mut answer = String::from_str(alloc, text)?;
-        push_copies(&mut answer, '\n', room.saturating_sub(count_lines(text)))?;
+        push_copies(
+            &mut answer,
+            '\n',
+            content_size.saturating_sub(count_lines(text)),
+        )?;
         Ok(answer)
     }
 }
@@ -44,34 +53,39 @@ impl TextRule for Lengthening {
 impl LineRule for Lengthening {
     ghost WHICH = { Lower };
 
-    const WHICH: Which = Which::Lower;
+    const WHICH: CellFilter = CellFilter::Lower;
 
-    fn rule() -> Self {
+    fn transform() -> Self {
         Lengthening
     }
 }
 
-/// Keeps the first lines of a text, as many as the room has, or all. No line is the empty text.
+/// Keeps the first lines of a text, as many as the content size has, or all. No line is the empty text.
 #[derive(Clone, Copy, Debug, PartialEq, Eq, PartialOrd, Ord)]
 pub struct Limiting;
 
-impl TextRule for Limiting {
+impl TextTransform for Limiting {
     ghost makes = { λ s. limiting };
 
-    ghost shortens = { λ s room text. ⊥ };
+    ghost shortens = { λ s content_size text. ⊥ };
 
     fn beginning(&self, _text: &str, _room: usize) -> Option<Beginning<'_>> {
         None
     }
 
-    fn changed_text(&self, alloc: Global, text: &str, room: usize) -> Result<String, TableError> {
+    fn changed_text(
+        &self,
+        alloc: Global,
+        text: &str,
+        content_size: usize,
+    ) -> Result<String, TableError> {
         let mut answer = String::new(alloc);
-        let mut left = room;
+        let mut left = content_size;
         for line in lines(text) {
             if left == 0 {
                 return Ok(answer);
             }
-            if left < room {
+            if left < content_size {
                 answer.push('\n')?;
             }
             left -= 1;
@@ -84,9 +98,9 @@ impl TextRule for Limiting {
 impl LineRule for Limiting {
     ghost WHICH = { Higher };
 
-    const WHICH: Which = Which::Higher;
+    const WHICH: CellFilter = CellFilter::Higher;
 
-    fn rule() -> Self {
+    fn transform() -> Self {
         Limiting
     }
 }

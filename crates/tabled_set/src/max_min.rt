@@ -1,9 +1,9 @@
 //! Measures of the texts of a table: the greatest of them, and the least.
 ghost use Rattle.tabled_set.specs.Extremes.{picked_of_rows};
-ghost use Rattle.tabled_set.specs.declared.extremes.Extent.TheVariants.{Columns, Lines};
+ghost use Rattle.tabled_set.specs.declared.extremes.TextMeasure.TheVariants.{Columns, Lines};
 ghost use Rattle.tabled_set.specs.declared.extremes.Pick.TheVariants.{Greatest, Least};
 
-use crate::extremes::{Extent, Pick, picked_of_rows};
+use crate::extremes::{Pick, TextMeasure, picked_of_rows};
 use crate::measurement::{Height, Measurement, Width};
 use tabled_base::{PeekableRecords, TableError};
 use tabled_config::SpannedConfig;
@@ -26,7 +26,12 @@ impl Measurement<Width> for Max {
         records: &R,
         _cfg: &SpannedConfig,
     ) -> Result<usize, TableError> {
-        Ok(picked_of_rows(Pick::Greatest, Pick::Greatest, Extent::Columns, records))
+        Ok(picked_of_rows(
+            Pick::Greatest,
+            Pick::Greatest,
+            TextMeasure::Columns,
+            records,
+        ))
     }
 }
 
@@ -38,7 +43,7 @@ impl Measurement<Height> for Max {
         records: &R,
         _cfg: &SpannedConfig,
     ) -> Result<usize, TableError> {
-        Ok(picked_of_rows(Pick::Greatest, Pick::Greatest, Extent::Lines, records))
+        Ok(picked_of_rows(Pick::Greatest, Pick::Greatest, TextMeasure::Lines, records))
     }
 }
 
@@ -50,7 +55,7 @@ impl Measurement<Width> for Min {
         records: &R,
         _cfg: &SpannedConfig,
     ) -> Result<usize, TableError> {
-        Ok(picked_of_rows(Pick::Greatest, Pick::Least, Extent::Columns, records))
+        Ok(picked_of_rows(Pick::Greatest, Pick::Least, TextMeasure::Columns, records))
     }
 }
 
@@ -62,6 +67,6 @@ impl Measurement<Height> for Min {
         records: &R,
         _cfg: &SpannedConfig,
     ) -> Result<usize, TableError> {
-        Ok(picked_of_rows(Pick::Least, Pick::Greatest, Extent::Lines, records))
+        Ok(picked_of_rows(Pick::Least, Pick::Greatest, TextMeasure::Lines, records))
     }
 }

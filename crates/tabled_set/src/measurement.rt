@@ -64,7 +64,7 @@ impl Width {
     /// Wraps to a measure, as `Wrap::new` does.
     pub fn wrap<W: Measurement<Width>>(width: W) -> Wrap<W>
         ensures width { result.width ≡ width }
-        ensures keep_words { result.rule.keep_words ≡ false }
+        ensures keep_words { result.transform.keep_words ≡ false }
         ensures priority { result.priority.kept ≡ 0 }
     {
         Wrap::new(width)
@@ -73,9 +73,9 @@ impl Width {
     /// Truncates to a measure, as `Truncate::new` does.
     pub fn truncate<W: Measurement<Width>>(width: W) -> Truncate<'static, W>
         ensures width { result.width ≡ width }
-        ensures suffix { result.rule.suffix.now ≡ [] }
-        ensures limit { result.rule.limit ≡ Cut }
-        ensures multiline { result.rule.multiline ≡ false }
+        ensures suffix { result.transform.suffix.now ≡ [] }
+        ensures limit { result.transform.limit ≡ Cut }
+        ensures multiline { result.transform.multiline ≡ false }
         ensures priority { result.priority.kept ≡ 0 }
     {
         Truncate::new(width)
@@ -84,7 +84,7 @@ impl Width {
     /// Increases to a measure, as `MinWidth::new` does.
     pub fn increase<W: Measurement<Width>>(width: W) -> MinWidth<W>
         ensures width { result.width ≡ width }
-        ensures fill { result.rule.fill ≡ 32 }
+        ensures fill { result.transform.fill ≡ 32 }
         ensures priority { result.priority.kept ≡ 0 }
     {
         MinWidth::new(width)

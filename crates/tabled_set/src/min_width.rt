@@ -4,17 +4,17 @@ ghost use Rattle.tabled_set.specs.CellChanges.{ChangesEntity, StopsEntity, if_ta
 ghost use Rattle.tabled_set.specs.Increased.{IncreasesWidth, StopsIncreasing, WidthOutOfRange};
 ghost use Rattle.tabled_set.specs.Promised.{WidensAsPromised};
 ghost use Rattle.tabled_set.specs.TextLines.{filling};
-ghost use Rattle.tabled_set.specs.declared.which.Which.TheVariants.{Narrower};
+ghost use Rattle.tabled_set.specs.declared.cell_filter.CellFilter.TheVariants.{Narrower};
 ghost use Rattle.tabled_size.specs.Cleared.{AreCleared};
 ghost use Rattle.tabled_size.specs.Sheet.{is_empty};
-ghost use Rattle.tabled_size.specs.Standing.{standing};
+ghost use Rattle.tabled_size.specs.Effective.{effective};
 ghost use Rattle.tabled_size.specs.declared.complete_dimension.CompleteDimension.{CompleteDimension};
 
+use crate::cell_filter::CellFilter;
 use crate::filling::Filling;
 use crate::increasing::increase_width;
 use crate::measured::change_measured;
 use crate::measurement::{Measurement, Width};
-use crate::which::Which;
 use tabled_base::{CellOption, Entity, PeekableRecords, RecordsMut, TableError, TableOption};
 use tabled_config::ColoredConfig;
 use tabled_size::{CompleteDimension, Peaker, PriorityNone, is_empty};
@@ -24,7 +24,7 @@ use tabled_size::{CompleteDimension, Peaker, PriorityNone, is_empty};
 #[derive(Clone, Copy, Debug, PartialEq, Eq, PartialOrd, Ord)]
 pub struct MinWidth<W = usize, P = PriorityNone> {
     width: W,
-    rule: Filling,
+    transform: Filling,
     priority: P,
 }
 
@@ -34,12 +34,12 @@ impl<W> MinWidth<W> {
     where
         W: Measurement<Width>,
         ensures width { result.width ≡ width }
-        ensures fill { result.rule.fill ≡ 32 }
+        ensures fill { result.transform.fill ≡ 32 }
         ensures priority { result.priority.kept ≡ 0 }
     {
         MinWidth {
             width,
-            rule: Filling { fill: ' ' },
+            transform: Filling { fill: ' ' },
             priority: PriorityNone::new(),
         }
     }
@@ -48,10 +48,10 @@ impl<W> MinWidth<W> {
 impl<W, P> MinWidth<W, P> {
     /// The character with which texts are filled up. It is taken for one column, whatever it takes.
     pub fn fill_with(self, c: char) -> MinWidth<W, P>
-        ensures { result ≡ record self { rule = record { fill = c } } }
+        ensures { result ≡ record self { transform = record { fill = c } } }
     {
         MinWidth {
-            rule: Filling { fill: c },
+            transform: Filling { fill: c },
             ..self
         }
     }
@@ -60,11 +60,11 @@ impl<W, P> MinWidth<W, P> {
 impl<W, P: Drop> MinWidth<W, P> {
     /// The order in which the columns of a table grow.
     pub fn priority<Q: Peaker>(self, priority: Q) -> MinWidth<W, Q>
-        ensures { result ≡ record { width = self.width; rule = self.rule; priority = priority } }
+        ensures { result ≡ record { width = self.width; transform = self.transform; priority = priority } }
     {
         MinWidth {
             width: self.width,
-            rule: self.rule,
+            transform: self.transform,
             priority,
         }
     }
@@ -74,10 +74,10 @@ impl<W, P: Drop> MinWidth<W, P> {
 /// Where the measure is refused, with `Range`, no cell has changed; where memory is, those before the refused one have, row
 /// by row.
 impl<W: Measurement<Width>, P, R: RecordsMut> CellOption<R, ColoredConfig> for MinWidth<W, P> {
-    ghost changes = { λ s r c e r' c'. ChangesEntity (if_taken Narrower (filling s.rule.fill))
+    ghost changes = { λ s r c e r' c'. ChangesEntity (if_taken Narrower (filling s.transform.fill))
         (W.measures s.width (R.cells r) c.config) e (R.cells r) (R.cells r') × (c' ≡ c) };
 
-    ghost refuses = { λ s f r c e r' c'. StopsEntity Narrower never_in_place (filling s.rule.fill)
+    ghost refuses = { λ s f r c e r' c'. StopsEntity Narrower never_in_place (filling s.transform.fill)
         (W.measures s.width (R.cells r) c.config) e f (R.cells r) (R.cells r') × (c' ≡ c) };
 
     ghost out_of_range = { λ s r c e. W.out_of_range s.width (R.cells r) c.config };
@@ -90,8 +90,8 @@ impl<W: Measurement<Width>, P, R: RecordsMut> CellOption<R, ColoredConfig> for M
     ) -> Result<(), TableError> {
         change_measured::<Width, _, _, _>(
             &self.width,
-            &self.rule,
-            Which::Narrower,
+            &self.transform,
+            CellFilter::Narrower,
             records,
             cfg,
             entity,
@@ -126,7 +126,7 @@ impl<W: Measurement<Width> + Drop, P: Peaker + Drop, R: PeekableRecords> TableOp
     // Of the sizes that are left once what is hinted was forgotten.
     ghost promises = { λ s r c d r' c' d'. (left : CompleteDimension) → AreCleared None d' left
         → WidensAsPromised P.grows s.priority (W.measures s.width (R.cells r) c.config)
-        (standing (R.cells r) c.config d) (standing (R.cells r') c'.config left) };
+        (effective (R.cells r) c.config d) (effective (R.cells r') c'.config left) };
 
     ghost hint = { λ s. None };
 

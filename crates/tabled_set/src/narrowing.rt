@@ -6,10 +6,10 @@ ghost use Rattle.tabled_set.specs.Narrowed.{Narrows, StopsNarrowing, WiderOutOfR
 ghost use Rattle.tabled_size.specs.FilledIn.{HasNoEstimate};
 ghost use Rattle.tabled_size.specs.Sheet.{is_empty};
 
-use crate::changing::TextRule;
+use crate::cell_filter::CellFilter;
+use crate::changing::TextTransform;
 use crate::columns::change_columns;
 use crate::shrinking::narrowed_widths;
-use crate::which::Which;
 use tabled_base::{RecordsMut, TableError};
 use tabled_config::SpannedConfig;
 use tabled_size::{CompleteDimension, Estimate, Peaker};
@@ -18,9 +18,9 @@ use tabled_size::{CompleteDimension, Estimate, Peaker};
 /// are estimated first, and stay stored on a later error. Fails with `Memory` only where sizes
 /// aren't stored or the table is wider than n; with `Range` where an estimate, the total or, in a
 /// table that is wider, the side padding of a cell passes the greatest `usize`.
-pub fn narrow_table<T: TextRule, P: Peaker + Drop, R: RecordsMut>(
-    rule: &T,
-    which: Which,
+pub fn narrow_table<T: TextTransform, P: Peaker + Drop, R: RecordsMut>(
+    transform: &T,
+    cell_filter: CellFilter,
     priority: P,
     records: &mut R,
     config: &SpannedConfig,
@@ -28,10 +28,10 @@ pub fn narrow_table<T: TextRule, P: Peaker + Drop, R: RecordsMut>(
     n: usize,
 ) -> Result<(), TableError>
     requires { is_empty (R.cells records.old) ≡ false }
-    ensures ok { OnOk result (Narrows P.shrinks priority (if_taken which (T.makes rule.now)) n
+    ensures ok { OnOk result (Narrows P.shrinks priority (if_taken cell_filter (T.makes transform.now)) n
         (R.cells records.old) config.now sizes.old (R.cells records.new) sizes.new) }
-    ensures err { IfErr result (λ e. StopsNarrowing P.shrinks priority which
-        (T.shortens rule.now) (T.makes rule.now) n e
+    ensures err { IfErr result (λ e. StopsNarrowing P.shrinks priority cell_filter
+        (T.shortens transform.now) (T.makes transform.now) n e
         (R.cells records.old) config.now sizes.old (R.cells records.new) sizes.new) }
     ensures only { IfErr result (λ e. (e ≡ Memory) ⊎ ((e ≡ Range)
         × (HasNoEstimate sizes.old (R.cells records.old) config.now
@@ -42,7 +42,7 @@ pub fn narrow_table<T: TextRule, P: Peaker + Drop, R: RecordsMut>(
     let Some(found) = narrowed_widths(alloc, priority, records, config, sizes, n)? else {
         return Ok(());
     };
-    change_columns(rule, which, records, config, &found)?;
+    change_columns(transform, cell_filter, records, config, &found)?;
     sizes.set_widths(found.widths);
     sizes.clear_height();
     Ok(())

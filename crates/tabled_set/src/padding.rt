@@ -2,7 +2,7 @@
 ghost use Rattle.std.specs.Prelude.{◌≡◌, if◌then◌else◌};
 ghost use Rattle.tabled_config.specs.Options.{Becomes, colored};
 ghost use Rattle.tabled_entity.specs.Changes.{for_all, with_change};
-ghost use Rattle.tabled_entity.specs.Places.{IsPart};
+ghost use Rattle.tabled_entity.specs.ChangeIndex.{IsPart};
 ghost use Rattle.tabled_base.specs.declared.error.TableError.TheVariants.{Memory};
 ghost use Rattle.tabled_set.specs.Sides.{filled, spaced};
 ghost use Rattle.tabled_set.specs.declared.padding.PaddingExpand.TheVariants.{Horizontal, Vertical};

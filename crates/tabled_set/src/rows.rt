@@ -2,28 +2,28 @@
 ghost use Rattle.std.specs.Prelude.{◌≡◌, IfErr, OnErr, OnOk, Some, true};
 ghost use Rattle.tabled_base.specs.declared.error.TableError.TheVariants.{Memory};
 ghost use Rattle.tabled_set.specs.CellChanges.{AreChanged, AreChangedBefore};
-ghost use Rattle.tabled_set.specs.declared.order.Order.TheVariants.{ByRow};
+ghost use Rattle.tabled_set.specs.declared.walk_order.WalkOrder.TheVariants.{ByRow};
 ghost use Rattle.tabled_priority.specs.Permitted.{at};
 ghost use Rattle.tabled_set.specs.Limited.{for_height, needs_for_height};
 
+use crate::cell_filter::CellFilter;
 use crate::changing::Change;
+use crate::content_sizes::ContentSizes;
 use crate::line_counts::Limiting;
-use crate::order::Order;
-use crate::rooms::Rooms;
 use crate::walk::change_cells;
-use crate::which::Which;
+use crate::walk_order::WalkOrder;
 use tabled_base::{Entity, Position, RecordsMut, TableError};
 
 /// The lines that a row leaves each of its cells: its height, whatever the padding is.
 #[derive(Drop)]
-struct RowRooms<'a> {
+struct RowContentHeights<'a> {
     heights: &'a [usize],
 }
 
-impl<'a> Rooms for RowRooms<'a> {
-    ghost room_at = { λ s row column. Some (at s.heights.now row) };
+impl<'a> ContentSizes for RowContentHeights<'a> {
+    ghost content_size_at = { λ s row column. Some (at s.heights.now row) };
 
-    fn room(&self, at: Position) -> Option<usize> {
+    fn content_size(&self, at: Position) -> Option<usize> {
         Some(self.heights.get(at.row).copied().unwrap_or(0))
     }
 }
@@ -41,9 +41,9 @@ pub(crate) fn limit_rows<R: RecordsMut>(
     ensures only { IfErr result (λ e. e ≡ Memory) }
 {
     let change = Change {
-        rule: &Limiting,
-        which: Which::Higher,
-        rooms: &RowRooms { heights },
+        transform: &Limiting,
+        cell_filter: CellFilter::Higher,
+        content_sizes: &RowContentHeights { heights },
     };
-    change_cells(&change, records, Order::ByRow, Entity::Global)
+    change_cells(&change, records, WalkOrder::ByRow, Entity::Global)
 }

@@ -5,7 +5,7 @@ ghost use Rattle.tabled_base.specs.declared.error.TableError.TheVariants.{Memory
 ghost use Rattle.tabled_set.specs.Narrowed.{WiderOutOfRange};
 ghost use Rattle.tabled_set.specs.Shrinking.{IsFound, IsShrunkBy};
 ghost use Rattle.tabled_size.specs.Sheet.{is_empty};
-ghost use Rattle.tabled_size.specs.Standing.{standing};
+ghost use Rattle.tabled_size.specs.Effective.{effective};
 ghost use Rattle.tabled_size.specs.Stored.{widths_of};
 ghost use Rattle.tabled_priority.specs.Permitted.{FitsMinimums};
 ghost use Rattle.tabled_size.specs.Totals.{filled_width, total_width};
@@ -45,11 +45,11 @@ pub(crate) fn narrowed_widths<P: Peaker + Drop, R: ExactRecords>(
     requires filled { is_empty (R.cells records.now) ≡ false }
     requires stored { is_some (widths_of sizes.now) ≡ true }
     ensures ok { IfOk result (λ answer. MatchOption answer
-        (total_width (standing (R.cells records.now) config.now sizes.now) ≤ n)
-        (λ found. IsFound P.shrinks priority n (standing (R.cells records.now) config.now sizes.now)
+        (total_width (effective (R.cells records.now) config.now sizes.now) ≤ n)
+        (λ found. IsFound P.shrinks priority n (effective (R.cells records.now) config.now sizes.now)
         found.widths.items found.mins.items)) }
     ensures wider { OnErr result
-        (n < total_width (standing (R.cells records.now) config.now sizes.now)) }
+        (n < total_width (effective (R.cells records.now) config.now sizes.now)) }
     ensures err { IfErr result (λ e. (e ≡ Memory)
         ⊎ ((e ≡ Range) × WiderOutOfRange n (R.cells records.now) config.now sizes.now)) }
 {

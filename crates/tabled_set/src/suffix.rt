@@ -8,79 +8,87 @@ use std::alloc::{AllocError, Global};
 use std::borrow::CowStr;
 use tabled_text::{copies, cut_length, cut_str, line_width, lines};
 
-/// What is done with a suffix that takes its whole room, or more.
+/// What is done with a suffix that takes its whole content size, or more.
 #[derive(Clone, Copy, Debug, PartialEq, Eq, PartialOrd, Ord)]
 pub enum SuffixLimit {
-    /// It is cut to the room, and nothing is left to the text.
+    /// It is cut to the content size, and nothing is left to the text.
     Cut,
-    /// It is left out, and the text takes the room.
+    /// It is left out, and the text takes the content size.
     Ignore,
-    /// It is replaced by as many of a character as the room has columns, and nothing is left to the text.
+    /// It is replaced by as many of a character as the content size has columns, and nothing is left to the text.
     Replace(char),
 }
 
-/// What stands for a suffix in a room, and the columns that it leaves to the text.
+/// What stands for a suffix in a content size, and the columns that it leaves to the text.
 #[derive(Drop)]
 pub(crate) struct UsedSuffix<'a> {
     pub text: CowStr<'a, Global>,
     pub left: usize,
 }
 
-/// What stands for a suffix in a room and is a part of it, and the columns that it leaves to the text.
+/// What stands for a suffix in a content size and is a part of it, and the columns that it leaves to the text.
 #[derive(Clone, Copy)]
-pub(crate) struct LentSuffix<'a> {
+pub(crate) struct BorrowedSuffix<'a> {
     pub text: &'a str,
     pub left: usize,
 }
 
-/// The columns that a suffix leaves of a room, if it leaves any.
-fn columns_beside(suffix: &str, room: usize) -> Option<usize>
+/// The columns that a suffix leaves of a content size, if it leaves any.
+fn columns_beside(suffix: &str, content_size: usize) -> Option<usize>
     ensures { result
-        ≡ (if nat_lt (suffix_columns suffix.now) room then Some (room - suffix_columns suffix.now) else None) }
+        ≡ (if nat_lt (suffix_columns suffix.now) content_size then Some (content_size - suffix_columns suffix.now) else None) }
 {
     // Each line takes a column more than its own, so one too many is taken in all.
-    let mut left = room;
+    let mut left = content_size;
     for line in lines(suffix) {
         left = left.checked_sub(line_width(line))?.checked_sub(1)?;
     }
     Some(left + 1)
 }
 
-/// What stands for a suffix that takes its whole room, or more, if it is a part of it.
-fn lent_limited(suffix: &str, limit: SuffixLimit, room: usize) -> Option<LentSuffix<'_>>
-    ensures used { IfSome result (λ lent. IsLimited room suffix.now limit lent.text.now lent.left) }
-    ensures some { IfSome result (λ _. IsMadeFor room suffix.now limit → ⊥) }
-    ensures none { IfNone result (IsMadeFor room suffix.now limit) }
+/// What stands for a suffix that takes its whole content size, or more, if it is a part of it.
+fn borrowed_limited(
+    suffix: &str,
+    limit: SuffixLimit,
+    content_size: usize,
+) -> Option<BorrowedSuffix<'_>>
+    ensures used { IfSome result (λ lent. IsLimited content_size suffix.now limit lent.text.now lent.left) }
+    ensures some { IfSome result (λ _. IsMadeFor content_size suffix.now limit → ⊥) }
+    ensures none { IfNone result (IsMadeFor content_size suffix.now limit) }
 {
     match limit {
         SuffixLimit::Cut => {
-            let bytes = cut_length(suffix, room)?;
+            let bytes = cut_length(suffix, content_size)?;
             let (text, _) = suffix.split_at(bytes);
-            Some(LentSuffix { text, left: 0 })
+            Some(BorrowedSuffix { text, left: 0 })
         }
-        SuffixLimit::Ignore => Some(LentSuffix {
+        SuffixLimit::Ignore => Some(BorrowedSuffix {
             text: "",
-            left: room,
+            left: content_size,
         }),
         SuffixLimit::Replace(_) => None,
     }
 }
 
-/// What stands for a suffix in a room of so many columns, if it is a part of it, which takes no memory.
-pub(crate) fn lent_suffix(suffix: &str, limit: SuffixLimit, room: usize) -> Option<LentSuffix<'_>>
-    ensures used { IfSome result (λ lent. IsUsed room suffix.now limit lent.text.now lent.left) }
-    ensures some { IfSome result (λ _. IsMade room suffix.now limit → ⊥) }
-    ensures none { IfNone result (IsMade room suffix.now limit) }
+/// What stands for a suffix in a content size of so many columns, if it is a part of it, which takes no memory.
+pub(crate) fn borrowed_suffix(
+    suffix: &str,
+    limit: SuffixLimit,
+    content_size: usize,
+) -> Option<BorrowedSuffix<'_>>
+    ensures used { IfSome result (λ lent. IsUsed content_size suffix.now limit lent.text.now lent.left) }
+    ensures some { IfSome result (λ _. IsMade content_size suffix.now limit → ⊥) }
+    ensures none { IfNone result (IsMade content_size suffix.now limit) }
 {
-    if room == 0 || suffix.is_empty() {
-        return Some(LentSuffix {
+    if content_size == 0 || suffix.is_empty() {
+        return Some(BorrowedSuffix {
             text: "",
-            left: room,
+            left: content_size,
         });
     }
-    match columns_beside(suffix, room) {
-        Some(left) => Some(LentSuffix { text: suffix, left }),
-        None => lent_limited(suffix, limit, room),
+    match columns_beside(suffix, content_size) {
+        Some(left) => Some(BorrowedSuffix { text: suffix, left }),
+        None => borrowed_limited(suffix, limit, content_size),
     }
 }
 
@@ -89,33 +97,33 @@ fn made_suffix(
     alloc: Global,
     suffix: &str,
     limit: SuffixLimit,
-    room: usize,
+    content_size: usize,
 ) -> Result<UsedSuffix<'_>, AllocError>
-    requires { IsMade room suffix.now limit }
-    ensures { IfOk result (λ used. IsUsed room suffix.now limit (cow_str_bytes used.text) used.left) }
+    requires { IsMade content_size suffix.now limit }
+    ensures { IfOk result (λ used. IsUsed content_size suffix.now limit (cow_str_bytes used.text) used.left) }
 {
     let text = match limit {
-        SuffixLimit::Cut => cut_str(alloc, suffix, room)?,
+        SuffixLimit::Cut => cut_str(alloc, suffix, content_size)?,
         SuffixLimit::Ignore => unreachable!(),
-        SuffixLimit::Replace(c) => CowStr::Owned(copies(alloc, c, room)?),
+        SuffixLimit::Replace(c) => CowStr::Owned(copies(alloc, c, content_size)?),
     };
     Ok(UsedSuffix { text, left: 0 })
 }
 
-/// What stands for a suffix in a room of so many columns.
+/// What stands for a suffix in a content size of so many columns.
 pub(crate) fn used_suffix(
     alloc: Global,
     suffix: &str,
     limit: SuffixLimit,
-    room: usize,
+    content_size: usize,
 ) -> Result<UsedSuffix<'_>, AllocError>
-    ensures { IfOk result (λ used. IsUsed room suffix.now limit (cow_str_bytes used.text) used.left) }
+    ensures { IfOk result (λ used. IsUsed content_size suffix.now limit (cow_str_bytes used.text) used.left) }
 {
-    match lent_suffix(suffix, limit, room) {
-        Some(LentSuffix { text, left }) => Ok(UsedSuffix {
+    match borrowed_suffix(suffix, limit, content_size) {
+        Some(BorrowedSuffix { text, left }) => Ok(UsedSuffix {
             text: CowStr::Borrowed(text),
             left,
         }),
-        None => made_suffix(alloc, suffix, limit, room),
+        None => made_suffix(alloc, suffix, limit, content_size),
     }
 }

@@ -8,20 +8,20 @@ ghost use Rattle.tabled_set.specs.Narrowed.{Narrows, NarrowingOutOfRange, StopsN
 ghost use Rattle.tabled_set.specs.Promised.{TruncatesAsPromised};
 ghost use Rattle.tabled_set.specs.Truncated.{IsTruncated};
 ghost use Rattle.tabled_set.specs.declared.suffix.SuffixLimit.TheVariants.{Cut};
-ghost use Rattle.tabled_set.specs.declared.which.Which.TheVariants.{Wider};
+ghost use Rattle.tabled_set.specs.declared.cell_filter.CellFilter.TheVariants.{Wider};
 ghost use Rattle.tabled_size.specs.Cleared.{AreCleared};
 ghost use Rattle.tabled_size.specs.Sheet.{is_empty};
-ghost use Rattle.tabled_size.specs.Standing.{standing};
+ghost use Rattle.tabled_size.specs.Effective.{effective};
 ghost use Rattle.tabled_size.specs.declared.complete_dimension.CompleteDimension.{CompleteDimension};
 ghost use Rattle.tabled_text.specs.Cut.{IsCut, NeedsFill};
 
-use crate::changing::TextRule;
+use crate::cell_filter::CellFilter;
+use crate::changing::TextTransform;
 use crate::measured::change_measured;
 use crate::measurement::{Measurement, Width};
 use crate::narrowing::narrow_table;
 use crate::suffix::SuffixLimit;
 use crate::truncating::Truncating;
-use crate::which::Which;
 use std::alloc::Global;
 use std::borrow::CowStr;
 use tabled_base::{CellOption, Entity, RecordsMut, TableError, TableOption};
@@ -33,7 +33,7 @@ use tabled_text::cut_str;
 #[derive(Clone, Debug, Drop, PartialEq, Eq, PartialOrd, Ord)]
 pub struct Truncate<'a, W = usize, P = PriorityNone> {
     width: W,
-    rule: Truncating<'a>,
+    transform: Truncating<'a>,
     priority: P,
 }
 
@@ -44,14 +44,14 @@ impl<W> Truncate<'static, W> {
     where
         W: Measurement<Width>,
         ensures width { result.width ≡ width }
-        ensures suffix { result.rule.suffix.now ≡ [] }
-        ensures limit { result.rule.limit ≡ Cut }
-        ensures multiline { result.rule.multiline ≡ false }
+        ensures suffix { result.transform.suffix.now ≡ [] }
+        ensures limit { result.transform.limit ≡ Cut }
+        ensures multiline { result.transform.multiline ≡ false }
         ensures priority { result.priority.kept ≡ 0 }
     {
         Truncate {
             width,
-            rule: Truncating {
+            transform: Truncating {
                 suffix: "",
                 limit: SuffixLimit::Cut,
                 multiline: false,
@@ -64,49 +64,57 @@ impl<W> Truncate<'static, W> {
 impl<'a, W, P> Truncate<'a, W, P> {
     /// The text at the end of what was truncated.
     pub fn suffix(self, suffix: &'a str) -> Truncate<'a, W, P>
-        ensures { result ≡ record self.entry { rule = record self.entry.rule { suffix = suffix.entry } } }
+        ensures { result ≡ record self.entry { transform = record self.entry.transform { suffix = suffix.entry } } }
     {
         Truncate {
-            rule: Truncating {
+            transform: Truncating {
                 suffix,
-                ..self.rule
+                ..self.transform
             },
             ..self
         }
     }
 
-    /// What is done with a suffix that takes its whole room, or more.
+    /// What is done with a suffix that takes its whole content size, or more.
     pub fn suffix_limit(self, limit: SuffixLimit) -> Truncate<'a, W, P>
-        ensures { result ≡ record self.entry { rule = record self.entry.rule { limit = limit } } }
+        ensures { result ≡ record self.entry { transform = record self.entry.transform { limit = limit } } }
     {
         Truncate {
-            rule: Truncating { limit, ..self.rule },
+            transform: Truncating {
+                limit,
+                ..self.transform
+            },
             ..self
         }
     }
 
     /// Whether each line of a text is truncated by itself. The suffix then stands at the end of each.
     pub fn multiline(self, on: bool) -> Truncate<'a, W, P>
-        ensures { result ≡ record self.entry { rule = record self.entry.rule { multiline = on } } }
+        ensures { result ≡ record self.entry { transform = record self.entry.transform { multiline = on } } }
     {
         Truncate {
-            rule: Truncating {
+            transform: Truncating {
                 multiline: on,
-                ..self.rule
+                ..self.transform
             },
             ..self
         }
     }
 
-    /// A text truncated to a room of so many columns, whatever the measure is. Where the suffix leaves columns of the
-    /// room, the text is cut to these and the suffix follows; else the limit says what stands there. In no column
+    /// A text truncated to a content size of so many columns, whatever the measure is. Where the suffix leaves columns of the
+    /// content size, the text is cut to these and the suffix follows; else the limit says what stands there. In no column
     /// stands nothing. Refused with `Memory` alone.
-    pub fn shorten(&self, alloc: Global, text: &str, room: usize) -> Result<String, TableError>
+    pub fn shorten(
+        &self,
+        alloc: Global,
+        text: &str,
+        content_size: usize,
+    ) -> Result<String, TableError>
         ensures truncated { IfOk result (λ answer.
-            IsTruncated room self.now.rule.suffix.now self.now.rule.limit self.now.rule.multiline text.now (string_bytes answer)) }
+            IsTruncated content_size self.now.transform.suffix.now self.now.transform.limit self.now.transform.multiline text.now (string_bytes answer)) }
         ensures only { IfErr result (λ e. e ≡ Memory) }
     {
-        self.rule.changed_text(alloc, text, room)
+        self.transform.changed_text(alloc, text, content_size)
     }
 }
 
@@ -116,13 +124,13 @@ impl<'a, W, P: Drop> Truncate<'a, W, P> {
         ensures { result
             ≡ record {
               width = self.entry.width;
-              rule = self.entry.rule;
+              transform = self.entry.transform;
               priority = priority;
             } }
     {
         Truncate {
             width: self.width,
-            rule: self.rule,
+            transform: self.transform,
             priority,
         }
     }
@@ -153,12 +161,12 @@ impl Truncate<'static, (), ()> {
 /// bytes.
 impl<'a, W: Measurement<Width>, P, R: RecordsMut> CellOption<R, ColoredConfig>
     for Truncate<'a, W, P> {
-    ghost changes = { λ s r c e r' c'. ChangesEntity (if_wider (truncating s.rule.suffix.now s.rule.limit s.rule.multiline))
+    ghost changes = { λ s r c e r' c'. ChangesEntity (if_wider (truncating s.transform.suffix.now s.transform.limit s.transform.multiline))
         (W.measures s.width (R.cells r) c.config) e (R.cells r) (R.cells r') × (c' ≡ c) };
 
     ghost refuses = { λ s f r c e r' c'. StopsEntity Wider
-        (truncating_in_place s.rule.suffix.now s.rule.limit s.rule.multiline)
-        (truncating s.rule.suffix.now s.rule.limit s.rule.multiline)
+        (truncating_in_place s.transform.suffix.now s.transform.limit s.transform.multiline)
+        (truncating s.transform.suffix.now s.transform.limit s.transform.multiline)
         (W.measures s.width (R.cells r) c.config) e f (R.cells r) (R.cells r') × (c' ≡ c) };
 
     ghost out_of_range = { λ s r c e. W.out_of_range s.width (R.cells r) c.config };
@@ -171,8 +179,8 @@ impl<'a, W: Measurement<Width>, P, R: RecordsMut> CellOption<R, ColoredConfig>
     ) -> Result<(), TableError> {
         change_measured::<Width, _, _, _>(
             &self.width,
-            &self.rule,
-            Which::Wider,
+            &self.transform,
+            CellFilter::Wider,
             records,
             cfg,
             entity,
@@ -196,14 +204,14 @@ impl<'a, W: Measurement<Width> + Drop, P: Peaker + Drop, R: RecordsMut> TableOpt
     CompleteDimension,
 > for Truncate<'a, W, P> {
     ghost changes = { λ s r c d r' c' d'.
-        Narrows P.shrinks s.priority (if_wider (truncating s.rule.suffix.now s.rule.limit s.rule.multiline))
+        Narrows P.shrinks s.priority (if_wider (truncating s.transform.suffix.now s.transform.limit s.transform.multiline))
         (W.measures s.width (R.cells r) c.config) (R.cells r) c.config d (R.cells r') d' × (c' ≡ c) };
 
     // Only a table with a row and a column fails. The sizes are as they were, or filled in.
     ghost refuses = { λ s e r c d r' c' d'. (is_empty (R.cells r) ≡ false)
         × StopsNarrowing P.shrinks s.priority Wider
-        (truncating_in_place s.rule.suffix.now s.rule.limit s.rule.multiline)
-        (truncating s.rule.suffix.now s.rule.limit s.rule.multiline)
+        (truncating_in_place s.transform.suffix.now s.transform.limit s.transform.multiline)
+        (truncating s.transform.suffix.now s.transform.limit s.transform.multiline)
         (W.measures s.width (R.cells r) c.config) e (R.cells r) c.config d (R.cells r') d'
         × (c' ≡ c) };
 
@@ -212,9 +220,9 @@ impl<'a, W: Measurement<Width> + Drop, P: Peaker + Drop, R: RecordsMut> TableOpt
 
     // Of the sizes that are left once what is hinted was forgotten.
     ghost promises = { λ s r c d r' c' d'. (left : CompleteDimension) → AreCleared None d' left
-        → TruncatesAsPromised P.shrinks s.priority s.rule.suffix.now s.rule.limit s.rule.multiline
+        → TruncatesAsPromised P.shrinks s.priority s.transform.suffix.now s.transform.limit s.transform.multiline
         (W.measures s.width (R.cells r) c.config)
-        (standing (R.cells r) c.config d) (standing (R.cells r') c'.config left) };
+        (effective (R.cells r) c.config d) (effective (R.cells r') c'.config left) };
 
     ghost hint = { λ s. None };
 
@@ -227,10 +235,18 @@ impl<'a, W: Measurement<Width> + Drop, P: Peaker + Drop, R: RecordsMut> TableOpt
         if is_empty(records) {
             return Ok(());
         }
-        let rule = self.rule;
+        let transform = self.transform;
         let config = cfg.as_ref();
         let n = self.width.measure(records, config)?;
-        narrow_table(&rule, Which::Wider, self.priority, records, config, dims, n)
+        narrow_table(
+            &transform,
+            CellFilter::Wider,
+            self.priority,
+            records,
+            config,
+            dims,
+            n,
+        )
     }
 
     fn hint_change(&self) -> Option<Entity> {

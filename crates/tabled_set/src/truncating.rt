@@ -1,4 +1,4 @@
-//! The rule by which a text is truncated.
+//! The transform by which a text is truncated.
 ghost use Rattle.std.specs.Prelude.{◌≡◌, ◌≢◌, IfNone, IfOk, IfSome, OnOk, string_bytes};
 ghost use Rattle.std.specs.Cow.{cow_str_bytes};
 ghost use Rattle.tabled_set.specs.CellChanges.{truncating};
@@ -6,34 +6,34 @@ ghost use Rattle.tabled_set.specs.InPlace.{IsLeftAt, truncating_in_place};
 ghost use Rattle.tabled_set.specs.Truncated.{AddsEnded, HasEndedLines};
 ghost use Rattle.tabled_text.specs.Cut.{NeedsFill};
 
-use crate::changing::{Beginning, TextRule};
-use crate::suffix::{SuffixLimit, UsedSuffix, lent_suffix, used_suffix};
+use crate::changing::{Beginning, TextTransform};
+use crate::suffix::{SuffixLimit, UsedSuffix, borrowed_suffix, used_suffix};
 use std::alloc::{AllocError, Global};
 use tabled_base::{SHORT_TEXT, TableError};
 use tabled_text::{count_lines, cut_length, cut_str, lines};
 
-/// Truncates a text to the columns of its room. Where the suffix leaves columns of the room, the text is cut to these
+/// Truncates a text to the columns of its content size. Where the suffix leaves columns of the content size, the text is cut to these
 /// and the suffix follows; else the limit says what stands there. In no column stands nothing.
 #[derive(Clone, Copy, Debug, PartialEq, Eq, PartialOrd, Ord)]
 pub struct Truncating<'a> {
     /// The text at the end of what was truncated.
     pub suffix: &'a str,
-    /// What is done with a suffix that takes its whole room, or more.
+    /// What is done with a suffix that takes its whole content size, or more.
     pub limit: SuffixLimit,
     /// Whether each line is truncated by itself, and the suffix stands at the end of each.
     pub multiline: bool,
 }
 
-impl<'a> TextRule for Truncating<'a> {
+impl<'a> TextTransform for Truncating<'a> {
     ghost makes = { λ s. truncating s.suffix.now s.limit s.multiline };
 
     ghost shortens = { λ s. truncating_in_place s.suffix.now s.limit s.multiline };
 
-    fn beginning(&self, text: &str, room: usize) -> Option<Beginning<'_>> {
+    fn beginning(&self, text: &str, content_size: usize) -> Option<Beginning<'_>> {
         if self.multiline && count_lines(text) > 1 {
             return None;
         }
-        let used = lent_suffix(self.suffix, self.limit, room)?;
+        let used = borrowed_suffix(self.suffix, self.limit, content_size)?;
         let bytes = length_left(text, used.left)?;
         if used.text.len() > SHORT_TEXT.saturating_sub(bytes) {
             return None;
@@ -44,8 +44,13 @@ impl<'a> TextRule for Truncating<'a> {
         })
     }
 
-    fn changed_text(&self, alloc: Global, text: &str, room: usize) -> Result<String, TableError> {
-        let used = used_suffix(alloc, self.suffix, self.limit, room)?;
+    fn changed_text(
+        &self,
+        alloc: Global,
+        text: &str,
+        content_size: usize,
+    ) -> Result<String, TableError> {
+        let used = used_suffix(alloc, self.suffix, self.limit, content_size)?;
         if self.multiline {
             return Ok(ended_lines(alloc, text, &used)?);
         }

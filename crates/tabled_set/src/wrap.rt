@@ -5,18 +5,18 @@ ghost use Rattle.tabled_base.specs.declared.position.Entity.TheVariants.{Row};
 ghost use Rattle.tabled_set.specs.CellChanges.{ChangesEntity, StopsEntity, if_wider, never_in_place, wrapping};
 ghost use Rattle.tabled_set.specs.Narrowed.{Narrows, NarrowingOutOfRange, StopsNarrowing};
 ghost use Rattle.tabled_set.specs.Promised.{WrapsAsPromised};
-ghost use Rattle.tabled_set.specs.declared.which.Which.TheVariants.{Wider, Every};
+ghost use Rattle.tabled_set.specs.declared.cell_filter.CellFilter.TheVariants.{Wider, Every};
 ghost use Rattle.tabled_size.specs.Cleared.{AreCleared};
 ghost use Rattle.tabled_size.specs.Sheet.{is_empty};
-ghost use Rattle.tabled_size.specs.Standing.{standing};
+ghost use Rattle.tabled_size.specs.Effective.{effective};
 ghost use Rattle.tabled_size.specs.declared.complete_dimension.CompleteDimension.{CompleteDimension};
 ghost use Rattle.tabled_text.specs.Breaking.{EachUnitFits, HasFewestLines, IsLeastBreaking};
 ghost use Rattle.tabled_text.specs.Wrapping.{IsWrapped};
 
+use crate::cell_filter::CellFilter;
 use crate::measured::change_measured;
 use crate::measurement::{Measurement, Width};
 use crate::narrowing::narrow_table;
-use crate::which::Which;
 use crate::wrapping::Wrapping;
 use std::alloc::Global;
 use tabled_base::{CellOption, Entity, RecordsMut, TableError, TableOption};
@@ -28,7 +28,7 @@ use tabled_text::wrap_text;
 #[derive(Clone, Debug, Drop)]
 pub struct Wrap<W = usize, P = PriorityNone> {
     width: W,
-    rule: Wrapping,
+    transform: Wrapping,
     priority: P,
 }
 
@@ -38,12 +38,12 @@ impl<W> Wrap<W> {
     where
         W: Measurement<Width>,
         ensures width { result.width ≡ width }
-        ensures keep_words { result.rule.keep_words ≡ false }
+        ensures keep_words { result.transform.keep_words ≡ false }
         ensures priority { result.priority.kept ≡ 0 }
     {
         Wrap {
             width,
-            rule: Wrapping { keep_words: false },
+            transform: Wrapping { keep_words: false },
             priority: PriorityNone::new(),
         }
     }
@@ -52,10 +52,10 @@ impl<W> Wrap<W> {
 impl<W, P> Wrap<W, P> {
     /// Whether a word that finds room on a line of its own is kept whole.
     pub fn keep_words(self, on: bool) -> Wrap<W, P>
-        ensures { result ≡ record self { rule = record { keep_words = on } } }
+        ensures { result ≡ record self { transform = record { keep_words = on } } }
     {
         Wrap {
-            rule: Wrapping { keep_words: on },
+            transform: Wrapping { keep_words: on },
             ..self
         }
     }
@@ -64,11 +64,11 @@ impl<W, P> Wrap<W, P> {
 impl<W, P: Drop> Wrap<W, P> {
     /// The order in which the columns of a table shrink.
     pub fn priority<Q: Peaker>(self, priority: Q) -> Wrap<W, Q>
-        ensures { result ≡ record { width = self.width; rule = self.rule; priority = priority } }
+        ensures { result ≡ record { width = self.width; transform = self.transform; priority = priority } }
     {
         Wrap {
             width: self.width,
-            rule: self.rule,
+            transform: self.transform,
             priority,
         }
     }
@@ -98,11 +98,11 @@ impl Wrap<(), ()> {
 /// The entity's cells that are wider than the measure are wrapped to it, and no other cell changes. Where the
 /// measure is refused, with `Range`, no cell has changed; where memory is, those before the refused one have, row by row.
 impl<W: Measurement<Width>, P, R: RecordsMut> CellOption<R, ColoredConfig> for Wrap<W, P> {
-    ghost changes = { λ s r c e r' c'. ChangesEntity (if_wider (wrapping s.rule.keep_words))
+    ghost changes = { λ s r c e r' c'. ChangesEntity (if_wider (wrapping s.transform.keep_words))
         (W.measures s.width (R.cells r) c.config) e (R.cells r) (R.cells r') × (c' ≡ c) };
 
     ghost refuses = { λ s f r c e r' c'. StopsEntity
-        Wider never_in_place (wrapping s.rule.keep_words)
+        Wider never_in_place (wrapping s.transform.keep_words)
         (W.measures s.width (R.cells r) c.config) e f (R.cells r) (R.cells r') × (c' ≡ c) };
 
     ghost out_of_range = { λ s r c e. W.out_of_range s.width (R.cells r) c.config };
@@ -115,8 +115,8 @@ impl<W: Measurement<Width>, P, R: RecordsMut> CellOption<R, ColoredConfig> for W
     ) -> Result<(), TableError> {
         change_measured::<Width, _, _, _>(
             &self.width,
-            &self.rule,
-            Which::Wider,
+            &self.transform,
+            CellFilter::Wider,
             records,
             cfg,
             entity,
@@ -138,12 +138,12 @@ impl<W: Measurement<Width> + Drop, P: Peaker + Drop, R: RecordsMut> TableOption<
     ColoredConfig,
     CompleteDimension,
 > for Wrap<W, P> {
-    ghost changes = { λ s r c d r' c' d'. Narrows P.shrinks s.priority (wrapping s.rule.keep_words)
+    ghost changes = { λ s r c d r' c' d'. Narrows P.shrinks s.priority (wrapping s.transform.keep_words)
         (W.measures s.width (R.cells r) c.config) (R.cells r) c.config d (R.cells r') d' × (c' ≡ c) };
 
     // Only a table with a row and a column fails. The sizes are as they were, or filled in.
     ghost refuses = { λ s e r c d r' c' d'. (is_empty (R.cells r) ≡ false)
-        × StopsNarrowing P.shrinks s.priority Every never_in_place (wrapping s.rule.keep_words)
+        × StopsNarrowing P.shrinks s.priority Every never_in_place (wrapping s.transform.keep_words)
         (W.measures s.width (R.cells r) c.config) e (R.cells r) c.config d (R.cells r') d'
         × (c' ≡ c) };
 
@@ -152,8 +152,8 @@ impl<W: Measurement<Width> + Drop, P: Peaker + Drop, R: RecordsMut> TableOption<
 
     // Of the sizes that are left once what is hinted was forgotten.
     ghost promises = { λ s r c d r' c' d'. (left : CompleteDimension) → AreCleared (Some (Row 0)) d' left
-        → WrapsAsPromised P.shrinks s.priority s.rule.keep_words (W.measures s.width (R.cells r) c.config)
-        (standing (R.cells r) c.config d) (standing (R.cells r') c'.config left) };
+        → WrapsAsPromised P.shrinks s.priority s.transform.keep_words (W.measures s.width (R.cells r) c.config)
+        (effective (R.cells r) c.config d) (effective (R.cells r') c'.config left) };
 
     ghost hint = { λ s. Some (Row 0) };
 
@@ -166,10 +166,18 @@ impl<W: Measurement<Width> + Drop, P: Peaker + Drop, R: RecordsMut> TableOption<
         if is_empty(records) {
             return Ok(());
         }
-        let rule = self.rule;
+        let transform = self.transform;
         let config = cfg.as_ref();
         let n = self.width.measure(records, config)?;
-        narrow_table(&rule, Which::Every, self.priority, records, config, dims, n)
+        narrow_table(
+            &transform,
+            CellFilter::Every,
+            self.priority,
+            records,
+            config,
+            dims,
+            n,
+        )
     }
 
     fn hint_change(&self) -> Option<Entity> {

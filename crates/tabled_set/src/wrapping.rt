@@ -1,29 +1,34 @@
-//! The rule by which a text is wrapped.
+//! The transform by which a text is wrapped.
 ghost use Rattle.std.specs.Prelude.{◌≡◌};
 ghost use Rattle.tabled_set.specs.CellChanges.{wrapping};
 
-use crate::changing::{Beginning, TextRule};
+use crate::changing::{Beginning, TextTransform};
 use std::alloc::Global;
 use tabled_base::TableError;
 use tabled_text::wrap_text;
 
-/// Wraps a text in the columns of its room: what finds no room on a line begins the next.
+/// Wraps a text in the columns of its content size: what finds no room on a line begins the next.
 #[derive(Clone, Copy, Debug)]
 pub struct Wrapping {
     /// Whether a word that finds room on a line of its own is kept whole.
     pub keep_words: bool,
 }
 
-impl TextRule for Wrapping {
+impl TextTransform for Wrapping {
     ghost makes = { λ s. wrapping s.keep_words };
 
-    ghost shortens = { λ s room text. ⊥ };
+    ghost shortens = { λ s content_size text. ⊥ };
 
     fn beginning(&self, _text: &str, _room: usize) -> Option<Beginning<'_>> {
         None
     }
 
-    fn changed_text(&self, alloc: Global, text: &str, room: usize) -> Result<String, TableError> {
-        Ok(wrap_text(alloc, text, room, self.keep_words)?)
+    fn changed_text(
+        &self,
+        alloc: Global,
+        text: &str,
+        content_size: usize,
+    ) -> Result<String, TableError> {
+        Ok(wrap_text(alloc, text, content_size, self.keep_words)?)
     }
 }

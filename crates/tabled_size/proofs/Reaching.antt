@@ -36,7 +36,7 @@ use Rattle.std.proofs.lemmas.List.{ext_get_or, get_or-take, length-take}
 use Rattle.std.proofs.lemmas.List.FromFn.{get_or-map-range_with_len, length-map-range_with_len}
 use Rattle.tabled_size.specs.Reached.{leading, reached}
 use Rattle.tabled_size.specs.Entries.{entry, stored_at}
-use Rattle.tabled_size.specs.Standing.{standing_sizes}
+use Rattle.tabled_size.specs.Effective.{effective_sizes}
 
 leading_le : (sizes : List (Option ℕ)) → length (leading sizes) ≤ length sizes
 leading_le [] = omega arith
@@ -137,15 +137,15 @@ reached_stored sizes count =
 
 -- what stands where a list is stored, or filled in with estimates that go as far as the table
 pub reached_filled : (stored : Option (List ℕ)) (estimates : List ℕ) (count : ℕ) → length estimates ≡ count
-    → reached (stored_at (Some (unwrap_or stored estimates))) count ≡ standing_sizes stored estimates count
+    → reached (stored_at (Some (unwrap_or stored estimates))) count ≡ effective_sizes stored estimates count
 reached_filled None estimates count h = reached_stored estimates count ∙ ap (λ n. take n estimates) (sym h) ∙ take-length estimates
 reached_filled (Some sizes) estimates count h = reached_stored sizes count
 
 -- what stands where a list is stored
-pub reached_standing : (stored : Option (List ℕ)) (estimates : List ℕ) (count : ℕ) → is_some stored ≡ true
-    → reached (stored_at stored) count ≡ standing_sizes stored estimates count
-reached_standing None estimates count h = let missing : false ≡ true = h in cc
-reached_standing (Some sizes) estimates count h = reached_stored sizes count
+pub reached_effective : (stored : Option (List ℕ)) (estimates : List ℕ) (count : ℕ) → is_some stored ≡ true
+    → reached (stored_at stored) count ≡ effective_sizes stored estimates count
+reached_effective None estimates count h = let missing : false ≡ true = h in cc
+reached_effective (Some sizes) estimates count h = reached_stored sizes count
 
 pub reached_there : (f : ℕ → Option ℕ) (count i : ℕ) → i < length (reached f count) → is_some (f i) ≡ true
 reached_there f count i h = ap is_some (reached_at f count i h)

@@ -9,10 +9,10 @@ use Rattle.tabled_config.specs.declared.spanned.SpannedConfig.{SpannedConfig}
 use Rattle.tabled_size.specs.Estimates.{IsTooHigh, IsTooWide, column_width, estimated_heights, estimated_widths, row_height}
 use Rattle.tabled_size.specs.Reached.{reached}
 use Rattle.tabled_size.specs.Entries.{stored_at}
-use Rattle.tabled_size.specs.Standing.{standing_sizes}
-use Rattle.tabled_size.specs.StandingTotals.{AnswersHeight, AnswersWidth}
+use Rattle.tabled_size.specs.Effective.{effective_sizes}
+use Rattle.tabled_size.specs.EffectiveTotals.{AnswersHeight, AnswersWidth}
 use Rattle.tabled_size.proofs.Passing.{too_high_passes, too_wide_passes}
-use Rattle.tabled_size.proofs.Reaching.{reached_filled, reached_standing}
+use Rattle.tabled_size.proofs.Reaching.{reached_filled, reached_effective}
 
 -- one size a column, and one a row
 pub widths_length : (cells : List (List (List ℕ))) (config : SpannedConfig) → length (estimated_widths cells config) ≡ columns cells
@@ -31,9 +31,9 @@ reached_estimates stored estimates count n s long e =
 
 -- a list that is stored is reached as far as it stands
 pub reached_stands : (stored : Option (List ℕ)) (sizes estimates : List ℕ) (count n : ℕ) → stored ≡ Some sizes → n
-    ≡ count → reached (stored_at stored) n ≡ standing_sizes stored estimates count
+    ≡ count → reached (stored_at stored) n ≡ effective_sizes stored estimates count
 reached_stands stored sizes estimates count n s e =
-    ap (reached (stored_at stored)) e ∙ reached_standing stored estimates count (ap is_some s)
+    ap (reached (stored_at stored)) e ∙ reached_effective stored estimates count (ap is_some s)
 
 -- the answer by one list is that by an equal one
 pub width_moved : (config : SpannedConfig) (m n : ℕ) (old new : List ℕ) (r : Result ℕ TableError) → m ≡ n → old ≡ new

@@ -30,9 +30,9 @@ PassesRange extent = (2 ^ 64 ≤ extent.columns) ⊎ (2 ^ 64 ≤ extent.lines)
 abbrev pub nothing : Extent
 nothing = record { columns = 0; lines = 0 }
 
--- of each text in so many columns is told what its padding adds
-pub record TellsAdded (told : ℕ → Extent) (config : SpannedConfig) (row columns : ℕ) : Type 0 where
-  pub at : (column : ℕ) → column < columns → told column ≡ added_at config row column
+-- of each text in so many columns is known what its padding adds
+pub record DescribesAdded (known : ℕ → Extent) (config : SpannedConfig) (row columns : ℕ) : Type 0 where
+  pub at : (column : ℕ) → column < columns → known column ≡ added_at config row column
 
 -- what is listed of so many columns is what padding adds in the row of its number, and all rows are padded so if it says so
 pub record IsListed (config : SpannedConfig) (columns : ℕ) (listed : ListedRow) : Type 0 where

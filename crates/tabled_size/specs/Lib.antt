@@ -8,8 +8,8 @@ pub mod Holds
 pub mod PlainCells
 pub mod Reached
 pub mod Sheet
-pub mod Standing
-pub mod StandingTotals
+pub mod Effective
+pub mod EffectiveTotals
 pub mod Stored
 pub mod TextCells
 pub mod Totals

@@ -3,13 +3,13 @@ ghost use Rattle.std.specs.Prelude.{◌≡◌, ℕ, IfNone, IfSome, map, true};
 ghost use Rattle.std.specs.List.{range_with_len, slice_index_or};
 ghost use Rattle.tabled_config.specs.Settings.{style_at};
 ghost use Rattle.tabled_entity.specs.Changes.{value_at};
-ghost use Rattle.tabled_entity.specs.ToldValues.{told_value};
+ghost use Rattle.tabled_entity.specs.KnownValues.{known_value};
 ghost use Rattle.tabled_size.specs.Added.{IsListed, KnowsAdded, PassesRange, added_at, added_by, nothing};
 
 use std::alloc::Global;
 use tabled_base::Position;
 use tabled_config::{Indent, Sides, SpannedConfig};
-use tabled_entity::{RowValues, ToldValues};
+use tabled_entity::{KnownValues, RowValues};
 
 /// For more columns nothing is listed.
 const MOST_COLUMNS: usize = 65_536;
@@ -22,17 +22,17 @@ pub(crate) struct Extent {
 }
 
 /// What tells what padding adds to the texts of a row's cells, from left to right.
-pub(crate) trait TellAdded {
+pub(crate) trait RowPadding {
     ghost use Rattle.tabled_size.specs.declared.added.Extent.{Extent};
 
-    // What is told of the text in a column.
-    ghost told: { Self → ℕ → Extent };
+    // What is known of the text in a column.
+    ghost known: { Self → ℕ → Extent };
 
     /// What padding adds to the text in a column, if numbers can say it.
     fn at(&mut self, column: usize) -> Option<Extent>
-        ensures some { IfSome result (λ extent. extent ≡ told self.old column) }
-        ensures none { IfNone result (PassesRange (told self.old column)) }
-        ensures same { (column : ℕ) → told self.new column ≡ told self.old column };
+        ensures some { IfSome result (λ extent. extent ≡ known self.old column) }
+        ensures none { IfNone result (PassesRange (known self.old column)) }
+        ensures same { (column : ℕ) → known self.new column ≡ known self.old column };
 }
 
 /// To the text in each column as it is listed, and nothing behind the listed columns.
@@ -49,7 +49,7 @@ pub(crate) struct ListedRow {
 }
 
 /// What padding adds to the texts of a table, where that is known for more than one row. That it is the same to
-/// all is told by one test, so that a loop over rows is compiled for that case by itself.
+/// all is known by one test, so that a loop over rows is compiled for that case by itself.
 #[derive(Drop)]
 pub(crate) enum KnownAdded {
     /// The same to all.
@@ -88,8 +88,8 @@ fn row_added(config: &SpannedConfig, row: usize) -> Option<Extent>
 
 /// What padding adds to each text in a row's first columns, where all are known to be padded alike, and numbers can say it.
 #[inline(always)]
-pub(crate) fn told_added(paddings: &ToldValues<'_, Sides<Indent>>) -> Option<Extent>
-    ensures { IfSome result (λ extent. (column : ℕ) → extent ≡ added_by (told_value paddings.now column)) }
+pub(crate) fn known_row_added(paddings: &KnownValues<'_, Sides<Indent>>) -> Option<Extent>
+    ensures { IfSome result (λ extent. (column : ℕ) → extent ≡ added_by (known_value paddings.now column)) }
 {
     let padding = paddings.shared()?;
     added_by(*padding)
@@ -113,8 +113,8 @@ fn listed_in(
 }
 
 /// The same to all texts.
-impl TellAdded for Extent {
-    ghost told = { λ extent column. extent };
+impl RowPadding for Extent {
+    ghost known = { λ extent column. extent };
 
     #[inline(always)]
     fn at(&mut self, _column: usize) -> Option<Extent> {
@@ -122,8 +122,8 @@ impl TellAdded for Extent {
     }
 }
 
-impl<'a> TellAdded for Listed<'a> {
-    ghost told = { λ listed column. slice_index_or listed.0.now column nothing };
+impl<'a> RowPadding for Listed<'a> {
+    ghost known = { λ listed column. slice_index_or listed.0.now column nothing };
 
     #[inline(always)]
     fn at(&mut self, column: usize) -> Option<Extent> {
@@ -137,19 +137,19 @@ impl<'a> TellAdded for Listed<'a> {
     }
 }
 
-/// To each text as its padding is told.
-impl<'a> TellAdded for ToldValues<'a, Sides<Indent>> {
-    ghost told = { λ paddings column. added_by (told_value paddings column) };
+/// To each text as its padding is known.
+impl<'a> RowPadding for KnownValues<'a, Sides<Indent>> {
+    ghost known = { λ paddings column. added_by (known_value paddings column) };
 
     #[inline(always)]
     fn at(&mut self, column: usize) -> Option<Extent> {
-        added_by(*ToldValues::at(self, column))
+        added_by(*KnownValues::at(self, column))
     }
 }
 
 /// To each text as its padding was set.
-impl<'a> TellAdded for RowValues<'a, Sides<Indent>> {
-    ghost told = { λ paddings column. added_by (value_at paddings column) };
+impl<'a> RowPadding for RowValues<'a, Sides<Indent>> {
+    ghost known = { λ paddings column. added_by (value_at paddings column) };
 
     #[inline(always)]
     fn at(&mut self, column: usize) -> Option<Extent> {
@@ -170,7 +170,7 @@ impl ListedRow {
 
 impl KnownAdded {
     /// What padding adds to the texts of a table with so many rows and columns. It is listed where there are few enough columns,
-    /// and padding was set for no cell. That memory for the list is refused changes what is kept, and not what is told.
+    /// and padding was set for no cell. That memory for the list is refused changes what is kept, and not what is known.
     pub(crate) fn new(
         alloc: Global,
         config: &SpannedConfig,

@@ -3,15 +3,15 @@ ghost use Rattle.std.specs.Prelude.{◌≡◌, ◌⊎◌, ◌+◌, ◌<◌, ◌�
 ghost use Rattle.tabled_base.specs.Cells.{IsInside, columns};
 ghost use Rattle.tabled_base.specs.declared.error.TableError.TheVariants.{Memory, Range};
 ghost use Rattle.tabled_config.specs.Settings.{style_at};
-ghost use Rattle.tabled_entity.specs.ToldValues.{told_value};
-ghost use Rattle.tabled_size.specs.Added.{KnowsAdded, TellsAdded, added_at};
+ghost use Rattle.tabled_entity.specs.KnownValues.{known_value};
+ghost use Rattle.tabled_size.specs.Added.{KnowsAdded, DescribesAdded, added_at};
 ghost use Rattle.tabled_size.specs.Estimates.{IsTooHigh, IsTooWide, estimated_heights, estimated_widths, needed_height, needed_width, raised, row_height};
 
-use crate::added::{Extent, KnownAdded, Listed, TellAdded, told_added};
+use crate::added::{Extent, KnownAdded, Listed, RowPadding, known_row_added};
 use std::alloc::Global;
 use tabled_base::{PeekableRecords, Position, TableError};
 use tabled_config::{Indent, Sides, SpannedConfig};
-use tabled_entity::ToldValues;
+use tabled_entity::KnownValues;
 
 /// The columns that a cell needs, if a number can say them.
 pub(crate) fn needed_width<R: PeekableRecords>(
@@ -172,9 +172,9 @@ fn needed<R: PeekableRecords>(
 }
 
 /// Makes room for the cells of a row, and answers the lines that they need, if numbers can say both. What padding adds to their
-/// texts is told.
+/// texts is known.
 #[inline]
-fn measure_row<R: PeekableRecords, A: TellAdded + Drop>(
+fn measure_row<R: PeekableRecords, A: RowPadding + Drop>(
     records: &R,
     config: &SpannedConfig,
     row: usize,
@@ -183,7 +183,7 @@ fn measure_row<R: PeekableRecords, A: TellAdded + Drop>(
 ) -> Option<usize>
     requires row_in { row < length (R.cells records.now) }
     requires columns { length widths.old ≡ columns (R.cells records.now) }
-    requires told { TellsAdded (A.told added) config.now row (columns (R.cells records.now)) }
+    requires known { DescribesAdded (A.known added) config.now row (columns (R.cells records.now)) }
     ensures widths { IfSome result (λ _. widths.new ≡ raised widths.old (R.cells records.now) config.now row) }
     ensures lines { IfSome result (λ n. n ≡ row_height (R.cells records.now) config.now row) }
     ensures none { IfNone result (IsTooWide (R.cells records.now) config.now ⊎ IsTooHigh (R.cells records.now) config.now) }
@@ -198,24 +198,24 @@ fn measure_row<R: PeekableRecords, A: TellAdded + Drop>(
     Some(most)
 }
 
-/// Makes room for the cells of a row, and answers the lines that they need, if numbers can say both. The padding of each text is told.
+/// Makes room for the cells of a row, and answers the lines that they need, if numbers can say both. The padding of each text is known.
 #[inline]
-fn measure_told<R: PeekableRecords>(
+fn measure_known_paddings<R: PeekableRecords>(
     records: &R,
     config: &SpannedConfig,
     row: usize,
     widths: &mut [usize],
-    paddings: ToldValues<'_, Sides<Indent>>,
+    paddings: KnownValues<'_, Sides<Indent>>,
 ) -> Option<usize>
     requires row_in { row < length (R.cells records.now) }
     requires columns { length widths.old ≡ columns (R.cells records.now) }
-    requires told { (column : ℕ) → column < columns (R.cells records.now)
-        → told_value paddings column ≡ (style_at config.now row column).padding }
+    requires known { (column : ℕ) → column < columns (R.cells records.now)
+        → known_value paddings column ≡ (style_at config.now row column).padding }
     ensures widths { IfSome result (λ _. widths.new ≡ raised widths.old (R.cells records.now) config.now row) }
     ensures lines { IfSome result (λ n. n ≡ row_height (R.cells records.now) config.now row) }
     ensures none { IfNone result (IsTooWide (R.cells records.now) config.now ⊎ IsTooHigh (R.cells records.now) config.now) }
 {
-    match told_added(&paddings) {
+    match known_row_added(&paddings) {
         Some(extent) => measure_row(records, config, row, widths, extent),
         None => measure_row(records, config, row, widths, paddings),
     }
@@ -223,7 +223,7 @@ fn measure_told<R: PeekableRecords>(
 
 /// Makes room for the cells of a row, and answers the lines that they need, if numbers can say both. Each text is padded as it was set.
 #[inline(never)]
-fn measure_set<R: PeekableRecords>(
+fn measure_set_paddings<R: PeekableRecords>(
     records: &R,
     config: &SpannedConfig,
     row: usize,
@@ -267,8 +267,8 @@ fn measure_known<R: PeekableRecords>(
             )
         }
         _ => match config.told_paddings(row, records.count_columns()) {
-            Some(paddings) => measure_told(records, config, row, widths, paddings),
-            None => measure_set(records, config, row, widths),
+            Some(paddings) => measure_known_paddings(records, config, row, widths, paddings),
+            None => measure_set_paddings(records, config, row, widths),
         },
     }
 }

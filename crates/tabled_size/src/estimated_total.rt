@@ -7,8 +7,8 @@ ghost use Rattle.tabled_size.specs.Estimates.{IsTooHigh, IsTooWide, column_width
 ghost use Rattle.tabled_size.specs.Sheet.{estimated};
 ghost use Rattle.tabled_size.specs.Totals.{part_height, total_height, total_width};
 
+use crate::effective::is_empty;
 use crate::estimate::{needed_width, row_height};
-use crate::standing::is_empty;
 use crate::total::{framed_height, framed_width, one_if};
 use tabled_base::{PeekableRecords, Position};
 use tabled_config::SpannedConfig;

@@ -8,7 +8,7 @@
 //! - `estimate.rt`: the widest cell of each column and the highest of each row; `added.rt`: what
 //!   padding adds to them; `estimating.rt`: estimates for what isn't stored.
 //! - `total.rt`: the total of given sizes, with borders and margins.
-//! - `standing.rt`: totals and checks of the sizes that count: stored ones, else estimates.
+//! - `effective.rt`: totals and checks of the sizes that count: stored ones, else estimates.
 //! - `estimated_total.rt`: totals of estimates, without a list of sizes.
 #![tactic(auto)]
 
@@ -16,11 +16,11 @@ mod added;
 mod complete_dimension;
 mod const_dimension;
 mod dimension;
+mod effective;
 mod estimate;
 mod estimated_total;
 mod estimating;
 mod pool_table_dimension;
-mod standing;
 mod static_dimension;
 mod total;
 mod zero_dimension;
@@ -28,10 +28,10 @@ mod zero_dimension;
 pub use complete_dimension::CompleteDimension;
 pub use const_dimension::{ConstDimension, ConstSize};
 pub use dimension::{Dimension, Estimate};
+pub use effective::{check_heights, check_widths, is_empty, total_height, total_width};
 pub use estimate::{estimate_heights, estimate_sizes, estimate_widths};
 pub use estimated_total::{estimated_total_height, estimated_total_width};
 pub use pool_table_dimension::{DimensionPriority, PoolTableDimension};
-pub use standing::{check_heights, check_widths, is_empty, total_height, total_width};
 pub use static_dimension::{DimensionValue, StaticDimension};
 pub use tabled_priority::{
     Peaker, Priority, PriorityLeft, PriorityMax, PriorityMin, PriorityNone, PriorityRight, Steps,

@@ -31,7 +31,7 @@ use Rattle.tabled_config.specs.Settings.{rule_at, style_at}
 use Rattle.tabled_config.specs.declared.spanned.SpannedConfig.{SpannedConfig}
 use Rattle.tabled_size.specs.Estimates.{estimated_heights, estimated_widths}
 use Rattle.tabled_size.specs.Sheet.{Sheet, is_empty}
-use Rattle.tabled_size.specs.Standing.{standing_sizes}
+use Rattle.tabled_size.specs.Effective.{effective_sizes}
 use Rattle.tabled_size.specs.Stored.{heights_of, widths_of}
 use Rattle.tabled_priority.specs.Sums.{sum_below}
 use Rattle.tabled_size.specs.Totals.{filled_height, part_height, total_height, total_width}
@@ -169,8 +169,8 @@ abbrev built : List (List (List ℕ)) → SpannedConfig → Option (List ℕ) �
 built cells config widths heights = record {
   cells = cells;
   config = config;
-  widths = standing_sizes widths (estimated_widths cells config) (columns cells);
-  heights = standing_sizes heights (estimated_heights cells config) (length cells);
+  widths = effective_sizes widths (estimated_widths cells config) (columns cells);
+  heights = effective_sizes heights (estimated_heights cells config) (length cells);
 }
 
 -- a new table has no sizes stored

@@ -12,7 +12,7 @@ use Rattle.tabled_config.specs.declared.spanned.SpannedConfig.{SpannedConfig}
 use Rattle.tabled_size.specs.declared.complete_dimension.CompleteDimension.{CompleteDimension}
 use Rattle.tabled_size.specs.Estimates.{column_width, estimated_heights, estimated_widths, row_height}
 use Rattle.tabled_size.specs.Holds.{Holds}
-use Rattle.tabled_size.specs.Standing.{standing}
+use Rattle.tabled_size.specs.Effective.{effective}
 use Rattle.tabled_size.specs.Totals.{filled_width}
 use Rattle.tabled_line.specs.Apart.{AreApartCells, IsApartStyle}
 use Rattle.tabled_line.specs.Plain.{IsPlainStyle}
@@ -89,18 +89,18 @@ module _ (config : SpannedConfig) (align : Option AlignmentHorizontal) (fill mis
 
   -- the sizes that stand are the same ones
   pub shown_widths : (cells : List (List (List ℕ))) (sizes : CompleteDimension)
-      → (standing cells changed sizes).widths ≡ (standing cells config sizes).widths
+      → (effective cells changed sizes).widths ≡ (effective cells config sizes).widths
   unfolding estimated_widths column_width style_at
   shown_widths cells sizes = refl
 
   pub shown_heights : (cells : List (List (List ℕ))) (sizes : CompleteDimension)
-      → (standing cells changed sizes).heights ≡ (standing cells config sizes).heights
+      → (effective cells changed sizes).heights ≡ (effective cells config sizes).heights
   unfolding estimated_heights row_height style_at
   shown_heights cells sizes = refl
 
   -- and they hold the same cells
   pub shown_holds : (cells : List (List (List ℕ))) (sizes : CompleteDimension)
-      → Holds (standing cells config sizes) → Holds (standing cells changed sizes)
+      → Holds (effective cells config sizes) → Holds (effective cells changed sizes)
   unfolding estimated_widths column_width style_at
   shown_holds cells sizes holds = λ row column h k. holds row column h k
 

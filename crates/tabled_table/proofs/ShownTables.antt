@@ -12,7 +12,7 @@ use Rattle.tabled_config.specs.declared.spanned.SpannedConfig.{SpannedConfig}
 use Rattle.tabled_size.specs.Holds.{Holds}
 use Rattle.tabled_size.specs.PlainCells.{AreAdditive}
 use Rattle.tabled_size.specs.Sheet.{Sheet, is_empty}
-use Rattle.tabled_size.specs.Standing.{standing}
+use Rattle.tabled_size.specs.Effective.{effective}
 use Rattle.tabled_size.specs.Stored.{heights_of, is_stored, widths_of}
 use Rattle.tabled_size.specs.TextCells.{AreTexts}
 use Rattle.tabled_size.specs.Totals.{filled_width, total_width}
@@ -95,7 +95,7 @@ none_missing n e = let most : n ≤ 0 = ltb-false 0 n e in omega arith
 shown_unchanged : (table : Table) (width : Option ℕ) (align : Option AlignmentHorizontal) (fill : ℕ)
     → (is_some align || nat_lt 0 (missing_columns table width)) ≡ false → shown table width align fill ≡ sheet table
 shown_unchanged table width None fill e =
-    ap (λ c. standing (cells_of table) c table.dimension) (unchanged table.config.config fill (missing_columns table width) (none_missing _ e))
+    ap (λ c. effective (cells_of table) c table.dimension) (unchanged table.config.config fill (missing_columns table width) (none_missing _ e))
 shown_unchanged table width (Some alignment) fill e = let no : true ≡ false = e in absurd (cc)
 
 -- a call that is refused for its cause before it prints
@@ -135,8 +135,8 @@ module _ {T : Type 0} (table : Table) (width : Option ℕ) (align : Option Align
   -- one that prints it under a copy of the settings
   pub prints_changed : (b : Sent) (r : Result T TableError) (config : SpannedConfig)
       → config ≡ shown_config table.config.config align fill (missing_columns table width)
-      → Prints (not (is_stored table.dimension)) (standing (cells_of table) config table.dimension) a r b
+      → Prints (not (is_stored table.dimension)) (effective (cells_of table) config table.dimension) a r b
       → Prints (takes_memory table width align) (shown table width align fill) a r b
   prints_changed b r config e p =
       prints_more (not (is_stored table.dimension)) (takes_memory table width align) (shown table width align fill) a b r (λ h. or_right _ _ h)
-      (subst (λ c. Prints (not (is_stored table.dimension)) (standing (cells_of table) c table.dimension) a r b) e p)
+      (subst (λ c. Prints (not (is_stored table.dimension)) (effective (cells_of table) c table.dimension) a r b) e p)

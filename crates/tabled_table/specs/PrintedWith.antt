@@ -8,7 +8,7 @@ use Rattle.tabled_config.specs.declared.alignment.AlignmentHorizontal.TheVariant
 use Rattle.tabled_config.specs.declared.spanned.SpannedConfig.{SpannedConfig}
 use Rattle.tabled_entity.specs.Changes.{Changes, with_change}
 use Rattle.tabled_size.specs.Sheet.{Sheet}
-use Rattle.tabled_size.specs.Standing.{standing}
+use Rattle.tabled_size.specs.Effective.{effective}
 use Rattle.tabled_size.specs.Stored.{is_stored}
 use Rattle.tabled_size.specs.Totals.{total_width}
 use Rattle.tabled_table.specs.TableSheet.{cells_of, sheet}
@@ -64,7 +64,7 @@ missing_columns table width = missing_to width (total_width (sheet table))
 -- the table as it is shown: its cells and the sizes that stand, under these settings
 abbrev pub shown : Table → Option ℕ → Option AlignmentHorizontal → ℕ → Sheet
 shown table width align fill =
-    standing (cells_of table) (shown_config table.config.config align fill (missing_columns table width)) table.dimension
+    effective (cells_of table) (shown_config table.config.config align fill (missing_columns table width)) table.dimension
 
 -- the columns that are asked for, none where nothing is said
 abbrev pub asked : Option ℕ → ℕ

@@ -1,7 +1,7 @@
 -- What a table shows.
 use Rattle.std.specs.Prelude.{ℕ, List}
 use Rattle.tabled_size.specs.Sheet.{Sheet, estimated}
-use Rattle.tabled_size.specs.Standing.{standing}
+use Rattle.tabled_size.specs.Effective.{effective}
 use Rattle.tabled_table.specs.NewConfig.{new_config}
 use Rattle.tabled_table.specs.declared.table.Table.{Table}
 
@@ -15,4 +15,4 @@ cells_of table = table.records
 
 -- a table with the sizes that stand: those that are stored, and else estimated ones
 abbrev pub sheet : Table → Sheet
-sheet table = standing (cells_of table) table.config.config table.dimension
+sheet table = effective (cells_of table) table.config.config table.dimension

@@ -19,7 +19,7 @@ mod take;
 mod total;
 mod whole;
 
-use crate::iter_table::settings::Settings;
+use crate::iter_table::settings::StreamSettings;
 use std::alloc::Global;
 use tabled_base::{CellText, IntoRecords, TableError};
 use tabled_config::{AlignmentHorizontal, CompactConfig, Indent, Sides, Style};
@@ -30,7 +30,7 @@ use tabled_config::{AlignmentHorizontal, CompactConfig, Indent, Sides, Style};
 pub struct IterTable<I> {
     pub(crate) records: I,
     pub(crate) config: CompactConfig,
-    pub(crate) settings: Settings,
+    pub(crate) settings: StreamSettings,
 }
 
 /// Ascii borders, one column of padding left and right, texts at the left.
@@ -60,7 +60,7 @@ impl<I> IterTable<I> {
         IterTable {
             records,
             config: new_config(),
-            settings: Settings {
+            settings: StreamSettings {
                 sniff: 1000,
                 columns: None,
                 rows: None,

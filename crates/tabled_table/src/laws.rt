@@ -16,7 +16,7 @@ ghost use Rattle.tabled_config.specs.declared.compact.CompactConfig.{CompactConf
 ghost use Rattle.tabled_config.specs.Spanned.{spanned_of_compact};
 ghost use Rattle.tabled_size.specs.Sheet.{Sheet, estimated};
 ghost use Rattle.tabled_size.specs.TextCells.{AreTexts};
-ghost use Rattle.tabled_table.specs.declared.iter_table.settings.Settings.{Settings};
+ghost use Rattle.tabled_table.specs.declared.iter_table.settings.StreamSettings.{StreamSettings};
 ghost use Rattle.tabled_table.specs.Stream.GoesOn.{GoesOn};
 ghost use Rattle.tabled_table.specs.Stream.LikeTable.{IsLikeTable};
 ghost use Rattle.tabled_table.specs.Stream.Streamed.{IsCutRow, IsStreamed, column_count, limited, sniffed};
@@ -40,7 +40,7 @@ pub fn new_tables()
 /// count as many as their columns.
 #[tactic(auto, using(tabled_text::proofs::ExactLines::plain_exact, crate::proofs::Stream::SameSheet::like_table))]
 pub fn streams_like_tables()
-    ensures sheet { (settings : Settings) (config : CompactConfig) (rows : List (List (List ℕ))) (t : Sheet) → IsLikeTable settings rows
+    ensures sheet { (settings : StreamSettings) (config : CompactConfig) (rows : List (List (List ℕ))) (t : Sheet) → IsLikeTable settings rows
         → IsStreamed settings config (sniffed settings rows) (limited settings.rows rows) t → t ≡ estimated rows (spanned_of_compact config) }
     ensures plain { (text : List ℕ) → IsAdditive text → length (lines_of text) ≡ 1 → IsExactLine text }
 {}
@@ -56,7 +56,7 @@ pub fn texts_can_be_cut()
 /// is a streamed table of all rows, and what stands above the rows behind is the beginning of its text. There must be a
 /// column and a row, since a table without one has no text.
 pub fn streams_go_on()
-    ensures { (settings : Settings) (config : CompactConfig) (ahead_rows shown rest : List (List (List ℕ))) (t : Sheet)
+    ensures { (settings : StreamSettings) (config : CompactConfig) (ahead_rows shown rest : List (List (List ℕ))) (t : Sheet)
         → IsStreamed settings config ahead_rows shown t → AreTexts rest
         → 0 < column_count settings ahead_rows → 0 < length (shown ++ rest)
         → GoesOn settings config ahead_rows shown rest t }
@@ -66,10 +66,10 @@ pub fn streams_go_on()
 /// columns hold the cells: a cut text takes no more columns than its characters count. So each line of its picture takes
 /// exactly the total width where the settings keep the cells apart, as the law of pictures says.
 pub fn streams_hold()
-    ensures rectangular { (settings : Settings) (config : CompactConfig) (ahead_rows rows : List (List (List ℕ))) (t : Sheet)
+    ensures rectangular { (settings : StreamSettings) (config : CompactConfig) (ahead_rows rows : List (List (List ℕ))) (t : Sheet)
         → IsStreamed settings config ahead_rows rows t → IsRectangular t.cells }
-    ensures texts { (settings : Settings) (config : CompactConfig) (ahead_rows rows : List (List (List ℕ))) (t : Sheet)
+    ensures texts { (settings : StreamSettings) (config : CompactConfig) (ahead_rows rows : List (List (List ℕ))) (t : Sheet)
         → IsStreamed settings config ahead_rows rows t → AreTexts t.cells }
-    ensures holds { (settings : Settings) (config : CompactConfig) (ahead_rows rows : List (List (List ℕ))) (t : Sheet)
+    ensures holds { (settings : StreamSettings) (config : CompactConfig) (ahead_rows rows : List (List (List ℕ))) (t : Sheet)
         → IsStreamed settings config ahead_rows rows t → Holds t }
 {}

@@ -9,7 +9,7 @@ ghost use Rattle.tabled_base.specs.Cells.{columns};
 ghost use Rattle.tabled_base.specs.Given.{Given};
 ghost use Rattle.tabled_base.specs.declared.error.TableError.TheVariants.{Memory, Range, Writer};
 ghost use Rattle.tabled_size.specs.Sheet.{is_empty};
-ghost use Rattle.tabled_size.specs.StandingTotals.{AnswersHeight, AnswersWidth};
+ghost use Rattle.tabled_size.specs.EffectiveTotals.{AnswersHeight, AnswersWidth};
 ghost use Rattle.tabled_size.specs.Stored.{heights_of, is_stored, widths_of};
 ghost use Rattle.tabled_size.specs.Totals.{total_height, total_width};
 ghost use Rattle.tabled_size.specs.Holds.{Holds};

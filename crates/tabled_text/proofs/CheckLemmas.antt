@@ -40,7 +40,7 @@ use Rattle.std.proofs.lemmas.Str.{chars_from_encodes, encodes-chars}
 use Rattle.tabled_text.specs.Measure.{lines_of}
 use Rattle.tabled_text.specs.Units.{TextUnit, units}
 use Rattle.tabled_text.specs.Wrapping.{IsFullest, IsFullestText, text_of_lines, IsRoomyWrapping}
-use Rattle.tabled_text.specs.Walk.{put_all, pending, fits_line}
+use Rattle.tabled_text.specs.Walk.{append_all, pending, fits_line}
 use Rattle.tabled_text.specs.Expected.{Expects}
 use Rattle.tabled_text.proofs.FitLemmas.{fits_lines-iff}
 use Rattle.tabled_text.proofs.Filling.{text_is}
@@ -60,12 +60,12 @@ text_of_lines-is : (n : ℕ) → 0 < n → (words : Bool) (lines : List (List �
 text_of_lines-is n pos words [] [] h = refl
 text_of_lines-is n pos words [] (g ∷ gs) h = absurd h
 text_of_lines-is n pos words (line ∷ lines) [] h = absurd h
-text_of_lines-is n pos words (line ∷ []) (g ∷ []) h = text_is n pos (units n words line) g h.0 ∙ sym (append-nil (put_all n 0 (units n words line)))
+text_of_lines-is n pos words (line ∷ []) (g ∷ []) h = text_is n pos (units n words line) g h.0 ∙ sym (append-nil (append_all n 0 (units n words line)))
 text_of_lines-is n pos words (line ∷ []) (g ∷ k ∷ gs) h = absurd h.1
 text_of_lines-is n pos words (line ∷ next ∷ lines) (g ∷ []) h = absurd h.1
 text_of_lines-is n pos words (line ∷ next ∷ lines) (g ∷ k ∷ gs) h =
     ap (λ l. l ++ (10 ∷ text_of_lines n (k ∷ gs))) (text_is n pos (units n words line) g h.0)
-    ∙ ap (λ l. put_all n 0 (units n words line) ++ (10 ∷ l)) (text_of_lines-is n pos words (next ∷ lines) (k ∷ gs) h.1)
+    ∙ ap (λ l. append_all n 0 (units n words line) ++ (10 ∷ l)) (text_of_lines-is n pos words (next ∷ lines) (k ∷ gs) h.1)
 
 pub IsFullestText-iff : (n : ℕ) → 0 < n → (words : Bool) (cs out : List ℕ) → IsUtf8 out
     → (out ≡ encode_utf8_all (pending n words false (lines_of cs))) ↔ IsFullestText n words cs (chars out)

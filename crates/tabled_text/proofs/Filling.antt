@@ -31,19 +31,19 @@ use Rattle.std.proofs.lemmas.List.Sums.{sum_by-cons, sum_by_push}
 use Rattle.std.proofs.lemmas.List.Elements.{All-head, All-tail, All-cons, All-nil}
 use Rattle.std.proofs.lemmas.Bool.{leb-true, leb-false, cases_Bool, le-leb, lt-leb}
 use Rattle.std.proofs.lemmas.Bool.Decides.{nat_tests}
-use Rattle.tabled_text.specs.Walk.{put_text, put_used, put_all, used_after}
+use Rattle.tabled_text.specs.Walk.{append_text, append_used, append_all, used_after}
 use Rattle.tabled_text.specs.Units.{TextUnit, width_of}
 use Rattle.tabled_text.specs.Wrapping.{needed, Fits, AreFullest, IsFullest, shown, text_from, text_of_groups}
 use Rattle.tabled_text.specs.Breaking.{IsGrouping}
 
-pub put_all-append : (n used : ℕ) (xs ys : List TextUnit) → put_all n used (xs ++ ys) ≡ put_all n used xs ++ put_all n (used_after n used xs) ys
-put_all-append n used [] ys = refl
-put_all-append n used (x ∷ xs) ys = ap (λ l. put_text n used x ++ l) (put_all-append n (put_used n used x) xs ys) ∙
-    sym (append_assoc (put_text n used x) (put_all n (put_used n used x) xs) (put_all n (used_after n (put_used n used x) xs) ys))
+pub append_all-append : (n used : ℕ) (xs ys : List TextUnit) → append_all n used (xs ++ ys) ≡ append_all n used xs ++ append_all n (used_after n used xs) ys
+append_all-append n used [] ys = refl
+append_all-append n used (x ∷ xs) ys = ap (λ l. append_text n used x ++ l) (append_all-append n (append_used n used x) xs ys) ∙
+    sym (append_assoc (append_text n used x) (append_all n (append_used n used x) xs) (append_all n (used_after n (append_used n used x) xs) ys))
 
 pub used_after-append : (n used : ℕ) (xs ys : List TextUnit) → used_after n used (xs ++ ys) ≡ used_after n (used_after n used xs) ys
 used_after-append n used [] ys = refl
-used_after-append n used (x ∷ xs) ys = used_after-append n (put_used n used x) xs ys
+used_after-append n used (x ∷ xs) ys = used_after-append n (append_used n used x) xs ys
 
 -- the groups that the walk makes, where current is the group that it fills
 abbrev groups_from : ℕ → List TextUnit → List TextUnit → List (List TextUnit)
@@ -91,41 +91,41 @@ join-cons : (n : ℕ) (g : List TextUnit) (groups : List (List TextUnit)) (curre
     → Begins n current groups → text_of_groups n (g ∷ groups) ≡ text_from n 0 g ++ (10 ∷ text_of_groups n groups)
 join-cons n g groups current b = subst (λ G. text_of_groups n (g ∷ G) ≡ text_from n 0 g ++ (10 ∷ text_of_groups n G)) (sym b.is) refl
 
-pub put_text-fits : (n used : ℕ) (p : TextUnit) → nat_le (used + needed n p) n ≡ true
-    → (put_text n used p ≡ shown n used p) × (put_used n used p ≡ used + p.width)
-put_text-fits n used p h = (ap (λ b. cond b [] (10 ∷ []) ++ shown n (cond b used 0) p) h, ap (λ b. cond b used 0 + p.width) h)
+pub append_text-fits : (n used : ℕ) (p : TextUnit) → nat_le (used + needed n p) n ≡ true
+    → (append_text n used p ≡ shown n used p) × (append_used n used p ≡ used + p.width)
+append_text-fits n used p h = (ap (λ b. cond b [] (10 ∷ []) ++ shown n (cond b used 0) p) h, ap (λ b. cond b used 0 + p.width) h)
 
-pub put_text-breaks : (n used : ℕ) (p : TextUnit) → nat_le (used + needed n p) n ≡ false
-    → (put_text n used p ≡ 10 ∷ shown n 0 p) × (put_used n used p ≡ p.width)
-put_text-breaks n used p h = (
+pub append_text-breaks : (n used : ℕ) (p : TextUnit) → nat_le (used + needed n p) n ≡ false
+    → (append_text n used p ≡ 10 ∷ shown n 0 p) × (append_used n used p ≡ p.width)
+append_text-breaks n used p h = (
   ap (λ b. cond b [] (10 ∷ []) ++ shown n (cond b used 0) p) h,
   ap
       (λ b. cond b used 0 + p.width) h ∙ (let e : 0 + p.width ≡ p.width = omega arith in e),
 )
 
 text_of_groups-from : (n : ℕ) (current pieces : List TextUnit) → text_of_groups n (groups_from n current pieces)
-    ≡ text_from n 0 current ++ put_all n (width_of current) pieces
+    ≡ text_from n 0 current ++ append_all n (width_of current) pieces
 text_of_groups-from n current [] = sym (append-nil (text_from n 0 current))
 text_of_groups-from n current (p ∷ pieces) = ⊎_elim
     (λ yes.
-    let put = put_text-fits n (width_of current) p yes in
+    let put = append_text-fits n (width_of current) p yes in
     ap (λ b. text_of_groups n (cond b (groups_from n (current ++ p ∷ []) pieces) (current ∷ groups_from n (p ∷ []) pieces))) yes
     ∙ text_of_groups-from n (current ++ p ∷ []) pieces
-    ∙ ap (λ l. l ++ put_all n (width_of (current ++ p ∷ [])) pieces)
+    ∙ ap (λ l. l ++ append_all n (width_of (current ++ p ∷ [])) pieces)
     (text_from-push n 0 current p ∙ ap (λ k. text_from n 0 current ++ shown n k p)
     (let e : 0 + width_of current ≡ width_of current = omega arith in e))
-    ∙ append_assoc (text_from n 0 current) (shown n (width_of current) p) (put_all n (width_of (current ++ p ∷ [])) pieces)
-    ∙ ap (λ l. text_from n 0 current ++ l) (ap (λ l. l ++ put_all n (width_of (current ++ p ∷ [])) pieces) (sym put.0)
-    ∙ ap (λ k. put_text n (width_of current) p ++ put_all n k pieces) (sum_by_push (λ (r : TextUnit). r.width) current p ∙ sym put.1)))
+    ∙ append_assoc (text_from n 0 current) (shown n (width_of current) p) (append_all n (width_of (current ++ p ∷ [])) pieces)
+    ∙ ap (λ l. text_from n 0 current ++ l) (ap (λ l. l ++ append_all n (width_of (current ++ p ∷ [])) pieces) (sym put.0)
+    ∙ ap (λ k. append_text n (width_of current) p ++ append_all n k pieces) (sum_by_push (λ (r : TextUnit). r.width) current p ∙ sym put.1)))
     (λ no.
-    let put = put_text-breaks n (width_of current) p no in
+    let put = append_text-breaks n (width_of current) p no in
     ap (λ b. text_of_groups n (cond b (groups_from n (current ++ p ∷ []) pieces) (current ∷ groups_from n (p ∷ []) pieces))) no
     ∙ join-cons n current (groups_from n (p ∷ []) pieces) (p ∷ []) (Begins-groups n (p ∷ []) pieces)
     ∙ ap (λ l. text_from n 0 current ++ (10 ∷ l)) (text_of_groups-from n (p ∷ []) pieces ∙ ap
-    (λ l. l ++ put_all n (width_of (p ∷ [])) pieces) (append-nil (shown n 0 p)))
-    ∙ ap (λ l. text_from n 0 current ++ (l ++ put_all n (width_of (p ∷ [])) pieces)) (sym put.0)
-    ∙ ap (λ k. text_from n 0 current ++ (put_text n (width_of current) p ++ put_all n k pieces))
-    (let e : width_of (p ∷ []) ≡ put_used n (width_of current) p = sum_by-cons
+    (λ l. l ++ append_all n (width_of (p ∷ [])) pieces) (append-nil (shown n 0 p)))
+    ∙ ap (λ l. text_from n 0 current ++ (l ++ append_all n (width_of (p ∷ [])) pieces)) (sym put.0)
+    ∙ ap (λ k. text_from n 0 current ++ (append_text n (width_of current) p ++ append_all n k pieces))
+    (let e : width_of (p ∷ []) ≡ append_used n (width_of current) p = sum_by-cons
     (λ (r : TextUnit). r.width) p [] ∙ (let z : p.width + 0 ≡ p.width = omega arith in z) ∙ sym put.1 in e))
     (cases_Bool (nat_le (width_of current + needed n p) n))
 
@@ -188,7 +188,7 @@ groups_are n (p ∷ pieces) pos = record {
 pub record WrittenFullest (n : ℕ) (pieces : List TextUnit) : Type 0 where
   pub groups : List (List TextUnit)
   pub fullest : IsFullest n pieces groups
-  pub text : put_all n 0 pieces ≡ text_of_groups n groups
+  pub text : append_all n 0 pieces ≡ text_of_groups n groups
 
 pub written_fullest : (n : ℕ) (pieces : List TextUnit) → 0 < n → WrittenFullest n pieces
 written_fullest n pieces pos = record {
@@ -198,40 +198,40 @@ written_fullest n pieces pos = record {
 }
 
 -- ---- the fullest breaking is the only one: its text is what the walk writes
-pub put_all-fits : (n used : ℕ) (g rest : List TextUnit) → Fits n used g → put_all n used (g ++ rest)
-    ≡ text_from n used g ++ put_all n (used + width_of g) rest
-put_all-fits n used [] rest f = ap (λ k. put_all n k rest) (let e : used ≡ used + 0 = omega arith in e)
-put_all-fits n used (p ∷ g) rest f =
-    let put = put_text-fits n used p (le-leb (used + needed n p) n f.0) in
-    ap (λ l. l ++ put_all n (put_used n used p) (g ++ rest)) put.0
-    ∙ ap (λ k. shown n used p ++ put_all n k (g ++ rest)) put.1
-    ∙ ap (λ l. shown n used p ++ l) (put_all-fits n (used + p.width) g rest f.1)
-    ∙ sym (append_assoc (shown n used p) (text_from n (used + p.width) g) (put_all n (used + p.width + width_of g) rest))
-    ∙ ap (λ k. (shown n used p ++ text_from n (used + p.width) g) ++ put_all n k rest)
+pub append_all-fits : (n used : ℕ) (g rest : List TextUnit) → Fits n used g → append_all n used (g ++ rest)
+    ≡ text_from n used g ++ append_all n (used + width_of g) rest
+append_all-fits n used [] rest f = ap (λ k. append_all n k rest) (let e : used ≡ used + 0 = omega arith in e)
+append_all-fits n used (p ∷ g) rest f =
+    let put = append_text-fits n used p (le-leb (used + needed n p) n f.0) in
+    ap (λ l. l ++ append_all n (append_used n used p) (g ++ rest)) put.0
+    ∙ ap (λ k. shown n used p ++ append_all n k (g ++ rest)) put.1
+    ∙ ap (λ l. shown n used p ++ l) (append_all-fits n (used + p.width) g rest f.1)
+    ∙ sym (append_assoc (shown n used p) (text_from n (used + p.width) g) (append_all n (used + p.width + width_of g) rest))
+    ∙ ap (λ k. (shown n used p ++ text_from n (used + p.width) g) ++ append_all n k rest)
     (let e : used + p.width + width_of g ≡ used + width_of (p ∷ g) = omega (arith, sum_by-cons (λ (r : TextUnit). r.width) p g) in e)
 
 -- a unit that does not fit begins a new line
-put_all-breaks : (n used : ℕ) (p : TextUnit) (pieces : List TextUnit) → 0 < n → n < used + needed n p
-    → put_all n used (p ∷ pieces) ≡ 10 ∷ put_all n 0 (p ∷ pieces)
-put_all-breaks n used p pieces pos h =
-    let breaks = put_text-breaks n used p (lt-leb (used + needed n p) n h) in
-    let fits = put_text-fits n 0 p (le-leb (0 + needed n p) n (let l = needed-le-line n p pos in omega arith)) in
-    let same : put_used n used p ≡ put_used n 0 p = breaks.1 ∙ sym (fits.1 ∙ (let e : 0 + p.width ≡ p.width = omega arith in e)) in
-    ap (λ l. l ++ put_all n (put_used n used p) pieces) (breaks.0 ∙ ap (λ l. 10 ∷ l) (sym fits.0)) ∙ ap
-    (λ k. 10 ∷ (put_text n 0 p ++ put_all n k pieces)) same
+append_all-breaks : (n used : ℕ) (p : TextUnit) (pieces : List TextUnit) → 0 < n → n < used + needed n p
+    → append_all n used (p ∷ pieces) ≡ 10 ∷ append_all n 0 (p ∷ pieces)
+append_all-breaks n used p pieces pos h =
+    let breaks = append_text-breaks n used p (lt-leb (used + needed n p) n h) in
+    let fits = append_text-fits n 0 p (le-leb (0 + needed n p) n (let l = needed-le-line n p pos in omega arith)) in
+    let same : append_used n used p ≡ append_used n 0 p = breaks.1 ∙ sym (fits.1 ∙ (let e : 0 + p.width ≡ p.width = omega arith in e)) in
+    ap (λ l. l ++ append_all n (append_used n used p) pieces) (breaks.0 ∙ ap (λ l. 10 ∷ l) (sym fits.0)) ∙ ap
+    (λ k. 10 ∷ (append_text n 0 p ++ append_all n k pieces)) same
 
 pub text_of_groups-fullest : (n : ℕ) → 0 < n → (F : List (List TextUnit)) → AreFullest n F → All (λ g. 0 < length g) F
-    → text_of_groups n F ≡ put_all n 0 (flat_map (λ g. g) F)
+    → text_of_groups n F ≡ append_all n 0 (flat_map (λ g. g) F)
 text_of_groups-fullest n pos [] full some = refl
 text_of_groups-fullest n pos (g ∷ []) full some =
-    sym (put_all-fits n 0 g [] full ∙ append-nil (text_from n 0 g))
+    sym (append_all-fits n 0 g [] full ∙ append-nil (text_from n 0 g))
 text_of_groups-fullest n pos (g ∷ [] ∷ F) full some = let h = All-head
     (λ g. 0 < length g) [] F (All-tail (λ g. 0 < length g) g ([] ∷ F) some) in absurd (omega arith)
 text_of_groups-fullest n pos (g ∷ (p ∷ h) ∷ F) full some =
     let rest = h ++ flat_map (λ g. g) F in
     ap (λ l. text_from n 0 g ++ (10 ∷ l)) (text_of_groups-fullest n pos ((p ∷ h) ∷ F) full.2 (All-tail (λ g. 0 < length g) g ((p ∷ h) ∷ F) some))
-    ∙ ap (λ l. text_from n 0 g ++ l) (sym (put_all-breaks n (0 + width_of g) p rest pos (let f = full.1 in omega arith)))
-    ∙ sym (put_all-fits n 0 g ((p ∷ h) ++ flat_map (λ g. g) F) full.0)
+    ∙ ap (λ l. text_from n 0 g ++ l) (sym (append_all-breaks n (0 + width_of g) p rest pos (let f = full.1 in omega arith)))
+    ∙ sym (append_all-fits n 0 g ((p ∷ h) ++ flat_map (λ g. g) F) full.0)
 
 one_group : (n : ℕ) (F : List (List TextUnit)) → length F ≡ 1 → flat_map (λ g. g) F ≡ [] → text_of_groups n F ≡ []
 one_group n [] e f = absurd (omega arith)
@@ -239,6 +239,6 @@ one_group n ([] ∷ []) e f = refl
 one_group n ((p ∷ g) ∷ F) e f = cc
 one_group n (g ∷ h ∷ F) e f = absurd (omega arith)
 
-pub text_is : (n : ℕ) → 0 < n → (pieces : List TextUnit) (F : List (List TextUnit)) → IsFullest n pieces F → text_of_groups n F ≡ put_all n 0 pieces
+pub text_is : (n : ℕ) → 0 < n → (pieces : List TextUnit) (F : List (List TextUnit)) → IsFullest n pieces F → text_of_groups n F ≡ append_all n 0 pieces
 text_is n pos [] F f = one_group n F (f.grouping.none refl) f.grouping.whole
-text_is n pos (p ∷ pieces) F f = text_of_groups-fullest n pos F f.fullest (f.grouping.some (omega arith)) ∙ ap (put_all n 0) f.grouping.whole
+text_is n pos (p ∷ pieces) F f = text_of_groups-fullest n pos F f.fullest (f.grouping.some (omega arith)) ∙ ap (append_all n 0) f.grouping.whole

@@ -113,13 +113,13 @@ not-below : (m n : ℕ) → n ≤ m → nat_lt m n ≡ false
 not-below m n h = grind (arith, nat_tests)
 
 -- how many bytes a character takes tells its first one
-record IsLed (c lead : ℕ) : Type 0 where
+record HasLead (c lead : ℕ) : Type 0 where
   one : c < 128 → lead ≡ c
   two : 128 ≤ c → c < 2048 → lead ≡ 192 + c / 64
   three : 2048 ≤ c → c < 65536 → lead ≡ 224 + c / 4096
   four : 65536 ≤ c → 240 ≤ lead
 
-led : (c : ℕ) → IsLed c (lead_byte c)
+led : (c : ℕ) → HasLead c (lead_byte c)
 led c =
     record {
       one = λ a. lead-is c ∙ ap (λ t. cond t c (cond (nat_lt c 2048) (192 + c / 64) (cond (nat_lt c 65536) (224 + c / 4096) (240 + c / 262144)))) (lt-ltb c 128 a);
@@ -137,7 +137,7 @@ led c =
         past c (omega arith) ∙ ap (λ t. cond t (192 + c / 64) (cond (nat_lt c 65536) (224 + c / 4096) (240 + c / 262144))) (not-below c 2048 a)
 
 -- printable ASCII is its first byte
-ascii-led : (c lead : ℕ) → IsLed c lead → lead < 128 → lead ≡ c
+ascii-led : (c lead : ℕ) → HasLead c lead → lead < 128 → lead ≡ c
 ascii-led c lead h a = elim (cases_lt c 128) [
   | inl lt ↦ h.one lt
   | inr ge ↦ elim (cases_lt c 2048) [
@@ -150,7 +150,7 @@ ascii-led c lead h a = elim (cases_lt c 128) [
 ]
 
 -- the first of two bytes tells 64 characters
-two-led : (c lead : ℕ) → IsLed c lead → 192 ≤ lead → lead < 224 → ((lead - 192) * 64 ≤ c) × (c < (lead - 191) * 64)
+two-led : (c lead : ℕ) → HasLead c lead → 192 ≤ lead → lead < 224 → ((lead - 192) * 64 ≤ c) × (c < (lead - 191) * 64)
 two-led c lead h low high = elim (cases_lt c 128) [
   | inl lt ↦ (omega (arith, h.one lt, low, lt), omega (arith, h.one lt, low, lt))
   | inr ge ↦ elim (cases_lt c 2048) [
@@ -163,7 +163,7 @@ two-led c lead h low high = elim (cases_lt c 128) [
 ]
 
 -- and that of three 4,096
-three-led : (c lead : ℕ) → IsLed c lead → 224 ≤ lead → lead < 240 → ((lead - 224) * 4096 ≤ c) × (c < (lead - 223) * 4096)
+three-led : (c lead : ℕ) → HasLead c lead → 224 ≤ lead → lead < 240 → ((lead - 224) * 4096 ≤ c) × (c < (lead - 223) * 4096)
 three-led c lead h low high = elim (cases_lt c 128) [
   | inl lt ↦ (omega (arith, h.one lt, low, lt), omega (arith, h.one lt, low, lt))
   | inr ge ↦ elim (cases_lt c 2048) [

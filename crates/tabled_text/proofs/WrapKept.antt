@@ -35,9 +35,9 @@ use Rattle.tabled_text.specs.Measure.{lines_of, columns_of, char_columns, greate
 use Rattle.tabled_text.specs.Plain.{is_additive, IsAdditive}
 use Rattle.tabled_text.specs.Units.{TextUnit, units, text_of, width_of}
 use Rattle.tabled_text.specs.Wrapping.{Fits, text_from, text_of_groups, IsFullest, IsFullestText, IsWrapped}
-use Rattle.tabled_text.specs.Walk.{put_all}
+use Rattle.tabled_text.specs.Walk.{append_all}
 use Rattle.tabled_text.proofs.Bridge.{text_columns-chars}
-use Rattle.tabled_text.proofs.Filling.{put_all-fits, text_is}
+use Rattle.tabled_text.proofs.Filling.{append_all-fits, text_is}
 use Rattle.tabled_text.proofs.OwnBreaking.{text_of-units, text_from-narrow, unit-le}
 use Rattle.tabled_text.proofs.PlainLemmas.{columns_of-plain}
 use Rattle.tabled_text.proofs.WrapRoom.{EachGood, EachGood-units, EachPlain, EachPlain-lines}
@@ -57,7 +57,7 @@ width-good (u ∷ us) h =
 
 -- a line that finds room is one group
 line_kept : (n : ℕ) (words : Bool) (line : List ℕ) → list_all is_additive line ≡ true → columns_of line ≤ n
-    → put_all n 0 (units n words line) ≡ line
+    → append_all n 0 (units n words line) ≡ line
 line_kept n words line plain room =
     let us : List TextUnit = units n words line in
     let wide : width_of us ≤ n = omega (
@@ -68,7 +68,7 @@ line_kept n words line plain room =
           (sum_by char_columns) (text_of-units n words line),
       columns_of-plain line plain,
     ) in
-    ap (put_all n 0) (sym (append-nil us)) ∙ put_all-fits n 0 us [] (fits-sum n 0 us (omega (arith, wide))) ∙ append-nil (text_from n 0 us)
+    ap (append_all n 0) (sym (append-nil us)) ∙ append_all-fits n 0 us [] (fits-sum n 0 us (omega (arith, wide))) ∙ append-nil (text_from n 0 us)
     ∙ text_from-narrow n 0 us (unit-le n us wide) ∙ text_of-units n words line
 
 lines_kept : (n : ℕ) (words : Bool) → 0 < n → (lines : List (List ℕ)) (broken : List (List (List TextUnit)))

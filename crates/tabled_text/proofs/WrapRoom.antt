@@ -45,11 +45,11 @@ use Rattle.tabled_text.specs.Plain.{is_listed_or_drawn, has_plain_width, is_addi
 use Rattle.tabled_text.specs.Room.{is_additive_text, stays}
 use Rattle.tabled_text.specs.Units.{TextUnit, unit_of_char, space, units_of_word, words_of, units_of_words, units}
 use Rattle.tabled_text.specs.Wrapping.{needed, shown, text_of_groups, text_of_lines, IsFullest, IsFullestText, IsWrapped}
-use Rattle.tabled_text.specs.Walk.{put_text, put_used, put_all}
+use Rattle.tabled_text.specs.Walk.{append_text, append_used, append_all}
 use Rattle.std.proofs.lemmas.Str.{chars-nil}
 use Rattle.tabled_text.proofs.Each.{Each, Each-split, Each-lines}
 use Rattle.tabled_text.proofs.PlainLemmas.{columns_of-plain, char_count-plain}
-use Rattle.tabled_text.proofs.Filling.{text_is, put_text-fits, put_text-breaks}
+use Rattle.tabled_text.proofs.Filling.{text_is, append_text-fits, append_text-breaks}
 
 -- ---- single characters
 pub plain_replacement : (is_additive 0xFFFD ≡ true) × (char_columns 0xFFFD ≡ 1)
@@ -249,23 +249,23 @@ needed-some : (n : ℕ) (p : TextUnit) → 0 < n → n < p.width → 0 < needed 
 needed-some n p h l = grind (arith, nat_tests)
 
 -- adding unit to unit, where what follows stays from every column on
-pub stays-put_all : (n used : ℕ) (ps : List TextUnit) (rest : List ℕ) → 0 < n → EachGood ps
-    → ((k : ℕ) → k ≤ n → stays n k rest ≡ true) → stays n (min used n) (put_all n used ps ++ rest) ≡ true
-stays-put_all n used [] rest pos g h = h (min used n) (omega arith)
-stays-put_all n used (p ∷ ps) rest pos g h =
-    let more = stays-put_all n (put_used n used p) ps rest pos g.1 h in
-    let tail = put_all n (put_used n used p) ps ++ rest in
-    subst (λ l. stays n (min used n) l ≡ true) (sym (append_assoc (put_text n used p) (put_all n (put_used n used p) ps) rest))
+pub stays-append_all : (n used : ℕ) (ps : List TextUnit) (rest : List ℕ) → 0 < n → EachGood ps
+    → ((k : ℕ) → k ≤ n → stays n k rest ≡ true) → stays n (min used n) (append_all n used ps ++ rest) ≡ true
+stays-append_all n used [] rest pos g h = h (min used n) (omega arith)
+stays-append_all n used (p ∷ ps) rest pos g h =
+    let more = stays-append_all n (append_used n used p) ps rest pos g.1 h in
+    let tail = append_all n (append_used n used p) ps ++ rest in
+    subst (λ l. stays n (min used n) l ≡ true) (sym (append_assoc (append_text n used p) (append_all n (append_used n used p) ps) rest))
     (⊎_elim
     (λ y.
-    let put = put_text-fits n used p y in
+    let put = append_text-fits n used p y in
     let fits = leb-true (used + needed n p) n y in
     let same : min used n ≡ used = omega arith in
     subst (λ l. stays n (min used n) (l ++ tail) ≡ true) (sym put.0)
     (subst (λ k. stays n k (shown n used p ++ tail) ≡ true) (sym same)
     (shown-wide n used p tail g.0 fits (subst (λ k. stays n (min k n) tail ≡ true) put.1 more))))
     (λ no.
-    let put = put_text-breaks n used p no in
+    let put = append_text-breaks n used p no in
     subst (λ l. stays n (min used n) (l ++ tail) ≡ true) (sym put.0)
     (stays-break n (min used n) (shown n 0 p ++ tail) (omega arith)
     (shown-wide n 0 p tail g.0 (needed-fits n p pos)
@@ -280,9 +280,9 @@ stays-broken : (n : ℕ) (words : Bool) → 0 < n → (line : List ℕ) (groups 
     → list_all is_additive line ≡ true → IsFullest n (units n words line) groups
     → ((k : ℕ) → k ≤ n → stays n k rest ≡ true) → stays n 0 (text_of_groups n groups ++ rest) ≡ true
 stays-broken n words pos line groups rest plain f h =
-    let all = stays-put_all n 0 (units n words line) rest pos (EachGood-units n words line plain) h in
+    let all = stays-append_all n 0 (units n words line) rest pos (EachGood-units n words line plain) h in
     subst (λ l. stays n 0 (l ++ rest) ≡ true) (sym (text_is n pos (units n words line) groups f))
-    (subst (λ k. stays n k (put_all n 0 (units n words line) ++ rest) ≡ true) (let e : min 0 n ≡ 0 = omega arith in e) all)
+    (subst (λ k. stays n k (append_all n 0 (units n words line) ++ rest) ≡ true) (let e : min 0 n ≡ 0 = omega arith in e) all)
 
 stays-lines : (n : ℕ) (words : Bool) → 0 < n → (lines : List (List ℕ)) (broken : List (List (List TextUnit))) → EachPlain lines
     → AllZip (λ line groups. IsFullest n (units n words line) groups) lines broken → stays n 0 (text_of_lines n broken) ≡ true

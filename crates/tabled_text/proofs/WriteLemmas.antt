@@ -39,9 +39,9 @@ use Rattle.std.proofs.lemmas.Bool.{le-leb, lt-leb, eqb-true, eqb-false, eq-eqb, 
 use Rattle.tabled_text.specs.Units.{TextUnit, unit_of_char, units_of_word, units_of_words, space, words_of, units}
 use Rattle.tabled_text.specs.Wrapping.{IsFullest, IsFullestText, IsWrapped, text_of_groups, text_of_lines}
 use Rattle.std.specs.List.{slice_split, onto_first, AllZip}
-use Rattle.tabled_text.proofs.Filling.{put_all-append, written_fullest}
+use Rattle.tabled_text.proofs.Filling.{append_all-append, written_fullest}
 use Rattle.tabled_text.specs.Measure.{columns_of, lines_of, char_count}
-use Rattle.tabled_text.specs.Walk.{begin_at, begin_text, put_text, put_used, put_all, used_after, pending}
+use Rattle.tabled_text.specs.Walk.{begin_at, begin_text, append_text, append_used, append_all, used_after, pending}
 
 encodes-begin_text : (b : Bool) → encode_utf8_all (cond b [] (10 ∷ [])) ≡ cond b [] (10 ∷ [])
 encodes-begin_text true = refl
@@ -51,10 +51,10 @@ abbrev pub unit_of : List ℕ → ℕ → TextUnit
 unit_of text width = record { text = text; width = width }
 
 pub put_word_bytes : (n used width : ℕ) (b₀ b₁ b₂ word : List ℕ) → width ≤ n → IsUtf8 word → b₁ ≡ b₀ ++ begin_text n used width → b₂ ≡ b₁ ++ word
-    → b₂ ≡ b₀ ++ encode_utf8_all (put_text n used (unit_of (chars word) width))
+    → b₂ ≡ b₀ ++ encode_utf8_all (append_text n used (unit_of (chars word) width))
 put_word_bytes n used width b₀ b₁ b₂ word le u e f =
     let fits = le-leb width n le in
-    let whole : put_text n used (unit_of (chars word) width) ≡ begin_text n used width ++ chars word =
+    let whole : append_text n used (unit_of (chars word) width) ≡ begin_text n used width ++ chars word =
     ap (λ b. begin_text n used (cond b width 1) ++ cond b (chars word) (replicate (n - begin_at n used (cond b width 1)) 0xFFFD)) fits in
     f ∙ ap (λ l. l ++ word) e ∙ append_assoc b₀ (begin_text n used width) word
     ∙ ap (λ l. b₀ ++ l) (ap (λ l. begin_text n used width ++ l) (sym (encodes-chars word u)) ∙ ap
@@ -62,18 +62,18 @@ put_word_bytes n used width b₀ b₁ b₂ word le u e f =
     ∙ sym (encodes-append (begin_text n used width) (chars word)) ∙ ap encode_utf8_all (sym whole))
 
 -- a unit is written, and others follow
-pub put_more : (n used : ℕ) (p : TextUnit) (pieces : List TextUnit) (b₀ b₁ out : List ℕ) → b₁ ≡ b₀ ++ encode_utf8_all (put_text n used p)
-    → b₀ ++ encode_utf8_all (put_all n used (p ∷ pieces)) ≡ out → b₁ ++ encode_utf8_all (put_all n (put_used n used p) pieces) ≡ out
+pub put_more : (n used : ℕ) (p : TextUnit) (pieces : List TextUnit) (b₀ b₁ out : List ℕ) → b₁ ≡ b₀ ++ encode_utf8_all (append_text n used p)
+    → b₀ ++ encode_utf8_all (append_all n used (p ∷ pieces)) ≡ out → b₁ ++ encode_utf8_all (append_all n (append_used n used p) pieces) ≡ out
 put_more n used p pieces b₀ b₁ out e h =
-    ap (λ l. l ++ encode_utf8_all (put_all n (put_used n used p) pieces)) e
-    ∙ append_assoc b₀ (encode_utf8_all (put_text n used p)) (encode_utf8_all (put_all n (put_used n used p) pieces))
-    ∙ ap (λ l. b₀ ++ l) (sym (encodes-append (put_text n used p) (put_all n (put_used n used p) pieces))) ∙ h
+    ap (λ l. l ++ encode_utf8_all (append_all n (append_used n used p) pieces)) e
+    ∙ append_assoc b₀ (encode_utf8_all (append_text n used p)) (encode_utf8_all (append_all n (append_used n used p) pieces))
+    ∙ ap (λ l. b₀ ++ l) (sym (encodes-append (append_text n used p) (append_all n (append_used n used p) pieces))) ∙ h
 
-pub put_all-one : (n used : ℕ) (p : TextUnit) → put_text n used p ≡ put_all n used (p ∷ [])
-put_all-one n used p = sym (append-nil (put_text n used p))
+pub append_all-one : (n used : ℕ) (p : TextUnit) → append_text n used p ≡ append_all n used (p ∷ [])
+append_all-one n used p = sym (append-nil (append_text n used p))
 
-pub put_all-none : (n used : ℕ) (pieces : List TextUnit) (out : List ℕ) → pieces ≡ [] → out ≡ out ++ encode_utf8_all (put_all n used pieces)
-put_all-none n used pieces out e = sym (ap (λ l. out ++ encode_utf8_all (put_all n used l)) e ∙ append-nil out)
+pub append_all-none : (n used : ℕ) (pieces : List TextUnit) (out : List ℕ) → pieces ≡ [] → out ≡ out ++ encode_utf8_all (append_all n used pieces)
+append_all-none n used pieces out e = sym (ap (λ l. out ++ encode_utf8_all (append_all n used l)) e ∙ append-nil out)
 
 -- a word without a byte
 pub units_of_word-empty : (n : ℕ) (word : List ℕ) (b : Bool) → b ≡ (length word == 0) → b ≡ true → units_of_word n (chars word) ≡ []
@@ -111,13 +111,13 @@ units_of_words-more n word cs =
     subst (λ ws. units_of_words n (word ∷ ws) ≡ units_of_word n word ++ space ∷ units_of_words n ws) (sym h.2) refl
 
 -- units are written, and others follow
-pub put_on : (n used : ℕ) (xs ys : List TextUnit) (b₀ b₁ out : List ℕ) → b₁ ≡ b₀ ++ encode_utf8_all (put_all n used xs)
-    → b₀ ++ encode_utf8_all (put_all n used (xs ++ ys)) ≡ out → b₁ ++ encode_utf8_all (put_all n (used_after n used xs) ys) ≡ out
+pub put_on : (n used : ℕ) (xs ys : List TextUnit) (b₀ b₁ out : List ℕ) → b₁ ≡ b₀ ++ encode_utf8_all (append_all n used xs)
+    → b₀ ++ encode_utf8_all (append_all n used (xs ++ ys)) ≡ out → b₁ ++ encode_utf8_all (append_all n (used_after n used xs) ys) ≡ out
 put_on n used xs ys b₀ b₁ out e h =
-    ap (λ l. l ++ encode_utf8_all (put_all n (used_after n used xs) ys)) e
-    ∙ append_assoc b₀ (encode_utf8_all (put_all n used xs)) (encode_utf8_all (put_all n (used_after n used xs) ys))
-    ∙ ap (λ l. b₀ ++ l) (sym (encodes-append (put_all n used xs) (put_all n (used_after n used xs) ys)) ∙ ap
-    encode_utf8_all (sym (put_all-append n used xs ys))) ∙ h
+    ap (λ l. l ++ encode_utf8_all (append_all n (used_after n used xs) ys)) e
+    ∙ append_assoc b₀ (encode_utf8_all (append_all n used xs)) (encode_utf8_all (append_all n (used_after n used xs) ys))
+    ∙ ap (λ l. b₀ ++ l) (sym (encodes-append (append_all n used xs) (append_all n (used_after n used xs) ys)) ∙ ap
+    encode_utf8_all (sym (append_all-append n used xs ys))) ∙ h
 
 pub space-is : unit_of (chars (32 ∷ [])) 1 ≡ space
 unfolding chars
@@ -129,11 +129,11 @@ encodes-feed true = ap (λ l. l ++ []) (encode_ascii 10 (lit< tt))
 encodes-feed false = refl
 
 pub pending_more : (n : ℕ) (words begun : Bool) (line : List ℕ) (lines : List (List ℕ)) (b₀ b₁ b₂ out : List ℕ) → b₁ ≡ b₀ ++ cond begun (10 ∷ []) []
-    → b₂ ≡ b₁ ++ encode_utf8_all (put_all n 0 (units n words line)) → b₀ ++ encode_utf8_all (pending n words begun (line ∷ lines)) ≡ out
+    → b₂ ≡ b₁ ++ encode_utf8_all (append_all n 0 (units n words line)) → b₀ ++ encode_utf8_all (pending n words begun (line ∷ lines)) ≡ out
     → b₂ ++ encode_utf8_all (pending n words true lines) ≡ out
 pending_more n words begun line lines b₀ b₁ b₂ out e f h =
     let feed = cond begun (10 ∷ []) [] in
-    let text = put_all n 0 (units n words line) in
+    let text = append_all n 0 (units n words line) in
     let rest = pending n words true lines in
     let all : encode_utf8_all (feed ++ (text ++ rest)) ≡ feed ++ (encode_utf8_all text ++ encode_utf8_all rest) =
     encodes-append feed (text ++ rest) ∙ ap (λ l. l ++ encode_utf8_all (text ++ rest)) (encodes-feed begun) ∙ ap
@@ -153,7 +153,7 @@ AllZip-broken n pos words (line ∷ lines) = ((written_fullest n (units n words 
 pub text_of_lines-broken : (n : ℕ) (pos : 0 < n) (words : Bool) (lines : List (List ℕ)) → pending n words false lines
     ≡ text_of_lines n (map (λ line. (written_fullest n (units n words line) pos).groups) lines)
 text_of_lines-broken n pos words [] = refl
-text_of_lines-broken n pos words (line ∷ []) = append-nil (put_all n 0 (units n words line)) ∙ (written_fullest n (units n words line) pos).text
+text_of_lines-broken n pos words (line ∷ []) = append-nil (append_all n 0 (units n words line)) ∙ (written_fullest n (units n words line) pos).text
 text_of_lines-broken n pos words (line ∷ next ∷ lines) =
     ap (λ l. l ++ pending n words true (next ∷ lines)) (written_fullest n (units n words line) pos).text
     ∙ ap (λ l. text_of_groups n (written_fullest n (units n words line) pos).groups ++ (10 ∷ l)) (text_of_lines-broken n pos words (next ∷ lines))
@@ -196,17 +196,17 @@ IsWrapped-nothing n words text out none e = ⊎_elim (λ z. IsWrapped-none n wor
 
 -- ---- the same as equations of texts, for any sink
 pub encodes-word : (n used width : ℕ) (word : List ℕ) → width ≤ n → IsUtf8 word → begin_text n used width ++ word
-    ≡ encode_utf8_all (put_text n used (unit_of (chars word) width))
+    ≡ encode_utf8_all (append_text n used (unit_of (chars word) width))
 encodes-word n used width word le u = put_word_bytes n used width [] (begin_text n used width) (begin_text n used width ++ word) word le u refl refl
 
 pub encodes-more : (n used : ℕ) (p : TextUnit) (pieces : List TextUnit)
-    → encode_utf8_all (put_text n used p) ++ encode_utf8_all (put_all n (put_used n used p) pieces) ≡ encode_utf8_all (put_all n used (p ∷ pieces))
-encodes-more n used p pieces = sym (encodes-append (put_text n used p) (put_all n (put_used n used p) pieces))
+    → encode_utf8_all (append_text n used p) ++ encode_utf8_all (append_all n (append_used n used p) pieces) ≡ encode_utf8_all (append_all n used (p ∷ pieces))
+encodes-more n used p pieces = sym (encodes-append (append_text n used p) (append_all n (append_used n used p) pieces))
 
 pub encodes-on : (n used : ℕ) (xs ys : List TextUnit)
-    → encode_utf8_all (put_all n used xs) ++ encode_utf8_all (put_all n (used_after n used xs) ys) ≡ encode_utf8_all (put_all n used (xs ++ ys))
-encodes-on n used xs ys = sym (encodes-append (put_all n used xs) (put_all n (used_after n used xs) ys)) ∙ ap
-    encode_utf8_all (sym (put_all-append n used xs ys))
+    → encode_utf8_all (append_all n used xs) ++ encode_utf8_all (append_all n (used_after n used xs) ys) ≡ encode_utf8_all (append_all n used (xs ++ ys))
+encodes-on n used xs ys = sym (encodes-append (append_all n used xs) (append_all n (used_after n used xs) ys)) ∙ ap
+    encode_utf8_all (sym (append_all-append n used xs ys))
 
 pub encodes-copies : (n c : ℕ) → encode_utf8_all (replicate n c) ++ encode_utf8 c ≡ encode_utf8_all (replicate (n + 1) c)
 encodes-copies n c = ap (λ l. encode_utf8_all (replicate n c) ++ l) (sym (append-nil (encode_utf8 c))) ∙ sym
@@ -215,37 +215,37 @@ encodes-copies n c = ap (λ l. encode_utf8_all (replicate n c) ++ l) (sym (appen
 encodes-begin : (n used k : ℕ) → encode_utf8_all (begin_text n used k) ≡ begin_text n used k
 encodes-begin n used k = encodes-begin_text (nat_le (used + k) n)
 
-put_text-narrow : (n used : ℕ) (p : TextUnit) → p.width ≤ n → put_text n used p ≡ begin_text n used p.width ++ p.text
-put_text-narrow n used p le = ap (λ b. begin_text n used (cond b p.width 1) ++ cond b p.text
+append_text-narrow : (n used : ℕ) (p : TextUnit) → p.width ≤ n → append_text n used p ≡ begin_text n used p.width ++ p.text
+append_text-narrow n used p le = ap (λ b. begin_text n used (cond b p.width 1) ++ cond b p.text
     (replicate (n - begin_at n used (cond b p.width 1)) 0xFFFD)) (le-leb p.width n le)
 
-put_text-wide : (n used : ℕ) (p : TextUnit) → n < p.width → put_text n used p ≡ begin_text n used 1 ++ replicate (n - begin_at n used 1) 0xFFFD
-put_text-wide n used p lt = ap (λ b. begin_text n used (cond b p.width 1) ++ cond b p.text
+append_text-wide : (n used : ℕ) (p : TextUnit) → n < p.width → append_text n used p ≡ begin_text n used 1 ++ replicate (n - begin_at n used 1) 0xFFFD
+append_text-wide n used p lt = ap (λ b. begin_text n used (cond b p.width 1) ++ cond b p.text
     (replicate (n - begin_at n used (cond b p.width 1)) 0xFFFD)) (lt-leb p.width n lt)
 
 pub encodes-narrow : (n used c count : ℕ) → count ≡ char_count c → count ≤ n
-    → begin_text n used count ++ encode_utf8 c ≡ encode_utf8_all (put_text n used (unit_of_char c))
+    → begin_text n used count ++ encode_utf8 c ≡ encode_utf8_all (append_text n used (unit_of_char c))
 encodes-narrow n used c count e le =
     let le' : char_count c ≤ n = subst (λ k. k ≤ n) e le in
     ap (λ k. begin_text n used k ++ encode_utf8 c) e
-    ∙ sym (ap encode_utf8_all (put_text-narrow n used (unit_of_char c) le') ∙ encodes-append (begin_text n used (char_count c)) (c ∷ [])
+    ∙ sym (ap encode_utf8_all (append_text-narrow n used (unit_of_char c) le') ∙ encodes-append (begin_text n used (char_count c)) (c ∷ [])
     ∙ ap (λ l. l ++ encode_utf8_all (c ∷ [])) (encodes-begin n used (char_count c)) ∙ ap
     (λ l. begin_text n used (char_count c) ++ l) (append-nil (encode_utf8 c)))
 
 pub encodes-wide : (n used c count column : ℕ) → count ≡ char_count c → n < count → column ≡ begin_at n used 1
-    → begin_text n used 1 ++ encode_utf8_all (replicate (n - column) 0xFFFD) ≡ encode_utf8_all (put_text n used (unit_of_char c))
+    → begin_text n used 1 ++ encode_utf8_all (replicate (n - column) 0xFFFD) ≡ encode_utf8_all (append_text n used (unit_of_char c))
 encodes-wide n used c count column e lt at =
     ap (λ k. begin_text n used 1 ++ encode_utf8_all (replicate (n - k) 0xFFFD)) at
-    ∙ sym (ap encode_utf8_all (put_text-wide n used (unit_of_char c) (subst (λ k. n < k) e lt)) ∙ encodes-append
+    ∙ sym (ap encode_utf8_all (append_text-wide n used (unit_of_char c) (subst (λ k. n < k) e lt)) ∙ encodes-append
     (begin_text n used 1) (replicate (n - begin_at n used 1) 0xFFFD)
     ∙ ap (λ l. l ++ encode_utf8_all (replicate (n - begin_at n used 1) 0xFFFD)) (encodes-begin n used 1))
 
 pub encodes-pending : (n : ℕ) (words begun : Bool) (line : List ℕ) (lines : List (List ℕ))
-    → cond begun (10 ∷ []) [] ++ (encode_utf8_all (put_all n 0 (units n words line)) ++ encode_utf8_all (pending n words true lines))
+    → cond begun (10 ∷ []) [] ++ (encode_utf8_all (append_all n 0 (units n words line)) ++ encode_utf8_all (pending n words true lines))
     ≡ encode_utf8_all (pending n words begun (line ∷ lines))
 encodes-pending n words begun line lines =
     let feed = cond begun (10 ∷ []) [] in
-    let text = put_all n 0 (units n words line) in
+    let text = append_all n 0 (units n words line) in
     let rest = pending n words true lines in
     sym (encodes-append feed (text ++ rest) ∙ ap (λ l. l ++ encode_utf8_all (text ++ rest)) (encodes-feed begun) ∙ ap
     (λ l. feed ++ l) (encodes-append text rest))

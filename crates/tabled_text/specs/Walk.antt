@@ -20,26 +20,26 @@ abbrev pub begin_text : ℕ → ℕ → ℕ → List ℕ
 begin_text n used needed = if nat_le (used + needed) n then [] else 10 ∷ []
 
 -- what a unit writes, and the columns that its line then has
-abbrev pub put_text : ℕ → ℕ → TextUnit → List ℕ
-put_text n used unit = begin_text n used (needed n unit) ++ shown n (begin_at n used (needed n unit)) unit
+abbrev pub append_text : ℕ → ℕ → TextUnit → List ℕ
+append_text n used unit = begin_text n used (needed n unit) ++ shown n (begin_at n used (needed n unit)) unit
 
-abbrev pub put_used : ℕ → ℕ → TextUnit → ℕ
-put_used n used unit = begin_at n used (needed n unit) + unit.width
+abbrev pub append_used : ℕ → ℕ → TextUnit → ℕ
+append_used n used unit = begin_at n used (needed n unit) + unit.width
 
 -- what all units write, and the columns that the last line then has
-abbrev pub put_all : ℕ → ℕ → List TextUnit → List ℕ
-put_all n used [] = []
-put_all n used (unit ∷ units) = put_text n used unit ++ put_all n (put_used n used unit) units
+abbrev pub append_all : ℕ → ℕ → List TextUnit → List ℕ
+append_all n used [] = []
+append_all n used (unit ∷ units) = append_text n used unit ++ append_all n (append_used n used unit) units
 
 abbrev pub used_after : ℕ → ℕ → List TextUnit → ℕ
 used_after n used [] = used
-used_after n used (unit ∷ units) = used_after n (put_used n used unit) units
+used_after n used (unit ∷ units) = used_after n (append_used n used unit) units
 
 -- what the lines that are left write, where some were written before or none was
 abbrev pub pending : ℕ → Bool → Bool → List (List ℕ) → List ℕ
 pending n words begun [] = []
 pending n words begun (line ∷ lines) =
-    (if begun then 10 ∷ [] else []) ++ (put_all n 0 (units n words line) ++ pending n words true lines)
+    (if begun then 10 ∷ [] else []) ++ (append_all n 0 (units n words line) ++ pending n words true lines)
 
 -- whether each unit of a word, and of a line, is at most n wide
 abbrev pub fits_word : ℕ → List ℕ → Bool

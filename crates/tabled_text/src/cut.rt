@@ -5,7 +5,7 @@ ghost use Rattle.std.specs.Cow.{cow_str_bytes, IsOwnedStr};
 ghost use Rattle.tabled_text.specs.Cut.{IsCut, IsSplit, IsParted, NeedsFill};
 
 use crate::character::{char_count, split_first};
-use crate::sink::put_copies;
+use crate::sink::append_copies;
 use std::alloc::{AllocError, Global};
 use std::borrow::CowStr;
 
@@ -66,7 +66,7 @@ fn fill(alloc: Global, front: &str, missing: usize) -> Result<CowStr<'_, Global>
         return Ok(CowStr::Borrowed(front));
     }
     let mut answer = String::from_str(alloc, front)?;
-    put_copies(&mut answer, '\u{FFFD}', missing)?;
+    append_copies(&mut answer, '\u{FFFD}', missing)?;
     Ok(CowStr::Owned(answer))
 }
 

@@ -14,7 +14,7 @@ use crate::character::char_count;
 use crate::line::lines;
 use crate::measure::line_width;
 use crate::sink::Sink;
-use crate::wrap::{put_lines, split_word};
+use crate::wrap::{append_lines, split_word};
 use std::convert::Infallible;
 
 /// The text without a beginning, if it begins so.
@@ -36,12 +36,12 @@ impl<'a> Sink for Expected<'a> {
 
     ghost adds = { λ s x t. Expects (option_copied s.rest) x (option_copied t.rest) };
 
-    fn put_str(&mut self, text: &str) -> Result<(), Infallible> {
+    fn append_str(&mut self, text: &str) -> Result<(), Infallible> {
         self.rest = strip(self.rest, text.as_bytes());
         Ok(())
     }
 
-    fn put_char(&mut self, c: char) -> Result<(), Infallible> {
+    fn append_char(&mut self, c: char) -> Result<(), Infallible> {
         let mut bytes = [0; 4];
         let text = c.encode_utf8(&mut bytes);
         self.rest = strip(self.rest, text.as_bytes());
@@ -124,7 +124,7 @@ pub fn is_fullest(text: &str, wrapped: &str, n: usize, words: bool) -> bool
     let mut expected = Expected {
         rest: Some(wrapped.as_bytes()),
     };
-    match put_lines(&mut expected, n, words, text) {
+    match append_lines(&mut expected, n, words, text) {
         Ok(()) => is_done(expected.rest),
         Err(never) => match never {},
     }

@@ -24,7 +24,7 @@ fn is_wide_lead(lead: u8) -> bool
 /// The columns of a character by its first byte, if that tells them: one of printable ASCII and of what stands among Latin, Greek
 /// and Cyrillic letters, and two of what stands among ideographs.
 #[inline(always)]
-fn led_width(lead: u8) -> Option<usize>
+fn lead_width(lead: u8) -> Option<usize>
     ensures { (c : ℕ) → lead ≡ lead_byte c → IfSome result (IsLetter c) }
 {
     if is_narrow_lead(lead) {
@@ -44,7 +44,7 @@ pub(crate) fn letters_width(line: &str) -> Option<usize>
     let mut rest = line;
     let mut columns = 0;
     'letters: while let Some((_, after)) = split_first(rest) {
-        columns += led_width(rest.as_bytes()[0])?;
+        columns += lead_width(rest.as_bytes()[0])?;
         rest = after;
     }
     Some(columns)

@@ -11,10 +11,10 @@ pub(crate) trait Sink {
     // The sink, what it is given, and the sink afterwards.
     ghost adds: { Self → List ℕ → Self → Type 0 };
 
-    fn put_str(&mut self, text: &str) -> Result<(), Self::Error>
+    fn append_str(&mut self, text: &str) -> Result<(), Self::Error>
         ensures { OnOk result (adds self.old text.now self.new) };
 
-    fn put_char(&mut self, c: char) -> Result<(), Self::Error>
+    fn append_char(&mut self, c: char) -> Result<(), Self::Error>
         ensures { OnOk result (adds self.old (encode_utf8 c) self.new) };
 
     ghost adds_nothing: { (s : Self) → adds s [] s };
@@ -27,11 +27,11 @@ impl Sink for String {
 
     ghost adds = { λ s x t. string_bytes t ≡ string_bytes s ++ x };
 
-    fn put_str(&mut self, text: &str) -> Result<(), AllocError> {
+    fn append_str(&mut self, text: &str) -> Result<(), AllocError> {
         self.push_str(text)
     }
 
-    fn put_char(&mut self, c: char) -> Result<(), AllocError> {
+    fn append_char(&mut self, c: char) -> Result<(), AllocError> {
         self.push(c)
     }
 
@@ -41,11 +41,11 @@ impl Sink for String {
 }
 
 /// Gives n copies of a character.
-pub(crate) fn put_copies<S: Sink>(out: &mut S, c: char, n: usize) -> Result<(), S::Error>
+pub(crate) fn append_copies<S: Sink>(out: &mut S, c: char, n: usize) -> Result<(), S::Error>
     ensures { OnOk result (S.adds out.old (encode_utf8_all (replicate n c)) out.new) }
 {
     for _i in 0..n {
-        out.put_char(c)?;
+        out.append_char(c)?;
     }
     Ok(())
 }
@@ -56,7 +56,7 @@ pub fn push_copies(text: &mut String, c: char, n: usize) -> Result<(), AllocErro
     ensures { OnOk result (string_bytes text.new ≡ string_bytes text.old ++ encode_utf8_all (replicate n c)) }
 {
     text.reserve(n.saturating_mul(c.len_utf8()))?;
-    put_copies(text, c, n)
+    append_copies(text, c, n)
 }
 
 /// A text of n copies of a character. Refused for memory.

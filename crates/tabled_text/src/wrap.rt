@@ -5,12 +5,12 @@ ghost use Rattle.tabled_text.specs.Measure.{lines_of};
 ghost use Rattle.tabled_text.specs.Units.{TextUnit, unit_of_char, words_of, units, units_of_word, units_of_words};
 ghost use Rattle.tabled_text.specs.Breaking.{EachUnitFits, HasFewestLines, IsLeastBreaking};
 ghost use Rattle.tabled_text.specs.Wrapping.{IsWrapped};
-ghost use Rattle.tabled_text.specs.Walk.{words_in, begin_at, begin_text, put_text, put_used, put_all, used_after, pending};
+ghost use Rattle.tabled_text.specs.Walk.{words_in, begin_at, begin_text, append_text, append_used, append_all, used_after, pending};
 
 use crate::character::{char_count, split_first};
 use crate::line::lines;
 use crate::measure::line_width;
-use crate::sink::{Sink, put_copies};
+use crate::sink::{Sink, append_copies};
 use std::alloc::{AllocError, Global};
 
 /// The column at which a unit begins that needs some columns: on a new line if they are not left.
@@ -21,12 +21,12 @@ fn begin<S: Sink>(out: &mut S, used: usize, n: usize, needed: usize) -> Result<u
     if used <= n && needed <= n - used {
         return Ok(used);
     }
-    out.put_char('\n')?;
+    out.append_char('\n')?;
     Ok(0)
 }
 
 /// Writes a word.
-fn put_word<S: Sink>(
+fn append_word<S: Sink>(
     out: &mut S,
     used: usize,
     n: usize,
@@ -35,63 +35,63 @@ fn put_word<S: Sink>(
 ) -> Result<usize, S::Error>
     requires { width ≤ n }
     ensures used { IfOk result (λ column.
-        column ≡ put_used n used (record { text = chars word.now; width = width })) }
+        column ≡ append_used n used (record { text = chars word.now; width = width })) }
     ensures text { OnOk result (S.adds out.old
-        (encode_utf8_all (put_text n used (record { text = chars word.now; width = width }))) out.new) }
+        (encode_utf8_all (append_text n used (record { text = chars word.now; width = width }))) out.new) }
 {
     let column = begin(out, used, n, width)?;
-    out.put_str(word)?;
+    out.append_str(word)?;
     Ok(column + width)
 }
 
 /// Writes a character.
-fn put_char<S: Sink>(out: &mut S, used: usize, n: usize, c: char) -> Result<usize, S::Error>
+fn append_char<S: Sink>(out: &mut S, used: usize, n: usize, c: char) -> Result<usize, S::Error>
     requires { 0 < n }
-    ensures used { IfOk result (λ column. column ≡ put_used n used (unit_of_char c)) }
-    ensures text { OnOk result (S.adds out.old (encode_utf8_all (put_text n used (unit_of_char c))) out.new) }
+    ensures used { IfOk result (λ column. column ≡ append_used n used (unit_of_char c)) }
+    ensures text { OnOk result (S.adds out.old (encode_utf8_all (append_text n used (unit_of_char c))) out.new) }
 {
     let count = char_count(c);
     if count <= n {
         let column = begin(out, used, n, count)?;
-        out.put_char(c)?;
+        out.append_char(c)?;
         return Ok(column + count);
     }
     let column = begin(out, used, n, 1)?;
-    put_copies(out, '\u{FFFD}', n - column)?;
+    append_copies(out, '\u{FFFD}', n - column)?;
     Ok(column + count)
 }
 
 /// Writes the characters of a text.
-fn put_chars<S: Sink>(out: &mut S, used: usize, n: usize, text: &str) -> Result<usize, S::Error>
+fn append_chars<S: Sink>(out: &mut S, used: usize, n: usize, text: &str) -> Result<usize, S::Error>
     requires { 0 < n }
     ensures used { IfOk result (λ column. column ≡ used_after n used (map unit_of_char (chars text.now))) }
     ensures text { OnOk result (S.adds out.old
-        (encode_utf8_all (put_all n used (map unit_of_char (chars text.now)))) out.new) }
+        (encode_utf8_all (append_all n used (map unit_of_char (chars text.now)))) out.new) }
 {
     let mut column = used;
     let mut rest = text;
     while let Some((c, after)) = split_first(rest) {
-        column = put_char(out, column, n, c)?;
+        column = append_char(out, column, n, c)?;
         rest = after;
     }
     Ok(column)
 }
 
 /// Writes a word, or its characters where it is too long for a line.
-fn put_unit<S: Sink>(out: &mut S, used: usize, n: usize, word: &str) -> Result<usize, S::Error>
+fn append_unit<S: Sink>(out: &mut S, used: usize, n: usize, word: &str) -> Result<usize, S::Error>
     requires { 0 < n }
     ensures used { IfOk result (λ column. column ≡ used_after n used (units_of_word n (chars word.now))) }
     ensures text { OnOk result (S.adds out.old
-        (encode_utf8_all (put_all n used (units_of_word n (chars word.now)))) out.new) }
+        (encode_utf8_all (append_all n used (units_of_word n (chars word.now)))) out.new) }
 {
     if word.is_empty() {
         return Ok(used);
     }
     let width = line_width(word);
     if width <= n {
-        put_word(out, used, n, word, width)
+        append_word(out, used, n, word, width)
     } else {
-        put_chars(out, used, n, word)
+        append_chars(out, used, n, word)
     }
 }
 
@@ -108,20 +108,20 @@ pub(crate) fn split_word(text: &str) -> (&str, Option<&str>)
 }
 
 /// Writes the words of a line and the spaces between them.
-fn put_words<S: Sink>(out: &mut S, n: usize, line: &str) -> Result<(), S::Error>
+fn append_words<S: Sink>(out: &mut S, n: usize, line: &str) -> Result<(), S::Error>
     requires { 0 < n }
     ensures { OnOk result (S.adds out.old
-        (encode_utf8_all (put_all n 0 (units_of_words n (words_of (chars line.now))))) out.new) }
+        (encode_utf8_all (append_all n 0 (units_of_words n (words_of (chars line.now))))) out.new) }
 {
     let mut column = 0;
     let mut rest = line;
     'words: loop {
         let (word, after) = split_word(rest);
-        column = put_unit(out, column, n, word)?;
+        column = append_unit(out, column, n, word)?;
         match after {
             None => return Ok(()),
             Some(next) => {
-                column = put_word(out, column, n, " ", 1)?;
+                column = append_word(out, column, n, " ", 1)?;
                 rest = next;
             }
         }
@@ -129,20 +129,20 @@ fn put_words<S: Sink>(out: &mut S, n: usize, line: &str) -> Result<(), S::Error>
 }
 
 /// Writes a line, broken.
-fn put_line<S: Sink>(out: &mut S, n: usize, words: bool, line: &str) -> Result<(), S::Error>
+fn append_line<S: Sink>(out: &mut S, n: usize, words: bool, line: &str) -> Result<(), S::Error>
     requires { 0 < n }
     ensures { OnOk result (S.adds out.old
-        (encode_utf8_all (put_all n 0 (units n words (chars line.now)))) out.new) }
+        (encode_utf8_all (append_all n 0 (units n words (chars line.now)))) out.new) }
 {
     if words {
-        return put_words(out, n, line);
+        return append_words(out, n, line);
     }
-    put_chars(out, 0, n, line)?;
+    append_chars(out, 0, n, line)?;
     Ok(())
 }
 
 /// Writes the lines of a text, broken.
-pub(crate) fn put_lines<S: Sink>(
+pub(crate) fn append_lines<S: Sink>(
     out: &mut S,
     n: usize,
     words: bool,
@@ -155,10 +155,10 @@ pub(crate) fn put_lines<S: Sink>(
     let mut begun = false;
     for line in lines(text) {
         if begun {
-            out.put_char('\n')?;
+            out.append_char('\n')?;
         }
         begun = true;
-        put_line(out, n, words, line)?;
+        append_line(out, n, words, line)?;
     }
     Ok(())
 }
@@ -179,6 +179,6 @@ pub fn wrap_text(alloc: Global, text: &str, n: usize, words: bool) -> Result<Str
     if n == 0 || text.is_empty() {
         return Ok(out);
     }
-    put_lines(&mut out, n, words, text)?;
+    append_lines(&mut out, n, words, text)?;
     Ok(out)
 }

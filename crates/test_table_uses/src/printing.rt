@@ -33,16 +33,16 @@ pub fn put_with(
     Ok((answer, text))
 }
 
-/// What it answers to a room of 32 bytes, and what stands there then.
+/// What it answers to a buffer of 32 bytes, and what stands there then.
 pub fn held_with(
     alloc: Global,
     given: &Given,
     look: &Look,
 ) -> Result<(Result<(), TableError>, [u8; 32]), TableError> {
     let table = table_of(alloc, given)?;
-    let mut room = io::Cursor::new([0u8; 32]);
-    let answer = put(&table, look, &mut IoSink::new(&mut room));
-    Ok((answer, *room.get_ref()))
+    let mut buffer = io::Cursor::new([0u8; 32]);
+    let answer = put(&table, look, &mut IoSink::new(&mut buffer));
+    Ok((answer, *buffer.get_ref()))
 }
 
 /// What a text becomes behind which a table is formatted, and whether that succeeds.

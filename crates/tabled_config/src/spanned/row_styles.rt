@@ -1,7 +1,7 @@
 //! How the texts of a row stand, from left to right.
 ghost use Rattle.std.specs.Prelude.{◌≡◌, ℕ, IfSome};
 ghost use Rattle.tabled_entity.specs.Changes.{value_at};
-ghost use Rattle.tabled_config.specs.RowStyles.{SameStyles, TellsStyles, plain_style, set_style, style_in};
+ghost use Rattle.tabled_config.specs.RowStyles.{SameStyles, DescribesStyles, plain_style, set_style, style_in};
 ghost use Rattle.tabled_config.specs.Settings.{style_at};
 
 use super::{CellStyle, SpannedConfig};
@@ -145,7 +145,7 @@ impl SpannedConfig {
     /// How the texts of a row stand, from left to right.
     #[tactic(auto, unfolding(crate::specs::Settings::style_at))]
     pub fn styles_in(&self, row: usize) -> RowStyles<'_>
-        ensures { TellsStyles result (style_at self.now row) }
+        ensures { DescribesStyles result (style_at self.now row) }
     {
         if let Some(style) = self.row_style(row) {
             return RowStyles::Alike(style);

@@ -2,9 +2,9 @@
 use Rattle.std.proofs.Common.{◌≡◌, Bool, false, List, [], ◌++◌, ℕ, Result, Ok, Err, refl, sym, ◌∙◌, ap, subst, append_assoc}
 use Rattle.std.specs.List.{join_with_byte}
 use Rattle.tabled_base.specs.declared.error.TableError.{TableError}
-use Rattle.tabled_line.specs.Leading.{LineSends, LineStops, WritesLines, led}
+use Rattle.tabled_line.specs.Leading.{LineSends, LineStops, WritesLines, lines_after}
 use Rattle.tabled_line.specs.Sent.{Sent, Sends, Stops}
-use Rattle.tabled_line.proofs.Leading.{led-append, led-joined, lines-further}
+use Rattle.tabled_line.proofs.Leading.{lines_after-append, lines_after-joined, lines-further}
 use Rattle.tabled_line.proofs.Sending.{Appends-then, sends-along, stops-then}
 use Rattle.tabled_table.specs.Stream.Below.{StopsBelow, WritesBelow}
 
@@ -32,17 +32,17 @@ stops-below {a} {b} {c} {e} {s} {t} whole p q w =
 
 -- lines that were sent stand above
 pub lines-below : {a b c : Sent} {p q : Bool} {e : TableError} {xs ys : List (List ℕ)} (whole : List (List ℕ)) → LineSends a p b q xs
-    → LineStops b q e c ys → whole ≡ xs ++ ys → StopsBelow (led p xs) a e c (led p whole)
+    → LineStops b q e c ys → whole ≡ xs ++ ys → StopsBelow (lines_after p xs) a e c (lines_after p whole)
 lines-below {p = p} {q = q} {xs = xs} {ys = ys} whole h k w =
-    stops-below (led p whole) h.sends k.stops (ap (led p) w ∙ led-append p xs ys ∙ ap (λ r. led p xs ++ led r ys) (sym h.after))
+    stops-below (lines_after p whole) h.sends k.stops (ap (lines_after p) w ∙ lines_after-append p xs ys ∙ ap (λ r. lines_after p xs ++ lines_after r ys) (sym h.after))
 
 -- the texts of lines, as they are joined by line feeds
-pub joined-below : {a c : Sent} {e : TableError} (above lines : List (List ℕ)) → StopsBelow (led false above) a e c (led false lines)
+pub joined-below : {a c : Sent} {e : TableError} (above lines : List (List ℕ)) → StopsBelow (lines_after false above) a e c (lines_after false lines)
     → StopsBelow (join_with_byte 10 above) a e c (join_with_byte 10 lines)
 joined-below {a} {c} {e} above lines h =
-    let P : List ℕ → Type 0 = λ text. StopsBelow (led false above) a e c text in
+    let P : List ℕ → Type 0 = λ text. StopsBelow (lines_after false above) a e c text in
     let Q : List ℕ → Type 0 = λ text. StopsBelow text a e c (join_with_byte 10 lines) in
-    subst Q (led-joined above) (subst P (led-joined lines) h)
+    subst Q (lines_after-joined above) (subst P (lines_after-joined lines) h)
 
 -- lines were sent, and printing others below them is the end
 pub ends-below : {R : Type 0} {a b : Sent} {q : Bool} {xs : List (List ℕ)} (c : Sent) (after : Bool) (ys whole : List (List ℕ)) (r : Result R TableError)
@@ -50,5 +50,5 @@ pub ends-below : {R : Type 0} {a b : Sent} {q : Bool} {xs : List (List ℕ)} (c 
     → WritesBelow (join_with_byte 10 xs) a r c (join_with_byte 10 whole)
 ends-below {a = a} c after ys whole (Ok x) h k w =
     let both = lines-further h k w in
-    sends-along a c _ _ both.sends (led-joined whole)
+    sends-along a c _ _ both.sends (lines_after-joined whole)
 ends-below {xs = xs} c after ys whole (Err e) h k w = joined-below xs whole (lines-below whole h k w)

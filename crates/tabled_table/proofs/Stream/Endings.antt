@@ -5,7 +5,7 @@ use Rattle.tabled_base.specs.declared.error.TableError.{TableError}
 use Rattle.tabled_config.specs.declared.compact.CompactConfig.{CompactConfig}
 use Rattle.tabled_line.specs.Sent.{Sent}
 use Rattle.tabled_table.specs.declared.iter_table.layout.Layout.{Layout}
-use Rattle.tabled_table.specs.declared.iter_table.settings.Settings.{Settings}
+use Rattle.tabled_table.specs.declared.iter_table.settings.StreamSettings.{StreamSettings}
 use Rattle.tabled_table.specs.Stream.Progress.{EndsSheet, FinishesMore, Halts, HaltsMore, HaltsWithin, HasPut, HasPutMore, IsLimited, IsPermitted}
 use Rattle.tabled_table.specs.Stream.Streams.{stream_total}
 
@@ -14,7 +14,7 @@ err-and (Ok x) e Q i q = absurd i
 err-and (Err d) e Q i q = subst Q (sym i) q
 
 -- printing halts in the top margin
-pub halts-top : {settings : Settings} {config : CompactConfig} {ahead_rows : List (List (List ℕ))} {start new : Sent} {count : ℕ} {e : TableError}
+pub halts-top : {settings : StreamSettings} {config : CompactConfig} {ahead_rows : List (List (List ℕ))} {start new : Sent} {count : ℕ} {e : TableError}
     → HaltsWithin settings config ahead_rows [] start count e new → Halts settings config ahead_rows [] start count e new
 halts-top h = record { shown = []; rest = []; parts = refl; halts = inr (refl, h) }
 
@@ -27,7 +27,7 @@ module _ {R : Type 0} {layout : Layout} {first begun : Bool} {old new : Sent} (l
 
   pub finishes-ending : {first' begun' : Bool} {mid : Sent} → IsLimited limit (length more) whole
       → HasPutMore lines more layout first old begun first' mid begun'
-      → ((settings : Settings) (config : CompactConfig) (ahead_rows shown : List (List (List ℕ))) (start : Sent) → 0 < length shown → 0 < layout.count
+      → ((settings : StreamSettings) (config : CompactConfig) (ahead_rows shown : List (List (List ℕ))) (start : Sent) → 0 < length shown → 0 < layout.count
       → total ≡ stream_total settings config ahead_rows → HasPut settings config ahead_rows shown start layout first' mid begun'
       → EndsSheet settings config ahead_rows shown start r new)
       → FinishesMore limit lines total whole more layout first old begun r new

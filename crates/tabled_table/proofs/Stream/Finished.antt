@@ -8,9 +8,9 @@ use Rattle.tabled_base.specs.declared.error.TableError.TheVariants.{Memory, Rang
 use Rattle.tabled_config.specs.declared.compact.CompactConfig.{CompactConfig}
 use Rattle.tabled_grid.specs.Picture.{table_text}
 use Rattle.tabled_line.specs.Sent.{Sent, Sends}
-use Rattle.tabled_line.proofs.Leading.{led-joined}
+use Rattle.tabled_line.proofs.Leading.{lines_after-joined}
 use Rattle.tabled_table.specs.declared.iter_table.layout.Layout.{Layout}
-use Rattle.tabled_table.specs.declared.iter_table.settings.Settings.{Settings}
+use Rattle.tabled_table.specs.declared.iter_table.settings.StreamSettings.{StreamSettings}
 use Rattle.tabled_table.specs.Stream.Below.{StopsBelow}
 use Rattle.tabled_table.specs.Stream.Printed.{lines_above, lines_before, text_above}
 use Rattle.tabled_table.specs.Stream.Progress.{AreFirst, AreFurther, EndsSheet, Halts, HaltsBefore, HaltsWithin, IsLaidOut, IsLimited, left_of}
@@ -19,12 +19,12 @@ use Rattle.tabled_table.specs.Stream.Streams.{AreEnough, AreSniffed, IsTooHighFi
 use Rattle.tabled_table.proofs.Stream.Below.{joined-below}
 use Rattle.tabled_table.proofs.Stream.FirstRows.{few-first, few-more, length-limited, limited-more, read-more}
 
-high-more : (settings : Settings) (config : CompactConfig) (ahead_rows : List (List (List ℕ))) (index : ℕ) (rest others : List (List (List ℕ)))
+high-more : (settings : StreamSettings) (config : CompactConfig) (ahead_rows : List (List (List ℕ))) (index : ℕ) (rest others : List (List (List ℕ)))
     → IsTooHighFirst settings config ahead_rows index rest → IsTooHighFirst settings config ahead_rows index (rest ++ others)
 high-more settings config ahead_rows index [] others h = absurd h
 high-more settings config ahead_rows index (row ∷ rest) others h = h
 
-module _ {settings : Settings} {config : CompactConfig} {rows : List (List (List ℕ))} {whole : Bool} {old new : Sent} {e : TableError} where
+module _ {settings : StreamSettings} {config : CompactConfig} {rows : List (List (List ℕ))} {whole : Bool} {old new : Sent} {e : TableError} where
   halted-by : (some others shown rest : List (List (List ℕ))) → limited settings.rows rows ≡ some ++ others → some ≡ shown ++ rest
       → length rows ≤ max (ahead settings) (max 1 (length some)) → AreSniffed settings rows whole → 0 < column_count settings (sniffed settings rows)
       → stream_total settings config (sniffed settings rows) < 2 ^ 64
@@ -49,7 +49,7 @@ module _ {settings : Settings} {config : CompactConfig} {rows : List (List (List
         taken = (let t = b.taken in omega (arith, ap length q, length-append shown rest));
         cause = ⊎_elim (λ h. inl (h.0, high-more settings config (sniffed settings rows) (length shown) rest others h.1))
             (λ h. inr (h.0, (let some = h.1 in omega (arith, length-append rest others)))) b.cause;
-        sends = subst S (led-joined lines) b.sends.sends;
+        sends = subst S (lines_after-joined lines) b.sends.sends;
       }))
   halted-by some others shown rest p q m s c w (inr h) =
       let b = h.1 in
@@ -78,7 +78,7 @@ module _ {settings : Settings} {config : CompactConfig} {rows : List (List (List
       → StreamStops settings config rows whole old e new
   halted some others p m s c w h = halted-by some others h.shown h.rest p h.parts m s c w h.halts
 
-pub err-streams : {R : Type 0} {settings : Settings} {config : CompactConfig} {rows : List (List (List ℕ))} {whole : Bool} {old new : Sent}
+pub err-streams : {R : Type 0} {settings : StreamSettings} {config : CompactConfig} {rows : List (List (List ℕ))} {whole : Bool} {old new : Sent}
     (r : Result R TableError) (e : TableError) → IsErrAnd r (λ d. d ≡ e) → StreamStops settings config rows whole old e new
     → Streams settings config rows whole old r new
 err-streams (Ok x) e i h = absurd i
@@ -90,13 +90,13 @@ reached : (limit : Option ℕ) (kept more : List (List (List ℕ))) → IsLimite
 reached None kept more h = let never = h in absurd (cc)
 reached (Some n) kept more h = let l = h.1 refl in omega (arith, length-append kept more)
 
-enough-by : (settings : Settings) (kept more : List (List (List ℕ))) (whole : Bool) → AreSniffed settings (kept ++ more) whole
+enough-by : (settings : StreamSettings) (kept more : List (List (List ℕ))) (whole : Bool) → AreSniffed settings (kept ++ more) whole
     → IsLimited (left_of settings.rows (length kept)) (length more) whole → AreEnough settings (kept ++ more) whole
 enough-by settings kept more true s l = inl refl
 enough-by settings kept more false (inl never) l = absurd (cc)
 enough-by settings kept more false (inr h) l = inr (h, inl (reached settings.rows kept more l))
 
-whole-stream : {settings : Settings} {config : CompactConfig} {rows some : List (List (List ℕ))} {old new : Sent} {R : Type 0} {r : Result R TableError}
+whole-stream : {settings : StreamSettings} {config : CompactConfig} {rows some : List (List (List ℕ))} {old new : Sent} {R : Type 0} {r : Result R TableError}
     → limited settings.rows rows ≡ some → stream_total settings config (sniffed settings rows) < 2 ^ 64
     → (h : EndsSheet settings config (sniffed settings rows) some old r new) → IsWholeStream settings config rows h.sheet
 whole-stream {settings} {config} {rows} {some} p w h =
@@ -109,7 +109,7 @@ whole-stream {settings} {config} {rows} {some} p w h =
     }
 
 -- the end was printed, or refused there
-ended : {R : Type 0} {settings : Settings} {config : CompactConfig}
+ended : {R : Type 0} {settings : StreamSettings} {config : CompactConfig}
     (rows : List (List (List ℕ))) {some : List (List (List ℕ))} {whole : Bool} {old new : Sent} (r : Result R TableError)
     → AreEnough settings rows whole → limited settings.rows rows ≡ some → stream_total settings config (sniffed settings rows) < 2 ^ 64
     → EndsSheet settings config (sniffed settings rows) some old r new → Streams settings config rows whole old r new
@@ -118,11 +118,11 @@ ended {settings = settings} rows {old = old} {new} (Err e) enough p w h =
     let P : ℕ → Type 0 = λ n. StopsBelow (text_above h.sheet (column_count settings (sniffed settings rows)) n) old e new (table_text h.sheet) in
     inr (inr (inr (record { enough = enough; sheet = h.sheet; streamed = whole-stream p w h; stops = subst P (ap length (sym p)) h.writes })))
 
-sniffed-first : {settings : Settings} {kept : List (List (List ℕ))} (all : Bool) → AreFirst settings kept all → AreSniffed settings kept all
+sniffed-first : {settings : StreamSettings} {kept : List (List (List ℕ))} (all : Bool) → AreFirst settings kept all → AreSniffed settings kept all
 sniffed-first true f = inl refl
 sniffed-first false f = inr (f.sniffed refl)
 
-module _ {settings : Settings} {config : CompactConfig} {kept : List (List (List ℕ))} {all : Bool} {old new : Sent} (f : AreFirst settings kept all)
+module _ {settings : StreamSettings} {config : CompactConfig} {kept : List (List (List ℕ))} {all : Bool} {old new : Sent} (f : AreFirst settings kept all)
     (c : 0 < column_count settings (sniffed settings kept)) (w : stream_total settings config (sniffed settings kept) < 2 ^ 64) where
   -- printing halted in the rows that were taken first
   pub halted-first : {e : TableError} (count : ℕ)
@@ -158,7 +158,7 @@ module _ {settings : Settings} {config : CompactConfig} {kept : List (List (List
 
 -- ---- for the functions that print: what they know is told of vectors and of a layout
 
-module _ {settings : Settings} {config : CompactConfig} (kept : List (List (List ℕ))) {layout : Layout} {total : ℕ}
+module _ {settings : StreamSettings} {config : CompactConfig} (kept : List (List (List ℕ))) {layout : Layout} {total : ℕ}
     (l : IsLaidOut settings config (sniffed settings kept) layout) (some : 0 < layout.count)
     (t : total ≡ stream_total settings config (sniffed settings kept)) (b : total < 2 ^ 64) where
   in-range : stream_total settings config (sniffed settings kept) < 2 ^ 64
@@ -167,7 +167,7 @@ module _ {settings : Settings} {config : CompactConfig} (kept : List (List (List
   some-columns : 0 < column_count settings (sniffed settings kept)
   some-columns = subst (λ n. 0 < n) l.count some
 
-module _ {settings : Settings} {config : CompactConfig} {kept : List (List (List ℕ))} {all : Bool} {layout : Layout} {old new : Sent} {total : ℕ}
+module _ {settings : StreamSettings} {config : CompactConfig} {kept : List (List (List ℕ))} {all : Bool} {layout : Layout} {old new : Sent} {total : ℕ}
     (f : AreFirst settings kept all) (l : IsLaidOut settings config (sniffed settings kept) layout) (some : 0 < layout.count)
     (t : total ≡ stream_total settings config (sniffed settings kept)) (b : total < 2 ^ 64) where
   pub put-halted : {R : Type 0} (r : Result R TableError) (e : TableError) (shown : List (List (List ℕ))) → shown ≡ limited settings.rows kept
@@ -196,7 +196,7 @@ module _ {settings : Settings} {config : CompactConfig} {kept : List (List (List
       (subst (λ c. Q (length kept) c) l.count (subst (λ k. Q k layout.count) i h))
 
 -- nothing was printed, since the whole is too wide or memory was refused
-pub unplanned : {R : Type 0} {settings : Settings} (config : CompactConfig) {kept : List (List (List ℕ))} {all : Bool} (old : Sent)
+pub unplanned : {R : Type 0} {settings : StreamSettings} (config : CompactConfig) {kept : List (List (List ℕ))} {all : Bool} (old : Sent)
     (r : Result R TableError) (e : TableError)
     → AreFirst settings kept all → 0 < column_count settings (sniffed settings kept) → 0 < length (limited settings.rows kept) → IsErrAnd r (λ d. d ≡ e)
     → ((e ≡ Range) × (2 ^ 64 ≤ stream_total settings config (sniffed settings kept))) ⊎ (e ≡ Memory)
@@ -210,6 +210,6 @@ unplanned {settings = settings} config {kept} {all} old r e f c s i h =
     })))
 
 -- an allocation failed for a row that was read
-pub unread : {R : Type 0} (settings : Settings) (config : CompactConfig) (rows : List (List (List ℕ))) (old : Sent) (r : Result R TableError) (e : TableError)
+pub unread : {R : Type 0} (settings : StreamSettings) (config : CompactConfig) (rows : List (List (List ℕ))) (old : Sent) (r : Result R TableError) (e : TableError)
     → 0 < length rows → IsErrAnd r (λ d. d ≡ e) → e ≡ Memory → Streams settings config rows false old r old
 unread settings config rows old r e some i m = err-streams r e i (inl (record { same = refl; cause = inr (m, some) }))

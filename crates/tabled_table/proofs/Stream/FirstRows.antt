@@ -3,7 +3,7 @@ use Rattle.std.proofs.Common.{◌≡◌, ◌⊎◌, ℕ, zero, suc, ◌-◌, ◌
 use Rattle.std.proofs.lemmas.Bool.{cases_lt}
 use Rattle.std.proofs.lemmas.List.{length-take, take-append-le, take_all}
 use Rattle.tabled_base.specs.Cells.{longest}
-use Rattle.tabled_table.specs.declared.iter_table.settings.Settings.{Settings}
+use Rattle.tabled_table.specs.declared.iter_table.settings.StreamSettings.{StreamSettings}
 use Rattle.tabled_table.specs.Stream.Progress.{AreFirst, AreFurther, IsPermitted, left_of}
 use Rattle.tabled_table.specs.Stream.Streamed.{ahead, column_count, limited, sniffed}
 use Rattle.tabled_table.specs.Stream.Streams.{ArePermitted, AreSniffed, shown_rows}
@@ -12,7 +12,7 @@ use Rattle.tabled_table.proofs.Stream.Parts.{not-zero}
 -- ---- further rows behind the first ones
 
 -- the rows that are read ahead stay
-pub sniffed-more : (settings : Settings) (kept more : List (List (List ℕ))) → (ahead settings ≤ length kept) ⊎ (length more ≡ 0)
+pub sniffed-more : (settings : StreamSettings) (kept more : List (List (List ℕ))) → (ahead settings ≤ length kept) ⊎ (length more ≡ 0)
     → sniffed settings (kept ++ more) ≡ sniffed settings kept
 sniffed-more settings kept more (inl h) = take-append-le (ahead settings) kept more h
 sniffed-more settings kept [] (inr h) = ap (λ rows. take (ahead settings) rows) (append-nil kept)
@@ -44,7 +44,7 @@ unlimited (Some n) kept h =
     ⊎_elim (λ (l : length kept < n). take_all n kept (omega arith))
     (λ (l : n ≤ length kept). absurd (h (ap Some (let e : n - length kept ≡ 0 = omega arith in e)))) (cases_lt (length kept) n)
 
-pub sniffed-shown : (settings : Settings) (kept : List (List (List ℕ))) → (left_of settings.rows (length kept) ≡ Some 0 → ⊥)
+pub sniffed-shown : (settings : StreamSettings) (kept : List (List (List ℕ))) → (left_of settings.rows (length kept) ≡ Some 0 → ⊥)
     → length (sniffed settings kept) ≤ length (limited settings.rows kept)
 sniffed-shown settings kept h =
     omega (arith, length-take (ahead settings) kept, ap length (unlimited settings.rows kept h))
@@ -60,18 +60,18 @@ some-limited None kept h l = omega arith
 some-limited (Some zero) kept h l = absurd (h refl)
 some-limited (Some (suc n)) kept h l = omega (arith, length-take (suc n) kept)
 
-shown-some : (settings : Settings) (rows : List (List (List ℕ))) → 0 < column_count settings (sniffed settings rows)
+shown-some : (settings : StreamSettings) (rows : List (List (List ℕ))) → 0 < column_count settings (sniffed settings rows)
     → shown_rows settings rows ≡ limited settings.rows rows
 shown-some settings rows c = ap (λ b. if b then [] else limited settings.rows rows) (not-zero (column_count settings (sniffed settings rows)) c)
 
-read-by : (settings : Settings) (kept more : List (List (List ℕ))) (whole all : Bool) → AreFirst settings kept all
+read-by : (settings : StreamSettings) (kept more : List (List (List ℕ))) (whole all : Bool) → AreFirst settings kept all
     → AreFurther settings.rows (length kept) all (length more) whole
     → (sniffed settings (kept ++ more) ≡ sniffed settings kept) × AreSniffed settings (kept ++ more) whole
 read-by settings kept more whole true f g = (sniffed-more settings kept more (inr (g.none refl).0), inl (g.none refl).1)
 read-by settings kept more whole false f g =
     let l = f.sniffed refl in (sniffed-more settings kept more (inl l), inr (omega (arith, length-append kept more)))
 
-module _ {settings : Settings} {kept : List (List (List ℕ))} {all : Bool} (f : AreFirst settings kept all) where
+module _ {settings : StreamSettings} {kept : List (List (List ℕ))} {all : Bool} (f : AreFirst settings kept all) where
   pub permitted-first : ArePermitted settings kept
   permitted-first =
       ⊎_elim (λ (l : length kept ≤ ahead settings). omega arith)
@@ -113,7 +113,7 @@ module _ {settings : Settings} {kept : List (List (List ℕ))} {all : Bool} (f :
         (λ (m : length more ≤ 0). let few = few-first in omega arith) (cases_lt 0 (length more))
 
 -- no more rows than are taken before the first byte
-pub permitted-ahead : (settings : Settings) (rows : List (List (List ℕ))) (most : ℕ) → length rows ≤ most
+pub permitted-ahead : (settings : StreamSettings) (rows : List (List (List ℕ))) (most : ℕ) → length rows ≤ most
     → (most ≡ ahead settings) ⊎ ((ahead settings ≡ 0) × (most ≡ 1) × (0 < unwrap_or settings.columns 0) × (settings.rows ≡ Some 0 → ⊥))
     → ArePermitted settings rows
 permitted-ahead settings rows most within needed =

@@ -4,7 +4,7 @@ use Rattle.tabled_base.specs.declared.error.TableError.{TableError}
 use Rattle.tabled_config.specs.declared.compact.CompactConfig.{CompactConfig}
 use Rattle.tabled_line.specs.Sent.{Sent}
 use Rattle.tabled_table.specs.declared.iter_table.layout.Layout.{Layout}
-use Rattle.tabled_table.specs.declared.iter_table.settings.Settings.{Settings}
+use Rattle.tabled_table.specs.declared.iter_table.settings.StreamSettings.{StreamSettings}
 use Rattle.tabled_table.specs.Stream.Progress.{AreFurther, EndsSheet, FinishesBehind, FinishesMore, HasPut, IsLimited, IsPermitted, left_of}
 use Rattle.tabled_records.specs.Reading.{Reads, ReadsTo}
 use Rattle.tabled_table.specs.Stream.Reading.{ReadsOn}
@@ -54,7 +54,7 @@ module _ {S W T A : Type 0} {steps : S → Option W → S → Type 0} {becomes :
 module _ {R : Type 0} {layout : Layout} {first begun : Bool} {old new : Sent} {left : Option ℕ} {lines total : ℕ} {r : Result R TableError} where
   -- the end of the table follows
   pub behind-ending : (all : Bool) → (all ≡ true) ⊎ (left ≡ Some 0)
-      → ((settings : Settings) (config : CompactConfig) (ahead_rows shown : List (List (List ℕ))) (start : Sent) → 0 < length shown → 0 < layout.count
+      → ((settings : StreamSettings) (config : CompactConfig) (ahead_rows shown : List (List (List ℕ))) (start : Sent) → 0 < length shown → 0 < layout.count
       → total ≡ stream_total settings config ahead_rows → HasPut settings config ahead_rows shown start layout first old begun
       → EndsSheet settings config ahead_rows shown start r new)
       → FinishesBehind left lines total all [] layout first old begun r new

@@ -6,7 +6,7 @@ use Rattle.tabled_config.specs.declared.compact.CompactConfig.{CompactConfig}
 use Rattle.tabled_line.specs.Leading.{LineSends}
 use Rattle.tabled_line.specs.Sent.{Sent}
 use Rattle.tabled_table.specs.declared.iter_table.layout.Layout.{Layout}
-use Rattle.tabled_table.specs.declared.iter_table.settings.Settings.{Settings}
+use Rattle.tabled_table.specs.declared.iter_table.settings.StreamSettings.{StreamSettings}
 use Rattle.tabled_table.specs.Stream.Printed.{lines_above}
 use Rattle.tabled_table.specs.Stream.Progress.{Halts, HasPut, PutsNext}
 use Rattle.tabled_table.specs.Stream.Row.{Puts, rule_of}
@@ -16,7 +16,7 @@ use Rattle.tabled_table.proofs.Stream.Steps.{put-more, put-stopped}
 abbrev pub padded : Layout → ℕ → ℕ
 padded layout lines = lines + (layout.style.padding.top.size + layout.style.padding.bottom.size)
 
-module _ {settings : Settings} {config : CompactConfig} {ahead_rows shown : List (List (List ℕ))} {layout : Layout} {start old : Sent}
+module _ {settings : StreamSettings} {config : CompactConfig} {ahead_rows shown : List (List (List ℕ))} {layout : Layout} {start old : Sent}
     {first begun : Bool} where
   -- the height of the next row
   padded-is : (row : List (List ℕ)) (lines : ℕ) → HasPut settings config ahead_rows shown start layout first old begun

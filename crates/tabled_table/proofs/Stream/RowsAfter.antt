@@ -9,7 +9,7 @@ use Rattle.tabled_base.specs.declared.error.TableError.TheVariants.{Memory}
 use Rattle.tabled_config.specs.declared.compact.CompactConfig.{CompactConfig}
 use Rattle.tabled_line.specs.Sent.{Sent}
 use Rattle.tabled_table.specs.declared.iter_table.layout.Layout.{Layout}
-use Rattle.tabled_table.specs.declared.iter_table.settings.Settings.{Settings}
+use Rattle.tabled_table.specs.declared.iter_table.settings.StreamSettings.{StreamSettings}
 use Rattle.tabled_table.specs.Stream.Progress.{Halts, HaltsMore, HasPut, HasPutMore, IsLimited, IsPermitted, PutsNext, PutsRows}
 use Rattle.tabled_table.specs.Stream.Streamed.{column_count, content_height, tallest}
 use Rattle.tabled_table.proofs.Stream.NextPut.{halts-before}
@@ -18,7 +18,7 @@ pub match-err : {R E : Type 0} (r : Result R E) (e : E) (P : R → Type 0) (Q : 
 match-err (Ok x) e P Q i q = absurd i
 match-err (Err d) e P Q i q = subst Q (sym i) q
 
-pub kept-next : {R : Type 0} {settings : Settings} {config : CompactConfig} {ahead_rows : List (List (List ℕ))} {start : Sent}
+pub kept-next : {R : Type 0} {settings : StreamSettings} {config : CompactConfig} {ahead_rows : List (List (List ℕ))} {start : Sent}
     (texts : List (List (List ℕ))) (k lines : ℕ) (row : List (List ℕ)) (ahead : Bool) (layout : Layout) (first first' begun begun' : Bool) (old new : Sent)
     (r : Result R TableError) → k < length texts → get_or texts k [] ≡ row
     → lines ≡ unwrap_or settings.height (if is_some settings.width || not ahead then 1 else tallest layout.count row) → ahead ≡ nat_lt k (length ahead_rows)
@@ -42,7 +42,7 @@ or-true false = refl
 past : (i n : ℕ) → n ≤ i → nat_lt i n ≡ false
 past i n h = grind (arith, nat_tests)
 
-later-height : (settings : Settings) (ahead_rows : List (List (List ℕ))) (index lines : ℕ) (row : List (List ℕ)) → length ahead_rows ≤ index
+later-height : (settings : StreamSettings) (ahead_rows : List (List (List ℕ))) (index lines : ℕ) (row : List (List ℕ)) → length ahead_rows ≤ index
     → lines ≡ unwrap_or settings.height 1 → lines ≡ content_height settings ahead_rows index row
 later-height settings ahead_rows index lines row h l =
     let t = tallest (column_count settings ahead_rows) row in

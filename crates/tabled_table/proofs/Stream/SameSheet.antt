@@ -15,7 +15,7 @@ use Rattle.tabled_config.specs.Spanned.{spanned_of_compact}
 use Rattle.tabled_size.specs.Estimates.{column_width, estimated_heights, estimated_widths, needed_height, row_height}
 use Rattle.tabled_size.specs.Sheet.{Sheet, estimated}
 use Rattle.tabled_size.proofs.Greatest.{greatest_below, greatest_ge, greatest_more, mapped_same}
-use Rattle.tabled_table.specs.declared.iter_table.settings.Settings.{Settings}
+use Rattle.tabled_table.specs.declared.iter_table.settings.StreamSettings.{StreamSettings}
 use Rattle.tabled_text.specs.Exact.{IsExactLine}
 use Rattle.tabled_table.specs.Stream.LikeTable.{AreMeasured, IsLikeTable, PrintsLikeTable}
 use Rattle.tabled_table.specs.Stream.Streams.{AreEnough, PrintsStream, reaches}
@@ -62,7 +62,7 @@ greatest-same f v (suc n) h =
 
 -- ---- rows that are measured whole
 
-module _ {settings : Settings} {rows : List (List (List ℕ))} (a : AreMeasured settings rows) where
+module _ {settings : StreamSettings} {rows : List (List (List ℕ))} (a : AreMeasured settings rows) where
   pub all-sniffed : sniffed settings rows ≡ rows
   all-sniffed =
       let wide : is_some settings.width ≡ false = ap is_some a.no_width in
@@ -179,7 +179,7 @@ module _ {settings : Settings} {rows : List (List (List ℕ))} (a : AreMeasured 
 
 -- ---- rows that make a stream like a table
 
-pub measured-of : {settings : Settings} {rows : List (List (List ℕ))} → IsLikeTable settings rows → AreMeasured settings rows
+pub measured-of : {settings : StreamSettings} {rows : List (List (List ℕ))} → IsLikeTable settings rows → AreMeasured settings rows
 measured-of a = record {
   has_row = a.has_row;
   has_column = a.has_column;
@@ -191,7 +191,7 @@ measured-of a = record {
   no_height = a.no_height;
 }
 
-module _ {settings : Settings} {rows : List (List (List ℕ))} (a : IsLikeTable settings rows) where
+module _ {settings : StreamSettings} {rows : List (List (List ℕ))} (a : IsLikeTable settings rows) where
   cell-exact : (index column : ℕ) → index < length rows → column < columns rows → IsExactLine (get_or (get_or rows index []) column [])
   cell-exact index column b c = a.exact index [] b column [] (let l = a.rectangular index [] b in omega arith)
 
@@ -213,7 +213,7 @@ module _ {settings : Settings} {rows : List (List (List ℕ))} (a : IsLikeTable 
         let cells : t.cells ≡ rows =
         ext_get_or [] t.cells rows s.as_many (λ k l. row-kept k (get_or t.cells k []) (let m = s.as_many in omega arith) (s.cells k (let m = s.as_many in omega arith))) in
         let F : List (List (List ℕ)) → SpannedConfig → List ℕ → List ℕ → Sheet = λ c g w h. record { cells = c; config = g; widths = w; heights = h } in
-        ap (λ c. F c t.config t.widths t.heights) cells ∙ ap (λ g. F rows g t.widths t.heights) s.settings_of
+        ap (λ c. F c t.config t.widths t.heights) cells ∙ ap (λ g. F rows g t.widths t.heights) s.arguments_of
         ∙ ap (λ w. F rows (spanned_of_compact config) w t.heights) (s.widths ∙ widths-same (measured-of a) config)
         ∙ ap (λ h. F rows (spanned_of_compact config) (estimated_widths rows (spanned_of_compact config)) h) (heights-same (measured-of a) config t.heights s.as_high s.heights)
 
@@ -224,7 +224,7 @@ module _ {settings : Settings} {rows : List (List (List ℕ))} (a : IsLikeTable 
 
 -- ---- what was printed
 
-module _ {settings : Settings} {rows : List (List (List ℕ))} (a : IsLikeTable settings rows) where
+module _ {settings : StreamSettings} {rows : List (List (List ℕ))} (a : IsLikeTable settings rows) where
   all-came : (whole : Bool) → AreEnough settings rows whole → whole ≡ true
   all-came whole (inl h) = h
   all-came whole (inr (l, inl h)) = absurd (subst (λ limit. reaches limit (length rows)) a.no_rows h)
@@ -233,7 +233,7 @@ module _ {settings : Settings} {rows : List (List (List ℕ))} (a : IsLikeTable 
       let some = a.has_column in
       absurd (omega arith)
 
-pub like_printed : {R : Type 0} {settings : Settings} {config : CompactConfig} {comes : List (List (List ℕ)) → Bool → Type 0} {old new : Sent}
+pub like_printed : {R : Type 0} {settings : StreamSettings} {config : CompactConfig} {comes : List (List (List ℕ)) → Bool → Type 0} {old new : Sent}
     (r : Result R TableError) → PrintsStream settings config comes old r new → OnOk r (PrintsLikeTable settings config comes old new)
 like_printed (Err e) p = tt
 like_printed {config = config} {old = old} {new} (Ok x) p =

@@ -5,7 +5,7 @@ use Rattle.std.proofs.lemmas.Simd.{map-map}
 use Rattle.std.specs.declared.alloc.Global.{Global}
 use Rattle.std.specs.declared.vec.Vec.{Vec}
 use Rattle.tabled_base.specs.Cells.{texts_of}
-use Rattle.tabled_table.specs.declared.iter_table.settings.Settings.{Settings}
+use Rattle.tabled_table.specs.declared.iter_table.settings.StreamSettings.{StreamSettings}
 use Rattle.tabled_table.specs.Stream.Streamed.{ahead, limited, sniffed}
 use Rattle.tabled_table.proofs.Stream.Measures.{take-min}
 
@@ -21,11 +21,11 @@ module _ {T : Type 0} (text : T → List ℕ) (rows : List (Vec T Global)) where
       first-texts (min n (length rows)) ∙ ap (λ m. take (min n m) (texts_of text rows)) (sym texts-long) ∙ take-min n (texts_of text rows)
 
   -- those that are read ahead
-  pub sniffed-texts : (settings : Settings) (n : ℕ) (slice : List (Vec T Global)) → n ≡ min (ahead settings) (length rows) → slice ≡ take n rows
+  pub sniffed-texts : (settings : StreamSettings) (n : ℕ) (slice : List (Vec T Global)) → n ≡ min (ahead settings) (length rows) → slice ≡ take n rows
       → texts_of text slice ≡ sniffed settings (texts_of text rows)
   sniffed-texts settings n slice e s = ap (texts_of text) (s ∙ ap (λ m. take m rows) e) ∙ fewer-texts (ahead settings)
 
-  pub sniffed-long : (settings : Settings) (n : ℕ) → n ≡ min (ahead settings) (length rows) → length (sniffed settings (texts_of text rows)) ≡ n
+  pub sniffed-long : (settings : StreamSettings) (n : ℕ) → n ≡ min (ahead settings) (length rows) → length (sniffed settings (texts_of text rows)) ≡ n
   sniffed-long settings n e = omega (arith, length-take (ahead settings) (texts_of text rows), texts-long)
 
   -- those that are shown

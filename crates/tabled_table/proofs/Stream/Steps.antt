@@ -10,12 +10,12 @@ use Rattle.tabled_grid.specs.Picture.{row_part}
 use Rattle.tabled_line.specs.Fill.{fill}
 use Rattle.tabled_line.specs.Sent.{Sent}
 use Rattle.tabled_line.proofs.Each.{each-more}
-use Rattle.tabled_line.specs.Leading.{led}
+use Rattle.tabled_line.specs.Leading.{lines_after}
 use Rattle.tabled_line.proofs.Leading.{lines-further}
 use Rattle.tabled_size.specs.Sheet.{Sheet}
 use Rattle.tabled_size.specs.Totals.{filled_width}
 use Rattle.tabled_table.specs.declared.iter_table.layout.Layout.{Layout}
-use Rattle.tabled_table.specs.declared.iter_table.settings.Settings.{Settings}
+use Rattle.tabled_table.specs.declared.iter_table.settings.StreamSettings.{StreamSettings}
 use Rattle.tabled_table.specs.Stream.Below.{StopsBelow}
 use Rattle.tabled_table.specs.Stream.Printed.{lines_above, lines_before}
 use Rattle.tabled_table.specs.Stream.Progress.{HasPut, HaltsWithin, IsInReach, IsLaidOut}
@@ -32,7 +32,7 @@ extended t cells height = record t { cells = t.cells ++ cells ∷ []; heights = 
 length-pushed : {A : Type 0} (xs : List A) (y : A) (n : ℕ) → length xs ≡ n → length (xs ++ y ∷ []) ≡ n + 1
 length-pushed xs y n e = omega (arith, length-append xs (y ∷ []))
 
-module _ {settings : Settings} {config : CompactConfig} {ahead_rows : List (List (List ℕ))} {layout : Layout} where
+module _ {settings : StreamSettings} {config : CompactConfig} {ahead_rows : List (List (List ℕ))} {layout : Layout} where
   -- a row that is cut as the layout says is cut as the settings do
   cut-laid : {row cells : List (List ℕ)} → IsLaidOut settings config ahead_rows layout → IsCutRow (content_at layout) layout.count row cells
       → IsCutRow (content_width settings ahead_rows) (column_count settings ahead_rows) row cells
@@ -60,7 +60,7 @@ module _ {settings : Settings} {config : CompactConfig} {ahead_rows : List (List
             each-pushed (λ k r. C r (get_or (t.cells ++ cells ∷ []) k [])) shown row [] n refl
             (λ k b. subst (C (get_or shown k [])) (sym (pushed-before t.cells cells [] n k s.as_many b)) (s.cells k b))
             (subst (C row) (sym (pushed-at t.cells cells [] n s.as_many)) (cut-laid l c)) k (omega arith);
-        settings_of = s.settings_of;
+        arguments_of = s.arguments_of;
         widths = s.widths;
         as_high = length-pushed t.heights height n s.as_high ∙ sym longer;
         heights = λ k b.
@@ -157,7 +157,7 @@ module _ {settings : Settings} {config : CompactConfig} {ahead_rows : List (List
       let longer = length-pushed shown row (length shown) refl in
       let t = extended p.sheet q.cells height in
       let lines = lines_above t layout.count (length (shown ++ row ∷ [])) in
-      let P : List (List ℕ) → Type 0 = λ above. StopsBelow (led false above) start error new (led false lines) in
+      let P : List (List ℕ) → Type 0 = λ above. StopsBelow (lines_after false above) start error new (lines_after false lines) in
       let above : lines_above p.sheet layout.count (length shown) ≡ lines_before t layout.count (length (shown ++ row ∷ [])) =
       above-same row q.cells height p.laid p.in_reach.streamed more.streamed
       ∙ sym (ap (λ n. lines_before t layout.count n) (longer ∙ add-one (length shown))) in

@@ -18,7 +18,7 @@ use Rattle.tabled_size.specs.Estimates.{needed_width}
 use Rattle.tabled_size.specs.Holds.{Holds}
 use Rattle.tabled_size.specs.Sheet.{Sheet}
 use Rattle.tabled_size.specs.TextCells.{AreTexts}
-use Rattle.tabled_table.specs.declared.iter_table.settings.Settings.{Settings}
+use Rattle.tabled_table.specs.declared.iter_table.settings.StreamSettings.{StreamSettings}
 use Rattle.tabled_table.specs.Stream.Streamed.{IsCutRow, IsStreamed, column_count, content_width, stream_width}
 use Rattle.tabled_table.proofs.Stream.Parts.{length-cut}
 use Rattle.tabled_table.proofs.Stream.Widths.{listed}
@@ -56,7 +56,7 @@ needed-is : (cells : List (List (List ℕ))) (config : SpannedConfig) (row colum
 unfolding padded
 needed-is cells config row column = refl
 
-module _ {settings : Settings} {config : CompactConfig} {ahead_rows rows : List (List (List ℕ))} {t : Sheet} where
+module _ {settings : StreamSettings} {config : CompactConfig} {ahead_rows rows : List (List (List ℕ))} {t : Sheet} where
   row-long : IsStreamed settings config ahead_rows rows t → (row : ℕ) → row < length t.cells → length (get_or t.cells row []) ≡ column_count settings ahead_rows
   row-long s row h =
       length-cut (content_width settings ahead_rows) (column_count settings ahead_rows) (get_or rows row []) (get_or t.cells row [])
@@ -89,7 +89,7 @@ module _ {settings : Settings} {config : CompactConfig} {ahead_rows rows : List 
       let fits = (row-fits s row column h).columns in
       let count = streamed_columns s (let m = s.as_many in omega arith) in
       let padding : padded t.config row column ≡ config.padding.left.size + config.padding.right.size =
-      ap (λ g. padded g row column) s.settings_of ∙ padded-alike config row column in
+      ap (λ g. padded g row column) s.arguments_of ∙ padded-alike config row column in
       let width : slice_index t.widths column ≡ stream_width settings config ahead_rows column =
       ap (λ ws. slice_index ws column) s.widths ∙ listed (stream_width settings config ahead_rows) (column_count settings ahead_rows) column (omega arith) in
       let needed = needed-is t.cells t.config row column in

@@ -4,7 +4,7 @@ use Rattle.std.proofs.lemmas.Bool.{cases_lt}
 use Rattle.std.proofs.lemmas.List.{take-append-drop, take-append-le, take-take, take_all, take_at}
 use Rattle.tabled_config.specs.declared.compact.CompactConfig.{CompactConfig}
 use Rattle.tabled_size.specs.Sheet.{Sheet}
-use Rattle.tabled_table.specs.declared.iter_table.settings.Settings.{Settings}
+use Rattle.tabled_table.specs.declared.iter_table.settings.StreamSettings.{StreamSettings}
 use Rattle.tabled_table.specs.Stream.Streamed.{ahead, column_count, limited, sniffed}
 use Rattle.tabled_table.specs.Stream.Streams.{AreEnough, AreSniffed, IsBegun, reaches}
 
@@ -28,7 +28,7 @@ limited-reached : (limit : Option ℕ) (rows behind : List (List (List ℕ))) �
 limited-reached None rows behind h = absurd h
 limited-reached (Some n) rows behind h = take-append-le n rows behind h
 
-module _ (settings : Settings) (rows : List (List (List ℕ))) (whole : Bool) where
+module _ (settings : StreamSettings) (rows : List (List (List ℕ))) (whole : Bool) where
   -- those that are read ahead are the same
   pub taken_sniffed : (behind : List (List (List ℕ))) → (whole ≡ true → behind ≡ []) → AreSniffed settings rows whole
       → sniffed settings (rows ++ behind) ≡ sniffed settings rows

@@ -7,7 +7,7 @@ use Rattle.tabled_line.specs.Sent.{Sent}
 use Rattle.tabled_line.specs.WriterSent.{named_sent}
 use Rattle.tabled_line.proofs.Writers.{LeavesSo, byte_of, writer-leaves, writer-sends}
 use Rattle.tabled_table.specs.Stream.Below.{StopsBelow}
-use Rattle.tabled_table.specs.declared.iter_table.settings.Settings.{Settings}
+use Rattle.tabled_table.specs.declared.iter_table.settings.StreamSettings.{StreamSettings}
 use Rattle.tabled_table.specs.Stream.Streams.{BuildsStream, PrintsStream, StopsAtEnd, StopsAtRow, StopsEarly, StopsInRows, StreamStops}
 
 not_range : (e : TableError) → e ≡ Range → e ≡ Writer → ⊥
@@ -22,7 +22,7 @@ below-so : {a b a' b' : Sent} {e : TableError} (above text : List ℕ) → Leave
 below-so above text so p = record { stops = so.stops text p.stops; more = p.more; out = so.front text p.stops ∙ p.out }
 
 -- why a stream stops, for another sink
-stops-so : {a b a' b' : Sent} {e : TableError} (settings : Settings) (config : CompactConfig) (rows : List (List (List ℕ))) (whole : Bool)
+stops-so : {a b a' b' : Sent} {e : TableError} (settings : StreamSettings) (config : CompactConfig) (rows : List (List (List ℕ))) (whole : Bool)
     → LeavesSo a b e a' b' → StreamStops settings config rows whole a e b → StreamStops settings config rows whole a' e b'
 stops-so {a} {b} {a'} {b'} {e} settings config rows whole so h =
     let early : StopsEarly settings config rows whole a e b → StopsEarly settings config rows whole a' e b' =
@@ -51,7 +51,7 @@ stops-so {a} {b} {a'} {b'} {e} settings config rows whole so h =
     ⊎_elim (λ p. inl (early p)) (λ q. inr (⊎_elim (λ p. inl (at_row p)) (λ r. inr (⊎_elim (λ p. inl (in_rows p)) (λ p. inr (at_end p)) r)) q)) h
 
 -- what the sink of a borrowed writer was sent, the writer took, if it is the one that is known in the end
-written : (settings : Settings) (config : CompactConfig) (comes : List (List (List ℕ)) → Bool → Type 0)
+written : (settings : StreamSettings) (config : CompactConfig) (comes : List (List (List ℕ)) → Bool → Type 0)
     (na nb : ℕ) (ca cb cf : Option (List ℕ)) (failed_at : Option ℕ) (r : Result (Unit {0}) TableError) → (nb ≡ na → cf ≡ cb)
     → PrintsStream settings config comes (named_sent na ca None) r (named_sent nb cb failed_at)
     → BuildsStream settings config comes ca r cf
@@ -81,7 +81,7 @@ written settings config comes na nb ca cb cf failed_at (Err e) k p = (
   },
 )
 
-pub prints-written : (settings : Settings) (config : CompactConfig) (comes : List (List (List ℕ)) → Bool → Type 0)
+pub prints-written : (settings : StreamSettings) (config : CompactConfig) (comes : List (List (List ℕ)) → Bool → Type 0)
     (na nb : ℕ) (ca held cb cf : Option (List ℕ)) (was failed_at : Option ℕ) (r : Result (Unit {0}) TableError) → was ≡ None
     → held ≡ ca → (nb ≡ na → cf ≡ cb) → PrintsStream settings config comes (named_sent na held was) r (named_sent nb cb failed_at)
     → BuildsStream settings config comes ca r cf

@@ -9,14 +9,14 @@ use Rattle.tabled_config.specs.Settings.{frame, rule_at}
 use Rattle.tabled_config.specs.Spanned.{spanned_of_compact}
 use Rattle.tabled_grid.specs.Picture.{columns_of, filled_picture, picture, row_part, rule, table_text}
 use Rattle.tabled_line.specs.Fill.{fill}
-use Rattle.tabled_line.specs.Leading.{LineSends, LineStops, WritesLines, led}
+use Rattle.tabled_line.specs.Leading.{LineSends, LineStops, WritesLines, lines_after}
 use Rattle.tabled_line.specs.Row.{rule_if}
 use Rattle.tabled_line.specs.Sent.{Sent, Stops}
 use Rattle.tabled_line.proofs.Leading.{lines-finished, lines-stopped-first}
 use Rattle.tabled_size.specs.Sheet.{Sheet, is_empty}
 use Rattle.tabled_size.specs.Totals.{filled_width}
 use Rattle.tabled_table.specs.declared.iter_table.layout.Layout.{Layout}
-use Rattle.tabled_table.specs.declared.iter_table.settings.Settings.{Settings}
+use Rattle.tabled_table.specs.declared.iter_table.settings.StreamSettings.{StreamSettings}
 use Rattle.tabled_table.specs.Stream.Below.{WritesBelow}
 use Rattle.tabled_table.specs.Stream.Printed.{lines_above, text_above}
 use Rattle.tabled_table.specs.Stream.Progress.{EndsSheet, HaltsWithin, HasPut, IsInReach, IsLaidOut}
@@ -28,17 +28,17 @@ use Rattle.tabled_table.proofs.Stream.Below.{ends-below, stops-first}
 use Rattle.tabled_table.proofs.Stream.Parts.{columns-laid, not-zero, rule-below}
 
 -- the table of no rows
-pub no_rows : Settings → CompactConfig → List (List (List ℕ)) → Sheet
+pub no_rows : StreamSettings → CompactConfig → List (List (List ℕ)) → Sheet
 no_rows settings config ahead_rows = record { cells = []; config = spanned_of_compact config; widths = stream_widths settings config ahead_rows; heights = [] }
 
-none-in-reach : (settings : Settings) (config : CompactConfig) (ahead_rows : List (List (List ℕ)))
+none-in-reach : (settings : StreamSettings) (config : CompactConfig) (ahead_rows : List (List (List ℕ)))
     → IsInReach settings config ahead_rows [] (no_rows settings config ahead_rows)
 unfolding no_rows
 none-in-reach settings config ahead_rows = record {
   streamed = record {
     as_many = refl;
     cells = λ k h. absurd (omega arith);
-    settings_of = refl;
+    arguments_of = refl;
     widths = refl;
     as_high = refl;
     heights = λ k h. absurd (omega arith);
@@ -46,7 +46,7 @@ none-in-reach settings config ahead_rows = record {
   heights = λ k h. absurd (omega arith);
 }
 
-module _ {settings : Settings} {config : CompactConfig} {ahead_rows : List (List (List ℕ))} {layout : Layout} where
+module _ {settings : StreamSettings} {config : CompactConfig} {ahead_rows : List (List (List ℕ))} {layout : Layout} where
   margin-above : (whole : ℕ) → IsLaidOut settings config ahead_rows layout → whole ≡ stream_total settings config ahead_rows
       → lines_above (no_rows settings config ahead_rows) layout.count 0
       ≡ replicate layout.frame.margin.top.size (fill layout.frame.margin.top.fill whole)
@@ -72,7 +72,7 @@ module _ {settings : Settings} {config : CompactConfig} {ahead_rows : List (List
         sends = subst (λ ls. LineSends start false new begun ls) (sym (margin-above whole l w)) h;
       }
   top-put (Err d) whole start new first begun l w f h =
-      let P : List (List ℕ) → Type 0 = λ ls. Stops start d new (led false ls) in
+      let P : List (List ℕ) → Type 0 = λ ls. Stops start d new (lines_after false ls) in
       record {
         sheet = no_rows settings config ahead_rows;
         in_reach = none-in-reach settings config ahead_rows;
@@ -91,12 +91,12 @@ module _ {settings : Settings} {config : CompactConfig} {ahead_rows : List (List
       let some : length t.cells ≡ length shown = s.as_many in
       let filled : is_empty t.cells ≡ false =
       ap (λ b. b || (columns t.cells == 0)) (not-zero (length t.cells) (omega arith)) ∙ not-zero (columns t.cells) (omega arith) in
-      let around : frame t.config ≡ layout.frame = ap frame s.settings_of ∙ sym l.around in
+      let around : frame t.config ≡ layout.frame = ap frame s.arguments_of ∙ sym l.around in
       let total : filled_width t.config layout.count t.widths ≡ whole =
-      ap (λ g. filled_width g layout.count t.widths) s.settings_of ∙ ap (λ ws. filled_width (spanned_of_compact config) layout.count ws) s.widths
+      ap (λ g. filled_width g layout.count t.widths) s.arguments_of ∙ ap (λ ws. filled_width (spanned_of_compact config) layout.count ws) s.widths
       ∙ ap (λ n. filled_width (spanned_of_compact config) n (stream_widths settings config ahead_rows)) l.count ∙ sym e in
       let below : rule_at t.config (length t.cells) (length t.cells) ≡ layout.bottom =
-      ap (λ g. rule_at g (length t.cells) (length t.cells)) s.settings_of ∙ rule-below config (length t.cells) (omega arith) ∙ sym l.bottom in
+      ap (λ g. rule_at g (length t.cells) (length t.cells)) s.arguments_of ∙ rule-below config (length t.cells) (omega arith) ∙ sym l.bottom in
       let top = (frame t.config).margin.top in
       let W = filled_width t.config layout.count t.widths in
       let T = replicate top.size (fill top.fill W) in

@@ -12,13 +12,13 @@ use Rattle.tabled_size.specs.Totals.{filled_width}
 use Rattle.tabled_line.specs.Sent.{Sent}
 use Rattle.tabled_line.proofs.Sending.{sends-along, sends-none}
 use Rattle.tabled_size.specs.Sheet.{Sheet}
-use Rattle.tabled_table.specs.declared.iter_table.settings.Settings.{Settings}
+use Rattle.tabled_table.specs.declared.iter_table.settings.StreamSettings.{StreamSettings}
 use Rattle.tabled_table.specs.Stream.Progress.{AreFirst}
 use Rattle.tabled_table.specs.Stream.Streamed.{IsCutRow, IsStreamed, ahead, column_count, content_width, limited, sniffed, stream_height, stream_widths}
 use Rattle.tabled_table.specs.Stream.Streams.{AreEnough, IsFilled, StreamSends, reaches}
 
 -- the table of rows without cells
-blank : Settings → CompactConfig → List (List (List ℕ)) → List (List (List ℕ)) → Sheet
+blank : StreamSettings → CompactConfig → List (List (List ℕ)) → List (List (List ℕ)) → Sheet
 blank settings config ahead_rows rows = record {
   cells = map (λ _. []) rows;
   config = spanned_of_compact config;
@@ -31,7 +31,7 @@ no-cells content count row h =
     let P : ℕ → Type 0 = λ n. IsCutRow content n row [] in
     subst P (sym h) (record { cut = []; as_many = omega arith; each = λ k b. absurd (omega arith); whole = refl })
 
-blank-streamed : (settings : Settings) (config : CompactConfig) (ahead_rows rows : List (List (List ℕ)))
+blank-streamed : (settings : StreamSettings) (config : CompactConfig) (ahead_rows rows : List (List (List ℕ)))
     → (column_count settings ahead_rows ≡ 0) ⊎ (length rows ≡ 0) → IsStreamed settings config ahead_rows rows (blank settings config ahead_rows rows)
 unfolding blank
 blank-streamed settings config ahead_rows rows none =
@@ -42,7 +42,7 @@ blank-streamed settings config ahead_rows rows none =
           subst (C (get_or rows k [])) (sym (get_or-map (λ _. []) rows k [] [] b))
           (⊎_elim (λ h. no-cells (content_width settings ahead_rows) (column_count settings ahead_rows) (get_or rows k []) h)
           (λ (h : length rows ≡ 0). absurd (omega arith)) none);
-      settings_of = refl;
+      arguments_of = refl;
       widths = refl;
       as_high = length-map-range_with_len (λ k. stream_height settings config ahead_rows k (get_or rows k [])) 0 (length rows);
       heights = λ k b. get_or-map-range_with_len (λ k. stream_height settings config ahead_rows k (get_or rows k [])) 0 (length rows) k k 0 b (omega arith);
@@ -52,7 +52,7 @@ or-true : (b : Bool) → (b || true) ≡ true
 or-true true = refl
 or-true false = refl
 
-blank-empty : (settings : Settings) (config : CompactConfig) (ahead_rows rows : List (List (List ℕ))) → picture (blank settings config ahead_rows rows) ≡ []
+blank-empty : (settings : StreamSettings) (config : CompactConfig) (ahead_rows rows : List (List (List ℕ))) → picture (blank settings config ahead_rows rows) ≡ []
 unfolding picture blank
 blank-empty settings config ahead_rows [] = refl
 blank-empty settings config ahead_rows (row ∷ rows) =
@@ -74,7 +74,7 @@ limited-none None kept h = inr h
 limited-none (Some n) kept h =
     ⊎_elim (λ (l : length kept < n). inr (omega (arith, length-take n kept))) (λ (l : n ≤ length kept). inl l) (cases_lt (length kept) n)
 
-pub unshown-enough : {settings : Settings} {kept : List (List (List ℕ))} (all : Bool) → AreFirst settings kept all
+pub unshown-enough : {settings : StreamSettings} {kept : List (List (List ℕ))} (all : Bool) → AreFirst settings kept all
     → (column_count settings (sniffed settings kept) ≡ 0) ⊎ (length (limited settings.rows kept) ≡ 0) → AreEnough settings kept all
 unshown-enough true f none = inl refl
 unshown-enough false f (inl h) = inr (f.sniffed refl, inr h)
@@ -84,7 +84,7 @@ unshown-enough {settings} {kept} false f (inr h) =
       ⊎_elim (λ r. inl r) (λ z. none-taken settings.columns settings.rows kept (ahead settings) z (f.none refl z)) (limited-none settings.rows kept h),
     )
 
-pub unshown : (settings : Settings) (config : CompactConfig) (rows : List (List (List ℕ))) (whole : Bool) (old : Sent) → AreEnough settings rows whole
+pub unshown : (settings : StreamSettings) (config : CompactConfig) (rows : List (List (List ℕ))) (whole : Bool) (old : Sent) → AreEnough settings rows whole
     → (column_count settings (sniffed settings rows) ≡ 0) ⊎ (length (limited settings.rows rows) ≡ 0) → StreamSends settings config rows whole old old
 unshown settings config rows whole old enough none =
     let shown = limited settings.rows rows in

@@ -10,14 +10,14 @@ use Rattle.tabled_config.specs.declared.compact.CompactConfig.{CompactConfig}
 use Rattle.tabled_config.specs.Settings.{frame, rule_at, style_at}
 use Rattle.tabled_grid.specs.Picture.{columns_of, filled_picture, picture, row_part, rule}
 use Rattle.tabled_line.specs.Fill.{fill}
-use Rattle.tabled_line.specs.Leading.{begun_after, led}
+use Rattle.tabled_line.specs.Leading.{begun_after, lines_after}
 use Rattle.tabled_line.specs.Row.{ColumnSheet, row_lines, rule_if}
 use Rattle.tabled_line.proofs.Each.{each-rest}
-use Rattle.tabled_line.proofs.Leading.{led-append, led-joined}
+use Rattle.tabled_line.proofs.Leading.{lines_after-append, lines_after-joined}
 use Rattle.tabled_size.specs.Sheet.{Sheet, is_empty}
 use Rattle.tabled_size.specs.TextCells.{AreTexts}
 use Rattle.tabled_size.specs.Totals.{filled_width}
-use Rattle.tabled_table.specs.declared.iter_table.settings.Settings.{Settings}
+use Rattle.tabled_table.specs.declared.iter_table.settings.StreamSettings.{StreamSettings}
 use Rattle.tabled_table.specs.Stream.GoesOn.{GoesOn}
 use Rattle.tabled_table.specs.Stream.Printed.{lines_above}
 use Rattle.tabled_table.specs.Stream.Streamed.{IsCutRow, IsStreamed, column_count, content_width, stream_height}
@@ -61,10 +61,10 @@ first-made f i n h = elim (cases_lt i n) [
 ]
 
 -- the text of some lines, and of others behind them
-joined-more : (xs ys : List (List ℕ)) → join_with_byte 10 xs ++ led (begun_after false xs) ys ≡ join_with_byte 10 (xs ++ ys)
+joined-more : (xs ys : List (List ℕ)) → join_with_byte 10 xs ++ lines_after (begun_after false xs) ys ≡ join_with_byte 10 (xs ++ ys)
 joined-more xs ys =
-    let back = led (begun_after false xs) ys in
-    ap (λ l. l ++ back) (sym (led-joined xs)) ∙ sym (led-append false xs ys) ∙ led-joined (xs ++ ys)
+    let back = lines_after (begun_after false xs) ys in
+    ap (λ l. l ++ back) (sym (lines_after-joined xs)) ∙ sym (lines_after-append false xs ys) ∙ lines_after-joined (xs ++ ys)
 
 -- ---- the table of all rows
 
@@ -73,10 +73,10 @@ abbrev followed : Sheet → List (List (List ℕ)) → List ℕ → Sheet
 followed t cells heights = record t { cells = t.cells ++ cells; heights = t.heights ++ heights }
 
 -- a row is cut as the settings say, wherever it stands
-abbrev IsCutAs : Settings → List (List (List ℕ)) → ℕ → List (List ℕ) → List (List ℕ) → Type 0
+abbrev IsCutAs : StreamSettings → List (List (List ℕ)) → ℕ → List (List ℕ) → List (List ℕ) → Type 0
 IsCutAs settings ahead_rows k row cells = IsCutRow (content_width settings ahead_rows) (column_count settings ahead_rows) row cells
 
-module _ {settings : Settings} {config : CompactConfig} {ahead_rows : List (List (List ℕ))} where
+module _ {settings : StreamSettings} {config : CompactConfig} {ahead_rows : List (List (List ℕ))} where
   followed-streamed : {shown : List (List (List ℕ))} {t : Sheet} (rest cells : List (List (List ℕ))) (heights : List ℕ)
       → IsStreamed settings config ahead_rows shown t → AreChosen (IsCutAs settings ahead_rows) [] [] rest cells → length heights ≡ length rest
       → ((k : ℕ) → k < length rest → slice_index heights k ≡ stream_height settings config ahead_rows (length shown + k) (get_or rest k []))
@@ -90,7 +90,7 @@ module _ {settings : Settings} {config : CompactConfig} {ahead_rows : List (List
       record {
         as_many = omega (arith, length-append t.cells cells);
         cells = each-joined (IsCutAs settings ahead_rows) shown rest t.cells cells [] [] s.as_many s.cells c.each;
-        settings_of = s.settings_of;
+        arguments_of = s.arguments_of;
         widths = s.widths;
         as_high = omega (arith, length-append t.heights heights);
         heights = each-joined H shown rest t.heights heights [] 0 s.as_high s.heights each;
@@ -112,8 +112,8 @@ module _ {settings : Settings} {config : CompactConfig} {ahead_rows : List (List
       let wide : columns_of u ≡ columns_of t =
       ap (λ count. record { count = count; width = slice_index t.widths; frame = frame t.config }) (columns-before t.cells cells (omega arith)) in
       let line : rule_at t.config m k ≡ rule_at t.config n k =
-      ap (λ g. rule_at g m k) s.settings_of ∙ rule-above config m k (omega arith) ∙ sym (rule-above config n k (omega arith))
-      ∙ sym (ap (λ g. rule_at g n k) s.settings_of) in
+      ap (λ g. rule_at g m k) s.arguments_of ∙ rule-above config m k (omega arith) ∙ sym (rule-above config n k (omega arith))
+      ∙ sym (ap (λ g. rule_at g n k) s.arguments_of) in
       let row : get_or u.cells k [] ≡ get_or t.cells k [] = get_or_append_left t.cells cells [] k (omega arith) in
       let height : slice_index u.heights k ≡ slice_index t.heights k = get_or_append_left t.heights heights 0 k (omega arith) in
       ap (λ sheet. part sheet (rule_at t.config m k) (get_or u.cells k []) (slice_index u.heights k)) wide
@@ -172,7 +172,7 @@ module _ {settings : Settings} {config : CompactConfig} {ahead_rows : List (List
       record {
         sheet = sheet;
         streamed = streamed;
-        more = led (begun_after false above) begins.0;
+        more = lines_after (begun_after false above) begins.0;
         text =
             joined-more above begins.0
             ∙ ap (λ l. join_with_byte 10 (l ++ begins.0)) (sym (above-kept cut.0 heights count s))

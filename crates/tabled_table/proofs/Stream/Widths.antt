@@ -10,7 +10,7 @@ use Rattle.tabled_priority.specs.Sums.{one_if, sum_below}
 use Rattle.tabled_priority.proofs.Sums.{sum_step}
 use Rattle.tabled_size.specs.Totals.{filled_width}
 use Rattle.tabled_table.specs.declared.iter_table.layout.Layout.{Layout}
-use Rattle.tabled_table.specs.declared.iter_table.settings.Settings.{Settings}
+use Rattle.tabled_table.specs.declared.iter_table.settings.StreamSettings.{StreamSettings}
 use Rattle.tabled_table.specs.Stream.Progress.{IsLaidOut}
 use Rattle.tabled_table.specs.Stream.Row.{layout_total, width_at}
 use Rattle.tabled_table.specs.Stream.Streamed.{column_count, stream_width, stream_widths}
@@ -63,7 +63,7 @@ sum-each : (f g : ℕ → ℕ) (n : ℕ) → ((k : ℕ) → k < n → f k ≡ g 
 sum-each f g zero h = refl
 sum-each f g (suc n) h = let so_far = sum-each f g n (λ k l. h k (omega arith)) in let here = h n (omega arith) in omega arith
 
-module _ {settings : Settings} {config : CompactConfig} {ahead_rows : List (List (List ℕ))} where
+module _ {settings : StreamSettings} {config : CompactConfig} {ahead_rows : List (List (List ℕ))} where
   -- the columns of a layout are those of the whole table
   pub total-laid : {layout : Layout} → IsLaidOut settings config ahead_rows layout → layout_total layout ≡ stream_total settings config ahead_rows
   unfolding layout_total filled_width
@@ -83,7 +83,7 @@ module _ {settings : Settings} {config : CompactConfig} {ahead_rows : List (List
       (sum_below (slice_index (stream_widths settings config ahead_rows)) (column_count settings ahead_rows))) l.count
 
 -- the whole is no narrower than the side padding of a column
-pub side-in-total : (settings : Settings) (config : CompactConfig) (ahead_rows : List (List (List ℕ))) → 0 < column_count settings ahead_rows
+pub side-in-total : (settings : StreamSettings) (config : CompactConfig) (ahead_rows : List (List (List ℕ))) → 0 < column_count settings ahead_rows
     → config.padding.left.size + config.padding.right.size ≤ stream_total settings config ahead_rows
 unfolding filled_width
 side-in-total settings config ahead_rows h =

@@ -8,12 +8,12 @@ use Rattle.tabled_config.specs.Spanned.{spanned_of_compact}
 use Rattle.tabled_line.specs.Sent.{Sent, Sends}
 use Rattle.tabled_grid.specs.Picture.{table_text}
 use Rattle.tabled_size.specs.Sheet.{estimated}
-use Rattle.tabled_table.specs.declared.iter_table.settings.Settings.{Settings}
+use Rattle.tabled_table.specs.declared.iter_table.settings.StreamSettings.{StreamSettings}
 use Rattle.tabled_table.specs.Stream.Streams.{AreEnough}
 
 -- some rows are measured whole: there is a row and a column, the rows are equally long, all are read ahead, and nothing is given
 -- of columns, rows and sizes
-pub record AreMeasured (settings : Settings) (cells : List (List (List ℕ))) : Type 0 where
+pub record AreMeasured (settings : StreamSettings) (cells : List (List (List ℕ))) : Type 0 where
   pub has_row : 0 < length cells
   pub has_column : 0 < columns cells
   pub rectangular : IsRectangular cells
@@ -25,7 +25,7 @@ pub record AreMeasured (settings : Settings) (cells : List (List (List ℕ))) : 
 
 -- some rows make a stream like a table: there is a row and a column, the rows are equally long, each cell is an exact line, all
 -- rows are read ahead, and nothing is given of columns, rows and sizes
-pub record IsLikeTable (settings : Settings) (cells : List (List (List ℕ))) : Type 0 where
+pub record IsLikeTable (settings : StreamSettings) (cells : List (List (List ℕ))) : Type 0 where
   pub has_row : 0 < length cells
   pub has_column : 0 < columns cells
   pub rectangular : IsRectangular cells
@@ -38,7 +38,7 @@ pub record IsLikeTable (settings : Settings) (cells : List (List (List ℕ))) : 
 
 -- what a call that prints a source of rows whole leaves: some rows came first, as many as were needed; where they make it like a
 -- table, they are all, and the text of the table with estimated sizes was added
-pub record PrintsLikeTable (settings : Settings) (config : CompactConfig) (comes : List (List (List ℕ)) → Bool → Type 0)
+pub record PrintsLikeTable (settings : StreamSettings) (config : CompactConfig) (comes : List (List (List ℕ)) → Bool → Type 0)
     (old new : Sent) : Type 0 where
   pub rows : List (List (List ℕ))
   pub whole : Bool

@@ -6,7 +6,7 @@ use Rattle.tabled_config.specs.declared.alignment.AlignmentHorizontal.TheVariant
 use Rattle.tabled_config.specs.declared.compact.CompactConfig.{CompactConfig}
 use Rattle.tabled_config.specs.Compact.{IsPlainCompact, no_indent}
 use Rattle.tabled_config.specs.Styles.{ascii}
-use Rattle.tabled_table.specs.declared.iter_table.settings.Settings.{Settings}
+use Rattle.tabled_table.specs.declared.iter_table.settings.StreamSettings.{StreamSettings}
 
 -- one column on the left and right
 abbrev pub one_beside : Sides Indent
@@ -20,5 +20,5 @@ pub record IsNewConfig (config : CompactConfig) : Type 0 where
   pub set : config ≡ record plain { padding = one_beside; borders = ascii.borders; alignment_horizontal = Left }
 
 -- a thousand rows are read ahead, and nothing else is given
-abbrev pub new_settings : Settings
+abbrev pub new_settings : StreamSettings
 new_settings = record { sniff = 1000; columns = None; rows = None; width = None; height = None }

@@ -7,12 +7,12 @@ use Rattle.tabled_config.specs.Frame.{frame_of}
 use Rattle.tabled_config.specs.Settings.{rule_at}
 use Rattle.tabled_config.specs.Spanned.{spanned_of_compact}
 use Rattle.tabled_config.specs.declared.compact.CompactConfig.{CompactConfig}
-use Rattle.tabled_line.specs.Leading.{LineSends, led}
+use Rattle.tabled_line.specs.Leading.{LineSends, lines_after}
 use Rattle.tabled_grid.specs.Picture.{table_text}
 use Rattle.tabled_line.specs.Sent.{Sent}
 use Rattle.tabled_size.specs.Sheet.{Sheet}
 use Rattle.tabled_table.specs.declared.iter_table.layout.Layout.{Layout}
-use Rattle.tabled_table.specs.declared.iter_table.settings.Settings.{Settings}
+use Rattle.tabled_table.specs.declared.iter_table.settings.StreamSettings.{StreamSettings}
 use Rattle.tabled_table.specs.Stream.Below.{StopsBelow, WritesBelow}
 use Rattle.tabled_table.specs.Stream.Printed.{lines_above, lines_before, text_above}
 use Rattle.tabled_table.specs.Stream.Row.{compact_style, content_at}
@@ -20,7 +20,7 @@ use Rattle.tabled_table.specs.Stream.Streamed.{IsStreamed, ahead, column_count, 
 use Rattle.tabled_table.specs.Stream.Streams.{IsTooHighFirst, stream_total}
 
 -- a layout is that of some settings, where some rows were read ahead
-pub record IsLaidOut (settings : Settings) (config : CompactConfig) (ahead_rows : List (List (List ℕ))) (layout : Layout) : Type 0 where
+pub record IsLaidOut (settings : StreamSettings) (config : CompactConfig) (ahead_rows : List (List (List ℕ))) (layout : Layout) : Type 0 where
   pub count : layout.count ≡ column_count settings ahead_rows
   pub contents : (column : ℕ) → column < layout.count → content_at layout column ≡ content_width settings ahead_rows column
   pub side : layout.side ≡ config.padding.left.size + config.padding.right.size
@@ -31,12 +31,12 @@ pub record IsLaidOut (settings : Settings) (config : CompactConfig) (ahead_rows 
   pub bottom : layout.bottom ≡ rule_at (spanned_of_compact config) 1 1
 
 -- the table of some rows, whose heights are in range
-pub record IsInReach (settings : Settings) (config : CompactConfig) (ahead_rows shown : List (List (List ℕ))) (t : Sheet) : Type 0 where
+pub record IsInReach (settings : StreamSettings) (config : CompactConfig) (ahead_rows shown : List (List (List ℕ))) (t : Sheet) : Type 0 where
   pub streamed : IsStreamed settings config ahead_rows shown t
   pub heights : (index : ℕ) → index < length shown → slice_index t.heights index < 2 ^ 64
 
 -- the top margin and some rows were printed since the start
-pub record HasPut (settings : Settings) (config : CompactConfig) (ahead_rows shown : List (List (List ℕ))) (start : Sent)
+pub record HasPut (settings : StreamSettings) (config : CompactConfig) (ahead_rows shown : List (List (List ℕ))) (start : Sent)
     (layout : Layout) (first : Bool) (now : Sent) (begun : Bool) : Type 0 where
   pub laid : IsLaidOut settings config ahead_rows layout
   pub sheet : Sheet
@@ -45,7 +45,7 @@ pub record HasPut (settings : Settings) (config : CompactConfig) (ahead_rows sho
   pub sends : LineSends start false now begun (lines_above sheet layout.count (length shown))
 
 -- printing halts before a row, which is too high, or an allocation for it failed; no other row follows
-pub record HaltsBefore (settings : Settings) (config : CompactConfig) (ahead_rows shown rest : List (List (List ℕ))) (start : Sent)
+pub record HaltsBefore (settings : StreamSettings) (config : CompactConfig) (ahead_rows shown rest : List (List (List ℕ))) (start : Sent)
     (count : ℕ) (error : TableError) (now : Sent) : Type 0 where
   pub sheet : Sheet
   pub in_reach : IsInReach settings config ahead_rows shown sheet
@@ -55,14 +55,14 @@ pub record HaltsBefore (settings : Settings) (config : CompactConfig) (ahead_row
   pub cause : ((error ≡ Range) × IsTooHighFirst settings config ahead_rows (length shown) rest) ⊎ ((error ≡ Memory) × (0 < length rest))
 
 -- the sink failed in the top margin or in the last row, and the lines above that row are out
-pub record HaltsWithin (settings : Settings) (config : CompactConfig) (ahead_rows shown : List (List (List ℕ))) (start : Sent)
+pub record HaltsWithin (settings : StreamSettings) (config : CompactConfig) (ahead_rows shown : List (List (List ℕ))) (start : Sent)
     (count : ℕ) (error : TableError) (now : Sent) : Type 0 where
   pub sheet : Sheet
   pub in_reach : IsInReach settings config ahead_rows shown sheet
-  pub stops : StopsBelow (led false (lines_before sheet count (length shown))) start error now (led false (lines_above sheet count (length shown)))
+  pub stops : StopsBelow (lines_after false (lines_before sheet count (length shown))) start error now (lines_after false (lines_above sheet count (length shown)))
 
 -- printing of some rows halts
-pub record Halts (settings : Settings) (config : CompactConfig) (ahead_rows rows : List (List (List ℕ))) (start : Sent)
+pub record Halts (settings : StreamSettings) (config : CompactConfig) (ahead_rows rows : List (List (List ℕ))) (start : Sent)
     (count : ℕ) (error : TableError) (now : Sent) : Type 0 where
   pub shown : List (List (List ℕ))
   pub rest : List (List (List ℕ))
@@ -71,7 +71,7 @@ pub record Halts (settings : Settings) (config : CompactConfig) (ahead_rows rows
       ⊎ ((rest ≡ []) × HaltsWithin settings config ahead_rows shown start count error now)
 
 -- what printing of some rows leaves, by its answer
-abbrev pub PutsRows : {R : Type 0} → Settings → CompactConfig → List (List (List ℕ)) → List (List (List ℕ)) → Sent → Layout → Result R TableError
+abbrev pub PutsRows : {R : Type 0} → StreamSettings → CompactConfig → List (List (List ℕ)) → List (List (List ℕ)) → Sent → Layout → Result R TableError
     → Bool → Sent → Bool → Type 0
 PutsRows settings config ahead_rows rows start layout (Ok _) first now begun = HasPut settings config ahead_rows rows start layout first now begun
 PutsRows settings config ahead_rows rows start layout (Err error) first now begun = Halts settings config ahead_rows rows start layout.count error now
@@ -79,21 +79,21 @@ PutsRows settings config ahead_rows rows start layout (Err error) first now begu
 -- the same of a row behind those that were printed, which leaves so many lines to texts
 abbrev pub PutsNext : {R : Type 0} → ℕ → List (List ℕ) → Layout → Bool → Sent → Bool → Result R TableError → Bool → Sent → Bool → Type 0
 PutsNext lines row layout first old begun result first' new begun' =
-    (settings : Settings) (config : CompactConfig) (ahead_rows shown : List (List (List ℕ))) (start : Sent)
+    (settings : StreamSettings) (config : CompactConfig) (ahead_rows shown : List (List (List ℕ))) (start : Sent)
     → HasPut settings config ahead_rows shown start layout first old begun → lines ≡ content_height settings ahead_rows (length shown) row
     → PutsRows settings config ahead_rows (shown ++ row ∷ []) start layout result first' new begun'
 
 -- further rows were printed behind those that were read ahead
 abbrev pub HasPutMore : ℕ → List (List (List ℕ)) → Layout → Bool → Sent → Bool → Bool → Sent → Bool → Type 0
 HasPutMore lines more layout first old begun first' new begun' =
-    (settings : Settings) (config : CompactConfig) (ahead_rows shown : List (List (List ℕ))) (start : Sent)
+    (settings : StreamSettings) (config : CompactConfig) (ahead_rows shown : List (List (List ℕ))) (start : Sent)
     → length ahead_rows ≤ length shown → lines ≡ unwrap_or settings.height 1 → HasPut settings config ahead_rows shown start layout first old begun
     → HasPut settings config ahead_rows (shown ++ more) start layout first' new begun'
 
 -- and printing of them halts
 abbrev pub HaltsMore : ℕ → List (List (List ℕ)) → Layout → Bool → Sent → Bool → TableError → Sent → Type 0
 HaltsMore lines more layout first old begun error new =
-    (settings : Settings) (config : CompactConfig) (ahead_rows shown : List (List (List ℕ))) (start : Sent)
+    (settings : StreamSettings) (config : CompactConfig) (ahead_rows shown : List (List (List ℕ))) (start : Sent)
     → length ahead_rows ≤ length shown → lines ≡ unwrap_or settings.height 1 → HasPut settings config ahead_rows shown start layout first old begun
     → Halts settings config ahead_rows (shown ++ more) start layout.count error new
 
@@ -114,7 +114,7 @@ IsPermitted (Some limit) count = count ≤ limit
 
 -- rows that were taken before the first byte: all there are, or those that are read ahead, or where there are none of these, one
 -- that is shown
-pub record AreFirst (settings : Settings) (kept : List (List (List ℕ))) (all : Bool) : Type 0 where
+pub record AreFirst (settings : StreamSettings) (kept : List (List (List ℕ))) (all : Bool) : Type 0 where
   pub sniffed : all ≡ false → ahead settings ≤ length kept
   pub needed : (length kept ≤ ahead settings)
       ⊎ ((length kept ≤ 1) × (0 < unwrap_or settings.columns 0) × (settings.rows ≢ Some 0))
@@ -126,7 +126,7 @@ pub record AreFurther (limit : Option ℕ) (kept : ℕ) (all : Bool) (more : ℕ
   pub none : all ≡ true → (more ≡ 0) × (whole ≡ true)
 
 -- what printing the end of a table leaves: its whole text, or a beginning of that which has all rows
-pub record EndsSheet {R : Type 0} (settings : Settings) (config : CompactConfig) (ahead_rows shown : List (List (List ℕ))) (start : Sent)
+pub record EndsSheet {R : Type 0} (settings : StreamSettings) (config : CompactConfig) (ahead_rows shown : List (List (List ℕ))) (start : Sent)
     (result : Result R TableError) (now : Sent) : Type 0 where
   pub sheet : Sheet
   pub in_reach : IsInReach settings config ahead_rows shown sheet
@@ -136,7 +136,7 @@ pub record EndsSheet {R : Type 0} (settings : Settings) (config : CompactConfig)
 -- refused there, or halts before
 abbrev pub FinishesMore : {R : Type 0} → Option ℕ → ℕ → ℕ → Bool → List (List (List ℕ)) → Layout → Bool → Sent → Bool → Result R TableError → Sent → Type 0
 FinishesMore limit lines total whole more layout first old begun result new =
-    (settings : Settings) (config : CompactConfig) (ahead_rows shown : List (List (List ℕ))) (start : Sent)
+    (settings : StreamSettings) (config : CompactConfig) (ahead_rows shown : List (List (List ℕ))) (start : Sent)
     → length ahead_rows ≤ length shown → lines ≡ unwrap_or settings.height 1 → 0 < length shown → 0 < layout.count
     → total ≡ stream_total settings config ahead_rows → HasPut settings config ahead_rows shown start layout first old begun
     → (IsLimited limit (length more) whole × EndsSheet settings config ahead_rows (shown ++ more) start result new)
@@ -145,7 +145,7 @@ FinishesMore limit lines total whole more layout first old begun result new =
 -- the same behind the rows that were taken first, where rows may follow behind those that are read ahead alone
 abbrev pub FinishesBehind : {R : Type 0} → Option ℕ → ℕ → ℕ → Bool → List (List (List ℕ)) → Layout → Bool → Sent → Bool → Result R TableError → Sent → Type 0
 FinishesBehind left lines total whole more layout first old begun result new =
-    (settings : Settings) (config : CompactConfig) (ahead_rows shown : List (List (List ℕ))) (start : Sent)
+    (settings : StreamSettings) (config : CompactConfig) (ahead_rows shown : List (List (List ℕ))) (start : Sent)
     → (left ≢ Some 0 → length ahead_rows ≤ length shown) → lines ≡ unwrap_or settings.height 1 → 0 < length shown → 0 < layout.count
     → total ≡ stream_total settings config ahead_rows → HasPut settings config ahead_rows shown start layout first old begun
     → (IsLimited left (length more) whole × EndsSheet settings config ahead_rows (shown ++ more) start result new)

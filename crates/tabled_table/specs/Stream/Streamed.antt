@@ -7,14 +7,14 @@ use Rattle.tabled_base.specs.Cells.{lengthened, longest}
 use Rattle.tabled_config.specs.declared.compact.CompactConfig.{CompactConfig}
 use Rattle.tabled_config.specs.Spanned.{spanned_of_compact}
 use Rattle.tabled_size.specs.Sheet.{Sheet}
-use Rattle.tabled_table.specs.declared.iter_table.settings.Settings.{Settings}
+use Rattle.tabled_table.specs.declared.iter_table.settings.StreamSettings.{StreamSettings}
 
 -- how many rows are read ahead at most: none where the columns and their widths are given
-abbrev pub ahead : Settings → ℕ
+abbrev pub ahead : StreamSettings → ℕ
 ahead settings = if is_some settings.width && is_some settings.columns then 0 else settings.sniff
 
 -- the rows of a source that are read ahead
-abbrev pub sniffed : Settings → List (List (List ℕ)) → List (List (List ℕ))
+abbrev pub sniffed : StreamSettings → List (List (List ℕ)) → List (List (List ℕ))
 sniffed settings rows = take (ahead settings) rows
 
 -- the first of some rows, as many as are shown at most
@@ -23,7 +23,7 @@ limited None rows = rows
 limited (Some limit) rows = take limit rows
 
 -- how many columns there are: as given, and else as many as the longest sniffed row has cells
-abbrev pub column_count : Settings → List (List (List ℕ)) → ℕ
+abbrev pub column_count : StreamSettings → List (List (List ℕ)) → ℕ
 column_count settings ahead_rows = unwrap_or settings.columns (longest ahead_rows)
 
 -- the columns of the widest of some rows' cells in a column; a missing cell is empty
@@ -31,7 +31,7 @@ abbrev pub widest : List (List (List ℕ)) → ℕ → ℕ
 widest rows column = greatest (map (λ row. text_columns (slice_index_or row column [])) rows)
 
 -- the columns that a column leaves to texts: as given, and else those of its widest sniffed cell
-abbrev pub content_width : Settings → List (List (List ℕ)) → ℕ → ℕ
+abbrev pub content_width : StreamSettings → List (List (List ℕ)) → ℕ → ℕ
 content_width settings ahead_rows column = unwrap_or settings.width (widest ahead_rows column)
 
 -- the lines of the tallest of a row's first cells, and one at least
@@ -40,23 +40,23 @@ tallest count row = max 1 (greatest (map (λ text. length (lines_of text)) (take
 
 -- the lines that a row leaves to texts: as given, and else those of its tallest cell in a sniffed row whose columns' width isn't
 -- given; any other row has one
-abbrev pub content_height : Settings → List (List (List ℕ)) → ℕ → List (List ℕ) → ℕ
+abbrev pub content_height : StreamSettings → List (List (List ℕ)) → ℕ → List (List ℕ) → ℕ
 content_height settings ahead_rows index row =
     unwrap_or settings.height
     (if is_some settings.width || not (nat_lt index (length ahead_rows)) then 1 else tallest (column_count settings ahead_rows) row)
 
 -- with padding on the left and right
-abbrev pub stream_width : Settings → CompactConfig → List (List (List ℕ)) → ℕ → ℕ
+abbrev pub stream_width : StreamSettings → CompactConfig → List (List (List ℕ)) → ℕ → ℕ
 stream_width settings config ahead_rows column =
     content_width settings ahead_rows column + (config.padding.left.size + config.padding.right.size)
 
 -- with padding at the top and bottom
-abbrev pub stream_height : Settings → CompactConfig → List (List (List ℕ)) → ℕ → List (List ℕ) → ℕ
+abbrev pub stream_height : StreamSettings → CompactConfig → List (List (List ℕ)) → ℕ → List (List ℕ) → ℕ
 stream_height settings config ahead_rows index row =
     content_height settings ahead_rows index row + (config.padding.top.size + config.padding.bottom.size)
 
 -- the widths of all columns
-abbrev pub stream_widths : Settings → CompactConfig → List (List (List ℕ)) → List ℕ
+abbrev pub stream_widths : StreamSettings → CompactConfig → List (List (List ℕ)) → List ℕ
 stream_widths settings config ahead_rows =
     map (stream_width settings config ahead_rows) (range_with_len 0 (column_count settings ahead_rows))
 
@@ -69,12 +69,12 @@ pub record IsCutRow (content : ℕ → ℕ) (count : ℕ) (row cells : List (Lis
   pub whole : cells ≡ lengthened count cut
 
 -- the table of some rows, where some were read ahead of them
-pub record IsStreamed (settings : Settings) (config : CompactConfig) (ahead_rows rows : List (List (List ℕ))) (t : Sheet) : Type 0 where
+pub record IsStreamed (settings : StreamSettings) (config : CompactConfig) (ahead_rows rows : List (List (List ℕ))) (t : Sheet) : Type 0 where
   pub as_many : length t.cells ≡ length rows
   pub cells : (index : ℕ) → index < length rows
       → IsCutRow (content_width settings ahead_rows) (column_count settings ahead_rows) (slice_index_or rows index [])
       (slice_index_or t.cells index [])
-  pub settings_of : t.config ≡ spanned_of_compact config
+  pub arguments_of : t.config ≡ spanned_of_compact config
   pub widths : t.widths ≡ stream_widths settings config ahead_rows
   pub as_high : length t.heights ≡ length rows
   pub heights : (index : ℕ) → index < length rows

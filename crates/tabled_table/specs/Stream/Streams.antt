@@ -9,13 +9,13 @@ use Rattle.tabled_size.specs.Totals.{filled_width}
 use Rattle.tabled_line.specs.Sent.{Sent, Sends}
 use Rattle.tabled_line.specs.WriterSent.{known_since, writer_after, writer_before}
 use Rattle.tabled_grid.specs.Picture.{table_text}
-use Rattle.tabled_table.specs.declared.iter_table.settings.Settings.{Settings}
+use Rattle.tabled_table.specs.declared.iter_table.settings.StreamSettings.{StreamSettings}
 use Rattle.tabled_table.specs.Stream.Below.{StopsBelow}
 use Rattle.tabled_table.specs.Stream.Printed.{text_above, text_before}
 use Rattle.tabled_table.specs.Stream.Streamed.{IsStreamed, ahead, column_count, limited, sniffed, stream_height, stream_widths}
 
 -- the columns of the whole table
-abbrev pub stream_total : Settings → CompactConfig → List (List (List ℕ)) → ℕ
+abbrev pub stream_total : StreamSettings → CompactConfig → List (List (List ℕ)) → ℕ
 stream_total settings config ahead_rows =
     filled_width (spanned_of_compact config) (column_count settings ahead_rows) (stream_widths settings config ahead_rows)
 
@@ -25,37 +25,37 @@ reaches None count = ⊥
 reaches (Some limit) count = limit ≤ count
 
 -- the rows that were taken are all, or those that are read ahead are among them
-abbrev pub AreSniffed : Settings → List (List (List ℕ)) → Bool → Type 0
+abbrev pub AreSniffed : StreamSettings → List (List (List ℕ)) → Bool → Type 0
 AreSniffed settings rows whole = (whole ≡ true) ⊎ (ahead settings ≤ length rows)
 
 -- the rows that were taken are all, or further ones would change nothing
-abbrev pub AreEnough : Settings → List (List (List ℕ)) → Bool → Type 0
+abbrev pub AreEnough : StreamSettings → List (List (List ℕ)) → Bool → Type 0
 AreEnough settings rows whole =
     (whole ≡ true)
     ⊎ ((ahead settings ≤ length rows)
     × (reaches settings.rows (length rows) ⊎ (column_count settings (sniffed settings rows) ≡ 0)))
 
 -- the rows that are shown: none where there is no column
-abbrev pub shown_rows : Settings → List (List (List ℕ)) → List (List (List ℕ))
+abbrev pub shown_rows : StreamSettings → List (List (List ℕ)) → List (List (List ℕ))
 shown_rows settings rows = if column_count settings (sniffed settings rows) == 0 then [] else limited settings.rows rows
 
 -- each row that was taken is read ahead or shown
-abbrev pub ArePermitted : Settings → List (List (List ℕ)) → Type 0
+abbrev pub ArePermitted : StreamSettings → List (List (List ℕ)) → Type 0
 ArePermitted settings rows = length rows ≤ max (ahead settings) (length (shown_rows settings rows))
 
 -- there is a row that is shown, and a column
-pub record IsFilled (settings : Settings) (rows : List (List (List ℕ))) : Type 0 where
+pub record IsFilled (settings : StreamSettings) (rows : List (List (List ℕ))) : Type 0 where
   pub shown : 0 < length (limited settings.rows rows)
   pub columns : 0 < column_count settings (sniffed settings rows)
 
 -- the table of all rows, of which the heights are in range
-pub record IsWholeStream (settings : Settings) (config : CompactConfig) (rows : List (List (List ℕ))) (t : Sheet) : Type 0 where
+pub record IsWholeStream (settings : StreamSettings) (config : CompactConfig) (rows : List (List (List ℕ))) (t : Sheet) : Type 0 where
   pub streamed : IsStreamed settings config (sniffed settings rows) (limited settings.rows rows) t
   pub heights : IsFilled settings rows → (index : ℕ) → index < length (limited settings.rows rows) → slice_index t.heights index < 2 ^ 64
   pub width : IsFilled settings rows → stream_total settings config (sniffed settings rows) < 2 ^ 64
 
 -- the table of the first of the rows that are shown: rest follows them
-pub record IsBegun (settings : Settings) (config : CompactConfig) (rows : List (List (List ℕ))) (whole : Bool) (shown rest : List (List (List ℕ)))
+pub record IsBegun (settings : StreamSettings) (config : CompactConfig) (rows : List (List (List ℕ))) (whole : Bool) (shown rest : List (List (List ℕ)))
     (t : Sheet) : Type 0 where
   pub read : AreSniffed settings rows whole
   pub parts : limited settings.rows rows ≡ shown ++ rest
@@ -65,13 +65,13 @@ pub record IsBegun (settings : Settings) (config : CompactConfig) (rows : List (
   pub width : stream_total settings config (sniffed settings rows) < 2 ^ 64
 
 -- the first of the rows that follow is higher than a number can say
-abbrev pub IsTooHighFirst : Settings → CompactConfig → List (List (List ℕ)) → ℕ → List (List (List ℕ)) → Type 0
+abbrev pub IsTooHighFirst : StreamSettings → CompactConfig → List (List (List ℕ)) → ℕ → List (List (List ℕ)) → Type 0
 IsTooHighFirst settings config ahead_rows index [] = ⊥
 IsTooHighFirst settings config ahead_rows index (row ∷ rest) = 2 ^ 64 ≤ stream_height settings config ahead_rows index row
 
 -- exactly the lines above a row are out, and it is too high, or an allocation for it failed. No row behind it was taken, but those
 -- that are read ahead
-pub record StopsAtRow (settings : Settings) (config : CompactConfig) (rows : List (List (List ℕ))) (whole : Bool)
+pub record StopsAtRow (settings : StreamSettings) (config : CompactConfig) (rows : List (List (List ℕ))) (whole : Bool)
     (old : Sent) (error : TableError) (new : Sent) : Type 0 where
   pub shown : List (List (List ℕ))
   pub rest : List (List (List ℕ))
@@ -84,7 +84,7 @@ pub record StopsAtRow (settings : Settings) (config : CompactConfig) (rows : Lis
 
 -- the sink failed in the top margin, or in the last of some rows or its horizontal line: the lines above that row are out. No row
 -- behind it was taken, but those that are read ahead, and the first
-pub record StopsInRows (settings : Settings) (config : CompactConfig) (rows : List (List (List ℕ))) (whole : Bool)
+pub record StopsInRows (settings : StreamSettings) (config : CompactConfig) (rows : List (List (List ℕ))) (whole : Bool)
     (old : Sent) (error : TableError) (new : Sent) : Type 0 where
   pub shown : List (List (List ℕ))
   pub rest : List (List (List ℕ))
@@ -95,7 +95,7 @@ pub record StopsInRows (settings : Settings) (config : CompactConfig) (rows : Li
       (text_above sheet (column_count settings (sniffed settings rows)) (length shown))
 
 -- the sink failed below the last row, in the text of the whole table
-pub record StopsAtEnd (settings : Settings) (config : CompactConfig) (rows : List (List (List ℕ))) (whole : Bool)
+pub record StopsAtEnd (settings : StreamSettings) (config : CompactConfig) (rows : List (List (List ℕ))) (whole : Bool)
     (old : Sent) (error : TableError) (new : Sent) : Type 0 where
   pub enough : AreEnough settings rows whole
   pub sheet : Sheet
@@ -104,28 +104,28 @@ pub record StopsAtEnd (settings : Settings) (config : CompactConfig) (rows : Lis
       old error new (table_text sheet)
 
 -- an error before the first byte: the whole is too wide, or an allocation failed, which only a row that was taken asks for
-pub record StopsEarly (settings : Settings) (config : CompactConfig) (rows : List (List (List ℕ))) (whole : Bool)
+pub record StopsEarly (settings : StreamSettings) (config : CompactConfig) (rows : List (List (List ℕ))) (whole : Bool)
     (old : Sent) (error : TableError) (new : Sent) : Type 0 where
   pub same : new ≡ old
   pub cause : ((error ≡ Range) × AreSniffed settings rows whole × IsFilled settings rows
       × (2 ^ 64 ≤ stream_total settings config (sniffed settings rows))) ⊎ ((error ≡ Memory) × (0 < length rows))
 
 -- what is printed of the rows that were taken
-pub record StreamSends (settings : Settings) (config : CompactConfig) (rows : List (List (List ℕ))) (whole : Bool) (old new : Sent) : Type 0 where
+pub record StreamSends (settings : StreamSettings) (config : CompactConfig) (rows : List (List (List ℕ))) (whole : Bool) (old new : Sent) : Type 0 where
   pub enough : AreEnough settings rows whole
   pub sheet : Sheet
   pub streamed : IsWholeStream settings config rows sheet
   pub sends : Sends old new (table_text sheet)
 
 -- why a stream stops
-abbrev pub StreamStops : Settings → CompactConfig → List (List (List ℕ)) → Bool → Sent → TableError → Sent → Type 0
+abbrev pub StreamStops : StreamSettings → CompactConfig → List (List (List ℕ)) → Bool → Sent → TableError → Sent → Type 0
 StreamStops settings config rows whole old error new =
     StopsEarly settings config rows whole old error new
     ⊎ (StopsAtRow settings config rows whole old error new
     ⊎ (StopsInRows settings config rows whole old error new ⊎ StopsAtEnd settings config rows whole old error new))
 
 -- what a call that prints a stream leaves of the rows that were taken, by its answer
-abbrev pub Streams : {T : Type 0} → Settings → CompactConfig → List (List (List ℕ)) → Bool → Sent → Result T TableError → Sent → Type 0
+abbrev pub Streams : {T : Type 0} → StreamSettings → CompactConfig → List (List (List ℕ)) → Bool → Sent → Result T TableError → Sent → Type 0
 Streams settings config rows whole old (Ok _) new = StreamSends settings config rows whole old new
 Streams settings config rows whole old (Err error) new = StreamStops settings config rows whole old error new
 
@@ -134,7 +134,7 @@ abbrev pub Came : {A : Type 0} → (List (List A) → Bool → Type 0) → (A �
 Came {A} begins text rows whole = (cells : List (List A)) × begins cells whole × (rows ≡ map (map text) cells)
 
 -- what a call that prints a source of rows leaves: some rows came first, as many as were needed, and of these it is told
-pub record PrintsStream {T : Type 0} (settings : Settings) (config : CompactConfig) (comes : List (List (List ℕ)) → Bool → Type 0)
+pub record PrintsStream {T : Type 0} (settings : StreamSettings) (config : CompactConfig) (comes : List (List (List ℕ)) → Bool → Type 0)
     (old : Sent) (result : Result T TableError) (new : Sent) : Type 0 where
   pub rows : List (List (List ℕ))
   pub whole : Bool
@@ -143,7 +143,7 @@ pub record PrintsStream {T : Type 0} (settings : Settings) (config : CompactConf
   pub streams : Streams settings config rows whole old result new
 
 -- what such a call leaves of the contents of a writer that it prints to
-abbrev pub BuildsStream : {T : Type 0} → Settings → CompactConfig → (List (List (List ℕ)) → Bool → Type 0)
+abbrev pub BuildsStream : {T : Type 0} → StreamSettings → CompactConfig → (List (List (List ℕ)) → Bool → Type 0)
     → Option (List ℕ) → Result T TableError → Option (List ℕ) → Type 0
 BuildsStream settings config comes old result new =
     (byte : ℕ) × PrintsStream settings config comes (writer_before old) result (writer_after result (known_since old new) byte)

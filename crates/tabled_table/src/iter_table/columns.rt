@@ -3,25 +3,25 @@ ghost use Rattle.std.specs.Prelude.{◌<◌, ◌^◌, ℕ};
 ghost use Rattle.tabled_table.specs.Stream.Row.{layout_columns, width_at};
 
 use crate::iter_table::layout::Layout;
-use crate::iter_table::settings::Settings;
+use crate::iter_table::settings::StreamSettings;
 use tabled_config::Frame;
-use tabled_line::Columns;
+use tabled_line::TableColumns;
 
 /// The columns of a stream, whose widths are in range, and what else stays the same while its lines
 /// are printed.
 #[derive(Drop)]
-pub(crate) struct LentColumns<'a> {
+pub(crate) struct StreamColumns<'a> {
     /// The columns.
     pub layout: &'a Layout,
     /// What is set of the stream.
-    pub settings: &'a Settings,
+    pub settings: &'a StreamSettings,
     /// The columns of the entire table.
     pub total: usize,
     ghost in_range: { (column : ℕ) → column < layout.now.count
         → width_at layout.now column < 2 ^ 64 },
 }
 
-impl<'a> Columns for LentColumns<'a> {
+impl<'a> TableColumns for StreamColumns<'a> {
     ghost sheet = { λ c. layout_columns c.layout.now };
 
     fn count_columns(&self) -> usize {

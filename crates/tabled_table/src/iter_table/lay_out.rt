@@ -9,16 +9,16 @@ ghost use Rattle.tabled_table.specs.Stream.Streamed.{column_count, content_width
 ghost use Rattle.tabled_table.specs.Stream.Streams.{stream_total};
 
 use crate::iter_table::layout::Layout;
-use crate::iter_table::settings::Settings;
+use crate::iter_table::settings::StreamSettings;
 use crate::iter_table::sniff::{longest_row, widest_cells};
 use crate::iter_table::total::total_width;
 use std::alloc::Global;
 use tabled_base::{CellText, TableError};
 use tabled_config::{AlignmentVertical, CellStyle, CompactConfig, SpannedConfig};
-use tabled_line::{Gap, Spread};
+use tabled_line::{ColumnSeparator, UniformPlacement};
 
 /// How many columns there are.
-pub(crate) fn count_columns<C: CellText>(settings: &Settings, rows: &[Vec<C>]) -> usize
+pub(crate) fn count_columns<C: CellText>(settings: &StreamSettings, rows: &[Vec<C>]) -> usize
     ensures { result ≡ column_count settings.now (texts_of C.text rows.now) }
 {
     match settings.columns {
@@ -36,7 +36,7 @@ struct Contents {
 
 fn contents_of<C: CellText>(
     alloc: Global,
-    settings: &Settings,
+    settings: &StreamSettings,
     rows: &[Vec<C>],
     count: usize,
 ) -> Result<Contents, TableError>
@@ -71,7 +71,7 @@ fn style_of(config: &CompactConfig) -> CellStyle
 /// So many columns of a stream, with so many columns of side padding. Refused for memory.
 fn lay_out<C: CellText>(
     alloc: Global,
-    settings: &Settings,
+    settings: &StreamSettings,
     config: &CompactConfig,
     count: usize,
     side: usize,
@@ -97,14 +97,14 @@ fn lay_out<C: CellText>(
         inner: spanned.rule_at(2, 1),
         bottom: spanned.rule_at(1, 1),
         style,
-        gap: Gap::new(frame.inner),
-        spread: Spread::new(&style),
+        separator: ColumnSeparator::new(frame.inner),
+        uniform: UniformPlacement::new(&style),
     })
 }
 
 /// What a stream is laid out as.
 #[derive(Drop)]
-pub(crate) struct Plan {
+pub(crate) struct StreamPlan {
     /// Its columns.
     pub layout: Layout,
     /// How many columns the whole takes.
@@ -127,13 +127,13 @@ fn side_of(config: &CompactConfig) -> Result<usize, TableError>
 
 /// So many columns of a stream, at least one, and the whole that they make. Refused with `Range` where that passes the greatest
 /// `usize`, and for memory.
-pub(crate) fn make_plan<C: CellText>(
+pub(crate) fn plan_stream<C: CellText>(
     alloc: Global,
-    settings: &Settings,
+    settings: &StreamSettings,
     config: &CompactConfig,
     count: usize,
     rows: &[Vec<C>],
-) -> Result<Plan, TableError>
+) -> Result<StreamPlan, TableError>
     requires count { count ≡ column_count settings.now (texts_of C.text rows.now) }
     requires some { 0 < count }
     ensures ok { IfOk result (λ plan. IsLaidOut settings.now config.now (texts_of C.text rows.now) plan.layout) }
@@ -142,7 +142,7 @@ pub(crate) fn make_plan<C: CellText>(
     let side = side_of(config)?;
     let layout = lay_out(alloc, settings, config, count, side, rows)?;
     match total_width(&layout) {
-        Some(total) => Ok(Plan { layout, total }),
+        Some(total) => Ok(StreamPlan { layout, total }),
         None => Err(TableError::Range),
     }
 }

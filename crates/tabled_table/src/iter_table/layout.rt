@@ -1,10 +1,10 @@
 //! The columns of a stream, and what is printed around its cells.
 ghost use Rattle.std.specs.Prelude.{◌≡◌, ◌+◌, ◌<◌, ◌≤◌, ◌^◌, false, if◌then◌else◌, IfSome, MatchOption};
 ghost use Rattle.std.proofs.Props.{props};
-ghost use Rattle.tabled_line.specs.Aims.{IsSpread};
+ghost use Rattle.tabled_line.specs.Placements.{IsUniform};
 
 use tabled_config::{CellStyle, Frame, HorizontalLine};
-use tabled_line::{Gap, Spread};
+use tabled_line::{ColumnSeparator, UniformPlacement};
 
 /// The columns of a stream: what each leaves to texts, what stands around and between them, and how texts stand.
 #[derive(Drop)]
@@ -28,11 +28,11 @@ pub(crate) struct Layout {
     /// How the texts of all cells stand.
     pub style: CellStyle,
     /// What stands between the texts of two columns in a row of one line.
-    pub gap: Gap,
+    pub separator: ColumnSeparator,
     /// How the texts stand, if they stand between spaces.
-    pub spread: Option<Spread>,
-    ghost bar: { gap.bar ≡ frame.inner },
-    ghost spread_is: { IfSome spread (IsSpread style) } by { Prim.hlevel props },
+    pub uniform: Option<UniformPlacement>,
+    ghost bar: { separator.bar ≡ frame.inner },
+    ghost uniform_is: { IfSome uniform (IsUniform style) } by { Prim.hlevel props },
 }
 
 impl Layout {

@@ -10,8 +10,8 @@ use crate::iter_table::layout::Layout;
 use std::alloc::Global;
 use std::borrow::CowStr;
 use tabled_base::{CellText, TableError, Text};
-use tabled_config::{CellStyle, Frame, RowStyles, ToldSides};
-use tabled_line::{CellAim, CellBlock, Content, Gap, Row, Spread};
+use tabled_config::{CellStyle, Frame, KnownSides, RowStyles};
+use tabled_line::{CellBlock, CellPlacement, ColumnSeparator, Content, Row, UniformPlacement};
 use tabled_text::cut_str;
 
 /// A row of a stream whose cells are cut; missing ones are empty.
@@ -42,15 +42,15 @@ impl<'a> Row<'a> for CutRow<'a> {
         &self.layout.frame
     }
 
-    fn gap(&self) -> &Gap {
-        &self.layout.gap
+    fn separator(&self) -> &ColumnSeparator {
+        &self.layout.separator
     }
 
-    fn spread(&self) -> Option<Spread> {
-        self.layout.spread
+    fn uniform(&self) -> Option<UniformPlacement> {
+        self.layout.uniform
     }
 
-    fn sides(&self) -> Option<ToldSides<'_>> {
+    fn sides(&self) -> Option<KnownSides<'_>> {
         None
     }
 
@@ -58,7 +58,7 @@ impl<'a> Row<'a> for CutRow<'a> {
         RowStyles::Alike(self.layout.style)
     }
 
-    fn aims(&self) -> Option<&[CellAim]> {
+    fn placements(&self) -> Option<&[CellPlacement]> {
         None
     }
 

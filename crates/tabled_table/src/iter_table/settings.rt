@@ -4,7 +4,7 @@ ghost use Rattle.tabled_table.specs.Stream.Streamed.{ahead};
 
 /// How many rows a stream reads ahead and prints, and what is given of its columns and rows.
 #[derive(Clone, Copy, Debug, PartialEq, Eq, PartialOrd, Ord, Hash)]
-pub struct Settings {
+pub struct StreamSettings {
     /// How many rows are read ahead at most.
     pub sniff: usize,
     /// How many columns there are.
@@ -18,7 +18,7 @@ pub struct Settings {
 }
 
 /// How many rows are read ahead: none where the columns and their widths are given.
-pub(crate) fn ahead(settings: &Settings) -> usize
+pub(crate) fn ahead(settings: &StreamSettings) -> usize
     ensures { result ≡ ahead settings.now }
 {
     if settings.width.is_some() && settings.columns.is_some() {

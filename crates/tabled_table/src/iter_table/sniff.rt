@@ -6,7 +6,7 @@ ghost use Rattle.tabled_base.specs.declared.error.TableError.TheVariants.{Memory
 ghost use Rattle.tabled_text.specs.Measure.{text_columns};
 ghost use Rattle.tabled_table.specs.Stream.Streamed.{tallest, widest};
 
-use crate::iter_table::settings::Settings;
+use crate::iter_table::settings::StreamSettings;
 use std::alloc::Global;
 use tabled_base::{CellText, TableError};
 
@@ -85,7 +85,7 @@ fn tallest_cell<C: CellText>(cells: &[C], count: usize) -> usize
 
 /// How many lines a row leaves to texts, which is read ahead or not.
 pub(crate) fn content_height<C: CellText>(
-    settings: &Settings,
+    settings: &StreamSettings,
     count: usize,
     ahead: bool,
     cells: &[C],

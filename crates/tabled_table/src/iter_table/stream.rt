@@ -3,17 +3,17 @@ ghost use Rattle.std.specs.Prelude.{◌≡◌, ◌<◌, ◌^◌, ◌++◌, Bool,
 ghost use Rattle.std.proofs.Props.{props};
 ghost use Rattle.tabled_base.specs.Cells.{texts_of};
 ghost use Rattle.tabled_config.specs.declared.compact.CompactConfig.{CompactConfig};
-ghost use Rattle.tabled_line.specs.Kept.{Keeps};
+ghost use Rattle.tabled_line.specs.LineCache.{IsCacheOf};
 ghost use Rattle.tabled_line.specs.Sent.{Sent};
 ghost use Rattle.tabled_records.specs.Reading.{MayGive, Reads, ReadsTo};
-ghost use Rattle.tabled_table.specs.declared.iter_table.settings.Settings.{Settings};
+ghost use Rattle.tabled_table.specs.declared.iter_table.settings.StreamSettings.{StreamSettings};
 ghost use Rattle.tabled_table.specs.Stream.Progress.{AreFirst, AreFurther, EndsSheet, FinishesBehind, FinishesMore, Halts, HaltsMore, HaltsWithin, HasPut, HasPutMore, IsLaidOut, IsLimited, IsPermitted, PutsNext, left_of};
 ghost use Rattle.tabled_table.specs.Stream.Reading.{ReadsOn};
 ghost use Rattle.tabled_table.specs.Stream.Row.{Puts, PutsCut, layout_columns, rule_of};
 ghost use Rattle.tabled_table.specs.Stream.Streamed.{limited, sniffed};
 ghost use Rattle.tabled_table.specs.Stream.Streams.{Streams, stream_total};
 
-use crate::iter_table::columns::LentColumns;
+use crate::iter_table::columns::StreamColumns;
 use crate::iter_table::record::{CutRow, cut_cells};
 use crate::iter_table::settings::ahead;
 use crate::iter_table::sniff::content_height;
@@ -21,7 +21,7 @@ use crate::iter_table::take::{fewer, is_none_left, one_fewer, up_to};
 use std::alloc::Global;
 use std::borrow::CowStr;
 use tabled_base::{CellText, TableError, Text};
-use tabled_line::{Cursor, FEW_CURSORS, Lines, TextSink};
+use tabled_line::{Cursor, FEW_CURSORS, LinePrinter, TextSink};
 use tabled_records::reading::{Taken, next_cells};
 
 /// A stream while it is printed.
@@ -29,28 +29,28 @@ use tabled_records::reading::{Taken, next_cells};
 pub(crate) struct Stream<'a> {
     alloc: Global,
     // Over the columns, which come with the settings and the total width.
-    lines: Lines<LentColumns<'a>>,
+    lines: LinePrinter<StreamColumns<'a>>,
     // Whether no row was printed so far.
     first: bool,
-    ghost kept: { Keeps (layout_columns lines.columns.layout.now) lines.kept } by { Prim.hlevel props },
+    ghost kept: { IsCacheOf (layout_columns lines.columns.layout.now) lines.kept } by { Prim.hlevel props },
 }
 
 impl<'a> Stream<'a> {
     /// No line so far.
-    pub fn new(alloc: Global, columns: LentColumns<'a>) -> Stream<'a>
+    pub fn new(alloc: Global, columns: StreamColumns<'a>) -> Stream<'a>
         ensures columns { result.lines.columns ≡ columns.entry }
         ensures begun { result.lines.begun ≡ false }
         ensures first { result.first ≡ true }
     {
         Stream {
             alloc,
-            lines: Lines::new(columns, Some(alloc)),
+            lines: LinePrinter::new(columns, Some(alloc)),
             first: true,
         }
     }
 
     /// A row of cut cells, below its horizontal line. The cursors are those of its first columns.
-    fn put_cut<'c, S: TextSink>(
+    fn write_cut_row<'c, S: TextSink>(
         &mut self,
         sink: &mut S,
         height: usize,
@@ -72,14 +72,14 @@ impl<'a> Stream<'a> {
             cells,
             height,
         };
-        self.lines.put_rule(sink, layout.rule(self.first))?;
+        self.lines.write_rule(sink, layout.rule(self.first))?;
         self.first = false;
-        self.lines.put_row(sink, &row, cursors)
+        self.lines.write_row(sink, &row, cursors)
     }
 
     /// The same with a cursor for each column. Only a row of several lines needs them; for more
     /// than a few they are allocated, which may fail before the first byte.
-    fn put_cells<'c, S: TextSink>(
+    fn write_cut_cells<'c, S: TextSink>(
         &mut self,
         sink: &mut S,
         height: usize,
@@ -95,18 +95,18 @@ impl<'a> Stream<'a> {
         ensures first { OnOk result (self.new.first ≡ false) }
     {
         if height <= 1 {
-            return self.put_cut(sink, height, cells, &mut []);
+            return self.write_cut_row(sink, height, cells, &mut []);
         }
         if cells.len() <= FEW_CURSORS {
-            return self.put_cut(sink, height, cells, &mut [Cursor::nowhere(); FEW_CURSORS]);
+            return self.write_cut_row(sink, height, cells, &mut [Cursor::nowhere(); FEW_CURSORS]);
         }
         let mut cursors = vec![in self.alloc; Cursor::nowhere(); cells.len()]?;
-        self.put_cut(sink, height, cells, &mut cursors)
+        self.write_cut_row(sink, height, cells, &mut cursors)
     }
 
     /// A row, cut to its columns, below its horizontal line. Fails with `Memory` before its first
     /// byte, and with the sink's errors.
-    fn put_record<C: CellText, S: TextSink>(
+    fn write_stream_row<C: CellText, S: TextSink>(
         &mut self,
         sink: &mut S,
         height: usize,
@@ -120,12 +120,12 @@ impl<'a> Stream<'a> {
         ensures first { OnOk result (self.new.first ≡ false) }
     {
         let cut = cut_cells(self.alloc, self.lines.columns.layout, cells)?;
-        self.put_cells(sink, height, cut.as_slice())
+        self.write_cut_cells(sink, height, cut.as_slice())
     }
 
     /// The next row, which leaves so many lines to texts. Fails, before its first byte, with
     /// `Range` where its height exceeds the greatest `usize`, and with `Memory`.
-    fn put_next<C: CellText, S: TextSink>(
+    fn write_next_record<C: CellText, S: TextSink>(
         &mut self,
         sink: &mut S,
         lines: usize,
@@ -137,16 +137,16 @@ impl<'a> Stream<'a> {
         ensures same { self.new.lines.columns ≡ self.old.lines.columns }
     {
         match self.lines.columns.layout.padded_height(lines) {
-            Some(height) => self.put_record(sink, height, cells),
+            Some(height) => self.write_stream_row(sink, height, cells),
             None => Err(TableError::Range),
         }
     }
 
     /// The top margin.
-    fn put_top<S: TextSink>(&mut self, sink: &mut S) -> Result<(), TableError>
+    fn write_top<S: TextSink>(&mut self, sink: &mut S) -> Result<(), TableError>
         requires begun { self.old.lines.begun ≡ false }
         requires first { self.old.first ≡ true }
-        ensures printed { (settings : Settings) (config : CompactConfig)
+        ensures printed { (settings : StreamSettings) (config : CompactConfig)
             (ahead_rows : List (List (List ℕ)))
             → IsLaidOut settings config ahead_rows self.old.lines.columns.layout.now
             → self.old.lines.columns.total ≡ stream_total settings config ahead_rows
@@ -160,12 +160,12 @@ impl<'a> Stream<'a> {
     {
         let margin = self.lines.columns.layout.frame.margin;
         let total = self.lines.columns.total;
-        self.lines.put_margin(sink, margin.top, total)
+        self.lines.write_margin(sink, margin.top, total)
     }
 
     /// The horizontal line below the last row, and the bottom margin.
-    fn put_bottom<S: TextSink>(&mut self, sink: &mut S) -> Result<(), TableError>
-        ensures printed { (settings : Settings) (config : CompactConfig)
+    fn write_bottom<S: TextSink>(&mut self, sink: &mut S) -> Result<(), TableError>
+        ensures printed { (settings : StreamSettings) (config : CompactConfig)
             (ahead_rows shown : List (List (List ℕ))) (start : Sent)
             → 0 < length shown → 0 < self.old.lines.columns.layout.now.count
             → self.old.lines.columns.total ≡ stream_total settings config ahead_rows
@@ -176,13 +176,13 @@ impl<'a> Stream<'a> {
     {
         let layout = self.lines.columns.layout;
         let total = self.lines.columns.total;
-        self.lines.put_rule(sink, layout.bottom)?;
+        self.lines.write_rule(sink, layout.bottom)?;
         self.lines
-            .put_margin(sink, layout.frame.margin.bottom, total)
+            .write_margin(sink, layout.frame.margin.bottom, total)
     }
 
     /// The first rows, of which some were read ahead.
-    fn put_kept<C: CellText, S: TextSink>(
+    fn write_first_rows<C: CellText, S: TextSink>(
         &mut self,
         sink: &mut S,
         ahead: usize,
@@ -209,13 +209,13 @@ impl<'a> Stream<'a> {
             let cells = rows[index].as_slice();
             let count = self.lines.columns.layout.count;
             let lines = content_height(settings, count, index < ahead, cells);
-            self.put_next(sink, lines, cells)?;
+            self.write_next_record(sink, lines, cells)?;
         }
         Ok(())
     }
 
     /// The top margin, and the first rows, of which some were read ahead.
-    fn put_first<C: CellText, S: TextSink>(
+    fn write_first_lines<C: CellText, S: TextSink>(
         &mut self,
         sink: &mut S,
         ahead: usize,
@@ -238,13 +238,18 @@ impl<'a> Stream<'a> {
             self.old.lines.columns.layout.now.count e (S.sent sink.new)) }
         ensures same { self.new.lines.columns ≡ self.old.lines.columns }
     {
-        self.put_top(sink)?;
-        self.put_kept(sink, ahead, rows)
+        self.write_top(sink)?;
+        self.write_first_rows(sink, ahead, rows)
     }
 
     /// The rows that come, as many as may be printed. Each is taken once the lines above it are
     /// out. Returns whether these are all.
-    fn put_rest<I: Iterator<Item = W>, W: IntoIterator<Item = C>, C: CellText + Drop, S: TextSink>(
+    fn write_other_rows<
+        I: Iterator<Item = W>,
+        W: IntoIterator<Item = C>,
+        C: CellText + Drop,
+        S: TextSink,
+    >(
         &mut self,
         sink: &mut S,
         rows: &mut I,
@@ -273,7 +278,7 @@ impl<'a> Stream<'a> {
                 return Ok(false);
             }
             match next_cells(self.alloc, rows)? {
-                Some(cells) => self.put_next(sink, lines, cells.as_slice())?,
+                Some(cells) => self.write_next_record(sink, lines, cells.as_slice())?,
                 None => return Ok(true),
             }
             left = one_fewer(left);
@@ -281,7 +286,7 @@ impl<'a> Stream<'a> {
     }
 
     /// The rows that come, as many as may be printed, and what stands below the last row.
-    fn put_others<
+    fn write_other_lines<
         I: Iterator<Item = W>,
         W: IntoIterator<Item = C>,
         C: CellText + Drop,
@@ -302,13 +307,13 @@ impl<'a> Stream<'a> {
             self.old.lines.columns.layout.now self.old.first (S.sent sink.old)
             self.old.lines.begun result (S.sent sink.new) }
     {
-        self.put_rest(sink, rows, limit, lines)?;
-        self.put_bottom(sink)
+        self.write_other_rows(sink, rows, limit, lines)?;
+        self.write_bottom(sink)
     }
 
     /// What stands behind the rows that were taken first: those that come, unless these were all,
     /// and what stands below the last row.
-    fn put_behind<
+    fn write_after_first<
         I: Iterator<Item = W>,
         W: IntoIterator<Item = C>,
         C: CellText + Drop,
@@ -333,14 +338,14 @@ impl<'a> Stream<'a> {
         let settings = self.lines.columns.settings;
         let left = fewer(settings.rows, taken.rows.len());
         if taken.whole || is_none_left(left) {
-            return self.put_bottom(sink);
+            return self.write_bottom(sink);
         }
         let lines = settings.height.unwrap_or(1);
-        self.put_others(sink, rows, left, lines)
+        self.write_other_lines(sink, rows, left, lines)
     }
 
     /// The rows that were taken first, as many as are shown, and what stands behind them.
-    pub fn put_all<
+    pub fn write_all<
         I: Iterator<Item = W>,
         W: IntoIterator<Item = C>,
         C: CellText + Drop,
@@ -377,7 +382,7 @@ impl<'a> Stream<'a> {
         let kept = taken.rows.as_slice();
         let ahead = ahead(settings).min(kept.len());
         let shown = &kept[..up_to(settings.rows, kept.len())];
-        self.put_first(sink, ahead, shown)?;
-        self.put_behind(sink, rows, taken)
+        self.write_first_lines(sink, ahead, shown)?;
+        self.write_after_first(sink, rows, taken)
     }
 }

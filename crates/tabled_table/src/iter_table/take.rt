@@ -3,7 +3,7 @@ ghost use Rattle.std.specs.Prelude.{◌≡◌, ◌<◌, ◌≤◌, ◌-◌, ◌=
 ghost use Rattle.tabled_table.specs.Stream.Progress.{left_of};
 ghost use Rattle.tabled_table.specs.Stream.Streamed.{ahead};
 
-use crate::iter_table::settings::{Settings, ahead};
+use crate::iter_table::settings::{StreamSettings, ahead};
 
 /// One row fewer that may be printed.
 pub(crate) fn one_fewer(left: Option<usize>) -> Option<usize>
@@ -24,7 +24,7 @@ pub(crate) fn is_none_left(left: Option<usize>) -> bool
 }
 
 /// Whether a row may be shown where none is read ahead: there is a column, and rows may be printed.
-fn shows_unread(settings: &Settings) -> bool
+fn shows_unread(settings: &StreamSettings) -> bool
     ensures shown { result ≡ true → (0 < unwrap_or settings.now.columns 0) × (settings.now.rows ≢ Some 0) }
     ensures none { result ≡ false → (unwrap_or settings.now.columns 0 ≡ 0) ⊎ (settings.now.rows ≡ Some 0) }
 {
@@ -32,7 +32,7 @@ fn shows_unread(settings: &Settings) -> bool
 }
 
 /// How many rows are taken before the first byte: those that are read ahead, or else the first that may be shown.
-pub(crate) fn first_rows(settings: &Settings) -> usize
+pub(crate) fn first_rows(settings: &StreamSettings) -> usize
     ensures ahead { ahead settings.now ≤ result }
     ensures needed { (result ≡ ahead settings.now) ⊎ ((ahead settings.now ≡ 0) × (result ≡ 1)
         × (0 < unwrap_or settings.now.columns 0) × (settings.now.rows ≢ Some 0)) }

@@ -8,9 +8,9 @@ ghost use Rattle.tabled_table.specs.Stream.Reading.{ReadsOn};
 ghost use Rattle.tabled_table.specs.Stream.Streams.{ArePermitted, Came, PrintsStream, Streams};
 ghost use Rattle.tabled_records.specs.Reading.{MayGive, ReadsTo};
 
-use crate::iter_table::columns::LentColumns;
-use crate::iter_table::lay_out::{count_columns, make_plan};
-use crate::iter_table::settings::{Settings, ahead};
+use crate::iter_table::columns::StreamColumns;
+use crate::iter_table::lay_out::{count_columns, plan_stream};
+use crate::iter_table::settings::{StreamSettings, ahead};
 use crate::iter_table::stream::Stream;
 use crate::iter_table::take::{first_rows, up_to};
 use std::alloc::Global;
@@ -23,7 +23,7 @@ use tabled_records::reading::{Taken, take_rows};
 #[derive(Drop)]
 pub(crate) struct Printer<'a> {
     pub alloc: Global,
-    pub settings: &'a Settings,
+    pub settings: &'a StreamSettings,
     pub config: &'a CompactConfig,
 }
 
@@ -58,13 +58,13 @@ impl<'a> Printer<'a> {
         if count == 0 || up_to(settings.rows, kept.len()) == 0 {
             return Ok(());
         }
-        let plan = make_plan(self.alloc, settings, self.config, count, sniffed)?;
-        let columns = LentColumns {
+        let plan = plan_stream(self.alloc, settings, self.config, count, sniffed)?;
+        let columns = StreamColumns {
             layout: &plan.layout,
             settings,
             total: plan.total,
         };
-        Stream::new(self.alloc, columns).put_all(sink, rows, taken)
+        Stream::new(self.alloc, columns).write_all(sink, rows, taken)
     }
 
     /// The stream that an iterator gives. The iterator is left behind exactly the rows of which

@@ -18,23 +18,23 @@ returns-then-is_empty-clause-rendered g c =
     rendered_empty c.args.plan (text_rows text) (text_empty text c.if-is_empty.ensures) (g.S.TextSink.sent c.args.sink.now) (Ok done) (text_rectangular text)
     (texts_of_text text c.utf8.text) refl
 
-pub put_rows-requires-clause-filled : goal.put_rows-requires-clause-filled
-put_rows-requires-clause-filled g c = ap is_empty c.in_ok-rows.ensures.ok ∙ text_filled c.args.text.now c.if-is_empty.ensures
+pub print_records-requires-clause-filled : goal.print_records-requires-clause-filled
+print_records-requires-clause-filled g c = ap is_empty c.in_ok-rows.ensures.ok ∙ text_filled c.args.text.now c.if-is_empty.ensures
 
-pub put_rows-requires-clause-texts : goal.put_rows-requires-clause-texts
-put_rows-requires-clause-texts g c = subst AreTexts (sym c.in_ok-rows.ensures.ok) (texts_of_text c.args.text.now c.utf8.text)
+pub print_records-requires-clause-texts : goal.print_records-requires-clause-texts
+print_records-requires-clause-texts g c = subst AreTexts (sym c.in_ok-rows.ensures.ok) (texts_of_text c.args.text.now c.utf8.text)
 
-pub put_rows-requires-clause-lines : goal.put_rows-requires-clause-lines
-put_rows-requires-clause-lines g c =
+pub print_records-requires-clause-lines : goal.print_records-requires-clause-lines
+print_records-requires-clause-lines g c =
     subst (All (All (λ (cell : List ℕ). length (lines_of cell) ≡ 1))) (sym c.in_ok-rows.ensures.ok) (one_line_each c.args.text.now)
 
-pub put_rows-requires-clause-rectangular : goal.put_rows-requires-clause-rectangular
-put_rows-requires-clause-rectangular g c = subst IsRectangular (sym c.in_ok-rows.ensures.ok) (text_rectangular c.args.text.now)
+pub print_records-requires-clause-rectangular : goal.print_records-requires-clause-rectangular
+print_records-requires-clause-rectangular g c = subst IsRectangular (sym c.in_ok-rows.ensures.ok) (text_rectangular c.args.text.now)
 
 pub returns-clause-rendered : goal.returns-clause-rendered
 returns-clause-rendered g c =
-    subst (λ (cells : Cells). IsRendered c.args.plan cells (g.S.TextSink.sent c.args.sink.now) c.put_rows.result (g.S.TextSink.sent c.put_rows.new.sink))
-    c.in_ok-rows.ensures.ok c.put_rows.ensures
+    subst (λ (cells : Cells). IsRendered c.args.plan cells (g.S.TextSink.sent c.args.sink.now) c.print_records.result (g.S.TextSink.sent c.print_records.new.sink))
+    c.in_ok-rows.ensures.ok c.print_records.ensures
 
 pub returns-clause-only : goal.returns-clause-only
-returns-clause-only g c = only_rendered c.args.plan c.in_ok-rows.rows _ c.put_rows.result _ c.put_rows.ensures
+returns-clause-only g c = only_rendered c.args.plan c.in_ok-rows.rows _ c.print_records.result _ c.print_records.ensures

@@ -16,8 +16,8 @@ returns-then-is_empty-clause-rendered g c =
     empty_rendered (text_rows text) (with_style new_config c.args.style) (text_empty text c.if-is_empty.ensures) (measured c.args.plan) (g.S.TextSink.sent c.args.sink.now)
     (Ok done) (text_rectangular text) (texts_of_text text c.utf8.text) refl
 
-pub put_measured-requires-clause-texts : goal.put_measured-requires-clause-texts
-put_measured-requires-clause-texts g c = subst AreTexts (sym c.in_ok-rows.ensures.ok) (texts_of_text c.args.text.now c.utf8.text)
+pub print_measured-requires-clause-texts : goal.print_measured-requires-clause-texts
+print_measured-requires-clause-texts g c = subst AreTexts (sym c.in_ok-rows.ensures.ok) (texts_of_text c.args.text.now c.utf8.text)
 
-pub put_measured-requires-clause-rectangular : goal.put_measured-requires-clause-rectangular
-put_measured-requires-clause-rectangular g c = subst IsRectangular (sym c.in_ok-rows.ensures.ok) (text_rectangular c.args.text.now)
+pub print_measured-requires-clause-rectangular : goal.print_measured-requires-clause-rectangular
+print_measured-requires-clause-rectangular g c = subst IsRectangular (sym c.in_ok-rows.ensures.ok) (text_rectangular c.args.text.now)

@@ -39,7 +39,7 @@ returns-in-Err g c =
 pub returns-in-Some : goal.returns-in-Some
 returns-in-Some g c =
     let t = sheet_by c.args.config.now (g.D.Dimension.width_at c.args.dimension.now) c.args.columns in
-    let put = c.put_table.ensures in
+    let put = c.print_table.ensures in
     let some = c.if-columns-eq0.false in
     let text = g.C.Item.CellText.text in
     let ok = c.in-Ok.ensures.ok in
@@ -47,7 +47,7 @@ returns-in-Some g c =
     let e = c.in-Some.ensures.0 in
     let fits = c.in-Some.ensures.1 in
     let table = rw (c.new-in-Some.ensures.columns, c.new-in-Some.ensures.window, ok) at put.3 in
-    prints-table t c.args.window _ _ _ c.put_table.result (map (map text) put.0) put.1 table
+    prints-table t c.args.window _ _ _ c.print_table.result (map (map text) put.0) put.1 table
     (λ e. omega (arith, some, e))
     (record { sized = c.in-Ok.ensures.sized; in_range = subst P ok fits }) (put.0, put.2, refl)
 

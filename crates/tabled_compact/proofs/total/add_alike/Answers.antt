@@ -5,7 +5,7 @@ use Rattle.tabled_compact.proofs.total.add_alike.Goals as goal
 
 pub returns : goal.returns
 returns g c =
-    let sheet = g.C.Columns.sheet c.args.columns.now in
+    let sheet = g.C.TableColumns.sheet c.args.columns.now in
     let from = c.args.from in
     let times = c.count_columns.result - from in
     let end : sheet.count ≡ from + times = omega (arith, c.requires.within, c.count_columns.ensures) in

@@ -3,4 +3,4 @@ use Rattle.tabled_extended.proofs.Stopped.{ChangedSoFar}
 use Rattle.tabled_extended.proofs.truncating.truncate_row.Given as goal
 
 abbrev pub invariant-texts : goal.invariant-texts
-invariant-texts l = ChangedSoFar (IsTruncated l.suffix l.room) l.index l.initial.row.items l.row.items
+invariant-texts l = ChangedSoFar (IsTruncated l.suffix l.width_limit) l.index l.initial.row.items l.row.items

@@ -1,7 +1,7 @@
 use Rattle.std.proofs.Common.{◌∙◌, ◌≤◌, ap, length, option_map, subst, sym}
 use Rattle.tabled_base.specs.Cells.{columns}
 use Rattle.tabled_size.specs.Sheet.{Sheet}
-use Rattle.tabled_grid.proofs.StandingSizes.{held_estimated, held_stored, narrow_stored, stored_stands}
+use Rattle.tabled_grid.proofs.EffectiveSizes.{held_estimated, held_stored, narrow_stored, stored_stands}
 use Rattle.tabled_grid.proofs.checks.check_stored_cells.Goals as goal
 
 pub check_narrow-requires : goal.check_narrow-requires

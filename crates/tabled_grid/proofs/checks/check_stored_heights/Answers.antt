@@ -1,5 +1,5 @@
 use Rattle.std.proofs.Common.{◌∙◌, ap, option_map, sym}
-use Rattle.tabled_grid.proofs.StandingSizes.{heights_checked, heights_estimated, heights_short}
+use Rattle.tabled_grid.proofs.EffectiveSizes.{heights_checked, heights_estimated, heights_short}
 use Rattle.tabled_grid.proofs.checks.check_stored_heights.Goals as goal
 
 pub returns-in-Some-clause-ok : goal.returns-in-Some-clause-ok

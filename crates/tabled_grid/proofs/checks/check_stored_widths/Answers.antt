@@ -1,5 +1,5 @@
 use Rattle.std.proofs.Common.{◌∙◌, ap, option_map, sym}
-use Rattle.tabled_grid.proofs.StandingSizes.{widths_checked, widths_estimated, widths_short}
+use Rattle.tabled_grid.proofs.EffectiveSizes.{widths_checked, widths_estimated, widths_short}
 use Rattle.tabled_grid.proofs.checks.check_stored_widths.Goals as goal
 
 pub returns-in-Some-clause-ok : goal.returns-in-Some-clause-ok

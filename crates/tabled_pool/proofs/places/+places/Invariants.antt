@@ -5,18 +5,18 @@ use Rattle.tabled_pool.proofs.places.+places.Given as goal
 
 abbrev pub invariant-place_row-loop-child : goal.invariant-place_row-loop-child
 invariant-place_row-loop-child l =
-    let bs = boxes_left l.gaps (drop l.child-index l.front) l.last in
+    let bs = boxes_left l.spacing (drop l.child-index l.front) l.last in
     record {
-      placing : Placing (row_box l.gaps (map (box_of l.gaps) l.children)) (row_box l.gaps bs) l.fn.whole l.left
+      placing : Placing (row_box l.spacing (map (box_of l.spacing) l.children)) (row_box l.spacing bs) l.fn.whole l.left
           l.count (length bs) l.place l.initial.pieces.items l.pieces.items;
-      left : l.left ≡ (row_box l.gaps bs).width;
+      left : l.left ≡ (row_box l.spacing bs).width;
     }
 
 abbrev pub invariant-place_column-loop-child : goal.invariant-place_column-loop-child
 invariant-place_column-loop-child l =
-    let bs = boxes_left l.gaps (drop l.child-index l.front) l.last in
+    let bs = boxes_left l.spacing (drop l.child-index l.front) l.last in
     record {
-      placing : Placing (column_box l.gaps (map (box_of l.gaps) l.children)) (column_box l.gaps bs) l.fn.whole l.left
+      placing : Placing (column_box l.spacing (map (box_of l.spacing) l.children)) (column_box l.spacing bs) l.fn.whole l.left
           l.count (length bs) l.place l.initial.pieces.items l.pieces.items;
-      left : l.left ≡ (column_box l.gaps bs).height;
+      left : l.left ≡ (column_box l.spacing bs).height;
     }

@@ -5,13 +5,13 @@ use Rattle.tabled_pool.proofs.sizes.+sizes.Given as goal
 
 abbrev pub invariant-column_size-loop-child : goal.invariant-column_size-loop-child
 invariant-column_size-loop-child l = record {
-  wide : max l.width (most_width (map (box_of l.gaps) (drop l.child-index l.rest))) ≡ (column_box l.gaps (map (box_of l.gaps) l.children)).width;
-  tall : l.height + more_height l.gaps (map (box_of l.gaps) (drop l.child-index l.rest))
-      ≡ (column_box l.gaps (map (box_of l.gaps) l.children)).height;
+  wide : max l.width (most_width (map (box_of l.spacing) (drop l.child-index l.rest))) ≡ (column_box l.spacing (map (box_of l.spacing) l.children)).width;
+  tall : l.height + more_height l.spacing (map (box_of l.spacing) (drop l.child-index l.rest))
+      ≡ (column_box l.spacing (map (box_of l.spacing) l.children)).height;
 }
 
 abbrev pub invariant-row_size-loop-child : goal.invariant-row_size-loop-child
 invariant-row_size-loop-child l = record {
-  wide : l.width + more_width l.gaps (map (box_of l.gaps) (drop l.child-index l.rest)) ≡ (row_box l.gaps (map (box_of l.gaps) l.children)).width;
-  tall : max l.height (most_height (map (box_of l.gaps) (drop l.child-index l.rest))) ≡ (row_box l.gaps (map (box_of l.gaps) l.children)).height;
+  wide : l.width + more_width l.spacing (map (box_of l.spacing) (drop l.child-index l.rest)) ≡ (row_box l.spacing (map (box_of l.spacing) l.children)).width;
+  tall : max l.height (most_height (map (box_of l.spacing) (drop l.child-index l.rest))) ≡ (row_box l.spacing (map (box_of l.spacing) l.children)).height;
 }

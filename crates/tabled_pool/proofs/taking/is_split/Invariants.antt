@@ -1,5 +1,5 @@
 use Rattle.std.proofs.Common.{◌≡◌, drop}
-use Rattle.tabled_pool.specs.Handed.{is_split}
+use Rattle.tabled_pool.specs.Inherited.{is_split}
 use Rattle.tabled_pool.proofs.taking.is_split.Given as goal
 
 abbrev pub invariant-loop-entry : goal.invariant-loop-entry

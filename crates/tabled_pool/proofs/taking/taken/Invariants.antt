@@ -1,5 +1,5 @@
 use Rattle.std.proofs.Common.{◌≡◌, ◌++◌, drop}
-use Rattle.tabled_pool.specs.Handed.{taken}
+use Rattle.tabled_pool.specs.Inherited.{taken}
 use Rattle.tabled_pool.proofs.taking.taken.Given as goal
 
 abbrev pub invariant-loop-index : goal.invariant-loop-index

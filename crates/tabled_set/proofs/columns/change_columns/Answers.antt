@@ -6,11 +6,11 @@ use Rattle.tabled_set.proofs.columns.change_columns.Goals as goal
 pub returns-clause-ok : goal.returns-clause-ok
 returns-clause-ok g c =
     on_ok_weaker c.change_cells.result
-    (λ h. widths-made (if_taken c.args.which (g.T.TextRule.makes c.args.rule.now)) c.args.config.now c.args.sizes.now.widths.items c.args.sizes.now.mins.items h)
+    (λ h. widths-made (if_taken c.args.cell_filter (g.T.TextTransform.makes c.args.transform.now)) c.args.config.now c.args.sizes.now.widths.items c.args.sizes.now.mins.items h)
     c.change_cells.ensures.ok
 
 pub returns-clause-err : goal.returns-clause-err
 returns-clause-err g c =
     on_err_weaker c.change_cells.result
-    (λ h. widths-before c.args.which (g.T.TextRule.shortens c.args.rule.now) (g.T.TextRule.makes c.args.rule.now) c.args.config.now c.args.sizes.now.widths.items c.args.sizes.now.mins.items h)
+    (λ h. widths-before c.args.cell_filter (g.T.TextTransform.shortens c.args.transform.now) (g.T.TextTransform.makes c.args.transform.now) c.args.config.now c.args.sizes.now.widths.items c.args.sizes.now.mins.items h)
     c.change_cells.ensures.err

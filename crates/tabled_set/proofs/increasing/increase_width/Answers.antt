@@ -1,10 +1,10 @@
 use Rattle.std.proofs.Common.{◌≡◌, ◌∙◌, arith, inl, inr, refl}
 use Rattle.tabled_base.specs.declared.error.TableError.TheVariants.{Memory, Range}
 use Rattle.tabled_set.specs.Increased.{StopsIncreasing}
-use Rattle.tabled_size.specs.Standing.{standing}
+use Rattle.tabled_size.specs.Effective.{effective}
 use Rattle.tabled_size.specs.Stored.{is_stored}
 use Rattle.tabled_size.specs.Totals.{total_width}
-use Rattle.tabled_set.proofs.GrowingTables.{room-for, total-here, wide-already, widened, widths-pass, widths-within}
+use Rattle.tabled_set.proofs.GrowingTables.{content_size-for, total-here, wide-already, widened, widths-pass, widths-within}
 use Rattle.tabled_set.proofs.NarrowingTables.{fails-lacking, if-err}
 use Rattle.tabled_set.proofs.increasing.increase_width.Goals as goal
 
@@ -25,7 +25,7 @@ returns-in_err-widths-clause-stopped g c =
     let cells = g.R.ExactRecords.cells c.args.records.now in
     let config = c.args.config.now in
     let old = c.args.sizes.now in
-    let total : c.in-Some.total ≡ total_width (standing cells config old) =
+    let total : c.in-Some.total ≡ total_width (effective cells config old) =
     c.in-Some.ensures
     ∙ total-here cells config old c.estimate.new.self c.requires c.in_ok-estimate.ensures.ok
     c.stored_widths.result.now c.first_sizes-widths.result.now c.count_columns-columns.result c.stored_widths.ensures c.count_columns-columns.ensures.columns c.first_sizes-widths.ensures.first in
@@ -53,7 +53,7 @@ pub grown-requires : goal.grown-requires
 grown-requires g c =
     let widths = c.first_sizes-widths.result.now in
     let columns = c.count_columns-columns.result in
-    room-for c.args.n c.in-Some.total _
+    content_size-for c.args.n c.in-Some.total _
     (omega (arith, widths-within c.args.config.now columns widths c.first_sizes-widths.ensures.short, c.in-Some.ensures))
     (omega (arith, c.if-n-total.false)) c.ranges.n.fits
 

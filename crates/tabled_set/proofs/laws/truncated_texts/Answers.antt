@@ -6,7 +6,7 @@ use Rattle.tabled_set.proofs.laws.truncated_texts.Goals as goal
 pub returns : goal.returns
 returns g = record {
   fits = fits-truncated;
-  room = StaysWithin-truncated;
+  content_size = StaysWithin-truncated;
   cut = IsCut-truncated;
   longest = longest_truncated;
   lines = longest_lines;

@@ -5,4 +5,4 @@ use Rattle.tabled_set.proofs.SuffixLemmas.{taken}
 use Rattle.tabled_set.proofs.suffix.columns_beside.Given as goal
 
 abbrev pub invariant-loop-line : goal.invariant-loop-line
-invariant-loop-line l = l.left + taken (lines_of l.suffix) ≡ l.room + taken (lines_left l.line-iterator)
+invariant-loop-line l = l.left + taken (lines_of l.suffix) ≡ l.content_size + taken (lines_left l.line-iterator)

@@ -5,8 +5,8 @@ use Rattle.tabled_base.specs.Cells.{columns}
 use Rattle.tabled_size.specs.Added.{added_at, added_by, nothing}
 use Rattle.tabled_size.proofs.estimate.measure_known.Goals as goal
 
-pub measure_row-requires-in-Unlike-Some-clause-told : goal.measure_row-requires-in-Unlike-Some-clause-told
-measure_row-requires-in-Unlike-Some-clause-told g c = record {
+pub measure_row-requires-in-Unlike-Some-clause-known : goal.measure_row-requires-in-Unlike-Some-clause-known
+measure_row-requires-in-Unlike-Some-clause-known g c = record {
   at = λ column inside.
       let count = columns (g.R.ExactRecords.cells c.args.records.now) in
       let known = rw c.in-Unlike-Some.is at c.requires.known.is in

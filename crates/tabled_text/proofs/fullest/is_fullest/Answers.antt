@@ -26,7 +26,7 @@ holds c =
     let words = c.args.words in
     let text = c.args.text.now in
     let pos : 0 < n = let ne = c.if-n-eq0.false in omega arith in
-    let left = option_copied c.put_lines.new.out.rest in
+    let left = option_copied c.append_lines.new.out.rest in
     let whole = encode_utf8_all (pending n words false (lines_of (chars text))) in
     let all : Expects (Some c.args.wrapped.now) whole left = subst (λ w. Expects (Some w) whole left) c.as_bytes.ensures.value c.in-Ok.ensures in
     let iff = expected-iff n pos words (chars text) c.args.wrapped.now c.utf8.wrapped left all in

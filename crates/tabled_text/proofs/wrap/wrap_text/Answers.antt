@@ -33,18 +33,18 @@ pub returns-then-n-eq0-clause-least : goal.returns-then-n-eq0-clause-least
 returns-then-n-eq0-clause-least c = λ pos fits.
     least_breaking c.args.n c.args.words c.args.text.now (string_bytes c.new-out.result) pos fits (nothing c)
 
-written : (c : goal.In_ok-put_lines) → IsWrapped c.args.n c.args.words c.args.text.now (string_bytes c.put_lines.new.out)
+written : (c : goal.In_ok-append_lines) → IsWrapped c.args.n c.args.words c.args.text.now (string_bytes c.append_lines.new.out)
 written c =
-    IsWrapped-written c.args.n c.args.words c.args.text.now (string_bytes c.put_lines.new.out) c.if-n-eq0.false
-    (IsUtf8-string_bytes c.put_lines.new.out)
-    (c.in_ok-put_lines.ensures ∙ ap (λ l. l ++ encode_utf8_all
+    IsWrapped-written c.args.n c.args.words c.args.text.now (string_bytes c.append_lines.new.out) c.if-n-eq0.false
+    (IsUtf8-string_bytes c.append_lines.new.out)
+    (c.in_ok-append_lines.ensures ∙ ap (λ l. l ++ encode_utf8_all
     (pending c.args.n c.args.words false (lines_of (chars c.args.text.now)))) c.new-out.ensures.bytes)
 
 pub returns-clause-wrapped : goal.returns-clause-wrapped
 returns-clause-wrapped c = written c
 
 pub returns-clause-fewest : goal.returns-clause-fewest
-returns-clause-fewest c = fewest-wrapped c.args.n c.args.words c.args.text.now (string_bytes c.put_lines.new.out) (written c)
+returns-clause-fewest c = fewest-wrapped c.args.n c.args.words c.args.text.now (string_bytes c.append_lines.new.out) (written c)
 
 pub returns-clause-least : goal.returns-clause-least
-returns-clause-least c = λ pos fits. least_breaking c.args.n c.args.words c.args.text.now (string_bytes c.put_lines.new.out) pos fits (written c)
+returns-clause-least c = λ pos fits. least_breaking c.args.n c.args.words c.args.text.now (string_bytes c.append_lines.new.out) pos fits (written c)

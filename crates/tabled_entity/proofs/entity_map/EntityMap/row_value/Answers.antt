@@ -4,8 +4,8 @@ use Rattle.tabled_entity.proofs.Covering.{latest_place}
 use Rattle.tabled_entity.proofs.Indexed.{indexed-latest, latest-below}
 use Rattle.tabled_entity.proofs.entity_map.EntityMap.row_value.Goals as goal
 
-pub said-requires : goal.said-requires
-said-requires g c =
+pub value_at_change-requires : goal.value_at_change-requires
+value_at_change-requires g c =
     let inside = c.self.inside in
     latest-below c.args.self.now.parts c.args.row 0 c.in_ok-place.place
     (sym (c.in_ok-place.ensures 0)
@@ -15,7 +15,7 @@ said-requires g c =
 pub returns : goal.returns
 returns g c = λ column.
     let inside = c.self.inside in
-    c.said.ensures c.args.row column
+    c.value_at_change.ensures c.args.row column
     (sym (c.in_ok-place.ensures column)
     ∙ indexed-latest inside.places (reverse inside.changes.items) c.args.row column c.self.invariant.0
     ∙ ap (λ v. latest_place v.parts c.args.row column) c.self.view_is)

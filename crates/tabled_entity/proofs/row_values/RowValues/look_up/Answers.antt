@@ -1,13 +1,13 @@
 use Rattle.std.proofs.Common.{◌≡◌, ℕ, MatchOption, subst, ◌∙◌}
 use Rattle.tabled_entity.specs.Changes.{setting_at}
-use Rattle.tabled_entity.specs.Places.{last_for, latest}
-use Rattle.tabled_entity.specs.RowPlaces.{latest_at}
+use Rattle.tabled_entity.specs.ChangeIndex.{last_for, latest}
+use Rattle.tabled_entity.specs.RowChangeIndex.{latest_at}
 use Rattle.tabled_entity.proofs.Covering.{latest_place}
 use Rattle.tabled_entity.proofs.Indexed.{latest-below}
 use Rattle.tabled_entity.proofs.row_values.RowValues.look_up.Goals as goal
 
-pub said-requires : goal.said-requires
-said-requires g c =
+pub value_at_change-requires : goal.value_at_change-requires
+value_at_change-requires g c =
     let inside = c.self.inside in
     let same : (column : ℕ) → latest_at c.in-Some.places column ≡ latest_place inside.map.now.parts inside.row column =
     subst (λ o. MatchOption o ((column : ℕ) → inside.whole.now ≡ setting_at inside.map.now inside.row column)

@@ -4,6 +4,6 @@ use Rattle.tabled_pool.proofs.pool_table.PoolTable.pieces.Goals as goal
 pub returns-clause-places : goal.returns-clause-places
 unfolding plan
 returns-clause-places c =
-    let e = rw (c.requires.width, c.requires.height, c.frame_of-frame.ensures, c.get_borders.ensures, c.gaps.ensures)
+    let e = rw (c.requires.width, c.requires.height, c.frame_of-frame.ensures, c.get_borders.ensures, c.spacing.ensures)
     at c.in_ok-place_tree.ensures.places in
     rw c.new-pieces.ensures.items at e

@@ -1,4 +1,4 @@
--- `with` by hand: the table is lent again to `apply`, comes back as that left it, and is handed on or given up.
+-- `with` by hand: the table is lent again to `apply`, comes back as that left it, and is passed on or given up.
 use Rattle.std.proofs.Common.{◌≡◌, inl, inr, ℕ, List, [], ◌∷◌, ◌++◌, refl, sym, subst, lit<, MutBor}
 use Rattle.std.proofs.raw_atomic.Walks.{proved_at}
 use Rattle.std.specs.Prelude.{Result, Ok, Err, OnOk, IfErr, ⊤}

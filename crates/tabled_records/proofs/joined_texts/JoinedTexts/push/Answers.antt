@@ -24,8 +24,8 @@ invariant_of-self-in-Ok c =
     ∙ ap (λ start. drop (length start) (whole ++ text)) c.as_str-start.ensures.value ∙ drop-append_seam whole text in
     let end = ap length (c.as_str-end.ensures.value ∙ c.in_ok-push_str.ensures.bytes) in
     rw (c.in_ok-push_str.ensures.bytes, c.in-Ok.ensures.ok ∙ ap (λ n. places ++ (n, columns) ∷ []) end)
-    (filled-next whole text places c.self.inside.lines.items c.put_place.new.lines.items columns c.utf8.text c.self.invariant
-    (c.tail_measures-columns.ensures.columns ∙ ap text_columns tail) c.put_place.ensures.same
+    (filled-next whole text places c.self.inside.lines.items c.push_ends.new.lines.items columns c.utf8.text c.self.invariant
+    (c.tail_measures-columns.ensures.columns ∙ ap text_columns tail) c.push_ends.ensures.same
     (c.in-Ok.ensures.noted ∙ c.tail_measures-columns.ensures.lines ∙ ap (λ t. length (lines_of t)) tail) c.in-Ok.ensures.few)
 
 pub truncate-requires-in-Err : goal.truncate-requires-in-Err
@@ -42,7 +42,7 @@ returns-in-Ok-clause-ok c =
     let places = c.self.inside.ends in
     let columns = c.tail_measures-columns.result.0 in
     let end = ap length (c.as_str-end.ensures.value ∙ c.in_ok-push_str.ensures.bytes) in
-    ap (λ bytes. texts_from 0 bytes 0 c.put_place.new.ends) c.in_ok-push_str.ensures.bytes
+    ap (λ bytes. texts_from 0 bytes 0 c.push_ends.new.ends) c.in_ok-push_str.ensures.bytes
     ∙ ap (texts_from 0 (whole ++ text) 0) (c.in-Ok.ensures.ok ∙ ap (λ n. places ++ (n, columns) ∷ []) end)
     ∙ texts-added whole text places c.self.inside.lines.items columns c.self.invariant
     ∙ ap (λ texts. texts ++ text ∷ []) c.self.view_is

@@ -9,6 +9,6 @@ returns-clause-needed g c =
     let by = c.args.self.now in
     let at = c.args.at in
     on_err_weaker c.set_changed.result
-    (λ apart. needs-made by.which (g.T.TextRule.shortens by.rule.now) (g.M.Rooms.room_at by.rooms.now at.row at.column) c.in-Some.room
+    (λ apart. needs-made by.cell_filter (g.T.TextTransform.shortens by.transform.now) (g.M.ContentSizes.content_size_at by.content_sizes.now at.row at.column) c.in-Some.content_size
     (cell_at (g.R.ExactRecords.cells c.args.records.now) at.row at.column) (sym c.in-Some.ensures) (sym c.takes.ensures ∙ c.if-not-takes.false) apart)
     c.set_changed.ensures.longer

@@ -3,7 +3,7 @@ use Rattle.std.proofs.lemmas.Result.{err_from_is_err_and, on_ok_weaker}
 use Rattle.tabled_config.specs.declared.spanned.SpannedConfig.{SpannedConfig}
 use Rattle.tabled_set.specs.CellChanges.{if_wider, truncating}
 use Rattle.tabled_set.specs.InPlace.{truncating_in_place}
-use Rattle.tabled_set.specs.declared.which.Which.TheVariants.{Wider}
+use Rattle.tabled_set.specs.declared.cell_filter.CellFilter.TheVariants.{Wider}
 use Rattle.tabled_size.specs.Sheet.{is_empty}
 use Rattle.tabled_set.specs.Narrowed.{Narrows, StopsNarrowing}
 use Rattle.tabled_set.proofs.Promises.{truncates}
@@ -13,21 +13,21 @@ use Rattle.tabled_set.proofs.truncate.TruncateTableOptionColoredConfigCompleteDi
 pub returns-clause-promised : goal.returns-clause-promised
 returns-clause-promised g c =
     let s = c.args.self in
-    let suffix = s.rule.suffix.now in
+    let suffix = s.transform.suffix.now in
     let cells = g.R.ExactRecords.cells c.args.records.now in
     let config = c.args.cfg.now.config in
     let n = g.W.Measurement.measures s.width cells config in
     let new = g.R.ExactRecords.cells c.narrow_table.new.records in
     let stored = c.narrow_table.new.sizes in
-    on_ok_weaker {P = Narrows g.P.Peaker.shrinks s.priority (if_wider (truncating suffix s.rule.limit s.rule.multiline)) n cells config c.args.dims.now new stored} c.narrow_table.result
-    (λ h left. truncates g.P.Peaker.shrinks s.priority n cells config c.args.dims.now new stored left c.is_empty.ensures.rectangular suffix s.rule.limit s.rule.multiline h)
+    on_ok_weaker {P = Narrows g.P.Peaker.shrinks s.priority (if_wider (truncating suffix s.transform.limit s.transform.multiline)) n cells config c.args.dims.now new stored} c.narrow_table.result
+    (λ h left. truncates g.P.Peaker.shrinks s.priority n cells config c.args.dims.now new stored left c.is_empty.ensures.rectangular suffix s.transform.limit s.transform.multiline h)
     (search rules)
 
 pub returns-clause-err : goal.returns-clause-err
 returns-clause-err g c =
     let s = c.args.self in
-    let change = truncating s.rule.suffix.now s.rule.limit s.rule.multiline in
-    let in_place = truncating_in_place s.rule.suffix.now s.rule.limit s.rule.multiline in
+    let change = truncating s.transform.suffix.now s.transform.limit s.transform.multiline in
+    let in_place = truncating_in_place s.transform.suffix.now s.transform.limit s.transform.multiline in
     let cells = g.R.ExactRecords.cells c.args.records.now in
     let sizes = c.args.dims.now in
     let new = g.R.ExactRecords.cells c.narrow_table.new.records in

@@ -2,7 +2,7 @@ use Rattle.std.proofs.Common.{◌≡◌, ℕ, IfErr, false, inl, refl, rules, su
 use Rattle.std.proofs.lemmas.Result.{err_from_is_err_and, on_ok_weaker}
 use Rattle.tabled_config.specs.declared.spanned.SpannedConfig.{SpannedConfig}
 use Rattle.tabled_set.specs.CellChanges.{never_in_place, wrapping}
-use Rattle.tabled_set.specs.declared.which.Which.TheVariants.{Every}
+use Rattle.tabled_set.specs.declared.cell_filter.CellFilter.TheVariants.{Every}
 use Rattle.tabled_size.specs.Sheet.{is_empty}
 use Rattle.tabled_set.specs.Narrowed.{Narrows, StopsNarrowing}
 use Rattle.tabled_set.proofs.Promises.{wraps}
@@ -17,14 +17,14 @@ returns-clause-promised g c =
     let n = g.W.Measurement.measures s.width cells config in
     let new = g.R.ExactRecords.cells c.narrow_table.new.records in
     let stored = c.narrow_table.new.sizes in
-    on_ok_weaker {P = Narrows g.P.Peaker.shrinks s.priority (wrapping s.rule.keep_words) n cells config c.args.dims.now new stored} c.narrow_table.result
-    (λ h left. wraps g.P.Peaker.shrinks s.priority n cells config c.args.dims.now new stored left c.is_empty.ensures.rectangular s.rule.keep_words h)
+    on_ok_weaker {P = Narrows g.P.Peaker.shrinks s.priority (wrapping s.transform.keep_words) n cells config c.args.dims.now new stored} c.narrow_table.result
+    (λ h left. wraps g.P.Peaker.shrinks s.priority n cells config c.args.dims.now new stored left c.is_empty.ensures.rectangular s.transform.keep_words h)
     (search rules)
 
 pub returns-clause-err : goal.returns-clause-err
 returns-clause-err g c =
     let s = c.args.self in
-    let change = wrapping s.rule.keep_words in
+    let change = wrapping s.transform.keep_words in
     let cells = g.R.ExactRecords.cells c.args.records.now in
     let sizes = c.args.dims.now in
     let new = g.R.ExactRecords.cells c.narrow_table.new.records in

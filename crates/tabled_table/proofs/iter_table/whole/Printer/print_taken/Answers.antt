@@ -73,17 +73,17 @@ invariant_of-columns g c = record {
       omega arith;
 }
 
-pub put_all-requires-clause-filled : goal.put_all-requires-clause-filled
-put_all-requires-clause-filled g c =
+pub write_all-requires-clause-filled : goal.write_all-requires-clause-filled
+write_all-requires-clause-filled g c =
     let items = c.args.taken.now.rows.items in
     let shown = shown-long g.C.CellText.text items c.args.self.now.settings.now.rows c.up_to.result (rw c.as_slice-kept.ensures.value at c.up_to.ensures) in
     rw c.new.ensures.columns (omega (arith, shown, c.if-up_to-eq0.false))
 
-pub put_all-requires-clause-kept : goal.put_all-requires-clause-kept
-put_all-requires-clause-kept g c = rw c.new.ensures.columns c.requires.kept
+pub write_all-requires-clause-kept : goal.write_all-requires-clause-kept
+write_all-requires-clause-kept g c = rw c.new.ensures.columns c.requires.kept
 
-pub put_all-requires-clause-in_range : goal.put_all-requires-clause-in_range
-put_all-requires-clause-in_range g c =
+pub write_all-requires-clause-in_range : goal.write_all-requires-clause-in_range
+write_all-requires-clause-in_range g c =
     let plan = c.in_ok-plan.plan in
     let within = plan.in_range in
     let whole = plan.whole in
@@ -102,7 +102,7 @@ returns g c =
     let read = sniffed-texts text items settings c.min.result (take c.min.result c.as_slice-kept.result.now) first (ap (take c.min.result) value) in
     let count = c.count_columns-count.ensures ∙ ap (column_count settings) read in
     let laid = rw read at c.in_ok-plan.ensures.ok in
-    let o = rw c.new.ensures.columns at c.put_all.ensures in
+    let o = rw c.new.ensures.columns at c.write_all.ensures in
     let F : ℕ → ℕ → Type 0 = λ k m. AreFurther settings.rows k taken.whole m o.1 in
     let further = subst (λ m. F (length kept) m) (sym (length-map o.0 (map text))) (subst (λ k. F k (length o.0)) (sym (texts-long text items)) o.2) in (
       o.0,

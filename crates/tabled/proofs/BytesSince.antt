@@ -1,0 +1,288 @@
+-- A writer that stays the same, and keeps what it held, while a sink stands before it.
+use Rattle.std.proofs.Common.{◌≡◌, ℕ, ◌≤◌, ◌==◌, ◌&&◌, if◌then◌else◌, Bool, true, false, List, [], ◌∷◌, ◌++◌, take, drop, Option, Some, None, Result, Ok, Err, IfSome, MatchResult, OnOk, refl, sym, ap, subst, ◌∙◌, append-nil, append_assoc, arith, inl, inr, ⊎_elim}
+use Rattle.std.proofs.lemmas.Bool.Decides.{nat_tests}
+use Rattle.std.proofs.lemmas.List.{append_cancel_left}
+use Rattle.std.specs.Io.KnownBytes.{Appends, IsCacheOf, append_known}
+use Rattle.std.specs.Result.{IsErrAnd}
+use Rattle.tabled_base.specs.declared.error.TableError.{TableError}
+use Rattle.tabled_base.specs.declared.error.TableError.TheVariants.{Writer}
+use Rattle.tabled_line.specs.Sent.{IsCause, Rose, Sent, Sends, Stops, Writes}
+use Rattle.tabled_line.proofs.Sending.{Appends-nil, Appends-then, IsCacheOf-same}
+use Rattle.tabled.proofs.Blocks.{delivered, handed_over, kept_waiting}
+use Rattle.tabled.specs.BlockSent.{Advances, Block, begins, block_sent, sent_since, since}
+use Rattle.tabled.specs.Output.{Begins, Puts}
+
+pub advances_none : (a : Block) → Advances a a
+advances_none a = record { same = refl; more = []; added = Appends-nil a.contents a.contents (IsCacheOf-same a.contents) }
+
+pub advances_then : (a b c : Block) → Advances a b → Advances b c → Advances a c
+advances_then a b c p q = record {
+  same = q.same ∙ p.same;
+  more = p.more ++ q.more;
+  added = Appends-then a.contents b.contents c.contents p.more q.more p.added q.added;
+}
+
+-- ---- beginnings
+
+both_true : (a b : Bool) → (a && b) ≡ true → (a ≡ true) × (b ≡ true)
+both_true true b h = (refl, h)
+both_true false b h = let bad : ⊥ = cc in absurd bad
+
+true_both : (a b : Bool) → a ≡ true → b ≡ true → (a && b) ≡ true
+true_both true b h k = k
+true_both false b h k = h
+
+begins_self : (xs : List ℕ) → begins xs xs ≡ true
+begins_self [] = refl
+begins_self (x ∷ xs) = true_both (x == x) (begins xs xs) (grind (arith, nat_tests)) (begins_self xs)
+
+begins_more : (xs ys zs : List ℕ) → begins xs ys ≡ true → begins xs (ys ++ zs) ≡ true
+begins_more [] ys zs h = refl
+begins_more (x ∷ xs) [] zs h = let bad : ⊥ = cc in absurd bad
+begins_more (x ∷ xs) (y ∷ ys) zs h =
+    let (first, rest) = both_true (x == y) (begins xs ys) h in
+    true_both (x == y) (begins xs (ys ++ zs)) first (begins_more xs ys zs rest)
+
+begins_rest : (xs ys : List ℕ) → begins xs ys ≡ true → (rest : List ℕ) × (ys ≡ xs ++ rest)
+begins_rest [] ys h = (ys, refl)
+begins_rest (x ∷ xs) [] h = let bad : ⊥ = cc in absurd bad
+begins_rest (x ∷ xs) (y ∷ ys) h =
+    let (first, behind) = both_true (x == y) (begins xs ys) h in
+    let (rest, e) = begins_rest xs ys behind in
+    let same : y ≡ x = grind (arith, nat_tests) in
+    (rest, ap (λ u. u ∷ ys) same ∙ ap (λ u. x ∷ u) e)
+
+-- ---- through a sink whose bytes are known since a start
+
+kept_test : (start : ℕ) (held : List ℕ) (na nb : ℕ) (xs ys more : List ℕ) → nb ≡ na → ys ≡ xs ++ more
+    → ((start == na) && begins held xs) ≡ true → ((start == nb) && begins held ys) ≡ true
+kept_test start held na nb xs ys more e w h =
+    let (name, front) = both_true (start == na) (begins held xs) h in
+    true_both (start == nb) (begins held ys) (ap (λ n. start == n) e ∙ name) (ap (λ u. begins held u) w ∙ begins_more held xs more front)
+
+tested : (t u : Bool) (xs ys wa wb text : List ℕ) → (t ≡ true → u ≡ true)
+    → Appends (append_known (Some xs) wa) (append_known (Some ys) wb) text
+    → Appends (append_known (if t then Some xs else None) wa) (append_known (if u then Some ys else None) wb) text
+tested false u xs ys wa wb text i h = tt
+tested true true xs ys wa wb text i h = h
+tested true false xs ys wa wb text i h = let never : false ≡ true = i refl in let bad : ⊥ = cc in absurd bad
+
+since_appends : (start : ℕ) (held : List ℕ) (na nb : ℕ) (ca cb : Option (List ℕ)) (wa wb text more : List ℕ) → nb ≡ na
+    → Appends ca cb more → Appends (append_known ca wa) (append_known cb wb) text
+    → Appends (append_known (since start held na ca) wa) (append_known (since start held nb cb) wb) text
+since_appends start held na nb None cb wa wb text more e p h = tt
+since_appends start held na nb (Some xs) None wa wb text more e p h = absurd p
+since_appends start held na nb (Some xs) (Some ys) wa wb text more e p h =
+    tested ((start == na) && begins held xs) ((start == nb) && begins held ys) xs ys wa wb text (kept_test start held na nb xs ys more e p) h
+
+-- a text that a block takes is taken so
+pub since_writes : {T : Type 0} (start : ℕ) (held : List ℕ) (a b : Block) (r : Result T TableError) (text : List ℕ)
+    → Writes (block_sent a) r (block_sent b) text → Advances a b
+    → Writes (sent_since start held a) r (sent_since start held b) text
+since_writes start held a b (Ok x) text h p =
+    record {
+      added = since_appends start held a.name b.name a.contents b.contents a.waiting b.waiting text p.more
+          p.same p.added h.added;
+      counted = h.counted;
+      alike = refl;
+    }
+since_writes start held a b (Err e) text h p = record {
+  front = h.front;
+  rest = h.rest;
+  whole = h.whole;
+  added = since_appends start held a.name b.name a.contents b.contents a.waiting b.waiting h.front p.more p.same p.added h.added;
+  cause = h.cause;
+}
+
+-- ---- and back
+
+-- a writer that is still the one of the start
+record Still (start : ℕ) (held : List ℕ) (name : ℕ) (c : Option (List ℕ)) : Type 0 where
+  is : name ≡ start
+  more : List ℕ
+  holds : Appends (Some held) c more
+  known : since start held name c ≡ c
+
+still_if : (start : ℕ) (held : List ℕ) (name : ℕ) (xs ys w text : List ℕ) (t : Bool) → t
+    ≡ ((start == name) && begins held ys) → Appends (Some xs) (append_known (if t then Some ys else None) w) text → Still start held name (Some ys)
+still_if start held name xs ys w text true e h =
+    let (first, front) = both_true (start == name) (begins held ys) (sym e) in
+    let (rest, whole) = begins_rest held ys front in
+    record { is = grind (arith, nat_tests); more = rest; holds = whole; known = ap (λ t. if t then Some ys else None) (sym e) }
+still_if start held name xs ys w text false e h = absurd h
+
+still : (start : ℕ) (held : List ℕ) (name : ℕ) (c : Option (List ℕ)) (xs w text : List ℕ)
+    → Appends (Some xs) (append_known (since start held name c) w) text → Still start held name c
+still start held name None xs w text h = absurd h
+still start held name (Some ys) xs w text h = still_if start held name xs ys w text ((start == name) && begins held ys) refl h
+
+-- what a block leaves that was known at the start
+pub record Left {T E : Type 0} (na nb : ℕ) (ca cb : Option (List ℕ)) (wa wb : List ℕ) (r : Result T E) (text : List ℕ) : Type 0 where
+  pub put : Puts (append_known ca wa) r (append_known cb wb) text
+  pub advanced : IfSome ca (λ _. (nb ≡ na) × ((more : List ℕ) × Appends ca cb more))
+
+left_ok : (start : ℕ) (held : List ℕ) (nb : ℕ) (cb : Option (List ℕ)) (xs wb text : List ℕ) → Still start held nb cb
+    → Appends (Some xs) (append_known (since start held nb cb) wb) text → Appends (Some xs) (append_known cb wb) text
+left_ok start held nb cb xs wb text s h =
+    let P : Option (List ℕ) → Type 0 = λ c. Appends (Some xs) (append_known c wb) text in subst P s.known h
+
+left_some : {T E : Type 0} (start : ℕ) (held : List ℕ) (na nb : ℕ) (cb : Option (List ℕ)) (wa wb : List ℕ)
+    (r : Result T E) (text : List ℕ) → na ≡ start → Puts (Some (held ++ wa)) r
+    (append_known (since start held nb cb) wb) text → Left na nb (Some held) cb wa wb r text
+left_some start held na nb cb wa wb (Ok x) text e h =
+    let s = still start held nb cb (held ++ wa) wb text h in
+    record { put = left_ok start held nb cb (held ++ wa) wb text s h; advanced = (s.is ∙ sym e, (s.more, s.holds)) }
+left_some start held na nb cb wa wb (Err d) text e h =
+    let s = still start held nb cb (held ++ wa) wb h.front h.added in
+    record {
+      put = record { front = h.front; rest = h.rest; whole = h.whole; added = left_ok start held nb cb (held ++ wa) wb h.front s h.added };
+      advanced = (s.is ∙ sym e, (s.more, s.holds));
+    }
+
+start_known : (start : ℕ) (held : List ℕ) (na : ℕ) → na ≡ start → since start held na (Some held) ≡ Some held
+start_known start held na e =
+    ap (λ t. if t then Some held else None) (true_both (start == na) (begins held held) (grind (arith, nat_tests)) (begins_self held))
+
+left_none : {T E : Type 0} (new : Option (List ℕ)) (r : Result T E) (text : List ℕ) → Puts None r new text
+left_none new (Ok x) text = tt
+left_none new (Err e) text = record { front = []; rest = text; whole = refl; added = tt }
+
+left_all : {T E : Type 0} (start : ℕ) (held : List ℕ) (na nb : ℕ) (ca cb : Option (List ℕ)) (wa wb : List ℕ)
+    (r : Result T E) (text : List ℕ) → na ≡ start → IfSome ca (λ xs. xs ≡ held)
+    → Puts (append_known (since start held na ca) wa) r (append_known (since start held nb cb) wb) text → Left na nb ca cb wa wb r text
+left_all start held na nb None cb wa wb r text e k h = record { put = left_none (append_known cb wb) r text; advanced = tt }
+left_all {T} {E} start held na nb (Some xs) cb wa wb r text e k h =
+    let P : Option (List ℕ) → Type 0 = λ c. Puts (append_known c wa) r (append_known (since start held nb cb) wb) text in
+    let Q : List ℕ → Type 0 = λ u. Puts (append_known (since start held na (Some u)) wa) r (append_known (since start held nb cb) wb) text in
+    let R : List ℕ → Type 0 = λ u. Left {T = T} {E = E} na nb (Some u) cb wa wb r text in
+    subst R (sym k) (left_some start held na nb cb wa wb r text e (subst P (start_known start held na e) (subst Q k h)))
+
+pub left : {T E : Type 0} (start : ℕ) (held : List ℕ) (a b : Block) (r : Result T E) (text : List ℕ) → a.name ≡ start
+    → IfSome a.contents (λ xs. xs ≡ held)
+    → Puts (sent_since start held a).bytes r (sent_since start held b).bytes text
+    → Left a.name b.name a.contents b.contents a.waiting b.waiting r text
+left start held a b r text e k h = left_all start held a.name b.name a.contents b.contents a.waiting b.waiting r text e k h
+
+along : {A : Type 0} {P Q : Type 0} (o : Option A) → (P → Q) → IfSome o (λ _. P) → IfSome o (λ _. Q)
+along None f h = tt
+along (Some x) f h = f h
+
+pub left_advances : {T E : Type 0} (a b : Block) (r : Result T E) (text : List ℕ)
+    → Left a.name b.name a.contents b.contents a.waiting b.waiting r text → IfSome a.contents (λ _. Advances a b)
+left_advances a b r text h = along a.contents (λ k. record { same = k.0; more = k.1.0; added = k.1.1 }) h.advanced
+
+-- ---- what the writer has in the end
+
+begun : (ca cb : Option (List ℕ)) (wa wb text front rest more : List ℕ) → wa ≡ [] → Appends ca cb more
+    → Appends (append_known ca wa) (append_known cb wb) front → front ++ rest ≡ text → Begins ca cb text
+begun None cb wa wb text front rest more e p h w = record { front = []; rest = text; whole = refl; added = tt }
+begun (Some xs) None wa wb text front rest more e p h w = absurd p
+begun (Some xs) (Some ys) wa wb text front rest more e p h w =
+    let joined : xs ++ (more ++ wb) ≡ xs ++ front =
+    sym (append_assoc xs more wb) ∙ ap (λ u. u ++ wb) (sym p) ∙ h ∙ ap (λ u. (xs ++ u) ++ front) e ∙ ap (λ u. u ++ front) (append-nil xs) in
+    let cancelled : more ++ wb ≡ front = append_cancel_left xs (more ++ wb) front joined in
+    record { front = more; rest = wb ++ rest; whole = sym (append_assoc more wb rest) ∙ ap (λ u. u ++ rest) cancelled ∙ w; added = p }
+
+-- ---- a writer that fails
+
+-- a write that took no bytes
+pub took_none : (a b : Option (List ℕ)) (n : ℕ) (buffer : List ℕ) → n ≤ 0 → Appends a b (take n buffer) → IsCacheOf a b
+took_none None b n buffer h p = tt
+took_none (Some xs) None n buffer h p = absurd p
+took_none (Some xs) (Some ys) n buffer h p =
+    let e : n ≡ 0 = omega arith in p ∙ ap (λ k. xs ++ take k buffer) e ∙ append-nil xs
+
+-- a writer failed that had taken what was handed to it before
+pub failed : (a : Sent) (cb cc : Option (List ℕ)) (w : List ℕ) (f : ℕ) (d : Sent) (e : TableError)
+    → Sends a (record { bytes = append_known cb w; failures = f; grows = true }) [] → IsCacheOf cb cc
+    → d.bytes ≡ append_known cc w → Rose f d.failures → e ≡ Writer → Stops a e d []
+failed a cb cc w f d e p keeps same rose is =
+    let P : Option (List ℕ) → Type 0 = λ u. Appends (append_known cb w) u [] in
+    let Q : TableError → Type 0 = λ k. IsCause k a.grows a.failures d.failures in
+    let count = p.counted in
+    record {
+      front = [];
+      rest = [];
+      whole = refl;
+      added = Appends-then a.bytes (append_known cb w) d.bytes [] [] p.added (subst P (sym same) (kept_waiting cb cc w keeps));
+      cause = subst Q (sym is) (⊎_elim (λ h. inl (omega arith)) (λ h. inr h) rose);
+    }
+
+-- a writer took n bytes of what waited
+pub took : (a b : Option (List ℕ)) (old buffer new : List ℕ) (n : ℕ) → buffer ≡ old → new ≡ drop n old
+    → Appends a b (take n buffer) → Appends (append_known a old) (append_known b new) []
+took a b old buffer new n e w h =
+    let P : List ℕ → Type 0 = λ u. Appends a b (take n u) in
+    let Q : List ℕ → Type 0 = λ u. Appends (append_known a old) (append_known b u) [] in
+    subst Q (sym w) (handed_over a b old n (subst P e h))
+
+-- a call that answered no count took nothing
+pub kept_so : {E : Type 0} (r : Result ℕ E) (P : ℕ → Type 0) (K : Type 0) → ((x : ℕ) → r ≡ Ok x → ⊥) → MatchResult r P (λ _. K) → K
+kept_so (Ok x) P K never h = absurd (never x refl)
+kept_so (Err e) P K never h = h
+
+-- ---- texts and their beginnings
+
+pub puts_writes : {T : Type 0} (a b : Sent) (r : Result T TableError) (text : List ℕ) → Writes a r b text → Puts a.bytes r b.bytes text
+puts_writes a b (Ok x) text h = h.added
+puts_writes a b (Err e) text h = record { front = h.front; rest = h.rest; whole = h.whole; added = h.added }
+
+pub puts_begun : {T E : Type 0} (old new : Option (List ℕ)) (r : Result T E) (e : E) (text : List ℕ) → IsErrAnd r
+    (λ d. d ≡ e) → Begins old new text → Puts old r new text
+puts_begun old new (Ok x) e text h b = absurd h
+puts_begun old new (Err d) e text h b = b
+
+pub begun_none : (c : Option (List ℕ)) (text : List ℕ) → Begins c c text
+begun_none c text = record { front = []; rest = text; whole = refl; added = Appends-nil c c (IsCacheOf-same c) }
+
+-- ---- the writer in the end, whose reference is known by its name
+
+ended : (na nb : ℕ) (ca cb cf : Option (List ℕ)) (wa wb text front rest : List ℕ) → wa ≡ [] → IfSome ca
+    (λ _. (nb ≡ na) × ((more : List ℕ) × Appends ca cb more)) → (nb ≡ na → cf ≡ cb)
+    → Appends (append_known ca wa) (append_known cb wb) front → front ++ rest ≡ text → Begins ca cf text
+ended na nb None cb cf wa wb text front rest e p k h w = record { front = []; rest = text; whole = refl; added = tt }
+ended na nb (Some xs) cb cf wa wb text front rest e p k h w =
+    let P : Option (List ℕ) → Type 0 = λ c. Begins (Some xs) c text in
+    subst P (sym (k p.0)) (begun (Some xs) cb wa wb text front rest p.1.0 e p.1.1 h w)
+
+ended_block : (a b : Block) (cf : Option (List ℕ)) (text front rest : List ℕ) → a.waiting ≡ [] → IfSome a.contents
+    (λ _. Advances a b) → (b.name ≡ a.name → cf ≡ b.contents)
+    → Appends (append_known a.contents a.waiting) (append_known b.contents b.waiting) front → front ++ rest ≡ text → Begins a.contents cf text
+ended_block a b cf text front rest e p k h w =
+    ended a.name b.name a.contents b.contents cf a.waiting b.waiting text front rest e (along a.contents (λ q. (q.same, (q.more, q.added))) p) k h w
+
+-- where a sink refused
+pub ended_begun : {T E : Type 0} (a b : Block) (cf : Option (List ℕ)) (r : Result T E) (text : List ℕ) → a.waiting
+    ≡ [] → Puts (block_sent a).bytes r (block_sent b).bytes text → IfSome a.contents (λ _. Advances a b)
+    → (b.name ≡ a.name → cf ≡ b.contents) → Begins a.contents cf text
+ended_begun a b cf (Ok x) text e h p k = ended_block a b cf text text [] e p k h (append-nil text)
+ended_begun a b cf (Err d) text e h p k = ended_block a b cf text h.front h.rest e p k h.added h.whole
+
+exact : (ca cb cf : Option (List ℕ)) (text : List ℕ) → Appends ca cb text → IfSome ca (λ _. cf ≡ cb) → Appends ca cf text
+exact None cb cf text h k = tt
+exact (Some xs) cb cf text h k = let P : Option (List ℕ) → Type 0 = λ c. Appends (Some xs) c text in subst P (sym k) h
+
+-- where it took all, and what waited was handed over then
+pub ended_put : {T : Type 0} (a b d : Block) (cf : Option (List ℕ)) (r : Result T TableError) (text : List ℕ)
+    → a.waiting ≡ [] → Appends (block_sent a).bytes (block_sent b).bytes text → IfSome a.contents (λ _. Advances a b)
+    → Writes (block_sent b) r (block_sent d) [] → Advances b d → OnOk r (d.waiting ≡ [])
+    → (d.name ≡ a.name → cf ≡ d.contents) → Puts a.contents r cf text
+ended_put a b d cf (Ok x) text e h p q m o k =
+    let both : Appends (block_sent a).bytes (block_sent d).bytes (text ++ []) = Appends-then (block_sent a).bytes
+    (block_sent b).bytes (block_sent d).bytes text [] h q.added in
+    let P : List ℕ → Type 0 = λ u. Appends (block_sent a).bytes (block_sent d).bytes u in
+    exact a.contents d.contents cf text
+    (delivered a.contents d.contents a.waiting d.waiting text e o (subst P (append-nil text) both))
+    (along a.contents (λ adv. k (m.same ∙ adv.same)) p)
+ended_put a b d cf (Err x) text e h p q m o k =
+    ended_block a d cf text (text ++ q.front) q.rest e (along a.contents (λ adv. advances_then a b d adv m) p) k
+    (Appends-then (block_sent a).bytes (block_sent b).bytes (block_sent d).bytes text q.front h q.added)
+    (append_assoc text q.front q.rest ∙ ap (λ u. text ++ u) q.whole ∙ append-nil text)
+
+pub puts_from : {T E : Type 0} (old same new : Option (List ℕ)) (r : Result T E) (text : List ℕ) → same ≡ old
+    → Puts same r new text → Puts old r new text
+puts_from old same new r text e h = let P : Option (List ℕ) → Type 0 = λ c. Puts c r new text in subst P e h
+
+pub puts_err : {T E : Type 0} (old new : Option (List ℕ)) (r : Result T E) (e : E) (text : List ℕ) → r ≡ Err e
+    → Begins old new text → Puts old r new text
+puts_err {T} {E} old new r e text h b = let P : Result T E → Type 0 = λ x. Puts old x new text in subst P (sym h) b

@@ -1,0 +1,13 @@
+use Rattle.std.proofs.Common.{length}
+use Rattle.tabled_line.specs.Sent.{Took}
+use Rattle.tabled.specs.BlockSent.{Advances, block, block_sent}
+use Rattle.tabled.proofs.block_sink.BlockSink.buffer_parts.Given as goal
+
+abbrev pub invariant-pieces : goal.invariant-pieces
+invariant-pieces g l = record {
+  took : Took (block_sent (block g.W.Write.contents l.initial.self)) (block_sent (block g.W.Write.contents l.self)) l.bytes l.rest;
+  advanced : Advances (block g.W.Write.contents l.initial.self) (block g.W.Write.contents l.self);
+}
+
+abbrev pub decreases-pieces : goal.decreases-pieces
+decreases-pieces g l = length l.rest

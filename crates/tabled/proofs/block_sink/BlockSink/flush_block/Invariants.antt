@@ -1,0 +1,13 @@
+use Rattle.std.proofs.Common.{[], length}
+use Rattle.tabled_line.specs.Sent.{Sends}
+use Rattle.tabled.specs.BlockSent.{Advances, block, block_sent, waiting}
+use Rattle.tabled.proofs.block_sink.BlockSink.flush_block.Given as goal
+
+abbrev pub invariant-taken : goal.invariant-taken
+invariant-taken g l = record {
+  sends : Sends (block_sent (block g.W.Write.contents l.initial.self)) (block_sent (block g.W.Write.contents l.self)) [];
+  advanced : Advances (block g.W.Write.contents l.initial.self) (block g.W.Write.contents l.self);
+}
+
+abbrev pub decreases-taken : goal.decreases-taken
+decreases-taken g l = length (waiting l.self.held.now)

@@ -1,9 +1,0 @@
-use Rattle.std.proofs.Common.{length}
-use Rattle.tabled.specs.Output.{Handed}
-use Rattle.tabled.proofs.program.put_text.Given as goal
-
-abbrev pub invariant-taken : goal.invariant-taken
-invariant-taken g l = Handed (g.W.Write.contents l.initial.writer) (g.W.Write.contents l.writer) l.text l.rest
-
-abbrev pub decreases-taken : goal.decreases-taken
-decreases-taken g l = length l.rest

@@ -1,0 +1,23 @@
+use Rattle.std.proofs.Common.{subst, sym}
+use Rattle.tabled_config.specs.declared.spanned.SpannedConfig.{SpannedConfig}
+use Rattle.tabled_size.specs.Sheet.{estimated}
+use Rattle.tabled_size.specs.TextCells.{AreTexts}
+use Rattle.tabled_table.specs.NewConfig.{new_config}
+use Rattle.tabled.specs.Planned.{measured}
+use Rattle.tabled.specs.declared.plan.Plan.{Plan}
+use Rattle.tabled.specs.Rendered.{IsRenderedOf}
+use Rattle.tabled.proofs.RenderedTables.{measured_same, rendered_new}
+use Rattle.tabled.proofs.rendering.print_records.Goals as goal
+
+pub print_streamed-requires-clause-texts : goal.print_streamed-requires-clause-texts
+print_streamed-requires-clause-texts g c = subst AreTexts (sym c.in_ok-lend_cells-in-Streamed.ensures.ok) c.requires.texts
+
+pub returns-in_default : goal.returns-in_default
+returns-in_default g c =
+    let cells = g.R.ExactRecords.cells c.args.rows.now in
+    let old = g.S.TextSink.sent c.args.sink.now in
+    let new = g.S.TextSink.sent c.print_measured.new.sink in
+    let same = measured_same c.args.plan c.in_default.not-Streamed in
+    rendered_new c.args.plan cells old c.print_measured.result new
+    (subst (λ (p : Plan). IsRenderedOf p (estimated cells new_config) old c.print_measured.result new) same
+    (subst (λ (d : SpannedConfig). IsRenderedOf (measured c.args.plan) (estimated cells d) old c.print_measured.result new) c.new_settings.ensures c.print_measured.ensures))

@@ -1,9 +1,0 @@
-use Rattle.std.proofs.Common.{map, string_bytes, length}
-use Rattle.tabled.proofs.Noting.{ReadsTo}
-use Rattle.tabled.proofs.words.settings_of.Given as goal
-
-abbrev pub invariant-loop-rest : goal.invariant-loop-rest
-invariant-loop-rest l = ReadsTo (map string_bytes l.words) l.settings (map string_bytes l.rest)
-
-abbrev pub decreases-loop-rest : goal.decreases-loop-rest
-decreases-loop-rest l = length l.rest

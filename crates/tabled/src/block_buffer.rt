@@ -1,0 +1,88 @@
+//! Bytes that wait for a writer.
+ghost use Rattle.std.specs.Prelude.{◌≡◌, ◌+◌, ◌≤◌, ◌^◌, [], ◌++◌, IfOk, drop, length, vec_len};
+
+use std::alloc::{AllocError, Global};
+
+/// How many bytes are handed on at a time.
+pub(crate) const BLOCK: usize = 1 << 16;
+
+/// Copies bytes to a place of their length; a single one, the commonest, without a copy of a slice.
+#[inline(always)]
+fn copy(to: &mut [u8], bytes: &[u8])
+    requires { length to.old ≡ length bytes.now }
+    ensures { to.new ≡ bytes.now }
+{
+    match bytes {
+        [byte] => to[0] = *byte,
+        _ => to.copy_from_slice(bytes),
+    }
+}
+
+/// A block of bytes: those that were put in it so far, of which a writer took some from the front.
+#[derive(Drop)]
+pub(crate) struct BlockBuffer {
+    bytes: Vec<u8>,
+    used: usize,
+    taken: usize,
+    ghost whole: { vec_len bytes ≡ 2 ^ 16 },
+    ghost within: { taken ≤ used },
+    ghost inside: { used ≤ 2 ^ 16 },
+}
+
+impl BlockBuffer {
+    ghost use Rattle.tabled.specs.BlockSent.{waiting};
+
+    /// An empty one, in memory of its own.
+    pub fn new(alloc: Global) -> Result<BlockBuffer, AllocError>
+        ensures { IfOk result (λ held. waiting held ≡ []) }
+    {
+        let bytes = vec![in alloc; 0u8; BLOCK]?;
+        Ok(BlockBuffer {
+            bytes,
+            used: 0,
+            taken: 0,
+        })
+    }
+
+    /// How many bytes there are, with those that were taken.
+    pub fn len(&self) -> usize
+        ensures { result ≡ self.now.used }
+    {
+        self.used
+    }
+
+    /// The bytes that wait.
+    pub fn rest(&self) -> &[u8]
+        ensures { result.now ≡ waiting self.now }
+    {
+        &self.bytes[self.taken..self.used]
+    }
+
+    /// Some of them were taken.
+    pub fn take(&mut self, count: usize)
+        requires { count ≤ length (waiting self.old) }
+        ensures { waiting self.new ≡ drop count (waiting self.old) }
+    {
+        self.taken += count;
+    }
+
+    /// All of them were taken.
+    pub fn clear(&mut self)
+        ensures waiting { waiting self.new ≡ [] }
+        ensures used { self.new.used ≡ 0 }
+    {
+        self.taken = 0;
+        self.used = 0;
+    }
+
+    /// Puts bytes behind the others, for which there has to be room.
+    #[inline(always)]
+    pub fn add(&mut self, bytes: &[u8])
+        requires room { self.old.used + length bytes.now ≤ BLOCK }
+        ensures added { waiting self.new ≡ waiting self.old ++ bytes.now }
+    {
+        let end = self.used + bytes.len();
+        copy(&mut self.bytes[self.used..end], bytes);
+        self.used = end;
+    }
+}

@@ -1,0 +1,20 @@
+use Rattle.std.proofs.Common.{arith, sym}
+use Rattle.tabled_line.proofs.Leading.{lines-further, lines-stopped}
+use Rattle.tabled_extended.specs.RecordLines.{value_line}
+use Rattle.tabled_extended.proofs.Zipped.{zip-next, zip-rest, zip-all}
+use Rattle.tabled_extended.proofs.printing.write_value_lines.Goals as goal
+
+pub values-preserved : goal.values-preserved
+values-preserved g c =
+    lines-further c.values.invariant c.in_ok-write_value_line.ensures
+    (zip-next (value_line c.args.columns) c.args.fields.now c.args.values.now c.values.index c.index-fields-index.result c.index-values-index.result
+    (omega arith) (omega arith) c.index-fields-index.is c.index-values-index.is)
+
+pub returns-in_err-write_value_line : goal.returns-in_err-write_value_line
+returns-in_err-write_value_line g c =
+    lines-stopped _ _ _ _ _ c.values.invariant c.in_err-write_value_line.ensures c.from_residual.ensures.1
+    (zip-rest (value_line c.args.columns) c.args.fields.now c.args.values.now c.values.index c.index-fields-index.result c.index-values-index.result
+    (omega arith) (omega arith) c.index-fields-index.is c.index-values-index.is)
+
+pub returns : goal.returns
+returns g c = rw (sym (zip-all c.args.fields.now c.args.values.now c.values.index (omega arith))) c.values.invariant

@@ -1,0 +1,156 @@
+-- The sizes that stand: those that a dimension stores, and estimates where it stores none.
+use Rattle.std.proofs.Common.{◌≡◌, ℕ, ◌<◌, ◌≤◌, ◌^◌, ◌⊎◌, ◌&&◌, inl, inr, ⊎_elim, List, length, Option, Some, None, Result, Ok, Err, IfErr, OnOk, Bool, is_some, true, false, refl, sym, ap, subst, ◌∙◌, arith}
+use Rattle.std.specs.Result.{IsErrAnd}
+use Rattle.tabled_base.specs.Cells.{columns}
+use Rattle.tabled_base.specs.declared.error.TableError.{TableError}
+use Rattle.tabled_base.specs.declared.error.TableError.TheVariants.{Memory, ShortWidths, ShortHeights, Narrow, Range, Writer}
+use Rattle.tabled_config.specs.declared.spanned.SpannedConfig.{SpannedConfig}
+use Rattle.tabled_size.specs.declared.complete_dimension.CompleteDimension.{CompleteDimension}
+use Rattle.tabled_size.specs.Estimates.{estimated_heights, estimated_widths}
+use Rattle.tabled_size.specs.FilledIn.{HasNoEstimate, IsFilledIn}
+use Rattle.tabled_size.specs.Reached.{reached}
+use Rattle.tabled_size.specs.Sheet.{Sheet, estimated, is_empty}
+use Rattle.tabled_size.specs.Entries.{stored_at}
+use Rattle.tabled_size.specs.Effective.{effective, effective_sizes}
+use Rattle.tabled_size.specs.Stored.{heights_of, widths_of}
+use Rattle.tabled_size.specs.Totals.{filled_height, filled_width}
+use Rattle.tabled_size.proofs.Passing.{too_high_passes, too_wide_passes}
+use Rattle.tabled_size.proofs.Reaching.{reached_filled, reached_effective}
+use Rattle.tabled_size.proofs.Totalling.{heights_length, reached_stands, widths_length}
+use Rattle.tabled_grid.specs.Grid.{sheet_by}
+use Rattle.tabled_size.specs.Holds.{Holds, IsSized}
+use Rattle.tabled_grid.specs.Narrow.{IsNarrow}
+use Rattle.tabled_grid.specs.Printed.{IsRefused, IsOutOfRange, Prints}
+use Rattle.tabled_line.specs.Sent.{Sent}
+use Rattle.tabled_grid.proofs.EstimatedSizes.{holds_estimated}
+use Rattle.tabled_grid.proofs.Printing.{refused_so}
+
+abbrev sized_by : List (List (List ℕ)) → SpannedConfig → List ℕ → List ℕ → Sheet
+sized_by cells config widths heights = record { cells = cells; config = config; widths = widths; heights = heights }
+
+-- cells and settings with the sizes that a complete dimension answers
+abbrev pub answered : List (List (List ℕ)) → SpannedConfig → CompleteDimension → Sheet
+answered cells config sizes = sheet_by cells config (stored_at (widths_of sizes)) (stored_at (heights_of sizes))
+
+and_left : (a b : Bool) → (a && b) ≡ true → a ≡ true
+and_left true b h = refl
+and_left false b h = h
+
+and_right : (a b : Bool) → (a && b) ≡ true → b ≡ true
+and_right true b h = h
+and_right false b h = let no : false ≡ true = h in cc
+
+module _ (cells : List (List (List ℕ))) (config : SpannedConfig) where
+  same_sizes : (widths widths2 heights heights2 : List ℕ) → widths ≡ widths2 → heights ≡ heights2 → sized_by cells config widths heights ≡ sized_by cells config widths2 heights2
+  same_sizes widths widths2 heights heights2 e f = ap (λ w. sized_by cells config w heights) e ∙ ap (λ h. sized_by cells config widths2 h) f
+
+  -- where both lists are stored, they are answered as they stand
+  pub answered_complete : (sizes : CompleteDimension) → (is_some (widths_of sizes) && is_some (heights_of sizes)) ≡ true → answered cells config sizes ≡ effective cells config sizes
+  answered_complete sizes both =
+      let w : is_some (widths_of sizes) ≡ true = and_left _ _ both in
+      let h : is_some (heights_of sizes) ≡ true = and_right _ _ both in
+      same_sizes _ _ _ _
+      (reached_effective (widths_of sizes) (estimated_widths cells config) (columns cells) w)
+      (reached_effective (heights_of sizes) (estimated_heights cells config) (length cells) h)
+
+  -- and where estimates fill in what isn't
+  pub answered_filled : (sizes copy new : CompleteDimension) → widths_of copy ≡ widths_of sizes → heights_of copy ≡ heights_of sizes → IsFilledIn copy cells config new → answered cells config new ≡ effective cells config sizes
+  answered_filled sizes copy new w h filled =
+      same_sizes _ _ _ _
+      (ap (λ o. reached (stored_at o) (columns cells)) filled.widths
+      ∙ reached_filled (widths_of copy) (estimated_widths cells config) (columns cells) (widths_length cells config)
+      ∙ ap (λ o. effective_sizes o (estimated_widths cells config) (columns cells)) w)
+      (ap (λ o. reached (stored_at o) (length cells)) filled.heights
+      ∙ reached_filled (heights_of copy) (estimated_heights cells config) (length cells) (heights_length cells config)
+      ∙ ap (λ o. effective_sizes o (estimated_heights cells config) (length cells)) h)
+
+  -- a copy has the sizes that stand
+  pub same_effective : (sizes copy : CompleteDimension) → widths_of copy ≡ widths_of sizes → heights_of copy ≡ heights_of sizes → effective cells config copy ≡ effective cells config sizes
+  same_effective sizes copy w h =
+      same_sizes _ _ _ _
+      (ap (λ o. effective_sizes o (estimated_widths cells config) (columns cells)) w)
+      (ap (λ o. effective_sizes o (estimated_heights cells config) (length cells)) h)
+
+  -- where nothing is stored the estimates stand
+  pub effective_estimated : (sizes : CompleteDimension) → widths_of sizes ≡ None → heights_of sizes ≡ None → effective cells config sizes ≡ estimated cells config
+  effective_estimated sizes w h =
+      same_sizes _ _ _ _
+      (ap (λ o. effective_sizes o (estimated_widths cells config) (columns cells)) w)
+      (ap (λ o. effective_sizes o (estimated_heights cells config) (length cells)) h)
+
+  -- what a test of stored sizes says of those that stand
+  pub widths_checked : {T : Type 0} (r : Result T TableError) (sizes : CompleteDimension) (list : List ℕ) (n : ℕ) → n ≡ columns cells → widths_of sizes ≡ Some list → OnOk r (n ≤ length (reached (stored_at (widths_of sizes)) n)) → OnOk r (columns cells ≤ length (effective cells config sizes).widths)
+  widths_checked r sizes list n e s h =
+      let f = reached_stands (widths_of sizes) list (estimated_widths cells config) (columns cells) n s e in
+      subst (λ xs. OnOk r (columns cells ≤ length xs)) f (subst (λ k. OnOk r (k ≤ length (reached (stored_at (widths_of sizes)) n))) e h)
+
+  pub widths_short : {T : Type 0} (r : Result T TableError) (sizes : CompleteDimension) (list : List ℕ) (n : ℕ) → n ≡ columns cells → widths_of sizes ≡ Some list → IfErr r (λ d. (d ≡ ShortWidths) × (length (reached (stored_at (widths_of sizes)) n) < n)) → IfErr r (λ d. (d ≡ ShortWidths) × (length (effective cells config sizes).widths < columns cells))
+  widths_short r sizes list n e s h =
+      let f = reached_stands (widths_of sizes) list (estimated_widths cells config) (columns cells) n s e in
+      subst (λ xs. IfErr r (λ d. (d ≡ ShortWidths) × (length xs < columns cells))) f
+      (subst (λ k. IfErr r (λ d. (d ≡ ShortWidths) × (length (reached (stored_at (widths_of sizes)) n) < k))) e h)
+
+  pub widths_estimated : (sizes : CompleteDimension) → widths_of sizes ≡ None → columns cells ≤ length (effective cells config sizes).widths
+  widths_estimated sizes s =
+      subst (λ o. columns cells ≤ length (effective_sizes o (estimated_widths cells config) (columns cells))) (sym s)
+      (omega (arith, widths_length cells config))
+
+  pub heights_checked : {T : Type 0} (r : Result T TableError) (sizes : CompleteDimension) (list : List ℕ) (n : ℕ) → n ≡ length cells → heights_of sizes ≡ Some list → OnOk r (n ≤ length (reached (stored_at (heights_of sizes)) n)) → OnOk r (length cells ≤ length (effective cells config sizes).heights)
+  heights_checked r sizes list n e s h =
+      let f = reached_stands (heights_of sizes) list (estimated_heights cells config) (length cells) n s e in
+      subst (λ xs. OnOk r (length cells ≤ length xs)) f (subst (λ k. OnOk r (k ≤ length (reached (stored_at (heights_of sizes)) n))) e h)
+
+  pub heights_short : {T : Type 0} (r : Result T TableError) (sizes : CompleteDimension) (list : List ℕ) (n : ℕ) → n ≡ length cells → heights_of sizes ≡ Some list → IfErr r (λ d. (d ≡ ShortHeights) × (length (reached (stored_at (heights_of sizes)) n) < n)) → IfErr r (λ d. (d ≡ ShortHeights) × (length (effective cells config sizes).heights < length cells))
+  heights_short r sizes list n e s h =
+      let f = reached_stands (heights_of sizes) list (estimated_heights cells config) (length cells) n s e in
+      subst (λ xs. IfErr r (λ d. (d ≡ ShortHeights) × (length xs < length cells))) f
+      (subst (λ k. IfErr r (λ d. (d ≡ ShortHeights) × (length (reached (stored_at (heights_of sizes)) n) < k))) e h)
+
+  pub heights_estimated : (sizes : CompleteDimension) → heights_of sizes ≡ None → length cells ≤ length (effective cells config sizes).heights
+  heights_estimated sizes s =
+      subst (λ o. length cells ≤ length (effective_sizes o (estimated_heights cells config) (length cells))) (sym s)
+      (omega (arith, heights_length cells config))
+
+  -- the heights don't tell whether cells are held
+  narrow_heights : (widths heights heights2 : List ℕ) (e : TableError) → IsNarrow (sized_by cells config widths heights) e → IsNarrow (sized_by cells config widths heights2) e
+  narrow_heights widths heights heights2 Memory h = h
+  narrow_heights widths heights heights2 ShortWidths h = h
+  narrow_heights widths heights heights2 ShortHeights h = h
+  narrow_heights widths heights heights2 (Narrow row column) h =
+      record { row_in = h.row_in; at = record { column_in = h.at.column_in; narrow = h.at.narrow; before = h.at.before }; above = h.above }
+  narrow_heights widths heights heights2 Range h = h
+  narrow_heights widths heights heights2 Writer h = h
+
+  narrow_if : {T : Type 0} (r : Result T TableError) (widths heights heights2 : List ℕ) → IfErr r (IsNarrow (sized_by cells config widths heights)) → IfErr r (IsNarrow (sized_by cells config widths heights2))
+  narrow_if (Ok x) widths heights heights2 h = tt
+  narrow_if (Err e) widths heights heights2 h = narrow_heights widths heights heights2 e h
+
+  pub stored_stands : (sizes : CompleteDimension) (list : List ℕ) → widths_of sizes ≡ Some list → (answered cells config sizes).widths ≡ (effective cells config sizes).widths
+  stored_stands sizes list s = reached_effective (widths_of sizes) (estimated_widths cells config) (columns cells) (ap is_some s)
+
+  pub held_stored : {T : Type 0} (r : Result T TableError) (sizes : CompleteDimension) (list : List ℕ) → widths_of sizes ≡ Some list → OnOk r (Holds (answered cells config sizes)) → OnOk r (Holds (effective cells config sizes))
+  held_stored r sizes list s h = subst (λ ws. OnOk r (Holds (sized_by cells config ws (effective cells config sizes).heights))) (stored_stands sizes list s) h
+
+  pub narrow_stored : {T : Type 0} (r : Result T TableError) (sizes : CompleteDimension) (list : List ℕ) → widths_of sizes ≡ Some list → IfErr r (IsNarrow (answered cells config sizes)) → IfErr r (IsNarrow (effective cells config sizes))
+  narrow_stored r sizes list s h =
+      subst (λ ws. IfErr r (IsNarrow (sized_by cells config ws (effective cells config sizes).heights))) (stored_stands sizes list s)
+      (narrow_if r _ _ (effective cells config sizes).heights h)
+
+  pub held_estimated : (sizes : CompleteDimension) → widths_of sizes ≡ None → Holds (effective cells config sizes)
+  held_estimated sizes s =
+      let stands : Option (List ℕ) → List ℕ = λ o. effective_sizes o (estimated_widths cells config) (columns cells) in
+      subst (λ ws. Holds (sized_by cells config ws (effective cells config sizes).heights)) (ap stands (sym s)) (holds_estimated cells config)
+
+  -- a size that can't be estimated makes a total pass
+  pub passes_effective : (sizes : CompleteDimension) → HasNoEstimate sizes cells config → IsOutOfRange (effective cells config sizes)
+  passes_effective sizes cause =
+      ⊎_elim
+      (λ w. inl (subst (λ o. 2 ^ 64 ≤ filled_width config (columns cells) (effective_sizes o (estimated_widths cells config) (columns cells))) (sym w.0) (too_wide_passes cells config w.1)))
+      (λ h. inr (subst (λ o. 2 ^ 64 ≤ filled_height config (length cells) (effective_sizes o (estimated_heights cells config) (length cells))) (sym h.0) (too_high_passes cells config h.1))) cause
+
+  pub refused_unestimated : {T : Type 0} (sizes copy : CompleteDimension) (a : Sent) (r : Result T TableError) (e : TableError) → widths_of copy ≡ widths_of sizes → heights_of copy ≡ heights_of sizes → is_empty cells ≡ false → IsSized (effective cells config sizes) → Holds (effective cells config sizes) → (e ≡ Memory) ⊎ ((e ≡ Range) × HasNoEstimate copy cells config) → IsErrAnd r (λ d. d ≡ e) → Prints true (effective cells config sizes) a r a
+  refused_unestimated sizes copy a r e w h filled sized held cause is =
+      let P : TableError → Type 0 = IsRefused (effective cells config sizes) in
+      let same : HasNoEstimate copy cells config → HasNoEstimate sizes cells config = ⊎_elim (λ x. inl (sym w ∙ x.0, x.1)) (λ x. inr (sym h ∙ x.0, x.1)) in
+      refused_so (effective cells config sizes) a r e filled
+      (⊎_elim (λ m. inl m) (λ x. inr (subst P (sym x.0) (sized, held, passes_effective sizes (same x.1)))) cause) is

@@ -1,0 +1,34 @@
+use Rattle.std.proofs.Common.{◌∙◌, true, refl, subst, sym}
+use Rattle.tabled_size.specs.Sheet.{Sheet}
+use Rattle.tabled_size.specs.Holds.{Holds, IsSized}
+use Rattle.tabled_grid.specs.Printed.{Prints}
+use Rattle.tabled_grid.proofs.EffectiveSizes.{answered_filled, refused_unestimated}
+use Rattle.tabled_grid.proofs.effective.print_filled_in.Goals as goal
+
+pub returns-in_err-estimate : goal.returns-in_err-estimate
+returns-in_err-estimate g c =
+    refused_unestimated (g.R.ExactRecords.cells c.args.records.now) c.args.config.now c.args.sizes c.args.sizes _ _ _
+    refl refl c.requires.filled c.requires.sized c.requires.holds
+    c.in_err-estimate.ensures.only c.from_residual.ensures.1
+
+pub print_in_memory-requires-clause-sized : goal.print_in_memory-requires-clause-sized
+print_in_memory-requires-clause-sized g c =
+    subst IsSized
+    (sym (c.new-grid.ensures ∙ answered_filled (g.R.ExactRecords.cells c.args.records.now) c.args.config.now c.args.sizes c.args.sizes c.estimate.new.self
+    refl refl c.in_ok-estimate.ensures.ok))
+    c.requires.sized
+
+pub print_in_memory-requires-clause-holds : goal.print_in_memory-requires-clause-holds
+print_in_memory-requires-clause-holds g c =
+    subst Holds
+    (sym (c.new-grid.ensures ∙ answered_filled (g.R.ExactRecords.cells c.args.records.now) c.args.config.now c.args.sizes c.args.sizes c.estimate.new.self
+    refl refl c.in_ok-estimate.ensures.ok))
+    c.requires.holds
+
+pub returns : goal.returns
+returns g c =
+    let P : Sheet → Type 0 = λ t. Prints true t (g.S.TextSink.sent c.args.sink.now) c.print_in_memory.result (g.S.TextSink.sent c.print_in_memory.new.sink) in
+    subst P
+    (c.new-grid.ensures ∙ answered_filled (g.R.ExactRecords.cells c.args.records.now) c.args.config.now c.args.sizes c.args.sizes c.estimate.new.self
+    refl refl c.in_ok-estimate.ensures.ok)
+    c.print_in_memory.ensures

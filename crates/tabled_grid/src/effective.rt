@@ -1,0 +1,115 @@
+//! Records with the sizes that stand: those that are stored, and else those that the texts ask for.
+ghost use Rattle.std.specs.Prelude.{◌≡◌, ◌⊎◌, IfErr, false, not, true};
+ghost use Rattle.tabled_base.specs.declared.error.TableError.TheVariants.{Memory, Range, Writer};
+ghost use Rattle.tabled_size.specs.Sheet.{estimated, is_empty};
+ghost use Rattle.tabled_size.specs.Effective.{effective};
+ghost use Rattle.tabled_size.specs.Stored.{is_stored};
+ghost use Rattle.tabled_size.specs.Holds.{Holds, IsSized};
+ghost use Rattle.tabled_grid.specs.Printed.{Prints};
+ghost use Rattle.tabled_line.specs.Sent.{Sent};
+
+use crate::checks::check_stored;
+use crate::grid::Grid;
+use crate::print::{print_checked, print_grid, print_with_cursors};
+use std::alloc::Global;
+use tabled_base::{PeekableRecords, TableError};
+use tabled_config::SpannedConfig;
+use tabled_line::{Cursor, MANY_CURSORS, TextSink};
+use tabled_size::{CompleteDimension, Dimension, Estimate, is_empty};
+
+/// Prints records under a configuration, with the sizes that are stored, and with those that the texts
+/// ask for where none are stored. Refused, before the first byte and in this order: `ShortWidths` and
+/// `ShortHeights` where a list is stored that is shorter than the table, `Narrow` at the first cell that its
+/// column doesn't hold, `Range` where a total passes the greatest `usize`; later only for what the sink
+/// refuses. Memory is taken where a list isn't stored, and may be refused then.
+pub fn print_standing<R: PeekableRecords, S: TextSink>(
+    sink: &mut S,
+    records: &R,
+    config: &SpannedConfig,
+    stored: &CompleteDimension,
+) -> Result<(), TableError>
+    ensures { Prints (not (is_stored stored.now)) (effective (R.cells records.now) config.now stored.now)
+        (S.sent sink.old) result (S.sent sink.new) }
+{
+    if is_empty(records) {
+        return Ok(());
+    }
+    if stored.is_complete() {
+        return print_grid(sink, records, config, stored);
+    }
+    check_stored(records, config, stored)?;
+    print_copied(sink, records, config, stored)
+}
+
+/// Prints a table with a row and a column, with a copy of the stored sizes that estimates fill in.
+fn print_copied<R: PeekableRecords, S: TextSink>(
+    sink: &mut S,
+    records: &R,
+    config: &SpannedConfig,
+    stored: &CompleteDimension,
+) -> Result<(), TableError>
+    requires filled { is_empty (R.cells records.now) ≡ false }
+    requires sized { IsSized (effective (R.cells records.now) config.now stored.now) }
+    requires holds { Holds (effective (R.cells records.now) config.now stored.now) }
+    ensures { Prints true (effective (R.cells records.now) config.now stored.now)
+        (S.sent sink.old) result (S.sent sink.new) }
+{
+    let copy = stored.clone()?;
+    print_filled_in(sink, records, config, copy)
+}
+
+/// Prints a table whose sizes hold its cells, with a cursor for each column.
+fn print_in_memory<'a, R: PeekableRecords, D: Dimension, S: TextSink>(
+    alloc: Global,
+    sink: &mut S,
+    grid: &'a Grid<'a, R, D>,
+) -> Result<(), TableError>
+    requires filled { is_empty grid.now.cells ≡ false }
+    requires sized { IsSized grid.now }
+    requires holds { Holds grid.now }
+    ensures { Prints true grid.now (S.sent sink.old) result (S.sent sink.new) }
+{
+    if grid.count_columns() <= MANY_CURSORS {
+        return print_checked(sink, grid);
+    }
+    let mut cursors = vec![in alloc; Cursor::nowhere(); grid.count_columns()]?;
+    print_with_cursors(sink, grid, &mut cursors)
+}
+
+/// Prints a table with a row and a column, the sizes that aren't stored estimated.
+fn print_filled_in<R: PeekableRecords, S: TextSink>(
+    sink: &mut S,
+    records: &R,
+    config: &SpannedConfig,
+    mut sizes: CompleteDimension,
+) -> Result<(), TableError>
+    requires filled { is_empty (R.cells records.now) ≡ false }
+    requires sized { IsSized (effective (R.cells records.now) config.now sizes) }
+    requires holds { Holds (effective (R.cells records.now) config.now sizes) }
+    ensures { Prints true (effective (R.cells records.now) config.now sizes)
+        (S.sent sink.old) result (S.sent sink.new) }
+{
+    sizes.estimate(records, config)?;
+    let alloc = sizes.allocator();
+    let grid = Grid::new(records, config, &sizes, Some(alloc));
+    print_in_memory(alloc, sink, &grid)
+}
+
+/// Prints records under a configuration, with the sizes that their texts ask for. Refused for memory and
+/// for what the sink refuses, and with `Range`, before the first byte, where a total passes the greatest
+/// `usize`.
+pub fn print_estimated<R: PeekableRecords, S: TextSink>(
+    alloc: Global,
+    sink: &mut S,
+    records: &R,
+    config: &SpannedConfig,
+) -> Result<(), TableError>
+    ensures printed { Prints true (estimated (R.cells records.now) config.now)
+        (S.sent sink.old) result (S.sent sink.new) }
+    ensures only { IfErr result (λ e. (e ≡ Memory) ⊎ ((e ≡ Range) ⊎ (e ≡ Writer))) }
+{
+    if is_empty(records) {
+        return Ok(());
+    }
+    print_filled_in(sink, records, config, CompleteDimension::new(alloc))
+}

@@ -1,0 +1,14 @@
+use Rattle.std.proofs.Common.{map}
+use Rattle.std.specs.List.{range_with_len}
+use Rattle.tabled_line.specs.Leading.{LineSends}
+use Rattle.tabled_line.specs.Cursors.{AreCursors}
+use Rattle.tabled_line.specs.Row.{row_line}
+use Rattle.tabled_line.proofs.lines.write_row_lines.Given as goal
+
+abbrev pub invariant-lines : goal.invariant-lines
+invariant-lines g l =
+    record {
+      printed : LineSends (g.S.TextSink.sent l.initial.sink) l.initial.begun (g.S.TextSink.sent l.sink) l.begun
+          (map (row_line (g.R.Row.sheet l.row)) (range_with_len 0 l.index));
+      cursors : AreCursors (g.R.Row.sheet l.row).text l.cursors;
+    }

@@ -1,0 +1,127 @@
+//! Buffer for the text of a line.
+ghost use Rattle.std.specs.Prelude.{◌≡◌, ◌≤◌, Some, IfErr, IfSome, [], take, true};
+ghost use Rattle.tabled_base.specs.declared.error.TableError.TheVariants.{Memory};
+ghost use Rattle.tabled_line.specs.Sent.{Sent, Writes};
+
+use crate::text_sink::TextSink;
+use std::alloc::Global;
+use tabled_base::TableError;
+
+/// The bytes that a buffer in no memory takes.
+const FIXED_BYTES: usize = 4096;
+
+/// The most bytes that a buffer in memory takes. A longer line isn't worth its memory, of which there may not be enough for a line
+/// of a table that is as wide as a number can be.
+const MOST_BYTES: usize = 1_048_576;
+
+/// A buffer of fixed size as a sink. A text that doesn't fit is refused for memory.
+#[derive(Drop)]
+pub struct FixedBuffer {
+    bytes: [u8; FIXED_BYTES],
+    used: usize,
+    ghost within: { used ≤ 4096 },
+}
+
+impl FixedBuffer {
+    /// An empty buffer.
+    pub fn new() -> FixedBuffer
+        ensures { result.used ≡ 0 }
+    {
+        FixedBuffer {
+            bytes: [0; FIXED_BYTES],
+            used: 0,
+        }
+    }
+
+    /// Empties the buffer.
+    pub fn clear(&mut self)
+        ensures { self.new.used ≡ 0 }
+    {
+        self.used = 0;
+    }
+
+    /// The text in the buffer, if it is one.
+    pub fn text(&self) -> Option<&str>
+        ensures { IfSome result (λ text. text.now ≡ take self.now.used self.now.bytes) }
+    {
+        std::str::from_utf8(&self.bytes[..self.used]).ok()
+    }
+}
+
+impl TextSink for FixedBuffer {
+    ghost sent = { λ r. record { bytes = Some (take r.used r.bytes); failures = 0; grows = true } };
+
+    fn write_text(&mut self, text: &str) -> Result<(), TableError>
+        ensures written { Writes
+            (record { bytes = Some (take self.old.used self.old.bytes); failures = 0; grows = true }) result
+            (record { bytes = Some (take self.new.used self.new.bytes); failures = 0; grows = true }) text.now }
+        ensures only { IfErr result (λ e. e ≡ Memory) }
+    {
+        if text.len() > FIXED_BYTES - self.used {
+            return Err(TableError::Memory);
+        }
+        let end = self.used + text.len();
+        self.bytes[self.used..end].copy_from_slice(text.as_bytes());
+        self.used = end;
+        Ok(())
+    }
+}
+
+/// A buffer as a sink: memory that grows up to 1 MiB where that may be taken, and else 4 KiB without memory.
+#[derive(Drop)]
+pub enum LineBuffer {
+    /// In no memory.
+    Fixed(FixedBuffer),
+    /// In memory.
+    Grown(String),
+}
+
+impl LineBuffer {
+    ghost use Rattle.tabled_line.specs.Buffers.{buffer_text};
+
+    /// An empty buffer, in memory of an allocator if there is one.
+    pub fn new(memory: Option<Global>) -> LineBuffer
+        ensures { buffer_text result ≡ [] }
+    {
+        match memory {
+            Some(alloc) => LineBuffer::Grown(String::new(alloc)),
+            None => LineBuffer::Fixed(FixedBuffer::new()),
+        }
+    }
+
+    /// Empties the buffer.
+    pub fn clear(&mut self)
+        ensures { buffer_text self.new ≡ [] }
+    {
+        match self {
+            LineBuffer::Fixed(buffer) => buffer.clear(),
+            LineBuffer::Grown(text) => text.clear(),
+        }
+    }
+
+    /// The text in the buffer, if it is one.
+    pub fn text(&self) -> Option<&str>
+        ensures { IfSome result (λ text. text.now ≡ buffer_text self.now) }
+    {
+        match self {
+            LineBuffer::Fixed(buffer) => buffer.text(),
+            LineBuffer::Grown(text) => Some(text.as_str()),
+        }
+    }
+}
+
+impl TextSink for LineBuffer {
+    ghost use Rattle.tabled_line.specs.Buffers.{buffer_text};
+
+    ghost sent = { λ r. record { bytes = Some (buffer_text r); failures = 0; grows = true } };
+
+    fn write_text(&mut self, text: &str) -> Result<(), TableError> {
+        match self {
+            LineBuffer::Fixed(buffer) => buffer.write_text(text),
+            LineBuffer::Grown(grown) if text.len() > MOST_BYTES.saturating_sub(grown.len()) => {
+                Err(TableError::Memory)
+            }
+            LineBuffer::Grown(grown) => grown.write_text(text),
+        }
+    }
+}

@@ -1,0 +1,24 @@
+//! Lines that are kept behind the line feed that leads to them, and go out with it in one piece.
+ghost use Rattle.std.specs.Prelude.{◌≡◌, [], ◌∷◌, drop};
+ghost use Rattle.tabled_line.specs.Leading.{WritesLines};
+ghost use Rattle.tabled_line.specs.Sent.{Sent};
+
+use crate::text_sink::TextSink;
+use tabled_base::TableError;
+
+/// The line behind the line feed that a text begins with. That goes out too where a line went before.
+#[inline(always)]
+pub(crate) fn write_feed_and_line<S: TextSink>(
+    sink: &mut S,
+    begun: &mut bool,
+    led: &str,
+) -> Result<(), TableError>
+    requires { led.now ≡ 10 ∷ drop 1 led.now }
+    ensures { WritesLines (S.sent sink.old) begun.old result (S.sent sink.new) begun.new (drop 1 led.now ∷ []) }
+{
+    if *begun {
+        return sink.write_text(led);
+    }
+    *begun = true;
+    sink.write_text(&led[1..])
+}

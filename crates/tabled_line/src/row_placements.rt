@@ -1,0 +1,277 @@
+//! Where the texts of a row of one line stand, from left to right.
+ghost use Rattle.std.specs.Prelude.{◌≡◌, ◌+◌, ◌<◌, ℕ, IfSome, Some, length, slice_get};
+ghost use Rattle.tabled_config.specs.RowStyles.{style_in};
+ghost use Rattle.tabled_config.specs.KnownSides.{DescribesSides};
+ghost use Rattle.tabled_config.specs.declared.spanned.CellStyle.{CellStyle};
+ghost use Rattle.tabled_line.specs.Placements.{IsPlaceable, IsPadded, placement_of};
+ghost use Rattle.tabled_line.specs.Row.{RowSheet};
+ghost use Rattle.tabled_line.specs.PlacedText.{IsPlacedText};
+
+use crate::block::before_text;
+use crate::placement::{CellPlacement, Placement, UniformPlacement};
+use crate::row::Row;
+use tabled_config::{AlignmentHorizontal, CellStyle, KnownSides, RowStyles};
+
+/// The first line of a text where it stands between spaces.
+#[derive(Clone, Copy)]
+pub struct PlacedText<'a> {
+    /// The spaces before it.
+    pub before: usize,
+    /// Those of them that stand behind the padding.
+    pub shift: usize,
+    /// The line.
+    pub text: &'a str,
+    /// The columns that it takes.
+    pub columns: usize,
+    /// The spaces behind it.
+    pub behind: usize,
+}
+
+/// What describes where the texts of a row of one line stand, from left to right.
+pub trait RowPlacements {
+    ghost use Rattle.tabled_line.specs.Placements.{IsDescribedColumn};
+    ghost use Rattle.tabled_line.specs.Offsets.{offset_from};
+    ghost use Rattle.tabled_line.specs.Row.{RowSheet};
+
+    // What is known of a row is right.
+    ghost describes: { Self → RowSheet → Type 0 };
+
+    /// Where the text of a column of some width stands, if it stands between spaces, and its padding fits.
+    fn at(&mut self, column: usize, width: usize) -> Option<Placement>
+        requires { IsDescribedColumn (describes self.old) column }
+        ensures placement { (row : RowSheet) → describes self.old row → column < row.columns.count → width ≡ row.columns.width column
+            → IfSome result (λ placement. (placement ≡ placement_of (row.style column) width) × IsPlaceable (row.style column) width) }
+        ensures same { (row : RowSheet) → describes self.old row → describes self.new row };
+
+    /// Where the columns that the padding leaves to the text of a column begin behind the left edge in a blank row, in bytes, if that is at hand.
+    fn content_offset(&self, column: usize) -> Option<usize>
+        requires { IsDescribedColumn (describes self.now) column }
+        ensures { (row : RowSheet) → describes self.now row → column < row.columns.count
+            → IfSome result (λ place. place ≡ offset_from 0 row.columns column + (row.style column).padding.left.size) };
+
+    /// How the text of a column stands, if that is at hand.
+    fn style(&mut self, column: usize) -> Option<CellStyle>
+        ensures style { (row : RowSheet) → describes self.old row → column < row.columns.count
+            → IfSome result (λ style. style ≡ row.style column) }
+        ensures same { (row : RowSheet) → describes self.old row → describes self.new row };
+}
+
+/// Where the texts of the columns stand, as it is kept for rows set alike.
+#[derive(Drop)]
+pub struct CachedPlacements<'a>(pub &'a [CellPlacement]);
+
+impl<'a> CachedPlacements<'a> {
+    /// Where the text of a column stands.
+    #[inline(always)]
+    fn cell(&self, column: usize) -> CellPlacement
+        requires { column < length self.now.0.now }
+        ensures { slice_get self.now.0.now column ≡ Some result }
+    {
+        self.0[column]
+    }
+}
+
+impl<'a> RowPlacements for CachedPlacements<'a> {
+    ghost use Rattle.tabled_line.specs.Placements.{ArePlacements};
+
+    ghost describes = { λ kept row. ArePlacements row.style row.columns kept.0.now };
+
+    #[inline(always)]
+    fn at(&mut self, column: usize, _width: usize) -> Option<Placement> {
+        Some(self.cell(column).placement)
+    }
+
+    #[inline(always)]
+    fn content_offset(&self, column: usize) -> Option<usize> {
+        Some(self.cell(column).place)
+    }
+
+    fn style(&mut self, _column: usize) -> Option<CellStyle> {
+        None
+    }
+}
+
+/// All texts stand alike.
+impl RowPlacements for UniformPlacement {
+    ghost use Rattle.std.specs.Prelude.{◌<◌, ℕ};
+    ghost use Rattle.tabled_line.specs.Placements.{IsUniform};
+
+    ghost describes = { λ uniform row. (column : ℕ) → column < row.columns.count → IsUniform (row.style column) uniform };
+
+    #[inline(always)]
+    fn at(&mut self, _column: usize, width: usize) -> Option<Placement> {
+        self.placement(width)
+    }
+
+    fn content_offset(&self, _column: usize) -> Option<usize> {
+        None
+    }
+
+    fn style(&mut self, _column: usize) -> Option<CellStyle> {
+        None
+    }
+}
+
+/// Each text stands as its padding and its alignment are known.
+#[derive(Drop)]
+pub struct KnownPlacements<'a> {
+    sides: KnownSides<'a>,
+    // How the texts stand but for their alignments, if all are padded alike.
+    alike: Option<UniformPlacement>,
+}
+
+/// How the texts of a row stand but for their alignments, if all are told to be padded alike, and stand between spaces.
+#[inline(always)]
+fn known_uniform(sides: &KnownSides<'_>) -> Option<UniformPlacement>
+    ensures { (columns : ℕ) (style : ℕ → CellStyle) → DescribesSides sides.now columns style
+        → IfSome result (λ uniform. (column : ℕ) → column < columns → IsPadded (style column) uniform) }
+{
+    let padding = sides.shared_padding()?;
+    UniformPlacement::of(padding, AlignmentHorizontal::Left)
+}
+
+impl<'a> KnownPlacements<'a> {
+    /// What these paddings and alignments say.
+    #[inline(always)]
+    pub fn new(sides: KnownSides<'a>) -> KnownPlacements<'a>
+        ensures sides { result.sides ≡ sides.entry }
+        ensures alike { (columns : ℕ) (style : ℕ → CellStyle) → DescribesSides sides.entry columns style
+            → IfSome result.alike (λ uniform. (column : ℕ) → column < columns → IsPadded (style column) uniform) }
+    {
+        let alike = known_uniform(&sides);
+        KnownPlacements { sides, alike }
+    }
+}
+
+impl<'a> RowPlacements for KnownPlacements<'a> {
+    ghost use Rattle.std.specs.Prelude.{◌<◌, ℕ, IfSome};
+    ghost use Rattle.tabled_config.specs.KnownSides.{DescribesSides};
+    ghost use Rattle.tabled_line.specs.Placements.{IsPadded};
+
+    ghost describes = { λ placements row. DescribesSides placements.sides row.columns.count row.style
+        × IfSome placements.alike (λ uniform. (column : ℕ) → column < row.columns.count → IsPadded (row.style column) uniform) };
+
+    #[inline(always)]
+    fn at(&mut self, column: usize, width: usize) -> Option<Placement> {
+        let horizontal = self.sides.horizontal(column);
+        match self.alike {
+            Some(uniform) => uniform.aligned(horizontal).placement(width),
+            None => UniformPlacement::of(self.sides.padding(column), horizontal)?.placement(width),
+        }
+    }
+
+    #[inline(always)]
+    fn content_offset(&self, _column: usize) -> Option<usize> {
+        None
+    }
+
+    fn style(&mut self, _column: usize) -> Option<CellStyle> {
+        None
+    }
+}
+
+/// Each text stands as its style says.
+#[derive(Drop)]
+pub struct StyledPlacements<'a> {
+    styles: RowStyles<'a>,
+    // How the texts stand but for their alignments, if all are padded alike.
+    alike: Option<UniformPlacement>,
+}
+
+/// How the texts of a row stand but for their alignments, if all are known to be padded alike, and stand between spaces.
+fn shared_uniform(styles: &RowStyles<'_>) -> Option<UniformPlacement>
+    ensures { IfSome result (λ uniform. (column : ℕ) → IsPadded (style_in styles.now column) uniform) }
+{
+    let padding = styles.shared_padding()?;
+    UniformPlacement::of(&padding, AlignmentHorizontal::Left)
+}
+
+impl<'a> StyledPlacements<'a> {
+    /// What these styles say.
+    #[inline(always)]
+    pub fn new(styles: RowStyles<'a>) -> StyledPlacements<'a>
+        ensures styles { result.styles ≡ styles.entry }
+        ensures alike { IfSome result.alike (λ uniform. (column : ℕ) → IsPadded (style_in styles.entry column) uniform) }
+    {
+        let alike = shared_uniform(&styles);
+        StyledPlacements { styles, alike }
+    }
+}
+
+impl<'a> RowPlacements for StyledPlacements<'a> {
+    ghost use Rattle.std.specs.Prelude.{◌≡◌, ◌<◌, ℕ, IfSome};
+    ghost use Rattle.tabled_config.specs.RowStyles.{style_in};
+    ghost use Rattle.tabled_line.specs.Placements.{IsPadded};
+
+    ghost describes = { λ placements row. ((column : ℕ) → column < row.columns.count → style_in placements.styles column ≡ row.style column)
+        × IfSome placements.alike (λ uniform. (column : ℕ) → IsPadded (style_in placements.styles column) uniform) };
+
+    #[inline(always)]
+    fn at(&mut self, column: usize, width: usize) -> Option<Placement> {
+        if let Some(uniform) = self.alike {
+            return uniform
+                .aligned(self.styles.horizontal(column))
+                .placement(width);
+        }
+        let (padding, horizontal) = self.styles.beside(column);
+        UniformPlacement::of(&padding, horizontal)?.placement(width)
+    }
+
+    fn content_offset(&self, _column: usize) -> Option<usize> {
+        None
+    }
+
+    fn style(&mut self, column: usize) -> Option<CellStyle> {
+        Some(self.styles.at(column))
+    }
+}
+
+/// The first line of the text of a column of some width where it stands between spaces, if it does and fits, and no further line is wider.
+#[inline(always)]
+pub fn place<'c, R: Row<'c>, A: RowPlacements>(
+    row: &R,
+    placements: &mut A,
+    column: usize,
+    width: usize,
+) -> Option<PlacedText<'c>>
+    requires describes { A.describes placements.old (R.sheet row.now) }
+    requires inside { column < (R.sheet row.now).columns.count }
+    requires width { width ≡ (R.sheet row.now).columns.width column }
+    requires height { (R.sheet row.now).height ≡ 1 }
+    ensures placed { IfSome result (IsPlacedText (R.sheet row.now) column) }
+    ensures describes { A.describes placements.new (R.sheet row.now) }
+{
+    let placement = placements.at(column, width)?;
+    let content = row.content(column);
+    let (text, columns) = content.first_line();
+    if content.columns != columns {
+        return None;
+    }
+    let free = placement.content_width.checked_sub(columns)?;
+    let shift = before_text(placement.horizontal, free);
+    let before = placement.before + shift;
+    Some(PlacedText {
+        before,
+        shift,
+        text,
+        columns,
+        behind: width - before - columns,
+    })
+}
+
+/// How the text of a column of the row stands.
+pub(crate) fn style_of<'c, R: Row<'c>, A: RowPlacements>(
+    row: &R,
+    placements: &mut A,
+    column: usize,
+) -> CellStyle
+    requires describes { A.describes placements.old (R.sheet row.now) }
+    requires inside { column < (R.sheet row.now).columns.count }
+    ensures style { result ≡ (R.sheet row.now).style column }
+    ensures describes { A.describes placements.new (R.sheet row.now) }
+{
+    match placements.style(column) {
+        Some(style) => style,
+        None => row.styles().at(column),
+    }
+}

@@ -1,0 +1,52 @@
+//! Where the cells of a row of one line stand, known once for all rows over the same columns.
+ghost use Rattle.std.specs.Prelude.{◌≡◌, ◌<◌, IfOk, []};
+ghost use Rattle.tabled_line.specs.BlankRow.{first_offset};
+ghost use Rattle.tabled_line.specs.Slots.{AreSlots};
+ghost use Rattle.tabled_line.specs.Row.{ColumnSheet};
+
+use crate::columns::TableColumns;
+use crate::offsets::{bar_length, next_offset};
+use tabled_base::TableError;
+
+/// The byte at which a cell begins, and the columns that it takes: as many bytes, as long as it is blank.
+#[derive(Clone, Copy)]
+pub(crate) struct Slot {
+    pub place: usize,
+    pub width: usize,
+}
+
+/// Lists where the cells of a row stand, of which the first one begins at a place.
+pub(crate) fn list_slots<C: TableColumns>(
+    slots: &mut Vec<Slot>,
+    columns: &C,
+    start: usize,
+) -> Result<(), TableError>
+    requires empty { slots.old.items ≡ [] }
+    requires start { start ≡ first_offset (C.sheet columns.now) }
+    ensures { IfOk result (λ _. AreSlots (C.sheet columns.now) slots.new.items) }
+{
+    let bar = bar_length(columns.frame().inner);
+    let mut place = start;
+    'slots: for column in 0..columns.count_columns() {
+        let slot = Slot {
+            place,
+            width: columns.width(column),
+        };
+        let Some(next) = next_offset(place, slot.width, bar) else {
+            return Err(TableError::Range);
+        };
+        slots.push(slot)?;
+        place = next;
+    }
+    Ok(())
+}
+
+/// Where the first cell begins, if there is one.
+pub(crate) fn first_offset(slots: &[Slot]) -> usize
+    ensures { (columns : ColumnSheet) → AreSlots columns slots.now → 0 < columns.count → result ≡ first_offset columns }
+{
+    match slots.first() {
+        Some(slot) => slot.place,
+        None => 0,
+    }
+}

@@ -1,0 +1,20 @@
+use Rattle.std.proofs.Common.{append_assoc, refl, sym}
+use Rattle.tabled_line.specs.Fill.{indent}
+use Rattle.tabled_line.proofs.Sending.{further, finished, stopped, stopped-first}
+use Rattle.tabled_pool.specs.Colours.{coloured, mark_of}
+use Rattle.tabled_pool.proofs.block.write_text_line.Goals as goal
+
+pub returns-in_err-draw_colored_fill : goal.returns-in_err-draw_colored_fill
+returns-in_err-draw_colored_fill g c = stopped-first _ _ _ c.in_err-draw_colored_fill.ensures c.from_residual.ensures.1 refl
+
+pub returns-in_err-write_text_line : goal.returns-in_err-write_text_line
+returns-in_err-write_text_line g c =
+    let line = rw (c.without_sides.ensures, c.inner_width.ensures) at c.in_err-write_text_line.ensures in
+    stopped _ _ (coloured (mark_of c.args.colors.now.right) (indent c.args.cell.now.style.padding.right))
+    c.in_ok-draw_colored_fill.ensures line c.from_residual-in_err-write_text_line.ensures.1 refl
+
+pub returns : goal.returns
+returns g c =
+    let line = rw (c.without_sides.ensures, c.inner_width.ensures) at c.in_ok-write_text_line.ensures in
+    finished _ _ _ _ (further c.in_ok-draw_colored_fill.ensures line refl) c.draw_colored_fill-2.ensures
+    (sym (append_assoc (coloured (mark_of c.args.colors.now.left) (indent c.args.cell.now.style.padding.left)) _ _))

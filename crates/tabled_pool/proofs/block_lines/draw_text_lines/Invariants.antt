@@ -1,0 +1,10 @@
+use Rattle.std.proofs.Common.{map, take, string_bytes}
+use Rattle.tabled_line.specs.Leading.{LineSends}
+use Rattle.tabled_pool.specs.Colours.{marks_of}
+use Rattle.tabled_pool.specs.Margins.{within_margin}
+use Rattle.tabled_pool.proofs.block_lines.draw_text_lines.Given as goal
+
+abbrev pub invariant-lines : goal.invariant-lines
+invariant-lines g l =
+    LineSends (g.S.TextSink.sent l.initial.sink) l.initial.begun (g.S.TextSink.sent l.sink) l.begun
+    (map (within_margin l.margin.indent (marks_of l.margin.colors)) (take l.y (map string_bytes l.lines)))

@@ -1,0 +1,8 @@
+use Rattle.std.proofs.Common.{◌≡◌, ◌++◌, drop, map, string_bytes}
+use Rattle.std.specs.List.{flat_map}
+use Rattle.tabled_pool.specs.DrawnBlocks.{drawn_block_line, block_sheet_of}
+use Rattle.tabled_pool.proofs.drawn_blocks.joined_line.Given as goal
+
+abbrev pub invariant-loop-block : goal.invariant-loop-block
+invariant-loop-block l =
+    string_bytes l.line ++ flat_map (drawn_block_line l.y) (map block_sheet_of (drop l.block-index l.blocks)) ≡ flat_map (drawn_block_line l.y) (map block_sheet_of l.blocks)

@@ -1,0 +1,10 @@
+use Rattle.std.proofs.Common.{◌≡◌, ◌++◌, ◌-◌, drop, map, string_bytes}
+use Rattle.tabled_line.specs.Fill.{fill}
+use Rattle.tabled_pool.specs.DrawnBlocks.{block_sheet_of, widened}
+use Rattle.tabled_pool.proofs.drawn_blocks.push_widened.Given as goal
+
+abbrev pub invariant-loop-text : goal.invariant-loop-text
+invariant-loop-text l =
+    map string_bytes l.lines.items
+    ++ map (λ line. line ++ fill 32 (l.width - l.block.width)) (map string_bytes (drop l.text-index l.block.lines.items))
+    ≡ map string_bytes l.initial.lines.items ++ widened l.width (block_sheet_of l.block)

@@ -1,0 +1,9 @@
+use Rattle.std.proofs.Common.{◌≡◌, ◌++◌, drop, map, string_bytes}
+use Rattle.std.specs.List.{flat_map}
+use Rattle.tabled_pool.specs.DrawnBlocks.{block_sheet_of, widened}
+use Rattle.tabled_pool.proofs.drawn_blocks.stacked.Given as goal
+
+abbrev pub invariant-loop-block : goal.invariant-loop-block
+invariant-loop-block l =
+    map string_bytes l.lines.items ++ flat_map (widened l.width) (map block_sheet_of (drop l.block-index l.blocks))
+    ≡ flat_map (widened l.width) (map block_sheet_of l.blocks)

@@ -1,0 +1,19 @@
+-- What boxes inherit, and hand on, in memory.
+use Rattle.tabled_pool.specs.declared.inherited_text.Inherited.{Inherited}
+use Rattle.tabled_pool.specs.declared.inheriting.InheritingBox.{InheritingBox}
+use Rattle.tabled_pool.specs.declared.taking.TakenSizes.{TakenSizes}
+use Rattle.tabled_pool.specs.Inherited.{InheritedSheet, PassedOn, Taken}
+use Rattle.tabled_pool.specs.DrawnBlocks.{block_sheet_of}
+
+abbrev pub taken_of : TakenSizes → Taken
+taken_of t = record { part = t.part.items; rest = t.rest.items; met = t.met }
+
+abbrev pub inherited_of : Inherited → InheritedSheet
+inherited_of h = record { place = h.place; flags = h.flags; above = h.above.now; before = h.before.now }
+
+-- what a box inherits until it is drawn, and then hands on
+abbrev pub inheriting_box : InheritingBox → InheritedSheet
+inheriting_box b = record { place = b.place; flags = b.flags; above = b.above.items; before = b.before.items }
+
+abbrev pub passed_on : InheritingBox → PassedOn
+passed_on b = record { block = block_sheet_of b.block; above = b.above.items; before = b.before.items }

@@ -1,0 +1,212 @@
+//! The marks around the characters of lines, for their colours. Each text draws the line above it and the one to its left;
+//! at the right and bottom edge of the whole also those.
+ghost use Rattle.std.specs.Prelude.{◌≡◌, ◌==◌, ◌^◌, ◌<◌, ◌+◌, ◌-◌, map, []};
+ghost use Rattle.std.specs.Option.{option_map};
+ghost use Rattle.tabled_pool.specs.Shown.{shown};
+ghost use Rattle.tabled_pool.specs.Colours.{mark_of};
+ghost use Rattle.tabled_pool.specs.Marks.{alone, begun, ended, used_after};
+ghost use Rattle.tabled_pool.specs.Plans.{around_of, plan_of};
+ghost use Rattle.tabled_pool.specs.Around.{
+  across,
+  around_at,
+  around_part,
+  around_text,
+  beside,
+  is_last_column,
+  is_last_row,
+  main_around,
+  right_around,
+  run_side,
+  written_corner,
+};
+
+use crate::drawing::Drawing;
+use crate::kinds::is_line_kind;
+use crate::line_characters::{ends_at, has_bottom, has_top};
+use crate::marks::{LineColors, Marks, alone, begun, ended, used_after};
+use crate::pieces::{Piece, Rectangle};
+use crate::uncolored::are_uncolored_lines;
+use tabled_config::ANSIStr;
+
+/// Where a place stands by a run of places.
+#[derive(Clone, Copy, Debug, PartialEq, Eq)]
+pub(crate) enum RunSide {
+    /// The place before the first.
+    Before,
+    /// One of them.
+    Inside,
+    /// The place behind the last.
+    Behind,
+    /// Any other.
+    Outside,
+}
+
+fn run_side(start: usize, size: usize, at: usize) -> RunSide
+    requires { at < 2 ^ 64 - 1 }
+    ensures { result ≡ run_side start size at }
+{
+    if at + 1 == start {
+        return RunSide::Before;
+    }
+    if at < start {
+        return RunSide::Outside;
+    }
+    let offset = at - start;
+    if offset < size {
+        return RunSide::Inside;
+    }
+    if offset == size {
+        RunSide::Behind
+    } else {
+        RunSide::Outside
+    }
+}
+
+fn is_last_column(drawing: &Drawing<'_, '_>, place: Rectangle) -> bool
+    ensures { result ≡ is_last_column (plan_of drawing.now) place }
+{
+    drawing.borders.has_right()
+        && drawing.width > 0
+        && ends_at(place.x, place.width, drawing.width - 1)
+}
+
+fn is_last_row(drawing: &Drawing<'_, '_>, place: Rectangle) -> bool
+    ensures { result ≡ is_last_row (plan_of drawing.now) place }
+{
+    has_bottom(&drawing.borders)
+        && drawing.height > 0
+        && ends_at(place.y, place.height, drawing.height - 1)
+}
+
+/// The colour of a left corner, if it is written.
+fn written_corner(
+    drawing: &Drawing<'_, '_>,
+    corner: Option<ANSIStr<'static>>,
+) -> Option<ANSIStr<'static>>
+    ensures { option_map mark_of result ≡ written_corner (plan_of drawing.now) (option_map mark_of corner.entry) }
+{
+    if drawing.borders.has_left() {
+        corner
+    } else {
+        None
+    }
+}
+
+/// What stands around a character over a text.
+fn main_around(drawing: &Drawing<'_, '_>, line: LineColors, place: Rectangle, x: usize) -> Marks
+    requires { x < 2 ^ 64 - 1 }
+    ensures { around_of result ≡ main_around (plan_of drawing.now) (option_map mark_of line.corner)
+        (option_map mark_of line.main) place x }
+{
+    let corner = written_corner(drawing, line.corner);
+    let first = if x == place.x {
+        begun(corner, line.main)
+    } else {
+        Marks::none()
+    };
+    let behind = if is_last_column(drawing, place) {
+        ""
+    } else if ends_at(place.x, place.width, x + 1) {
+        ended(used_after(corner, line.main))
+    } else {
+        ""
+    };
+    Marks {
+        close: first.close,
+        start: first.start,
+        behind,
+    }
+}
+
+/// What stands around a character at the right end of the outer line.
+fn right_around(drawing: &Drawing<'_, '_>, line: LineColors) -> Marks
+    ensures { around_of result ≡ right_around (plan_of drawing.now) (option_map mark_of line.corner)
+        (option_map mark_of line.main) (option_map mark_of line.right) }
+{
+    let used = used_after(written_corner(drawing, line.corner), line.main);
+    let first = begun(used, line.right);
+    Marks {
+        close: first.close,
+        start: first.start,
+        behind: ended(used_after(used, line.right)),
+    }
+}
+
+/// Along the top or the bottom line of a text.
+fn across(drawing: &Drawing<'_, '_>, line: LineColors, place: Rectangle, x: usize) -> Option<Marks>
+    requires { x < 2 ^ 64 - 1 }
+    ensures { option_map around_of result ≡ across (plan_of drawing.now) (option_map mark_of line.corner)
+        (option_map mark_of line.main) (option_map mark_of line.right) place (run_side place.x place.width x) x }
+{
+    match run_side(place.x, place.width, x) {
+        RunSide::Before if drawing.borders.has_left() => Some(begun(None, line.corner)),
+        RunSide::Inside => Some(main_around(drawing, line, place, x)),
+        RunSide::Behind if is_last_column(drawing, place) => Some(right_around(drawing, line)),
+        _ => None,
+    }
+}
+
+/// Beside a text.
+fn beside(drawing: &Drawing<'_, '_>, place: Rectangle, x: usize) -> Option<Marks>
+    requires { x < 2 ^ 64 - 1 }
+    ensures { option_map around_of result ≡ beside (plan_of drawing.now) place (run_side place.x place.width x) }
+{
+    match run_side(place.x, place.width, x) {
+        RunSide::Before if drawing.borders.has_left() => Some(alone(drawing.colors.left)),
+        RunSide::Behind if is_last_column(drawing, place) => Some(alone(drawing.colors.right)),
+        _ => None,
+    }
+}
+
+/// Around a text.
+fn around_text(drawing: &Drawing<'_, '_>, place: Rectangle, x: usize, y: usize) -> Option<Marks>
+    requires across { x < 2 ^ 64 - 1 }
+    requires down { y < 2 ^ 64 - 1 }
+    ensures { option_map around_of result ≡ around_text (plan_of drawing.now) place (run_side place.y place.height y) x }
+{
+    let colors = &drawing.colors;
+    let top = LineColors {
+        corner: colors.top_left,
+        main: colors.top,
+        right: colors.top_right,
+    };
+    let bottom = LineColors {
+        corner: colors.bottom_left,
+        main: colors.bottom,
+        right: colors.bottom_right,
+    };
+    match run_side(place.y, place.height, y) {
+        RunSide::Before if has_top(&drawing.borders) => across(drawing, top, place, x),
+        RunSide::Inside => beside(drawing, place, x),
+        RunSide::Behind if is_last_row(drawing, place) => across(drawing, bottom, place, x),
+        _ => None,
+    }
+}
+
+fn around_piece(drawing: &Drawing<'_, '_>, piece: &Piece<'_>, x: usize, y: usize) -> Option<Marks>
+    requires across { x < 2 ^ 64 - 1 }
+    requires down { y < 2 ^ 64 - 1 }
+    ensures { option_map around_of result ≡ around_part (plan_of drawing.now) (shown piece.now) x y }
+{
+    if is_line_kind(piece.kind) {
+        return None;
+    }
+    around_text(drawing, piece.place, x, y)
+}
+
+/// What the text that draws a place puts around its character.
+pub(crate) fn around_at(drawing: &Drawing<'_, '_>, x: usize, y: usize) -> Marks
+    requires across { x < 2 ^ 64 - 1 }
+    requires down { y < 2 ^ 64 - 1 }
+    ensures { around_of result ≡ around_at (plan_of drawing.now) (map shown drawing.now.pieces.now) x y }
+{
+    if are_uncolored_lines(&drawing.colors) {
+        return Marks::none();
+    }
+    for piece in drawing.pieces {
+        if let Some(marks) = around_piece(drawing, piece, x, y) {
+            return marks;
+        }
+    }
+    Marks::none()
+}

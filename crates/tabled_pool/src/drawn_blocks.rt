@@ -1,0 +1,139 @@
+//! Drawn boxes that are joined, in a tree with a text of no column.
+ghost use Rattle.std.specs.Prelude.{◌≡◌, ◌≤◌, ◌^◌, ◌++◌, map, IfErr, IfOk, MatchOption, string_bytes};
+ghost use Rattle.std.specs.List.{flat_map};
+ghost use Rattle.tabled_base.specs.declared.error.TableError.TheVariants.{Memory};
+ghost use Rattle.tabled_line.specs.Fill.{fill};
+ghost use Rattle.tabled_pool.specs.DrawnBlocks.{all_columns, most_columns, most_lines, drawn_block_line, block_sheet_of, side_by_side, stacked, widened};
+
+use std::alloc::Global;
+use tabled_base::TableError;
+use tabled_line::write_fill;
+
+/// The lines of a drawn box, and the columns that each takes.
+#[derive(Drop)]
+pub struct DrawnBlock {
+    pub width: usize,
+    pub lines: Vec<String>,
+}
+
+/// Appends a run of a character.
+pub(crate) fn push_fill(line: &mut String, c: char, count: usize) -> Result<(), TableError>
+    ensures ok { IfOk result (λ _. string_bytes line.new ≡ string_bytes line.old ++ fill c count) }
+    ensures only { IfErr result (λ e. e ≡ Memory) }
+{
+    write_fill(line, c, count)
+}
+
+/// Appends a line of a box; below its last one stand spaces.
+fn push_drawn_line(line: &mut String, block: &DrawnBlock, y: usize) -> Result<(), TableError>
+    ensures ok { IfOk result (λ _. string_bytes line.new ≡ string_bytes line.old ++ drawn_block_line y (block_sheet_of block.now)) }
+    ensures only { IfErr result (λ e. e ≡ Memory) }
+{
+    if y >= block.lines.len() {
+        return push_fill(line, ' ', block.width);
+    }
+    line.push_str(block.lines[y].as_str())?;
+    Ok(())
+}
+
+/// The columns of boxes side by side, if they are in range.
+fn all_columns(blocks: &[DrawnBlock]) -> Option<usize>
+    ensures { MatchOption result (2 ^ 64 ≤ all_columns (map block_sheet_of blocks.now)) (λ n. n ≡ all_columns (map block_sheet_of blocks.now)) }
+{
+    let mut columns: usize = 0;
+    for block in blocks {
+        columns = columns.checked_add(block.width)?;
+    }
+    Some(columns)
+}
+
+/// The columns of the widest box.
+fn most_columns(blocks: &[DrawnBlock]) -> usize
+    ensures { result ≡ most_columns (map block_sheet_of blocks.now) }
+{
+    let mut columns = 0;
+    for block in blocks {
+        columns = block.width.max(columns);
+    }
+    columns
+}
+
+/// The lines of the tallest box.
+fn most_lines(blocks: &[DrawnBlock]) -> usize
+    ensures { result ≡ most_lines (map block_sheet_of blocks.now) }
+{
+    let mut lines = 0;
+    for block in blocks {
+        lines = block.lines.len().max(lines);
+    }
+    lines
+}
+
+/// A line of boxes side by side.
+fn joined_line(alloc: Global, blocks: &[DrawnBlock], y: usize) -> Result<String, TableError>
+    ensures ok { IfOk result (λ line. string_bytes line ≡ flat_map (drawn_block_line y) (map block_sheet_of blocks.now)) }
+    ensures only { IfErr result (λ e. e ≡ Memory) }
+{
+    let mut line = String::new(alloc);
+    for block in blocks {
+        push_drawn_line(&mut line, block, y)?;
+    }
+    Ok(line)
+}
+
+/// Boxes side by side. A line of more columns than a `usize` says has no memory.
+pub(crate) fn side_by_side(alloc: Global, blocks: &[DrawnBlock]) -> Result<DrawnBlock, TableError>
+    ensures ok { IfOk result (λ joined. block_sheet_of joined ≡ side_by_side (map block_sheet_of blocks.now)) }
+    ensures only { IfErr result (λ e. e ≡ Memory) }
+{
+    let Some(width) = all_columns(blocks) else {
+        return Err(TableError::Memory);
+    };
+    let mut lines = Vec::new(alloc);
+    for y in 0..most_lines(blocks) {
+        lines.push(joined_line(alloc, blocks, y)?)?;
+    }
+    Ok(DrawnBlock { width, lines })
+}
+
+/// A line, and spaces behind it.
+fn widened_line(alloc: Global, text: &str, spaces: usize) -> Result<String, TableError>
+    ensures ok { IfOk result (λ line. string_bytes line ≡ text.now ++ fill 32 spaces) }
+    ensures only { IfErr result (λ e. e ≡ Memory) }
+{
+    let mut line = String::from_str(alloc, text)?;
+    push_fill(&mut line, ' ', spaces)?;
+    Ok(line)
+}
+
+/// Adds the lines of a box, filled with spaces to so many columns.
+fn push_widened(
+    alloc: Global,
+    lines: &mut Vec<String>,
+    block: &DrawnBlock,
+    width: usize,
+) -> Result<(), TableError>
+    ensures ok { IfOk result (λ _. map string_bytes lines.new.items
+        ≡ map string_bytes lines.old.items ++ widened width (block_sheet_of block.now)) }
+    ensures only { IfErr result (λ e. e ≡ Memory) }
+{
+    let spaces = width.saturating_sub(block.width);
+    let texts = block.lines.as_slice();
+    for text in texts {
+        lines.push(widened_line(alloc, text.as_str(), spaces)?)?;
+    }
+    Ok(())
+}
+
+/// Boxes one below the other.
+pub(crate) fn stacked(alloc: Global, blocks: &[DrawnBlock]) -> Result<DrawnBlock, TableError>
+    ensures ok { IfOk result (λ joined. block_sheet_of joined ≡ stacked (map block_sheet_of blocks.now)) }
+    ensures only { IfErr result (λ e. e ≡ Memory) }
+{
+    let width = most_columns(blocks);
+    let mut lines = Vec::new(alloc);
+    for block in blocks {
+        push_widened(alloc, &mut lines, block, width)?;
+    }
+    Ok(DrawnBlock { width, lines })
+}

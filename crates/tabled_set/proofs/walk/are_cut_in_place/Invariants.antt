@@ -1,0 +1,11 @@
+use Rattle.std.proofs.Common.{◌&&◌}
+use Rattle.tabled_entity.specs.Changes.{covers}
+use Rattle.tabled_set.specs.CellChanges.{precedes}
+use Rattle.tabled_set.specs.Walking.{AreCutInPlace}
+use Rattle.tabled_set.specs.declared.walk_order.WalkOrder.TheVariants.{ByRow}
+use Rattle.tabled_set.proofs.walk.are_cut_in_place.Given as goal
+
+abbrev pub invariant-rows : goal.invariant-rows
+invariant-rows g l =
+    AreCutInPlace (λ r c. covers l.fn.entity r c && precedes ByRow l.row 0 r c) l.by.cell_filter
+    (g.T.TextTransform.shortens l.by.transform.now) (g.M.ContentSizes.content_size_at l.by.content_sizes.now) (g.R.ExactRecords.cells l.records)

@@ -1,0 +1,33 @@
+//! The order in which cells are visited.
+ghost use Rattle.std.specs.Prelude.{◌≡◌};
+ghost use Rattle.tabled_set.specs.CellChanges.{line_of, place_of};
+
+use tabled_base::Position;
+
+/// The order in which cells are changed, and so where a refusal stops.
+#[derive(Clone, Copy, Debug)]
+pub enum WalkOrder {
+    /// Row by row, each from the left.
+    ByRow,
+    /// Column by column, each from the top.
+    ByColumn,
+}
+
+impl WalkOrder {
+    /// The cell at a place of a line, a row or a column.
+    pub(crate) fn cell(self, line: usize, place: usize) -> Position
+        ensures line { line_of self result.row result.column ≡ line }
+        ensures place { place_of self result.row result.column ≡ place }
+    {
+        match self {
+            WalkOrder::ByRow => Position {
+                row: line,
+                column: place,
+            },
+            WalkOrder::ByColumn => Position {
+                row: place,
+                column: line,
+            },
+        }
+    }
+}

@@ -1,0 +1,12 @@
+use Rattle.std.proofs.Common.{refl, arith}
+use Rattle.tabled_size.proofs.Reaching.{missing_at, reached_so}
+use Rattle.tabled_size.proofs.effective.check_heights.Goals as goal
+
+pub returns-then-not-has_height-clause-err : goal.returns-then-not-has_height-clause-err
+returns-then-not-has_height-clause-err g c =
+    (refl, missing_at (g.D.Dimension.height_at c.args.sizes.now) c.args.rows c.rows.row (omega arith) cc)
+
+pub returns-clause-ok : goal.returns-clause-ok
+returns-clause-ok g c =
+    reached_so (g.D.Dimension.height_at c.args.sizes.now) c.args.rows c.args.rows (omega arith)
+    (λ i lt. c.rows.invariant i (omega arith))

@@ -1,0 +1,22 @@
+use Rattle.std.proofs.Common.{◌<◌, ◌≤◌, is_some, ap, ◌∙◌, refl, arith, ⊎_elim}
+use Rattle.std.proofs.lemmas.Bool.{cases_lt}
+use Rattle.tabled_size.proofs.Reaching.{missing_at, reached_so}
+use Rattle.tabled_size.proofs.effective.check_widths.Goals as goal
+
+pub returns-then-not-has_width-clause-err : goal.returns-then-not-has_width-clause-err
+returns-then-not-has_width-clause-err g c =
+    let asked = c.count_asked-column-end.ensures.within in
+    (refl, missing_at (g.D.Dimension.width_at c.args.sizes.now) c.args.columns c.columns.column (omega (arith, asked, c.columns-test.true)) cc)
+
+pub returns-clause-ok : goal.returns-clause-ok
+returns-clause-ok g c =
+    let n = c.count_asked-column-end.result in
+    reached_so (g.D.Dimension.width_at c.args.sizes.now) c.args.columns c.args.columns (omega arith)
+    (λ i lt.
+    ⊎_elim
+    (λ (l : i < n). c.columns.invariant i (omega arith))
+    (λ (l : n ≤ i).
+    let asked = c.count_asked-column-end.ensures.rest i l lt in
+    let within : asked.0 < n = asked.1 in
+    ap is_some asked.2 ∙ c.columns.invariant asked.0 (omega (arith, within)))
+    (cases_lt i n))

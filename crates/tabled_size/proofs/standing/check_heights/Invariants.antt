@@ -1,5 +1,0 @@
-use Rattle.std.proofs.Common.{◌≡◌, ◌<◌, ℕ, is_some, true}
-use Rattle.tabled_size.proofs.standing.check_heights.Given as goal
-
-abbrev pub invariant-rows : goal.invariant-rows
-invariant-rows g l = (i : ℕ) → i < l.row → is_some (g.D.Dimension.height_at l.sizes i) ≡ true

@@ -1,0 +1,175 @@
+//! The totals of a table with the sizes that stand: those that are stored, and else estimated ones.
+ghost use Rattle.std.specs.Prelude.{◌≡◌, ◌⊎◌, ◌<◌, ◌≤◌, ℕ, IfErr, None, Ok, OnOk, false, length, true};
+ghost use Rattle.tabled_base.specs.Cells.{IsRectangular, columns};
+ghost use Rattle.tabled_base.specs.declared.error.TableError.TheVariants.{Memory, Range, ShortHeights, ShortWidths};
+ghost use Rattle.tabled_size.specs.Estimates.{estimated_heights, estimated_widths};
+ghost use Rattle.tabled_size.specs.Reached.{reached};
+ghost use Rattle.tabled_size.specs.Sheet.{is_empty};
+ghost use Rattle.tabled_size.specs.Effective.{effective};
+ghost use Rattle.tabled_size.specs.EffectiveTotals.{AnswersHeight, AnswersWidth};
+ghost use Rattle.tabled_size.specs.Stored.{heights_of, widths_of};
+
+use crate::complete_dimension::CompleteDimension;
+use crate::dimension::Dimension;
+use crate::estimate::{estimate_heights, estimate_widths};
+use crate::total::{filled_height, filled_width};
+use std::alloc::Global;
+use tabled_base::{ExactRecords, PeekableRecords, TableError};
+use tabled_config::SpannedConfig;
+
+/// Whether there is no row or no column.
+pub fn is_empty<R: ExactRecords>(records: &R) -> bool
+    ensures value { result ≡ is_empty (R.cells records.now) }
+    ensures rectangular { IsRectangular (R.cells records.now) }
+{
+    let columns = records.count_columns();
+    records.count_rows() == 0 || columns == 0
+}
+
+/// How many of so many columns are asked for their widths: each other one is as one of these.
+fn count_asked<D: Dimension>(sizes: &D, columns: usize) -> usize
+    ensures within { result ≤ columns }
+    ensures rest { (column : ℕ) → result ≤ column → column < columns
+        → (asked : ℕ) × (asked < result) × (D.width_at sizes.now column ≡ D.width_at sizes.now asked) }
+{
+    match sizes.alike_from() {
+        Some(from) if from < columns => from + 1,
+        _ => columns,
+    }
+}
+
+/// Whether the widths of so many columns are there. Refused with `ShortWidths` where one isn't.
+pub fn check_widths<D: Dimension>(sizes: &D, columns: usize) -> Result<(), TableError>
+    ensures ok { OnOk result (columns ≤ length (reached (D.width_at sizes.now) columns)) }
+    ensures err { IfErr result (λ e. (e ≡ ShortWidths)
+        × (length (reached (D.width_at sizes.now) columns) < columns)) }
+{
+    'columns: for column in 0..count_asked(sizes, columns) {
+        if !sizes.has_width(column) {
+            return Err(TableError::ShortWidths);
+        }
+    }
+    Ok(())
+}
+
+/// Whether the heights of so many rows are there. Refused with `ShortHeights` where one isn't.
+pub fn check_heights<D: Dimension>(sizes: &D, rows: usize) -> Result<(), TableError>
+    ensures ok { OnOk result (rows ≤ length (reached (D.height_at sizes.now) rows)) }
+    ensures err { IfErr result (λ e. (e ≡ ShortHeights)
+        × (length (reached (D.height_at sizes.now) rows) < rows)) }
+{
+    'rows: for row in 0..rows {
+        if !sizes.has_height(row) {
+            return Err(TableError::ShortHeights);
+        }
+    }
+    Ok(())
+}
+
+/// The columns of a table with some columns whose widths may be there.
+fn reached_width<D: Dimension>(
+    config: &SpannedConfig,
+    columns: usize,
+    sizes: &D,
+) -> Result<usize, TableError>
+    ensures answers { AnswersWidth config.now columns (reached (D.width_at sizes.now) columns) result }
+    ensures only { IfErr result (λ e. (e ≡ ShortWidths) ⊎ (e ≡ Range)) }
+{
+    check_widths(sizes, columns)?;
+    match filled_width(config, columns, sizes) {
+        Some(total) => Ok(total),
+        None => Err(TableError::Range),
+    }
+}
+
+/// The lines of a table with some rows whose heights may be there.
+fn reached_height<D: Dimension>(
+    config: &SpannedConfig,
+    rows: usize,
+    sizes: &D,
+) -> Result<usize, TableError>
+    ensures answers { AnswersHeight config.now rows (reached (D.height_at sizes.now) rows) result }
+    ensures only { IfErr result (λ e. (e ≡ ShortHeights) ⊎ (e ≡ Range)) }
+{
+    check_heights(sizes, rows)?;
+    match filled_height(config, rows, sizes) {
+        Some(total) => Ok(total),
+        None => Err(TableError::Range),
+    }
+}
+
+/// The columns of a table with some columns whose widths are estimated.
+fn estimated_width<R: PeekableRecords>(
+    alloc: Global,
+    records: &R,
+    config: &SpannedConfig,
+) -> Result<usize, TableError>
+    ensures { AnswersWidth config.now (columns (R.cells records.now))
+        (estimated_widths (R.cells records.now) config.now) result }
+{
+    let widths = estimate_widths(alloc, records, config)?;
+    let mut sizes = CompleteDimension::new(alloc);
+    sizes.set_widths(widths);
+    reached_width(config, records.count_columns(), &sizes)
+}
+
+/// The lines of a table with some rows whose heights are estimated.
+fn estimated_height<R: PeekableRecords>(
+    alloc: Global,
+    records: &R,
+    config: &SpannedConfig,
+) -> Result<usize, TableError>
+    ensures { AnswersHeight config.now (length (R.cells records.now))
+        (estimated_heights (R.cells records.now) config.now) result }
+{
+    let heights = estimate_heights(alloc, records, config)?;
+    let mut sizes = CompleteDimension::new(alloc);
+    sizes.set_heights(heights);
+    reached_height(config, records.count_rows(), &sizes)
+}
+
+/// The columns of the whole table: 0 where it has no row or no column, else the widths that stand, the
+/// vertical lines and the side margins. Refused for memory where no widths are stored, with `ShortWidths` where a list is stored that
+/// is shorter than the table, and with `Range` where the sum passes the greatest `usize`.
+pub fn total_width<R: PeekableRecords>(
+    records: &R,
+    config: &SpannedConfig,
+    stored: &CompleteDimension,
+) -> Result<usize, TableError>
+    ensures empty { is_empty (R.cells records.now) ≡ true → result ≡ Ok 0 }
+    ensures filled { is_empty (R.cells records.now) ≡ false → AnswersWidth config.now
+        (columns (R.cells records.now)) (effective (R.cells records.now) config.now stored.now).widths result }
+    ensures memory { IfErr result (λ e. e ≡ Memory → widths_of stored.now ≡ None) }
+    ensures rectangular { IsRectangular (R.cells records.now) }
+{
+    if is_empty(records) {
+        return Ok(0);
+    }
+    match stored.get_widths() {
+        Some(_) => reached_width(config, records.count_columns(), stored),
+        None => estimated_width(stored.allocator(), records, config),
+    }
+}
+
+/// The lines of the whole table: 0 where it has no row or no column, else the heights that stand, the
+/// horizontal lines, top and bottom margin. Refused for memory where no heights are stored, with `ShortHeights` where a list is stored
+/// that is shorter than the table, and with `Range` where the sum passes the greatest `usize`.
+pub fn total_height<R: PeekableRecords>(
+    records: &R,
+    config: &SpannedConfig,
+    stored: &CompleteDimension,
+) -> Result<usize, TableError>
+    ensures empty { is_empty (R.cells records.now) ≡ true → result ≡ Ok 0 }
+    ensures filled { is_empty (R.cells records.now) ≡ false → AnswersHeight config.now
+        (length (R.cells records.now)) (effective (R.cells records.now) config.now stored.now).heights result }
+    ensures memory { IfErr result (λ e. e ≡ Memory → heights_of stored.now ≡ None) }
+    ensures rectangular { IsRectangular (R.cells records.now) }
+{
+    if is_empty(records) {
+        return Ok(0);
+    }
+    match stored.get_heights() {
+        Some(_) => reached_height(config, records.count_rows(), stored),
+        None => estimated_height(stored.allocator(), records, config),
+    }
+}

@@ -1,0 +1,15 @@
+use Rattle.std.proofs.Common.{length, chars, encode_utf8_all}
+use denote.Shadow.{shadow}
+use denote.Text.{Utf8}
+use Rattle.tabled_text.specs.Units.{units_of_words, words_of}
+use Rattle.tabled_text.specs.Walk.{append_all}
+use Rattle.tabled_text.proofs.wrap.append_words.Given as goal
+
+abbrev pub invariant-words : goal.invariant-words
+invariant-words g l =
+    ((t : _) → g.S.Sink.adds l.out (encode_utf8_all (append_all l.n l.column (units_of_words l.n (words_of (chars l.rest))))) t
+    → g.S.Sink.adds l.fn.out (encode_utf8_all (append_all l.n 0 (units_of_words l.n (words_of (chars l.line))))) t)
+    × shadow (Utf8 l.rest)
+
+abbrev pub decreases-words : goal.decreases-words
+decreases-words g l = length l.rest
