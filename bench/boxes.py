@@ -34,7 +34,7 @@ use std::{env, io};
 use tabled_base::TableError;
 use tabled_extended::ExtendedTable;
 use tabled_pool::{PoolTable, TableValue};
-use tabled_row::IoSink;
+use tabled_line::IoSink;
 
 const FIELDS: [&str; 10] = [
     "name", "year", "place", "kind", "colour", "weight", "owner", "since", "rank", "note",
@@ -170,7 +170,7 @@ def measure(program, kind, count):
 
 def main():
     crates = building.standing_on("tabled_pool", "tabled_extended")
-    used = ("tabled_base", "tabled_row", "tabled_pool", "tabled_extended")
+    used = ("tabled_base", "tabled_line", "tabled_pool", "tabled_extended")
     with building.program(__doc__, "box_times", crates, {"src/main.rt": PROGRAM}, used) as program:
         for kind, counts in TABLES.items():
             for count in counts:

@@ -55,7 +55,7 @@ ALIKE = {
 }
 
 # The crates that the program names.
-USED = ("tabled_grid", "tabled_size", "tabled_config", "tabled_border", "tabled_base")
+USED = ("tabled_grid", "tabled_size", "tabled_config", "tabled_base")
 
 PROGRAM = """\
 //! Times the printing of tables.
