@@ -1,6 +1,6 @@
 -- Bytes that wait behind a writer.
 use Rattle.std.proofs.Common.{◌≡◌, ℕ, ◌+◌, ◌≤◌, List, [], ◌++◌, length, take, drop, Option, Some, None, sym, ap, ◌∙◌, append-nil, append_assoc, arith}
-use Rattle.std.specs.Io.KnownBytes.{Appends, IsCacheOf, append_known}
+use Rattle.std.specs.Io.KnownBytes.{Appends, Keeps, append_known}
 use Rattle.std.proofs.lemmas.List.{drop-append-le, length-take-le, take-append-drop, take-take}
 use Rattle.std.proofs.Math.Seq.{take-append-add, take-append_seam}
 
@@ -14,7 +14,7 @@ handed_over (Some xs) (Some ys) waiting n h =
     ∙ ap (λ u. xs ++ u) (take-append-drop n waiting) ∙ sym (append-nil (xs ++ waiting))
 
 -- it took none
-pub kept_waiting : (a b : Option (List ℕ)) (waiting : List ℕ) → IsCacheOf a b → Appends (append_known a waiting) (append_known b waiting) []
+pub kept_waiting : (a b : Option (List ℕ)) (waiting : List ℕ) → Keeps a b → Appends (append_known a waiting) (append_known b waiting) []
 kept_waiting None b waiting h = tt
 kept_waiting (Some xs) None waiting h = h
 kept_waiting (Some xs) (Some ys) waiting h = ap (λ u. u ++ waiting) h ∙ sym (append-nil (xs ++ waiting))

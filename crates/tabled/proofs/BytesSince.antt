@@ -2,18 +2,18 @@
 use Rattle.std.proofs.Common.{◌≡◌, ℕ, ◌≤◌, ◌==◌, ◌&&◌, if◌then◌else◌, Bool, true, false, List, [], ◌∷◌, ◌++◌, take, drop, Option, Some, None, Result, Ok, Err, IfSome, MatchResult, OnOk, refl, sym, ap, subst, ◌∙◌, append-nil, append_assoc, arith, inl, inr, ⊎_elim}
 use Rattle.std.proofs.lemmas.Bool.Decides.{nat_tests}
 use Rattle.std.proofs.lemmas.List.{append_cancel_left}
-use Rattle.std.specs.Io.KnownBytes.{Appends, IsCacheOf, append_known}
+use Rattle.std.specs.Io.KnownBytes.{Appends, Keeps, append_known}
 use Rattle.std.specs.Result.{IsErrAnd}
 use Rattle.tabled_base.specs.declared.error.TableError.{TableError}
 use Rattle.tabled_base.specs.declared.error.TableError.TheVariants.{Writer}
 use Rattle.tabled_line.specs.Sent.{IsCause, Rose, Sent, Sends, Stops, Writes}
-use Rattle.tabled_line.proofs.Sending.{Appends-nil, Appends-then, IsCacheOf-same}
+use Rattle.tabled_line.proofs.Sending.{Appends-nil, Appends-then, Keeps-same}
 use Rattle.tabled.proofs.Blocks.{delivered, handed_over, kept_waiting}
 use Rattle.tabled.specs.BlockSent.{Advances, Block, begins, block_sent, sent_since, since}
 use Rattle.tabled.specs.Output.{Begins, Puts}
 
 pub advances_none : (a : Block) → Advances a a
-advances_none a = record { same = refl; more = []; added = Appends-nil a.contents a.contents (IsCacheOf-same a.contents) }
+advances_none a = record { same = refl; more = []; added = Appends-nil a.contents a.contents (Keeps-same a.contents) }
 
 pub advances_then : (a b c : Block) → Advances a b → Advances b c → Advances a c
 advances_then a b c p q = record {
@@ -186,7 +186,7 @@ begun (Some xs) (Some ys) wa wb text front rest more e p h w =
 -- ---- a writer that fails
 
 -- a write that took no bytes
-pub took_none : (a b : Option (List ℕ)) (n : ℕ) (buffer : List ℕ) → n ≤ 0 → Appends a b (take n buffer) → IsCacheOf a b
+pub took_none : (a b : Option (List ℕ)) (n : ℕ) (buffer : List ℕ) → n ≤ 0 → Appends a b (take n buffer) → Keeps a b
 took_none None b n buffer h p = tt
 took_none (Some xs) None n buffer h p = absurd p
 took_none (Some xs) (Some ys) n buffer h p =
@@ -194,7 +194,7 @@ took_none (Some xs) (Some ys) n buffer h p =
 
 -- a writer failed that had taken what was handed to it before
 pub failed : (a : Sent) (cb cc : Option (List ℕ)) (w : List ℕ) (f : ℕ) (d : Sent) (e : TableError)
-    → Sends a (record { bytes = append_known cb w; failures = f; grows = true }) [] → IsCacheOf cb cc
+    → Sends a (record { bytes = append_known cb w; failures = f; grows = true }) [] → Keeps cb cc
     → d.bytes ≡ append_known cc w → Rose f d.failures → e ≡ Writer → Stops a e d []
 failed a cb cc w f d e p keeps same rose is =
     let P : Option (List ℕ) → Type 0 = λ u. Appends (append_known cb w) u [] in
@@ -233,7 +233,7 @@ puts_begun old new (Ok x) e text h b = absurd h
 puts_begun old new (Err d) e text h b = b
 
 pub begun_none : (c : Option (List ℕ)) (text : List ℕ) → Begins c c text
-begun_none c text = record { front = []; rest = text; whole = refl; added = Appends-nil c c (IsCacheOf-same c) }
+begun_none c text = record { front = []; rest = text; whole = refl; added = Appends-nil c c (Keeps-same c) }
 
 -- ---- the writer in the end, whose reference is known by its name
 

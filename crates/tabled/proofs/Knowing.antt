@@ -1,6 +1,6 @@
 -- Lines that a writer is handed.
 use Rattle.std.proofs.Common.{◌≡◌, ℕ, List, [], ◌++◌, take, drop, Option, Result, Ok, Err, sym, ap, subst, ◌∙◌, append-nil, append_assoc, take-append-drop}
-use Rattle.std.specs.Io.KnownBytes.{Appends, IsCacheOf}
+use Rattle.std.specs.Io.KnownBytes.{Appends, Keeps}
 use Rattle.tabled_line.proofs.Sending.{Appends-nil, Appends-then}
 use Rattle.tabled.specs.Output.{Begins, Handed, Puts}
 
@@ -13,7 +13,7 @@ handed_more a b c text rest next n h took e = record {
 }
 
 -- a writer that took nothing more
-pub handed_part : (a b c : Option (List ℕ)) (text rest : List ℕ) → Handed a b text rest → IsCacheOf b c → Begins a c text
+pub handed_part : (a b c : Option (List ℕ)) (text rest : List ℕ) → Handed a b text rest → Keeps b c → Begins a c text
 handed_part a b c text rest h keeps = record {
   front = h.front;
   rest = rest;

@@ -164,7 +164,7 @@ module _ (cells : Cells) (full : is_empty cells ≡ false) (rectangular : IsRect
     streamed_planned t s =
         let e = new_spanned_is c n in
         record {
-          config = s.arguments_of ∙ e;
+          config = s.settings_of ∙ e;
           widths = s.widths ∙ widths-same measured c ∙ ap (estimated_widths cells) e;
           cells = cells_cut t s;
           heights = heights-same measured c t.heights s.as_high s.heights ∙ ap (estimated_heights cells) e;
@@ -186,7 +186,7 @@ module _ (cells : Cells) (full : is_empty cells ≡ false) (rectangular : IsRect
     streamed_best : (t : Sheet) → IsStreamed (all_ahead cells) c cells cells t → IsBestPlanned Streamed cells t
     streamed_best t s =
         let e = new_spanned_is c n in
-        let apart = subst (λ g. IsApartConfig g (length t.cells) (columns t.cells)) (sym (s.arguments_of ∙ e)) (new_apart (length t.cells) (columns t.cells)) in
+        let apart = subst (λ g. IsApartConfig g (length t.cells) (columns t.cells)) (sym (s.settings_of ∙ e)) (new_apart (length t.cells) (columns t.cells)) in
         record {
           edges = sheet_texts t (streamed_rectangular s) apart (streamed_texts s) (streamed_holds s);
           lines = sheet_lines t;

@@ -1,4 +1,4 @@
--- Which words of the program spell which plan. A word is the list of its bytes.
+-- Which arguments of the program make which plan. An argument is the list of its bytes.
 use Rattle.std.specs.Prelude.{◌≡◌, ◌≢◌, ◌<◌, ◌^◌, ◌↔◌, ◌⊎◌, ℕ, List, [], ◌∷◌, ◌++◌, IsTrue, codes}
 use Rattle.std.specs.List.{All, AllPairs, Contains}
 use Rattle.std.specs.Char.{IsAsciiDigit}
@@ -10,14 +10,14 @@ use Rattle.tabled.specs.declared.plan.Plan.TheVariants.{Buffered, Streamed, Wrap
 use Rattle.tabled.specs.declared.arguments.Argument.{Argument}
 use Rattle.tabled.specs.declared.arguments.Argument.TheVariants.{Wrap, Cut, Priority, Words, Stream}
 
--- the word is decimal digits alone, one at least, and their number is below 2^64
+-- the word is one or more decimal digits, and their number is below 2^64
 pub record IsNumber (word : List ℕ) (number : ℕ) : Type 0 where
   pub digits : All IsAsciiDigit word
   pub some : word ≢ []
   pub value : digits_value 10 word ≡ number
   pub fits : number < 2 ^ 64
 
--- the word for an order
+-- the name of an order
 abbrev pub order_word : Order → List ℕ
 order_word Round = codes "none"
 order_word Least = codes "min"
@@ -25,7 +25,7 @@ order_word Greatest = codes "max"
 order_word Leftmost = codes "left"
 order_word Rightmost = codes "right"
 
--- the word that names a setting
+-- the name of a setting
 abbrev pub name_of : Argument → List ℕ
 name_of (Wrap target) = codes "--wrap"
 name_of (Cut target) = codes "--cut"
@@ -33,7 +33,7 @@ name_of (Priority order) = codes "--priority"
 name_of Words = codes "--words"
 name_of Stream = codes "--stream"
 
--- the words that a setting wants behind its name: a number, an order, or none
+-- the arguments after the name of a setting: a number, an order, or none
 abbrev pub HasValues : Argument → List (List ℕ) → Type 0
 HasValues (Wrap target) values = (word : List ℕ) × (values ≡ word ∷ []) × IsNumber word target
 HasValues (Cut target) values = (word : List ℕ) × (values ≡ word ∷ []) × IsNumber word target
@@ -41,20 +41,20 @@ HasValues (Priority order) values = values ≡ order_word order ∷ []
 HasValues Words values = values ≡ []
 HasValues Stream values = values ≡ []
 
--- the words are the setting's name, its values, and then the rest
+-- the arguments are the name and the values of the setting, and then the rest
 abbrev pub Begins : List (List ℕ) → Argument → List (List ℕ) → Type 0
 Begins words setting rest = (values : List (List ℕ)) × (words ≡ (name_of setting ∷ values) ++ rest) × HasValues setting values
 
--- the words are those of the settings, one after the other
+-- the arguments are those of the settings, one after another
 abbrev pub Spells : List (List ℕ) → List Argument → Type 0
 Spells words [] = words ≡ []
 Spells words (setting ∷ settings) = (rest : List (List ℕ)) × Begins words setting rest × Spells rest settings
 
--- no name stands twice
+-- each name is given at most once
 abbrev pub IsOnce : List Argument → Type 0
 IsOnce settings = AllPairs (λ one other. name_of one ≢ name_of other) settings
 
--- What is told of settings by which of them are given
+-- What the given settings mean
 module _ (Given : Argument → Type 0) where
   -- `--wrap` is given, with some number
   abbrev pub IsWrapping : Type 0
@@ -68,14 +68,15 @@ module _ (Given : Argument → Type 0) where
   abbrev pub HasPriority : Type 0
   HasPriority = (order : Order) × Given (Priority order)
 
-  -- the settings go together: `--wrap` or `--cut`, `--words` for the first alone, `--priority` for either, and `--stream` for neither
+  -- the settings go together: not both `--wrap` and `--cut`, `--words` only with `--wrap`,
+  -- `--priority` only with one of them, and `--stream` with neither
   pub record GoTogether : Type 0 where
     pub one_target : ¬ (IsWrapping × IsCutting)
     pub words_to_wrap : Given Words → IsWrapping
     pub order_for_target : HasPriority → IsWrapping ⊎ IsCutting
     pub stream_alone : Given Stream → ¬ (IsWrapping ⊎ IsCutting)
 
-  -- the order is the one that is given, and `none` without a priority
+  -- the given order, or `none` without a priority
   abbrev pub IsOrder : Order → Type 0
   IsOrder order = Given (Priority order) ⊎ (¬ HasPriority × (order ≡ Round))
 
@@ -86,7 +87,7 @@ module _ (Given : Argument → Type 0) where
   Makes (Wrapped target words order) = Given (Wrap target) × (IsTrue words ↔ Given Words) × IsOrder order
   Makes (Shortened target order) = Given (Cut target) × IsOrder order
 
--- the words spell settings that are given once, go together, and make the plan
+-- the arguments give settings, each once, that go together and make the plan
 pub record SpellsPlan (words : List (List ℕ)) (plan : Plan) : Type 0 where
   pub settings : List Argument
   pub spelled : Spells words settings

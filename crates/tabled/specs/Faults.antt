@@ -1,4 +1,4 @@
--- The fault of the program for each refusal, and the line that tells it. A word and a line are lists of bytes.
+-- The fault for each error, and its message. A word and a line are lists of bytes.
 use Rattle.std.specs.Prelude.{ℕ, List, [], ◌∷◌, ◌++◌, codes}
 use Rattle.tabled_base.specs.declared.error.TableError.{TableError}
 use Rattle.tabled_base.specs.declared.error.TableError.TheVariants.{Memory, ShortWidths, ShortHeights, Narrow, Range, Writer}
@@ -14,11 +14,11 @@ fault_of (Narrow row column) = fault.Narrow
 fault_of Range = fault.Range
 fault_of Writer = fault.Writer
 
--- what is told where the words aren't the program's
+-- the message for wrong arguments
 abbrev pub usage : List ℕ
 usage = codes "usage: tabprint [--wrap N | --cut N] [--priority none|min|max|left|right] [--words] [--stream]"
 
--- the word of each fault, which is its name, or the usage
+-- the message of each fault: its name, or the usage
 abbrev pub word_of : Fault → List ℕ
 word_of fault.Usage = usage
 word_of fault.Input = codes "Input"
@@ -29,6 +29,6 @@ word_of fault.Narrow = codes "Narrow"
 word_of fault.Range = codes "Range"
 word_of fault.Writer = codes "Writer"
 
--- a word on a line of its own
+-- a word and a line feed
 abbrev pub line_of : List ℕ → List ℕ
 line_of word = word ++ 10 ∷ []

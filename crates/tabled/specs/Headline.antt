@@ -1,4 +1,4 @@
--- What holds of the table that a plan makes of the cells of a text, each sentence by a name of its own.
+-- Properties of the table that a plan makes, each under its own name.
 use Rattle.std.specs.Prelude.{◌≡◌, ◌<◌, ℕ, false, ⊤, length}
 use Rattle.std.specs.List.{All}
 use Rattle.tabled_text.specs.Exact.{IsExactLine}
@@ -17,15 +17,15 @@ use Rattle.tabled.specs.declared.plan.Plan.{Plan}
 use Rattle.tabled.specs.declared.plan.Plan.TheVariants.{Buffered, Streamed, Wrapped, Shortened}
 use Rattle.tabled.specs.Planned.{Cells}
 
--- a wider table that is wrapped or shortened to n takes n columns, or those of the empty table where these are more, and
--- its columns hold its cells
+-- a wider table that is wrapped or truncated to n takes n columns, or as many as the empty table if
+-- that is more, and its columns hold its cells
 abbrev pub HasWantedTotal : Plan → Sheet → Sheet → Type 0
 HasWantedTotal Buffered old new = ⊤
 HasWantedTotal Streamed old new = ⊤
 HasWantedTotal (Wrapped n words order) old new = n < total_width old → HasExactTotal n old new
 HasWantedTotal (Shortened n order) old new = n < total_width old → HasExactTotal n old new
 
--- where the greatest columns shrink first, no permitted widths of the same sum have a lesser greatest one
+-- if the widest columns shrink first, no permitted widths with the same sum have a smaller maximum
 abbrev pub IsLeastBy : Order → Sheet → Sheet → Type 0
 IsLeastBy Round old new = ⊤
 IsLeastBy Least old new = ⊤
@@ -39,34 +39,35 @@ HasLeastGreatestWidth Streamed old new = ⊤
 HasLeastGreatestWidth (Wrapped n words order) old new = n < total_width old → IsLeastBy order old new
 HasLeastGreatestWidth (Shortened n order) old new = n < total_width old → IsLeastBy order old new
 
--- a wrapped cell has the fewest lines of all breakings for its room, and without the breaks put in it is the old text
+-- a wrapped cell has the fewest lines possible for its content width, and without the inserted
+-- breaks it is the old text
 abbrev pub HasFewestBreaks : Plan → Sheet → Sheet → Type 0
 HasFewestBreaks Buffered old new = ⊤
 HasFewestBreaks Streamed old new = ⊤
 HasFewestBreaks (Wrapped n words order) old new = n < total_width old → IsBestWrapped words old new
 HasFewestBreaks (Shortened n order) old new = ⊤
 
--- a cut cell of one line, whose characters count as its columns, is the longest beginning that fits, with U+FFFD in the column
--- that a cut character leaves
+-- a cut cell of one exact line (its columns are the sum of its characters') is the longest
+-- beginning that fits, with U+FFFD in the column that a wide character leaves
 abbrev pub HasLongestBeginnings : Plan → Sheet → Sheet → Type 0
 HasLongestBeginnings Buffered old new = ⊤
 HasLongestBeginnings Streamed old new = ⊤
 HasLongestBeginnings (Wrapped n words order) old new = ⊤
 HasLongestBeginnings (Shortened n order) old new = n < total_width old → IsBestCut false old new
 
--- streamed cells that are lines whose characters count as their columns give the table that is measured whole
+-- if all streamed cells are exact lines, the streamed table is the buffered one
 abbrev pub IsAsBuffered : Plan → Sheet → Sheet → Type 0
 IsAsBuffered Buffered old new = ⊤
 IsAsBuffered Streamed old new = All (All IsExactLine) old.cells → new ≡ old
 IsAsBuffered (Wrapped n words order) old new = ⊤
 IsAsBuffered (Shortened n order) old new = ⊤
 
--- settings that keep the texts of cells apart, whatever these are, in tables of any size
+-- settings that separate cells, whatever the cells hold, in tables of any size
 abbrev pub KeepsApart : SpannedConfig → Type 0
 KeepsApart config = (rows count : ℕ) → IsApartConfig config rows count
 
--- all of it, of a whole table under any settings: where they keep texts apart, each line takes the total width, whatever
--- the texts are; there are as many as the total height says, and the table is as good as its plan asks
+-- all properties of a table under any settings: if these separate cells, each line takes the total
+-- width; there are as many lines as the total height; and the table is as good as its plan asks
 pub record IsBestOf (plan : Plan) (whole t : Sheet) : Type 0 where
   pub edges : KeepsApart whole.config → EachLineTakes (total_width t) (picture t)
   pub lines : length (picture t) ≡ total_height t
@@ -76,7 +77,7 @@ pub record IsBestOf (plan : Plan) (whole t : Sheet) : Type 0 where
   pub longest : HasLongestBeginnings plan whole t
   pub alike : IsAsBuffered plan whole t
 
--- and of a new table, whose settings do
+-- the same properties of a new table, whose settings separate cells
 pub record IsBestPlanned (plan : Plan) (cells : Cells) (t : Sheet) : Type 0 where
   pub edges : EachLineTakes (total_width t) (picture t)
   pub lines : length (picture t) ≡ total_height t

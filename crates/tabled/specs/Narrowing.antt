@@ -1,4 +1,4 @@
--- A table that is narrowed as a plan says.
+-- A table narrowed by a plan.
 use Rattle.std.specs.Prelude.{◌≡◌, ℕ}
 use Rattle.tabled_size.specs.Holds.{Holds, IsSized}
 use Rattle.tabled_size.specs.Sheet.{Sheet, is_empty}
@@ -15,11 +15,12 @@ abbrev plan_by : Fit → ℕ → Order → Plan
 plan_by (Wrap words) n order = Wrapped n words order
 plan_by Truncate n order = Shortened n order
 
--- the plan by which a table is narrowed so
+-- the plan of a narrowing
 abbrev pub plan_of : Narrowing → Plan
 plan_of how = plan_by how.fit how.target how.order
 
--- a table that a plan makes of a whole one, as good as can be, and that is in order to be printed
+-- a table that a plan makes of a whole one, with all properties of `IsBestOf`, and ready to be
+-- printed
 pub record IsMade (plan : Plan) (whole t : Sheet) : Type 0 where
   pub planned : IsPlannedOf plan whole t
   pub best : IsBestOf plan whole t

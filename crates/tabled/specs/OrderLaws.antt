@@ -1,4 +1,4 @@
--- The laws of the priority of an order: those of the five priorities.
+-- Laws of `OrderPriority`, from those of the five priorities.
 use Rattle.std.proofs.Common.{◌∙◌, ◌+◌, ℕ, List, None, Some, refl, subst, sym, true}
 use Rattle.tabled_priority.specs.Permitted.{IsTakenFrom, lowered}
 use Rattle.tabled_priority.specs.Shrunk.{IsRoundShrunk}

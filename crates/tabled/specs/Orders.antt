@@ -1,4 +1,4 @@
--- How sizes shrink in an order that is known only at run time: by cases, as by the five priorities.
+-- How sizes shrink in an order that is chosen at run time.
 use Rattle.std.specs.Prelude.{◌≡◌, ℕ, List, true, Option, MatchOption, length}
 use Rattle.tabled_priority.specs.Peak.{IsGreatest, IsLeast, IsLeftmost, IsNext, IsRightmost, NoneAbove}
 use Rattle.tabled_priority.specs.Shrunk.{IsLeftShrunk, IsMaxShrunk, IsMinShrunk, IsRightShrunk, IsRoundShrunk, place_after}
@@ -6,7 +6,7 @@ use Rattle.tabled.specs.declared.order_priority.OrderPriority.{OrderPriority}
 use Rattle.tabled.specs.declared.plan.Order.{Order}
 use Rattle.tabled.specs.declared.plan.Order.TheVariants.{Round, Least, Greatest, Leftmost, Rightmost}
 
--- the next place from a kept one, and the place that is kept then, which only `Round` reads
+-- the index that a priority names, and the stored index after that, which only `Round` reads
 abbrev pub IsNamed : Order → ℕ → List ℕ → List ℕ → Option ℕ → ℕ → Type 0
 IsNamed Round kept values mins answer kept' = MatchOption answer (NoneAbove values mins × (kept' ≡ kept))
     (λ i. IsNext kept values mins i × (kept' ≡ place_after (length values) i))
@@ -15,7 +15,7 @@ IsNamed Greatest kept values mins answer kept' = MatchOption answer (NoneAbove v
 IsNamed Leftmost kept values mins answer kept' = MatchOption answer (NoneAbove values mins) (IsLeftmost values mins)
 IsNamed Rightmost kept values mins answer kept' = MatchOption answer (NoneAbove values mins) (IsRightmost values mins)
 
--- the new list, and the place that is kept then
+-- the new sizes, and the stored index after that
 abbrev pub IsShrunk : Order → ℕ → List ℕ → List ℕ → ℕ → List ℕ → ℕ → Type 0
 IsShrunk Round kept old mins by new kept' = IsRoundShrunk kept old mins by new kept'
 IsShrunk Least kept old mins by new kept' = IsMinShrunk true old mins by new

@@ -12,48 +12,50 @@ use Rattle.tabled.specs.Headline.{IsBestPlanned}
 use Rattle.tabled.specs.Planned.{IsPlanned}
 use Rattle.tabled.specs.Rendered.{PassesRange}
 
--- a text, and a line feed unless it is empty
+-- a text, and a line feed unless the text is empty
 unfoldable pub with_feed : List ℕ → List ℕ
 with_feed text = text ++ (if length text == 0 then [] else 10 ∷ [])
 
--- the output of a text: the table that a plan makes of its rows, as good as can be, and a line feed unless that is empty
+-- the output for a text: the table that a plan makes of its rows, and a line feed unless it is
+-- empty
 pub record IsOutput (plan : Plan) (text output : List ℕ) : Type 0 where
   pub table : Sheet
   pub planned : IsPlanned plan (text_rows text) table
   pub best : IsBestPlanned plan (text_rows text) table
   pub whole : output ≡ with_feed (table_text table)
 
--- known bytes grow by a beginning of a text
+-- the bytes, if known, grow by a beginning of a text
 pub record Begins (old new : Option (List ℕ)) (text : List ℕ) : Type 0 where
   pub front : List ℕ
   pub rest : List ℕ
   pub whole : front ++ rest ≡ text
   pub added : Appends old new front
 
--- known bytes grow by all of a text but its rest
+-- the bytes, if known, grow by a text without its rest
 pub record Handed (old new : Option (List ℕ)) (text rest : List ℕ) : Type 0 where
   pub front : List ℕ
   pub whole : front ++ rest ≡ text
   pub added : Appends old new front
 
--- known bytes grow by a text on Ok, and else by a beginning of it
+-- the bytes, if known, grow by a text on `Ok`, and by a beginning of it on `Err`
 abbrev pub Puts : {T E : Type 0} → Option (List ℕ) → Result T E → Option (List ℕ) → List ℕ → Type 0
 Puts old (Ok _) new text = Appends old new text
 Puts old (Err _) new text = Begins old new text
 
--- a total of the table of a text, or of the one that is planned, passes the greatest `usize`
+-- a total of the table, or of the table that the plan makes, passes `usize::MAX`
 abbrev pub Overflows : Plan → List ℕ → Type 0
 Overflows plan text = PassesRange (IsPlanned plan (text_rows text)) (new_sheet (text_rows text))
 
--- what was begun where the output is refused: nothing where a total passes the range, the output where the writer failed, and one
--- of both where memory was refused. No other refusal comes
+-- the text of which a beginning is written on an error: none for `Range`, the output for `Writer`,
+-- either of them for `Memory`; other errors don't occur
 abbrev pub IsBegunOn : Plan → List ℕ → List ℕ → TableError → Type 0
 IsBegunOn plan text begun Memory = (begun ≡ []) ⊎ IsOutput plan text begun
 IsBegunOn plan text begun Range = (begun ≡ []) × Overflows plan text
 IsBegunOn plan text begun Writer = IsOutput plan text begun
 IsBegunOn plan text begun _ = ⊥
 
--- known bytes grow by the output of a text on Ok, and else by a beginning of what was begun
+-- the bytes, if known, grow by the output on `Ok`, and on `Err` by a beginning of the text of
+-- `IsBegunOn`
 pub record PutsOutput {T : Type 0} (plan : Plan) (text : List ℕ) (old : Option (List ℕ)) (result : Result T TableError) (new : Option (List ℕ)) : Type 0 where
   pub output : List ℕ
   pub is_output : MatchResult result (λ _. IsOutput plan text output) (IsBegunOn plan text output)

@@ -15,45 +15,45 @@ use Rattle.tabled.specs.declared.plan.Plan.{Plan}
 use Rattle.tabled.specs.declared.plan.Plan.TheVariants.{Buffered, Streamed, Wrapped, Shortened}
 use Rattle.tabled.specs.Orders.{IsShrunk}
 
--- the texts of a table, row by row
+-- the cells of a table, row by row
 abbrev pub Cells : Type 0
 Cells = List (List (List ℕ))
 
--- what becomes of widths that shrink in an order, by so much in all and under some minimums
+-- how widths shrink in an order, by a number of columns and down to minimums
 abbrev pub OrderShrinks : Order → List ℕ → List ℕ → ℕ → List ℕ → Type 0
 OrderShrinks order old mins by new = (kept : ℕ) × IsShrunk order 0 old mins by new kept
 
--- a table narrowed to n: its widths shrink by what the total has above n, each cell is changed for the room that its
--- column leaves it, and the rows are as high as the new texts ask for
+-- a table narrowed to n: its widths shrink by what the total has above n, each cell is changed for
+-- its content width, and the heights are those of the new texts
 pub record IsNarrowedTo (shrinks : List ℕ → List ℕ → ℕ → List ℕ → Type 0) (change : ℕ → List ℕ → List ℕ → Type 0) (n : ℕ) (old new : Sheet) : Type 0 where
   pub config : new.config ≡ old.config
   pub widths : shrinks old.widths (minimums old.cells old.config) (total_width old - n) new.widths
   pub cells : AreChanged (λ row column. true) (for_content_size change old new.widths) old.cells new.cells
   pub heights : new.heights ≡ estimated_heights new.cells new.config
 
--- one of at most n columns stays as it is
+-- a table of at most n columns doesn't change
 abbrev pub FitsInto : (List ℕ → List ℕ → ℕ → List ℕ → Type 0) → (ℕ → List ℕ → List ℕ → Type 0) → ℕ → Sheet → Sheet → Type 0
 FitsInto shrinks change n old new = MatchBool (nat_le (total_width old) n) (new ≡ old) (IsNarrowedTo shrinks change n old new)
 
--- a streamed table has the sizes of the new one, and each cell is cut to the room that its column leaves it
+-- a streamed table has the sizes of the new one, and each cell is cut to its content width
 pub record IsStreamedFrom (old new : Sheet) : Type 0 where
   pub config : new.config ≡ old.config
   pub widths : new.widths ≡ old.widths
   pub cells : AreChanged (λ row column. true) (λ row column. IsCut (inner_width old row column)) old.cells new.cells
   pub heights : new.heights ≡ old.heights
 
--- the table that a plan makes of a whole one: that one, and with some columns to keep to, that one fitted into them
+-- the table that a plan makes of a whole one: the same, or one that fits into n columns
 abbrev pub IsPlannedOf : Plan → Sheet → Sheet → Type 0
 IsPlannedOf Buffered whole t = t ≡ whole
 IsPlannedOf Streamed whole t = IsStreamedFrom whole t
 IsPlannedOf (Wrapped n words order) whole t = FitsInto (OrderShrinks order) (wrapping words) n whole t
 IsPlannedOf (Shortened n order) whole t = FitsInto (OrderShrinks order) (if_wider (truncating [] Cut false)) n whole t
 
--- and of some cells: of their new table
+-- the table that a plan makes of the new table of some cells
 abbrev pub IsPlanned : Plan → Cells → Sheet → Type 0
 IsPlanned plan cells t = IsPlannedOf plan (new_sheet cells) t
 
--- a plan under which all is measured before it is printed
+-- the plan that measures everything first
 abbrev pub measured : Plan → Plan
 measured Buffered = Buffered
 measured Streamed = Buffered

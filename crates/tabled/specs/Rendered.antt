@@ -1,4 +1,4 @@
--- What is left of a sink by a call that prints the table of a plan.
+-- What a call that prints the table of a plan leaves in its sink.
 use Rattle.std.specs.Prelude.{◌≡◌, ◌⊎◌, ◌++◌, true, false, List, ℕ, Result, Ok, Err}
 use Rattle.std.specs.Io.KnownBytes.{Appends}
 use Rattle.tabled_base.specs.declared.error.TableError.{TableError}
@@ -13,9 +13,9 @@ use Rattle.tabled.specs.declared.plan.Plan.TheVariants.{Streamed}
 use Rattle.tabled.specs.Headline.{IsBestOf, IsBestPlanned}
 use Rattle.tabled.specs.Planned.{Cells, IsPlanned, IsPlannedOf}
 
--- ---- a table that is known by what it is planned to be, and what holds of it then
+-- ---- any planned table
 
--- its text was added, and where it has a row and a column, it can be printed: both of its totals are in range
+-- the text of the table was added; it is empty or both of its totals are in range
 pub record SendsTable (planned best : Sheet → Type 0) (old new : Sent) : Type 0 where
   pub table : Sheet
   pub is_planned : planned table
@@ -23,8 +23,8 @@ pub record SendsTable (planned best : Sheet → Type 0) (old new : Sent) : Type 
   pub is_printable : (is_empty table.cells ≡ true) ⊎ IsPrintable table
   pub sends : Sends old new (table_text table)
 
--- it can be printed, both of its totals in range, and a beginning of its text was added, up to what the sink refused, or to a
--- place where the call halts by itself
+-- both totals are in range, and a beginning of the text was added; then the sink failed or the call
+-- stopped with an error of `halts`
 pub record BreaksOff (planned best : Sheet → Type 0) (halts : TableError → Type 0) (old : Sent) (error : TableError) (new : Sent) : Type 0 where
   pub table : Sheet
   pub is_planned : planned table
@@ -36,12 +36,12 @@ pub record BreaksOff (planned best : Sheet → Type 0) (halts : TableError → T
   pub added : Appends old.bytes new.bytes front
   pub cause : IsCause error old.grows old.failures new.failures ⊎ halts error
 
--- a total of the whole table, or of the one that is planned, passes the greatest `usize`
+-- a total of the whole table, or of the planned one, passes `usize::MAX`
 abbrev pub PassesRange : (Sheet → Type 0) → Sheet → Type 0
 PassesRange planned whole = IsOutOfRange whole ⊎ ((t : Sheet) × planned t × IsOutOfRange t)
 
--- by the answer: all of the text was added; or it is refused for memory, before the first byte; or the whole table has a row and
--- a column, and it is refused for a total out of range, before the first byte too, or in the middle
+-- on `Ok` all of the text was added. On `Err` either an allocation failed before the first byte, or
+-- the table isn't empty and a total is out of range, with nothing added, or the text breaks off
 abbrev pub PrintsPlanned : {T : Type 0} → (Sheet → Type 0) → (Sheet → Type 0) → (TableError → Type 0) → Sheet → Sent → Result T TableError → Sent → Type 0
 PrintsPlanned planned best halts whole old (Ok _) new = SendsTable planned best old new
 PrintsPlanned planned best halts whole old (Err error) new =
@@ -51,15 +51,17 @@ PrintsPlanned planned best halts whole old (Err error) new =
 
 -- ---- the table of a plan
 
--- printing halts in the middle only of a streamed table, at a cell that it was refused memory for
+-- only a streamed table can break off without a failure of the sink: an allocation for a cell
+-- failed
 abbrev pub Halts : Plan → TableError → Type 0
 Halts plan error = (plan ≡ Streamed) × (error ≡ Memory)
 
--- what rendering some cells under a plan leaves: the table that the plan makes of them, which is as good as can be, was printed
+-- what rendering cells under a plan leaves: it prints the table of the plan, with all properties of
+-- `IsBestPlanned`
 abbrev pub IsRendered : {T : Type 0} → Plan → Cells → Sent → Result T TableError → Sent → Type 0
 IsRendered plan cells old result new =
     PrintsPlanned (IsPlanned plan cells) (IsBestPlanned plan cells) (Halts plan) (new_sheet cells) old result new
 
--- the same of a whole table under any settings, all of which is measured before it is printed
+-- what rendering a whole table under any settings leaves, if it is measured before it is printed
 abbrev pub IsRenderedOf : {T : Type 0} → Plan → Sheet → Sent → Result T TableError → Sent → Type 0
 IsRenderedOf plan whole old result new = PrintsPlanned (IsPlannedOf plan whole) (IsBestOf plan whole) (λ error. ⊥) whole old result new

@@ -1,4 +1,4 @@
--- What a run of the program leaves of its reader and its writer.
+-- What a run of the program leaves in its reader and its writer.
 use Rattle.std.specs.Prelude.{◌≡◌, ◌⊎◌, ℕ, List, [], Option, IfSome, IsUtf8}
 use Rattle.std.specs.Io.KnownBytes.{Appends, IsAtEnd}
 use Rattle.tabled.specs.declared.fault.Fault.{Fault}
@@ -7,13 +7,13 @@ use Rattle.tabled.specs.declared.plan.Plan.{Plan}
 use Rattle.tabled.specs.Output.{Begins, IsOutput, Overflows}
 use Rattle.tabled.specs.Arguments.{SpellsPlan}
 
--- a text is all that a reader had left, and now it has nothing left
+-- the text is all that was left in the reader, and now nothing is left
 pub record HasRead (old new : Option (List ℕ)) (text : List ℕ) : Type 0 where
   pub is_text : IsUtf8 text
   pub whole : IfSome old (λ all. text ≡ all)
   pub ended : IsAtEnd new
 
--- all was read, and the writer took the output of it
+-- all was read, and its output was written
 pub record HasPrinted (plan : Plan) (old left held holds : Option (List ℕ)) : Type 0 where
   pub text : List ℕ
   pub input : HasRead old left text
@@ -21,7 +21,7 @@ pub record HasPrinted (plan : Plan) (old left held holds : Option (List ℕ)) : 
   pub is_output : IsOutput plan text output
   pub added : Appends held holds output
 
--- all was read, and the writer took a beginning of the output of it
+-- all was read, and a beginning of its output was written
 pub record HasBegun (plan : Plan) (old left held holds : Option (List ℕ)) : Type 0 where
   pub text : List ℕ
   pub input : HasRead old left text
@@ -29,16 +29,16 @@ pub record HasBegun (plan : Plan) (old left held holds : Option (List ℕ)) : Ty
   pub is_output : IsOutput plan text output
   pub begun : Begins held holds output
 
--- all was read, a total of its table passes the range, and the writer took nothing
+-- all was read, a total of its table passes `usize::MAX`, and nothing was written
 pub record HasOverflowed (plan : Plan) (old left held holds : Option (List ℕ)) : Type 0 where
   pub text : List ℕ
   pub input : HasRead old left text
   pub overflows : Overflows plan text
   pub kept : Appends held holds []
 
--- what a run that failed leaves of its reader and its writer, by the fault: the writer as it was where the input can't be read; what
--- it held where memory was refused before the first byte, or a total passes the range; and else a beginning of the output more. Nothing else
--- is a run with good words refused for
+-- what a failed run leaves, by its fault. `Input`: the writer as it was. `Memory`: nothing written,
+-- or a beginning of the output. `Range`: nothing written. `Writer`: a beginning of the output.
+-- Other faults don't occur with valid arguments
 abbrev pub HasFailed : {O : Type 0} → (O → Option (List ℕ)) → List (List ℕ) → Option (List ℕ) → Option (List ℕ) → O → O → Fault → Type 0
 HasFailed contents words old left out now Input = now ≡ out
 HasFailed contents words old left out now Memory =

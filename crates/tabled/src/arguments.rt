@@ -1,4 +1,4 @@
-//! The words of the program, and the plan that they spell.
+//! The arguments of the program, and the plan they make.
 ghost use Rattle.std.specs.Prelude.{◌≡◌, ◌↔◌, ◌∷◌, ℕ, IfSome, List, [], map, IfNone, MatchOption, Some, string_bytes};
 ghost use Rattle.tabled.specs.declared.plan.Plan.{Plan};
 ghost use Rattle.tabled.specs.declared.plan.Order.{Order};
@@ -8,14 +8,14 @@ ghost use Rattle.tabled.specs.Arguments.{Begins, GoTogether, HasValues, IsNumber
 
 use crate::plan::{Order, Plan};
 
-/// What a word says, with the value behind it.
+/// A setting, with its value.
 #[derive(Clone, Copy)]
 enum Argument {
     /// `--wrap N`
     Wrap(usize),
     /// `--cut N`
     Cut(usize),
-    /// `--priority` and an order.
+    /// `--priority P`
     Priority(Order),
     /// `--words`
     Words,
@@ -23,7 +23,7 @@ enum Argument {
     Stream,
 }
 
-/// The settings that were read so far.
+/// The settings that are read so far.
 #[derive(Clone, Copy, Default)]
 struct Arguments {
     wrap: Option<usize>,
@@ -33,7 +33,7 @@ struct Arguments {
     stream: bool,
 }
 
-/// The number that decimal digits write.
+/// Returns the number that decimal digits write, if it fits a `usize`.
 fn number_of(word: &str) -> Option<usize>
     ensures value { IfSome result (IsNumber word.now) }
     ensures number { (number : ℕ) → IsNumber word.now number → result ≡ Some number }
@@ -44,7 +44,7 @@ fn number_of(word: &str) -> Option<usize>
     word.parse().ok()
 }
 
-/// The order of this name.
+/// Returns the order of a name.
 fn order_of(word: &str) -> Option<Order>
     ensures { (order : Order) → (result ≡ Some order) ↔ (word.now ≡ order_word order) }
 {
@@ -58,7 +58,7 @@ fn order_of(word: &str) -> Option<Order>
     }
 }
 
-/// The setting of this name and value.
+/// Returns the setting of a name and a value.
 fn valued_argument(name: &str, value: &str) -> Option<Argument>
     ensures { MatchOption result
         ((setting : Argument) → name.now ≡ name_of setting → ¬ HasValues setting (value.now ∷ []))
@@ -72,7 +72,7 @@ fn valued_argument(name: &str, value: &str) -> Option<Argument>
     }
 }
 
-/// The setting that the words begin with, and the words behind it.
+/// Returns the first setting, and the arguments after it.
 fn first_argument(words: &[String]) -> Option<(Argument, &[String])>
     ensures { MatchOption result
         ((setting : Argument) (rest : List (List ℕ)) → ¬ Begins (map string_bytes words.now) setting rest)
@@ -90,7 +90,7 @@ fn first_argument(words: &[String]) -> Option<(Argument, &[String])>
 }
 
 impl Arguments {
-    /// With one more setting, unless one of its name is there.
+    /// Adds a setting, unless one of that name is there.
     fn with(self, setting: Argument) -> Option<Arguments>
         ensures { MatchOption result (NotesName self setting) (λ settings. Adds self setting settings) }
     {
@@ -119,7 +119,7 @@ impl Arguments {
         }
     }
 
-    /// The plan of settings that go together.
+    /// Returns the plan of the settings, if they go together.
     fn plan(self) -> Option<Plan>
         ensures { (plan : Plan) → (result ≡ Some plan) ↔ (GoTogether (Notes self) × Makes (Notes self) plan) }
     {
@@ -143,7 +143,7 @@ impl Arguments {
     }
 }
 
-/// The settings of all words, each of them given once.
+/// Returns the settings of all arguments; `None` if one is wrong or given twice.
 fn arguments_of(words: &[String]) -> Option<Arguments>
     ensures { MatchOption result
         ((settings : List Argument) → Spells (map string_bytes words.now) settings → ¬ IsOnce settings)
@@ -159,11 +159,12 @@ fn arguments_of(words: &[String]) -> Option<Arguments>
     Some(settings)
 }
 
-/// The plan that the words spell: `[--wrap N | --cut N] [--priority none|min|max|left|right] [--words] [--stream]`.
+/// Returns the plan of the arguments: `[--wrap N | --cut N] [--priority none|min|max|left|right]
+/// [--words] [--stream]`. Returns `None` for all others.
 ///
-/// The settings come in any order, each of them once. `N` is decimal digits alone, of a number that a `usize` holds. `--words` is
-/// for `--wrap`, `--priority` for `--wrap` or `--cut`, and `--stream` for neither. Without a priority it is `none`. Any other words
-/// spell no plan.
+/// The settings come in any order, each at most once. `N` is decimal digits and fits a `usize`.
+/// `--words` needs `--wrap`, `--priority` needs `--wrap` or `--cut`, and `--stream` excludes both.
+/// The default priority is `none`.
 pub(crate) fn plan_of(words: &[String]) -> Option<Plan>
     ensures plan { (plan : Plan) → (result ≡ Some plan) ↔ SpellsPlan (map string_bytes words.now) plan }
     ensures spelled { IfSome result (SpellsPlan (map string_bytes words.now)) }

@@ -1,12 +1,13 @@
-//! Bytes that wait for a writer.
+//! A buffer of bytes for a writer.
 ghost use Rattle.std.specs.Prelude.{◌≡◌, ◌+◌, ◌≤◌, ◌^◌, [], ◌++◌, IfOk, drop, length, vec_len};
 
 use std::alloc::{AllocError, Global};
 
-/// How many bytes are handed on at a time.
+/// The size of the buffer, in bytes.
 pub(crate) const BLOCK: usize = 1 << 16;
 
-/// Copies bytes to a place of their length; a single one, the commonest, without a copy of a slice.
+/// Copies bytes to a slice of the same length. A single byte, the most frequent case, is stored
+/// directly.
 #[inline(always)]
 fn copy(to: &mut [u8], bytes: &[u8])
     requires { length to.old ≡ length bytes.now }
@@ -18,7 +19,7 @@ fn copy(to: &mut [u8], bytes: &[u8])
     }
 }
 
-/// A block of bytes: those that were put in it so far, of which a writer took some from the front.
+/// A buffer of `BLOCK` bytes. The first `used` are filled, and the writer took the first `taken`.
 #[derive(Drop)]
 pub(crate) struct BlockBuffer {
     bytes: Vec<u8>,
@@ -32,7 +33,7 @@ pub(crate) struct BlockBuffer {
 impl BlockBuffer {
     ghost use Rattle.tabled.specs.BlockSent.{waiting};
 
-    /// An empty one, in memory of its own.
+    /// Allocates an empty buffer.
     pub fn new(alloc: Global) -> Result<BlockBuffer, AllocError>
         ensures { IfOk result (λ held. waiting held ≡ []) }
     {
@@ -44,21 +45,21 @@ impl BlockBuffer {
         })
     }
 
-    /// How many bytes there are, with those that were taken.
+    /// Returns how many bytes are filled, with those the writer took.
     pub fn len(&self) -> usize
         ensures { result ≡ self.now.used }
     {
         self.used
     }
 
-    /// The bytes that wait.
+    /// Returns the bytes that the writer didn't take yet.
     pub fn rest(&self) -> &[u8]
         ensures { result.now ≡ waiting self.now }
     {
         &self.bytes[self.taken..self.used]
     }
 
-    /// Some of them were taken.
+    /// Marks `count` more bytes as taken by the writer.
     pub fn take(&mut self, count: usize)
         requires { count ≤ length (waiting self.old) }
         ensures { waiting self.new ≡ drop count (waiting self.old) }
@@ -66,7 +67,7 @@ impl BlockBuffer {
         self.taken += count;
     }
 
-    /// All of them were taken.
+    /// Empties the buffer.
     pub fn clear(&mut self)
         ensures waiting { waiting self.new ≡ [] }
         ensures used { self.new.used ≡ 0 }
@@ -75,7 +76,7 @@ impl BlockBuffer {
         self.used = 0;
     }
 
-    /// Puts bytes behind the others, for which there has to be room.
+    /// Appends bytes, which must fit.
     #[inline(always)]
     pub fn add(&mut self, bytes: &[u8])
         requires room { self.old.used + length bytes.now ≤ BLOCK }

@@ -1,4 +1,4 @@
-//! A writer behind a block of bytes.
+//! A sink that writes in blocks.
 ghost use Rattle.std.specs.Prelude.{◌≡◌, ◌+◌, ◌<◌, ◌≤◌, ℕ, List, [], IfErr, OnOk, length};
 ghost use Rattle.tabled_base.specs.declared.error.TableError.TheVariants.{Writer};
 ghost use Rattle.tabled_line.specs.Sent.{Rose, Sends, Writes};
@@ -10,8 +10,9 @@ use std::marker::{Brand, PhantomData};
 use tabled_base::TableError;
 use tabled_grid::TextSink;
 
-/// Text for a writer, a block at a time. Every error of a write is a failure, `Interrupted` too, and so
-/// is a write that takes no bytes; nothing is written after a failure, and a drop writes nothing.
+/// A sink that passes text to a writer in blocks. Every error of a write is a failure,
+/// `Interrupted` too, and so is a write of no bytes. After a failure nothing is written, and
+/// dropping the sink writes nothing.
 #[derive(Drop)]
 pub(crate) struct BlockSink<'a, W> {
     pub writer: &'a mut W,
@@ -20,7 +21,7 @@ pub(crate) struct BlockSink<'a, W> {
 }
 
 impl<'a, W: Write> BlockSink<'a, W> {
-    /// A sink over a writer, with a place for a block.
+    /// Makes a sink from a writer and a buffer.
     pub fn new(writer: &'a mut W, held: &'a mut BlockBuffer) -> BlockSink<'a, W>
         ensures same_reference { result.writer.ghost_name ≡ writer.entry.ghost_name }
         ensures writer { result.writer.now ≡ writer.old }
@@ -33,7 +34,7 @@ impl<'a, W: Write> BlockSink<'a, W> {
         }
     }
 
-    /// Counts a failure.
+    /// Counts a failure, and returns its error.
     fn fail(&mut self) -> TableError
         ensures error { result ≡ Writer }
         ensures sent { (block_sent (block W.contents self.new)).bytes ≡ (block_sent (block W.contents self.old)).bytes }
@@ -44,7 +45,7 @@ impl<'a, W: Write> BlockSink<'a, W> {
         TableError::Writer
     }
 
-    /// Hands what waits to the writer.
+    /// Writes all buffered bytes.
     fn flush_block(&mut self) -> Result<(), TableError>
         ensures written { Writes (block_sent (block W.contents self.old)) result
             (block_sent (block W.contents self.new)) [] }
@@ -66,7 +67,7 @@ impl<'a, W: Write> BlockSink<'a, W> {
         Ok(())
     }
 
-    /// Makes room for a byte at least.
+    /// Makes room for at least one byte, by writing a full buffer.
     fn make_room(&mut self) -> Result<(), TableError>
         ensures written { Writes (block_sent (block W.contents self.old)) result
             (block_sent (block W.contents self.new)) [] }
@@ -79,7 +80,7 @@ impl<'a, W: Write> BlockSink<'a, W> {
         self.flush_block()
     }
 
-    /// Holds some bytes back, for which the block has to have room.
+    /// Buffers bytes, which must fit.
     #[inline(always)]
     fn buffer_bytes(&mut self, bytes: &[u8])
         requires room { self.old.held.now.used + length bytes.now ≤ BLOCK }
@@ -90,7 +91,7 @@ impl<'a, W: Write> BlockSink<'a, W> {
         self.held.add(bytes);
     }
 
-    /// Holds any bytes back, and hands each block that is full to the writer.
+    /// Buffers bytes of any length, and writes each full buffer.
     #[inline(never)]
     fn buffer_parts(&mut self, bytes: &[u8]) -> Result<(), TableError>
         ensures written { Writes (block_sent (block W.contents self.old)) result
@@ -108,7 +109,7 @@ impl<'a, W: Write> BlockSink<'a, W> {
         Ok(())
     }
 
-    /// Hands what waits to the writer, and has that pass it on.
+    /// Writes all buffered bytes, and flushes the writer.
     pub fn finish(&mut self) -> Result<(), TableError>
         ensures written { Writes (block_sent (block W.contents self.old)) result (block_sent (block W.contents self.new)) [] }
         ensures advanced { Advances (block W.contents self.old) (block W.contents self.new) }
@@ -123,12 +124,12 @@ impl<'a, W: Write> BlockSink<'a, W> {
     }
 }
 
-/// A sink that says of which writer it is, and what that holds.
+/// A sink whose writer the proof can name, with the writer's contents.
 pub(crate) trait SinkOverWriter {
-    // The writer, and what waits before it.
+    // The writer, and the buffered bytes.
     ghost block: { Self → Block };
 
-    /// Adds a text, as a `TextSink` does. The writer stays the same, and keeps what it holds.
+    /// Adds a text as a `TextSink` does. The writer stays the same, and keeps its contents.
     fn add_text(&mut self, text: &str) -> Result<(), TableError>
         ensures written { Writes (block_sent (block self.old)) result (block_sent (block self.new)) text.now }
         ensures advanced { Advances (block self.old) (block self.new) };
@@ -147,12 +148,12 @@ impl<'a, W: Write> SinkOverWriter for BlockSink<'a, W> {
     }
 }
 
-/// What a writer was before a sink was put before it.
+/// A writer as it was before a sink used it.
 pub(crate) trait WriterStart {
-    // The name of the reference to it.
+    // The name of the reference to the writer.
     ghost name: { ℕ };
 
-    // The bytes that it held.
+    // The contents of the writer.
     ghost held: { List ℕ };
 }
 
@@ -162,7 +163,7 @@ impl WriterStart for Brand {
     ghost held = { [] };
 }
 
-/// A sink whose bytes are known while it is before the writer of its start, and that holds what it held.
+/// A sink whose bytes are known as long as its writer is the one of `B` and still has its contents.
 #[derive(Drop)]
 pub(crate) struct BytesSince<S, B> {
     pub sink: S,

@@ -5,13 +5,13 @@ ghost use Rattle.tabled.specs.Faults.{fault_of, word_of};
 use tabled_base::TableError;
 use thiserror::Error;
 
-/// A failure, with the word that tells it.
+/// A failure, with its message.
 #[derive(Debug, Drop, Error)]
 #[error("{}", self.word())]
 pub(crate) enum Fault {
-    /// The words aren't the program's.
+    /// The arguments are wrong.
     Usage,
-    /// Reading failed, or what was read is no UTF-8.
+    /// Reading failed, or the input is not UTF-8.
     Input,
     Memory,
     ShortWidths,
@@ -22,7 +22,7 @@ pub(crate) enum Fault {
 }
 
 impl Fault {
-    /// The word, or the usage.
+    /// Returns the message: the name of the failure, or the usage.
     pub fn word(&self) -> &'static str
         ensures { result.now ≡ word_of self.now }
     {

@@ -1,4 +1,4 @@
-//! Reading to the end.
+//! Reading the whole input.
 ghost use Rattle.std.specs.Prelude.{◌≡◌, ◌⊎◌, IfErr, IfOk, IfSome, OnOk, string_bytes};
 ghost use Rattle.std.specs.Io.KnownBytes.{IsAtEnd};
 ghost use Rattle.tabled.specs.declared.fault.Fault.TheVariants.{Input, Memory};
@@ -9,13 +9,13 @@ use simdutf8::is_utf8;
 use std::alloc::Global;
 use std::io::Read;
 
-/// How many bytes a read asks for.
+/// The bytes of one read.
 const BLOCK: usize = 1 << 16;
 
-/// How many reads are made before reading counts as failed.
+/// The number of reads after which reading fails.
 const READS: u64 = 1 << 40;
 
-/// All that is left of a reader. Every error of a read fails, `Interrupted` too.
+/// Reads all bytes. Fails at the first error of a read, `Interrupted` too.
 fn read_all<I: Read>(alloc: Global, input: &mut I) -> Result<Vec<u8>, Fault>
     ensures all { IfOk result (λ bytes. IfSome (I.remaining input.old) (λ all. bytes.items ≡ all)) }
     ensures ended { OnOk result (IsAtEnd (I.remaining input.new)) }
@@ -37,7 +37,7 @@ fn read_all<I: Read>(alloc: Global, input: &mut I) -> Result<Vec<u8>, Fault>
     Err(Fault::Input)
 }
 
-/// All that is left of a reader, which has to be UTF-8.
+/// Reads all bytes, and fails unless they are UTF-8.
 pub(crate) fn read_text<I: Read>(alloc: Global, input: &mut I) -> Result<String, Fault>
     ensures text { IfOk result (λ text. HasRead (I.remaining input.old) (I.remaining input.new) (string_bytes text)) }
     ensures failed { IfErr result (λ fault. (fault ≡ Input) ⊎ (fault ≡ Memory)) }
@@ -46,6 +46,6 @@ pub(crate) fn read_text<I: Read>(alloc: Global, input: &mut I) -> Result<String,
     if !is_utf8(&bytes) {
         return Err(Fault::Input);
     }
-    // In range: the bytes were tested just now.
+    // In range: the bytes are checked above.
     Ok(unsafe { String::from_utf8_unchecked(bytes) })
 }

@@ -1,13 +1,18 @@
-//! Text tables with straight edges: the names of the library under one roof, `render`, which prints
-//! the table of a text, and `run`, the program over any reader and writers.
+//! Fanlightnard prints text tables whose edges line up whatever the cells contain. This crate
+//! re-exports all public names. `render` prints a text as a table, and `run` is the command-line
+//! program over any reader and writers.
 //!
 //! ```rust
 //! let rows = [("Ada", 1815), ("Grace", 1906)];
 //! Table::nohead(alloc, rows)?.to_text()
 //! ```
 //!
-//! Each module below says what it is for and has an example of lines that the programs `docs_tour`
-//! and `docs_gallery` run.
+//! Each module below has an example, which the programs `docs_tour` and `docs_gallery` run.
+//!
+//! - `rendering.rt`: `render`; `plan.rt`: its plans; `streaming.rt`: streamed tables.
+//! - `narrowing.rt`, `order_priority.rt`: narrowed tables.
+//! - `program.rt`: `run`; `arguments.rt`, `input.rt`, `fault.rt`: its arguments, input, failures.
+//! - `block_sink.rt`, `block_buffer.rt`: output in blocks.
 #![tactic(auto)]
 
 mod arguments;
@@ -31,9 +36,9 @@ pub use tabled_line::WriterSink;
 pub use tabled_table::Table;
 pub use tabled_value::Tabled;
 
-/// Facts of texts, options and tables that a caller can rest on: each is the contract of a function
-/// that does nothing. It is called where its fact is needed, here that a line takes no more columns
-/// than its characters count.
+/// Proved facts about texts, options and tables. Each is the contract of a function that does
+/// nothing. Call it where your proof needs the fact, here that a line takes at most as many columns
+/// as its characters count.
 ///
 /// ```rust
 /// pub fn counted(line: &str) -> usize
@@ -59,8 +64,12 @@ pub mod laws {
     };
 }
 
-/// The tables: one that keeps its rows, one that is printed as its rows come, one of single lines
-/// in no memory, one that shows records line by line, and one of boxes in boxes.
+/// The kinds of tables:
+/// - `Table` stores its cells.
+/// - `IterTable` prints rows as an iterator gives them.
+/// - `CompactTable` prints single lines without allocating.
+/// - `ExtendedTable` prints each record as a list of its fields.
+/// - `PoolTable` prints boxes inside boxes.
 ///
 /// ```rust
 /// let mut table = IterTable::new(CITIES);
@@ -74,7 +83,7 @@ pub mod tables {
     pub use tabled_table::{IterTable, Table};
 }
 
-/// Places in tables, one after another: where batches begin.
+/// Where the batches of a range of rows begin.
 ///
 /// ```rust
 /// for begin in LayoutIterator::new(0, 5, 2) {
@@ -85,7 +94,7 @@ pub mod iter {
     pub use tabled_table::LayoutIterator;
 }
 
-/// Making tables row by row. Short rows are lengthened by empty cells.
+/// Builds tables row by row. Short rows are filled up with empty cells.
 ///
 /// ```rust
 /// let mut builder = Builder::new(alloc);
@@ -97,7 +106,7 @@ pub mod builder {
     pub use tabled_base::Builder;
 }
 
-/// What a table can be set by: options of the whole, by `with`, and of a part, by `modify`.
+/// Options of a table: `with` applies them to the whole table, `modify` to a part of it.
 ///
 /// ```rust
 /// table
@@ -110,7 +119,7 @@ pub mod settings {
     pub use tabled_config::Style;
     pub use tabled_set::{Height, Margin, Padding, PaddingExpand, Width};
 
-    /// Numbers that are read from a table, in place of a number of columns or lines.
+    /// Numbers of columns or lines that are measured in the table.
     ///
     /// ```rust
     /// table.modify(Columns::last(), Width::truncate(Min))?;
@@ -120,8 +129,8 @@ pub mod settings {
         pub use tabled_set::{Max, Measurement, Min, Percent};
     }
 
-    /// Parts of a table that are chosen: a row, a column, a cell, the whole, or each cell of some
-    /// rows and columns.
+    /// Selections of cells: a row, a column, a cell, the whole table, or a range of rows and
+    /// columns.
     ///
     /// ```rust
     /// table.modify(Segment::new(1.., ..1), marks())?;
@@ -130,7 +139,7 @@ pub mod settings {
         pub use tabled_base::{Cell, Columns, Object, Rows, Segment};
     }
 
-    /// Frames, and the lines that they are made of.
+    /// Border styles, and the lines they are made of.
     ///
     /// ```rust
     /// let double = HorizontalLine {
@@ -145,8 +154,7 @@ pub mod settings {
         pub use tabled_config::{HorizontalLine, Style};
     }
 
-    /// The orders in which sizes are shrunk and grown, and what is told of the lists that they
-    /// leave.
+    /// Priorities: the order in which columns or rows shrink and grow; and checks of the result.
     ///
     /// ```rust
     /// table.with(Width::truncate(52).priority(Priority::left()))?;
@@ -158,7 +166,7 @@ pub mod settings {
         };
     }
 
-    /// How texts are made to fit some columns: of a whole table, or of the cells of a part.
+    /// Options that fit a whole table, or the cells of a part, to a width in columns.
     ///
     /// ```rust
     /// let narrow = Width::truncate(12).suffix(" and so on");
@@ -169,7 +177,7 @@ pub mod settings {
         pub use tabled_set::{Justify, MinWidth, SuffixLimit, Truncate, Width, WidthList, Wrap};
     }
 
-    /// How texts are made to fit some lines: of a whole table, or of the cells of a part.
+    /// Options that fit a whole table, or the cells of a part, to a height in lines.
     ///
     /// ```rust
     /// table.with(Height::limit(6).priority(Priority::max(true)))?;
@@ -181,7 +189,7 @@ pub mod settings {
         };
     }
 
-    /// Columns and lines kept free around a table.
+    /// Empty columns and lines around a table.
     ///
     /// ```rust
     /// table.with(Margin::new(2, 2, 1, 1).fill('>', '<', 'v', '^'))?;
@@ -190,7 +198,7 @@ pub mod settings {
         pub use tabled_set::Margin;
     }
 
-    /// Columns and lines kept free around the texts of cells.
+    /// Empty columns and lines around the text of a cell.
     ///
     /// ```rust
     /// table.modify(Columns::one(1), Padding::new(4, 0, 0, 0))?;
@@ -199,7 +207,7 @@ pub mod settings {
         pub use tabled_set::{Padding, PaddingExpand};
     }
 
-    /// The direction in which padding expands, for callers to match on: no table reads it.
+    /// The direction in which padding expands. No table reads it; it is for callers to match on.
     ///
     /// ```rust
     /// let padding = match Padding::expand(false) {
@@ -213,8 +221,8 @@ pub mod settings {
     }
 }
 
-/// Lower layers, by the crate's names: records, settings and sizes, of which a picture is printed
-/// without a table.
+/// Lower layers: records, settings and sizes, and functions that print them without a table. The
+/// modules are named as in Rust's `tabled`.
 ///
 /// ```rust
 /// let mut text = String::new(alloc);
@@ -228,7 +236,8 @@ pub mod grid {
         print_standing,
     };
 
-    /// Marks that colour what they stand around, in a `PoolTable`.
+    /// Prefixes and suffixes, such as colour codes, around the borders, padding and margin of a
+    /// `PoolTable`.
     ///
     /// ```rust
     /// config.set_padding_color(Sides::filled(ANSIStr::new("<b>", "</b>")));
@@ -237,7 +246,7 @@ pub mod grid {
         pub use tabled_config::ANSIStr;
     }
 
-    /// Places, and what is set for them.
+    /// Settings of a table, and the entities that they apply to.
     ///
     /// ```rust
     /// let config = table.get_config_mut().as_mut();
@@ -253,7 +262,7 @@ pub mod grid {
         pub use tabled_table::new_config;
     }
 
-    /// What answers the sizes of a table.
+    /// Dimensions: the widths and heights of a table.
     ///
     /// ```rust
     /// let sizes = StaticDimension::new(DimensionValue::Exact(9), DimensionValue::Exact(1));
@@ -266,7 +275,7 @@ pub mod grid {
         };
     }
 
-    /// Records and their texts: what gives rows, and what keeps them.
+    /// Records: the rows of a table and their cells.
     ///
     /// ```rust
     /// let records = IterRecords::new(CITIES, 2, None);
@@ -278,7 +287,7 @@ pub mod grid {
         };
         pub use tabled_records::{EmptyRecords, IterRecords, JoinedRecords, LentRows, lend_cells};
 
-        /// Views of records, which are taken row by row.
+        /// Views of records that are read row by row.
         ///
         /// ```rust
         /// let rows = LimitRows::new(SkipRows::new(CITIES, 1), 1);
@@ -290,7 +299,7 @@ pub mod grid {
             };
         }
 
-        /// Records that own their rows.
+        /// Records that own their cells.
         ///
         /// ```rust
         /// let records = Builder::from_iter(alloc, CITIES)?.build();
@@ -302,13 +311,13 @@ pub mod grid {
         }
     }
 
-    /// What texts take.
+    /// Functions on texts.
     ///
     /// ```rust
     /// let columns = [text_width("Paris"), text_width("北京"), text_width("a\nbc")];
     /// ```
     pub mod util {
-        /// Texts that are measured, cut and wrapped.
+        /// Measuring, cutting and wrapping texts.
         ///
         /// ```rust
         /// let beginning = cut_str(alloc, "goes to the next field", 12)?;

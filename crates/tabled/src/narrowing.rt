@@ -1,4 +1,4 @@
-//! Tables that are narrowed to some columns, by wrapping or truncating their cells.
+//! Narrowing a table by wrapping or truncating its cells.
 ghost use Rattle.std.specs.Prelude.{◌≡◌, ◌⊎◌, [], IfErr, IfOk, MatchOption, false};
 ghost use Rattle.tabled_base.specs.Cells.{IsRectangular};
 ghost use Rattle.tabled_base.specs.declared.error.TableError.TheVariants.{Memory, Range};
@@ -22,19 +22,19 @@ use tabled_grid::{TextSink, print_standing};
 use tabled_set::{Truncate, Wrap};
 use tabled_size::CompleteDimension;
 
-/// What becomes of cells that are wider than their columns.
+/// What happens to cells that are wider than their columns.
 #[derive(Clone, Copy)]
 pub(crate) enum Fit {
-    /// They are wrapped, words kept whole or not.
+    /// Wraps them, between words if `keep_words`.
     Wrap { keep_words: bool },
-    /// They are cut, without a suffix.
+    /// Truncates them, without a suffix.
     Truncate,
 }
 
 /// How a table is narrowed.
 #[derive(Clone, Copy)]
 pub(crate) struct Narrowing {
-    /// The columns that all of it may take.
+    /// The greatest total width, in columns.
     target: usize,
     fit: Fit,
     /// The order in which its columns shrink.
@@ -42,7 +42,7 @@ pub(crate) struct Narrowing {
 }
 
 impl Narrowing {
-    /// How a plan narrows a table; `None` where it prints the table as it is.
+    /// Returns how a plan narrows a table; `None` if it doesn't.
     pub fn of(plan: Plan) -> Option<Narrowing>
         ensures { MatchOption result (measured plan ≡ Buffered) (λ how. plan_of how ≡ measured plan) }
     {
@@ -65,7 +65,7 @@ impl Narrowing {
         }
     }
 
-    /// The option that wraps.
+    /// Returns the option that wraps.
     fn wrap(self, keep_words: bool) -> Wrap<usize, OrderPriority>
         ensures plan { Wrapped result.width result.rule.keep_words result.priority.order
             ≡ Wrapped self.target keep_words self.order }
@@ -76,7 +76,7 @@ impl Narrowing {
             .priority(OrderPriority::new(self.order))
     }
 
-    /// The option that truncates.
+    /// Returns the option that truncates.
     fn truncate(self) -> Truncate<'static, usize, OrderPriority>
         ensures plan { Shortened result.width result.priority.order ≡ Shortened self.target self.order }
         ensures start { result.priority.round.kept ≡ 0 }
@@ -87,7 +87,7 @@ impl Narrowing {
         Truncate::new(self.target).priority(OrderPriority::new(self.order))
     }
 
-    /// Narrows a table that wasn't measured, and returns the sizes that it gets.
+    /// Narrows a table with estimated sizes, and returns its new sizes.
     fn apply<R: RecordsMut>(
         self,
         alloc: Global,
@@ -117,7 +117,7 @@ impl Narrowing {
     }
 }
 
-/// Prints the table of some records under some settings, narrowed where it is wider than wanted.
+/// Prints the table of some records and settings, narrowed if it is too wide.
 pub(crate) fn print_narrowed<R: RecordsMut, S: TextSink>(
     alloc: Global,
     sink: &mut S,

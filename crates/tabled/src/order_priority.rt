@@ -1,4 +1,4 @@
-//! Shrinking in an order that is known only at run time.
+//! A priority that is chosen at run time.
 ghost use Rattle.std.specs.Prelude.{◌≡◌};
 ghost use Rattle.tabled.specs.OrderLaws.{Shrinks-done, Shrinks-none, Shrinks-step, Shrinks-takes};
 ghost use Rattle.tabled.specs.Orders.{Names, Shrinks};
@@ -8,16 +8,16 @@ use tabled_size::{
     Peaker, PriorityLeft, PriorityMax, PriorityMin, PriorityNone, PriorityRight, Steps, TakesAll,
 };
 
-/// The priority of an order: one of the five, chosen once for a list of sizes.
+/// A priority for each `Order`.
 #[derive(Clone, Copy)]
 pub(crate) struct OrderPriority {
     order: Order,
-    /// It knows the next size of `Order::Round`.
+    /// Stores the next index for `Order::Round`.
     round: PriorityNone,
 }
 
 impl OrderPriority {
-    /// A priority that hasn't shrunk anything.
+    /// Returns a priority that hasn't shrunk anything.
     pub fn new(order: Order) -> Self
         ensures order { result.order ≡ order }
         ensures kept { result.round.kept ≡ 0 }
@@ -34,7 +34,7 @@ impl Peaker for OrderPriority {
 
     ghost shrinks = { Shrinks };
 
-    // Tables are only narrowed in an order, so nothing is said of growing.
+    // Plans only shrink, so nothing is known about growing.
     ghost grows = { λ s old by new t. Unit };
 
     fn peak(&mut self, mins: &[usize], values: &[usize]) -> Option<usize> {

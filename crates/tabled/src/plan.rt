@@ -1,34 +1,35 @@
-//! How a text becomes a table.
+//! The plan of `render`: how a text becomes a table.
 
-/// The order in which the columns of a table shrink.
+/// The order in which the columns of a table shrink, as `--priority` names it.
 #[derive(Clone, Copy, Debug)]
 pub enum Order {
-    /// One column after the other, each one column narrower a time.
+    /// `none`: each column in turn, by one column at a time.
     Round,
-    /// The least first, of equals the rightmost.
+    /// `min`: the narrowest column first, the rightmost of equal ones.
     Least,
-    /// The greatest first, of equals the rightmost.
+    /// `max`: the widest column first, the rightmost of equal ones.
     Greatest,
-    /// From the left.
+    /// `left`: from the left.
     Leftmost,
-    /// From the right.
+    /// `right`: from the right.
     Rightmost,
 }
 
-/// The ways of `render`.
+/// How `render` prints a table.
 #[derive(Clone, Copy, Debug)]
 pub enum Plan {
-    /// The whole table is measured, and printed then.
+    /// Measures the whole table, and then prints it.
     Buffered,
-    /// Its rows are printed one by one, each cell cut to its column.
+    /// Prints row by row, and cuts each cell to its column.
     Streamed,
-    /// A wider table gets so many columns in all, and its texts are wrapped.
+    /// Wraps the cells of a table that is wider than `target` columns, with `words` between words
+    /// where possible.
     Wrapped {
         target: usize,
         words: bool,
         order: Order,
     },
-    /// A wider table gets so many columns in all, and wider texts are cut.
+    /// Truncates the cells of a table that is wider than `target` columns.
     Shortened {
         target: usize,
         order: Order,

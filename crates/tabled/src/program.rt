@@ -1,4 +1,4 @@
-//! The program over any reader and writers.
+//! The command-line program over any reader and writers.
 ghost use Rattle.std.specs.Prelude.{◌≡◌, ◌≤◌, ◌↔◌, ◌⊎◌, IfErr, IfSome, IsErrOf, OnOk, map, string_bytes};
 ghost use Rattle.tabled.specs.declared.fault.Fault.{Fault};
 ghost use Rattle.tabled.specs.declared.fault.Fault.TheVariants.{Usage};
@@ -22,7 +22,7 @@ use std::marker::{Brand, PhantomData};
 use tabled_base::TableError;
 use tabled_grid::TextSink;
 
-/// The table that a plan makes of a text, and a line feed behind it unless it is empty.
+/// Prints a text as a table under a plan. Ends with a line feed, unless the text is empty.
 fn print_output<S: TextSink>(
     alloc: Global,
     text: &str,
@@ -38,7 +38,7 @@ fn print_output<S: TextSink>(
     sink.write_text("\n")
 }
 
-/// The same to a block, which is handed back.
+/// Prints a text to a block of bytes as `print_output` does, and returns the block.
 fn print_blocked<S: SinkOverWriter, B: WriterStart>(
     alloc: Global,
     text: &String,
@@ -59,7 +59,7 @@ fn print_blocked<S: SinkOverWriter, B: WriterStart>(
     (result, since.sink)
 }
 
-/// The same to a writer, which has taken all of it on `Ok`, and else a beginning.
+/// Prints a text to a writer, in blocks. On `Ok` all of it is written, else a beginning.
 fn print_through<O: Write>(
     alloc: Global,
     text: &String,
@@ -76,12 +76,12 @@ fn print_through<O: Write>(
         Err(error) => Err(error),
     };
     let BlockSink { writer, .. } = sink;
-    // The proof reads here what the writer holds.
+    // The proof reads the contents of the writer here.
     let _ = &*writer;
     result
 }
 
-/// Runs the program. Wrong words end it before anything is read.
+/// Runs the program. Wrong arguments fail before anything is read.
 fn attempt<I: Read, O: Write>(
     alloc: Global,
     words: &[String],
@@ -114,7 +114,7 @@ fn status(fault: &Fault) -> u8
     }
 }
 
-/// Hands a text to a writer, without a second try.
+/// Writes a text, and fails at the first error, `Interrupted` too.
 fn write_once<W: Write>(text: &str, writer: &mut W) -> Result<(), TableError>
     ensures { Puts (W.contents writer.old) result (W.contents writer.new) text.now }
 {
@@ -128,7 +128,7 @@ fn write_once<W: Write>(text: &str, writer: &mut W) -> Result<(), TableError>
     Ok(())
 }
 
-/// The same with a line feed behind it.
+/// Writes a text and a line feed as `write_once` does.
 fn write_line_once<W: Write>(word: &str, writer: &mut W) -> Result<(), TableError>
     ensures { Puts (W.contents writer.old) result (W.contents writer.new) (line_of word.now) }
 {
@@ -136,7 +136,7 @@ fn write_line_once<W: Write>(word: &str, writer: &mut W) -> Result<(), TableErro
     write_once("\n", writer)
 }
 
-/// Tells a failure on a line of its own, and answers its status.
+/// Writes the message of a failure as one line, and returns the exit status.
 pub(crate) fn report<E: Write>(fault: &Fault, err: &mut E) -> u8
     ensures usage { result ≡ 2 ↔ (fault.now ≡ Fault.Usage) }
     ensures range { (1 ≤ result) × (result ≤ 2) }
@@ -146,14 +146,25 @@ pub(crate) fn report<E: Write>(fault: &Fault, err: &mut E) -> u8
     status(fault)
 }
 
-/// The program: prints the table of tab-separated rows, and a line feed behind it unless it is empty.
+/// Runs the command-line program: prints tab-separated rows as a table and ends with a line feed,
+/// or prints nothing if the input is empty. Returns the exit status.
 ///
-/// `words` are the program's arguments without its name: `--wrap N` and `--cut N` narrow a wider table to N columns, by
-/// wrapping or by cutting its texts, `--priority` and `none`, `min`, `max`, `left` or `right` says which columns shrink first,
-/// `--words` keeps words whole, `--stream` prints row by row. `out` gets the table in blocks, `err` one line where the run
-/// fails: the usage, or the word of the refusal, or `Input` where reading failed or the input is no UTF-8. Answers the status:
-/// 0, 1 for a refusal, 2 for wrong words, which end the run before anything is read. The whole input is read and judged before
-/// a byte is written; a failed write to `err` changes nothing.
+/// `words` are the arguments without the program's name, in any order:
+/// - `--wrap N`: wraps the cells of a table that is wider than N columns.
+/// - `--cut N`: truncates them instead.
+/// - `--words`, with `--wrap`: breaks lines between words where possible.
+/// - `--priority P`, with `--wrap` or `--cut`: which columns shrink first: `none`, `min`, `max`,
+///   `left` or `right`.
+/// - `--stream`: prints row by row.
+///
+/// The table goes to `out`, in blocks. Nothing is written before the whole input is read and
+/// checked. The exit status:
+/// - 0: the table is printed.
+/// - 1: an error. `err` gets its name: `Memory`, `Range`, `Writer`, or `Input` if reading failed or
+///   the input is not UTF-8.
+/// - 2: wrong arguments. `err` gets the usage, and nothing is read.
+///
+/// A failed write to `err` is ignored.
 pub fn run<I: Read, O: Write, E: Write>(
     alloc: Global,
     words: &[String],

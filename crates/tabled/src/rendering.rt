@@ -1,4 +1,4 @@
-//! The table of a text.
+//! `render`: prints a text as a table.
 ghost use Rattle.std.specs.Prelude.{◌≡◌, ◌⊎◌, IfErr, IfOk, false, length};
 ghost use Rattle.std.specs.List.{All};
 ghost use Rattle.tabled_text.specs.Measure.{lines_of};
@@ -40,7 +40,7 @@ fn styled_settings(alloc: Global, style: Style) -> Result<ColoredConfig, TableEr
     Ok(config)
 }
 
-/// Prints the table that a plan makes of records under some settings, once all of it is measured.
+/// Prints the table of some records and settings under a plan. Measures all of it first.
 fn print_measured<R: PeekableRecords, S: TextSink>(
     alloc: Global,
     rows: &R,
@@ -58,7 +58,7 @@ fn print_measured<R: PeekableRecords, S: TextSink>(
     print_narrowed(alloc, sink, &mut lend_cells(alloc, rows)?, config, how)
 }
 
-/// Prints the table that a plan makes of records of single lines.
+/// Prints the table of some records under a plan. Each cell is a single line.
 fn print_records<R: PeekableRecords, S: TextSink>(
     alloc: Global,
     rows: &R,
@@ -77,10 +77,17 @@ fn print_records<R: PeekableRecords, S: TextSink>(
     }
 }
 
-/// Prints the table that a plan makes of a text: a row a line (a last line feed ends the last row, and the empty text has
-/// none), a cell between tabs, short rows lengthened with empty cells. No text is copied but those that are wrapped or cut.
-/// Refused for memory, with `Range` before the first byte where a total passes the greatest `usize`, and for what the sink
-/// refuses; then a beginning went out. Whatever the cells are, each line takes the same columns.
+/// Prints tab-separated rows as a table, under a plan.
+///
+/// A row ends at a line feed and a cell at a tab. The empty text has no rows, and short rows get
+/// empty cells. All lines of the table are equally wide, whatever the cells hold. Only the cells
+/// that are wrapped or cut are copied.
+///
+/// Errors:
+/// - `Memory`: an allocation failed. Something may be written already, if the plan streams or the
+///   sink grows.
+/// - `Range`: a total passes `usize::MAX`. Nothing is written.
+/// - `Writer`: the sink failed to write. A beginning of the table may be written.
 pub fn render<S: TextSink>(
     alloc: Global,
     text: &str,
@@ -97,8 +104,11 @@ pub fn render<S: TextSink>(
     print_records(alloc, &rows, plan, sink)
 }
 
-/// `render` under the frame of a style. All of the table is measured before it is printed, under `Plan::Streamed` too, which
-/// prints what `Plan::Buffered` does. Whatever the cells are, each line takes the same columns where the style keeps them apart.
+/// Prints tab-separated rows as a table in a style, under a plan.
+///
+/// Same input and errors as `render`. All of the table is measured before it is printed, so that
+/// `Plan::Streamed` prints what `Plan::Buffered` does. All lines are equally wide if the style
+/// separates the cells.
 pub fn render_styled<S: TextSink>(
     alloc: Global,
     text: &str,

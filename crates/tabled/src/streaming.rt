@@ -1,4 +1,4 @@
-//! Tables that are printed row by row.
+//! Printing records through `IterTable`.
 ghost use Rattle.std.specs.Prelude.{◌≡◌, false, length};
 ghost use Rattle.std.specs.List.{All};
 ghost use Rattle.tabled_text.specs.Measure.{lines_of};
@@ -14,7 +14,7 @@ use tabled_base::{CellText, ExactRecords, TableError, VecRecords};
 use tabled_grid::TextSink;
 use tabled_table::IterTable;
 
-/// Prints records as a stream that reads all of their rows ahead.
+/// Prints records as an `IterTable` that reads all rows ahead.
 pub(crate) fn print_streamed<T: CellText, S: TextSink>(
     alloc: Global,
     sink: &mut S,

@@ -1,4 +1,4 @@
--- The words of a refusal.
+-- The texts of errors.
 use Rattle.std.specs.Prelude.{ℕ, List, codes}
 use Rattle.tabled_base.specs.declared.error.TableError.{TableError}
 use Rattle.tabled_base.specs.declared.error.TableError.TheVariants.{Memory, ShortWidths, ShortHeights, Narrow, Range, Writer}

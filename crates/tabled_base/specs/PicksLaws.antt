@@ -1,4 +1,4 @@
--- No part that a selection names lies outside of the records.
+-- Every entity that a selection picks lies inside the records.
 use Rattle.std.proofs.Common.{◌≡◌, ℕ, ◌+◌, ◌-◌, ◌<◌, ◌≤◌, ◌&&◌, nat_lt, List, [], ◌∷◌, map, min, zero, suc, Option, Some, None, sym, subst, arith, ⊎_elim}
 use Rattle.std.specs.Prelude.{if◌then◌else◌}
 use Rattle.std.specs.List.{All, range_with_len}
@@ -48,7 +48,7 @@ picked_cell-inside row column rows columns =
     (λ no. subst (λ b. All P (if b then Cell row column ∷ [] else [])) (sym no) (All-nil P))
     (cases_Bool there)
 
--- numbers that end at or before a count
+-- n numbers from `from` on are below `count`, if they end there or before
 range-below : (from n count : ℕ) → from + n ≤ count → All (λ i. i < count) (range_with_len from n)
 range-below from zero count h = All-nil (λ i. i < count)
 range-below from (suc n) count h = All-cons (λ i. i < count) from (range_with_len (from + 1) n) (omega arith)

@@ -1,4 +1,4 @@
-//! A builder of records, row by row.
+//! `Builder`, which makes records row by row.
 ghost use Rattle.std.specs.Prelude.{◌≡◌, ◌≤◌, ℕ, List, [], IfOk, IfErr, OnErr, OnOk, ◌∷◌, ◌++◌, length, map, vec_capacity};
 ghost use Rattle.std.specs.Iterator.{IsFiniteIterable};
 ghost use Rattle.std.specs.Borrow.{RestsIfErr, sem};
@@ -15,12 +15,12 @@ use crate::vec_records::{VecRecords, first_length};
 use std::alloc::Global;
 use std::marker::Model;
 
-/// Collects rows of texts. Short rows are lengthened with empty cells at once, so that all are equally
-/// long.
+/// Collects rows of cells. Shorter rows are filled up with empty cells at once, so that all rows
+/// are equally long.
 #[derive(Debug, Drop)]
 pub struct Builder {
     rows: Vec<Vec<Text<String>>>,
-    // How many cells a row that comes is given room for.
+    // The capacity of each new row, in cells.
     room: usize,
 }
 
@@ -35,7 +35,7 @@ impl Model for Builder {
 impl Builder {
     ghost use Rattle.tabled_base.specs.contracts.builder.Builder.{the_row};
 
-    /// A builder with no row.
+    /// Makes a builder without rows.
     pub fn new(alloc: Global) -> Builder
         ensures { result ≡ [] }
     {
@@ -45,8 +45,8 @@ impl Builder {
         }
     }
 
-    /// A builder with no row, and with room for so many rows, and for so many cells in each that
-    /// comes.
+    /// Makes a builder without rows, with capacity for `rows` rows. Each row that is added starts
+    /// with capacity for `columns` cells. Fails with `Memory` if the allocation fails.
     pub fn with_capacity(alloc: Global, rows: usize, columns: usize) -> Result<Builder, TableError>
         ensures ok { IfOk result (λ builder. builder ≡ []) }
         ensures only { IfErr result (λ e. e ≡ Memory) }
@@ -57,8 +57,8 @@ impl Builder {
         })
     }
 
-    /// A builder of rows, the short ones lengthened. Rows that are equally long take no memory. Where it
-    /// is refused, the rows are dropped.
+    /// Makes a builder of rows, and fills up the shorter ones with empty cells. Allocates only if
+    /// the rows differ in length. If that fails with `Memory`, the rows are dropped.
     pub fn from_vec(mut rows: Vec<Vec<Text<String>>>) -> Result<Builder, TableError>
         ensures ok { IfOk result (λ builder. builder ≡ lengthened_rows (row_texts rows.items)) }
         ensures unequal { OnErr result (¬ IsRectangular (row_texts rows.items)) }
@@ -68,7 +68,8 @@ impl Builder {
         Ok(Builder { rows, room: 0 })
     }
 
-    /// A builder of the rows that a source gives, the short ones lengthened.
+    /// Makes a builder of the rows of a source, and fills up the shorter ones with empty cells.
+    /// Fails with `Memory` if an allocation fails.
     pub fn from_iter<I: IntoRecords>(alloc: Global, rows: I) -> Result<Builder, TableError>
     where
         I::Cell: CellText + Drop,
@@ -84,7 +85,8 @@ impl Builder {
         Ok(builder)
     }
 
-    /// Adds a row. Where memory is refused, the builder is as it was.
+    /// Adds a row, and fills up shorter ones with empty cells. If it fails with `Memory`, the
+    /// builder is unchanged.
     pub fn add_record<I: IntoIterator>(&mut self, cells: I) -> Result<(), TableError>
     where
         I::Item: CellText + Drop,
@@ -101,7 +103,8 @@ impl Builder {
         push_row(&mut self.rows, row)
     }
 
-    /// `add_record`, for chains of calls. Where memory is refused, the builder is as it was.
+    /// Adds a row as `add_record` does, and returns the builder to chain calls. If it fails with
+    /// `Memory`, the builder is unchanged.
     pub fn push_record<I: IntoIterator>(&mut self, cells: I) -> Result<&mut Self, TableError>
     where
         I::Item: CellText + Drop,
@@ -121,7 +124,7 @@ impl Builder {
         }
     }
 
-    /// The records of the rows. It takes no memory.
+    /// Returns the records of the rows. Doesn't allocate.
     pub fn build(self) -> VecRecords<Text<String>>
         ensures value { result ≡ self }
         ensures rectangular { IsRectangular result }
@@ -130,7 +133,7 @@ impl Builder {
     }
 }
 
-/// A builder of rows that are there. It takes no memory.
+/// Takes over the rows of records. Doesn't allocate.
 impl From<VecRecords<Text<String>>> for Builder {
     ghost from_gives = { λ records builder. builder ≡ records };
 
@@ -142,7 +145,7 @@ impl From<VecRecords<Text<String>>> for Builder {
     }
 }
 
-/// The texts of cells, measured.
+/// Copies the texts of cells into a new row, and measures them.
 fn collect_row<I: IntoIterator>(
     alloc: Global,
     room: usize,
@@ -164,7 +167,7 @@ where
     Ok(row)
 }
 
-/// Lengthens the short rows.
+/// Fills up all rows to the length of the longest.
 fn lengthen_all(rows: &mut Vec<Vec<Text<String>>>) -> Result<(), TableError>
     ensures ok { OnOk result
         (row_texts rows.new.items ≡ lengthened_rows (row_texts rows.old.items)) }
@@ -178,7 +181,7 @@ fn lengthen_all(rows: &mut Vec<Vec<Text<String>>>) -> Result<(), TableError>
     Ok(())
 }
 
-/// How many cells the longest row has.
+/// Returns the number of cells in the longest row.
 fn longest_row(rows: &[Vec<Text<String>>]) -> usize
     ensures { result ≡ longest (row_texts rows.now) }
 {
@@ -189,7 +192,7 @@ fn longest_row(rows: &[Vec<Text<String>>]) -> usize
     columns
 }
 
-/// Puts a row behind the others, and lengthens the short ones.
+/// Appends a row, and fills up the shorter ones.
 fn push_row(rows: &mut Vec<Vec<Text<String>>>, row: Vec<Text<String>>) -> Result<(), TableError>
     requires { IsRectangular (row_texts rows.old.items) }
     ensures ok { OnOk result
@@ -205,7 +208,7 @@ fn push_row(rows: &mut Vec<Vec<Text<String>>>, row: Vec<Text<String>>) -> Result
     }
 }
 
-/// Puts a row behind others that are shorter, and lengthens these.
+/// Appends a row that is longer than the others, and fills up the others.
 fn push_longer(rows: &mut Vec<Vec<Text<String>>>, row: Vec<Text<String>>) -> Result<(), TableError>
     ensures ok { let longest = length row.items in OnOk result
         (row_texts rows.new.items
@@ -221,7 +224,7 @@ fn push_longer(rows: &mut Vec<Vec<Text<String>>>, row: Vec<Text<String>>) -> Res
     Ok(())
 }
 
-/// Puts a row behind others that are as long as it or longer, and lengthens it.
+/// Appends a row of at most `columns` cells, filled up to `columns`.
 fn push_shorter(
     rows: &mut Vec<Vec<Text<String>>>,
     mut row: Vec<Text<String>>,
@@ -239,7 +242,7 @@ fn push_shorter(
     Ok(())
 }
 
-/// Makes room in each row for so many cells.
+/// Reserves capacity for `columns` cells in each row.
 fn reserve_rows(rows: &mut [Vec<Text<String>>], columns: usize) -> Result<(), TableError>
     ensures items { row_texts rows.new ≡ row_texts rows.old }
     ensures ok { OnOk result (All (λ row. columns ≤ vec_capacity row) rows.new) }
@@ -252,7 +255,7 @@ fn reserve_rows(rows: &mut [Vec<Text<String>>], columns: usize) -> Result<(), Ta
     Ok(())
 }
 
-/// Lengthens rows that have the room.
+/// Fills up rows to `columns` cells, within their capacity.
 fn lengthen_rows(rows: &mut [Vec<Text<String>>], columns: usize)
     requires { All (λ row. columns ≤ vec_capacity row) rows.old }
     ensures { row_texts rows.new ≡ map (lengthened columns) (row_texts rows.old) }
@@ -262,7 +265,7 @@ fn lengthen_rows(rows: &mut [Vec<Text<String>>], columns: usize)
     }
 }
 
-/// Lengthens a row that has the room.
+/// Fills up a row to `columns` cells, within its capacity.
 fn lengthen_row(row: &mut Vec<Text<String>>, columns: usize)
     requires { columns ≤ vec_capacity row.old }
     ensures items { row.new.items ≡ lengthened columns row.old.items }

@@ -1,4 +1,4 @@
-//! What a call of the library refuses with.
+//! `TableError`, the error of all calls of the library.
 ghost use Rattle.std.specs.Prelude.{◌≡◌, Some};
 ghost use Rattle.tabled_base.specs.Error.{error_text};
 ghost use Rattle.tabled_base.specs.declared.error.TableError.TheVariants.{Memory};
@@ -7,25 +7,25 @@ use std::alloc::{AllocError, AllocFailed};
 use std::error::Error;
 use std::fmt;
 
-/// A refusal, with its cause.
+/// Why a call failed.
 #[derive(Clone, Copy, Debug, PartialEq, Eq)]
 pub enum TableError {
-    /// A growth was refused.
+    /// An allocation failed.
     Memory,
     /// Fewer widths are stored than there are columns.
     ShortWidths,
     /// Fewer heights are stored than there are rows.
     ShortHeights,
-    /// A cell's text and its left and right padding take more columns than its column has.
+    /// A cell's text with its left and right padding is wider than its column.
     Narrow {
-        /// The row of the first such cell, row by row.
+        /// The row of the first such cell, in order of rows.
         row: usize,
         /// The column of that cell.
         column: usize,
     },
-    /// A sum or product passes the greatest `usize`.
+    /// A sum or product exceeds `usize::MAX`.
     Range,
-    /// A write failed, or took no bytes of a text that has some.
+    /// A write failed, or wrote no bytes of a nonempty text.
     Writer,
 }
 

@@ -1,10 +1,10 @@
-//! Sources of rows that are walked once.
+//! `IntoRecords`, the sources of rows that are read once.
 ghost use Rattle.std.specs.Prelude.{◌≡◌, Bool, List, true};
 ghost use Rattle.tabled_base.specs.Laws.{whole_rows};
 ghost use Rattle.tabled_base.specs.RowsGiven.{RowsBegin, RowsEnd, RowsGiven};
 
-/// What gives rows of cells, one after another: vectors, slices and arrays of rows, owned or lent,
-/// and every iterator of rows.
+/// A source of rows of cells: vectors, slices and arrays of rows, owned or borrowed, and every
+/// iterator of rows.
 pub trait IntoRecords {
     /// A cell.
     type Cell;
@@ -15,16 +15,17 @@ pub trait IntoRecords {
     /// The rows.
     type IterRows: IntoIterator<Item = Self::IterColumns>;
 
-    // Holds of a source whose rows, and the cells of each, may be asked for and end.
+    // Holds of a source if the iterations over its rows, and over the cells of each row, end.
     ghost ends: { Self → Type 0 };
 
-    // Holds of a source and the cells, row by row, that may come of it.
+    // Relates a source to the cells that it may yield, row by row.
     ghost gives: { Self → List (List Self.Cell) → Type 0 };
 
-    // Holds of a source, the cells, row by row, that may come of it first, and whether these are all.
+    // Relates a source to the cells that it may yield first, row by row. The flag says that these
+    // are all.
     ghost begins: { Self → List (List Self.Cell) → Bool → Type 0 };
 
-    /// The rows, from the first.
+    /// Returns the rows, in order.
     fn iter_rows(self) -> Self::IterRows
         ensures ends { ends self → RowsEnd Self.IterRows.into_iter_gives
             Self.IterRows.IntoIter.can_next Self.IterRows.IntoIter.next_gives
@@ -37,7 +38,7 @@ pub trait IntoRecords {
             Self.IterRows.IntoIter.next_gives Self.IterColumns.into_iter_gives
             Self.IterColumns.IntoIter.next_gives result cells whole → begins self cells whole };
 
-    // All rows that may come are rows that it may give.
+    // If the cells that are yielded first are all, they are what the source yields.
     ghost whole_rows: { (source : Self) (cells : List (List Self.Cell)) → begins source cells true → gives source cells };
 }
 

@@ -1,14 +1,14 @@
-//! What a table is made of: strings with their measures, rectangular records of them, the traits
-//! of records and options, and the errors of all calls.
+//! The parts of a table: measured strings, rectangular records of them, the traits of records and
+//! options, and the errors of all calls.
 //!
-//! - `text.rt`: `Text`, a string that keeps its width and its number of lines.
-//! - `short_or.rt`: short strings, stored inline.
+//! - `text.rt`: `Text`, a string with its width and number of lines.
+//! - `short_or.rt`: strings that are stored inline if they are short.
 //! - `vec_records.rt`: `VecRecords`, rows of equal length in vectors.
 //! - `builder.rt`: `Builder`, which makes records row by row.
-//! - `records.rt`: the traits of records: `Records`, `ExactRecords`, `PeekableRecords`,
-//!   `RecordsMut`.
-//! - `into_records.rt`: `IntoRecords`, for everything that gives rows.
-//! - `position.rt`: `Position`, a row and a column, and `Entity`, what a setting is for.
+//! - `records.rt`: `CellText`, and the traits of records: `Records`, `ExactRecords`,
+//!   `PeekableRecords`, `RecordsMut`.
+//! - `into_records.rt`: `IntoRecords`, the sources of rows.
+//! - `position.rt`: `Position`, a row and a column, and `Entity`, the cells that a setting covers.
 //! - `objects.rt`, `segment.rt`: selections of rows, columns and cells.
 //! - `options.rt`: `TableOption` and `CellOption`.
 //! - `error.rt`: `TableError`.

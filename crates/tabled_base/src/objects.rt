@@ -1,4 +1,4 @@
-//! Selections of rows, columns and cells.
+//! `Object`, and the selections of one row, column or cell.
 ghost use Rattle.std.specs.Prelude.{◌≡◌, ◌<◌, ℕ, IfErr, IfOk, OnErr, List, length, map};
 ghost use Rattle.std.specs.Option.{option_to_list};
 ghost use Rattle.tabled_base.specs.Cells.{columns};
@@ -12,13 +12,13 @@ use crate::position::Entity;
 use crate::records::ExactRecords;
 use std::alloc::Global;
 
-/// What names parts of records.
+/// A selection of entities of records.
 pub trait Object<R: ExactRecords> {
-    // The parts, in order, of so many rows and columns.
+    // The selected entities, in order, for a number of rows and of columns.
     ghost picks: { Self → ℕ → ℕ → List Entity };
 
-    /// The parts, in order; none of them lies outside of the records. Memory is refused only where there
-    /// are some.
+    /// Returns the selected entities, in order. All lie inside the records. Fails with `Memory`
+    /// only if at least one is selected.
     fn cells(&self, alloc: Global, records: &R) -> Result<Vec<Entity>, TableError>
         ensures picked { IfOk result (λ all. all.items
             ≡ picks self.now (length (R.cells records.now)) (columns (R.cells records.now))) }
@@ -26,20 +26,20 @@ pub trait Object<R: ExactRecords> {
             (0 < length (picks self.now (length (R.cells records.now)) (columns (R.cells records.now)))) }
         ensures only { IfErr result (λ e. e ≡ Memory) };
 
-    // None of the parts lies outside.
+    // Every selected entity lies inside the records.
     ghost inside: { (s : Self) (rows columns : ℕ) → All (IsPart rows columns) (picks s rows columns) };
 }
 
-/// One of some rows or columns.
+/// The index of a row or column, or the last one.
 #[derive(Clone, Copy, Debug)]
 pub(crate) enum Place {
-    /// By its index.
+    /// The one at an index, from 0.
     At(usize),
-    /// The last.
+    /// The last one.
     Last,
 }
 
-/// One row.
+/// A selection of one row. It is empty if there is no such row.
 #[derive(Debug, Drop)]
 pub struct Rows {
     place: Place,
@@ -48,7 +48,7 @@ pub struct Rows {
 impl Rows {
     ghost use Rattle.tabled_base.specs.declared.objects.Place.TheVariants.{At, Last};
 
-    /// The row at an index, from the top.
+    /// Selects the row at an index, from 0 at the top.
     pub fn one(index: usize) -> Rows
         ensures { result.place ≡ At index }
     {
@@ -56,14 +56,14 @@ impl Rows {
         Rows { place }
     }
 
-    /// The first row.
+    /// Selects the first row.
     pub fn first() -> Rows
         ensures { result.place ≡ At 0 }
     {
         Rows::one(0)
     }
 
-    /// The last row.
+    /// Selects the last row.
     pub fn last() -> Rows
         ensures { result.place ≡ Last }
     {
@@ -88,7 +88,7 @@ impl<R: ExactRecords> Object<R> for Rows {
     }
 }
 
-/// One column.
+/// A selection of one column. It is empty if there is no such column.
 #[derive(Debug, Drop)]
 pub struct Columns {
     place: Place,
@@ -97,7 +97,7 @@ pub struct Columns {
 impl Columns {
     ghost use Rattle.tabled_base.specs.declared.objects.Place.TheVariants.{At, Last};
 
-    /// The column at an index, from the left.
+    /// Selects the column at an index, from 0 at the left.
     pub fn one(index: usize) -> Columns
         ensures { result.place ≡ At index }
     {
@@ -105,14 +105,14 @@ impl Columns {
         Columns { place }
     }
 
-    /// The first column.
+    /// Selects the first column.
     pub fn first() -> Columns
         ensures { result.place ≡ At 0 }
     {
         Columns::one(0)
     }
 
-    /// The last column.
+    /// Selects the last column.
     pub fn last() -> Columns
         ensures { result.place ≡ Last }
     {
@@ -137,7 +137,7 @@ impl<R: ExactRecords> Object<R> for Columns {
     }
 }
 
-/// One cell.
+/// A selection of one cell. It is empty if there is no such cell.
 #[derive(Debug, Drop)]
 pub struct Cell {
     row: usize,
@@ -145,7 +145,7 @@ pub struct Cell {
 }
 
 impl Cell {
-    /// The cell in a row and a column, both from 0.
+    /// Selects the cell in a row and a column, both from 0.
     pub fn new(row: usize, column: usize) -> Cell
         ensures { result ≡ record { row = row; column = column } }
     {
@@ -170,7 +170,7 @@ impl<R: ExactRecords> Object<R> for Cell {
     }
 }
 
-/// The cell in a row and a column.
+/// Selects the cell in a row and a column, both from 0.
 impl<R: ExactRecords> Object<R> for (usize, usize) {
     ghost use Rattle.tabled_base.specs.Picks.{picked_cell};
     ghost use Rattle.tabled_base.specs.PicksLaws.{picked_cell-inside};
@@ -184,7 +184,7 @@ impl<R: ExactRecords> Object<R> for (usize, usize) {
     }
 }
 
-/// The index of a row or column, where it is there.
+/// Returns the index of the row or column, or `None` if there is no such one.
 fn find(place: Place, count: usize) -> Option<usize>
     ensures { option_to_list result ≡ picked place count }
 {

@@ -1,4 +1,4 @@
-//! What changes tables and cells.
+//! `TableOption` and `CellOption`, which change tables and cells.
 ghost use Rattle.std.specs.Prelude.{◌≡◌, ◌⊎◌, IfErr, OnOk, Option, Some};
 ghost use Rattle.tabled_base.specs.declared.error.TableError.{TableError};
 ghost use Rattle.tabled_base.specs.declared.error.TableError.TheVariants.{Memory, Range};
@@ -8,25 +8,25 @@ ghost use Rattle.tabled_base.specs.declared.position.Entity.TheVariants.{Global}
 use crate::error::TableError;
 use crate::position::Entity;
 
-/// What changes a table: its records, its configuration and its stored sizes.
+/// An option that changes a table: its records, its configuration and its stored sizes.
 pub trait TableOption<R, C, D> {
-    // Holds of the option, the three parts before a change, and what the change may leave of them.
+    // Relates the option and the three parts before the change to what the parts may be after it.
     ghost changes: { Self → R → C → D → R → C → D → Type 0 };
 
-    // The same for a refusal: there is none where nothing else is said.
+    // The same relation for a change that fails with an error. By default no change fails.
     ghost refuses: { Self → TableError → R → C → D → R → C → D → Type 0 } = { λ _ _ _ _ _ _ _ _. ⊥ };
 
-    // Holds where a sum or product of the change passes the greatest `usize`: none does where nothing else is said.
+    // Holds if a sum or product of the change exceeds `usize::MAX`. By default none does.
     ghost out_of_range: { Self → R → C → D → Type 0 } = { λ _ _ _ _. ⊥ };
 
-    // What a caller may rely on after a change, of the same parts: nothing where nothing else is said.
+    // What a caller may rely on after a change, of the same parts. By default nothing.
     ghost promises: { Self → R → C → D → R → C → D → Type 0 } = { λ _ _ _ _ _ _ _. Unit {0} };
 
-    // What the change leaves to be measured anew: the whole table where nothing else is said.
+    // The entity whose sizes must be measured again after the change. By default the entire table.
     ghost hint: { Self → Option Entity } = { λ _. Some Global };
 
-    /// Changes the table. It is refused for want of memory, or with `Range` where a sum or product
-    /// passes the greatest `usize`.
+    /// Changes the table. Fails with `Memory` if an allocation fails, or with `Range` if a sum or
+    /// product exceeds `usize::MAX`.
     fn change(self, records: &mut R, cfg: &mut C, dims: &mut D) -> Result<(), TableError>
         ensures ok { OnOk result (changes self
             records.old cfg.old dims.old records.new cfg.new dims.new) }
@@ -38,28 +38,28 @@ pub trait TableOption<R, C, D> {
         ensures range { IfErr result (λ e. e ≡ Range → out_of_range self
             records.old cfg.old dims.old) };
 
-    /// What the change leaves to be measured anew: the sizes of an entity, or nothing.
+    /// Returns the entity whose sizes must be measured again after the change, or `None`.
     fn hint_change(&self) -> Option<Entity>
         ensures { result ≡ hint self.now };
 }
 
-/// What changes cells of a table, and what is set for them.
+/// An option that changes cells of a table, or settings for them.
 pub trait CellOption<R, C> {
-    // Holds of the option, records and configuration before a change of an entity's cells, and what
-    // it may leave of both.
+    // Relates the option, the records, the configuration and an entity before the change to what
+    // records and configuration may be after it.
     ghost changes: { Self → R → C → Entity → R → C → Type 0 };
 
-    // The same for a refusal: there is none where nothing else is said.
+    // The same relation for a change that fails with an error. By default no change fails.
     ghost refuses: { Self → TableError → R → C → Entity → R → C → Type 0 } = { λ _ _ _ _ _ _ _. ⊥ };
 
-    // Holds where a sum or product of the change passes the greatest `usize`: none does where nothing else is said.
+    // Holds if a sum or product of the change exceeds `usize::MAX`. By default none does.
     ghost out_of_range: { Self → R → C → Entity → Type 0 } = { λ _ _ _ _. ⊥ };
 
-    // What the change leaves to be measured anew: the whole table where nothing else is said.
+    // The entity whose sizes must be measured again after the change. By default the entire table.
     ghost hint: { Self → Option Entity } = { λ _. Some Global };
 
-    /// Changes the cells of an entity. It is refused for want of memory, or with `Range` where a sum
-    /// or product passes the greatest `usize`.
+    /// Changes the cells of an entity. Fails with `Memory` if an allocation fails, or with `Range`
+    /// if a sum or product exceeds `usize::MAX`.
     fn change(&self, records: &mut R, cfg: &mut C, entity: Entity) -> Result<(), TableError>
         ensures ok { OnOk result (changes self.now
             records.old cfg.old entity records.new cfg.new) }
@@ -69,7 +69,7 @@ pub trait CellOption<R, C> {
         ensures range { IfErr result (λ e. e ≡ Range
             → out_of_range self.now records.old cfg.old entity) };
 
-    /// What the change leaves to be measured anew: the sizes of an entity, or nothing.
+    /// Returns the entity whose sizes must be measured again after the change, or `None`.
     fn hint_change(&self) -> Option<Entity>
         ensures { result ≡ hint self.now };
 }

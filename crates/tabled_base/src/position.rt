@@ -1,4 +1,4 @@
-//! Places of cells, and what a setting covers.
+//! `Position`, a row and a column, and `Entity`, the cells that a setting covers.
 ghost use Rattle.std.specs.Prelude.{◌≡◌};
 
 /// The row and the column of a cell, both from 0.
@@ -11,7 +11,7 @@ pub struct Position {
 }
 
 impl Position {
-    /// The place in a row and a column.
+    /// Makes the position in a row and a column.
     pub fn new(row: usize, column: usize) -> Position
         ensures { result ≡ record { row = row; column = column } }
     {
@@ -27,7 +27,7 @@ impl From<(usize, usize)> for Position {
     }
 }
 
-/// The cells that a setting or a change is for; rows and columns count from 0.
+/// The cells that a setting or a change applies to. Rows and columns count from 0.
 #[derive(Clone, Copy, Debug, PartialEq, Eq, PartialOrd, Ord, Hash)]
 pub enum Entity {
     /// All cells.

@@ -1,4 +1,4 @@
-//! What records of cells offer.
+//! The traits of records and of their cells.
 ghost use Rattle.std.specs.Prelude.{◌≡◌, ◌++◌, ℕ, List, IfErr, OnErr, OnOk, length, string_bytes, take};
 ghost use Rattle.std.specs.Str.{IsCharBoundary};
 ghost use Rattle.tabled_base.specs.Cells.{IsInside, IsRectangular, cell_at, columns, with_cell};
@@ -12,23 +12,23 @@ use crate::position::Position;
 use std::alloc::Global;
 use tabled_text::{count_lines, text_width};
 
-/// What holds the text of a cell.
+/// A value that holds the text of a cell.
 pub trait CellText {
     // The bytes of the text.
     ghost text: { Self → List ℕ };
 
-    /// The text.
+    /// Returns the text.
     fn text(&self) -> &str
         ensures { result.now ≡ text self.now };
 
-    /// Its columns, those of its widest line.
+    /// Returns the width of the text in columns: that of its widest line.
     fn width(&self) -> usize
         ensures { result ≡ text_columns (text self.now) }
     {
         text_width(self.text())
     }
 
-    /// Its lines.
+    /// Returns the number of lines of the text.
     fn count_lines(&self) -> usize
         ensures { result ≡ length (lines_of (text self.now)) }
     {
@@ -68,57 +68,59 @@ impl<T: CellText> CellText for &T {
     }
 }
 
-/// What gives its rows; it need not know how many there are, nor be rectangular.
+/// Records that yield their rows once. Their number needn't be known, and rows may differ in
+/// length.
 pub trait Records {
-    /// What gives the rows.
+    /// The source of the rows.
     type Iter: IntoRecords;
 
-    // Holds of records whose rows, and the cells of each, may be asked for and end.
+    // Holds of records if the iterations over their rows, and over the cells of each row, end.
     ghost ends: { Self → Type 0 };
 
-    // Holds of records and the cells, row by row, that may come of them.
+    // Relates records to the cells that they may yield, row by row.
     ghost gives: { Self → List (List Self.Iter.Cell) → Type 0 };
 
-    /// What gives the rows.
+    /// Returns the source of the rows.
     fn iter_rows(self) -> Self::Iter
         ensures ends { ends self → Self.Iter.ends result }
         ensures gives { (cells : List (List Self.Iter.Cell)) → Self.Iter.gives result cells
             → gives self cells };
 }
 
-/// Rows of equal length that are counted.
+/// Records with a known number of rows, which are equally long.
 pub trait ExactRecords {
     // The texts of the cells, row by row.
     ghost cells: { Self → List (List (List ℕ)) };
 
-    /// How many rows there are.
+    /// Returns the number of rows.
     fn count_rows(&self) -> usize
         ensures { result ≡ length (cells self.now) };
 
-    /// How many cells each row has; 0 where there is no row.
+    /// Returns the number of cells in each row, or 0 if there are no rows.
     fn count_columns(&self) -> usize
         ensures columns { result ≡ columns (cells self.now) }
         ensures rectangular { IsRectangular (cells self.now) };
 }
 
-/// Cells that can be read at any place.
+/// Records whose cells can be read in any order.
 pub trait PeekableRecords: ExactRecords {
-    /// The text of a cell.
+    /// Returns the text of a cell.
     fn get_text(&self, at: Position) -> &str
         requires { IsInside (Self.cells self.now) at.row at.column }
         ensures { result.now ≡ cell_at (Self.cells self.now) at.row at.column };
 
-    /// The columns of a cell's text.
+    /// Returns the width of a cell's text in columns.
     fn get_width(&self, at: Position) -> usize
         requires { IsInside (Self.cells self.now) at.row at.column }
         ensures { result ≡ text_columns (cell_at (Self.cells self.now) at.row at.column) };
 
-    /// The lines of a cell's text.
+    /// Returns the number of lines of a cell's text.
     fn count_lines(&self, at: Position) -> usize
         requires { IsInside (Self.cells self.now) at.row at.column }
         ensures { result ≡ length (lines_of (cell_at (Self.cells self.now) at.row at.column)) };
 
-    /// The text of a cell, its columns and its lines, by one look-up where records keep them together.
+    /// Returns the text of a cell, its width in columns and its number of lines. Takes one lookup
+    /// if the records store them together.
     fn get_measured(&self, at: Position) -> (&str, usize, usize)
         requires { IsInside (Self.cells self.now) at.row at.column }
         ensures text { result.0.now ≡ cell_at (Self.cells self.now) at.row at.column }
@@ -129,9 +131,9 @@ pub trait PeekableRecords: ExactRecords {
     }
 }
 
-/// Cells that can be changed.
+/// Records whose cells can be changed.
 pub trait RecordsMut: PeekableRecords {
-    /// Gives a cell another text. The other cells stay, and all do where memory is refused.
+    /// Replaces the text of a cell. If it fails with `Memory`, no cell is changed.
     fn set(&mut self, at: Position, text: String) -> Result<(), TableError>
         requires { IsInside (Self.cells self.old) at.row at.column }
         ensures ok { OnOk result (Self.cells self.new
@@ -139,8 +141,8 @@ pub trait RecordsMut: PeekableRecords {
         ensures err { OnErr result (Self.cells self.new ≡ Self.cells self.old) }
         ensures only { IfErr result (λ e. e ≡ Memory) };
 
-    /// Lets the text of a cell end after so many bytes, and puts an ending behind them. That takes no memory, as with an
-    /// ending the text has at most 16 bytes. The other cells stay.
+    /// Truncates the text of a cell to `bytes` bytes and appends an ending. A nonempty ending must
+    /// leave at most 16 bytes in all, so that nothing is allocated. The other cells are unchanged.
     fn shorten(&mut self, at: Position, bytes: usize, ending: &str)
         requires inside { IsInside (Self.cells self.old) at.row at.column }
         requires boundary { IsCharBoundary (cell_at (Self.cells self.old) at.row at.column) bytes }
@@ -148,6 +150,6 @@ pub trait RecordsMut: PeekableRecords {
         ensures { Self.cells self.new ≡ with_cell (Self.cells self.old) at.row at.column
             (take bytes (cell_at (Self.cells self.old) at.row at.column) ++ ending.now) };
 
-    /// What the records grow by.
+    /// Returns the allocator of the records.
     fn allocator(&self) -> Global;
 }

@@ -1,4 +1,4 @@
-//! Selections of many cells, or of all.
+//! `Segment`, a selection of a block of cells or of the entire table.
 ghost use Rattle.std.specs.Prelude.{◌≡◌, ◌++◌, ◌<◌, ◌^◌, ℕ, IfErr, None, OnErr, OnOk, length, map};
 ghost use Rattle.tabled_base.specs.Picks.{between, block, segment, stretch, within};
 ghost use Rattle.tabled_base.specs.declared.error.TableError.TheVariants.{Memory};
@@ -11,36 +11,37 @@ use crate::records::ExactRecords;
 use std::alloc::Global;
 use std::ops::{Bound, RangeBounds};
 
-/// Rows or columns from one on, before another if there is one.
+/// A range of rows or columns: from `start` on, and before `end` if there is one.
 #[derive(Clone, Copy, Debug)]
 pub(crate) struct Stretch {
     pub start: usize,
     pub end: Option<usize>,
 }
 
-/// The rows and columns of some cells.
+/// A block of cells, as its rows and columns.
 #[derive(Clone, Copy, Debug)]
 pub(crate) struct Block {
     pub rows: Stretch,
     pub columns: Stretch,
 }
 
-/// The whole of a table, or cells of it.
+/// A selection of the entire table, or of a block of its cells.
 #[derive(Debug, Drop)]
 pub struct Segment {
-    // Nothing for the whole.
+    // `None` for the entire table.
     block: Option<Block>,
 }
 
 impl Segment {
-    /// The whole table, as one part.
+    /// Selects the entire table, as one entity.
     pub fn all() -> Segment
         ensures { result.block ≡ None }
     {
         Segment { block: None }
     }
 
-    /// The cells in the rows and columns of two ranges, each a part of its own, row by row.
+    /// Selects the cells in a range of rows and a range of columns, each as its own entity, row by
+    /// row. Indices outside of the table select nothing.
     pub fn new<R: RangeBounds<usize>, C: RangeBounds<usize>>(rows: R, columns: C) -> Segment
         ensures { R.has_bounds rows → C.has_bounds columns → (m n : ℕ) → m < 2 ^ 64 → n < 2 ^ 64
             → segment result.block m n ≡ block (within (R.start_bound rows) (R.end_bound rows) m)
@@ -56,7 +57,7 @@ impl Segment {
 }
 
 impl Stretch {
-    /// The ends of a range.
+    /// Stores the bounds of a range.
     fn new<R: RangeBounds<usize>>(range: &R) -> Stretch
         ensures { R.has_bounds range.now → (count : ℕ) → count < 2 ^ 64
             → stretch result count ≡ within (R.start_bound range.now) (R.end_bound range.now) count }
@@ -74,7 +75,7 @@ impl Stretch {
         Stretch { start, end }
     }
 
-    /// Its ends among so many rows or columns.
+    /// Returns its bounds, with the end limited to `count`.
     fn ends(self, count: usize) -> (usize, usize)
         ensures { between result.0 result.1 ≡ stretch self count }
     {
@@ -103,7 +104,7 @@ impl<R: ExactRecords> Object<R> for Segment {
     }
 }
 
-/// Adds the cells between two rows and two columns, row by row.
+/// Adds the cells in a range of rows and a range of columns, row by row.
 fn push_block(
     all: &mut Vec<Entity>,
     rows: (usize, usize),
@@ -121,7 +122,7 @@ fn push_block(
     Ok(())
 }
 
-/// Adds the cells of a row between two columns.
+/// Adds the cells of a row in a range of columns.
 fn push_row(all: &mut Vec<Entity>, row: usize, columns: (usize, usize)) -> Result<(), TableError>
     ensures ok { OnOk result
         (all.new.items ≡ all.old.items ++ map (Cell row) (between columns.0 columns.1)) }

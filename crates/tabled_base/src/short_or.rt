@@ -1,4 +1,4 @@
-//! A text of few bytes, which stands in a value itself, or a text of another type.
+//! `ShortOr`, a string that is stored inline if it is short.
 ghost use Rattle.std.specs.Prelude.{◌≡◌, ◌+◌, ◌++◌, ◌<◌, ◌≤◌, IfErr, IfOk, length, string_bytes, take};
 ghost use Rattle.std.specs.Str.{IsCharBoundary};
 ghost use Rattle.tabled_base.specs.ShortOr.{bytes_of};
@@ -11,19 +11,19 @@ use std::borrow::CowStr;
 use std::convert::AsStr;
 use std::fmt;
 
-/// The most bytes of a text that stands in its cell. With its length it is as large as a `String` itself.
+/// The most bytes of a string that is stored inline. With its length it is as large as a `String`.
 pub const SHORT_TEXT: usize = 16;
 
-/// A text of few bytes, which takes no memory of its own, or one of another type.
+/// A string that is stored inline, or one of another type.
 #[derive(Drop)]
 pub(crate) enum ShortOr<S> {
     Short(ArrayString<SHORT_TEXT>),
     Other(S),
 }
 
-/// A text that can end before its end.
+/// A string that can be truncated without allocating.
 pub(crate) trait Shorten: AsStr {
-    /// Lets the text end after so many bytes, which takes no memory.
+    /// Truncates the string to `length` bytes. Never allocates.
     fn shorten(&mut self, length: usize)
         requires { IsCharBoundary (Self.AsStr.text self.old) length }
         ensures { Self.AsStr.text self.new ≡ take length (Self.AsStr.text self.old) };
@@ -48,7 +48,7 @@ impl<'a> Shorten for CowStr<'a, Global> {
 }
 
 impl<S: AsStr> ShortOr<S> {
-    /// The text.
+    /// Returns the text.
     #[inline(always)]
     pub fn as_str(&self) -> &str
         ensures { result.now ≡ bytes_of S.text self.now }
@@ -61,7 +61,7 @@ impl<S: AsStr> ShortOr<S> {
 }
 
 impl<S: Shorten> ShortOr<S> {
-    /// Lets the text end after so many bytes.
+    /// Truncates the text to `length` bytes.
     pub fn shorten(&mut self, length: usize)
         requires { IsCharBoundary (bytes_of S.AsStr.text self.old) length }
         ensures { bytes_of S.AsStr.text self.new ≡ take length (bytes_of S.AsStr.text self.old) }
@@ -74,7 +74,7 @@ impl<S: Shorten> ShortOr<S> {
 }
 
 impl<S: AsStr + Drop> ShortOr<S> {
-    /// Puts an ending behind so many bytes of the text, which together are few.
+    /// Truncates the text to `bytes` bytes and appends an ending. The result is stored inline.
     pub fn end_with(&mut self, bytes: usize, ending: &str)
         requires boundary { IsCharBoundary (bytes_of S.text self.old) bytes }
         requires few { bytes + length ending.now ≤ SHORT_TEXT }
@@ -87,7 +87,7 @@ impl<S: AsStr + Drop> ShortOr<S> {
         *self = ShortOr::Short(short);
     }
 
-    /// A text, which is let go where it is short.
+    /// Stores a short text inline and drops `text`. Stores any other as it is.
     pub fn kept(text: S) -> ShortOr<S>
         ensures { bytes_of S.text result ≡ S.text text }
     {
@@ -99,7 +99,7 @@ impl<S: AsStr + Drop> ShortOr<S> {
 }
 
 impl ShortOr<String> {
-    /// A copy of a text. Only one that isn't short takes memory.
+    /// Copies a text. Allocates only if it has more than 16 bytes, and may then fail with `Memory`.
     pub fn copied(alloc: Global, text: &str) -> Result<ShortOr<String>, TableError>
         ensures ok { IfOk result (λ copy. bytes_of string_bytes copy ≡ text.now) }
         ensures only { IfErr result (λ e. e ≡ Memory) }
@@ -111,7 +111,8 @@ impl ShortOr<String> {
         }
     }
 
-    /// The same text. Only one that isn't short allocates.
+    /// Returns a copy. Allocates only if the text has more than 16 bytes, and may then fail with
+    /// `Memory`.
     pub fn clone(&self) -> Result<ShortOr<String>, TableError>
         ensures ok { IfOk result (λ copy. bytes_of string_bytes copy ≡ bytes_of string_bytes self.now) }
         ensures only { IfErr result (λ e. e ≡ Memory) }

@@ -1,4 +1,4 @@
-//! A text with its measures.
+//! `Text`, a string with its width and number of lines.
 ghost use Rattle.std.specs.Prelude.{◌≡◌, ◌++◌, ◌<◌, ℕ, List, length, take, IfErr, IfOk};
 ghost use Rattle.std.specs.Str.{IsCharBoundary};
 ghost use Rattle.tabled_base.specs.Cells.{IsInside, cell_at};
@@ -16,8 +16,8 @@ use std::convert::AsStr;
 use std::marker::Model;
 use tabled_text::text_measures;
 
-/// A text whose columns and lines were counted once. `Text<String>` owns it, `Text<&str>` lends it. A copy of a short text
-/// stands in the value itself.
+/// A string with its width in columns and its number of lines, both measured once. `Text<String>`
+/// owns it, `Text<&str>` borrows it. `new` and `copied` store strings of at most 16 bytes inline.
 #[derive(Debug)]
 pub struct Text<S: AsStr> {
     text: ShortOr<S>,
@@ -25,7 +25,6 @@ pub struct Text<S: AsStr> {
     lines: usize,
 }
 
-/// The fields, one by one.
 impl<S: AsStr + Drop> Drop for Text<S> {
     fn drop(self) {
         let Text {
@@ -50,7 +49,7 @@ impl<S: AsStr> Model for Text<S> {
 }
 
 impl<S: AsStr + Drop> Text<S> {
-    /// Measures the text. One of at most 16 bytes is let go, since a copy of it stands in the value itself.
+    /// Measures a text. If it has at most 16 bytes, a copy is stored inline and `text` is dropped.
     pub fn new(text: S) -> Self
         ensures { result ≡ S.text text }
     {
@@ -64,7 +63,8 @@ impl<S: AsStr + Drop> Text<S> {
 }
 
 impl<S: Shorten + Drop> Text<S> {
-    /// Lets the text end after so many bytes, and puts an ending behind them.
+    /// Truncates the text to `bytes` bytes and appends an ending. A nonempty ending must leave at
+    /// most 16 bytes in all.
     pub(crate) fn shorten(&mut self, bytes: usize, ending: &str)
         requires boundary { IsCharBoundary self.old bytes }
         requires fits { FitsBehind bytes ending.now }
@@ -82,7 +82,7 @@ impl<S: Shorten + Drop> Text<S> {
 }
 
 impl<S: AsStr> Text<S> {
-    /// A text whose columns and lines are known.
+    /// Makes a `Text` of a text whose columns and lines are known.
     fn measured(text: S, columns: usize, lines: usize) -> Self
         requires columns { columns ≡ text_columns (S.text text) }
         requires lines { lines ≡ length (lines_of (S.text text)) }
@@ -97,7 +97,8 @@ impl<S: AsStr> Text<S> {
 }
 
 impl<'a> Text<CowStr<'a, Global>> {
-    /// The text of a cell of some records, lent with its measures: nothing is copied, and nothing measured again.
+    /// Borrows the text of a cell with its measures, without copying. Records that store the
+    /// measures aren't measured again.
     pub fn lend<R: PeekableRecords>(records: &'a R, at: Position) -> Text<CowStr<'a, Global>>
         requires inside { IsInside (R.cells records.now) at.row at.column }
         ensures { result ≡ cell_at (R.cells records.now) at.row at.column }
@@ -124,8 +125,8 @@ impl<S: AsStr> CellText for Text<S> {
 }
 
 impl Text<String> {
-    /// A copy of a text, measured. One of at most 16 bytes stands in the value itself, so that only a longer one may be refused
-    /// memory.
+    /// Copies and measures a text. Texts of at most 16 bytes are stored inline, so only a longer
+    /// one may fail with `Memory`.
     pub fn copied(alloc: Global, text: &str) -> Result<Text<String>, TableError>
         ensures ok { IfOk result (λ copy. copy ≡ text.now) }
         ensures only { IfErr result (λ e. e ≡ Memory) }
@@ -139,7 +140,8 @@ impl Text<String> {
         })
     }
 
-    /// The same text. One of at most 16 bytes is stored inline, so only a longer one may fail with `Memory`.
+    /// Returns a copy. Texts of at most 16 bytes are stored inline, so only a longer one may fail
+    /// with `Memory`.
     pub fn clone(&self) -> Result<Text<String>, TableError>
         ensures ok { IfOk result (λ copy. copy ≡ self.now) }
         ensures only { IfErr result (λ e. e ≡ Memory) }

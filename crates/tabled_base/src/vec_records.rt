@@ -1,4 +1,4 @@
-//! Records in vectors.
+//! `VecRecords`, rows of equal length in vectors.
 ghost use Rattle.std.specs.Prelude.{◌≡◌, ◌++◌, ℕ, List, IfErr, IfOk, OnErr, OnOk, map, string_bytes, take, ⊤};
 ghost use Rattle.std.specs.Str.{IsCharBoundary};
 ghost use Rattle.tabled_base.specs.Cells.{IsInside, IsRectangular, cell_at, columns, row_texts, texts_of, with_cell};
@@ -15,7 +15,7 @@ use std::borrow::CowStr;
 use std::convert::AsStr;
 use std::marker::Model;
 
-/// Rows of equal length.
+/// Records stored as rows of equal length.
 #[derive(Debug, Drop)]
 pub struct VecRecords<T: CellText> {
     rows: Vec<Vec<T>>,
@@ -30,7 +30,7 @@ impl<T: CellText> Model for VecRecords<T> {
 }
 
 impl<T: CellText> VecRecords<T> {
-    /// Records of rows that are equally long.
+    /// Makes records of rows, which must be equally long.
     pub fn new(rows: Vec<Vec<T>>) -> Self
         requires { IsRectangular (texts_of T.text rows.items) }
         ensures { result ≡ texts_of T.text rows.items }
@@ -38,19 +38,19 @@ impl<T: CellText> VecRecords<T> {
         VecRecords { rows }
     }
 
-    /// What the records grow by.
+    /// Returns the allocator of the records.
     pub fn allocator(&self) -> Global {
         *self.rows.allocator()
     }
 
-    /// The rows, lent.
+    /// Returns the rows as a slice.
     pub fn as_rows(&self) -> &[Vec<T>]
         ensures { texts_of T.text result.now ≡ self.now }
     {
         self.rows.as_slice()
     }
 
-    /// The rows, which are equally long.
+    /// Returns the rows, which are equally long.
     pub(crate) fn into_rows(self) -> Vec<Vec<T>>
         ensures rows { texts_of T.text result.items ≡ self }
         ensures rectangular { IsRectangular (texts_of T.text result.items) }
@@ -60,7 +60,7 @@ impl<T: CellText> VecRecords<T> {
 }
 
 impl<S: AsStr + Drop> VecRecords<Text<S>> {
-    /// Gives a cell another text.
+    /// Replaces the text of a cell.
     pub(crate) fn put(&mut self, at: Position, text: Text<S>)
         requires { IsInside self.old at.row at.column }
         ensures { self.new ≡ with_cell self.old at.row at.column text }
@@ -71,7 +71,7 @@ impl<S: AsStr + Drop> VecRecords<Text<S>> {
 }
 
 impl<S: Shorten + Drop> VecRecords<Text<S>> {
-    /// Lets the text of a cell end after so many bytes, and puts an ending behind them.
+    /// Truncates the text of a cell to `bytes` bytes and appends an ending, as `Text` does.
     fn shorten_cell(&mut self, at: Position, bytes: usize, ending: &str)
         requires inside { IsInside self.old at.row at.column }
         requires boundary { IsCharBoundary (cell_at self.old at.row at.column) bytes }
@@ -85,7 +85,7 @@ impl<S: Shorten + Drop> VecRecords<Text<S>> {
 }
 
 impl VecRecords<Text<String>> {
-    /// The same records, in memory of their own.
+    /// Returns a copy of the records. Fails with `Memory` if an allocation fails.
     pub fn clone(&self) -> Result<VecRecords<Text<String>>, TableError>
         ensures ok { IfOk result (λ copy. copy ≡ self.now) }
         ensures only { IfErr result (λ e. e ≡ Memory) }
@@ -116,7 +116,7 @@ impl Eq for VecRecords<Text<String>> {
     ghost laws = { lists_equiv (lists_equiv nat_list_eq_equiv) };
 }
 
-/// Lent records give their rows; the texts of the cells are those of the records.
+/// Borrowed records yield their rows as slices.
 impl<'a, T: CellText> Records for &'a VecRecords<T> {
     type Iter = &'a [Vec<T>];
 
@@ -165,7 +165,7 @@ impl<T: CellText> PeekableRecords for VecRecords<T> {
     }
 }
 
-/// Setting takes no memory.
+/// `set` doesn't allocate and never fails.
 impl RecordsMut for VecRecords<Text<String>> {
     fn set(&mut self, at: Position, text: String) -> Result<(), TableError>
         requires { IsInside self.old at.row at.column }
@@ -187,7 +187,7 @@ impl RecordsMut for VecRecords<Text<String>> {
     }
 }
 
-/// A cell that lent its text and is set owns its new text. Setting takes no memory.
+/// A cell that is set owns its new text. `set` doesn't allocate and never fails.
 impl<'a> RecordsMut for VecRecords<Text<CowStr<'a, Global>>> {
     fn set(&mut self, at: Position, text: String) -> Result<(), TableError>
         requires { IsInside self.old at.row at.column }
@@ -209,7 +209,7 @@ impl<'a> RecordsMut for VecRecords<Text<CowStr<'a, Global>>> {
     }
 }
 
-/// How many cells the first row has, 0 where there is no row.
+/// Returns the number of cells in the first row, or 0 if there is no row.
 pub(crate) fn first_length<T: CellText>(rows: &[Vec<T>]) -> usize
     ensures { result ≡ columns (texts_of T.text rows.now) }
 {
@@ -219,7 +219,6 @@ pub(crate) fn first_length<T: CellText>(rows: &[Vec<T>]) -> usize
     }
 }
 
-/// The rows, in memory of their own.
 fn clone_rows(
     alloc: Global,
     rows: &[Vec<Text<String>>],
@@ -234,7 +233,6 @@ fn clone_rows(
     Ok(copy)
 }
 
-/// The cells of a row, in memory of their own.
 fn clone_row(alloc: Global, row: &[Text<String>]) -> Result<Vec<Text<String>>, TableError>
     ensures ok { IfOk result (λ copy. copy.items ≡ row.now) }
     ensures only { IfErr result (λ e. e ≡ Memory) }

@@ -1,4 +1,4 @@
--- What a caller asks for by names and numbers.
+-- Styles and plans by name and number.
 use Rattle.std.specs.Prelude.{◌≡◌, ℕ, Bool, true, false, List, codes}
 use Rattle.tabled_config.specs.Styles.{ascii, extended, markdown, modern, no_style, psql}
 use Rattle.tabled_config.specs.declared.style.Style.{Style}
@@ -9,7 +9,7 @@ use Rattle.tabled.specs.declared.plan.Plan.TheVariants.{Buffered, Streamed, Wrap
 use Rattle.tabled_c.specs.declared.arguments.StyleName.{StyleName}
 use Rattle.tabled_c.specs.declared.arguments.StyleName.TheVariants.{Ascii, Modern, Extended, Markdown, Psql, Empty}
 
--- the word for a style
+-- the name of a style
 abbrev pub style_word : StyleName → List ℕ
 style_word Ascii = codes "ascii"
 style_word Modern = codes "modern"
@@ -26,7 +26,7 @@ style_of Markdown = markdown
 style_of Psql = psql
 style_of Empty = no_style
 
--- the number for an order
+-- the number of an order
 abbrev pub order_number : Order → ℕ
 order_number Round = 0
 order_number Least = 1
@@ -34,13 +34,13 @@ order_number Greatest = 2
 order_number Leftmost = 3
 order_number Rightmost = 4
 
--- the number for wrapping
+-- the number of a wrapping plan
 abbrev pub wrapping_number : Bool → ℕ
 wrapping_number false = 1
 wrapping_number true = 2
 
--- a plan is asked for by a kind, the number of an order, and columns; whole tables need none of these two, though an order
--- has to be one
+-- a plan is given by a kind, the number of an order, and columns; a buffered table uses neither of
+-- the last two, but the order must be valid
 abbrev pub Asks : Plan → ℕ → ℕ → ℕ → Type 0
 Asks Buffered kind order columns = (kind ≡ 0) × ((o : Order) × (order ≡ order_number o))
 Asks Streamed kind order columns = ⊥

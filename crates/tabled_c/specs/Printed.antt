@@ -1,4 +1,4 @@
--- The texts that a caller asks for, and why they are refused.
+-- The texts that are returned, and the causes of errors.
 use Rattle.std.specs.Prelude.{◌≡◌, ◌⊎◌, ◌<◌, ◌≤◌, ◌^◌, ℕ, ℤ, pos, Bool, List}
 use Rattle.std.specs.Str.{IsUtf8}
 use Rattle.tabled_records.specs.TextRows.{text_rows}
@@ -22,18 +22,18 @@ use Rattle.tabled_c.specs.declared.error_code.ErrorCode.TheVariants.{Memory, Ran
 use Rattle.tabled_c.specs.Answers.{code_of}
 use Rattle.tabled_c.specs.Asked.{Asks, style_of, style_word}
 
--- the table of a text in a style, with the sizes that its texts ask for
+-- the table of a text in a style, with estimated sizes
 abbrev pub whole_table : List ℕ → StyleName → Sheet
 whole_table text name = estimated (text_rows text) (with_style new_config (style_of name))
 
--- what was asked for has a meaning: a style, a plan, and a text
+-- the arguments are valid: a style, a plan, and UTF-8
 pub record IsAsked (text style : List ℕ) (kind order columns : ℕ) (name : StyleName) (plan : Plan) : Type 0 where
   pub named : style ≡ style_word name
   pub asks : Asks plan kind order columns
   pub utf8 : IsUtf8 text
 
--- the text of the table that the plan makes of the whole one, which is as good as can be; each of its lines takes the total
--- width, whatever the texts are
+-- the text of the table that the plan makes, with all properties of `IsBestOf`; each line takes the
+-- total width, whatever the cells hold
 pub record IsTable (text style : List ℕ) (kind order columns : ℕ) (printed : List ℕ) : Type 0 where
   pub name : StyleName
   pub plan : Plan
@@ -44,8 +44,8 @@ pub record IsTable (text style : List ℕ) (kind order columns : ℕ) (printed :
   pub edges : EachLineTakes (total_width table) (picture table)
   pub is_text : printed ≡ table_text table
 
--- why no table is given: no style has the name, no plan the numbers, the bytes are no text; or what was asked for has a meaning,
--- and a total passes the greatest `usize`, or memory was refused
+-- the causes of errors of printing: an unknown style, an unknown plan, no UTF-8; or, with valid
+-- arguments, a total passes `usize::MAX` or an allocation failed
 abbrev pub IsTableCause : List ℕ → List ℕ → ℕ → ℕ → ℕ → ErrorCode → Type 0
 IsTableCause text style kind order columns Memory = (name : StyleName) × (plan : Plan) × IsAsked text style kind order columns name plan
 IsTableCause text style kind order columns Range =
@@ -55,7 +55,8 @@ IsTableCause text style kind order columns NoText = ¬ IsUtf8 text
 IsTableCause text style kind order columns NoStyle = (name : StyleName) → ¬ (style ≡ style_word name)
 IsTableCause text style kind order columns NoPlan = (plan : Plan) → ¬ Asks plan kind order columns
 
--- why no text is given: the bytes are none; or they are one, and memory was refused, which is wanted for a cause
+-- the causes of errors of a text: bytes that aren't UTF-8, or a failed allocation, which is needed
+-- only if `wanted`
 abbrev pub IsTextCause : List ℕ → Type 0 → ErrorCode → Type 0
 IsTextCause text wanted Memory = IsUtf8 text × wanted
 IsTextCause text wanted Range = ⊥
@@ -63,15 +64,15 @@ IsTextCause text wanted NoText = ¬ IsUtf8 text
 IsTextCause text wanted NoStyle = ⊥
 IsTextCause text wanted NoPlan = ⊥
 
--- a text cut at some columns
+-- a text cut to n columns
 abbrev pub IsCutText : ℕ → List ℕ → List ℕ → Type 0
 IsCutText columns text cut = IsUtf8 text × IsCut columns text cut
 
--- a text wrapped at some columns, in the fewest lines
+-- a text wrapped to n columns, in the fewest lines
 abbrev pub IsWrappedText : ℕ → Bool → List ℕ → List ℕ → Type 0
 IsWrappedText columns words text wrapped = IsUtf8 text × IsWrapped columns words text wrapped × HasFewestLines columns words text wrapped
 
--- the columns of a text, or why they aren't counted
+-- the columns of a text, or the cause of an error
 abbrev pub IsMeasured : List ℕ → ℤ → Type 0
 IsMeasured text answer =
     (IsUtf8 text × (text_columns text < 2 ^ 63) × (answer ≡ pos (text_columns text)))

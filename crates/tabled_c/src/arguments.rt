@@ -1,4 +1,4 @@
-//! What a caller asks for by names and numbers.
+//! Styles by name, and plans by number.
 ghost use Rattle.std.specs.Prelude.{◌≡◌, ◌↔◌, Some};
 ghost use Rattle.tabled.specs.declared.plan.Order.{Order};
 ghost use Rattle.tabled.specs.declared.plan.Plan.{Plan};
@@ -19,7 +19,7 @@ pub(crate) enum StyleName {
     Empty,
 }
 
-/// The style's name that a word spells.
+/// Returns the style name that a word spells.
 pub(crate) fn style_named(word: &[u8]) -> Option<StyleName>
     ensures { (name : StyleName) → (result ≡ Some name) ↔ (word.now ≡ style_word name) }
 {
@@ -34,7 +34,7 @@ pub(crate) fn style_named(word: &[u8]) -> Option<StyleName>
     }
 }
 
-/// The style of a name.
+/// Returns the style of a name.
 pub(crate) fn style_of(name: StyleName) -> Style
     ensures { result ≡ style_of name }
 {
@@ -48,7 +48,7 @@ pub(crate) fn style_of(name: StyleName) -> Style
     }
 }
 
-/// The order of a number.
+/// Returns the order of a number.
 fn order_of(number: u32) -> Option<Order>
     ensures { (order : Order) → (result ≡ Some order) ↔ (number ≡ order_number order) }
 {
@@ -62,7 +62,7 @@ fn order_of(number: u32) -> Option<Order>
     }
 }
 
-/// The plan of its kind's number, that of an order, and the columns to keep to.
+/// Returns the plan of a kind, the number of an order, and a number of columns.
 pub(crate) fn plan_of(kind: u32, order: u32, columns: usize) -> Option<Plan>
     ensures { (plan : Plan) → (result ≡ Some plan) ↔ Asks plan kind order columns }
 {

@@ -1,15 +1,15 @@
-//! Why nothing is answered.
+//! Error codes.
 ghost use Rattle.std.specs.Prelude.{◌≡◌};
 ghost use Rattle.tabled_c.specs.Answers.{code_of};
 
-/// A refusal, of which a caller gets the number.
+/// The cause of an error.
 #[derive(Clone, Copy, Debug)]
 pub(crate) enum ErrorCode {
-    /// Memory was refused.
+    /// An allocation failed.
     Memory,
-    /// A total, or what is to be counted, passes the greatest number.
+    /// A total is greater than `usize::MAX`, or the columns of a text than `isize::MAX`.
     Range,
-    /// The text is no UTF-8.
+    /// The text is not UTF-8.
     NoText,
     /// No style has the name.
     NoStyle,
@@ -18,7 +18,7 @@ pub(crate) enum ErrorCode {
 }
 
 impl ErrorCode {
-    /// The number of the refusal.
+    /// Returns the number of the error.
     pub fn code(self) -> isize
         ensures { result ≡ code_of self }
     {

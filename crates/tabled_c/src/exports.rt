@@ -1,4 +1,4 @@
-//! What other languages call. A text, a name or a room is a pointer and a length.
+//! The exported functions. A slice is a pointer and a length.
 ghost use Rattle.std.specs.Prelude.{◌<◌};
 ghost use Rattle.tabled_text.specs.Cut.{NeedsFill};
 ghost use Rattle.tabled_c.specs.Answers.{Answers};
@@ -9,8 +9,14 @@ use crate::tables::table_of;
 use crate::texts::{columns_of, cut_text, wrapped_text};
 use std::alloc::Global;
 
-/// Puts the table of a text of tab-separated rows into a room. `kind` is 0 for the whole table, 1 for one wrapped to so many
-/// columns, 2 for one wrapped with words kept, and 3 for one whose texts are cut; `order` says which columns shrink first.
+/// Prints tab-separated rows as a table into `room`. Returns the number of bytes needed, or an
+/// error code below 0. If `room` is too small, nothing is written.
+///
+/// - `style`: `ascii`, `modern`, `extended`, `markdown`, `psql` or `empty`.
+/// - `kind`: 0 prints the table as it is. Wider tables are fitted into `columns`: 1 wraps their
+///   cells, 2 wraps them between words, 3 truncates them.
+/// - `order`: which columns shrink first: 0 each in turn, 1 the narrowest, 2 the widest, 3 from the
+///   left, 4 from the right. Must be valid for kind 0, too.
 #[unsafe(no_mangle)]
 pub extern "C" fn fanlightnard_print(
     alloc: Global,
@@ -30,7 +36,7 @@ pub extern "C" fn fanlightnard_print(
     }
 }
 
-/// The columns of a text.
+/// Returns the columns of a text, those of its widest line, or an error code below 0.
 #[unsafe(no_mangle)]
 pub extern "C" fn fanlightnard_measure(text: &[u8]) -> isize
     ensures { IsMeasured text.now result }
@@ -38,7 +44,8 @@ pub extern "C" fn fanlightnard_measure(text: &[u8]) -> isize
     columns_of(text)
 }
 
-/// Puts a text into a room, cut at some columns.
+/// Cuts a text to `columns`, into `room`. Returns the number of bytes needed, or an error code
+/// below 0. If `room` is too small, nothing is written.
 #[unsafe(no_mangle)]
 pub extern "C" fn fanlightnard_cut(
     alloc: Global,
@@ -54,7 +61,8 @@ pub extern "C" fn fanlightnard_cut(
     }
 }
 
-/// Puts a text into a room, wrapped at some columns, words kept or not.
+/// Wraps a text to `columns`, into `room`; with `words` between words where possible. Returns the
+/// number of bytes needed, or an error code below 0. If `room` is too small, nothing is written.
 #[unsafe(no_mangle)]
 pub extern "C" fn fanlightnard_wrap(
     alloc: Global,

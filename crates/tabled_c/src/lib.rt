@@ -1,9 +1,13 @@
-//! A static library for other languages: tables of texts, and texts that are measured, cut and
-//! wrapped, in rooms of the caller's. `include/fanlightnard.h` declares it.
+//! A static library for other languages: prints tables, and measures, cuts and wraps texts.
+//! `include/fanlightnard.h` declares it.
 //!
-//! A text is its bytes and their count, and has to be UTF-8. What is asked for goes into a room
-//! that the caller lends, or nothing does where the room is too small; the answer is how many bytes
-//! it takes, or a refusal below zero. No memory is left to the caller.
+//! A text is a pointer to UTF-8 and its length in bytes. Each call fills a buffer of the caller and
+//! returns the number of bytes needed. A buffer that is too small is left untouched. A negative
+//! result is an error. Everything that a call allocates is freed before it returns.
+//!
+//! - `exports.rt`: the exported functions; `tables.rt`, `texts.rt`: what they return.
+//! - `arguments.rt`: styles and plans by name and number; `error_code.rt`: error codes.
+//! - `room.rt`: fills the buffer of the caller.
 #![tactic(auto)]
 
 mod arguments;

@@ -1,7 +1,7 @@
-//! The buffer that a caller lends.
+//! Filling the buffer of the caller.
 ghost use Rattle.tabled_c.specs.Answers.{IsPut};
 
-/// Puts a text into a buffer, or nothing where the buffer is too small, and answers how many bytes it takes.
+/// Copies a text into a buffer, unless the buffer is too small. Returns the number of bytes needed.
 pub(crate) fn put(text: &str, buffer: &mut [u8]) -> isize
     ensures { IsPut text.now buffer.old result buffer.new }
 {

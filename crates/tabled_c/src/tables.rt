@@ -1,4 +1,4 @@
-//! The table of a text, in a style and under a plan that are asked for.
+//! Printing tables.
 ghost use Rattle.std.specs.Prelude.{IfErr, IfOk, string_bytes};
 ghost use Rattle.tabled_c.specs.Printed.{IsTable, IsTableCause};
 
@@ -8,7 +8,7 @@ use simdutf8::compat::from_utf8;
 use std::alloc::Global;
 use tabled::{TableError, render_styled};
 
-/// The text of the table of a text.
+/// Returns the table of a text, in a style and under a plan.
 pub(crate) fn table_of(
     alloc: Global,
     text: &[u8],

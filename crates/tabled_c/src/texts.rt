@@ -1,4 +1,4 @@
-//! Texts that are measured, cut and wrapped.
+//! Measuring, cutting and wrapping texts.
 ghost use Rattle.std.specs.Prelude.{◌<◌, IfErr, IfOk, string_bytes};
 ghost use Rattle.std.specs.Cow.{cow_str_bytes};
 ghost use Rattle.tabled_text.specs.Cut.{NeedsFill};
@@ -10,7 +10,7 @@ use std::alloc::Global;
 use std::borrow::CowStr;
 use tabled::grid::util::string::{cut_str, text_width, wrap_text};
 
-/// The columns of a text, or the number of a refusal.
+/// Returns the columns of a text, or an error code.
 pub(crate) fn columns_of(text: &[u8]) -> isize
     ensures { IsMeasured text.now result }
 {
@@ -24,7 +24,7 @@ pub(crate) fn columns_of(text: &[u8]) -> isize
     columns as isize
 }
 
-/// A text cut at some columns.
+/// Returns a text cut to n columns.
 pub(crate) fn cut_text(
     alloc: Global,
     text: &[u8],
@@ -42,7 +42,7 @@ pub(crate) fn cut_text(
     }
 }
 
-/// A text wrapped at some columns, words kept or not.
+/// Returns a text wrapped to n columns, between words if `words`.
 pub(crate) fn wrapped_text(
     alloc: Global,
     text: &[u8],

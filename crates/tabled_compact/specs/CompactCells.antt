@@ -9,27 +9,27 @@ use Rattle.tabled_line.specs.Block.{before_text}
 use Rattle.tabled_line.specs.Fill.{fill, indent}
 use Rattle.tabled_line.specs.Row.{ColumnSheet, left_edge, piece, right_edge}
 
--- how a compact table is set: what is the same for all cells, how many columns there are, and the widths of these, as
--- far as they are there
+-- the sheet of a compact table: its configuration, its number of columns, and their widths, as far
+-- as there are any
 pub record CompactSheet : Type 0 where
   pub config : CompactConfig
   pub count : ℕ
   pub widths : List ℕ
 
--- so many columns under a configuration, with the widths that a dimension answers
+-- the sheet with this configuration and `count` columns, with the widths that a dimension has for
+-- them
 abbrev pub sheet_by : CompactConfig → (ℕ → Option ℕ) → ℕ → CompactSheet
 sheet_by config width_at count = record { config = config; count = count; widths = reached width_at count }
 
--- its columns, in their frame
+-- the columns of a sheet, with their frame
 abbrev pub columns_of : CompactSheet → ColumnSheet
 columns_of t = record { count = t.count; width = slice_index t.widths; frame = frame_of t.config.borders t.config.margin }
 
--- the columns that a text leaves free in its room, which is what the side padding leaves of the width: none where the
--- text is wider
+-- the columns of its content width that a text leaves free; 0 if it is wider
 abbrev pub free_columns : CompactConfig → ℕ → List ℕ → ℕ
 free_columns config width text = width - config.padding.left.size - config.padding.right.size - text_columns text
 
--- a cell: left padding, indent, the whole text, spaces, right padding
+-- a cell: left padding, spaces by alignment, the whole text, spaces, right padding
 unfoldable pub compact_cell : CompactConfig → ℕ → List ℕ → List ℕ
 compact_cell config width text =
     let free = free_columns config width text in
@@ -37,26 +37,26 @@ compact_cell config width text =
     indent config.padding.left
     ++ (fill 32 before ++ (text ++ (fill 32 (free - before) ++ indent config.padding.right)))
 
--- a text in its column, behind the vertical line before it
+-- the vertical line before a column, and a text in the column
 unfoldable pub compact_piece : CompactSheet → ℕ → List ℕ → List ℕ
 compact_piece t column text =
     let f = (columns_of t).frame in
     piece (has_bar f column) f.inner.main ++ compact_cell t.config (slice_index t.widths column) text
 
--- some columns of a row: where a cell is missing, it is empty
+-- some columns of a row; a missing cell is empty
 abbrev pub pieces : CompactSheet → List (List ℕ) → List ℕ → List ℕ
 pieces t row columns = flat_map (λ column. compact_piece t column (slice_index_or row column [])) columns
 
--- what stands before the first cell of a row
+-- the left edge of a row, before its first cell
 unfoldable pub row_start : CompactSheet → List ℕ
 row_start t = left_edge (columns_of t).frame (columns_of t).frame.left.main
 
--- what stands behind some first cells of a row: those that it lacks, and the right edge
+-- what follows some first cells of a row: those that it lacks, and the right edge
 unfoldable pub row_end : CompactSheet → ℕ → List ℕ
 row_end t from =
     pieces t [] (range_with_len from (t.count - from)) ++ right_edge (columns_of t).frame (columns_of t).frame.right.main
 
--- the line of a row: its cells between the edges; cells past the columns are passed over
+-- the line of a row: its cells between the edges; cells after the last column are ignored
 unfoldable pub compact_row : CompactSheet → List (List ℕ) → List ℕ
 compact_row t row =
     let f = (columns_of t).frame in

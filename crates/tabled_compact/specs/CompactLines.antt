@@ -10,44 +10,44 @@ use Rattle.tabled_line.specs.Fill.{fill}
 use Rattle.tabled_line.specs.Row.{rule_if}
 use Rattle.tabled_compact.specs.CompactCells.{CompactSheet, columns_of, compact_row}
 
--- the columns of the whole: the widths, the vertical lines and the side margins
+-- the total width: all widths, the vertical lines and the side margins
 abbrev pub compact_width : CompactSheet → ℕ
 compact_width t = line_total (columns_of t)
 
--- the line between two rows: there if any character of the inner line is; at its edges stand the characters of the left
--- and the right vertical line
+-- the horizontal line between two rows: there is one if the inner line has any character; its ends
+-- are the characters of the left and right vertical lines
 abbrev pub separator : Borders ℕ → Option HorizontalLine
 separator b =
     if is_some b.horizontal || (is_some b.left_intersection || (is_some b.right_intersection || is_some b.intersection))
     then Some (record { main = b.horizontal; left = b.left; intersection = b.intersection; right = b.right }) else None
 
--- the lines of a margin, each as wide as the whole
+-- the lines of a margin, each as wide as the table
 abbrev pub margin_lines : CompactSheet → Indent → List (List ℕ)
 margin_lines t side = replicate side.size (fill side.fill (compact_width t))
 
--- what stands above the first row: the margin, and the top line
+-- the lines above the first row: the margin and the top line
 unfoldable pub head_lines : CompactSheet → List (List ℕ)
 head_lines t = margin_lines t t.config.margin.top ++ rule_if (columns_of t) (if_any (top_line t.config.borders))
 
--- what stands below the last row: the bottom line, and the margin
+-- the lines below the last row: the bottom line and the margin
 unfoldable pub tail_lines : CompactSheet → List (List ℕ)
 tail_lines t = rule_if (columns_of t) (if_any (bottom_line t.config.borders)) ++ margin_lines t t.config.margin.bottom
 
--- what stands above a row: above each but the first a separator
+-- the lines above a row: the head for the first, else a separator
 unfoldable pub above : CompactSheet → Bool → List (List ℕ)
 above t false = head_lines t
 above t true = rule_if (columns_of t) (separator t.config.borders)
 
--- a row with what stands above it, below another one or not
+-- a row with the lines above it; `follows` if it is after another row
 unfoldable pub row_part : CompactSheet → Bool → List (List ℕ) → List (List ℕ)
 row_part t follows row = above t follows ++ (compact_row t row ∷ [])
 
--- the rows, with what stands above each
+-- the rows, with the lines above each
 unfoldable pub rows_lines : CompactSheet → List (List (List ℕ)) → List (List ℕ)
 rows_lines t [] = []
 rows_lines t (row ∷ rows) = row_part t false row ++ flat_map (row_part t true) rows
 
--- their text
+-- the text of these lines
 abbrev pub rows_text : CompactSheet → List (List (List ℕ)) → List ℕ
 rows_text t rows = join_with_byte 10 (rows_lines t rows)
 
@@ -56,6 +56,6 @@ unfoldable pub compact_lines : CompactSheet → List (List (List ℕ)) → List 
 compact_lines t [] = []
 compact_lines t (row ∷ rows) = rows_lines t (row ∷ rows) ++ tail_lines t
 
--- its text: the lines, joined by line feeds
+-- the text of such a table: its lines, joined by line feeds
 abbrev pub compact_text : CompactSheet → List (List (List ℕ)) → List ℕ
 compact_text t rows = join_with_byte 10 (compact_lines t rows)

@@ -1,4 +1,4 @@
--- How a new compact table is set.
+-- The settings of a new compact table.
 use Rattle.std.specs.Prelude.{◌≡◌}
 use Rattle.tabled_config.specs.declared.sides.Indent.{Indent}
 use Rattle.tabled_config.specs.declared.sides.Sides.{Sides}
@@ -13,12 +13,13 @@ abbrev pub one_beside : Sides Indent
 one_beside =
     let one : Indent = record { size = 1; fill = 32 } in record { left = one; right = one; top = no_indent; bottom = no_indent }
 
--- ascii borders, one column of padding left and right, texts at the left; all else as in a new configuration
+-- ASCII borders, one column of padding on the left and right, text at the left; otherwise a new
+-- configuration
 pub record IsNewConfig (config : CompactConfig) : Type 0 where
   pub plain : CompactConfig
   pub is_plain : IsPlainCompact plain
   pub set : config ≡ record plain { padding = one_beside; borders = ascii.borders; alignment_horizontal = Left }
 
--- the records that options of a compact table see: no row and no column
+-- the records that options of a compact table see: no rows and no columns
 abbrev pub no_records : EmptyRecords
 no_records = record { rows = 0; columns = 0 }

@@ -1,4 +1,4 @@
--- Which compact tables are printed, why others are refused, and what a call that prints leaves.
+-- Which compact tables can be printed, why others fail, and what a call that prints leaves.
 use Rattle.std.specs.Prelude.{◌≡◌, ◌^◌, ◌<◌, ◌≤◌, ◌+◌, ◌⊎◌, ℕ, Bool, true, List, [], length, Option, Result, Ok, Err}
 use Rattle.tabled_base.specs.declared.error.TableError.{TableError}
 use Rattle.tabled_base.specs.declared.error.TableError.TheVariants.{Range, ShortWidths}
@@ -9,19 +9,20 @@ use Rattle.tabled_compact.specs.CompactLines.{compact_text, compact_width, rows_
 use Rattle.tabled_compact.specs.Shown.{AreEnough, AreWanted, has_rows, shown}
 use Rattle.tabled_compact.specs.declared.window.Window.{Window}
 
--- why a table that shows a row is refused: a width isn't there; or all are, and the total passes the greatest `usize`
+-- why printing a table that shows a row fails: a width is missing; or none is, and the total width
+-- exceeds the greatest `usize`
 abbrev pub IsRefused : CompactSheet → TableError → Type 0
 IsRefused t ShortWidths = length t.widths < t.count
 IsRefused t Range = (t.count ≤ length t.widths) × (2 ^ 64 ≤ compact_width t)
 IsRefused t _ = ⊥
 
--- nothing stands against printing the table
+-- the table can be printed
 pub record IsPrintable (t : CompactSheet) : Type 0 where
   pub sized : t.count ≤ length t.widths
   pub in_range : compact_width t < 2 ^ 64
 
--- on Ok: the text of the rows that came was added, of which the source has no more or no more are wanted; a table that
--- shows one can be printed
+-- on `Ok`: the text of the rows that were read was written, and the source has no more rows or no
+-- more are wanted; a table that shows a row can be printed
 pub record IsPrinted (t : CompactSheet) (w : Window) (comes : List (List (List ℕ)) → Bool → Type 0) (old new : Sent) : Type 0 where
   pub rows : List (List (List ℕ))
   pub whole : Bool
@@ -31,20 +32,21 @@ pub record IsPrinted (t : CompactSheet) (w : Window) (comes : List (List (List �
   pub printable : (shown t.count w rows ≡ []) ⊎ IsPrintable t
   pub sends : Sends old new (compact_text t (shown t.count w rows))
 
--- before the first byte: the first row that is shown came, and the table is refused for its cause
+-- an error before the first byte: the first row that is shown was read, and the table can't be
+-- printed
 pub record IsRefusedEarly (t : CompactSheet) (w : Window) (rows : List (List (List ℕ))) (old : Sent) (error : TableError) (new : Sent) : Type 0 where
   pub first : length rows ≡ w.skip + 1
   pub cause : IsRefused t error
   pub same : new ≡ old
 
--- the table can be printed, and the sink refused: a beginning was added of the lines of the rows that came; or of the text of the
--- whole, where the source has no more rows or no more are wanted
+-- the table can be printed, and the sink failed: a beginning was written of the lines of the rows
+-- that were read; or of the entire text, if the source has no more rows or no more are wanted
 pub record IsStopped (t : CompactSheet) (w : Window) (rows : List (List (List ℕ))) (whole : Bool) (old : Sent) (error : TableError) (new : Sent) : Type 0 where
   pub printable : IsPrintable t
   pub stops : Stops old error new (rows_text t (shown t.count w rows))
       ⊎ (AreEnough t.count w rows whole × Stops old error new (compact_text t (shown t.count w rows)))
 
--- on Err: a row is shown, and either of these
+-- on `Err`: a row is shown, and one of these holds
 pub record IsEnded (t : CompactSheet) (w : Window) (comes : List (List (List ℕ)) → Bool → Type 0) (old : Sent) (error : TableError) (new : Sent) : Type 0 where
   pub rows : List (List (List ℕ))
   pub whole : Bool
@@ -58,7 +60,7 @@ abbrev pub PrintsCompact : {T : Type 0} → CompactSheet → Window → (List (L
 PrintsCompact t w comes old (Ok _) new = IsPrinted t w comes old new
 PrintsCompact t w comes old (Err error) new = IsEnded t w comes old error new
 
--- what such a call leaves of the contents of a writer that it prints to
+-- what such a call leaves in the writer that it prints to
 abbrev pub BuildsCompact : {T : Type 0} → CompactSheet → Window → (List (List (List ℕ)) → Bool → Type 0)
     → Option (List ℕ) → Result T TableError → Option (List ℕ) → Type 0
 BuildsCompact t w comes old result new =

@@ -1,17 +1,17 @@
--- Which rows of a source are shown, and how many are taken of it.
+-- Which rows of a source are shown, and how many of them are read.
 use Rattle.std.specs.Prelude.{◌≡◌, ◌==◌, ◌≤◌, ◌+◌, ◌-◌, ◌⊎◌, ℕ, zero, suc, Bool, false, true, if◌then◌else◌, List, [], ◌∷◌, drop, take, length, map, Option, Some, None, IfSome}
 use Rattle.tabled_compact.specs.declared.window.Window.{Window}
 
--- the first rows, where their number is limited
+-- the first rows, if their number is limited
 abbrev pub first_rows : {A : Type 0} → Option ℕ → List A → List A
 first_rows None rows = rows
 first_rows (Some limit) rows = take limit rows
 
--- the rows in a window: some are skipped, and then their number is limited
+-- the rows in a window: after the skipped ones, as many as the limit allows
 abbrev pub in_window : {A : Type 0} → Window → List A → List A
 in_window w rows = first_rows w.limit (drop w.skip rows)
 
--- the rows that are shown, which are none where there is no column
+-- the rows that are shown: none if there is no column
 abbrev pub shown : {A : Type 0} → ℕ → Window → List A → List A
 shown columns w rows = if columns == 0 then [] else in_window w rows
 
@@ -20,11 +20,11 @@ abbrev pub limit_left : Option ℕ → ℕ → Option ℕ
 limit_left None taken = None
 limit_left (Some limit) taken = Some (limit - taken)
 
--- what is left of a window after so many rows
+-- what is left of a window after some rows
 abbrev pub window_after : Window → ℕ → Window
 window_after w rows = record { skip = w.skip - rows; limit = limit_left w.limit (rows - w.skip) }
 
--- no row is shown any more
+-- no further row is shown
 abbrev pub IsSpent : Window → Type 0
 IsSpent w = w.limit ≡ Some 0
 
@@ -33,13 +33,13 @@ abbrev pub has_rows : {A : Type 0} → List A → Bool
 has_rows [] = false
 has_rows (row ∷ rows) = true
 
--- how many rows a window spans, with those that are skipped; none where none may be shown
+-- how many rows a window spans, including those that are skipped; 0 if none may be shown
 abbrev pub spanned : ℕ → Option ℕ → Option ℕ
 spanned skip None = None
 spanned skip (Some zero) = Some 0
 spanned skip (Some (suc limit)) = Some (skip + suc limit)
 
--- how many rows of a source are wanted at most
+-- the greatest number of rows that are wanted from a source
 abbrev pub wanted : ℕ → Window → Option ℕ
 wanted columns w = if columns == 0 then Some 0 else spanned w.skip w.limit
 
@@ -47,10 +47,10 @@ wanted columns w = if columns == 0 then Some 0 else spanned w.skip w.limit
 abbrev pub AreWanted : {A : Type 0} → ℕ → Window → List A → Type 0
 AreWanted columns w rows = IfSome (wanted columns w) (λ most. length rows ≤ most)
 
--- rows that are the whole, or as many as are wanted
+-- the rows are all, or as many as are wanted
 abbrev pub AreEnough : {A : Type 0} → ℕ → Window → List A → Bool → Type 0
 AreEnough columns w rows whole = (whole ≡ true) ⊎ (wanted columns w ≡ Some (length rows))
 
--- the texts of rows that came of a source first, and whether these are all
+-- the cells of the first rows that a source gives, and whether these are all
 abbrev pub Came : {A : Type 0} → (List (List A) → Bool → Type 0) → (A → List ℕ) → List (List (List ℕ)) → Bool → Type 0
 Came {A} begins text rows whole = (cells : List (List A)) × begins cells whole × (rows ≡ map (map text) cells)

@@ -1,4 +1,4 @@
-//! Options of compact tables.
+//! Applies options to compact tables.
 ghost use Rattle.std.specs.Prelude.{◌≡◌, ◌⊎◌, IfErr, IfOk};
 ghost use Rattle.tabled_base.specs.declared.error.TableError.TheVariants.{Memory, Range};
 ghost use Rattle.tabled_compact.specs.NewTable.{no_records};
@@ -11,9 +11,12 @@ use tabled_config::CompactConfig;
 use tabled_records::EmptyRecords;
 
 impl<I: Drop, D: Drop> CompactTable<I, D> {
-    /// Applies an option to the configuration and the dimension, and gives the table back; its rows, and which of them
-    /// are shown, stay. The option sees records without rows. Refused for memory, and with `Range` where a sum or product
-    /// of the option passes the greatest `usize`; a refusal drops the table.
+    /// Applies an option to the configuration and the dimension, and returns the table. The rows
+    /// stay, and so do the settings of `columns`, `rows` and `skip`. The option sees records
+    /// without rows.
+    ///
+    /// Fails with `Memory`, and with `Range` if a sum or product of the option exceeds
+    /// `usize::MAX`. An error drops the table.
     pub fn with<O: TableOption<EmptyRecords, CompactConfig, D>>(
         self,
         option: O,

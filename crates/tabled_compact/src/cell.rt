@@ -1,4 +1,4 @@
-//! A text in its column.
+//! Writes a text in its column.
 ghost use Rattle.std.specs.Prelude.{◌≡◌, ◌≤◌, ◌<◌, ◌++◌};
 ghost use Rattle.std.specs.List.{slice_index};
 ghost use Rattle.tabled_line.specs.Block.{before_text};
@@ -12,7 +12,7 @@ use tabled_config::{AlignmentHorizontal, CompactConfig, Indent, Sides};
 use tabled_line::{TableColumns, TextSink, write_bar, write_fill, write_indent};
 use tabled_size::Dimension;
 
-/// The part of some free columns that stands before a text.
+/// Returns how many of the free columns are before a text.
 fn columns_before(alignment: AlignmentHorizontal, free: usize) -> usize
     ensures value { result ≡ before_text alignment free }
     ensures within { result ≤ free }
@@ -24,7 +24,7 @@ fn columns_before(alignment: AlignmentHorizontal, free: usize) -> usize
     }
 }
 
-/// The columns that a text leaves free in its room; none where it is wider.
+/// Returns how many columns of its content width a text leaves free; 0 if it is wider.
 fn free_columns<T: CellText>(config: &CompactConfig, width: usize, cell: &T) -> usize
     ensures { result ≡ free_columns config.now width (T.text cell.now) }
 {
@@ -35,7 +35,7 @@ fn free_columns<T: CellText>(config: &CompactConfig, width: usize, cell: &T) -> 
         .saturating_sub(cell.width())
 }
 
-/// A text between padding and spaces.
+/// Writes a text between padding and spaces.
 fn write_padded_text<S: TextSink>(
     sink: &mut S,
     padding: &Sides<Indent>,
@@ -53,7 +53,8 @@ fn write_padded_text<S: TextSink>(
     write_indent(sink, padding.right)
 }
 
-/// A text in its room. One that is wider goes out whole too, without indent and spaces.
+/// Writes a text and its padding, aligned in its content width. A wider text is written whole,
+/// without spaces for alignment.
 #[tactic(auto, unfolding(crate::specs::CompactCells::compact_cell))]
 fn write_aligned_text<T: CellText, S: TextSink>(
     sink: &mut S,
@@ -74,7 +75,7 @@ fn write_aligned_text<T: CellText, S: TextSink>(
     )
 }
 
-/// A text in a column, behind the vertical line before it.
+/// Writes the vertical line before a column, and a text in the column.
 pub(crate) fn write_cell<D: Dimension, T: CellText, S: TextSink>(
     sink: &mut S,
     columns: &CompactColumns<'_, D>,

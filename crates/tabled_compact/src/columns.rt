@@ -12,7 +12,7 @@ use tabled_config::{CompactConfig, Frame};
 use tabled_line::TableColumns;
 use tabled_size::{Dimension, check_widths};
 
-/// The columns of a compact table whose widths are there. Contracts see the sheet that they make.
+/// The columns of a compact table, all of which have a width. In contracts it is a `CompactSheet`.
 #[derive(Drop)]
 pub(crate) struct CompactColumns<'a, D: Dimension> {
     config: &'a CompactConfig,
@@ -31,7 +31,8 @@ impl<'a, D: Dimension> Model for CompactColumns<'a, D> {
 }
 
 impl<'a, D: Dimension> CompactColumns<'a, D> {
-    /// So many columns under a configuration. Refused with `ShortWidths` where the dimension lacks the width of one.
+    /// Returns `count` columns with a configuration. Fails with `ShortWidths` if the dimension
+    /// lacks the width of one.
     pub fn new(
         config: &'a CompactConfig,
         dimension: &'a D,
@@ -50,7 +51,7 @@ impl<'a, D: Dimension> CompactColumns<'a, D> {
         })
     }
 
-    /// What is set for all cells.
+    /// Returns the configuration.
     pub fn config(&self) -> &CompactConfig
         ensures { result.now ≡ self.now.config }
     {

@@ -1,4 +1,4 @@
-//! Widths that fit the cells of an array of rows.
+//! Measures the widths that fit the cells of an array of rows.
 ghost use Rattle.std.specs.Prelude.{◌≡◌, ◌<◌, ℕ, List, [], map, slice_index_or};
 ghost use Rattle.tabled_text.specs.Measure.{text_columns};
 ghost use Rattle.tabled_compact.specs.Fitting.{fitting_widths, widest_cell};
@@ -10,7 +10,8 @@ pub trait CellRows<const COLUMNS: usize, const ROWS: usize> {
     // The texts of the cells, row by row.
     ghost cells: { Self → List (List (List ℕ)) };
 
-    /// The width of each column: the columns of its widest cell, and two for padding.
+    /// Returns the width of each column: that of its widest cell, plus 2 for padding, at most
+    /// `usize::MAX`.
     fn fitting_widths(&self) -> [usize; COLUMNS]
         ensures { result ≡ fitting_widths COLUMNS (cells self.now) };
 }
@@ -24,7 +25,7 @@ impl<T: CellText, const COLUMNS: usize, const ROWS: usize> CellRows<COLUMNS, ROW
     }
 }
 
-/// The columns of a cell of a row.
+/// Returns the width of a cell of a row, without padding.
 fn cell_width<T: CellText, const COLUMNS: usize>(row: &[T; COLUMNS], column: usize) -> usize
     requires { column < COLUMNS }
     ensures { result ≡ text_columns (slice_index_or (map T.text row.now) column []) }
@@ -32,7 +33,7 @@ fn cell_width<T: CellText, const COLUMNS: usize>(row: &[T; COLUMNS], column: usi
     row[column].width()
 }
 
-/// The columns of the widest cell of a column.
+/// Returns the width of the widest cell in a column, without padding.
 fn widest_cell<T: CellText, const COLUMNS: usize, const ROWS: usize>(
     rows: &[[T; COLUMNS]; ROWS],
     column: usize,
@@ -47,7 +48,7 @@ fn widest_cell<T: CellText, const COLUMNS: usize, const ROWS: usize>(
     widest
 }
 
-/// The columns of the widest cell of each column, and two for padding.
+/// Returns the width of the widest cell in each column, plus 2 for padding, at most `usize::MAX`.
 fn fitting_widths<T: CellText, const COLUMNS: usize, const ROWS: usize>(
     rows: &[[T; COLUMNS]; ROWS],
 ) -> [usize; COLUMNS]

@@ -1,13 +1,14 @@
-//! `CompactTable`: tables of single lines, printed while their rows are read. No row is kept, and
-//! printing allocates nothing.
+//! `CompactTable`: tables of single lines that are printed while their rows are read. No row is
+//! stored, and printing allocates nothing.
 //!
 //! - `table.rt`: `CompactTable` and its settings; `applying.rt`: its options.
 //! - `sizes.rt`: widths and heights that are set; `fitting.rt`: widths that fit an array of rows.
 //! - `window.rt`: which rows of a source are shown.
 //! - `printing.rt`: `fmt`, `build` and `to_string`; `print.rt`: `print_compact`, which checks the
 //!   columns before the first byte.
-//! - `columns.rt`, `total.rt`: the columns, and the width of a whole line.
-//! - `rows.rt`, `lines.rt`, `row.rt`, `cell.rt`: rows, their lines, the cells of a line, a text.
+//! - `columns.rt`, `total.rt`: the columns, and the total width.
+//! - `rows.rt`: the rows of a source; `lines.rt`: the lines of a row, and those above and below it.
+//! - `row.rt`, `cell.rt`: the cells of a row, and a text in its column.
 //! - `rules.rt`: horizontal lines.
 #![tactic(auto)]
 

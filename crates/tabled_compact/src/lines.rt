@@ -1,4 +1,4 @@
-//! The lines of a compact table, row by row.
+//! Writes the lines of a compact table, row by row.
 ghost use Rattle.std.specs.Prelude.{◌≡◌, List, [], ◌∷◌, map, true, OnOk, Result};
 ghost use Rattle.std.specs.Iterator.{IsFiniteIterable};
 ghost use Rattle.tabled_base.specs.Given.{Given};
@@ -15,7 +15,7 @@ use tabled_base::{CellText, TableError};
 use tabled_line::{TextSink, write_break, write_margin};
 use tabled_size::Dimension;
 
-/// What stands above the first row: the margin, and the top line.
+/// Writes what is above the first row: the margin and the top line.
 #[tactic(auto, unfolding(crate::specs::CompactLines::head_lines))]
 fn write_head<D: Dimension, S: TextSink>(
     sink: &mut S,
@@ -31,7 +31,7 @@ fn write_head<D: Dimension, S: TextSink>(
     write_rule(sink, begun, columns, config.get_borders().line_at(1, 0))
 }
 
-/// What stands below the last row: the bottom line, and the margin.
+/// Writes what is below the last row: the bottom line and the margin.
 #[tactic(auto, unfolding(crate::specs::CompactLines::tail_lines))]
 pub(crate) fn write_tail<D: Dimension, S: TextSink>(
     sink: &mut S,
@@ -47,7 +47,7 @@ pub(crate) fn write_tail<D: Dimension, S: TextSink>(
     write_margin(sink, begun, config.get_margin().bottom, whole)
 }
 
-/// What stands above a row that follows another one, or above the first.
+/// Writes what is above a row, which follows another one or is the first.
 #[tactic(auto, unfolding(crate::specs::CompactLines::above))]
 fn write_above<D: Dimension, S: TextSink>(
     sink: &mut S,
@@ -71,7 +71,7 @@ fn write_above<D: Dimension, S: TextSink>(
     }
 }
 
-/// The line feed before a row, unless the sink refused something before.
+/// Writes the line feed before a row, unless the sink failed before.
 fn write_row_break<S: TextSink>(
     sink: &mut S,
     begun: &mut bool,
@@ -84,7 +84,7 @@ fn write_row_break<S: TextSink>(
     write_break(sink, begun)
 }
 
-/// A row, unless the sink refused something before. The cells are walked to their end in any case.
+/// Writes a row, unless the sink failed before. The cells are read to their end in any case.
 fn write_next_row<C: IntoIterator, D: Dimension, S: TextSink>(
     sink: &mut S,
     begun: &mut bool,
@@ -103,7 +103,7 @@ where
     write_compact_row(sink, columns, cells, before)
 }
 
-/// A row with what stands above it. The cells are walked to their end, also where the sink refuses something.
+/// Writes a row with what is above it. The cells are read to their end, even if the sink fails.
 pub(crate) fn write_row_part<C: IntoIterator, D: Dimension, S: TextSink>(
     sink: &mut S,
     begun: &mut bool,
@@ -124,7 +124,7 @@ where
     write_next_row(sink, begun, columns, cells, before)
 }
 
-/// Walks a row that isn't shown.
+/// Reads the cells of a row that isn't shown.
 pub(crate) fn walk<C: IntoIterator>(cells: C)
 where
     C::Item: Drop,

@@ -1,4 +1,4 @@
-//! Printing a compact table: its columns are tested once a row comes, before the first byte.
+//! Prints a compact table, and checks its columns before the first byte.
 ghost use Rattle.std.specs.Prelude.{◌≡◌, ◌≤◌, ◌<◌, ◌+◌, ◌^◌, Bool, List, [], map, length, true, false, MatchBool, MatchResult};
 ghost use Rattle.tabled_base.specs.RowsGiven.{RowsBegin, RowsEnd};
 ghost use Rattle.tabled_line.specs.Sent.{Sent};
@@ -17,7 +17,7 @@ use tabled_config::CompactConfig;
 use tabled_line::TextSink;
 use tabled_size::Dimension;
 
-/// Whether a row comes after those that are skipped. No further one is asked for.
+/// Whether there is a row after those that are skipped. No further row is read.
 fn has_row<R, C>(rows: R, skip: usize) -> bool
 where
     R: IntoIterator<Item = C>,
@@ -40,7 +40,7 @@ where
     false
 }
 
-/// Asks for no row.
+/// Makes the iterator of a source and reads no row.
 fn pass_over<R, C>(rows: R)
 where
     R: IntoIterator<Item = C>,
@@ -50,7 +50,7 @@ where
     let _rows = rows.into_iter();
 }
 
-/// Answers a refusal, unless no row is shown: then nothing is printed.
+/// Returns the error, unless no row is shown: then nothing is printed.
 fn refuse<R, C>(rows: R, skip: usize, error: TableError) -> Result<(), TableError>
 where
     R: IntoIterator<Item = C>,
@@ -69,7 +69,8 @@ where
     }
 }
 
-/// Prints the rows in a window, of which one at least is wanted, over some columns.
+/// Prints the rows in a window over `columns` columns. No row is read if there is no column or the
+/// window shows none.
 fn print_rows<R, C, D: Dimension, S: TextSink>(
     sink: &mut S,
     rows: R,
@@ -102,13 +103,19 @@ where
     }
 }
 
-/// Prints rows of a source as the lines of a compact table, joined by line feeds: of the rows in the window the first
-/// so many cells, over columns whose widths the dimension answers, padding included. A row with fewer cells is
-/// lengthened by empty ones. No row is kept, and no memory is taken but by the sink; no row past the window is asked
-/// for, and a row that was asked for is walked to its end. Nothing is printed where no row is shown or there is no
-/// column. Else it is refused, before the first byte and in this order: `ShortWidths` where the dimension lacks the
-/// width of a column, `Range` where the columns of a line pass the greatest `usize`; later only for what the sink
-/// refuses. Heights and vertical padding aren't read.
+/// Prints rows of a source as the lines of a compact table, joined by line feeds. The rows are
+/// those in the window, with their first `columns` cells each. The dimension gives the widths of
+/// the columns, padding included. A row with fewer cells gets empty ones. Heights and vertical
+/// padding are ignored.
+///
+/// No row is stored, and only the sink allocates. No row past the window is read, and each row that
+/// is read is read to its end. Prints nothing if no row is shown or there is no column.
+///
+/// These errors come before the first byte, and are checked in this order:
+/// - `ShortWidths`: the dimension lacks the width of a column.
+/// - `Range`: the total width exceeds `usize::MAX`.
+///
+/// Every later error is the sink's.
 pub fn print_compact<I: IntoRecords, D: Dimension, S: TextSink>(
     sink: &mut S,
     records: I,

@@ -1,4 +1,4 @@
-//! Compact tables that are printed.
+//! Prints compact tables.
 ghost use Rattle.std.specs.Prelude.{◌≡◌, Some, [], string_bytes, IfErr, IfOk, false, true};
 ghost use Rattle.tabled_line.specs.Sent.{Sent};
 ghost use Rattle.tabled_compact.specs.CompactCells.{sheet_by};
@@ -18,10 +18,14 @@ impl<I: IntoRecords, D: Dimension + Drop> CompactTable<I, D>
 where
     I::Cell: CellText + Drop,
 {
-    /// Prints the table to a sink, its lines joined by line feeds. Nothing is printed where no row is shown or there is
-    /// no column. Else it is refused, before the first byte, with `ShortWidths` where the dimension lacks a column's
-    /// width, and then with `Range` where the columns of a line pass the greatest `usize`; later only for what the sink
-    /// refuses. No memory is taken but by the sink. No row past the limit is asked for.
+    /// Prints the table to a sink, its lines joined by line feeds. Prints nothing if no row is
+    /// shown or there is no column. Only the sink allocates. No row past the limit is read.
+    ///
+    /// These errors come before the first byte, and are checked in this order:
+    /// - `ShortWidths`: the dimension lacks the width of a column.
+    /// - `Range`: the total width exceeds `usize::MAX`.
+    ///
+    /// Every later error is the sink's.
     pub fn fmt<S: TextSink>(self, sink: &mut S) -> Result<(), TableError>
         requires { I.ends self.records }
         ensures { PrintsCompact (sheet_by self.config (D.width_at self.dimension) self.columns)
@@ -46,11 +50,12 @@ where
         )
     }
 
-    /// Prints the table to a writer, as `fmt` does to a sink. The writer isn't flushed.
+    /// Prints the table to a writer, as `fmt` does to a sink. The writer isn't flushed, and nothing
+    /// is allocated.
     ///
-    /// On `Ok` the writer took exactly the text of the table. With `ShortWidths` and `Range` it took
-    /// nothing. `Writer` comes when a write fails or takes no byte: the writer took a beginning of the text
-    /// then, which goes on behind it. Nothing is written after that, and no memory is allocated.
+    /// On `Ok` the writer took exactly the text of the table. On `ShortWidths` and `Range` it took
+    /// nothing. `Writer`: a write failed or took no byte, before all of the text was written.
+    /// Nothing is written after that.
     pub fn build<W: Write>(self, writer: &mut W) -> Result<(), TableError>
         requires { I.ends self.records }
         ensures { BuildsCompact (sheet_by self.config (D.width_at self.dimension) self.columns)
@@ -60,12 +65,13 @@ where
         let mut sink = WriterSink::new(writer);
         let result = self.fmt(&mut sink);
         let WriterSink { writer, .. } = sink;
-        // The proof reads here what the writer holds.
+        // Lets the proof refer to the contents of the writer here.
         let _ = &*writer;
         result
     }
 
-    /// The text of the table. Refused as `fmt` is, and for memory; a text never fails to be written to.
+    /// Returns the text of the table. Fails as `fmt` does; writing to the string fails only with
+    /// `Memory`.
     pub fn to_string(self, alloc: Global) -> Result<String, TableError>
         requires { I.ends self.records }
         ensures ok { IfOk result (λ text. IsPrinted (sheet_by self.config (D.width_at self.dimension) self.columns)

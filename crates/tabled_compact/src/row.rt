@@ -1,4 +1,4 @@
-//! A row, cell by cell as they come.
+//! Writes a row cell by cell, while its cells are read.
 ghost use Rattle.std.specs.Prelude.{◌≡◌, ◌+◌, ◌-◌, ◌≤◌, ◌<◌, ℕ, List, [], map, min, length, if◌then◌else◌, nat_lt, IfOk, Result};
 ghost use Rattle.std.specs.Iterator.{IsFiniteIterable};
 ghost use Rattle.std.specs.List.{flat_map, range_with_len};
@@ -13,7 +13,7 @@ use tabled_base::{CellText, TableError};
 use tabled_line::{TableColumns, TextSink, count_drawn, write_left_edge, write_right_edge};
 use tabled_size::Dimension;
 
-/// The left edge of a row, unless the sink refused something before.
+/// Writes the left edge of a row, unless the sink failed before.
 fn write_row_start<D: Dimension, S: TextSink>(
     sink: &mut S,
     columns: &CompactColumns<'_, D>,
@@ -26,7 +26,7 @@ fn write_row_start<D: Dimension, S: TextSink>(
     write_left_edge(sink, frame, frame.left.main)
 }
 
-/// The next cell that came, unless the sink refused something before. One past the columns is passed over.
+/// Writes the next cell, unless the sink failed before. A cell after the last column is ignored.
 fn write_next_cell<D: Dimension, T: CellText, S: TextSink>(
     sink: &mut S,
     columns: &CompactColumns<'_, D>,
@@ -48,8 +48,8 @@ fn write_next_cell<D: Dimension, T: CellText, S: TextSink>(
     write_cell(sink, columns, at, cell)
 }
 
-/// The cells that come, each in its column. All are walked, also where the sink refuses one. The answer is the column
-/// behind them.
+/// Writes the cells that a row has, each in its column, and returns the column after them. All
+/// cells are read, even if the sink fails.
 fn write_given_cells<C: IntoIterator, D: Dimension, S: TextSink>(
     sink: &mut S,
     columns: &CompactColumns<'_, D>,
@@ -73,7 +73,8 @@ where
     Ok(column)
 }
 
-/// How many first columns a row draws cells in: an empty cell in each one behind them takes nothing.
+/// Returns the number of first columns in which a row draws something. An empty cell in any later
+/// column takes nothing.
 fn count_drawn_cells<D: Dimension>(columns: &CompactColumns<'_, D>) -> usize
     ensures within { result ≤ columns.now.count }
     ensures rest { (column : ℕ) → result ≤ column → column < columns.now.count → compact_piece columns.now column [] ≡ [] }
@@ -86,7 +87,7 @@ fn count_drawn_cells<D: Dimension>(columns: &CompactColumns<'_, D>) -> usize
     }
 }
 
-/// The cells that a row lacks, from a column on. They are empty.
+/// Writes the cells that a row lacks, from a column on. They are empty.
 fn write_missing_cells<D: Dimension, S: TextSink>(
     sink: &mut S,
     columns: &CompactColumns<'_, D>,
@@ -103,7 +104,7 @@ fn write_missing_cells<D: Dimension, S: TextSink>(
     Ok(())
 }
 
-/// What stands behind the cells that came: those that the row lacks, and the right edge.
+/// Writes what follows the cells that a row has: those that it lacks, and the right edge.
 fn write_row_end<D: Dimension, S: TextSink>(
     sink: &mut S,
     columns: &CompactColumns<'_, D>,
@@ -117,7 +118,8 @@ fn write_row_end<D: Dimension, S: TextSink>(
     write_right_edge(sink, frame, frame.right.main)
 }
 
-/// The line of a row, unless the sink refused something before. The cells are walked to their end in any case.
+/// Writes the line of a row, unless the sink failed before. The cells are read to their end in any
+/// case.
 pub(crate) fn write_compact_row<C: IntoIterator, D: Dimension, S: TextSink>(
     sink: &mut S,
     columns: &CompactColumns<'_, D>,

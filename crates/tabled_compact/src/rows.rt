@@ -1,4 +1,4 @@
-//! The rows of a source, one by one.
+//! Prints the rows of a source, one by one.
 ghost use Rattle.std.specs.Prelude.{◌≡◌, ◌==◌, ◌<◌, ◌⊎◌, Bool, List, [], ◌∷◌, map, true, false, length, if◌then◌else◌, OnErr, MatchBool};
 ghost use Rattle.std.specs.Iterator.{IsFiniteIterable};
 ghost use Rattle.tabled_base.specs.Given.{Given};
@@ -20,11 +20,11 @@ use tabled_size::Dimension;
 #[derive(Drop)]
 pub(crate) struct RowPrinter<'a, D: Dimension> {
     columns: CompactColumns<'a, D>,
-    /// The columns of the whole.
+    /// The total width in columns.
     whole: usize,
-    /// The rows that are still to come.
+    /// The window over the rows that are still to be read.
     window: Window,
-    /// Whether a line went before.
+    /// Whether a line was written before.
     begun: bool,
     /// Whether a row was shown.
     any: bool,
@@ -32,7 +32,7 @@ pub(crate) struct RowPrinter<'a, D: Dimension> {
 }
 
 impl<'a, D: Dimension> RowPrinter<'a, D> {
-    /// No row so far.
+    /// Returns a printer that has read no row yet.
     pub fn new(columns: CompactColumns<'a, D>, whole: usize, window: Window) -> RowPrinter<'a, D>
         requires { whole ≡ compact_width columns }
         ensures columns { result.columns ≡ columns.entry }
@@ -49,7 +49,7 @@ impl<'a, D: Dimension> RowPrinter<'a, D> {
         }
     }
 
-    /// The next row, which is skipped or shown. It is walked to its end in any case.
+    /// Skips or prints the next row. It is read to its end, even if the sink fails.
     fn print_next_row<C: IntoIterator, S: TextSink>(
         &mut self,
         sink: &mut S,
@@ -83,7 +83,7 @@ impl<'a, D: Dimension> RowPrinter<'a, D> {
         }
     }
 
-    /// All rows that are wanted, of which there is one at least. No further row is asked for.
+    /// Prints all rows in the window, which shows at least one. No row past it is read.
     pub fn print_wanted_rows<R, C, S: TextSink>(
         &mut self,
         sink: &mut S,
@@ -112,7 +112,7 @@ impl<'a, D: Dimension> RowPrinter<'a, D> {
         Ok(())
     }
 
-    /// What stands below the rows, if one was shown.
+    /// Prints what is below the rows, if one was shown.
     fn print_end<S: TextSink>(&mut self, sink: &mut S) -> Result<(), TableError>
         ensures put { WritesLines (S.sent sink.old) self.old.begun result (S.sent sink.new) self.new.begun
             (if self.old.any then tail_lines self.old.columns else []) }
@@ -125,7 +125,7 @@ impl<'a, D: Dimension> RowPrinter<'a, D> {
         }
     }
 
-    /// The whole table. The text of the rows that came goes out, and nothing where none is shown.
+    /// Prints the entire table, and nothing if no row is shown.
     pub fn print_table<R, C, S: TextSink>(mut self, sink: &mut S, rows: R) -> Result<(), TableError>
     where
         R: IntoIterator<Item = C>,

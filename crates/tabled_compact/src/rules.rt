@@ -1,4 +1,4 @@
-//! The horizontal lines of a compact table.
+//! Horizontal lines of a compact table.
 ghost use Rattle.std.specs.Prelude.{◌≡◌, [], ◌∷◌};
 ghost use Rattle.tabled_line.specs.Leading.{WritesLines};
 ghost use Rattle.tabled_line.specs.Row.{ColumnSheet, rule_if, rule_line};
@@ -9,7 +9,8 @@ use tabled_base::TableError;
 use tabled_config::{Borders, HorizontalLine};
 use tabled_line::{TableColumns, TextSink, write_break, write_rule_line};
 
-/// The line between two rows, if it is there. At its edges stand the characters of the vertical lines.
+/// Returns the horizontal line between two rows, if there is one. Its ends are the characters of
+/// the left and right vertical lines.
 pub(crate) fn separator(borders: &Borders<char>) -> Option<HorizontalLine>
     ensures { result ≡ separator borders.now }
 {
@@ -38,7 +39,7 @@ fn write_next_rule<C: TableColumns, S: TextSink>(
     write_rule_line(sink, columns, line)
 }
 
-/// A horizontal line, if it is there.
+/// Writes a horizontal line, if there is one.
 pub(crate) fn write_rule<C: TableColumns, S: TextSink>(
     sink: &mut S,
     begun: &mut bool,

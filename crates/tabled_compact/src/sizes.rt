@@ -1,32 +1,36 @@
-//! Widths and heights that are set: by one number for all, by an array of one each, or by a `ConstSize`.
+//! Sets widths and heights: by one number for all, by an array of one each, or by a `ConstSize`.
 ghost use Rattle.std.specs.Prelude.{◌≡◌};
 
 use tabled_size::{ConstDimension, ConstSize};
 
-/// A dimension whose widths can be set by a value of type `S`, which is a `ConstSize<COUNT>`.
+/// A dimension whose widths can be set by a value of type `S`, which converts to
+/// `ConstSize<COUNT>`.
 ///
-/// It is a trait of the dimension so that `CompactTable::width` takes whatever is `Into<ConstSize>`.
+/// As a trait of the dimension, it lets `CompactTable::width` take everything that is
+/// `Into<ConstSize>`.
 pub trait SetWidth<S, const COUNT: usize> {
     /// The dimension with these widths.
     type Wide;
 
     ghost widened: { Self → S → Self.Wide → Type 0 };
 
-    /// The same heights, and these widths.
+    /// Returns the dimension with these widths and its old heights.
     fn set_width(self, width: S) -> Self::Wide
         ensures { widened self width result };
 }
 
-/// A dimension whose heights can be set by a value of type `S`, which is a `ConstSize<COUNT>`.
+/// A dimension whose heights can be set by a value of type `S`, which converts to
+/// `ConstSize<COUNT>`.
 ///
-/// It is a trait of the dimension so that `CompactTable::height` takes whatever is `Into<ConstSize>`.
+/// As a trait of the dimension, it lets `CompactTable::height` take everything that is
+/// `Into<ConstSize>`.
 pub trait SetHeight<S, const COUNT: usize> {
     /// The dimension with these heights.
     type High;
 
     ghost heightened: { Self → S → Self.High → Type 0 };
 
-    /// The same widths, and these heights.
+    /// Returns the dimension with these heights and its old widths.
     fn set_height(self, height: S) -> Self::High
         ensures { heightened self height result };
 }

@@ -1,4 +1,4 @@
-//! Tables of single lines, and how they are set.
+//! `CompactTable` and its settings.
 ghost use Rattle.std.specs.Prelude.{◌≡◌, Some, None};
 ghost use Rattle.std.specs.Borrow.{Lends, sem};
 ghost use Rattle.tabled_size.specs.declared.const_dimension.ConstSize.TheVariants.{Value};
@@ -11,9 +11,12 @@ use tabled_base::IntoRecords;
 use tabled_config::{AlignmentHorizontal, CompactConfig, Indent, Sides, Style};
 use tabled_size::{ConstDimension, ConstSize};
 
-/// A table that is printed while its rows are read. No row is kept, and printing allocates nothing.
-/// The widths, padding included, come from `width` or a dimension, or `from` measures an array.
-/// A cell wider than its column is printed whole, and each cell is taken as a single line.
+/// A table that is printed while its rows are read. No row is stored, and printing allocates
+/// nothing.
+///
+/// The widths, padding included, are set by `width`, given by a dimension, or measured by `from`
+/// for an array. Each cell is printed as a single line, and whole even if it is wider than its
+/// column.
 #[derive(Debug, Clone, Copy)]
 pub struct CompactTable<I, D> {
     pub(crate) records: I,
@@ -24,7 +27,8 @@ pub struct CompactTable<I, D> {
     pub(crate) skip: usize,
 }
 
-/// Ascii borders, one column of padding left and right, texts at the left.
+/// Returns the configuration of a new table: ASCII borders, one column of padding on the left and
+/// right, and text at the left.
 fn new_config() -> CompactConfig
     ensures { IsNewConfig result }
 {
@@ -40,8 +44,8 @@ fn new_config() -> CompactConfig
 }
 
 impl<I> CompactTable<I, ConstDimension<0, 0>> {
-    /// A table of rows, over no column yet. Each column takes two columns of text, which is its padding; `width` gives
-    /// more.
+    /// Returns a table of rows that has no columns yet. Its columns are 2 wide, which is their
+    /// padding; `width` sets more.
     pub fn new(records: I) -> Self
     where
         I: IntoRecords,
@@ -65,7 +69,7 @@ impl<I, D> CompactTable<I, D> {
     ghost use Rattle.tabled_config.specs.contracts.compact.CompactConfig.{the_row as config_row};
 
     /// Sets the height of each row: one number for all, an array of one each, or a `ConstSize`.
-    /// Printing doesn't read it.
+    /// Printing ignores it.
     pub fn height<S, const COUNT: usize>(self, height: S) -> CompactTable<I, D::High>
     where
         D: SetHeight<S, COUNT>,
@@ -86,8 +90,8 @@ impl<I, D> CompactTable<I, D> {
         }
     }
 
-    /// Sets the width of each column, padding included: one number for all, an array of one each, or
-    /// a `ConstSize`.
+    /// Sets the width of each column, padding included: one number for all, an array of one each,
+    /// or a `ConstSize`.
     ///
     /// ```rust
     /// CompactTable::new(CITIES).columns(2).width(6)
@@ -112,7 +116,8 @@ impl<I, D> CompactTable<I, D> {
         }
     }
 
-    /// A table of rows, over no column yet, whose widths a dimension answers. Nothing is estimated.
+    /// Returns a table of rows that has no columns yet, with the widths of a dimension. Nothing is
+    /// estimated.
     pub fn with_dimension(records: I, dimension: D) -> Self
     where
         I: IntoRecords,
@@ -133,7 +138,7 @@ impl<I, D> CompactTable<I, D> {
         }
     }
 
-    /// Shows so many rows at most, of those that aren't skipped.
+    /// Sets how many rows are shown at most, not counting those that are skipped.
     pub fn rows(self, count: usize) -> Self
         ensures { result ≡ record self { limit = Some count } }
     {
@@ -143,7 +148,7 @@ impl<I, D> CompactTable<I, D> {
         }
     }
 
-    /// Shows so many columns. Further cells of a row are passed over, and missing ones are empty.
+    /// Sets the number of columns. Further cells of a row are ignored, and missing ones are empty.
     pub fn columns(self, count: usize) -> Self
         ensures { result ≡ record self { columns = count } }
     {
@@ -153,7 +158,7 @@ impl<I, D> CompactTable<I, D> {
         }
     }
 
-    /// Skips so many rows, before any is counted for `rows`.
+    /// Sets how many rows are skipped before the first that is shown.
     pub fn skip(self, count: usize) -> Self
         ensures { result ≡ record self { skip = count } }
     {
@@ -163,14 +168,14 @@ impl<I, D> CompactTable<I, D> {
         }
     }
 
-    /// What is set for all cells.
+    /// Returns the configuration.
     pub fn get_config(&self) -> &CompactConfig
         ensures { result.now ≡ self.now.config }
     {
         &self.config
     }
 
-    /// What is set for all cells, to be changed.
+    /// Returns the configuration by mutable reference.
     pub fn get_config_mut(&mut self) -> &mut CompactConfig
         ensures* lends { sem 𝓛 (Lends (the_row I.row D.row) config_row self.entry result (λ config. record self.old { config = config })) }
         ensures value { result.now ≡ self.old.config }
@@ -183,8 +188,9 @@ impl<A: CellRows<COLUMNS, ROWS>, const COLUMNS: usize, const ROWS: usize> From<A
     for CompactTable<A, ConstDimension<COLUMNS, ROWS>> {
     ghost from_gives = { λ rows table. IsTableOf A.cells COLUMNS ROWS rows table };
 
-    /// A table of all rows and columns of an array. Each column is as wide as its widest cell and two
-    /// more for padding, at most `usize::MAX`; a padding that is set later doesn't change that.
+    /// Returns a table of all rows and columns of an array. Each column is as wide as its widest
+    /// cell plus 2 for padding, at most `usize::MAX`. Padding that is set later doesn't change the
+    /// widths.
     fn from(rows: A) -> Self {
         let widths = rows.fitting_widths();
         CompactTable {

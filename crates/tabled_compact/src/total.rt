@@ -1,4 +1,4 @@
-//! The columns of a whole line.
+//! The total width of a compact table.
 ghost use Rattle.std.specs.Prelude.{◌≡◌, ◌+◌, ◌*◌, ◌≤◌, ◌<◌, ◌^◌, ℕ, MatchOption};
 ghost use Rattle.tabled_priority.specs.Sums.{one_if, sum_below};
 ghost use Rattle.tabled_line.specs.Apart.{line_total};
@@ -12,7 +12,7 @@ fn one_if(there: bool) -> usize
     if there { 1 } else { 0 }
 }
 
-/// The widths of so many first columns.
+/// Returns the sum of the first `known` widths; `None` if it exceeds `usize::MAX`.
 #[tactic(auto, using(tabled_priority::proofs::Sums::sum_step))]
 fn known_widths<C: TableColumns>(columns: &C, known: usize) -> Option<usize>
     requires { known ≤ (C.sheet columns.now).count }
@@ -26,14 +26,15 @@ fn known_widths<C: TableColumns>(columns: &C, known: usize) -> Option<usize>
     Some(total)
 }
 
-/// What was summed up, and so many times more a number.
+/// Returns `sum + times * each`; `None` if it exceeds `usize::MAX`.
 fn add_times(sum: usize, times: usize, each: usize) -> Option<usize>
     ensures { let whole = sum + times * each in MatchOption result (2 ^ 64 ≤ whole) (λ n. n ≡ whole) }
 {
     sum.checked_add(times.checked_mul(each)?)
 }
 
-/// The widths of some columns from one on, which are all as wide as it, besides what was summed up.
+/// Returns `sum` plus the widths from a column on, which are all equal; `None` if that exceeds
+/// `usize::MAX`.
 fn add_alike<C: TableColumns>(columns: &C, sum: usize, from: usize) -> Option<usize>
     requires within { from ≤ (C.sheet columns.now).count }
     requires summed { sum ≡ sum_below (C.sheet columns.now).width from }
@@ -49,7 +50,8 @@ fn add_alike<C: TableColumns>(columns: &C, sum: usize, from: usize) -> Option<us
     add_times(sum, times, columns.width(from))
 }
 
-/// The widths of all columns. Those that are alike are counted at once.
+/// Returns the sum of all widths; `None` if it exceeds `usize::MAX`. The equal widths at the end
+/// are multiplied.
 fn sum_widths<C: TableColumns>(columns: &C) -> Option<usize>
     ensures { let sheet = C.sheet columns.now in
         MatchOption result (2 ^ 64 ≤ sum_below sheet.width sheet.count) (λ n. n ≡ sum_below sheet.width sheet.count) }
@@ -59,8 +61,8 @@ fn sum_widths<C: TableColumns>(columns: &C) -> Option<usize>
     add_alike(columns, sum, known)
 }
 
-/// The columns of each line: the widths, the vertical lines and the side margins. `None` where they pass the greatest
-/// `usize`.
+/// Returns the columns of each line: all widths, the vertical lines and the side margins. `None` if
+/// that exceeds `usize::MAX`.
 #[tactic(auto, unfolding(tabled_line::specs::Apart::line_total))]
 pub(crate) fn line_total<C: TableColumns>(columns: &C) -> Option<usize>
     ensures { let whole = line_total (C.sheet columns.now) in MatchOption result (2 ^ 64 ≤ whole)

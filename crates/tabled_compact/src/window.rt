@@ -1,19 +1,19 @@
 //! Which rows of a source are shown.
 ghost use Rattle.std.specs.Prelude.{◌≡◌, ◌==◌, ◌↔◌, IsTrue};
 
-/// Some rows of a source: those after so many that are skipped, and no more than the limit, if there is one.
+/// Some rows of a source: those after the skipped ones, at most `limit` if there is one.
 #[derive(Debug, Clone, Copy, PartialEq, Eq)]
 pub struct Window {
-    /// How many rows are skipped.
+    /// The number of rows that are skipped.
     pub skip: usize,
-    /// How many of the rows that follow are shown at most.
+    /// The greatest number of rows that are shown after them.
     pub limit: Option<usize>,
 }
 
 impl Window {
     ghost use Rattle.tabled_compact.specs.Shown.{IsSpent, window_after};
 
-    /// Whether no row is shown any more.
+    /// Whether no further row is shown.
     pub(crate) fn is_spent(&self) -> bool
         ensures { IsTrue result ↔ IsSpent self.now }
     {
@@ -23,7 +23,7 @@ impl Window {
         }
     }
 
-    /// Counts the next row, and tells whether it is shown.
+    /// Counts the next row, and returns whether it is shown.
     pub(crate) fn take_row(&mut self) -> bool
         ensures shown { result ≡ (self.old.skip == 0) }
         ensures left { self.new ≡ window_after self.old 1 }

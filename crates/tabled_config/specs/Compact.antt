@@ -1,4 +1,4 @@
--- What new compact configurations hold.
+-- The values of new compact configurations.
 use Rattle.std.specs.Prelude.{◌≡◌, false, []}
 use Rattle.tabled_config.specs.declared.alignment.AlignmentHorizontal.TheVariants.{Left}
 use Rattle.tabled_config.specs.declared.alignment.AlignmentVertical.TheVariants.{Top}
@@ -13,7 +13,7 @@ use Rattle.tabled_config.specs.Frame.{no_borders}
 abbrev pub each_side : {T : Type 0} → T → Sides T
 each_side value = record { left = value; right = value; top = value; bottom = value }
 
--- no column or line, and a space to fill it
+-- no columns or lines, filled with spaces
 abbrev pub no_indent : Indent
 no_indent = record { size = 0; fill = 32 }
 
@@ -22,14 +22,14 @@ pub record IsColorless (mark : ANSIStr) : Type 0 where
   pub prefix : mark.prefix.now ≡ []
   pub suffix : mark.suffix.now ≡ []
 
--- each side is without a colour
+-- no side has a colour
 pub record AreColorless (sides : Sides ANSIStr) : Type 0 where
   pub left : IsColorless sides.left
   pub right : IsColorless sides.right
   pub top : IsColorless sides.top
   pub bottom : IsColorless sides.bottom
 
--- no borders, no padding, no margin and no colours, and texts at the left
+-- no borders, padding, margin or colours; text at the left
 pub record IsPlainCompact (config : CompactConfig) : Type 0 where
   pub margin : config.margin ≡ each_side no_indent
   pub padding : config.padding ≡ each_side no_indent
@@ -39,7 +39,7 @@ pub record IsPlainCompact (config : CompactConfig) : Type 0 where
   pub padding_color : AreColorless config.padding_color
   pub alignment_horizontal : config.alignment_horizontal ≡ Left
 
--- a compact configuration, with texts at the top and no flag
+-- a compact configuration, with text at the top and no flag set
 abbrev pub with_no_flag : CompactConfig → CompactMultilineConfig
 with_no_flag config =
     record {
@@ -48,7 +48,7 @@ with_no_flag config =
       formatting = record { horizontal_trim = false; vertical_trim = false; allow_lines_alignment = false };
     }
 
--- a new compact configuration, with texts at the top and no flag
+-- a new compact configuration, with text at the top and no flag set
 pub record IsPlainMultiline (multiline : CompactMultilineConfig) : Type 0 where
   pub config : IsPlainCompact multiline.config
   pub rest : multiline ≡ with_no_flag multiline.config

@@ -1,4 +1,4 @@
--- Which lines of a frame are there, and their characters.
+-- Which lines of a frame are drawn, and their characters.
 use Rattle.std.specs.Prelude.{ℕ, ◌==◌, if◌then◌else◌, Bool, false, ◌||◌, Option, Some, None, is_some, unwrap_or}
 use Rattle.tabled_config.specs.declared.borders.Borders.{Borders}
 use Rattle.tabled_config.specs.declared.borders.HorizontalLine.{HorizontalLine}
@@ -7,7 +7,7 @@ use Rattle.tabled_config.specs.declared.frame.VerticalLine.{VerticalLine}
 use Rattle.tabled_config.specs.declared.sides.Indent.{Indent}
 use Rattle.tabled_config.specs.declared.sides.Sides.{Sides}
 
--- no line at all
+-- no lines
 abbrev pub no_borders : {T : Type 0} → Borders T
 no_borders =
     record {
@@ -28,7 +28,7 @@ no_borders =
       intersection = None;
     }
 
--- a vertical line is there if any of its characters is
+-- a vertical line is drawn if any of its characters is set
 abbrev pub has_left : Borders ℕ → Bool
 has_left b = is_some b.left || (is_some b.top_left || (is_some b.bottom_left || is_some b.left_intersection))
 
@@ -38,11 +38,11 @@ has_right b = is_some b.right || (is_some b.top_right || (is_some b.bottom_right
 abbrev pub has_inner : Borders ℕ → Bool
 has_inner b = is_some b.vertical || (is_some b.intersection || (is_some b.top_intersection || is_some b.bottom_intersection))
 
--- a vertical line, if it stands, with its character on the lines of rows; a missing one is a space
+-- a vertical line with its character in the lines of rows, a space if none is set
 abbrev pub vertical_line : Bool → Option ℕ → VerticalLine
 vertical_line there c = record { there = there; main = unwrap_or c 32 }
 
--- what stands around and between the cells of any line
+-- the margin and the vertical lines
 abbrev pub frame_of : Borders ℕ → Sides Indent → Frame
 frame_of b margin = record {
   margin = margin;
@@ -51,7 +51,7 @@ frame_of b margin = record {
   right = vertical_line (has_right b) b.right;
 }
 
--- whether a vertical line stands before a column, and behind another one
+-- whether a vertical line separates a column from the one before it
 abbrev pub has_bar : Frame → ℕ → Bool
 has_bar frame column = if column == 0 then false else frame.inner.there
 
@@ -65,10 +65,10 @@ inner_line b = record { main = b.horizontal; left = b.left_intersection; interse
 abbrev pub bottom_line : Borders ℕ → HorizontalLine
 bottom_line b = record { main = b.bottom; left = b.bottom_left; intersection = b.bottom_intersection; right = b.bottom_right }
 
--- a horizontal line is there if any of its characters is
+-- a horizontal line is drawn if any of its characters is set
 abbrev pub if_any : HorizontalLine → Option HorizontalLine
 if_any l = if is_some l.main || (is_some l.left || (is_some l.intersection || is_some l.right)) then Some l else None
 
--- the line of the borders above the row i of some rows, or below the last row
+-- the borders' line above row i of `rows` rows, or below the last row for i = rows
 abbrev pub border_at : Borders ℕ → ℕ → ℕ → Option HorizontalLine
 border_at b rows i = if i == 0 then if_any (top_line b) else (if i == rows then if_any (bottom_line b) else if_any (inner_line b))

@@ -1,8 +1,9 @@
--- What stands where lines meet.
+-- The character where lines meet.
 use Rattle.std.specs.Prelude.{Bool, true, false, Option, None}
 use Rattle.tabled_config.specs.declared.borders.Borders.{Borders}
 
--- arms to the left, right, up, down: the part of the frame that has just these, and none where no lines meet
+-- lines continue on the left, right, top, bottom: the part of the frame for this junction, or none
+-- where no lines meet
 abbrev pub junction : {T : Type 0} → Borders T → Bool → Bool → Bool → Bool → Option T
 junction b false true false true = b.top_left
 junction b true false false true = b.top_right

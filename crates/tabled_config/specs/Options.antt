@@ -1,4 +1,4 @@
--- What an option leaves of a table's configuration.
+-- What an option changes in a table's configuration.
 use Rattle.std.specs.Prelude.{◌≡◌, ℕ, List, [], ◌∷◌, Option, Some, None}
 use Rattle.tabled_base.specs.declared.error.TableError.{TableError}
 use Rattle.tabled_base.specs.declared.error.TableError.TheVariants.{Memory}
@@ -8,19 +8,19 @@ use Rattle.tabled_config.specs.declared.spanned.SpannedConfig.{SpannedConfig}
 use Rattle.tabled_config.specs.declared.style.Style.{Style}
 
 module _ {R C D : Type 0} where
-  -- the configuration becomes another, and the rest stays
+  -- the configuration is replaced, and nothing else changes
   abbrev pub Becomes : C → R → D → R → C → D → Type 0
   Becomes config records sizes records' config' sizes' = (records' ≡ records) × ((config' ≡ config) × (sizes' ≡ sizes))
 
-  -- memory was refused, and everything stays
+  -- an allocation failed, and nothing changes
   abbrev pub Stays : TableError → R → C → D → R → C → D → Type 0
   Stays error records config sizes records' config' sizes' = (error ≡ Memory) × Becomes config records sizes records' config' sizes'
 
--- the configuration of a printed table that holds some settings
+-- the configuration of a `Table` with these settings
 abbrev pub colored : SpannedConfig → ColoredConfig
 colored settings = record { config = settings }
 
--- the lines that a style sets by their index
+-- the lines that a style sets by index
 abbrev pub lines_below : Option HorizontalLine → List (ℕ × HorizontalLine)
 lines_below None = []
 lines_below (Some line) = (1, line) ∷ []

@@ -1,4 +1,4 @@
--- How the texts of a row stand.
+-- The styles of a row's cells.
 use Rattle.std.specs.Prelude.{ℕ, ◌≡◌, false}
 use Rattle.std.specs.List.{slice_index_or}
 use Rattle.tabled_config.specs.declared.sides.Indent.{Indent}
@@ -10,11 +10,11 @@ use Rattle.tabled_config.specs.declared.spanned.row_styles.RowStyles.TheVariants
 use Rattle.tabled_config.specs.declared.spanned.row_styles.SetStyles.{SetStyles}
 use Rattle.tabled_entity.specs.Changes.{value_at}
 
--- nothing, on one side
+-- no indent on one side
 abbrev pub no_indent : Indent
 no_indent = record { size = 0; fill = 32 }
 
--- how a text stands of which nothing is told
+-- the style of a cell without settings
 abbrev pub plain_style : CellStyle
 plain_style =
     record {
@@ -24,7 +24,7 @@ plain_style =
       line_alignment = false;
     }
 
--- how the text in a column was set
+-- the style set for the cell in a column
 abbrev pub set_style : SetStyles → ℕ → CellStyle
 set_style styles column =
     record {
@@ -34,16 +34,16 @@ set_style styles column =
       line_alignment = value_at styles.line_alignment column;
     }
 
--- how the text in a column stands
+-- the style of the cell in a column
 abbrev pub style_in : RowStyles → ℕ → CellStyle
 style_in (Alike style) column = style
 style_in (Listed styles) column = slice_index_or styles.now column plain_style
 style_in (Set styles) column = set_style styles column
 
--- each text stands as it did
+-- the style of each column is unchanged
 pub record SameStyles (old new : RowStyles) : Type 0 where
   pub at : (column : ℕ) → style_in new column ≡ style_in old column
 
--- each text stands as is told
+-- `told` gives the style of each column
 pub record DescribesStyles (styles : RowStyles) (told : ℕ → CellStyle) : Type 0 where
   pub at : (column : ℕ) → style_in styles column ≡ told column

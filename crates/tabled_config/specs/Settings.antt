@@ -1,4 +1,5 @@
--- What a configuration says of each place. The layers above read it by these words alone.
+-- The settings of each cell and line. The crates above read a configuration only through these
+-- definitions.
 use Rattle.std.specs.Prelude.{◌≡◌, ℕ, Bool, Option, Some, None, Result, OnOk, OnErr, IfErr, IsOk}
 use Rattle.tabled_base.specs.declared.error.TableError.{TableError}
 use Rattle.tabled_base.specs.declared.error.TableError.TheVariants.{Memory}
@@ -16,7 +17,7 @@ use Rattle.tabled_entity.specs.ChangeIndex.{IsWhole}
 use Rattle.tabled_config.specs.Frame.{border_at, frame_of}
 use Rattle.tabled_config.specs.Lines.{line_set}
 
--- how the text of a cell stands in its place
+-- the padding and the alignment of a cell
 unfoldable pub style_at : SpannedConfig → ℕ → ℕ → CellStyle
 style_at config row column =
     record {
@@ -26,32 +27,32 @@ style_at config row column =
       line_alignment = setting_at config.line_alignment row column;
     }
 
--- a style, where each of its parts is known
+-- a style, if all its parts are known
 abbrev pub style_if : Option (Sides Indent) → Option AlignmentHorizontal → Option AlignmentVertical → Option Bool → Option CellStyle
 style_if (Some padding) (Some horizontal) (Some vertical) (Some line_alignment) =
     Some (record { padding = padding; horizontal = horizontal; vertical = vertical; line_alignment = line_alignment })
 style_if _ _ _ _ = None
 
--- how the texts of all cells stand, where nothing of it was set for a part of the table
+-- the style of all cells, if none was set for a row, a column or a cell
 unfoldable pub shared_style : SpannedConfig → Option CellStyle
 shared_style config =
     style_if (shared config.padding) (shared config.alignment_horizontal) (shared config.alignment_vertical) (shared config.line_alignment)
 
--- a line set by its index, and else that of the borders
+-- a line set by index, else the borders' line
 abbrev pub in_place_of : Option HorizontalLine → Option HorizontalLine → Option HorizontalLine
 in_place_of (Some line) border = Some line
 in_place_of None border = border
 
--- the horizontal line above the row i of some rows, or below the last row
+-- the horizontal line above row i of `rows` rows, or below the last row for i = rows
 unfoldable pub rule_at : SpannedConfig → ℕ → ℕ → Option HorizontalLine
 rule_at config rows i = in_place_of (line_set config.lines i) (border_at config.borders rows i)
 
--- what stands around and between the cells of any line; lines set by their index make no vertical line stand
+-- the margin and the vertical lines; lines set by index draw no vertical line
 abbrev pub frame : SpannedConfig → Frame
 frame config = frame_of config.borders config.margin
 
--- what a call leaves that sets something for an entity: the settings with it, or the old ones and
--- the error `Memory`; for the whole table it succeeds
+-- the outcome of setting a value for an entity: the settings with it, or the old ones and the error
+-- `Memory`. For the whole table it always succeeds.
 pub record IsSetFor {T : Type 0} (entity : Entity) (result : Result T TableError)
     (old new with_it : SpannedConfig) : Type 0 where
   pub ok : OnOk result (new ≡ with_it)

@@ -1,4 +1,4 @@
--- The configurations that others are made to.
+-- New configurations, and those converted from compact ones.
 use Rattle.std.specs.Prelude.{false, []}
 use Rattle.tabled_config.specs.declared.alignment.AlignmentHorizontal.TheVariants.{Left}
 use Rattle.tabled_config.specs.declared.alignment.AlignmentVertical.TheVariants.{Top}
@@ -9,7 +9,7 @@ use Rattle.tabled_entity.specs.Changes.{for_all}
 use Rattle.tabled_config.specs.Compact.{each_side, no_indent}
 use Rattle.tabled_config.specs.Frame.{no_borders}
 
--- no borders, margin, padding or lines; texts at the left and the top, with no flag
+-- no borders, margin, padding or lines; text at the left and the top, with no flag set
 abbrev pub new_spanned : SpannedConfig
 new_spanned =
     record {
@@ -24,7 +24,7 @@ new_spanned =
       lines = [];
     }
 
--- what a compact configuration says, for all cells, and else what a new configuration has
+-- a compact configuration for all cells; the other settings are those of a new configuration
 abbrev pub spanned_of_compact : CompactConfig → SpannedConfig
 spanned_of_compact compact =
     record new_spanned {
@@ -34,7 +34,7 @@ spanned_of_compact compact =
       alignment_horizontal = for_all compact.alignment_horizontal;
     }
 
--- the same for a compact configuration of cells of several lines
+-- a compact configuration for cells of several lines, with its vertical alignment and flags
 abbrev pub spanned_of_multiline : CompactMultilineConfig → SpannedConfig
 spanned_of_multiline multiline =
     record (spanned_of_compact multiline.config) {

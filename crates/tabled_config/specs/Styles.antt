@@ -4,7 +4,7 @@ use Rattle.tabled_config.specs.declared.borders.HorizontalLine.{HorizontalLine}
 use Rattle.tabled_config.specs.declared.style.Style.{Style}
 use Rattle.tabled_config.specs.Frame.{no_borders}
 
--- a whole horizontal line, in the order in which it is drawn
+-- a complete horizontal line; the parameters are in drawing order
 abbrev pub line : ℕ → ℕ → ℕ → ℕ → HorizontalLine
 line left main intersection right = record { main = Some main; left = Some left; intersection = Some intersection; right = Some right }
 
@@ -53,7 +53,7 @@ markdown =
       below_first = Some (line 0x7c 0x2d 0x7c 0x7c);
     }
 
--- | between columns; - and + below the first row, which has no ends
+-- | between columns; below the first row a line of - and +, without ends
 abbrev pub psql : Style
 psql =
     record {
@@ -61,10 +61,10 @@ psql =
       below_first = Some (record { main = Some 0x2d; left = None; intersection = Some 0x2b; right = None });
     }
 
--- no line at all
+-- no lines
 abbrev pub no_style : Style
 no_style = record { borders = no_borders; below_first = None }
 
--- the line that a style sets above a row: below the first row, or nowhere
+-- the line that a style sets above a row: only below the first row
 abbrev pub style_line : Style → ℕ → Option HorizontalLine
 style_line style row = if row == 1 then style.below_first else None

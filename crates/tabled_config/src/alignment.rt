@@ -1,24 +1,24 @@
-//! Where a text stands in its room.
+//! Alignment of text in its cell.
 
 use tabled_entity::Distinct;
 
-/// Where a text stands among the columns of its room.
+/// Where text is placed within its content width.
 #[derive(Clone, Copy, Debug, PartialEq, Eq, PartialOrd, Ord, Hash)]
 pub enum AlignmentHorizontal {
-    /// At the left end.
+    /// At the left.
     Left,
-    /// In the middle, with the smaller half of the free columns on the left.
+    /// In the middle; of an odd number of free columns, the extra one is on the right.
     Center,
-    /// At the right end.
+    /// At the right.
     Right,
 }
 
-/// Where a text stands among the lines of its cell.
+/// Where text is placed among the lines of its cell.
 #[derive(Clone, Copy, Debug, PartialEq, Eq, PartialOrd, Ord, Hash)]
 pub enum AlignmentVertical {
     /// At the top.
     Top,
-    /// In the middle, with the smaller half of the free lines above.
+    /// In the middle; of an odd number of free lines, the extra one is below.
     Center,
     /// At the bottom.
     Bottom,

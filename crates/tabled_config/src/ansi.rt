@@ -1,7 +1,8 @@
-//! Marks that terminals read as colours.
+//! The strings that switch a colour on and off.
 ghost use Rattle.std.specs.Prelude.{◌≡◌, ◌==◌, ◌&&◌, length};
 
-/// What is written before and after a coloured part. It takes no columns.
+/// The strings written before and after a coloured part, such as ANSI escape sequences. They take
+/// no columns.
 #[derive(Clone, Copy, Debug, PartialEq, Eq, PartialOrd, Ord, Hash)]
 pub struct ANSIStr<'a> {
     prefix: &'a str,
@@ -9,7 +10,7 @@ pub struct ANSIStr<'a> {
 }
 
 impl<'a> ANSIStr<'a> {
-    /// The texts before and after a part.
+    /// Creates a colour from the strings before and after a part.
     pub fn new(prefix: &'a str, suffix: &'a str) -> ANSIStr<'a>
         ensures prefix { result.prefix.now ≡ prefix.now }
         ensures suffix { result.suffix.now ≡ suffix.now }
@@ -17,21 +18,21 @@ impl<'a> ANSIStr<'a> {
         ANSIStr { prefix, suffix }
     }
 
-    /// The text before a part.
+    /// Returns the string before a part.
     pub fn get_prefix(&self) -> &'a str
         ensures { result.now ≡ self.now.prefix.now }
     {
         self.prefix
     }
 
-    /// The text after a part.
+    /// Returns the string after a part.
     pub fn get_suffix(&self) -> &'a str
         ensures { result.now ≡ self.now.suffix.now }
     {
         self.suffix
     }
 
-    /// Whether both texts are empty.
+    /// Whether both strings are empty.
     pub fn is_empty(&self) -> bool
         ensures { result ≡ (length self.now.prefix.now == 0 && length self.now.suffix.now == 0) }
     {

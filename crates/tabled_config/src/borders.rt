@@ -1,24 +1,24 @@
-//! The characters of a frame, and which of its lines are there.
+//! The characters of a frame, and which of its lines are drawn.
 ghost use Rattle.std.specs.Prelude.{◌≡◌};
 
-/// The fifteen places of a frame. What is missing is a space where its line is there.
+/// The fifteen parts of a frame. A part that isn't set is a space if its line is drawn.
 #[derive(Clone, Copy, Debug, PartialEq, Eq, PartialOrd, Ord, Hash)]
 pub struct Borders<T> {
     /// The top line.
     pub top: Option<T>,
-    /// Its left end.
+    /// The left end of the top line.
     pub top_left: Option<T>,
-    /// Its right end.
+    /// The right end of the top line.
     pub top_right: Option<T>,
-    /// Where a vertical line meets it.
+    /// Where a vertical line meets the top line.
     pub top_intersection: Option<T>,
     /// The bottom line.
     pub bottom: Option<T>,
-    /// Its left end.
+    /// The left end of the bottom line.
     pub bottom_left: Option<T>,
-    /// Its right end.
+    /// The right end of the bottom line.
     pub bottom_right: Option<T>,
-    /// Where a vertical line meets it.
+    /// Where a vertical line meets the bottom line.
     pub bottom_intersection: Option<T>,
     /// The lines between rows.
     pub horizontal: Option<T>,
@@ -39,7 +39,7 @@ pub struct Borders<T> {
 /// The characters of one horizontal line.
 #[derive(Clone, Copy, Debug, PartialEq, Eq, PartialOrd, Ord, Hash)]
 pub struct HorizontalLine {
-    /// Over the columns.
+    /// The line itself, across the columns.
     pub main: Option<char>,
     /// At the left vertical line.
     pub left: Option<char>,
@@ -52,7 +52,7 @@ pub struct HorizontalLine {
 impl HorizontalLine {
     ghost use Rattle.tabled_config.specs.Frame.{if_any};
 
-    /// The line, if any of its characters is there.
+    /// Returns the line if any of its characters is set.
     fn if_any(self) -> Option<HorizontalLine>
         ensures { result ≡ if_any self }
     {
@@ -67,7 +67,7 @@ impl HorizontalLine {
 impl<T> Borders<T> {
     ghost use Rattle.tabled_config.specs.Frame.{no_borders};
 
-    /// No line at all.
+    /// Creates borders without lines.
     pub fn empty() -> Borders<T>
         ensures { result ≡ no_borders }
     {
@@ -94,8 +94,8 @@ impl<T> Borders<T> {
 impl<T: Copy> Borders<T> {
     ghost use Rattle.tabled_config.specs.Junction.{junction};
 
-    /// What stands where lines meet, if it is set: by the sides on which a line goes on. Where only one does, or
-    /// where they make one straight line, no lines meet, and there is none.
+    /// Returns what is set for the junction of lines that continue on the given sides. `None` on
+    /// fewer than two sides and for a straight line, where no lines meet.
     pub fn junction(&self, left: bool, right: bool, up: bool, down: bool) -> Option<T>
         ensures { result ≡ junction self.now left right up down }
     {
@@ -117,7 +117,7 @@ impl<T: Copy> Borders<T> {
 impl Borders<char> {
     ghost use Rattle.tabled_config.specs.Frame.{border_at, has_inner, has_left, has_right};
 
-    /// Whether the left vertical line is there: any of its characters is.
+    /// Whether the left vertical line is drawn: any of its characters is set.
     pub fn has_left(&self) -> bool
         ensures { result ≡ has_left self.now }
     {
@@ -127,7 +127,7 @@ impl Borders<char> {
             || self.left_intersection.is_some()
     }
 
-    /// Whether the right vertical line is there.
+    /// Whether the right vertical line is drawn: any of its characters is set.
     pub fn has_right(&self) -> bool
         ensures { result ≡ has_right self.now }
     {
@@ -137,7 +137,7 @@ impl Borders<char> {
             || self.right_intersection.is_some()
     }
 
-    /// Whether vertical lines stand between columns.
+    /// Whether vertical lines are drawn between columns: any of their characters is set.
     pub fn has_inner(&self) -> bool
         ensures { result ≡ has_inner self.now }
     {
@@ -147,7 +147,8 @@ impl Borders<char> {
             || self.bottom_intersection.is_some()
     }
 
-    /// The horizontal line above the row `index` of so many rows, or below the last one, if it is there.
+    /// Returns the horizontal line above row `index` of `rows` rows, or below the last row for
+    /// `index == rows`. `None` if none of its characters is set.
     pub fn line_at(&self, rows: usize, index: usize) -> Option<HorizontalLine>
         ensures { result ≡ border_at self.now rows index }
     {

@@ -1,4 +1,4 @@
-//! The settings of a compact table: one for all cells.
+//! The settings of a compact table, the same for all cells (`CompactConfig`).
 ghost use Rattle.std.specs.Prelude.{◌≡◌};
 ghost use Rattle.tabled_config.specs.Compact.{IsColorless, IsPlainCompact};
 ghost use Rattle.tabled_config.specs.Frame.{frame_of};
@@ -9,7 +9,7 @@ use crate::borders::Borders;
 use crate::frame::Frame;
 use crate::sides::{Indent, Sides};
 
-/// The settings of a table whose cells all have the same: it takes no memory.
+/// The settings of a table whose cells share them. It never allocates.
 #[derive(Clone, Copy, Debug, PartialEq, Eq, PartialOrd, Ord, Hash)]
 pub struct CompactConfig {
     margin: Sides<Indent>,
@@ -22,7 +22,7 @@ pub struct CompactConfig {
 }
 
 impl CompactConfig {
-    /// No borders, no padding, no margin and no colours, texts at the left.
+    /// Creates a configuration without borders, padding, margin or colours. Text is at the left.
     pub fn new() -> CompactConfig
         ensures { IsPlainCompact result }
     {
@@ -46,7 +46,7 @@ impl CompactConfig {
         CompactConfig { margin, ..self }
     }
 
-    /// The margin around the frame.
+    /// Returns the margin around the frame.
     pub fn get_margin(&self) -> &Sides<Indent>
         ensures { result.now ≡ self.now.margin }
     {
@@ -60,7 +60,7 @@ impl CompactConfig {
         CompactConfig { padding, ..self }
     }
 
-    /// The padding of all cells.
+    /// Returns the padding of all cells.
     pub fn get_padding(&self) -> &Sides<Indent>
         ensures { result.now ≡ self.now.padding }
     {
@@ -74,21 +74,21 @@ impl CompactConfig {
         CompactConfig { borders, ..self }
     }
 
-    /// The borders.
+    /// Returns the borders.
     pub fn get_borders(&self) -> &Borders<char>
         ensures { result.now ≡ self.now.borders }
     {
         &self.borders
     }
 
-    /// What stands around and between the cells of any line.
+    /// Returns the margin and the vertical lines.
     pub fn frame(&self) -> Frame
         ensures { result ≡ frame_of self.now.borders self.now.margin }
     {
         Frame::new(&self.borders, self.margin)
     }
 
-    /// Sets the colours of the borders, which a `PoolTable` alone shows.
+    /// Sets the colours of the borders. Only a `PoolTable` shows them.
     pub fn set_borders_color(self, colors: Borders<ANSIStr<'static>>) -> CompactConfig
         ensures { result ≡ record self { borders_color = colors.entry } }
     {
@@ -98,14 +98,14 @@ impl CompactConfig {
         }
     }
 
-    /// The colours of the borders.
+    /// Returns the colours of the borders.
     pub fn get_borders_color(&self) -> &Borders<ANSIStr<'static>>
         ensures { result.now ≡ self.now.borders_color }
     {
         &self.borders_color
     }
 
-    /// Sets the colours of the margin, which a `PoolTable` alone shows.
+    /// Sets the colours of the margin. Only a `PoolTable` shows them.
     pub fn set_margin_color(self, colors: Sides<ANSIStr<'static>>) -> CompactConfig
         ensures { result ≡ record self { margin_color = colors.entry } }
     {
@@ -115,14 +115,14 @@ impl CompactConfig {
         }
     }
 
-    /// The colours of the margin.
+    /// Returns the colours of the margin.
     pub fn get_margin_color(&self) -> &Sides<ANSIStr<'static>>
         ensures { result.now ≡ self.now.margin_color }
     {
         &self.margin_color
     }
 
-    /// Sets the colours of the padding, which a `PoolTable` alone shows.
+    /// Sets the colours of the padding. Only a `PoolTable` shows them.
     pub fn set_padding_color(self, colors: Sides<ANSIStr<'static>>) -> CompactConfig
         ensures { result ≡ record self { padding_color = colors.entry } }
     {
@@ -132,14 +132,14 @@ impl CompactConfig {
         }
     }
 
-    /// The colours of the padding.
+    /// Returns the colours of the padding.
     pub fn get_padding_color(&self) -> &Sides<ANSIStr<'static>>
         ensures { result.now ≡ self.now.padding_color }
     {
         &self.padding_color
     }
 
-    /// Sets where the texts stand among their columns.
+    /// Sets the horizontal alignment of all cells.
     pub fn set_alignment_horizontal(self, alignment: AlignmentHorizontal) -> CompactConfig
         ensures { result ≡ record self { alignment_horizontal = alignment } }
     {
@@ -149,7 +149,7 @@ impl CompactConfig {
         }
     }
 
-    /// Where the texts stand among their columns.
+    /// Returns the horizontal alignment of all cells.
     pub fn get_alignment_horizontal(&self) -> AlignmentHorizontal
         ensures { result ≡ self.now.alignment_horizontal }
     {

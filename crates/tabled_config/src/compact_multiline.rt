@@ -1,4 +1,4 @@
-//! The settings of a compact table whose cells have several lines.
+//! The settings of a compact table with cells of several lines (`CompactMultilineConfig`).
 ghost use Rattle.std.specs.Prelude.{◌≡◌};
 ghost use Rattle.tabled_config.specs.Compact.{IsPlainMultiline, with_no_flag};
 
@@ -9,7 +9,7 @@ use crate::compact::CompactConfig;
 use crate::formatting::Formatting;
 use crate::sides::{Indent, Sides};
 
-/// The settings of a `CompactConfig`, and what cells of several lines need beside them.
+/// A `CompactConfig` with vertical alignment and `Formatting`, for cells of several lines.
 #[derive(Clone, Copy, Debug, PartialEq, Eq, PartialOrd, Ord)]
 pub struct CompactMultilineConfig {
     config: CompactConfig,
@@ -18,14 +18,14 @@ pub struct CompactMultilineConfig {
 }
 
 impl CompactMultilineConfig {
-    /// A new `CompactConfig`, texts at the top, and no flag set.
+    /// Creates the settings of `CompactConfig::new`, with text at the top and no flag set.
     pub fn new() -> CompactMultilineConfig
         ensures { IsPlainMultiline result }
     {
         CompactMultilineConfig::from_compact(CompactConfig::new())
     }
 
-    /// The settings of a `CompactConfig`, texts at the top, and no flag set.
+    /// Extends a `CompactConfig`, with text at the top and no flag set.
     pub fn from_compact(config: CompactConfig) -> CompactMultilineConfig
         ensures { result ≡ with_no_flag config }
     {
@@ -43,7 +43,7 @@ impl CompactMultilineConfig {
         self.config = self.config.set_margin(margin);
     }
 
-    /// The margin around the frame.
+    /// Returns the margin around the frame.
     pub fn get_margin(&self) -> &Sides<Indent>
         ensures { result.now ≡ self.now.config.margin }
     {
@@ -57,7 +57,7 @@ impl CompactMultilineConfig {
         self.config = self.config.set_padding(padding);
     }
 
-    /// The padding of all cells.
+    /// Returns the padding of all cells.
     pub fn get_padding(&self) -> &Sides<Indent>
         ensures { result.now ≡ self.now.config.padding }
     {
@@ -71,7 +71,7 @@ impl CompactMultilineConfig {
         self.config = self.config.set_borders(borders);
     }
 
-    /// The borders.
+    /// Returns the borders.
     pub fn get_borders(&self) -> &Borders<char>
         ensures { result.now ≡ self.now.config.borders }
     {
@@ -85,7 +85,7 @@ impl CompactMultilineConfig {
         self.config = self.config.set_borders_color(colors);
     }
 
-    /// The colours of the borders.
+    /// Returns the colours of the borders.
     pub fn get_borders_color(&self) -> &Borders<ANSIStr<'static>>
         ensures { result.now ≡ self.now.config.borders_color }
     {
@@ -99,7 +99,7 @@ impl CompactMultilineConfig {
         self.config = self.config.set_margin_color(colors);
     }
 
-    /// The colours of the margin.
+    /// Returns the colours of the margin.
     pub fn get_margin_color(&self) -> &Sides<ANSIStr<'static>>
         ensures { result.now ≡ self.now.config.margin_color }
     {
@@ -113,49 +113,49 @@ impl CompactMultilineConfig {
         self.config = self.config.set_padding_color(colors);
     }
 
-    /// The colours of the padding.
+    /// Returns the colours of the padding.
     pub fn get_padding_color(&self) -> &Sides<ANSIStr<'static>>
         ensures { result.now ≡ self.now.config.padding_color }
     {
         self.config.get_padding_color()
     }
 
-    /// Sets where the texts stand among their columns.
+    /// Sets the horizontal alignment of all cells.
     pub fn set_alignment_horizontal(&mut self, alignment: AlignmentHorizontal)
         ensures { self.new ≡ record self.old { config = record self.old.config { alignment_horizontal = alignment } } }
     {
         self.config = self.config.set_alignment_horizontal(alignment);
     }
 
-    /// Where the texts stand among their columns.
+    /// Returns the horizontal alignment of all cells.
     pub fn get_alignment_horizontal(&self) -> AlignmentHorizontal
         ensures { result ≡ self.now.config.alignment_horizontal }
     {
         self.config.get_alignment_horizontal()
     }
 
-    /// Sets where the texts stand among their lines.
+    /// Sets the vertical alignment of all cells.
     pub fn set_alignment_vertical(&mut self, alignment: AlignmentVertical)
         ensures { self.new ≡ record self.old { alignment_vertical = alignment } }
     {
         self.alignment_vertical = alignment;
     }
 
-    /// Where the texts stand among their lines.
+    /// Returns the vertical alignment of all cells.
     pub fn get_alignment_vertical(&self) -> AlignmentVertical
         ensures { result ≡ self.now.alignment_vertical }
     {
         self.alignment_vertical
     }
 
-    /// Sets the flags.
+    /// Sets the flags for trimming and aligning lines.
     pub fn set_formatting(&mut self, formatting: Formatting)
         ensures { self.new ≡ record self.old { formatting = formatting } }
     {
         self.formatting = formatting;
     }
 
-    /// The flags.
+    /// Returns the flags for trimming and aligning lines.
     pub fn get_formatting(&self) -> Formatting
         ensures { result ≡ self.now.formatting }
     {

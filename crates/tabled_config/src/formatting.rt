@@ -1,19 +1,19 @@
-//! What is done with the spaces and the lines of a cell's text.
+//! The flags for trimming and aligning the lines of a cell.
 ghost use Rattle.std.specs.Prelude.{◌≡◌};
 
-/// How the text of a cell is laid out beside its alignment.
+/// How the lines of a cell are trimmed and aligned.
 #[derive(Clone, Copy, Debug, Default, PartialEq, Eq, PartialOrd, Ord, Hash)]
 pub struct Formatting {
-    /// Whether spaces at the ends of lines are to go. It is stored; no printer here reads it.
+    /// Whether to trim spaces at the ends of lines. Stored only: no printer reads it.
     pub horizontal_trim: bool,
-    /// Whether empty lines at the ends of the text are to go. It is stored; no printer here reads it.
+    /// Whether to trim empty lines at the top and bottom. Stored only: no printer reads it.
     pub vertical_trim: bool,
-    /// Whether each line is aligned by its own columns, and not by those of the widest.
+    /// Whether each line is aligned by its own width, instead of all lines by the widest.
     pub allow_lines_alignment: bool,
 }
 
 impl Formatting {
-    /// The three flags, in this order.
+    /// Creates the three flags, in the order of the fields.
     pub fn new(
         horizontal_trim: bool,
         vertical_trim: bool,

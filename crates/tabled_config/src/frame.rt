@@ -1,16 +1,16 @@
-//! What stands around and between the cells of any line of a table.
+//! The margin and the vertical lines of a table (`Frame`).
 ghost use Rattle.std.specs.Prelude.{◌≡◌};
 ghost use Rattle.tabled_config.specs.Frame.{frame_of, has_bar, vertical_line};
 
 use crate::borders::Borders;
 use crate::sides::{Indent, Sides};
 
-/// A vertical line.
+/// One vertical line of a frame.
 #[derive(Clone, Copy, Debug, PartialEq, Eq)]
 pub struct VerticalLine {
-    /// Whether it stands, so that each line of the table has a column for it.
+    /// Whether the line is drawn. It then takes one column of each line of the table.
     pub there: bool,
-    /// Its character on the lines of rows; a missing one is a space.
+    /// Its character in the lines of rows; a space if none is set.
     pub main: char,
 }
 
@@ -25,21 +25,21 @@ impl VerticalLine {
     }
 }
 
-/// The margin of a table, and its vertical lines.
+/// The margin and the vertical lines of a table.
 #[derive(Clone, Copy, Debug, PartialEq, Eq)]
 pub struct Frame {
-    /// What stands around the table.
+    /// The margin around the table.
     pub margin: Sides<Indent>,
     /// The line before the first column.
     pub left: VerticalLine,
     /// The lines between columns.
     pub inner: VerticalLine,
-    /// The line behind the last column.
+    /// The line after the last column.
     pub right: VerticalLine,
 }
 
 impl Frame {
-    /// The frame of borders in a margin.
+    /// Builds the frame from borders and a margin.
     pub fn new(borders: &Borders<char>, margin: Sides<Indent>) -> Frame
         ensures { result ≡ frame_of borders.now margin }
     {
@@ -51,7 +51,8 @@ impl Frame {
         }
     }
 
-    /// Whether a vertical line stands before a column, in the table. The left line is none of these.
+    /// Whether a vertical line separates `column` from the one before it. The left line doesn't
+    /// count.
     pub fn has_bar(&self, column: usize) -> bool
         ensures { result ≡ has_bar self.now column }
     {

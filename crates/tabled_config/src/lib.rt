@@ -1,25 +1,27 @@
-//! What is set for a table: borders, styles, alignments, configurations, and the lookups for each
-//! cell.
+//! The settings of a table: borders, styles, alignments and configurations, and the lookups for
+//! each cell.
 //!
 //! Borders and sides:
-//! - `borders`: the characters of a frame (`Borders`), and those of one horizontal line.
-//! - `frame`: the vertical lines and the margin of a table (`Frame`), as a printer reads them.
-//! - `lines`: the horizontal lines that were set by their index.
-//! - `sides`: a value for each of four sides, and a run of one character (`Indent`).
+//! - `borders`: the characters of a frame (`Borders`) and of one horizontal line
+//!   (`HorizontalLine`).
+//! - `frame`: the vertical lines and the margin of a table (`Frame`), as printers read them.
+//! - `lines`: the horizontal lines set by index.
+//! - `sides`: one value for each of the four sides (`Sides`), and a run of one character
+//!   (`Indent`).
 //!
 //! Other plain values:
-//! - `alignment`: where a text stands among its columns, and among its lines.
-//! - `ansi`: the text before and after a coloured part.
-//! - `formatting`: the flags for the spaces and the lines of a cell's text.
-//! - `style`: the six styles of a frame.
+//! - `alignment`: horizontal and vertical alignment of text in its cell.
+//! - `ansi`: the strings before and after a coloured part.
+//! - `formatting`: the flags for trimming and aligning the lines of a cell.
+//! - `style`: six ready-made border styles.
 //!
 //! Configurations:
-//! - `compact`, `compact_multiline`: one setting for all cells.
+//! - `compact`, `compact_multiline`: one setting for all cells, of one line or of several.
 //! - `spanned`: settings for the whole table, rows, columns and cells (`SpannedConfig`).
-//!   - `spanned::alike`: cells and rows with the same settings.
-//!   - `spanned::row_styles`, `spanned::told_sides`: the styles of a row's cells.
+//!   - `spanned::alike`: whether cells or rows share their settings.
+//!   - `spanned::row_styles`, `spanned::known_sides`: the styles of a row's cells.
 //! - `colored`: the configuration of a `Table`.
-//! - `options`: configurations and styles as options of tables.
+//! - `options`: configurations and styles as table options.
 #![tactic(auto)]
 
 mod alignment;

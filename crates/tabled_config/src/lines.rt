@@ -1,4 +1,4 @@
-//! The horizontal lines that were set by their index.
+//! Horizontal lines set by index.
 ghost use Rattle.std.specs.Prelude.{◌≡◌, ◌==◌, ℕ, if◌then◌else◌, IfOk, OnErr, OnOk, [], None, Some};
 ghost use Rattle.tabled_config.specs.Lines.{line_set, with_line};
 
@@ -7,7 +7,7 @@ use std::alloc::{AllocError, Global};
 use std::collections::BTreeMap;
 use std::marker::Model;
 
-/// Lines by index.
+/// Horizontal lines by index.
 #[derive(Debug, Drop)]
 pub struct HorizontalLines {
     lines: BTreeMap<usize, HorizontalLine>,
@@ -23,7 +23,7 @@ impl Model for HorizontalLines {
 }
 
 impl HorizontalLines {
-    /// No line.
+    /// Creates an empty map; it doesn't allocate.
     pub fn new(alloc: Global) -> HorizontalLines
         ensures { result ≡ [] }
     {
@@ -32,7 +32,7 @@ impl HorizontalLines {
         }
     }
 
-    /// The same lines.
+    /// Clones the lines.
     pub fn clone(&self) -> Result<HorizontalLines, AllocError>
         ensures { IfOk result (λ copy. copy ≡ self.now) }
     {
@@ -41,8 +41,7 @@ impl HorizontalLines {
         })
     }
 
-    /// Sets the line at an index, in place of the one that was there, which takes no memory. Where memory
-    /// is refused, all is as it was.
+    /// Sets the line at an index. Replacing a line doesn't allocate. On failure nothing changes.
     pub fn insert(&mut self, index: usize, line: HorizontalLine) -> Result<(), AllocError>
         ensures ok { OnOk result (self.new ≡ with_line self.old index line) }
         ensures latest { OnOk result ((i : ℕ) → line_set self.new i ≡ (if index == i then Some line else line_set self.old i)) }
@@ -60,7 +59,7 @@ impl HorizontalLines {
         self.lines.clear();
     }
 
-    /// The line that was set at an index.
+    /// Returns the line set at an index.
     pub fn get(&self, index: usize) -> Option<HorizontalLine>
         ensures { result ≡ line_set self.now index }
     {

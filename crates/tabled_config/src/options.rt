@@ -1,7 +1,7 @@
-//! Configurations and styles as options of tables.
+//! Configurations and styles as table options.
 //!
-//! A configuration replaces the old one whole. A style sets the borders; where lines can be set by their
-//! index, its own take the place of all others.
+//! A configuration replaces the old one entirely. A style replaces the borders and, where lines can
+//! be set by index, all of those lines.
 
 mod colored;
 mod compact;

@@ -1,33 +1,33 @@
-//! What stands on the four sides of something.
+//! One value for each of four sides (`Sides`), and a run of one character (`Indent`).
 ghost use Rattle.std.specs.Prelude.{◌≡◌, true};
 
 use tabled_entity::Distinct;
 
-/// A run of one character: columns on the left and right, lines at the top and bottom.
+/// A run of one character: columns at the left and right, lines at the top and bottom.
 #[derive(Clone, Copy, Debug, PartialEq, Eq, PartialOrd, Ord, Hash)]
 pub struct Indent {
-    /// How many columns or lines it takes.
+    /// The number of columns or lines.
     pub size: usize,
     /// The character that fills it.
     pub fill: char,
 }
 
 impl Indent {
-    /// So many columns or lines of a character.
+    /// Creates `size` columns or lines of a character.
     pub fn new(size: usize, fill: char) -> Indent
         ensures { result ≡ record { size = size; fill = fill } }
     {
         Indent { size, fill }
     }
 
-    /// So many columns or lines of spaces.
+    /// Creates `size` columns or lines of spaces.
     pub fn spaced(size: usize) -> Indent
         ensures { result ≡ record { size = size; fill = 32 } }
     {
         Indent { size, fill: ' ' }
     }
 
-    /// Nothing.
+    /// Creates an empty indent.
     pub fn zero() -> Indent
         ensures { result ≡ record { size = 0; fill = 32 } }
     {
@@ -49,7 +49,7 @@ pub struct Sides<T> {
 }
 
 impl<T> Sides<T> {
-    /// One value for each side, in this order.
+    /// Creates the values for left, right, top and bottom, in this order.
     pub fn new(left: T, right: T, top: T, bottom: T) -> Sides<T>
         ensures { result ≡ record { left = left; right = right; top = top; bottom = bottom } }
     {
@@ -63,7 +63,7 @@ impl<T> Sides<T> {
 }
 
 impl<T: Copy> Sides<T> {
-    /// The same value on all sides.
+    /// Creates the same value for all sides.
     pub fn filled(value: T) -> Sides<T>
         ensures { result ≡ record { left = value; right = value; top = value; bottom = value } }
     {

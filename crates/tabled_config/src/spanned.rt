@@ -1,4 +1,4 @@
-//! The configuration of a table.
+//! The configuration of a table, with settings for rows, columns and cells (`SpannedConfig`).
 ghost use Rattle.std.specs.Prelude.{◌≡◌, ◌==◌, ℕ, if◌then◌else◌, IfErr, IfOk, IsSome, None, OnErr, OnOk, Some, []};
 ghost use Rattle.tabled_base.specs.declared.error.TableError.TheVariants.{Memory};
 ghost use Rattle.tabled_entity.specs.Changes.{setting_at, with_change};
@@ -22,27 +22,27 @@ use std::alloc::Global;
 use tabled_base::{Entity, Position, TableError};
 use tabled_entity::EntityMap;
 
-/// How the text of a cell stands in its place.
+/// The padding and the alignment of one cell.
 #[derive(Clone, Copy, Debug)]
 pub struct CellStyle {
-    /// The columns and lines kept free around the text.
+    /// The padding: columns at the left and right, lines at the top and bottom.
     pub padding: Sides<Indent>,
-    /// Where the text stands among the columns that are left.
+    /// The alignment within the content width.
     pub horizontal: AlignmentHorizontal,
-    /// Where it stands among the lines that are left.
+    /// The alignment among the lines that the padding leaves.
     pub vertical: AlignmentVertical,
-    /// Whether each line is aligned by its own columns, and not by those of the widest.
+    /// Whether each line is aligned by its own width, instead of all lines by the widest.
     pub line_alignment: bool,
 }
 
-/// The settings of a table. For each cell the latest setting that covers it holds, and a setting for
-/// the whole table forgets all others. A horizontal line that was set by its index stands in place of
-/// the borders' line there. Two are equal where the same was set in the same order.
+/// The settings of a table. The last value that covers a cell wins, and a value for the whole table
+/// removes all earlier ones of that setting. A horizontal line set by index replaces the borders'
+/// line. Two configurations are equal if the same values were set in the same order.
 #[derive(Debug, PartialEq, Eq)]
 pub struct SpannedConfig {
     /// The characters of the frame.
     pub borders: Borders<char>,
-    /// What stands around the frame.
+    /// The margin around the frame.
     pub margin: Sides<Indent>,
     padding: EntityMap<Sides<Indent>>,
     alignment_horizontal: EntityMap<AlignmentHorizontal>,
@@ -53,7 +53,7 @@ pub struct SpannedConfig {
     lines: HorizontalLines,
 }
 
-/// One call lets all settings go, so that whoever lets them go needn't prove it of each.
+/// Drops all settings in one call, so that callers need no proof for each of them.
 impl Drop for SpannedConfig {
     fn drop(self) {
         let SpannedConfig {
@@ -79,7 +79,8 @@ impl SpannedConfig {
       spanned_of_multiline,
     };
 
-    /// No borders, padding, margin or lines, texts at the left and the top. It takes no memory.
+    /// Creates a configuration without borders, padding, margin or lines. Text is at the left and
+    /// the top. It doesn't allocate.
     pub fn new(alloc: Global) -> SpannedConfig
         ensures { result ≡ new_spanned }
     {
@@ -97,7 +98,8 @@ impl SpannedConfig {
         }
     }
 
-    /// What a compact configuration says, for all cells, and else what `new` gives. The colours are dropped. It takes no memory.
+    /// Converts a `CompactConfig` and drops its colours. The other settings are those of `new`. It
+    /// doesn't allocate.
     pub fn from_compact(alloc: Global, compact: CompactConfig) -> SpannedConfig
         ensures { result ≡ spanned_of_compact compact }
     {
@@ -111,7 +113,8 @@ impl SpannedConfig {
         config
     }
 
-    /// The same for cells of several lines: the vertical alignment and the flags are kept too. It takes no memory.
+    /// Converts a `CompactMultilineConfig`, with its vertical alignment and flags, and drops its
+    /// colours. It doesn't allocate.
     pub fn from_multiline(alloc: Global, multiline: CompactMultilineConfig) -> SpannedConfig
         ensures { result ≡ spanned_of_multiline multiline }
     {
@@ -128,7 +131,7 @@ impl SpannedConfig {
         config
     }
 
-    /// The same settings. Refused with `Memory` alone.
+    /// Clones the settings. Fails only with `Memory`.
     pub fn clone(&self) -> Result<SpannedConfig, TableError>
         ensures equal { IfOk result (λ copy. copy ≡ self.now) }
         ensures only { IfErr result (λ e. e ≡ Memory) }
@@ -153,7 +156,7 @@ impl SpannedConfig {
         self.borders = borders;
     }
 
-    /// The borders.
+    /// Returns the borders.
     pub fn get_borders(&self) -> &Borders<char>
         ensures { result.now ≡ self.now.borders }
     {
@@ -167,15 +170,14 @@ impl SpannedConfig {
         self.margin = margin;
     }
 
-    /// The margin.
+    /// Returns the margin.
     pub fn get_margin(&self) -> &Sides<Indent>
         ensures { result.now ≡ self.now.margin }
     {
         &self.margin
     }
 
-    /// Sets the columns and lines kept free around the texts of an entity. Refused with `Memory` alone, and then all
-    /// is as it was.
+    /// Sets the padding of an entity. Fails only with `Memory`, and then changes nothing.
     pub fn set_padding(&mut self, entity: Entity, padding: Sides<Indent>) -> Result<(), TableError>
         ensures { IsSetFor entity result self.old self.new
             (record self.old { padding = with_change self.old.padding entity padding }) }
@@ -184,7 +186,7 @@ impl SpannedConfig {
         Ok(())
     }
 
-    /// The columns and lines kept free around the text of a cell.
+    /// Returns the padding of a cell.
     #[inline]
     #[tactic(auto, unfolding(crate::specs::Settings::style_at))]
     pub fn get_padding(&self, at: Position) -> Sides<Indent>
@@ -194,8 +196,8 @@ impl SpannedConfig {
         self.padding.get(at.row, at.column)
     }
 
-    /// Sets where the texts of an entity stand among their columns. Refused with `Memory` alone, and then all
-    /// is as it was.
+    /// Sets the horizontal alignment of an entity. Fails only with `Memory`, and then changes
+    /// nothing.
     pub fn set_alignment_horizontal(
         &mut self,
         entity: Entity,
@@ -211,15 +213,15 @@ impl SpannedConfig {
         Ok(())
     }
 
-    /// Where the text of a cell stands among its columns.
+    /// Returns the horizontal alignment of a cell.
     pub fn get_alignment_horizontal(&self, at: Position) -> AlignmentHorizontal
         ensures { result ≡ setting_at self.now.alignment_horizontal at.row at.column }
     {
         self.alignment_horizontal.get(at.row, at.column)
     }
 
-    /// Sets where the texts of an entity stand among their lines. Refused with `Memory` alone, and then all
-    /// is as it was.
+    /// Sets the vertical alignment of an entity. Fails only with `Memory`, and then changes
+    /// nothing.
     pub fn set_alignment_vertical(
         &mut self,
         entity: Entity,
@@ -235,15 +237,15 @@ impl SpannedConfig {
         Ok(())
     }
 
-    /// Where the text of a cell stands among its lines.
+    /// Returns the vertical alignment of a cell.
     pub fn get_alignment_vertical(&self, at: Position) -> AlignmentVertical
         ensures { result ≡ setting_at self.now.alignment_vertical at.row at.column }
     {
         self.alignment_vertical.get(at.row, at.column)
     }
 
-    /// Sets whether each line of an entity's texts is aligned by its own columns. Refused with `Memory` alone, and then all
-    /// is as it was.
+    /// Sets whether each line of an entity's cells is aligned by its own width. Fails only with
+    /// `Memory`, and then changes nothing.
     pub fn set_line_alignment(&mut self, entity: Entity, allowed: bool) -> Result<(), TableError>
         ensures { IsSetFor entity result self.old self.new
             (record self.old {
@@ -255,15 +257,15 @@ impl SpannedConfig {
         Ok(())
     }
 
-    /// Whether each line of a cell is aligned by its own columns, and not by those of the widest.
+    /// Whether each line of a cell is aligned by its own width, instead of all lines by the widest.
     pub fn get_line_alignment(&self, at: Position) -> bool
         ensures { result ≡ setting_at self.now.line_alignment at.row at.column }
     {
         self.line_alignment.get(at.row, at.column)
     }
 
-    /// Sets whether spaces at the ends of an entity's lines are to go, which is stored; no printer here reads it. Refused
-    /// with `Memory` alone, and then all is as it was.
+    /// Sets whether to trim spaces at the ends of an entity's lines. Stored only: no printer reads
+    /// it. Fails only with `Memory`, and then changes nothing.
     pub fn set_trim_horizontal(&mut self, entity: Entity, trimmed: bool) -> Result<(), TableError>
         ensures { IsSetFor entity result self.old self.new
             (record self.old {
@@ -275,15 +277,15 @@ impl SpannedConfig {
         Ok(())
     }
 
-    /// Whether spaces at the ends of a cell's lines are to go.
+    /// Whether to trim spaces at the ends of a cell's lines.
     pub fn get_trim_horizontal(&self, at: Position) -> bool
         ensures { result ≡ setting_at self.now.trim_horizontal at.row at.column }
     {
         self.trim_horizontal.get(at.row, at.column)
     }
 
-    /// Sets whether empty lines at the ends of an entity's texts are to go, which is stored; no printer here reads it.
-    /// Refused with `Memory` alone, and then all is as it was.
+    /// Sets whether to trim empty lines at the top and bottom of an entity's cells. Stored only: no
+    /// printer reads it. Fails only with `Memory`, and then changes nothing.
     pub fn set_trim_vertical(&mut self, entity: Entity, trimmed: bool) -> Result<(), TableError>
         ensures { IsSetFor entity result self.old self.new
             (record self.old {
@@ -295,15 +297,16 @@ impl SpannedConfig {
         Ok(())
     }
 
-    /// Whether empty lines at the ends of a cell's text are to go.
+    /// Whether to trim empty lines at the top and bottom of a cell.
     pub fn get_trim_vertical(&self, at: Position) -> bool
         ensures { result ≡ setting_at self.now.trim_vertical at.row at.column }
     {
         self.trim_vertical.get(at.row, at.column)
     }
 
-    /// Sets the horizontal line above a row, or below the last one, in place of the borders' line.
-    /// Refused with `Memory` alone, where no line was set there, and then all is as it was.
+    /// Sets the horizontal line above `row`, or below the last row, in place of the borders' line.
+    /// Fails only with `Memory`, and then changes nothing. Replacing a line that was set before
+    /// can't fail.
     pub fn insert_horizontal_line(
         &mut self,
         row: usize,
@@ -321,22 +324,22 @@ impl SpannedConfig {
         Ok(())
     }
 
-    /// Removes all horizontal lines that were set by their index. It takes no memory.
+    /// Removes all horizontal lines set by index. It doesn't allocate.
     pub fn remove_horizontal_lines(&mut self)
         ensures { self.new ≡ record self.old { lines = [] } }
     {
         self.lines.clear();
     }
 
-    /// The horizontal line that was set above a row.
+    /// Returns the horizontal line set by index above a row, if any.
     pub fn get_horizontal_line(&self, row: usize) -> Option<HorizontalLine>
         ensures { result ≡ line_set self.now.lines row }
     {
         self.lines.get(row)
     }
 
-    /// Sets the borders of a style, and its lines by index in place of all others. Refused with `Memory` alone,
-    /// where the style sets a line by its index, and then all is as it was.
+    /// Sets the borders of a style, and replaces all lines set by index with the style's. Fails
+    /// only with `Memory`, and then changes nothing. A style without such a line can't fail.
     pub(crate) fn set_style(&mut self, style: &Style) -> Result<(), TableError>
         ensures ok { OnOk result (self.new ≡ with_style self.old style.now) }
         ensures err { OnErr result (self.new ≡ self.old) }
@@ -352,12 +355,11 @@ impl SpannedConfig {
         Ok(())
     }
 
-    /// What the settings grow by.
     pub(crate) fn allocator(&self) -> Global {
         self.padding.allocator()
     }
 
-    /// How the text of the cell at a place stands.
+    /// Returns the padding and the alignment of a cell.
     #[inline]
     #[tactic(auto, unfolding(crate::specs::Settings::style_at))]
     pub fn style_at(&self, row: usize, column: usize) -> CellStyle
@@ -371,7 +373,8 @@ impl SpannedConfig {
         }
     }
 
-    /// The horizontal line above the row `index` of so many rows, or below the last one.
+    /// Returns the horizontal line above row `index` of `rows` rows, or below the last row for
+    /// `index == rows`. `None` if there is no line.
     #[tactic(auto, unfolding(crate::specs::Settings::rule_at))]
     pub fn rule_at(&self, rows: usize, index: usize) -> Option<HorizontalLine>
         ensures { result ≡ rule_at self.now rows index }
@@ -382,7 +385,7 @@ impl SpannedConfig {
         }
     }
 
-    /// What stands around and between the cells of any line.
+    /// Returns the margin and the vertical lines.
     pub fn frame(&self) -> Frame
         ensures { result ≡ frame self.now }
     {

@@ -1,4 +1,4 @@
-//! The six styles of a frame.
+//! Six ready-made border styles (`Style`).
 ghost use Rattle.std.specs.Prelude.{◌≡◌};
 ghost use Rattle.tabled_config.specs.Styles.{
   ascii,
@@ -14,14 +14,14 @@ ghost use Rattle.tabled_config.specs.Styles.{
 
 use crate::borders::{Borders, HorizontalLine};
 
-/// A frame: its borders, and the line that it sets below the first row.
+/// A border style: the borders, and optionally a horizontal line below the first row.
 #[derive(Debug, Drop)]
 pub struct Style {
     borders: Borders<char>,
     below_first: Option<HorizontalLine>,
 }
 
-// A whole horizontal line, in the order in which it is drawn.
+// A complete horizontal line. The parameters are in drawing order.
 fn line(left: char, main: char, intersection: char, right: char) -> HorizontalLine
     ensures { result ≡ line left main intersection right }
 {
@@ -130,7 +130,7 @@ impl Style {
         }
     }
 
-    /// No line at all.
+    /// No lines.
     pub fn empty() -> Style
         ensures { result ≡ no_style }
     {
@@ -140,14 +140,14 @@ impl Style {
         }
     }
 
-    /// The borders.
+    /// Returns the borders.
     pub fn get_borders(&self) -> Borders<char>
         ensures { result ≡ self.now.borders }
     {
         self.borders
     }
 
-    /// The line that the style sets above a row, if it sets one there; rows count from 0.
+    /// Returns the line that the style sets above a row, if any. Rows count from 0.
     pub fn get_horizontal_line(&self, row: usize) -> Option<HorizontalLine>
         ensures { result ≡ style_line self.now row }
     {

@@ -1,4 +1,4 @@
--- Where the latest change for each entity stands among all changes.
+-- The index of the latest change for each entity in the list of changes.
 use Rattle.std.specs.Prelude.{ℕ, ◌≡◌, ◌==◌, ◌&&◌, if◌then◌else◌, Bool, true, false, List, [], ◌∷◌, length, Option, Some, None, max}
 use Rattle.std.specs.Ordering.{nat_cmp, ordering_then}
 use Rattle.std.specs.BTreeMap.{get}
@@ -6,7 +6,6 @@ use Rattle.tabled_base.specs.declared.position.Entity.{Entity}
 use Rattle.tabled_base.specs.declared.position.Entity.TheVariants.{Global, Row, Column, Cell}
 use Rattle.tabled_entity.specs.declared.change_index.ChangeIndex.{ChangeIndex}
 
--- whether two entities are the same
 abbrev pub same : Entity → Entity → Bool
 same Global Global = true
 same (Row r) (Row s) = r == s
@@ -14,55 +13,55 @@ same (Column c) (Column d) = c == d
 same (Cell r c) (Cell s d) = r == s && c == d
 same _ _ = false
 
--- an entity that is not the whole table
+-- an entity other than the entire table
 abbrev pub IsPart : Entity → Type 0
 IsPart Global = ⊥
 IsPart (Row r) = Unit {0}
 IsPart (Column c) = Unit {0}
 IsPart (Cell r c) = Unit {0}
 
--- the whole table
+-- the entire table
 abbrev pub IsWhole : Entity → Type 0
 IsWhole Global = Unit {0}
 IsWhole (Row r) = ⊥
 IsWhole (Column c) = ⊥
 IsWhole (Cell r c) = ⊥
 
--- where the latest change for an entity stands among some changes, counted from the earliest; they
--- come the latest first
+-- the index of the latest change for an entity, counted from the earliest. The list has the latest
+-- change first
 abbrev pub last_for : {T : Type 0} → Entity → List (Entity × T) → Option ℕ
 last_for entity [] = None
 last_for entity (part ∷ earlier) = if same part.0 entity then Some (length earlier) else last_for entity earlier
 
--- the place that is kept for an entity; none is kept for the whole table
+-- the index that is stored for an entity. None is stored for the entire table
 abbrev pub found : ChangeIndex → Entity → Option ℕ
 found places Global = None
 found places (Row r) = get nat_cmp places.rows r
 found places (Column c) = get nat_cmp places.columns c
 found places (Cell r c) = get (λ p q. ordering_then (nat_cmp p.0 q.0) (nat_cmp p.1 q.1)) places.cells (r, c)
 
--- the later of two places
+-- the later of two changes, by their indices
 abbrev pub later : Option ℕ → Option ℕ → Option ℕ
 later None b = b
 later (Some i) None = Some i
 later (Some i) (Some j) = Some (max i j)
 
--- the latest of the places for the entities that a cell belongs to
+-- the latest change that covers a cell, by the latest change for each entity
 abbrev pub latest : (Entity → Option ℕ) → ℕ → ℕ → Option ℕ
 latest place row column = later (place (Row row)) (later (place (Column column)) (place (Cell row column)))
 
--- each entity has the place of its latest change
+-- for each entity, the index of its latest change is stored
 pub record IsIndexed {T : Type 0} (places : ChangeIndex) (parts : List (Entity × T)) : Type 0 where
   pub found : (entity : Entity) → found places entity ≡ last_for entity parts
 
--- one entity got another place
+-- the index of one entity is replaced
 pub record IsReindexed (old new : ChangeIndex) (entity : Entity) (place : ℕ) : Type 0 where
   pub found : (other : Entity) → found new other ≡ (if same entity other then Some place else found old other)
 
--- each entity has the place that it had
+-- the index of each entity is unchanged
 pub record SamePlaces (old new : ChangeIndex) : Type 0 where
   pub found : (entity : Entity) → found new entity ≡ found old entity
 
--- no entity has a place
+-- no entity has an index
 pub record HasNone (places : ChangeIndex) : Type 0 where
   pub found : (entity : Entity) → found places entity ≡ None

@@ -1,15 +1,15 @@
--- What was set, in order, and what it says of each cell.
+-- The values that were set, in order, and the value of each cell.
 use Rattle.std.specs.Prelude.{ℕ, ◌==◌, ◌&&◌, if◌then◌else◌, Bool, true, List, [], ◌∷◌, Option, Some, None}
 use Rattle.tabled_base.specs.declared.position.Entity.{Entity}
 use Rattle.tabled_base.specs.declared.position.Entity.TheVariants.{Global, Row, Column, Cell}
 
--- one setting of a table: what was set for the whole of it, and what was set for parts of it since
--- then, the latest first
+-- one setting of a table: the value of the entire table, and the values that were set for parts
+-- since then, the latest first
 pub record Changes (T : Type 0) : Type 0 where
   pub whole : T
   pub parts : List (Entity × T)
 
--- whether the cell in a row and a column belongs to an entity
+-- whether an entity covers the cell in a row and a column
 abbrev pub covers : Entity → ℕ → ℕ → Bool
 covers Global row column = true
 covers (Row r) row column = r == row
@@ -17,33 +17,33 @@ covers (Column c) row column = c == column
 covers (Cell r c) row column = r == row && c == column
 
 module _ {T : Type 0} where
-  -- what the first of some parts that covers a cell says, and else what the whole table has
+  -- the value of the first part that covers a cell, or else that of the entire table
   abbrev pub first_covering : T → List (Entity × T) → ℕ → ℕ → T
   first_covering whole [] row column = whole
   first_covering whole (part ∷ earlier) row column =
       if covers part.0 row column then part.1 else first_covering whole earlier row column
 
-  -- the latest setting that covers a cell
+  -- the latest value that covers a cell
   abbrev pub setting_at : Changes T → ℕ → ℕ → T
   setting_at changes row column = first_covering changes.whole changes.parts row column
 
-  -- what the whole table has, where nothing was set for a part
+  -- the value of the entire table, if no value was set for a part
   abbrev pub if_unparted : T → List (Entity × T) → Option T
   if_unparted whole [] = Some whole
   if_unparted whole (part ∷ earlier) = None
 
-  -- the one value of all cells, where nothing was set for a part
+  -- the value of every cell, if no value was set for a part
   abbrev pub shared : Changes T → Option T
   shared changes = if_unparted changes.whole changes.parts
 
-  -- the settings after one more; one for the whole table forgets all others
+  -- the settings after a change. A value for the entire table replaces all others
   abbrev pub with_change : Changes T → Entity → T → Changes T
   with_change changes Global value = record { whole = value; parts = [] }
   with_change changes (Row r) value = record changes { parts = (Row r, value) ∷ changes.parts }
   with_change changes (Column c) value = record changes { parts = (Column c, value) ∷ changes.parts }
   with_change changes (Cell r c) value = record changes { parts = (Cell r c, value) ∷ changes.parts }
 
-  -- one value for the whole table
+  -- one value for the entire table
   abbrev pub for_all : T → Changes T
   for_all value = record { whole = value; parts = [] }
 
@@ -52,6 +52,6 @@ pub record ChangesAndRow (T : Type 0) : Type 0 where
   pub changes : Changes T
   pub row : ℕ
 
--- the latest setting that covers the cell in a column of that row
+-- the latest value that covers the cell in a column of that row
 abbrev pub value_at : {T : Type 0} → ChangesAndRow T → ℕ → T
 value_at set column = setting_at set.changes set.row column

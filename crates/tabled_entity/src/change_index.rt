@@ -1,4 +1,4 @@
-//! Where the latest change for each part of a table stands in the list of changes.
+//! `ChangeIndex`, which finds the latest change for each part of a table in the list of changes.
 ghost use Rattle.std.specs.Prelude.{◌≡◌, ℕ, IfOk, IfSome, OnErr, OnOk, true};
 ghost use Rattle.tabled_base.specs.declared.position.Entity.TheVariants.{Cell, Column, Row};
 ghost use Rattle.tabled_entity.specs.ChangeIndex.{
@@ -17,7 +17,7 @@ use std::alloc::{AllocError, Global};
 use std::collections::BTreeMap;
 use tabled_base::Entity;
 
-/// For rows, columns and cells, where the latest change stands.
+/// For rows, columns and cells, the index of the latest change in the list of changes.
 #[derive(Debug, Drop)]
 pub(crate) struct ChangeIndex {
     rows: BTreeMap<usize, usize>,
@@ -25,7 +25,7 @@ pub(crate) struct ChangeIndex {
     cells: BTreeMap<(usize, usize), usize>,
 }
 
-/// The later of two places.
+/// Returns the later of two changes, by their indices.
 #[inline(always)]
 pub(crate) fn later(a: Option<usize>, b: Option<usize>) -> Option<usize>
     ensures { result ≡ later a b }
@@ -38,7 +38,7 @@ pub(crate) fn later(a: Option<usize>, b: Option<usize>) -> Option<usize>
 }
 
 impl ChangeIndex {
-    /// No place.
+    /// Makes a `ChangeIndex` without entries.
     pub fn new(alloc: Global) -> ChangeIndex
         ensures { HasNone result }
     {
@@ -49,7 +49,7 @@ impl ChangeIndex {
         }
     }
 
-    /// The same places.
+    /// Copies all entries. Fails if an allocation fails.
     pub fn clone(&self) -> Result<ChangeIndex, AllocError>
         ensures { IfOk result (λ copy. SamePlaces self.now copy) }
     {
@@ -60,7 +60,7 @@ impl ChangeIndex {
         })
     }
 
-    /// Forgets all places.
+    /// Removes all entries.
     pub fn clear(&mut self)
         ensures { HasNone self.new }
     {
@@ -69,7 +69,6 @@ impl ChangeIndex {
         self.cells.clear();
     }
 
-    /// Keeps the place of a row.
     fn insert_row(&mut self, row: usize, place: usize) -> Result<(), AllocError>
         ensures ok { OnOk result (IsReindexed self.old self.new (Row row) place) }
         ensures err { OnErr result (SamePlaces self.old self.new) }
@@ -78,7 +77,6 @@ impl ChangeIndex {
         Ok(())
     }
 
-    /// Keeps the place of a column.
     fn insert_column(&mut self, column: usize, place: usize) -> Result<(), AllocError>
         ensures ok { OnOk result (IsReindexed self.old self.new (Column column) place) }
         ensures err { OnErr result (SamePlaces self.old self.new) }
@@ -87,7 +85,6 @@ impl ChangeIndex {
         Ok(())
     }
 
-    /// Keeps the place of a cell.
     fn insert_cell(&mut self, row: usize, column: usize, place: usize) -> Result<(), AllocError>
         ensures ok { OnOk result (IsReindexed self.old self.new (Cell row column) place) }
         ensures err { OnErr result (SamePlaces self.old self.new) }
@@ -96,7 +93,8 @@ impl ChangeIndex {
         Ok(())
     }
 
-    /// Keeps the place of an entity, which is not the whole table.
+    /// Stores the index of the latest change for an entity other than the entire table. If an
+    /// allocation fails, no entry changes.
     pub fn insert(&mut self, entity: Entity, place: usize) -> Result<(), AllocError>
         requires { IsPart entity }
         ensures ok { OnOk result (IsReindexed self.old self.new entity place) }
@@ -110,7 +108,7 @@ impl ChangeIndex {
         }
     }
 
-    /// The latest of the places kept for the entities that a cell belongs to.
+    /// Returns the index of the latest change that covers a cell.
     pub fn latest(&self, row: usize, column: usize) -> Option<usize>
         ensures { result ≡ latest (found self.now) row column }
     {
@@ -120,7 +118,7 @@ impl ChangeIndex {
         later(of_row, later(of_column, of_cell))
     }
 
-    /// The latest of the places for the cells of a row, from left to right.
+    /// Returns the latest changes that cover the cells of a row, to be read from left to right.
     pub fn in_row(&self, row: usize) -> RowChangeIndex<'_>
         ensures { (column : ℕ) → latest_at result column ≡ latest (found self.now) row column }
     {
@@ -128,22 +126,24 @@ impl ChangeIndex {
         RowChangeIndex::new(row, of_row, &self.columns, &self.cells)
     }
 
-    /// Whether the latest places in two rows are known to be the same, column by column: where none is kept for either of the
-    /// rows, nor for a cell.
+    /// Whether two rows are known to have the same latest change in each column: there is no entry
+    /// for either row, nor for any cell.
     pub fn are_alike(&self, row: usize, other: usize) -> bool
         ensures { result ≡ true → (column : ℕ) → latest (found self.now) row column ≡ latest (found self.now) other column }
     {
         self.cells.is_empty() && self.rows.get(&row).is_none() && self.rows.get(&other).is_none()
     }
 
-    /// Whether the latest places in all rows are known to be the same, column by column: where none is kept for a row, nor for a cell.
+    /// Whether all rows are known to have the same latest change in each column: there is no entry
+    /// for any row or cell.
     pub fn are_all_alike(&self) -> bool
         ensures { result ≡ true → (row other column : ℕ) → latest (found self.now) row column ≡ latest (found self.now) other column }
     {
         self.cells.is_empty() && self.rows.is_empty()
     }
 
-    /// The latest place of all cells of a row, where none is kept for a column, nor for a cell.
+    /// Returns the latest change for all cells of a row, or `None` if there is an entry for a
+    /// column or a cell.
     #[inline]
     pub fn of_row(&self, row: usize) -> Option<Option<usize>>
         ensures { IfSome result (λ place. (column : ℕ) → latest (found self.now) row column ≡ place) }

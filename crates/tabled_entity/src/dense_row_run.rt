@@ -1,4 +1,4 @@
-//! Values that were set for rows, one after another, as a value for each of some rows mostly is.
+//! `DenseRowRun`, values that were set for one row after another.
 ghost use Rattle.std.specs.Prelude.{◌≡◌, ◌⊎◌, ℕ, IfNone, IfOk, IfSome, None, Some};
 ghost use Rattle.tabled_base.specs.declared.position.Entity.TheVariants.{Row};
 ghost use Rattle.tabled_entity.specs.DenseRowRun.{KnowsNoRow, KnowsInsertedRow, row_in_run};
@@ -6,7 +6,7 @@ ghost use Rattle.tabled_entity.specs.DenseRowRun.{KnowsNoRow, KnowsInsertedRow, 
 use std::alloc::{AllocError, Global};
 use tabled_base::Entity;
 
-/// The values of rows from one on.
+/// The values of consecutive rows, from `first` on.
 #[derive(Debug, Drop)]
 pub(crate) struct DenseRowRun<T> {
     first: usize,
@@ -14,7 +14,7 @@ pub(crate) struct DenseRowRun<T> {
 }
 
 impl<T: Copy> DenseRowRun<T> {
-    /// No values.
+    /// Makes a run without values.
     pub fn new(alloc: Global) -> DenseRowRun<T>
         ensures { KnowsNoRow result }
     {
@@ -24,7 +24,7 @@ impl<T: Copy> DenseRowRun<T> {
         }
     }
 
-    /// The same values.
+    /// Returns a copy. Fails if an allocation fails.
     pub fn clone(&self) -> Result<DenseRowRun<T>, AllocError>
         ensures { IfOk result (λ copy. (row : ℕ) → row_in_run copy row ≡ row_in_run self.now row) }
     {
@@ -41,7 +41,7 @@ impl<T: Copy> DenseRowRun<T> {
         self.values.clear();
     }
 
-    /// The value of a row, if it is known.
+    /// Returns the value of a row, if it is known.
     #[inline]
     pub fn value(&self, row: usize) -> Option<&T>
         ensures some { IfSome result (λ value. row_in_run self.now row ≡ Some value.now) }
@@ -54,7 +54,7 @@ impl<T: Copy> DenseRowRun<T> {
         }
     }
 
-    /// Tells of one more row, if it is the one behind the last, or the first of all.
+    /// Appends the value of a row, if the row is the next one or the run is empty.
     fn add(&mut self, row: usize, value: T)
         ensures { (at : ℕ) → IfSome (row_in_run self.new at)
             (λ now. ((at ≡ row) × (now ≡ value)) ⊎ (row_in_run self.old at ≡ Some now)) }
@@ -67,7 +67,8 @@ impl<T: Copy> DenseRowRun<T> {
         let _ = self.values.push(value);
     }
 
-    /// Keeps the value of a row, if it is the next one.
+    /// Stores the value of a row, if the row is the next one. If the row has a value, the run is
+    /// cleared first.
     fn insert_row(&mut self, row: usize, value: T)
         ensures { KnowsInsertedRow (Row row) value self.old self.new }
     {
@@ -77,7 +78,8 @@ impl<T: Copy> DenseRowRun<T> {
         self.add(row, value);
     }
 
-    /// Keeps the value of an entity, if it is the next row, and forgets what it may hide.
+    /// Records a change: stores its value if the row is the next one, and forgets values that the
+    /// change may override.
     pub fn insert(&mut self, entity: Entity, value: T)
         ensures { KnowsInsertedRow entity value self.old self.new }
     {

@@ -1,5 +1,4 @@
-//! Values that were set one after another: for cells, row by row and each row from its first column on, or for columns. Those that are set
-//! one by one mostly are, and then the value of a cell is found by its place.
+//! `DenseRun`, values that were set for one cell or column after another, found by index.
 ghost use Rattle.std.specs.Prelude.{◌≡◌, ◌+◌, ◌<◌, ◌⊎◌, [], ℕ, IfNone, IfSome, IsSome, None, Some, false, length, slice_get, suc, true};
 ghost use Rattle.tabled_base.specs.declared.position.Entity.TheVariants.{Cell, Column};
 ghost use Rattle.tabled_entity.specs.DenseRun.{AreListed, KnowsLess, KnowsNone, KnowsInserted, KnowsSame, numbered, place_of, known, value_in_run};
@@ -7,12 +6,12 @@ ghost use Rattle.tabled_entity.specs.DenseRun.{AreListed, KnowsLess, KnowsNone, 
 use std::alloc::Global;
 use tabled_base::Entity;
 
-/// The most different values that are listed. Where more are set, the others aren't known.
+/// The most distinct values that a run stores. Values beyond them aren't known.
 const MOST_VALUES: u8 = 16;
 
-/// Values that can be known apart.
+/// Values that can be compared, so that equal ones are stored once.
 pub trait Distinct {
-    /// Whether another value is known to be the same.
+    /// Whether another value is known to be equal. Returning `false` is always safe.
     fn is_same(&self, other: &Self) -> bool
         ensures { result ≡ true → self.now ≡ other.now };
 }
@@ -23,20 +22,21 @@ impl Distinct for bool {
     }
 }
 
-/// Values of cells, or of columns, in the order in which they were set.
+/// Values that were set for one cell after another, row by row and each row from its first column
+/// on, or for one column after another.
 #[derive(Debug, Drop)]
 pub(crate) struct DenseRun<T> {
-    // The different values.
+    // The distinct values. The number of a value is its index here.
     distinct: Vec<T>,
-    // The numbers of the values in the first columns of each row.
+    // For each row, the numbers of the values in its first columns.
     rows: Vec<Vec<u8>>,
-    // The first of the rows.
+    // The index of the first row.
     first: usize,
-    // Whether one row stands for all, as values were set for columns.
+    // Whether the values were set for columns. Then the one row holds for all rows.
     for_columns: bool,
 }
 
-/// The values that are known of the first columns of a row.
+/// The known values of a row's first columns.
 #[derive(Clone, Copy)]
 pub(crate) struct DenseRunRow<'a, T> {
     distinct: &'a [T],
@@ -44,7 +44,7 @@ pub(crate) struct DenseRunRow<'a, T> {
 }
 
 impl<'a, T> DenseRunRow<'a, T> {
-    /// The value in a column, if it is known.
+    /// Returns the value in a column, if it is known.
     #[inline(always)]
     pub fn value(&self, column: usize) -> Option<&'a T>
         ensures some { IfSome result (λ value. numbered self.now.distinct.now self.now.numbers.now column ≡ Some value.now) }
@@ -54,7 +54,7 @@ impl<'a, T> DenseRunRow<'a, T> {
         self.distinct.get(number as usize)
     }
 
-    /// How many first columns are known.
+    /// Returns how many columns are known, from the first on.
     #[inline(always)]
     pub fn len(&self) -> usize
         ensures { result ≡ length self.now.numbers.now }
@@ -62,7 +62,6 @@ impl<'a, T> DenseRunRow<'a, T> {
         self.numbers.len()
     }
 
-    /// Whether a value is known in a column.
     fn is_known(&self, column: usize) -> bool
         ensures { result ≡ false → numbered self.now.distinct.now self.now.numbers.now column ≡ None }
     {
@@ -70,7 +69,7 @@ impl<'a, T> DenseRunRow<'a, T> {
     }
 }
 
-/// The number of a value that is listed.
+/// Returns the number of a value, if it is in `distinct`.
 fn number_of<T: Distinct>(distinct: &[T], value: &T) -> Option<u8>
     ensures { IfSome result (λ number. slice_get distinct.now number ≡ Some value.now) }
 {
@@ -84,7 +83,8 @@ fn number_of<T: Distinct>(distinct: &[T], value: &T) -> Option<u8>
     None
 }
 
-/// Lists a value, and answers its number, if there is buffer for it.
+/// Appends a value to `distinct` and returns its number. Returns `None` if `distinct` is full or an
+/// allocation fails.
 fn list<T: Copy>(distinct: &mut Vec<T>, value: T) -> Option<u8>
     ensures number { IfSome result (λ number. slice_get distinct.new.items number ≡ Some value) }
     ensures others { (number : ℕ) (listed : T) → slice_get distinct.old.items number ≡ Some listed → slice_get distinct.new.items number ≡ Some listed }
@@ -98,7 +98,7 @@ fn list<T: Copy>(distinct: &mut Vec<T>, value: T) -> Option<u8>
 }
 
 impl<T: Copy> DenseRun<T> {
-    /// No values.
+    /// Makes a run without values.
     pub fn new(alloc: Global) -> DenseRun<T>
         ensures none { KnowsNone result }
         ensures listed { AreListed result }
@@ -123,7 +123,7 @@ impl<T: Copy> DenseRun<T> {
         self.for_columns = false;
     }
 
-    /// Where the numbers of a row stand, if its values could be known.
+    /// Returns the index in `rows` for a row of the table, or `None` for a row before `first`.
     fn place_of(&self, row: usize) -> Option<usize>
         ensures { result ≡ place_of self.now row }
     {
@@ -137,7 +137,7 @@ impl<T: Copy> DenseRun<T> {
         }
     }
 
-    /// The values that are known of the first columns of a row, if there are any.
+    /// Returns the known values of a row's first columns, if there are any.
     pub fn row(&self, row: usize) -> Option<DenseRunRow<'_, T>>
         ensures some { IfSome result (λ kept. (column : ℕ) → numbered kept.distinct.now kept.numbers.now column ≡ known self.now row column) }
         ensures none { IfNone result ((column : ℕ) → known self.now row column ≡ None) }
@@ -153,7 +153,8 @@ impl<T: Copy> DenseRun<T> {
 }
 
 impl<T: Copy + Distinct> DenseRun<T> {
-    /// The number of a value, which is listed by then, if there is buffer for it.
+    /// Returns the number of a value, which is appended to `distinct` if needed. Returns `None` if
+    /// that fails.
     fn number_for(&mut self, value: T) -> Option<u8>
         requires listed { AreListed self.old }
         ensures number { IfSome result (λ number. slice_get self.new.distinct.items number ≡ Some value) }
@@ -169,7 +170,7 @@ impl<T: Copy + Distinct> DenseRun<T> {
         }
     }
 
-    /// Tells of one more value in the last row, if it is the next column there.
+    /// Appends a value to the last row, if `column` is the next one there.
     fn add(&mut self, column: usize, value: T)
         requires listed { AreListed self.old }
         ensures first { self.new.first ≡ self.old.first }
@@ -187,7 +188,8 @@ impl<T: Copy + Distinct> DenseRun<T> {
         }
     }
 
-    /// Begins a row, if it is the one behind the last, or the first of all. Answers whether it is the last one now.
+    /// Begins a row, if it is the next one or the run is empty. Returns whether `row` is the last
+    /// row then.
     fn begin_row(&mut self, row: usize) -> bool
         requires cells { self.old.for_columns ≡ false }
         requires listed { AreListed self.old }
@@ -206,7 +208,7 @@ impl<T: Copy + Distinct> DenseRun<T> {
         self.rows.push(Vec::new(alloc)).is_ok()
     }
 
-    /// Whether the next value of a row can stand in a column, which begins the row if it is the first.
+    /// Begins a row if `column` is 0. Returns whether `row` is the last row then.
     fn open_row(&mut self, row: usize, column: usize) -> bool
         requires cells { self.old.for_columns ≡ false }
         requires listed { AreListed self.old }
@@ -222,7 +224,6 @@ impl<T: Copy + Distinct> DenseRun<T> {
         row >= self.first && count > 0 && row - self.first == count - 1
     }
 
-    /// Whether the value of a cell is known.
     fn is_known(&self, row: usize, column: usize) -> bool
         ensures { result ≡ false → known self.now row column ≡ None }
     {
@@ -232,7 +233,7 @@ impl<T: Copy + Distinct> DenseRun<T> {
         }
     }
 
-    /// Forgets all values, if they are of columns, or one is known of a cell.
+    /// Forgets all values, if they are of columns or the value of the cell is known.
     fn forget_cell(&mut self, row: usize, column: usize)
         requires listed { AreListed self.old }
         ensures less { KnowsLess self.old self.new }
@@ -245,7 +246,7 @@ impl<T: Copy + Distinct> DenseRun<T> {
         }
     }
 
-    /// Keeps the value of a cell.
+    /// Stores the value of a cell, if the cell is the next one.
     fn insert_cell(&mut self, row: usize, column: usize, value: T)
         requires listed { AreListed self.old }
         ensures insert { KnowsInserted (Cell row column) value self.old self.new }
@@ -257,7 +258,7 @@ impl<T: Copy + Distinct> DenseRun<T> {
         }
     }
 
-    /// Begins with values of columns.
+    /// Begins a run of columns, without values.
     fn begin_columns(&mut self)
         ensures none { KnowsNone self.new }
         ensures for_columns { self.new.for_columns ≡ true }
@@ -269,7 +270,7 @@ impl<T: Copy + Distinct> DenseRun<T> {
         let _ = self.rows.push(Vec::new(alloc));
     }
 
-    /// Forgets all values, if they aren't of columns, or one is known of a column.
+    /// Begins a new run of columns, if the values are of cells or the value of the column is known.
     fn forget_column(&mut self, column: usize)
         requires listed { AreListed self.old }
         ensures less { KnowsLess self.old self.new }
@@ -282,7 +283,7 @@ impl<T: Copy + Distinct> DenseRun<T> {
         }
     }
 
-    /// Keeps the value of a column.
+    /// Stores the value of a column, if the column is the next one.
     fn insert_column(&mut self, column: usize, value: T)
         requires listed { AreListed self.old }
         ensures insert { KnowsInserted (Column column) value self.old self.new }
@@ -292,7 +293,8 @@ impl<T: Copy + Distinct> DenseRun<T> {
         self.add(column, value);
     }
 
-    /// Keeps the value of an entity, if it is the next one, and forgets what it may hide.
+    /// Records a change: stores its value if the cell or column is the next one, and forgets values
+    /// that the change may override.
     pub fn insert(&mut self, entity: Entity, value: T)
         requires listed { AreListed self.old }
         ensures insert { KnowsInserted entity value self.old self.new }

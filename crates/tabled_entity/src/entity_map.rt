@@ -1,4 +1,4 @@
-//! One setting of a table: for the whole of it, for rows, for columns and for cells.
+//! `EntityMap`, one setting of a table.
 ghost use Rattle.std.specs.Prelude.{◌≡◌, ◌<◌, ℕ, IfOk, IfSome, IsOk, OnErr, OnOk, length, reverse, true};
 ghost use Rattle.tabled_entity.specs.Changes.{for_all, setting_at, shared, with_change};
 ghost use Rattle.tabled_entity.specs.ChangeIndex.{IsPart, IsWhole, last_for, latest};
@@ -14,25 +14,26 @@ use std::alloc::{AllocError, Global};
 use std::marker::Model;
 use tabled_base::Entity;
 
-/// One setting of a table. The latest one that covers a cell holds there.
+/// One setting of a table, made for all of it, for rows, for columns and for cells. The last one
+/// that covers a cell wins.
 ///
-/// A cell's setting is found by three look-ups among the entities that were set. Those of a row's cells are walked by `in_row`, which tells those
-/// that were set one after another by their places.
+/// `get` finds the value of a cell by three lookups. `in_row` iterates over the values of a row,
+/// and finds those of a dense run by index.
 #[derive(Debug)]
 pub struct EntityMap<T> {
-    // What was set for the whole table.
+    // The value of the entire table.
     whole: T,
-    // What was set for parts of it since then, in order.
+    // The values that were set for parts since then, in order.
     changes: Vec<(Entity, T)>,
-    // Where the latest change for each part stands.
+    // The index in `changes` of the latest change for each part.
     places: ChangeIndex,
-    // Those of cells or columns that were set one after another.
+    // Values that were set for one cell or column after another.
     dense_run: DenseRun<T>,
-    // Those of rows that were.
+    // Values that were set for one row after another.
     rows: DenseRowRun<T>,
 }
 
-/// The values of some changes that were made one after another, as far as they are known.
+/// Makes the dense run of a list of changes. If an allocation fails, the run knows fewer values.
 fn dense_run_of<T: Copy + Distinct>(alloc: Global, changes: &[(Entity, T)]) -> DenseRun<T>
     ensures listed { AreListed result }
     ensures known { (whole : T) → IsKnown whole (reverse changes.now) result }
@@ -45,7 +46,7 @@ fn dense_run_of<T: Copy + Distinct>(alloc: Global, changes: &[(Entity, T)]) -> D
     dense_run
 }
 
-/// One call lets a setting go with all its changes, so that whoever lets it go needn't prove it of each part.
+/// A map is dropped by one call, so that its owner needn't prove the drop of each field.
 impl<T: Drop> Drop for EntityMap<T> {
     fn drop(self) {
         let EntityMap {
@@ -75,7 +76,7 @@ impl<T> Model for EntityMap<T> {
 }
 
 impl<T: Copy> EntityMap<T> {
-    /// One value for the whole table.
+    /// Makes a map with one value for the entire table.
     pub fn new(alloc: Global, value: T) -> EntityMap<T>
         ensures { result ≡ for_all value }
     {
@@ -88,7 +89,7 @@ impl<T: Copy> EntityMap<T> {
         }
     }
 
-    /// Sets a value for the whole table, and forgets all others.
+    /// Sets a value for the entire table, and forgets all others.
     pub fn set_all(&mut self, value: T)
         ensures { self.new ≡ for_all value }
     {
@@ -99,12 +100,12 @@ impl<T: Copy> EntityMap<T> {
         self.rows.clear();
     }
 
-    /// What the settings grow by.
+    /// Returns the allocator of the map.
     pub fn allocator(&self) -> Global {
         *self.changes.allocator()
     }
 
-    /// The value of every cell, where nothing was set for a part.
+    /// Returns the value of every cell, or `None` if a value was set for a part.
     #[inline]
     pub fn shared(&self) -> Option<T>
         ensures value { result ≡ shared self.now }
@@ -117,8 +118,8 @@ impl<T: Copy> EntityMap<T> {
         }
     }
 
-    /// Whether the cells of two rows are known to have the same values, column by column: where nothing was set for either of the
-    /// rows, nor for a cell.
+    /// Whether two rows are known to have the same value in each column: nothing was set for either
+    /// row, nor for any cell.
     #[inline]
     pub fn are_alike(&self, row: usize, other: usize) -> bool
         ensures { result ≡ true → (column : ℕ) → setting_at self.now row column ≡ setting_at self.now other column }
@@ -129,14 +130,15 @@ impl<T: Copy> EntityMap<T> {
         self.places.are_alike(row, other)
     }
 
-    /// Whether the cells of all rows are known to have the same values, column by column: where nothing was set for a row, nor for a cell.
+    /// Whether all rows are known to have the same value in each column: nothing was set for any
+    /// row or cell.
     pub fn are_all_alike(&self) -> bool
         ensures { result ≡ true → (row other column : ℕ) → setting_at self.now row column ≡ setting_at self.now other column }
     {
         self.places.are_all_alike()
     }
 
-    /// The value of the cells whose latest change stands at a place, if there is one.
+    /// Returns the value of the change at an index of `changes`, or of the entire table for `None`.
     #[inline]
     pub(crate) fn value_at_change(&self, place: Option<usize>) -> &T
         requires { IfSome place (λ i. i < length self.now.parts) }
@@ -149,14 +151,14 @@ impl<T: Copy> EntityMap<T> {
         }
     }
 
-    /// The value of a cell, looked up among the changes.
+    /// Looks up the value of a cell among the changes.
     fn found(&self, row: usize, column: usize) -> &T
         ensures { result.now ≡ setting_at self.now row column }
     {
         self.value_at_change(self.places.latest(row, column))
     }
 
-    /// The value of a cell.
+    /// Returns the value of a cell.
     #[inline]
     pub fn get(&self, row: usize, column: usize) -> T
         ensures { result ≡ setting_at self.now row column }
@@ -167,7 +169,7 @@ impl<T: Copy> EntityMap<T> {
         *self.found(row, column)
     }
 
-    /// The value of all cells of a row, if nothing was set for a column or a cell.
+    /// Returns the value of all cells of a row, if they are known to be equal.
     #[inline]
     pub fn row_value(&self, row: usize) -> Option<&T>
         ensures { IfSome result (λ value. (column : ℕ) → value.now ≡ setting_at self.now row column) }
@@ -182,7 +184,8 @@ impl<T: Copy> EntityMap<T> {
         Some(self.value_at_change(place))
     }
 
-    /// The values of a row's first columns, if all are known to be one, or each is known by its place.
+    /// Returns the values of a row's first `columns` cells, if they are known to be equal or a
+    /// dense run has them all.
     #[inline(always)]
     pub fn known_values(&self, row: usize, columns: usize) -> Option<KnownValues<'_, T>>
         ensures { IfSome result (λ values. (column : ℕ) → column < columns
@@ -198,7 +201,8 @@ impl<T: Copy> EntityMap<T> {
         Some(KnownValues::each(dense_run, &self.whole))
     }
 
-    /// The values of a row's cells, from left to right: each takes a step, and no look-up among the cells.
+    /// Returns the values of a row's cells. Read from left to right, each takes one step and no
+    /// lookup among the cells.
     pub fn in_row(&self, row: usize) -> RowValues<'_, T>
         ensures { result ≡ record { changes = self.now; row = row } }
     {
@@ -217,7 +221,7 @@ impl<T: Copy> EntityMap<T> {
 }
 
 impl<T: Copy + Distinct> EntityMap<T> {
-    /// The same settings.
+    /// Returns a copy. Fails if an allocation fails.
     pub fn clone(&self) -> Result<EntityMap<T>, AllocError>
         ensures { IfOk result (λ copy. copy ≡ self.now) }
     {
@@ -230,7 +234,7 @@ impl<T: Copy + Distinct> EntityMap<T> {
         })
     }
 
-    /// Sets a value for a part of the table. Where memory is refused, all is as it was.
+    /// Sets a value for a part of the table. If an allocation fails, the map is unchanged.
     fn set_part(&mut self, entity: Entity, value: T) -> Result<(), AllocError>
         requires { IsPart entity }
         ensures ok { OnOk result (self.new ≡ with_change self.old entity value) }
@@ -245,7 +249,8 @@ impl<T: Copy + Distinct> EntityMap<T> {
         Ok(())
     }
 
-    /// Sets a value for an entity. Where memory is refused, all is as it was.
+    /// Sets a value for an entity. If an allocation fails, the map is unchanged. Never fails for
+    /// the entire table.
     pub fn set(&mut self, entity: Entity, value: T) -> Result<(), AllocError>
         ensures ok { OnOk result (self.new ≡ with_change self.old entity value) }
         ensures err { OnErr result (self.new ≡ self.old) }

@@ -1,19 +1,20 @@
-//! The values of a row's first columns, where each is known by its place.
+//! `KnownValues`, the values of a row's first columns, found by index.
 ghost use Rattle.std.specs.Prelude.{◌≡◌, ℕ, IfSome, Some};
 ghost use Rattle.tabled_entity.specs.KnownValues.{known_by, known_value};
 
 use crate::dense_run::DenseRunRow;
 
-/// The values of a row's first columns: all the same, or each at its place. They are asked for in any order, and no look-up is taken.
+/// The values of a row's first columns: all the same, or each found by index. They can be read in
+/// any order without a lookup.
 #[derive(Clone, Copy)]
 pub struct KnownValues<'a, T> {
-    // The value of all of them, if they aren't known one by one.
+    // The value of each column that `each` doesn't know.
     whole: &'a T,
     each: Option<DenseRunRow<'a, T>>,
 }
 
 impl<'a, T: Copy> KnownValues<'a, T> {
-    /// The same value in all columns.
+    /// Makes values that are the same in all columns.
     #[inline(always)]
     pub(crate) fn alike(whole: &'a T) -> KnownValues<'a, T>
         ensures { (column : ℕ) → known_value result column ≡ whole.now }
@@ -21,7 +22,7 @@ impl<'a, T: Copy> KnownValues<'a, T> {
         KnownValues { whole, each: None }
     }
 
-    /// The values that are known one by one, and some value behind them.
+    /// Makes the values of a dense run, with `whole` in all further columns.
     #[inline(always)]
     pub(crate) fn each(dense_run: DenseRunRow<'a, T>, whole: &'a T) -> KnownValues<'a, T>
         ensures { (column : ℕ) → known_value result column ≡ known_by (Some dense_run.entry) whole.now column }
@@ -32,7 +33,7 @@ impl<'a, T: Copy> KnownValues<'a, T> {
         }
     }
 
-    /// The value of all columns, if it is known to be one.
+    /// Returns the value of all columns, if they are known to be equal.
     #[inline(always)]
     pub fn shared(&self) -> Option<&'a T>
         ensures { IfSome result (λ value. (column : ℕ) → known_value self.now column ≡ value.now) }
@@ -43,7 +44,7 @@ impl<'a, T: Copy> KnownValues<'a, T> {
         }
     }
 
-    /// The value in a column.
+    /// Returns the value in a column.
     #[inline(always)]
     pub fn at(&self, column: usize) -> &'a T
         ensures { result.now ≡ known_value self.now column }

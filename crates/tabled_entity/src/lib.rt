@@ -2,12 +2,16 @@
 //! covers a cell wins.
 //!
 //! - `entity_map.rt`: `EntityMap`, the setting, with its setters and lookups.
-//! - `places.rt`: where the last change for each row, column and cell is in the list of changes.
-//! - `dense_run.rt`: values that were set for one cell or column after another, found by index.
-//! - `dense_row_run.rt`: the same for rows.
-//! - `known_values.rt`: the values of a row's first columns, where each is found by its index.
-//! - `row_values.rt`: `RowValues`, an iterator over the values of a row's cells.
-//! - `row_change_index.rt`, `ahead.rt`: the changes that this iterator has yet to reach.
+//! - `change_index.rt`: the index of the last change for each row, column and cell in the list of
+//!   changes.
+//! - `dense_run.rt`: values that were set for one cell or column after another, found by index;
+//!   `Distinct`, what such values must offer.
+//! - `dense_row_run.rt`: values that were set for one row after another, found by index.
+//! - `known_values.rt`: `KnownValues`, the values of a row's first columns, where each is found by
+//!   its index.
+//! - `row_values.rt`: `RowValues`, the values of a row's cells, read from left to right.
+//! - `row_change_index.rt`: the last changes that cover the cells of a row.
+//! - `upcoming_cells.rt`: the changed cells that are still to come, row by row.
 #![tactic(auto)]
 
 mod change_index;

@@ -1,4 +1,4 @@
-//! The places of the latest changes for the cells of a row, from left to right.
+//! `RowChangeIndex`, the latest changes that cover the cells of a row, read from left to right.
 ghost use Rattle.std.specs.Prelude.{◌≡◌, ℕ};
 ghost use Rattle.std.specs.BTreeMap.{get};
 ghost use Rattle.std.specs.Ordering.{nat_cmp};
@@ -11,14 +11,14 @@ use crate::upcoming_cells::UpcomingCells;
 use std::collections::BTreeMap;
 use std::marker::Model;
 
-/// Where the changes of a row's cells stand that were made for these cells alone.
+/// The latest changes that were made for single cells of a row.
 #[derive(Drop)]
 pub(crate) struct CellChangeIndex<'a> {
     cells: &'a BTreeMap<(usize, usize), usize>,
     row: usize,
-    // The column that was asked for last.
+    // The rightmost column that was read.
     from: usize,
-    // The cells from that column on, once one was asked for.
+    // The changed cells from that column on, once a column was read.
     ahead: Option<UpcomingCells<'a>>,
 }
 
@@ -34,7 +34,7 @@ impl<'a> Model for CellChangeIndex<'a> {
 }
 
 impl<'a> CellChangeIndex<'a> {
-    /// The places of a row's cells.
+    /// Makes the index of a row's cells.
     fn new(cells: &'a BTreeMap<(usize, usize), usize>, row: usize) -> CellChangeIndex<'a>
         ensures { result ≡ record { cells = cells.now.entries; row = row } }
     {
@@ -46,7 +46,7 @@ impl<'a> CellChangeIndex<'a> {
         }
     }
 
-    /// Begins at the left of the row.
+    /// Goes to the left end of the row.
     fn begin(&mut self)
         ensures { self.new ≡ self.old }
     {
@@ -54,7 +54,8 @@ impl<'a> CellChangeIndex<'a> {
         self.from = 0;
     }
 
-    /// The place of the cell in a column. A column to the left of the one before takes a look-up.
+    /// Returns the index of the latest change for the cell in a column. Going back to the left
+    /// takes a lookup.
     #[inline(always)]
     fn at(&mut self, column: usize) -> Option<usize>
         ensures place { result ≡ place_at self.old column }
@@ -75,7 +76,7 @@ impl<'a> CellChangeIndex<'a> {
     }
 }
 
-/// Where the latest changes for the cells of a row stand.
+/// The latest changes that cover the cells of a row.
 #[derive(Drop)]
 pub(crate) struct RowChangeIndex<'a> {
     of_row: Option<usize>,
@@ -84,7 +85,7 @@ pub(crate) struct RowChangeIndex<'a> {
 }
 
 impl<'a> RowChangeIndex<'a> {
-    /// The places of a row's cells, by those that are kept for the row, for columns and for cells.
+    /// Combines the changes for the row, for columns and for cells.
     pub fn new(
         row: usize,
         of_row: Option<usize>,
@@ -101,7 +102,7 @@ impl<'a> RowChangeIndex<'a> {
         }
     }
 
-    /// The place of the latest change for the cell in a column.
+    /// Returns the index of the latest change that covers the cell in a column.
     #[inline(always)]
     pub fn at(&mut self, column: usize) -> Option<usize>
         ensures place { result ≡ latest_at self.old column }

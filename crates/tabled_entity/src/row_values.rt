@@ -1,4 +1,4 @@
-//! The values of a row's cells, from left to right.
+//! `RowValues`, the values of a row's cells.
 ghost use Rattle.std.specs.Prelude.{◌≡◌, ℕ, IfSome, MatchOption};
 ghost use Rattle.tabled_entity.specs.Changes.{setting_at, value_at};
 ghost use Rattle.tabled_entity.specs.ChangeIndex.{last_for, latest};
@@ -10,17 +10,18 @@ use crate::entity_map::EntityMap;
 use crate::row_change_index::RowChangeIndex;
 use std::marker::Model;
 
-/// The values of a row's cells. Where cells or columns were set one after another, each is found by its
-/// place; and else each takes a step where columns are asked for from left to right, or a look-up. They are seen as all settings, and the row.
+/// The values of a row's cells. Those of a dense run are found by index. Any other takes one step
+/// if columns are read from left to right, and a lookup otherwise. Contracts see all settings and
+/// the row.
 #[derive(Drop)]
 pub struct RowValues<'a, T> {
     map: &'a EntityMap<T>,
     row: usize,
-    // The value of all cells of the row, if no places are kept.
+    // The value of all cells of the row, if `places` is `None`.
     whole: &'a T,
-    // Where the latest changes stand, unless all cells have the same value.
+    // The latest changes, unless all cells have the same value.
     places: Option<RowChangeIndex<'a>>,
-    // Those of the first columns, if they are known by their places.
+    // The values of the first columns, if they are in a dense run.
     known: Option<DenseRunRow<'a, T>>,
 }
 
@@ -43,8 +44,8 @@ impl<'a, T> Model for RowValues<'a, T> {
 }
 
 impl<'a, T: Copy> RowValues<'a, T> {
-    /// The values of the cells of a row, by the places of the latest changes for them and by what is known of the first ones, or the one
-    /// of all where it is known to be one.
+    /// Makes the values of a row from the latest changes for its cells and those of its dense run.
+    /// If `places` is `None`, all are `whole`.
     pub(crate) fn new(
         map: &'a EntityMap<T>,
         row: usize,
@@ -68,7 +69,7 @@ impl<'a, T: Copy> RowValues<'a, T> {
         }
     }
 
-    /// The value of all cells, if it is known to be one.
+    /// Returns the value of all cells, if they are known to be equal.
     #[inline(always)]
     pub fn shared(&self) -> Option<T>
         ensures { IfSome result (λ value. (column : ℕ) → value_at self.now column ≡ value) }
@@ -79,7 +80,7 @@ impl<'a, T: Copy> RowValues<'a, T> {
         }
     }
 
-    /// The value of the cell in a column, if it is known by its place.
+    /// Returns the value of the cell in a column, if it is in the dense run.
     #[inline(always)]
     fn known(&self, column: usize) -> Option<&'a T>
         ensures { IfSome result (λ value. value.now ≡ value_at self.now column) }
@@ -90,7 +91,7 @@ impl<'a, T: Copy> RowValues<'a, T> {
         }
     }
 
-    /// The value of the cell in a column, by the place of the latest change for it.
+    /// Returns the value of the cell in a column, by the latest change for it.
     fn look_up(&mut self, column: usize) -> &'a T
         ensures value { result.now ≡ value_at self.old column }
         ensures same { self.new ≡ self.old }
@@ -102,7 +103,7 @@ impl<'a, T: Copy> RowValues<'a, T> {
         self.map.value_at_change(place)
     }
 
-    /// The value of the cell in a column.
+    /// Returns the value of the cell in a column.
     #[inline(always)]
     pub fn at(&mut self, column: usize) -> &'a T
         ensures value { result.now ≡ value_at self.old column }

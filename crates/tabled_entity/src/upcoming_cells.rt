@@ -1,4 +1,4 @@
-//! Cells of which something was set, walked row by row, and from left to right in each.
+//! `UpcomingCells`, which passes over the changed cells of a table, row by row.
 ghost use Rattle.std.specs.Prelude.{◌≡◌, ℕ, IfSome, drop, false, slice_get};
 ghost use Rattle.std.specs.Ordering.{is_eq, is_lt};
 ghost use Rattle.tabled_entity.specs.UpcomingCells.{AreInOrder, cell_cmp, first_and_others, place_in};
@@ -6,7 +6,8 @@ ghost use Rattle.tabled_entity.specs.UpcomingCells.{AreInOrder, cell_cmp, first_
 use std::collections::btree_map::Range;
 use std::marker::Model;
 
-/// Cells in order, by row and column, with the places of their latest changes. The first of them is at hand.
+/// Changed cells in order of row and column, with the indices of their latest changes. The first is
+/// already read from the map.
 #[derive(Drop)]
 pub(crate) struct UpcomingCells<'a> {
     first: Option<((usize, usize), usize)>,
@@ -22,7 +23,6 @@ impl<'a> Model for UpcomingCells<'a> {
     ghost view = { λ a. first_and_others a.first a.others };
 }
 
-/// Takes the first of some cells.
 #[inline(always)]
 fn take_first(cells: &mut Range<'_, (usize, usize), usize>) -> Option<((usize, usize), usize)>
     ensures { first_and_others result cells.new ≡ cells.old }
@@ -33,7 +33,7 @@ fn take_first(cells: &mut Range<'_, (usize, usize), usize>) -> Option<((usize, u
     }
 }
 
-/// Whether a cell is walked before another one.
+/// Whether a cell comes before another in that order.
 #[inline(always)]
 fn is_before(cell: (usize, usize), other: (usize, usize)) -> bool
     ensures { result ≡ is_lt (cell_cmp cell other) }
@@ -41,7 +41,6 @@ fn is_before(cell: (usize, usize), other: (usize, usize)) -> bool
     cell < other
 }
 
-/// Whether two cells are the same.
 #[inline(always)]
 fn is_same(cell: (usize, usize), other: (usize, usize)) -> bool
     ensures { result ≡ is_eq (cell_cmp other cell) }
@@ -50,7 +49,7 @@ fn is_same(cell: (usize, usize), other: (usize, usize)) -> bool
 }
 
 impl<'a> UpcomingCells<'a> {
-    /// All of some cells.
+    /// Begins with the first cell of a range.
     pub fn new(mut cells: Range<'a, (usize, usize), usize>) -> UpcomingCells<'a>
         ensures { result ≡ cells.entry }
     {
@@ -61,7 +60,8 @@ impl<'a> UpcomingCells<'a> {
         }
     }
 
-    /// Passes the cells before one. It takes one step where a row's cells are asked for from left to right.
+    /// Skips the cells before `at`. If the columns of a row are read one after another, that is at
+    /// most one cell.
     #[inline(always)]
     pub fn advance_to(&mut self, at: (usize, usize))
         ensures ordered { AreInOrder self.old → AreInOrder self.new }
@@ -75,7 +75,8 @@ impl<'a> UpcomingCells<'a> {
         }
     }
 
-    /// The place of a cell that is the next one, or else isn't there.
+    /// Returns the index of the latest change for a cell, which must be the next one if it is
+    /// there.
     #[inline(always)]
     pub fn place(&self, at: (usize, usize)) -> Option<usize>
         requires ordered { AreInOrder self.now }

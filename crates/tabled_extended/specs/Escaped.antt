@@ -1,4 +1,4 @@
--- Escaped texts: each character stands for itself, or is written by others that can be seen.
+-- Escaped texts: control characters, quotes and backslashes are written as visible characters.
 use Rattle.std.specs.Prelude.{ℕ, Bool, ◌==◌, ◌||◌, ◌&&◌, nat_le, nat_lt, false, List, [], ◌∷◌, ◌++◌, if◌then◌else◌, chars, codes, encode_utf8}
 use Rattle.std.specs.Fmt.{digits}
 use Rattle.std.specs.List.{flat_map}
@@ -7,8 +7,8 @@ use Rattle.std.specs.List.{flat_map}
 abbrev pub is_control : ℕ → Bool
 is_control c = nat_lt c 32 || (nat_le 127 c && nat_le c 159)
 
--- a character in an escaped text: quotes and the backslash behind a backslash; tab, carriage return, line feed and
--- U+0000 by a letter or 0; another control character by its number, in lower-case hexadecimal
+-- an escaped character: quotes and backslashes after a backslash; tab, carriage return, line feed
+-- and U+0000 as a letter or 0; other control characters as lower-case hexadecimal numbers
 abbrev pub escape : ℕ → List ℕ
 escape c =
     if c == 34 || (c == 39 || c == 92) then 92 ∷ c ∷ []

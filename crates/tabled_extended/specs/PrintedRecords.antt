@@ -1,4 +1,4 @@
--- What printing a table of records leaves of a sink.
+-- What printing an `ExtendedTable` leaves in a sink.
 use Rattle.std.specs.Prelude.{◌≡◌, ◌⊎◌, ℕ, ◌+◌, ◌^◌, ◌<◌, ◌≤◌, List, Result, Ok, Err, length, Bool}
 use Rattle.tabled_base.specs.declared.error.TableError.{TableError}
 use Rattle.tabled_base.specs.declared.error.TableError.TheVariants.{Memory, Range}
@@ -6,7 +6,7 @@ use Rattle.tabled_line.specs.Leading.{LineSends, LineStops}
 use Rattle.tabled_line.specs.Sent.{Sent, Sends, Stops}
 use Rattle.tabled_extended.specs.RecordLines.{AreRecordLines, text_of, widest, widest_value}
 
--- there is a record, and the columns of a field, a bar between spaces and a value pass the greatest `usize`
+-- there is a record, and the columns of a field, a bar and a value pass `usize::MAX`
 pub record IsTooWide (fields : List (List ℕ)) (records : List (List (List ℕ))) : Type 0 where
   pub some : 0 < length records
   pub past : 2 ^ 64 ≤ widest fields + 3 + widest_value records
@@ -18,7 +18,7 @@ pub record PrintsAll (answers : ℕ → List ℕ → Type 0) (fields : List (Lis
   pub lines : AreRecordLines answers fields records parts
   pub sends : Sends old new (text_of parts)
 
--- a label was refused, for memory, as the template may be: just the records before its own were printed
+-- the template failed with `Memory` where it may fail, and exactly the records before were printed
 pub record EndsBefore (answers : ℕ → List ℕ → Type 0) (refuses : ℕ → Type 0) (fields : List (List ℕ)) (records : List (List (List ℕ)))
     (old : Sent) (error : TableError) (new : Sent) : Type 0 where
   pub parts : List (List (List ℕ))
@@ -28,7 +28,7 @@ pub record EndsBefore (answers : ℕ → List ℕ → Type 0) (refuses : ℕ →
   pub memory : error ≡ Memory
   pub sends : Sends old new (text_of parts)
 
--- the sink refused, for its own cause: a beginning of some first records was printed
+-- the sink failed with a cause of its own, and a beginning of some first records was printed
 pub record EndsWithin (answers : ℕ → List ℕ → Type 0) (fields : List (List ℕ)) (records : List (List (List ℕ)))
     (old : Sent) (error : TableError) (new : Sent) : Type 0 where
   pub parts : List (List (List ℕ))
@@ -37,8 +37,8 @@ pub record EndsWithin (answers : ℕ → List ℕ → Type 0) (fields : List (Li
   pub lines : AreRecordLines answers fields records parts
   pub stops : Stops old error new (text_of parts)
 
--- on Ok the whole text was added; a table that is too wide is refused before the first byte, and any other one only where
--- a label or the sink is
+-- on `Ok` the whole text was added; on `Err` the table is too wide and nothing was written, or the
+-- template or the sink failed
 abbrev pub PrintsRecords : {T : Type 0} → (ℕ → List ℕ → Type 0) → (ℕ → Type 0) → List (List ℕ) → List (List (List ℕ)) → Sent
     → Result T TableError → Sent → Type 0
 PrintsRecords answers refuses fields records old (Ok _) new = (IsTooWide fields records → ⊥) × PrintsAll answers fields records old new
@@ -46,9 +46,10 @@ PrintsRecords answers refuses fields records old (Err e) new =
     ((e ≡ Range) × IsTooWide fields records × (new ≡ old))
     ⊎ ((IsTooWide fields records → ⊥) × (EndsBefore answers refuses fields records old e new ⊎ EndsWithin answers fields records old e new))
 
--- ---- for the private functions
+-- ---- for private functions
 
--- the lines of one record: under some label that the template answers, or nothing where the label was refused, as it may be
+-- the lines of one record with a label of the template, or nothing if the template failed where it
+-- may
 abbrev pub PrintsRecord : {T : Type 0} → (List ℕ → Type 0) → Type 0 → (List ℕ → List (List ℕ)) → Sent → Bool → Result T TableError → Sent
     → Bool → Type 0
 PrintsRecord answers refused lines old begun (Ok _) new begun' = (label : List ℕ) × answers label × LineSends old begun new begun' (lines label)

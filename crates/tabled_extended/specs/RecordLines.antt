@@ -1,35 +1,35 @@
--- The lines of a table that shows each record by itself. A text is the list of its bytes, a record the list of its values.
+-- The lines of an `ExtendedTable`. A text is the list of its bytes, a record the list of its
+-- values.
 use Rattle.std.specs.Prelude.{◌≡◌, ℕ, ◌+◌, ◌-◌, ◌<◌, nat_lt, List, [], ◌∷◌, ◌++◌, if◌then◌else◌, codes, decimal, length, map, slice_index_or}
 use Rattle.std.specs.List.{flat_map, zip, join_with_byte}
 use Rattle.tabled_line.specs.Fill.{fill}
 use Rattle.tabled_text.specs.Measure.{greatest, text_columns}
 
--- what the usual template says of the record at an index
+-- the default label of the record at an index
 abbrev pub record_label : ℕ → List ℕ
 record_label index = codes "[ RECORD " ++ (decimal index ++ codes " ]")
 
--- the columns of the widest of some texts
+-- the columns of the widest text
 abbrev pub widest : List (List ℕ) → ℕ
 widest texts = greatest (map text_columns texts)
 
--- the columns of the widest value, also of those that have no field
+-- the columns of the widest value, including values without a field
 abbrev pub widest_value : List (List (List ℕ)) → ℕ
 widest_value records = greatest (map widest records)
 
--- the template's text between dashes
+-- the label between dashes
 abbrev pub title : List ℕ → List ℕ
 title label = 45 ∷ (label ++ 45 ∷ [])
 
--- what stands behind a title of so many columns, over fields and values of f and v columns: dashes up to the line's
--- width, which is the title's or that of a field, a bar between spaces and a value; a cross above the bar, where the
--- title leaves its column
+-- what follows a title of `columns` columns, over fields and values of f and v columns: dashes up
+-- to the width of the lines, with a cross above the bar if the title doesn't reach it
 abbrev pub rule_behind : ℕ → ℕ → ℕ → List ℕ
 rule_behind f v columns =
     if nat_lt columns (f + 3 + v)
     then (if nat_lt columns (f + 2) then fill 45 (f + 1 - columns) ++ (43 ∷ fill 45 (v + 1)) else fill 45 (f + 3 + v - columns))
     else []
 
--- the first line of a record, under a title
+-- the first line of a record, which begins with a title
 abbrev pub header : ℕ → ℕ → List ℕ → List ℕ
 header f v above = above ++ rule_behind f v (text_columns above)
 
@@ -41,8 +41,8 @@ value_line f shown = shown.0 ++ (fill 32 (f - text_columns shown.0) ++ (codes " 
 abbrev pub record_lines : ℕ → ℕ → List (List ℕ) → List ℕ → List (List ℕ) → List (List ℕ)
 record_lines f v fields label values = header f v (title label) ∷ map (value_line f) (zip fields values)
 
--- the lines of the first records, record by record, each under a text that the template answers for its index. The
--- widths are those of all fields and values
+-- the lines of the first records, record by record, each with a label that the template returns for
+-- its index. The widths are those of all fields and values
 pub record AreRecordLines (answers : ℕ → List ℕ → Type 0) (fields : List (List ℕ)) (records : List (List (List ℕ)))
     (parts : List (List (List ℕ))) : Type 0 where
   pub each : (index : ℕ) → index < length parts → (label : List ℕ) × answers index label

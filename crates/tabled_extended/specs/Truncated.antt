@@ -1,5 +1,4 @@
--- Tables of records that are truncated, so that their lines take fewer columns. A text is the list of its bytes, a record
--- the list of its values.
+-- Truncated `ExtendedTable`s. A text is the list of its bytes, a record the list of its values.
 use Rattle.std.specs.Prelude.{
   ◌≡◌,
   ◌⊎◌,
@@ -36,22 +35,23 @@ use Rattle.tabled_text.specs.Cut.{IsCut, IsLongestReached, missing_columns}
 use Rattle.tabled_extended.specs.RecordLines.{widest}
 use Rattle.tabled_extended.specs.declared.text_widths.TextWidths.{TextWidths}
 
--- ---- the text widths of the texts
+-- ---- the widths
 
--- the columns of the usual header that has the number of the records: 13, and its digits
+-- the columns of a default header with the number of records: 13, and the digits of the number
 abbrev pub least_columns : ℕ → ℕ
 least_columns count = 13 + length (decimal count)
 
--- values have what fields of f columns, the bar and a suffix of s columns leave
+-- values get what fields of f columns, the bar and a suffix of s columns leave
 abbrev pub value_widths : ℕ → ℕ → ℕ → Option TextWidths
 value_widths f s left = if nat_lt left (f + 3 + s) then None else Some (record { fields = None; values = left - (f + 3 + s) })
 
--- fields have what the bar and the suffix leave, and values have nothing
+-- fields get what the bar and the suffix leave, and values get nothing
 abbrev pub field_widths : ℕ → ℕ → Option TextWidths
 field_widths s left = if nat_lt left (3 + s) then None else Some (record { fields = Some (left - (3 + s)); values = 0 })
 
--- the text widths in so many columns, over fields of f columns and a suffix of s: fields stay where they and the bar find room
--- beside the suffix. None where the usual header doesn't, or the suffix, or the texts
+-- the widths for lines of `max` columns, fields of f columns and a suffix of s: fields stay if
+-- they, the bar and the suffix fit. None if the default header doesn't fit, or the suffix, or the
+-- texts
 abbrev pub text_widths_in : ℕ → ℕ → ℕ → ℕ → Option TextWidths
 text_widths_in max count f s =
     if nat_lt max (least_columns count) || nat_lt max s then None
@@ -59,18 +59,18 @@ text_widths_in max count f s =
 
 -- ---- one text
 
--- what stands behind a cut text: the suffix, where something was cut off
+-- the suffix, if something was cut off
 abbrev pub ending : List ℕ → List ℕ → List ℕ
 ending suffix [] = []
 ending suffix (c ∷ off) = suffix
 
--- a text cut to n columns, to none is emptied, and its ending
+-- a text cut to n columns, and the suffix if something was cut off
 pub record IsTruncated (suffix : List ℕ) (n : ℕ) (text answer : List ℕ) : Type 0 where
   pub piece : List ℕ
   pub cut : IsCut n text piece
   pub answered : answer ≡ piece ++ ending suffix cut.rest
 
--- something is cut off, and what then stands there isn't empty
+-- something is cut off, and the new text isn't empty
 pub record TakesMemory (suffix : List ℕ) (n : ℕ) (text : List ℕ) : Type 0 where
   pub front : List ℕ
   pub off : List ℕ
@@ -78,14 +78,14 @@ pub record TakesMemory (suffix : List ℕ) (n : ℕ) (text : List ℕ) : Type 0 
   pub some_off : 0 < length off
   pub some_left : 0 < length front + (missing_columns n front off + length suffix)
 
--- a text stays for which memory was refused
+-- an allocation failed, and the text is unchanged
 pub record IsRefused (suffix : List ℕ) (n : ℕ) (text answer : List ℕ) : Type 0 where
   pub takes : TakesMemory suffix n text
   pub stays : answer ≡ text
 
 -- ---- many texts
 
--- those before one are changed, with this one it stopped, and those behind it stay
+-- the items before one are changed, the call stopped at this one, and those after it are unchanged
 pub record IsStopped {A : Type 0} (change stop : A → A → Type 0) (old new : List A) : Type 0 where
   pub before : List A
   pub changed : List A
@@ -97,7 +97,7 @@ pub record IsStopped {A : Type 0} (change stop : A → A → Type 0) (old new : 
   pub old_list : old ≡ before ++ here ∷ behind
   pub new_list : new ≡ changed ++ left ∷ behind
 
--- the values of a record, and the records, up to a text that was refused
+-- the values of a record, and the records, up to a text for which an allocation failed
 abbrev pub StopsInRecord : List ℕ → ℕ → List (List ℕ) → List (List ℕ) → Type 0
 StopsInRecord suffix n old new = IsStopped (IsTruncated suffix n) (IsRefused suffix n) old new
 
@@ -106,26 +106,28 @@ StopsInRecords suffix n old new = IsStopped (AllZip (IsTruncated suffix n)) (Sto
 
 -- ---- the table
 
--- fields and values are truncated to their text widths
+-- fields and values are truncated to their widths
 pub record AreTruncated (suffix : List ℕ) (text_widths : TextWidths) (fields : List (List ℕ)) (records : List (List (List ℕ)))
     (fields' : List (List ℕ)) (records' : List (List (List ℕ))) : Type 0 where
   pub each_field : AllZip (in_room (IsTruncated suffix) text_widths.fields) fields fields'
   pub each_value : AllZip (AllZip (IsTruncated suffix text_widths.values)) records records'
 
--- memory was refused: at a field, and all records stay, or at a value, below truncated fields
+-- an allocation failed: for a field, with all records unchanged, or for a value, with the fields
+-- truncated
 abbrev pub StopsTruncating : List ℕ → TextWidths → List (List ℕ) → List (List (List ℕ)) → List (List ℕ) → List (List (List ℕ)) → Type 0
 StopsTruncating suffix text_widths fields records fields' records' =
     ((n : ℕ) × (text_widths.fields ≡ Some n) × StopsInRecord suffix n fields fields' × (records' ≡ records))
     ⊎ (AllZip (in_room (IsTruncated suffix) text_widths.fields) fields fields' × StopsInRecords suffix text_widths.values records records')
 
--- the table has text widths in so many columns, and by these
+-- the table has text widths for `max` columns, and they do what `leaves` says
 pub record InTextWidths (max : ℕ) (suffix : List ℕ) (fields : List (List ℕ)) (records : List (List (List ℕ))) (leaves : TextWidths → Type 0) : Type 0 where
   pub text_widths : TextWidths
   pub found : text_widths_in max (length records) (widest fields) (suffix_columns suffix) ≡ Some text_widths
   pub left : leaves text_widths
 
--- what truncating leaves, by its answer: yes, and all texts are truncated; no, and they stay, for want of text widths; refused for
--- memory alone, and they are truncated up to one
+-- what truncating leaves, by its result. `true`: all texts are truncated. `false`: there are no
+-- text widths, and nothing changed. `Memory`: the texts up to one are truncated. No other error
+-- occurs
 abbrev pub Truncates : ℕ → List ℕ → List (List ℕ) → List (List (List ℕ)) → Result Bool TableError → List (List ℕ) → List (List (List ℕ)) → Type 0
 Truncates max suffix fields records (Ok true) fields' records' = InTextWidths max suffix fields records
     (λ text_widths. AreTruncated suffix text_widths fields records fields' records')

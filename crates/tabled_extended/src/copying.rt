@@ -1,4 +1,4 @@
-//! Tables of records that are copied.
+//! Copies of tables.
 ghost use Rattle.std.specs.Prelude.{◌≡◌, IfErr, IfOk};
 ghost use Rattle.tabled_base.specs.Cells.{row_texts};
 ghost use Rattle.tabled_base.specs.declared.error.TableError.TheVariants.{Memory};
@@ -8,7 +8,7 @@ use std::alloc::Global;
 use tabled_base::{TableError, Text};
 
 impl<F: Copy> ExtendedTable<F> {
-    /// The same table, in memory of its own. Refused only for memory.
+    /// Copies the table. Error: `Memory`.
     pub fn clone(&self) -> Result<ExtendedTable<F>, TableError>
         ensures fields { IfOk result (λ copy. copy.fields.items ≡ self.now.fields.items) }
         ensures records { IfOk result (λ copy. row_texts copy.records.items ≡ row_texts self.now.records.items) }
@@ -24,7 +24,7 @@ impl<F: Copy> ExtendedTable<F> {
     }
 }
 
-/// The texts of records, in memory of their own.
+/// Copies the cells of records.
 fn copied_records(
     alloc: Global,
     records: &[Vec<Text<String>>],
@@ -39,7 +39,7 @@ fn copied_records(
     Ok(copy)
 }
 
-/// Texts, in memory of their own.
+/// Copies cells.
 fn copied_texts(alloc: Global, texts: &[Text<String>]) -> Result<Vec<Text<String>>, TableError>
     ensures ok { IfOk result (λ copy. copy.items ≡ texts.now) }
     ensures only { IfErr result (λ e. e ≡ Memory) }

@@ -1,4 +1,4 @@
-//! Texts whose control characters, quotes and backslashes are written by others.
+//! Escaping of control characters, quotes and backslashes.
 ghost use Rattle.std.specs.Prelude.{◌≡◌, ◌++◌, map, length, vec_len, IfErr, IfOk, OnOk, string_bytes};
 ghost use Rattle.std.specs.Cow.{cow_str_bytes};
 ghost use Rattle.tabled_base.specs.declared.error.TableError.TheVariants.{Memory};
@@ -8,7 +8,7 @@ use std::alloc::{AllocError, Global};
 use std::borrow::CowStr;
 use tabled_base::{TableError, Text};
 
-/// Whether a character is of U+0001 to U+001F or U+007F to U+009F.
+/// Whether a character is in U+0001 to U+001F or U+007F to U+009F.
 fn is_control(c: char) -> bool
     ensures { result ≡ is_control c }
 {
@@ -16,7 +16,7 @@ fn is_control(c: char) -> bool
     code < 0x20 || (code >= 0x7F && code <= 0x9F)
 }
 
-/// Appends a character as it stands in an escaped text.
+/// Appends a character, escaped if it has to be.
 fn push_escaped(text: &mut String, c: char) -> Result<(), AllocError>
     ensures { OnOk result (string_bytes text.new ≡ string_bytes text.old ++ escape c) }
 {
@@ -44,7 +44,7 @@ fn push_escaped(text: &mut String, c: char) -> Result<(), AllocError>
     text.push(c)
 }
 
-/// A text, escaped.
+/// Returns an escaped text.
 pub(crate) fn escaped(alloc: Global, text: &str) -> Result<String, AllocError>
     ensures { IfOk result (λ answer. string_bytes answer ≡ escaped text.now) }
 {
@@ -55,7 +55,7 @@ pub(crate) fn escaped(alloc: Global, text: &str) -> Result<String, AllocError>
     Ok(answer)
 }
 
-/// Texts, escaped and measured.
+/// Escapes texts, and measures them.
 pub(crate) fn escaped_texts(
     alloc: Global,
     texts: Vec<CowStr<'_>>,

@@ -1,11 +1,11 @@
-//! A table that shows each record by itself.
+//! `ExtendedTable`, and its template.
 ghost use Rattle.std.specs.Prelude.{◌≡◌};
 ghost use Rattle.tabled_base.specs.Cells.{row_texts};
 
 use crate::template::RecordTemplate;
 use tabled_base::Text;
 
-/// A table that shows each record by itself: a header, and a line for each of its values behind the field's name.
+/// A table that prints each record as a list: a header, then a line `name | value` for each field.
 #[derive(Debug)]
 pub struct ExtendedTable<F = RecordTemplate> {
     pub(crate) fields: Vec<Text<String>>,
@@ -13,7 +13,7 @@ pub struct ExtendedTable<F = RecordTemplate> {
     pub(crate) template: F,
 }
 
-/// One call lets a table go, so that whoever lets it go needn't prove it of each part.
+/// Drops a table in one call, so that callers don't have to prove the drop of each part.
 impl<F: Drop> Drop for ExtendedTable<F> {
     fn drop(self) {
         let ExtendedTable {
@@ -25,7 +25,7 @@ impl<F: Drop> Drop for ExtendedTable<F> {
 }
 
 impl<F: Drop> ExtendedTable<F> {
-    /// The same fields and records under headers of another template.
+    /// Replaces the template of the headers.
     pub fn template<T>(self, template: T) -> ExtendedTable<T>
         ensures fields { result.fields.items ≡ self.fields.items }
         ensures records { row_texts result.records.items ≡ row_texts self.records.items }

@@ -1,4 +1,4 @@
-//! A function of a caller's as a template.
+//! A function as a template.
 ghost use Rattle.std.specs.Prelude.{◌≡◌, ◌<◌, ◌^◌, ℕ, List, Ok, Err, string_bytes};
 ghost use Rattle.std.specs.declared.alloc.AllocError.{AllocError};
 ghost use Rattle.std.specs.declared.alloc.Global.{Global};
@@ -10,7 +10,7 @@ use std::alloc::Global;
 use std::marker::Model;
 use tabled_base::TableError;
 
-/// Gives the texts that a function answers for the indices of the records, from 0.
+/// Labels each record with what a function returns for its index, from 0.
 #[derive(Debug, Drop)]
 pub struct FnTemplate<G: LabelFn> {
     g: G,
@@ -25,7 +25,7 @@ impl<G: LabelFn> Model for FnTemplate<G> {
 }
 
 impl<G: LabelFn> FnTemplate<G> {
-    /// A template that answers what a function does. The function may be called on every index.
+    /// Makes a template of a function, which must accept every index.
     pub fn new(g: G) -> FnTemplate<G>
         requires { G.callable g }
         ensures { result ≡ g }
@@ -38,7 +38,7 @@ impl<G: LabelFn> Template for FnTemplate<G> {
     ghost answers = { λ g index text. (answer : String Global) × G.gives g index (Ok answer)
         × (text ≡ string_bytes answer) };
 
-    // Just where the function may refuse.
+    // Exactly where the function may fail.
     ghost refuses = { λ g index. (error : AllocError) × G.gives g index (Err error) };
 
     fn label(&self, _alloc: Global, index: usize) -> Result<String, TableError> {

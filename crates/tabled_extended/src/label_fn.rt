@@ -1,4 +1,4 @@
-//! Functions that give texts for indices.
+//! Functions from indices to labels.
 ghost use Rattle.std.specs.Prelude.{ℕ, ◌<◌, ◌^◌, Result};
 ghost use Rattle.std.specs.declared.alloc.AllocError.{AllocError};
 ghost use Rattle.std.specs.declared.alloc.Global.{Global};
@@ -6,15 +6,15 @@ ghost use Rattle.std.specs.declared.string.String.{String};
 
 use std::alloc::AllocError;
 
-/// What gives a text for each index: every function that may be called on all of them.
+/// A function from indices to labels. All functions that accept every index implement it.
 pub trait LabelFn {
-    // Holds of what may be asked for every index.
+    // Whether the function accepts every index.
     ghost callable: { Self → Type 0 };
 
-    // Holds of an index and what may be answered for it.
+    // Whether the function may return the result for the index.
     ghost gives: { Self → ℕ → Result (String Global) AllocError → Type 0 };
 
-    /// The text for an index.
+    /// Returns the label for an index.
     fn text_at(&self, index: usize) -> Result<String, AllocError>
         requires { callable self.now }
         ensures { gives self.now index result };

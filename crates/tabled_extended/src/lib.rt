@@ -1,11 +1,11 @@
-//! `ExtendedTable`: one record below the other, with a line for each field.
+//! `ExtendedTable` prints each record as a header and a line for each field.
 //!
-//! - `extended_table.rt`: `ExtendedTable`; `making.rt`: tables of values or rows; `copying.rt`:
+//! - `extended_table.rt`: `ExtendedTable`; `making.rt`: tables from values or rows; `copying.rt`:
 //!   copies.
 //! - `printing.rt`: the lines of records.
 //! - `template.rt`, `fn_template.rt`, `label_fn.rt`, `titles.rt`: the header of a record.
-//! - `truncating.rt`, `text_widths.rt`: records truncated to a width, and what it leaves for each text.
-//! - `escaping.rt`: control characters, quotes and backslashes, escaped.
+//! - `truncating.rt`: truncated records; `text_widths.rt`: their widths.
+//! - `escaping.rt`: escapes control characters, quotes and backslashes.
 #![tactic(auto)]
 
 mod copying;

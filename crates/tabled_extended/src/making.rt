@@ -1,4 +1,4 @@
-//! Tables made of values, or of rows.
+//! Tables from values, or from rows.
 ghost use Rattle.std.specs.Prelude.{◌≡◌, ℕ, List, IfErr, IfOk, map};
 ghost use Rattle.std.specs.Iterator.{IsFiniteIterable};
 ghost use Rattle.std.specs.List.{AllZip};
@@ -16,7 +16,8 @@ use tabled_base::{CellText, IntoRecords, TableError, Text};
 use tabled_value::Tabled;
 
 impl ExtendedTable<RecordTemplate> {
-    /// A table of the fields of values, each field's name and text escaped. Refused only for memory.
+    /// Makes a table of values. Control characters, quotes and backslashes in field names and texts
+    /// are escaped. Error: `Memory`.
     pub fn new<I: IntoIterator>(
         alloc: Global,
         iter: I,
@@ -44,8 +45,8 @@ impl ExtendedTable<RecordTemplate> {
         })
     }
 
-    /// A table of rows: the first names the fields, and the others are the records, each as long as it comes. Nothing
-    /// is escaped. Without a row there is no field and no record. Refused only for memory.
+    /// Makes a table of rows: the first has the names of the fields, the others are records, of any
+    /// length. Nothing is escaped. No rows give no fields and no records. Error: `Memory`.
     pub fn from_rows<I: IntoRecords>(
         alloc: Global,
         rows: I,
@@ -63,7 +64,7 @@ impl ExtendedTable<RecordTemplate> {
     }
 }
 
-/// The texts of rows, measured.
+/// Copies the cells of rows.
 fn collect_rows<I: IntoRecords>(
     alloc: Global,
     rows: I,
@@ -82,7 +83,7 @@ where
     Ok(all)
 }
 
-/// The texts of cells, measured.
+/// Copies the cells of a row.
 fn collect_row<I: IntoIterator>(alloc: Global, cells: I) -> Result<Vec<Text<String>>, TableError>
 where
     I::Item: CellText + Drop,
@@ -99,7 +100,7 @@ where
     Ok(row)
 }
 
-/// A table of rows of which the first names the fields.
+/// Makes a table of rows. The first has the names of the fields.
 #[tactic(auto, using(crate::proofs::FirstRow::first_removed, crate::proofs::FirstRow::further_removed, crate::proofs::FirstRow::first_of_none, crate::proofs::FirstRow::further_of_none))]
 fn named_by_first(alloc: Global, mut rows: Vec<Vec<Text<String>>>) -> ExtendedTable<RecordTemplate>
     ensures fields { result.fields.items ≡ first_row (row_texts rows.items) }

@@ -1,4 +1,4 @@
-//! The lines of records.
+//! Printing the lines of records.
 ghost use Rattle.std.specs.Prelude.{codes, ◌≡◌, ◌⊎◌, ◌≤◌, true, false, ◌∷◌, [], ◌++◌, ◌+◌, ◌-◌, ◌<◌, ◌^◌, ℕ, List, IfErr, IfOk, OnOk, map, string_bytes, length, slice_index_or};
 ghost use Rattle.std.specs.List.{zip};
 ghost use Rattle.tabled_base.specs.Cells.{row_texts};
@@ -24,7 +24,7 @@ pub(crate) struct Widths {
     pub value: usize,
 }
 
-/// The columns of the widest of some texts.
+/// Returns the columns of the widest cell.
 pub(crate) fn widest(texts: &[Text<String>]) -> usize
     ensures { result ≡ widest texts.now }
 {
@@ -35,7 +35,7 @@ pub(crate) fn widest(texts: &[Text<String>]) -> usize
     columns
 }
 
-/// The columns of the widest value.
+/// Returns the columns of the widest value.
 pub(crate) fn widest_value(records: &[Vec<Text<String>>]) -> usize
     ensures { result ≡ widest_value (row_texts records.now) }
 {
@@ -46,7 +46,7 @@ pub(crate) fn widest_value(records: &[Vec<Text<String>>]) -> usize
     columns
 }
 
-/// The dashes over a record from the column of the bar on.
+/// Writes the end of a header: dashes, with a `+` above the bar.
 fn write_cross<S: TextSink>(sink: &mut S, before: usize, behind: usize) -> Result<(), TableError>
     ensures { Writes (S.sent sink.old) result (S.sent sink.new)
         (fill 45 before ++ (43 ∷ fill 45 behind)) }
@@ -56,7 +56,7 @@ fn write_cross<S: TextSink>(sink: &mut S, before: usize, behind: usize) -> Resul
     write_fill(sink, '-', behind)
 }
 
-/// What stands behind a title of so many columns.
+/// Fills a header up after a title of `columns` columns.
 fn write_title_rule<S: TextSink>(
     sink: &mut S,
     widths: Widths,
@@ -77,7 +77,7 @@ fn write_title_rule<S: TextSink>(
     }
 }
 
-/// The text of a template between dashes, and what stands behind it.
+/// Writes a label as a title, and fills the header up.
 fn write_titled<S: TextSink>(sink: &mut S, widths: Widths, label: &str) -> Result<(), TableError>
     requires { widths.field + 3 + widths.value < 2 ^ 64 }
     ensures { Writes (S.sent sink.old) result (S.sent sink.new) (header widths.field widths.value (title label.now)) }
@@ -86,7 +86,7 @@ fn write_titled<S: TextSink>(sink: &mut S, widths: Widths, label: &str) -> Resul
     write_title_rule(sink, widths, title_width(label))
 }
 
-/// The first line of a record.
+/// Writes the header of a record, on a line of its own.
 fn write_header<S: TextSink>(
     sink: &mut S,
     begun: &mut bool,
@@ -101,14 +101,14 @@ fn write_header<S: TextSink>(
     write_titled(sink, widths, label)
 }
 
-/// The columns that are left behind a field.
+/// Returns how many columns a field is narrower than `columns`.
 fn padding(columns: usize, field: &Text<String>) -> usize
     ensures { result ≡ columns - text_columns field.now }
 {
     columns.saturating_sub(field.width())
 }
 
-/// A field, spaces, the bar and a value.
+/// Writes a field, spaces, the bar and a value.
 fn write_field_line<S: TextSink>(
     sink: &mut S,
     field: &str,
@@ -124,7 +124,7 @@ fn write_field_line<S: TextSink>(
     sink.write_text(value)
 }
 
-/// A field and its value.
+/// Writes a field, padded to `columns`, and its value.
 fn write_shown_field<S: TextSink>(
     sink: &mut S,
     columns: usize,
@@ -136,7 +136,7 @@ fn write_shown_field<S: TextSink>(
     write_field_line(sink, field.text(), padding(columns, field), value.text())
 }
 
-/// The line of a field.
+/// Writes the line of a field.
 fn write_value_line<S: TextSink>(
     sink: &mut S,
     begun: &mut bool,
@@ -151,7 +151,7 @@ fn write_value_line<S: TextSink>(
     write_shown_field(sink, columns, field, value)
 }
 
-/// A line for each field that has a value.
+/// Writes a line for each field that has a value.
 fn write_value_lines<S: TextSink>(
     sink: &mut S,
     begun: &mut bool,
@@ -169,7 +169,7 @@ fn write_value_lines<S: TextSink>(
     Ok(())
 }
 
-/// The lines of a record under a text of the template.
+/// Writes the lines of a record with a label.
 fn write_record_lines<S: TextSink>(
     sink: &mut S,
     begun: &mut bool,
@@ -186,7 +186,7 @@ fn write_record_lines<S: TextSink>(
     write_value_lines(sink, begun, widths.field, fields, values)
 }
 
-/// The values of a record.
+/// Returns the values of a record.
 fn values_at(records: &[Vec<Text<String>>], index: usize) -> &[Text<String>]
     requires { index < length records.now }
     ensures { result.now ≡ slice_index_or (row_texts records.now) index [] }
@@ -194,7 +194,7 @@ fn values_at(records: &[Vec<Text<String>>], index: usize) -> &[Text<String>]
     records[index].as_slice()
 }
 
-/// The lines of a record, under a text that the template answers for its index.
+/// Writes the lines of a record, with the label that the template returns for its index.
 fn write_record<F: Template, S: TextSink>(
     sink: &mut S,
     begun: &mut bool,
@@ -215,7 +215,7 @@ fn write_record<F: Template, S: TextSink>(
     write_record_lines(sink, begun, widths, table.fields.as_slice(), &label, values)
 }
 
-/// The lines of all records.
+/// Writes the lines of all records.
 fn write_records<F: Template, S: TextSink>(
     sink: &mut S,
     table: &ExtendedTable<F>,
@@ -235,12 +235,17 @@ fn write_records<F: Template, S: TextSink>(
 }
 
 impl<F: Template> ExtendedTable<F> {
-    /// Prints for each record its header, which has the text that the template answers for its index, and a line for
-    /// each field that has a value; a further field or value isn't shown, but counts for the widths. A table without
-    /// records has no line. Refused with `Range` where the columns of a field, a bar and a value pass the greatest
-    /// `usize`, before the first byte; with `Memory` for a label that the template may refuse, as its record is reached, with
-    /// the whole records before it printed; and for what the sink refuses, a beginning of the text printed. It takes no memory
-    /// of its own.
+    /// Prints the header and the fields of each record. A table without records prints nothing.
+    ///
+    /// A header has the label that the template returns for the record's index. Each field that has
+    /// a value takes a line. Other fields and values aren't printed, but their widths count. Only
+    /// the template allocates.
+    ///
+    /// Errors:
+    /// - `Range`: the columns of the widest field, a bar and the widest value pass `usize::MAX`.
+    ///   Nothing is written.
+    /// - `Memory`: the template failed. All records before that one are written.
+    /// - The error of the sink: a beginning of the text is written.
     pub fn write_to<S: TextSink>(&self, sink: &mut S) -> Result<(), TableError>
         ensures { PrintsRecords (F.answers self.now.template) (F.refuses self.now.template)
             self.now.fields.items (row_texts self.now.records.items) (S.sent sink.old) result (S.sent sink.new) }
@@ -258,7 +263,7 @@ impl<F: Template> ExtendedTable<F> {
         write_records(sink, self, widths)
     }
 
-    /// The text that `write_to` writes. Refused as `write_to` is.
+    /// Returns the text that `write_to` writes. Fails as `write_to` does.
     pub fn to_string(&self) -> Result<String, TableError>
         ensures ok { IfOk result (λ text. (parts : List (List (List ℕ)))
             × (length parts ≡ length (row_texts self.now.records.items))
@@ -274,8 +279,9 @@ impl<F: Template> ExtendedTable<F> {
     }
 }
 
-/// A text that `to_string` may give; `fmt::Error` where that is refused, or a writer fails. A template may answer one text
-/// or another, so that no one text is told here: `to_string` tells what the lines are.
+/// Writes the text of `to_string`. Fails with `fmt::Error` if `to_string` or the formatter does.
+/// The contract names no text, since a template may return different labels; `to_string` has the
+/// details.
 impl<F: Template> fmt::Display for ExtendedTable<F> {
     ghost use Rattle.std.specs.Prelude.{None};
 

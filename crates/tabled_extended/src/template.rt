@@ -1,4 +1,4 @@
-//! What stands in the header of a record.
+//! Templates: the labels in the headers of records.
 ghost use Rattle.std.specs.Prelude.{◌≡◌, ⊤, ℕ, List, IfErr, IfOk, OnErr, string_bytes};
 ghost use Rattle.tabled_base.specs.declared.error.TableError.TheVariants.{Memory};
 ghost use Rattle.tabled_extended.specs.RecordLines.{record_label};
@@ -6,30 +6,30 @@ ghost use Rattle.tabled_extended.specs.RecordLines.{record_label};
 use std::alloc::Global;
 use tabled_base::TableError;
 
-/// What gives the text in the header of a record.
+/// Labels the headers of records.
 pub trait Template {
-    // Holds of a template, the index of a record and a text that it may answer for it.
+    // Whether the template may return the text for the record at the index.
     ghost answers: { Self → ℕ → List ℕ → Type 0 };
 
-    // Holds of a template and the index of a record for whose text it may be refused memory.
+    // Whether the template may fail for the record at the index.
     ghost refuses: { Self → ℕ → Type 0 };
 
-    /// The text in the header of the record at an index, from 0. Refused only for memory, and only where the template says
-    /// that it may be.
+    /// Returns the label of the record at an index, from 0. Fails only with `Memory`, and only
+    /// where `refuses` allows it.
     fn label(&self, alloc: Global, index: usize) -> Result<String, TableError>
         ensures text { IfOk result (λ text. answers self.now index (string_bytes text)) }
         ensures only { IfErr result (λ e. e ≡ Memory) }
         ensures refused { OnErr result (refuses self.now index) };
 }
 
-/// Gives `[ RECORD i ]` for the record at index i.
+/// Labels the record at index i with `[ RECORD i ]`.
 #[derive(Clone, Copy, Debug, Drop)]
 pub struct RecordTemplate;
 
 impl Template for RecordTemplate {
     ghost answers = { λ _ index text. text ≡ record_label index };
 
-    // Its texts are never empty, so each wants memory.
+    // Its labels are never empty, so each of them is allocated.
     ghost refuses = { λ _ _. ⊤ };
 
     fn label(&self, alloc: Global, index: usize) -> Result<String, TableError> {

@@ -1,18 +1,18 @@
-//! The columns to which the texts of records are truncated.
+//! The widths to which fields and values are truncated.
 ghost use Rattle.std.specs.Prelude.{◌≡◌, ◌-◌, ◌≤◌, None, Some, decimal, if◌then◌else◌, length, nat_lt};
 ghost use Rattle.tabled_set.specs.Truncated.{suffix_columns};
 ghost use Rattle.tabled_extended.specs.Truncated.{field_widths, least_columns, text_widths_in, value_widths};
 
 use tabled_text::{count_lines, line_width, lines};
 
-/// The columns to which fields are truncated, if they are, and those to which values are.
+/// The greatest widths of fields, if they are truncated, and of values, in columns.
 #[derive(Clone, Copy)]
 pub(crate) struct TextWidths {
     pub fields: Option<usize>,
     pub values: usize,
 }
 
-/// The columns of the usual header that has the number of the records.
+/// Returns the columns of a default header with the number of records.
 fn least_columns(count: usize) -> usize
     ensures { result ≡ least_columns count }
 {
@@ -22,7 +22,7 @@ fn least_columns(count: usize) -> usize
     }
 }
 
-/// The columns that a suffix leaves of so many, if it finds room there.
+/// Returns the columns that a suffix leaves, if it fits.
 fn columns_beside(suffix: &str, columns: usize) -> Option<usize>
     ensures { result ≡ (if nat_lt columns (suffix_columns suffix.now) then None
         else Some (columns - suffix_columns suffix.now)) }
@@ -34,7 +34,7 @@ fn columns_beside(suffix: &str, columns: usize) -> Option<usize>
     left.checked_sub(count_lines(suffix) - 1)
 }
 
-/// The text widths of values behind fields that stay, in columns beside a suffix.
+/// Returns the widths if fields stay and values are cut. `left` is `max` less the suffix.
 fn value_widths(field: usize, suffix: usize, left: usize) -> Option<TextWidths>
     ensures { result ≡ value_widths field suffix left }
 {
@@ -48,7 +48,7 @@ fn value_widths(field: usize, suffix: usize, left: usize) -> Option<TextWidths>
     })
 }
 
-/// The text widths of fields before values that are emptied, in columns beside a suffix.
+/// Returns the widths if fields are cut and values emptied. `left` is `max` less the suffix.
 fn field_widths(suffix: usize, left: usize) -> Option<TextWidths>
     ensures { result ≡ field_widths suffix left }
 {
@@ -59,7 +59,8 @@ fn field_widths(suffix: usize, left: usize) -> Option<TextWidths>
     })
 }
 
-/// The text widths in so many columns, for so many records and a widest field of so many columns.
+/// Returns the widths for lines of `max` columns, `count` records and a widest field of `field`
+/// columns.
 pub(crate) fn text_widths_in(
     max: usize,
     count: usize,

@@ -1,4 +1,4 @@
-//! The text of a template between dashes, which takes no memory.
+//! A label between dashes, written without allocating.
 ghost use Rattle.std.specs.Prelude.{◌≡◌, ◌∷◌, [], ◌++◌, ◌-◌, ◌^◌, min};
 ghost use Rattle.tabled_line.specs.Sent.{Sent, Writes};
 ghost use Rattle.tabled_text.specs.Measure.{text_columns};
@@ -8,7 +8,7 @@ use tabled_base::TableError;
 use tabled_line::TextSink;
 use tabled_text::{line_width, lines};
 
-/// A text between dashes.
+/// Writes a label between dashes.
 pub(crate) fn write_title<S: TextSink>(sink: &mut S, label: &str) -> Result<(), TableError>
     ensures { Writes (S.sent sink.old) result (S.sent sink.new) (title label.now) }
 {
@@ -17,8 +17,8 @@ pub(crate) fn write_title<S: TextSink>(sink: &mut S, label: &str) -> Result<(), 
     sink.write_text("-")
 }
 
-/// The columns of a text between dashes, as far as a `usize` goes. A dash stands before the first line and behind the last
-/// one, and adds a column there.
+/// Returns the columns of a label between dashes, `usize::MAX` at most. The dashes add a column to
+/// the first line and to the last one.
 pub(crate) fn title_width(label: &str) -> usize
     ensures { result ≡ min (2 ^ 64 - 1) (text_columns (title label.now)) }
 {

@@ -1,4 +1,4 @@
-//! Texts of records that are truncated.
+//! Truncating the fields and values of records.
 ghost use Rattle.std.specs.Prelude.{◌≡◌, ℕ, IfErr, IfOk, MatchOption, OnErr, OnOk, Some, string_bytes};
 ghost use Rattle.std.specs.List.{AllZip};
 ghost use Rattle.tabled_base.specs.Cells.{row_texts};
@@ -13,7 +13,7 @@ use std::alloc::{AllocError, Global};
 use tabled_base::{CellText, TableError, Text};
 use tabled_text::cut_str;
 
-/// A text cut to a width limit, with the suffix behind it; none where nothing was cut off.
+/// Returns a text cut to a width, with the suffix after it; `None` if nothing was cut off.
 fn truncated(
     alloc: Global,
     text: &str,
@@ -34,7 +34,7 @@ fn truncated(
     Ok(Some(answer))
 }
 
-/// Truncates a text in place. One of which nothing is cut off stays.
+/// Truncates a text in place. A text that fits isn't changed.
 fn truncate_text(
     alloc: Global,
     text: &mut Text<String>,
@@ -51,7 +51,7 @@ fn truncate_text(
     Ok(())
 }
 
-/// Truncates the texts of a row, one after another.
+/// Truncates the cells of a row.
 fn truncate_row(
     alloc: Global,
     row: &mut Vec<Text<String>>,
@@ -68,7 +68,7 @@ fn truncate_row(
     Ok(())
 }
 
-/// Truncates the texts of a row that has a width limit.
+/// Truncates the cells of a row if there is a width limit.
 fn truncate_if_limited(
     alloc: Global,
     row: &mut Vec<Text<String>>,
@@ -85,7 +85,7 @@ fn truncate_if_limited(
     }
 }
 
-/// Truncates the values of records, one after another.
+/// Truncates the values of all records.
 fn truncate_rows(
     alloc: Global,
     rows: &mut Vec<Vec<Text<String>>>,
@@ -103,7 +103,7 @@ fn truncate_rows(
 }
 
 impl<F> ExtendedTable<F> {
-    /// Truncates fields, if they have a width limit, and values.
+    /// Truncates values, and fields if they have a width limit.
     fn truncate_to(&mut self, text_widths: TextWidths, suffix: &str) -> Result<(), TableError>
         ensures ok { OnOk result (AreTruncated suffix.now text_widths self.old.fields.items (row_texts self.old.records.items)
             self.new.fields.items (row_texts self.new.records.items)) }
@@ -117,14 +117,20 @@ impl<F> ExtendedTable<F> {
         truncate_rows(alloc, &mut self.records, text_widths.values, suffix)
     }
 
-    /// Truncates the texts for lines of `max` columns, less those of the suffix, and answers whether it could. Where a bar
-    /// and the widest field find room, and the suffix behind a value, the fields stay and the values are cut to what is
-    /// left. Where the fields themselves don't, they are cut to what a bar and a suffix leave, and the values are emptied.
-    /// The suffix stands behind each text of which something was cut off, also in place of one that was emptied; an empty
-    /// text stays empty. The answer is no, and nothing is changed, where no such room is left, or where 13 and the digits
-    /// of the number of records, as many as a usual header takes, are more than `max`. Columns are display columns; a line
-    /// feed of the suffix counts as one. Refused with `Memory` alone, for a text of which something is cut off: the texts
-    /// before it, fields first, are truncated then, and it and the others stay.
+    /// Truncates fields and values for lines of `max` columns, and returns whether it could. Below,
+    /// the rest is `max` less the columns of the suffix, and a bar takes 3 columns.
+    /// - If the widest field and a bar fit into the rest, the fields stay. Values are cut to what
+    ///   these and the suffix leave of it.
+    /// - Otherwise fields are cut to what a bar and the suffix leave of it, and values are emptied.
+    ///
+    /// Returns `false`, and changes nothing, if the rest is too small for that, or if `max` is less
+    /// than the columns of a default header: 13, and one for each digit of the number of records.
+    ///
+    /// The suffix is put after each text that was cut, an emptied one too, but not into an empty
+    /// text. Widths are display columns; a line feed of the suffix counts as one.
+    ///
+    /// Error: `Memory`, for a text that is cut. The texts before it, fields first, are truncated
+    /// then; it and the later ones are unchanged.
     pub fn truncate(&mut self, max: usize, suffix: &str) -> Result<bool, TableError>
         ensures texts { Truncates max suffix.now self.old.fields.items (row_texts self.old.records.items) result
             self.new.fields.items (row_texts self.new.records.items) }

@@ -1,4 +1,4 @@
--- Tables whose settings keep the texts of their cells apart, whatever these are.
+-- Tables whose settings separate their cells, whatever the cells contain.
 use Rattle.std.specs.Prelude.{◌≡◌, ℕ, ◌<◌, ◌≤◌, Some}
 use Rattle.tabled_text.specs.Plain.{IsAdditiveColumn}
 use Rattle.tabled_config.specs.declared.borders.HorizontalLine.{HorizontalLine}
@@ -7,8 +7,8 @@ use Rattle.tabled_config.specs.Settings.{frame, rule_at, style_at}
 use Rattle.tabled_line.specs.Apart.{AreApartCells, IsApartFrame}
 use Rattle.tabled_line.specs.Plain.{IsPlainRule}
 
--- of a table with so many rows and columns: what stands beside the cells of each row keeps them apart, and horizontal
--- lines and the lines of margins are of additive characters
+-- the settings of a table with `rows` rows and `count` columns separate its cells; horizontal lines
+-- and the lines of margins are additive
 pub record IsApartConfig (config : SpannedConfig) (rows count : ℕ) : Type 0 where
   pub margin_top : IsAdditiveColumn (frame config).margin.top.fill
   pub margin_bottom : IsAdditiveColumn (frame config).margin.bottom.fill

@@ -1,4 +1,4 @@
--- The first cell that its column doesn't hold.
+-- The first cell that doesn't fit its column.
 use Rattle.std.specs.Prelude.{ℕ, ◌<◌, length}
 use Rattle.std.specs.List.{slice_index}
 use Rattle.tabled_base.specs.Cells.{columns}
@@ -8,19 +8,19 @@ use Rattle.tabled_size.specs.Estimates.{needed_width}
 use Rattle.tabled_size.specs.Holds.{IsHeld}
 use Rattle.tabled_size.specs.Sheet.{Sheet}
 
--- the first cell of a row that its column doesn't hold
+-- the first cell of a row that doesn't fit its column
 pub record IsNarrowIn (t : Sheet) (row column : ℕ) : Type 0 where
   pub column_in : column < columns t.cells
   pub narrow : slice_index t.widths column < needed_width t.cells t.config row column
   pub before : (c : ℕ) → c < column → IsHeld t row c
 
--- the first of all, row by row
+-- the first such cell of the table, row by row
 pub record IsFirstNarrow (t : Sheet) (row column : ℕ) : Type 0 where
   pub row_in : row < length t.cells
   pub at : IsNarrowIn t row column
   pub above : (r c : ℕ) → r < row → c < columns t.cells → IsHeld t r c
 
--- a refusal that names it
+-- an error that names this cell
 abbrev pub IsNarrow : Sheet → TableError → Type 0
 IsNarrow t (Narrow row column) = IsFirstNarrow t row column
 IsNarrow t _ = ⊥

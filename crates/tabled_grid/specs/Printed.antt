@@ -1,4 +1,4 @@
--- Which tables are printed, why others are refused, and what a call that prints leaves.
+-- Which tables can be printed, why others fail, and what a call that prints leaves.
 use Rattle.std.specs.Prelude.{◌≡◌, ◌^◌, ◌<◌, ◌≤◌, ◌⊎◌, Bool, length, true, false, Result, Ok, Err}
 use Rattle.tabled_base.specs.Cells.{columns}
 use Rattle.tabled_base.specs.declared.error.TableError.{TableError}
@@ -10,7 +10,7 @@ use Rattle.tabled_grid.specs.Narrow.{IsFirstNarrow}
 use Rattle.tabled_grid.specs.Picture.{table_text}
 use Rattle.tabled_line.specs.Sent.{Sent, Sends, Stops}
 
--- the totals are numbers that a `usize` can say
+-- the totals fit a `usize`
 pub record IsInRange (t : Sheet) : Type 0 where
   pub width : filled_width t.config (columns t.cells) t.widths < 2 ^ 64
   pub height : filled_height t.config (length t.cells) t.heights < 2 ^ 64
@@ -20,7 +20,7 @@ abbrev pub IsOutOfRange : Sheet → Type 0
 IsOutOfRange t =
     (2 ^ 64 ≤ filled_width t.config (columns t.cells) t.widths) ⊎ (2 ^ 64 ≤ filled_height t.config (length t.cells) t.heights)
 
--- why a table with a row and a column is refused: the causes in the order in which they are looked for
+-- why a table with a row and a column fails: the errors in the order in which they are checked
 abbrev pub IsRefused : Sheet → TableError → Type 0
 IsRefused t ShortWidths = length t.widths < columns t.cells
 IsRefused t ShortHeights = (columns t.cells ≤ length t.widths) × (length t.heights < length t.cells)
@@ -28,21 +28,23 @@ IsRefused t (Narrow row column) = IsSized t × IsFirstNarrow t row column
 IsRefused t Range = IsSized t × Holds t × IsOutOfRange t
 IsRefused t _ = ⊥
 
--- nothing stands against printing the table
+-- the table can be printed
 pub record IsPrintable (t : Sheet) : Type 0 where
   pub sized : IsSized t
   pub holds : Holds t
   pub in_range : IsInRange t
 
--- why a call that prints stops: the table is refused for its cause, or memory was for an estimate, both before the
--- first byte; or the table can be printed, and the sink refused, with a beginning of the text added
+-- why a call that prints stops. Before anything is written: the table fails, or an allocation for
+-- estimates does. Otherwise the table can be printed, and the sink failed after a beginning of the
+-- text
 abbrev pub Ends : Bool → Sheet → Sent → TableError → Sent → Type 0
 Ends estimates t old error new =
     (IsRefused t error × (new ≡ old))
     ⊎ (((estimates ≡ true) × (error ≡ Memory) × (new ≡ old)) ⊎ (IsPrintable t × Stops old error new (table_text t)))
 
--- what a call that prints a table leaves, and that takes memory of its own if it estimates sizes: on Ok the table's text
--- was added, and the table is one that can be printed; a table with no row or no column is never refused
+-- what a call that prints a table leaves, by its result; it allocates if `estimates` is true. On
+-- `Ok` the text of the table was added, and the table is empty or can be printed. A table with no
+-- row or no column never fails
 abbrev pub Prints : {T : Type 0} → Bool → Sheet → Sent → Result T TableError → Sent → Type 0
 Prints estimates t old (Ok _) new = ((is_empty t.cells ≡ true) ⊎ IsPrintable t) × Sends old new (table_text t)
 Prints estimates t old (Err error) new = (is_empty t.cells ≡ false) × Ends estimates t old error new

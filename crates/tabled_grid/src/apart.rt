@@ -1,4 +1,5 @@
-//! Whether the settings of a table keep the texts of its cells apart, so that all its lines take the same columns.
+//! Whether the settings of a table separate its cells, so that all lines are equally wide whatever
+//! the cells contain.
 ghost use Rattle.std.specs.Prelude.{◌≡◌, ◌↔◌, ◌<◌, ◌≤◌, ◌⊎◌, ℕ, IsTrue, Some, true};
 ghost use Rattle.tabled_text.specs.Plain.{IsAdditiveColumn};
 ghost use Rattle.tabled_text.specs.FramedLines.{IsSeparatorColumn};
@@ -38,7 +39,7 @@ fn are_separators(frame: Frame) -> bool
     is_separator_column(frame.left.main) && is_separator_column(frame.inner.main)
 }
 
-/// Whether the cells of a row are padded by separators.
+/// Whether the padding of each cell of a row consists of separators.
 fn are_apart_styles_in(config: &SpannedConfig, row: usize, columns: usize) -> bool
     ensures { IsTrue result ↔ ((column : ℕ) → column < columns → IsApartStyle (style_at config.now row column)) }
 {
@@ -50,7 +51,7 @@ fn are_apart_styles_in(config: &SpannedConfig, row: usize, columns: usize) -> bo
     true
 }
 
-/// Whether each cell of a row has padding on the left.
+/// Whether each cell of a row has left padding.
 fn has_left_padding(config: &SpannedConfig, row: usize, columns: usize) -> bool
     ensures { IsTrue result ↔ ArePaddedLeft columns (style_at config.now row) }
 {
@@ -62,7 +63,7 @@ fn has_left_padding(config: &SpannedConfig, row: usize, columns: usize) -> bool
     true
 }
 
-/// Whether each cell of a row has padding on the right.
+/// Whether each cell of a row has right padding.
 fn has_right_padding(config: &SpannedConfig, row: usize, columns: usize) -> bool
     ensures { IsTrue result ↔ ((column : ℕ) → column < columns → 0 < (style_at config.now row column).padding.right.size) }
 {
@@ -74,14 +75,15 @@ fn has_right_padding(config: &SpannedConfig, row: usize, columns: usize) -> bool
     true
 }
 
-/// Whether no cell of a row joins the vertical line before it: that is a separator, or left padding follows.
+/// Whether no cell of a row can join with the vertical line before it: the line is a separator, or
+/// left padding follows it.
 fn has_steady_bars(config: &SpannedConfig, row: usize, columns: usize) -> bool
     ensures { IsTrue result ↔ HasSteadyBars (frame config.now) columns (style_at config.now row) }
 {
     are_separators(config.frame()) || has_left_padding(config, row, columns)
 }
 
-/// Whether something stands between each two cells of a row: a vertical line, or padding.
+/// Whether there is a vertical line or padding between each two cells of a row.
 fn has_gaps(config: &SpannedConfig, row: usize, columns: usize) -> bool
     ensures { IsTrue result ↔ HasGaps (frame config.now) columns (style_at config.now row) }
 {
@@ -90,7 +92,7 @@ fn has_gaps(config: &SpannedConfig, row: usize, columns: usize) -> bool
         || has_right_padding(config, row, columns)
 }
 
-/// Whether the cells of a row are kept apart.
+/// Whether the settings separate the cells of a row.
 fn are_apart_cells(config: &SpannedConfig, row: usize, columns: usize) -> bool
     ensures { IsTrue result ↔ AreApartCells (frame config.now) columns (style_at config.now row) }
 {
@@ -99,7 +101,7 @@ fn are_apart_cells(config: &SpannedConfig, row: usize, columns: usize) -> bool
         && has_gaps(config, row, columns)
 }
 
-/// Whether those of each row are.
+/// Whether the settings separate the cells of each row.
 fn are_apart_rows(config: &SpannedConfig, rows: usize, columns: usize) -> bool
     ensures { IsTrue result ↔ ((row : ℕ) → row < rows → AreApartCells (frame config.now) columns (style_at config.now row)) }
 {
@@ -111,7 +113,8 @@ fn are_apart_rows(config: &SpannedConfig, rows: usize, columns: usize) -> bool
     true
 }
 
-/// Whether what stands around the cells is: separators beside them, additive characters above and below.
+/// Whether vertical lines are additive, side margins are separators, and top and bottom margins are
+/// additive.
 fn is_apart_around(frame: Frame) -> bool
     ensures { IsTrue result ↔ (IsApartFrame frame × IsAdditiveColumn frame.margin.top.fill
         × IsAdditiveColumn frame.margin.bottom.fill) }
@@ -121,7 +124,7 @@ fn is_apart_around(frame: Frame) -> bool
         && is_additive_column(frame.margin.bottom.fill)
 }
 
-/// Whether the horizontal lines are of additive characters, and the texts of each row are kept apart.
+/// Whether horizontal lines are additive and the settings separate the cells of each row.
 fn are_apart_places(config: &SpannedConfig, rows: usize, columns: usize) -> bool
     ensures { IsTrue result ↔ (((i : ℕ) → i ≤ rows → (line : HorizontalLine)
         → rule_at config.now rows i ≡ Some line → IsPlainRule line)
@@ -130,10 +133,16 @@ fn are_apart_places(config: &SpannedConfig, rows: usize, columns: usize) -> bool
     are_plain_rules(config, rows) && are_apart_rows(config, rows, columns)
 }
 
-/// Whether the settings of a table with so many rows and columns keep any texts apart. Padding and side margins are
-/// separators; vertical lines are too, or they are other plain characters, as `#`, with left padding in each cell; a
-/// vertical line or padding stands between each two cells of a row; horizontal lines and the lines of margins are plain.
-/// Then each line takes the table's columns, whatever its texts are.
+/// Whether the settings of a table with `rows` and `columns` separate its cells: no text can join
+/// with what is beside it. Then all lines are equally wide, whatever the cells contain.
+///
+/// All of these must hold, also for characters that aren't drawn:
+/// - Padding and side margins are separators (`is_separator_column`).
+/// - Vertical lines are separators too, or other additive characters, such as `#`, with left
+///   padding in each cell.
+/// - Between each two cells of a row there is a vertical line or padding.
+/// - Horizontal lines and the lines of margins are additive characters of one column
+///   (`is_additive_column`).
 pub fn is_apart_config(config: &SpannedConfig, rows: usize, columns: usize) -> bool
     ensures { IsTrue result ↔ IsApartConfig config.now rows columns }
 {

@@ -1,4 +1,4 @@
-//! Whether the sizes of a table are there and hold its cells, in the order of the refusals.
+//! Checks whether the sizes of a table are complete and hold its cells, in the order of the errors.
 ghost use Rattle.std.specs.Prelude.{◌≡◌, ◌↔◌, ℕ, ◌<◌, ◌≤◌, ◌^◌, IsTrue, length, IfNone, IfOk, IfErr, IfSome, OnOk};
 ghost use Rattle.std.specs.List.{slice_index};
 ghost use Rattle.tabled_base.specs.Cells.{columns};
@@ -42,7 +42,7 @@ fn is_held<R: PeekableRecords, D: Dimension>(
         && used <= width - padding.left.size - padding.right.size
 }
 
-/// Whether a text finds room in its column, in which padding leaves it so much.
+/// Whether a text fits the content width of its placement.
 fn fits_placement<R: PeekableRecords, D: Dimension>(
     grid: &Grid<'_, R, D>,
     row: usize,
@@ -58,7 +58,7 @@ fn fits_placement<R: PeekableRecords, D: Dimension>(
     grid.records.get_width(Position { row, column }) <= placement.content_width
 }
 
-/// The first column of a row that doesn't hold its cell, where it is known where the texts stand.
+/// Returns the first column of a row that is too narrow for its cell, by cached placements.
 fn narrow_by_placements<R: PeekableRecords, D: Dimension>(
     grid: &Grid<'_, R, D>,
     row: usize,
@@ -79,7 +79,7 @@ fn narrow_by_placements<R: PeekableRecords, D: Dimension>(
     None
 }
 
-/// The first column of a row that doesn't hold its cell, by the padding that is told of each.
+/// Returns the first column of a row that is too narrow for its cell, by known paddings.
 fn narrow_by_known<R: PeekableRecords, D: Dimension>(
     grid: &Grid<'_, R, D>,
     row: usize,
@@ -101,7 +101,7 @@ fn narrow_by_known<R: PeekableRecords, D: Dimension>(
     None
 }
 
-/// The first column of a row that doesn't hold its cell, by the padding that was set for each.
+/// Returns the first column of a row that is too narrow for its cell, with each padding looked up.
 #[inline(never)]
 fn narrow_by_lookup<R: PeekableRecords, D: Dimension>(
     grid: &Grid<'_, R, D>,
@@ -122,7 +122,7 @@ fn narrow_by_lookup<R: PeekableRecords, D: Dimension>(
     None
 }
 
-/// The first column of a row that doesn't hold its cell.
+/// Returns the first column of a row that is too narrow for its cell.
 fn narrow_in<R: PeekableRecords, D: Dimension>(grid: &Grid<'_, R, D>, row: usize) -> Option<usize>
     requires sized { columns grid.now.cells ≤ length grid.now.widths }
     requires row_in { row < length grid.now.cells }
@@ -139,8 +139,8 @@ fn narrow_in<R: PeekableRecords, D: Dimension>(grid: &Grid<'_, R, D>, row: usize
     }
 }
 
-/// Whether the widths, which have to be there, hold all cells. Refused with `Narrow` at the first one
-/// that they don't hold.
+/// Checks that the widths, of which there is one for each column, hold all cells. `Narrow`: the
+/// first cell that doesn't fit, row by row.
 pub(crate) fn check_narrow<R: PeekableRecords, D: Dimension>(
     grid: &Grid<'_, R, D>,
 ) -> Result<(), TableError>
@@ -156,7 +156,7 @@ pub(crate) fn check_narrow<R: PeekableRecords, D: Dimension>(
     Ok(())
 }
 
-/// Whether widths and heights are there.
+/// Checks that there are enough sizes. `ShortWidths`, `ShortHeights`: there are too few.
 pub(crate) fn check_sizes<R: PeekableRecords, D: Dimension>(
     grid: &Grid<'_, R, D>,
 ) -> Result<(), TableError>
@@ -167,7 +167,7 @@ pub(crate) fn check_sizes<R: PeekableRecords, D: Dimension>(
     check_heights(grid.dimension, grid.records.count_rows())
 }
 
-/// The total width, if both totals are in range.
+/// Returns the total width. `Range`: the total width or height passes `usize::MAX`.
 pub(crate) fn check_totals<R: PeekableRecords, D: Dimension>(
     grid: &Grid<'_, R, D>,
 ) -> Result<usize, TableError>
@@ -187,7 +187,7 @@ pub(crate) fn check_totals<R: PeekableRecords, D: Dimension>(
     Ok(width)
 }
 
-/// Whether the widths go as far as the table, where they are stored.
+/// Checks that there are enough widths, if they are stored. `ShortWidths`: there are too few.
 fn check_stored_widths<R: PeekableRecords>(
     records: &R,
     config: &SpannedConfig,
@@ -206,7 +206,7 @@ fn check_stored_widths<R: PeekableRecords>(
     }
 }
 
-/// Whether the heights go as far as the table, where they are stored.
+/// Checks that there are enough heights, if they are stored. `ShortHeights`: there are too few.
 fn check_stored_heights<R: PeekableRecords>(
     records: &R,
     config: &SpannedConfig,
@@ -225,7 +225,8 @@ fn check_stored_heights<R: PeekableRecords>(
     }
 }
 
-/// Whether the widths hold all cells, where they are stored. Estimated ones do.
+/// Checks that the widths hold all cells, if they are stored; estimated widths always do. `Narrow`:
+/// the first cell that doesn't fit.
 fn check_stored_cells<R: PeekableRecords>(
     records: &R,
     config: &SpannedConfig,
@@ -242,8 +243,8 @@ fn check_stored_cells<R: PeekableRecords>(
     }
 }
 
-/// Whether the sizes that stand hold the table, which has a row and a column. The stored ones are tested
-/// before others are estimated.
+/// Checks the stored sizes, before others are estimated. `ShortWidths`, `ShortHeights`: a stored
+/// list is too short. `Narrow`: the first cell that doesn't fit a stored width.
 pub(crate) fn check_stored<R: PeekableRecords>(
     records: &R,
     config: &SpannedConfig,

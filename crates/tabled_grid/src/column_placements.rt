@@ -1,4 +1,5 @@
-//! Where the texts of each column stand in rows of one line, told once for the rows that are set alike.
+//! The placements of all columns in rows of one line, computed once for rows with the same
+//! settings.
 ghost use Rattle.std.specs.Prelude.{◌≡◌, ◌≤◌, IfSome, length, true};
 ghost use Rattle.std.specs.List.{slice_index};
 ghost use Rattle.tabled_config.specs.Settings.{style_at};
@@ -12,7 +13,7 @@ use tabled_config::{AlignmentHorizontal, SpannedConfig};
 use tabled_line::{CellPlacement, Placement, bar_length, next_offset};
 use tabled_size::{Dimension, check_widths};
 
-/// An placement that is none yet.
+/// A placeholder that arrays are filled with.
 const NO_PLACEMENT: CellPlacement = CellPlacement {
     place: 0,
     placement: Placement {
@@ -22,8 +23,8 @@ const NO_PLACEMENT: CellPlacement = CellPlacement {
     },
 };
 
-/// Tells where the texts of a row stand if it is of one line. Answers whether each stands between spaces, its padding fits, and numbers can say
-/// where the cells begin.
+/// Computes the placements of a row. Returns `false` if a text has no placement or an offset
+/// overflows.
 fn list_placements<D: Dimension>(
     placements: &mut [CellPlacement],
     config: &SpannedConfig,
@@ -53,7 +54,7 @@ fn list_placements<D: Dimension>(
     true
 }
 
-/// Where the texts of all columns stand: of a few in a content width of fixed size, and else in memory.
+/// The placements of all columns: inline if there are few, otherwise allocated.
 #[derive(Drop)]
 pub(crate) enum ColumnPlacements {
     Few(InlinePlacements),
@@ -61,7 +62,7 @@ pub(crate) enum ColumnPlacements {
 }
 
 impl ColumnPlacements {
-    /// Where the texts of a few columns stand in a row.
+    /// Returns the placements of a row with few columns.
     fn few<D: Dimension>(
         config: &SpannedConfig,
         dimension: &D,
@@ -83,7 +84,7 @@ impl ColumnPlacements {
         }))
     }
 
-    /// Where the texts of any number of columns stand in a row.
+    /// Returns the placements of a row with any number of columns, in allocated memory.
     fn each<D: Dimension>(
         alloc: Global,
         config: &SpannedConfig,
@@ -104,8 +105,9 @@ impl ColumnPlacements {
         Some(ColumnPlacements::Each(placements))
     }
 
-    /// Where the texts of so many columns stand in a row, if it is of one line, and each stands between spaces. Not known where a width
-    /// isn't there, or memory for more than a few columns can't be taken.
+    /// Returns the placements of a row of `columns` cells, for rows of one line. `None` if a width
+    /// is missing, a text has no placement, an offset overflows, or there are more than
+    /// `FEW_COLUMNS` columns and memory for them can't be allocated.
     pub fn new<D: Dimension>(
         memory: Option<Global>,
         config: &SpannedConfig,
@@ -125,7 +127,7 @@ impl ColumnPlacements {
         ColumnPlacements::each(memory?, config, dimension, row, columns)
     }
 
-    /// Where they stand, from left to right.
+    /// Returns the placements, from left to right.
     pub fn listed(&self) -> &[CellPlacement]
         ensures { result.now ≡ placements_of self.now }
     {

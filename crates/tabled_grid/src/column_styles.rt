@@ -1,4 +1,4 @@
-//! How the texts of each column stand, looked up once for the rows that are set alike.
+//! The styles of all columns, looked up once for rows with the same settings.
 ghost use Rattle.std.specs.Prelude.{◌≡◌, ℕ, IfErr, IfOk, IfSome, map, true};
 ghost use Rattle.std.specs.List.{range_with_len, slice_index};
 ghost use Rattle.tabled_base.specs.declared.error.TableError.TheVariants.{Memory};
@@ -14,13 +14,14 @@ use tabled_config::{CellStyle, SpannedConfig};
 use tabled_line::CellPlacement;
 use tabled_size::Dimension;
 
-/// For more columns nothing is kept.
+/// Nothing is cached for a table with more columns.
 const MOST_COLUMNS: usize = 65_536;
 
-/// For fewer rows nothing is kept either, since they would gain too little by it.
+/// Nothing is cached for a table with fewer rows, which would gain too little.
 const FEWEST_ROWS: usize = 4;
 
-/// How the texts of so many columns stand in a row. Refused for memory alone.
+/// Returns the styles of a row of `columns` cells. The only error is `Memory`: an allocation
+/// failed.
 fn styles_in(
     alloc: Global,
     config: &SpannedConfig,
@@ -37,7 +38,7 @@ fn styles_in(
     Ok(styles)
 }
 
-/// How the texts of so many columns stand in a row, if memory may be taken for it.
+/// Returns the styles of a row of `columns` cells, if they can be allocated.
 fn listed_styles(
     memory: Option<Global>,
     config: &SpannedConfig,
@@ -52,21 +53,22 @@ fn listed_styles(
     }
 }
 
-/// How the texts of each column stand in one row, and so in each row that is set like it.
+/// The styles of one row's cells, which hold for every row with the same settings.
 #[derive(Drop)]
 pub(crate) struct ColumnStyles {
     row: usize,
-    // Whether all rows are known to be set like it.
+    // Whether all rows are known to have these settings.
     everywhere: bool,
-    // Kept in memory alone.
+    // Cached only with an allocator.
     styles: Option<Vec<CellStyle>>,
-    // Where they stand in a row of one line, if that is known for all.
+    // The placements for rows of one line, if each text is known to have one.
     placements: Option<ColumnPlacements>,
 }
 
 impl ColumnStyles {
-    /// How the texts stand in the row behind so many rows, if there are rows enough and few enough columns.
-    /// What memory is refused for changes what is kept, and not what is printed.
+    /// Caches the styles of the row at index `rows`, after the last one. `None` if there are too
+    /// few rows or too many columns. An allocation failure changes what is cached, not what is
+    /// printed.
     pub fn if_kept<D: Dimension>(
         memory: Option<Global>,
         config: &SpannedConfig,
@@ -87,7 +89,7 @@ impl ColumnStyles {
         })
     }
 
-    /// Whether a row is known to be set like the one that is kept.
+    /// Whether a row is known to have the same settings as the cached one.
     #[inline(always)]
     fn is_set_in(&self, config: &SpannedConfig, row: usize) -> bool
         ensures { (width : ℕ → ℕ) (columns : ℕ) → AreStyles config.now width columns self.now → result ≡ true
@@ -96,7 +98,8 @@ impl ColumnStyles {
         self.everywhere || config.are_alike(row, self.row)
     }
 
-    /// How the texts stand in a row, if that is kept, and the row is known to be set like the one that is kept.
+    /// Returns the styles of a row's cells, if they are cached and the row is known to have the
+    /// same settings.
     pub fn in_row(&self, config: &SpannedConfig, row: usize) -> Option<&[CellStyle]>
         ensures { (width : ℕ → ℕ) (columns : ℕ) → AreStyles config.now width columns self.now
             → IfSome result (λ styles. styles.now ≡ map (style_at config.now row) (range_with_len 0 columns)) }
@@ -107,7 +110,8 @@ impl ColumnStyles {
         }
     }
 
-    /// Where the texts stand in a row of one line, if that is kept, and the row is known to be set like the one that is kept.
+    /// Returns the placements of a row of one line, if they are cached and the row is known to have
+    /// the same settings.
     pub fn placements_in_row(&self, config: &SpannedConfig, row: usize) -> Option<&[CellPlacement]>
         ensures { (width : ℕ → ℕ) (columns : ℕ) → AreStyles config.now width columns self.now
             → IfSome result (λ placements. ArePlacements (style_at config.now row) (columns_in config.now width columns) placements.now) }

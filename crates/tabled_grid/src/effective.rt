@@ -1,4 +1,4 @@
-//! Records with the sizes that stand: those that are stored, and else those that the texts ask for.
+//! Prints records with their effective sizes: the stored ones, or else estimates.
 ghost use Rattle.std.specs.Prelude.{◌≡◌, ◌⊎◌, IfErr, false, not, true};
 ghost use Rattle.tabled_base.specs.declared.error.TableError.TheVariants.{Memory, Range, Writer};
 ghost use Rattle.tabled_size.specs.Sheet.{estimated, is_empty};
@@ -17,11 +17,16 @@ use tabled_config::SpannedConfig;
 use tabled_line::{Cursor, MANY_CURSORS, TextSink};
 use tabled_size::{CompleteDimension, Dimension, Estimate, is_empty};
 
-/// Prints records under a configuration, with the sizes that are stored, and with those that the texts
-/// ask for where none are stored. Refused, before the first byte and in this order: `ShortWidths` and
-/// `ShortHeights` where a list is stored that is shorter than the table, `Narrow` at the first cell that its
-/// column doesn't hold, `Range` where a total passes the greatest `usize`; later only for what the sink
-/// refuses. Memory is taken where a list isn't stored, and may be refused then.
+/// Prints records with their effective sizes: the stored ones, or else those that the cells need. A
+/// table with no row or no column prints nothing.
+///
+/// These errors come before anything is written, in this order:
+/// - `ShortWidths`, `ShortHeights`: a stored list is shorter than the table.
+/// - `Narrow`: the first cell, row by row, that doesn't fit its column.
+/// - `Range`: the total width or height passes `usize::MAX`.
+///
+/// If sizes are missing, `Memory` can come before anything is written: an allocation for them
+/// failed. Later errors are those of the sink.
 pub fn print_standing<R: PeekableRecords, S: TextSink>(
     sink: &mut S,
     records: &R,
@@ -41,7 +46,7 @@ pub fn print_standing<R: PeekableRecords, S: TextSink>(
     print_copied(sink, records, config, stored)
 }
 
-/// Prints a table with a row and a column, with a copy of the stored sizes that estimates fill in.
+/// Prints a table with a row and a column. A copy of the stored sizes is completed with estimates.
 fn print_copied<R: PeekableRecords, S: TextSink>(
     sink: &mut S,
     records: &R,
@@ -58,7 +63,8 @@ fn print_copied<R: PeekableRecords, S: TextSink>(
     print_filled_in(sink, records, config, copy)
 }
 
-/// Prints a table whose sizes hold its cells, with a cursor for each column.
+/// Prints a table whose sizes hold its cells, with a cursor for each column. Only cursors for more
+/// than `MANY_CURSORS` columns are allocated.
 fn print_in_memory<'a, R: PeekableRecords, D: Dimension, S: TextSink>(
     alloc: Global,
     sink: &mut S,
@@ -76,7 +82,7 @@ fn print_in_memory<'a, R: PeekableRecords, D: Dimension, S: TextSink>(
     print_with_cursors(sink, grid, &mut cursors)
 }
 
-/// Prints a table with a row and a column, the sizes that aren't stored estimated.
+/// Prints a table with a row and a column. Missing sizes are estimated.
 fn print_filled_in<R: PeekableRecords, S: TextSink>(
     sink: &mut S,
     records: &R,
@@ -95,9 +101,11 @@ fn print_filled_in<R: PeekableRecords, S: TextSink>(
     print_in_memory(alloc, sink, &grid)
 }
 
-/// Prints records under a configuration, with the sizes that their texts ask for. Refused for memory and
-/// for what the sink refuses, and with `Range`, before the first byte, where a total passes the greatest
-/// `usize`.
+/// Prints records with the sizes that their cells need. A table with no row or no column prints
+/// nothing.
+///
+/// `Memory`: an allocation failed. `Range`: the total width or height passes `usize::MAX`; nothing
+/// is written. `Writer`: a write failed.
 pub fn print_estimated<R: PeekableRecords, S: TextSink>(
     alloc: Global,
     sink: &mut S,

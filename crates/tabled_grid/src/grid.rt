@@ -1,4 +1,4 @@
-//! A table with the dimension that answers its sizes.
+//! A table to print: records, settings and sizes.
 ghost use Rattle.std.specs.Prelude.{◌≡◌, ◌<◌, ℕ, IfSome, length};
 ghost use Rattle.std.specs.List.{slice_index};
 ghost use Rattle.tabled_base.specs.Cells.{IsInside, cell_at, columns};
@@ -22,23 +22,24 @@ use tabled_config::{CellStyle, Frame, HorizontalLine, KnownSides, RowStyles, Spa
 use tabled_line::{CellBlock, CellPlacement, ColumnSeparator, Content, UniformPlacement};
 use tabled_size::Dimension;
 
-/// Records, how they are set, and their sizes. Contracts see the sheet that they make.
+/// Records, settings and sizes, with what is looked up once for all rows. Contracts see them as a
+/// `Sheet`.
 #[derive(Drop)]
 pub(crate) struct Grid<'a, R: PeekableRecords, D: Dimension> {
     /// The cells.
     pub records: &'a R,
     /// The borders, margins and styles.
     pub config: &'a SpannedConfig,
-    /// The columns that each column takes and the lines that each row takes, padding included.
+    /// The width of each column and the height of each row, padding included.
     pub dimension: &'a D,
-    /// What memory may be taken from while the table is printed, if it may.
+    /// The allocator for caches, if there is one.
     pub memory: Option<Global>,
     around: Frame,
-    // The line of the borders between two rows.
+    // The horizontal line between two rows, by the borders.
     between: Option<HorizontalLine>,
-    // What stands between the texts of two columns.
+    // The separator between the texts of two columns.
     separator: ColumnSeparator,
-    // How all texts stand between spaces, if they stand alike.
+    // The placement of all texts, if they share one.
     uniform: Option<UniformPlacement>,
     by_column: Option<ColumnStyles>,
 }
@@ -56,7 +57,7 @@ impl<'a, R: PeekableRecords, D: Dimension> Model for Grid<'a, R, D> {
         × (g.between ≡ if_any (inner_line g.config.now.borders)) };
 }
 
-/// How all texts stand between spaces, if nothing was set for a part of the table.
+/// Returns the placement that all texts share, if nothing was set for a part of the table.
 fn uniform_of_table(config: &SpannedConfig) -> Option<UniformPlacement>
     ensures { IfSome result (λ uniform. (row column : ℕ) → IsUniform (style_at config.now row column) uniform) }
 {
@@ -65,7 +66,7 @@ fn uniform_of_table(config: &SpannedConfig) -> Option<UniformPlacement>
 }
 
 impl<'a, R: PeekableRecords, D: Dimension> Grid<'a, R, D> {
-    /// Records under settings, with the sizes that a dimension answers. Their frame is taken once.
+    /// Borrows records, settings and sizes, and looks up what all rows share.
     pub fn new(
         records: &'a R,
         config: &'a SpannedConfig,
@@ -78,7 +79,7 @@ impl<'a, R: PeekableRecords, D: Dimension> Grid<'a, R, D> {
         let between = config.borders.line_at(2, 1);
         let uniform = uniform_of_table(config);
         let rows = records.count_rows();
-        // Where settings were made for rows alone, each row is asked for its own.
+        // Without settings for columns or cells, each row has one style that is looked up directly.
         let by_column = match config.row_style(rows) {
             Some(_) => None,
             None => ColumnStyles::if_kept(memory, config, dimension, rows, records.count_columns()),
@@ -96,21 +97,22 @@ impl<'a, R: PeekableRecords, D: Dimension> Grid<'a, R, D> {
         }
     }
 
-    /// What stands around and between the cells of any line.
+    /// Returns the vertical lines and the margin.
     pub fn frame(&self) -> &Frame
         ensures { result.now ≡ frame self.now.config }
     {
         &self.around
     }
 
-    /// What stands between the texts of two columns in a row of one line.
+    /// Returns the separator between two texts, for rows of one line.
     pub fn separator(&self) -> &ColumnSeparator
         ensures { result.now.bar ≡ (frame self.now.config).inner }
     {
         &self.separator
     }
 
-    /// How all texts of a row stand between spaces, if nothing of that was set for columns or cells.
+    /// Returns the placement that all texts of a row share, if no padding or horizontal alignment
+    /// was set for columns or cells.
     #[inline(always)]
     fn uniform_of_row(&self, row: usize) -> Option<UniformPlacement>
         ensures { IfSome result (λ uniform. (column : ℕ) → IsUniform (style_at self.now.config row column) uniform) }
@@ -119,7 +121,7 @@ impl<'a, R: PeekableRecords, D: Dimension> Grid<'a, R, D> {
         UniformPlacement::of(padding, horizontal)
     }
 
-    /// How all texts of a row stand between spaces, if it is known that they stand alike, and so.
+    /// Returns the placement that all texts of a row share, if one is known.
     #[inline(always)]
     pub fn uniform(&self, row: usize) -> Option<UniformPlacement>
         ensures { IfSome result (λ uniform. (column : ℕ) → IsUniform (style_at self.now.config row column) uniform) }
@@ -130,7 +132,8 @@ impl<'a, R: PeekableRecords, D: Dimension> Grid<'a, R, D> {
         }
     }
 
-    /// The padding and the alignment of each text of a row, if they are told by its place.
+    /// Returns the padding and horizontal alignment of each text of a row, if they can be looked up
+    /// by column.
     #[inline(always)]
     pub fn sides(&self, row: usize) -> Option<KnownSides<'_>>
         ensures { IfSome result (λ sides. DescribesSides sides (columns self.now.cells) (style_at self.now.config row)) }
@@ -138,7 +141,7 @@ impl<'a, R: PeekableRecords, D: Dimension> Grid<'a, R, D> {
         self.config.told_sides(row, self.count_columns())
     }
 
-    /// How the texts of a row stand, from left to right.
+    /// Returns the styles of a row's cells, to be read from left to right.
     pub fn styles(&self, row: usize) -> RowStyles<'_>
         ensures { (column : ℕ) → column < columns self.now.cells
             → style_in result column ≡ style_at self.now.config row column }
@@ -151,28 +154,28 @@ impl<'a, R: PeekableRecords, D: Dimension> Grid<'a, R, D> {
         self.config.styles_in(row)
     }
 
-    /// Where the cells of a row begin and their texts stand if it is of one line, if that is known for all of them.
+    /// Returns the placement and offset of each cell of a row of one line, if they are cached.
     pub fn placements(&self, row: usize) -> Option<&[CellPlacement]>
         ensures { IfSome result (λ placements. ArePlacements (style_at self.now.config row) (columns_of self.now) placements.now) }
     {
         self.by_column.as_ref()?.placements_in_row(self.config, row)
     }
 
-    /// How many rows there are.
+    /// Returns the number of rows.
     pub fn count_rows(&self) -> usize
         ensures { result ≡ length self.now.cells }
     {
         self.records.count_rows()
     }
 
-    /// How many cells each row has.
+    /// Returns the number of columns.
     pub fn count_columns(&self) -> usize
         ensures { result ≡ columns self.now.cells }
     {
         self.records.count_columns()
     }
 
-    /// The text of a cell, with its measures.
+    /// Returns the text of a cell with its measures.
     #[inline(always)]
     pub fn content(&self, at: Position) -> Content<'a>
         requires { IsInside self.now.cells at.row at.column }
@@ -186,7 +189,7 @@ impl<'a, R: PeekableRecords, D: Dimension> Grid<'a, R, D> {
         }
     }
 
-    /// A cell as it is laid out in its style. Its width and its height have to be there.
+    /// Returns a cell to print, in its style. Its width and its height must be there.
     pub fn block(&self, at: Position, style: CellStyle) -> CellBlock<'a>
         requires sized { IsSized self.now }
         requires inside { IsInside self.now.cells at.row at.column }
@@ -204,7 +207,7 @@ impl<'a, R: PeekableRecords, D: Dimension> Grid<'a, R, D> {
         }
     }
 
-    /// The horizontal line above the first row, or below the last one, if it is there.
+    /// Returns the horizontal line above the first row or below the last one, if there is one.
     #[inline(never)]
     fn outer_rule(&self, index: usize) -> Option<HorizontalLine>
         ensures { result ≡ rule_at self.now.config (length self.now.cells) index }
@@ -212,7 +215,7 @@ impl<'a, R: PeekableRecords, D: Dimension> Grid<'a, R, D> {
         self.config.rule_at(self.records.count_rows(), index)
     }
 
-    /// The horizontal line above a row, or below the last one, if it is there.
+    /// Returns the horizontal line above a row or below the last one, if there is one.
     #[inline(always)]
     #[tactic(auto, unfolding(tabled_config::specs::Settings::rule_at))]
     pub fn rule_at(&self, index: usize) -> Option<HorizontalLine>
@@ -227,7 +230,7 @@ impl<'a, R: PeekableRecords, D: Dimension> Grid<'a, R, D> {
         }
     }
 
-    /// The width of a column, which has to be there.
+    /// Returns the width of a column, which must be there.
     pub fn width(&self, column: usize) -> usize
         requires { column < length self.now.widths }
         ensures { result ≡ slice_index self.now.widths column }
@@ -235,7 +238,7 @@ impl<'a, R: PeekableRecords, D: Dimension> Grid<'a, R, D> {
         self.dimension.get_width(column)
     }
 
-    /// The height of a row, which has to be there.
+    /// Returns the height of a row, which must be there.
     pub fn height(&self, row: usize) -> usize
         requires { row < length self.now.heights }
         ensures { result ≡ slice_index self.now.heights row }

@@ -1,23 +1,23 @@
-//! Where the texts of a few columns stand, in a room of fixed size.
+//! The placements of a few columns, in an array.
 ghost use Rattle.std.specs.Prelude.{◌≡◌, ◌≤◌, take};
 
 use tabled_line::CellPlacement;
 
-/// So many columns are a few.
+/// The capacity of an `InlinePlacements`, in columns.
 pub(crate) const FEW_COLUMNS: usize = 128;
 
-/// The placements of a few columns.
+/// The placements of at most `FEW_COLUMNS` columns.
 #[derive(Drop)]
 pub(crate) struct InlinePlacements {
-    /// Those of the columns, and what the rest of the room holds.
+    /// The placements; those from `count` on are unused.
     pub placements: [CellPlacement; FEW_COLUMNS],
-    /// How many columns there are.
+    /// The number of columns.
     pub count: usize,
     ghost within: { count ≤ 128 },
 }
 
 impl InlinePlacements {
-    /// Where the texts stand, from left to right.
+    /// Returns the placements, from left to right.
     pub fn listed(&self) -> &[CellPlacement]
         ensures { result.now ≡ take self.now.count self.now.placements }
     {

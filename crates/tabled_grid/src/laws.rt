@@ -1,4 +1,4 @@
-//! Laws of pictures, each the contract of a function.
+//! Facts about pictures, each the contract of a function.
 ghost use Rattle.std.specs.Prelude.{◌≡◌, ℕ, List, length};
 ghost use Rattle.tabled_base.specs.Cells.{IsRectangular, columns};
 ghost use Rattle.tabled_size.specs.Sheet.{Sheet};
@@ -11,10 +11,13 @@ ghost use Rattle.tabled_size.specs.TextCells.{AreTexts};
 ghost use Rattle.tabled_grid.specs.ApartSheet.{IsApartConfig};
 ghost use Rattle.tabled_grid.specs.PlainSheet.{IsPlainConfig};
 
-/// The picture of a table has as many lines as the table's total height. Where the widths hold the cells, each line takes
-/// exactly the table's total width in columns: for cells of any text where separators stand beside them and between each
-/// two. For additive texts, as plain ones are, it does so also where cells touch, if borders, fills and margins are additive
-/// characters of one column.
+/// A picture has as many lines as the total height of its table.
+///
+/// All lines are exactly as wide as the total width if the records are rectangular, the widths hold
+/// the cells, and one of these holds:
+/// - The settings separate the cells (`is_apart_config`). The cells may contain any text.
+/// - Borders, fills and margins are additive characters of one column (`is_plain_config`), and the
+///   cells contain additive text, such as plain text.
 #[tactic(auto, using(crate::proofs::ApartPictures::apart_columns, crate::proofs::Whole::picture_columns, crate::proofs::Whole::picture_lines))]
 pub fn pictures()
     ensures texts { (t : Sheet) → IsApartConfig t.config (length t.cells) (columns t.cells)

@@ -1,18 +1,19 @@
-//! The picture of a table whose sizes are checked first, written piece by piece to a sink.
+//! Prints a table to a sink, piece by piece, after checking its sizes.
 //!
-//! Printing allocates nothing where the sizes are given.
+//! Printing allocates nothing if the sizes are given.
 //!
-//! - `grid.rt`: `Grid`, records with their settings and a dimension.
-//! - `checks.rt`: whether the sizes are there and hold the cells, in the order of the errors.
-//! - `print.rt`: `print_grid`, which checks a grid and prints it.
-//! - `effective.rt`: printing records with stored sizes or estimates.
-//! - `picture.rt`: all lines, one below the other.
-//! - `parts.rt`: the columns and rows of a grid, as lines ask for them.
-//! - `column_styles.rt`, `column_placements.rt`, `inline_placements.rt`: what is looked up once for the rows whose
-//!   settings are the same.
-//! - `plain.rt`, `apart.rt`: whether columns of the texts add up, so that all lines are equally
-//!   wide.
-//! - `laws.rt`: facts of pictures.
+//! - `grid.rt`: `Grid`, which is records with their settings and sizes.
+//! - `checks.rt`: checks whether the sizes are complete and hold the cells, in the order of the
+//!   errors.
+//! - `print.rt`: `print_grid`, which checks a table and prints it.
+//! - `effective.rt`: prints records with stored sizes or estimates.
+//! - `picture.rt`: writes all lines of a table.
+//! - `parts.rt`: the columns and rows of a grid, as `tabled_line` reads them.
+//! - `column_styles.rt`, `column_placements.rt`, `inline_placements.rt`: what is looked up once for
+//!   rows with the same settings.
+//! - `plain.rt`, `apart.rt`: whether the settings make all lines equally wide, for plain cells and
+//!   for any cells.
+//! - `laws.rt`: facts about pictures.
 #![tactic(auto)]
 
 mod apart;

@@ -1,4 +1,4 @@
-//! The columns and the rows of a table, as they are printed.
+//! The columns and rows of a grid, as `tabled_line` reads them.
 ghost use Rattle.std.specs.Prelude.{◌<◌, length};
 ghost use Rattle.tabled_grid.specs.Picture.{columns_of, row_of};
 ghost use Rattle.tabled_size.specs.Holds.{IsSized};
@@ -11,10 +11,10 @@ use tabled_line::{
 };
 use tabled_size::Dimension;
 
-/// The columns of a table whose sizes are there.
+/// The columns of a grid whose sizes are complete.
 #[derive(Drop)]
 pub(crate) struct GridColumns<'a, R: PeekableRecords, D: Dimension> {
-    /// The table.
+    /// The grid.
     pub grid: &'a Grid<'a, R, D>,
     ghost sized: { IsSized grid.now },
 }
@@ -35,12 +35,12 @@ impl<'a, R: PeekableRecords, D: Dimension> TableColumns for GridColumns<'a, R, D
     }
 }
 
-/// A row of a table whose sizes are there.
+/// A row of a grid whose sizes are complete.
 #[derive(Drop)]
 pub(crate) struct GridRow<'a, R: PeekableRecords, D: Dimension> {
-    /// The table.
+    /// The grid.
     pub grid: &'a Grid<'a, R, D>,
-    /// The number of the row.
+    /// The index of the row.
     pub row: usize,
     ghost sized: { IsSized grid.now },
     ghost inside: { row < length grid.now.cells },

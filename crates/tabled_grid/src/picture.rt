@@ -1,4 +1,4 @@
-//! All lines of a table, one after another.
+//! Writes all lines of a table.
 ghost use Rattle.std.specs.Prelude.{◌≡◌, ◌<◌, length};
 ghost use Rattle.std.specs.List.{flat_map, join_with_byte, range_with_len};
 ghost use Rattle.tabled_size.specs.Holds.{IsSized};
@@ -14,7 +14,7 @@ use tabled_base::{PeekableRecords, TableError};
 use tabled_line::{Cursor, LinePrinter, TextSink};
 use tabled_size::Dimension;
 
-/// The lines of a table while they are printed.
+/// A table while its lines are printed.
 #[derive(Drop)]
 struct Picture<'a, R: PeekableRecords, D: Dimension> {
     lines: LinePrinter<GridColumns<'a, R, D>>,
@@ -22,7 +22,7 @@ struct Picture<'a, R: PeekableRecords, D: Dimension> {
 }
 
 impl<'a, R: PeekableRecords, D: Dimension> Picture<'a, R, D> {
-    /// The horizontal line at an index, if it is there.
+    /// Writes the horizontal line at an index, if there is one.
     #[inline(always)]
     #[tactic(auto, unfolding(crate::specs::Picture::rule))]
     fn write_rule<S: TextSink>(&mut self, sink: &mut S, index: usize) -> Result<(), TableError>
@@ -34,7 +34,7 @@ impl<'a, R: PeekableRecords, D: Dimension> Picture<'a, R, D> {
         self.lines.write_rule(sink, rule)
     }
 
-    /// A row, with the horizontal line above it.
+    /// Writes a row, after the horizontal line above it.
     fn write_row_part<S: TextSink>(
         &mut self,
         sink: &mut S,
@@ -86,7 +86,8 @@ impl<'a, R: PeekableRecords, D: Dimension> Picture<'a, R, D> {
     }
 }
 
-/// The lines of a table that takes so many columns, joined by line feeds. The cursors are those of its first columns, wherever they stand.
+/// Writes the lines of a table, joined by line feeds. Margins are `whole` columns wide. The cursors
+/// are for the first columns, in any state.
 pub(crate) fn write_picture<'a, R: PeekableRecords, D: Dimension, S: TextSink>(
     sink: &mut S,
     grid: &'a Grid<'a, R, D>,

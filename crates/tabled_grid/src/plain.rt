@@ -1,4 +1,5 @@
-//! Whether a table is made of plain and other additive characters, so that all its lines take the same columns.
+//! Whether the settings of a table are additive and its cells plain, so that all lines are equally
+//! wide.
 ghost use Rattle.std.specs.Prelude.{◌≡◌, ◌↔◌, ◌<◌, ◌≤◌, ℕ, IsTrue, Some, [], length, slice_index_or};
 ghost use Rattle.std.specs.List.{All};
 ghost use Rattle.tabled_text.specs.Plain.{IsAdditiveColumn, IsPlain};
@@ -36,7 +37,7 @@ fn is_plain_style(style: CellStyle) -> bool
         && is_additive_column(style.padding.bottom.fill)
 }
 
-/// Whether the line at an index is of additive characters, if there is one.
+/// Whether the horizontal line at an index is additive, if there is one.
 fn is_plain_rule_at(config: &SpannedConfig, rows: usize, index: usize) -> bool
     ensures { IsTrue result ↔ ((line : HorizontalLine) → rule_at config.now rows index ≡ Some line
         → IsPlainRule line) }
@@ -47,7 +48,7 @@ fn is_plain_rule_at(config: &SpannedConfig, rows: usize, index: usize) -> bool
     }
 }
 
-/// Whether the lines above the rows, and the one below the last, are of additive characters.
+/// Whether all horizontal lines are additive.
 pub(crate) fn are_plain_rules(config: &SpannedConfig, rows: usize) -> bool
     ensures { IsTrue result ↔ ((i : ℕ) → i ≤ rows → (line : HorizontalLine)
         → rule_at config.now rows i ≡ Some line → IsPlainRule line) }
@@ -60,7 +61,7 @@ pub(crate) fn are_plain_rules(config: &SpannedConfig, rows: usize) -> bool
     is_plain_rule_at(config, rows, rows)
 }
 
-/// Whether the cells of a row are padded by additive characters.
+/// Whether the padding of each cell of a row is additive.
 fn are_plain_styles_in(config: &SpannedConfig, row: usize, columns: usize) -> bool
     ensures { IsTrue result ↔ ((column : ℕ) → column < columns
         → IsPlainStyle (style_at config.now row column)) }
@@ -95,7 +96,7 @@ fn is_plain_margin(margin: Sides<Indent>) -> bool
         && is_additive_column(margin.bottom.fill)
 }
 
-/// Whether what stands around and between the cells is additive.
+/// Whether vertical lines and margins are additive.
 fn is_plain_frame(frame: Frame) -> bool
     ensures { IsTrue result ↔ IsPlainFrame frame }
 {
@@ -105,7 +106,7 @@ fn is_plain_frame(frame: Frame) -> bool
         && is_plain_margin(frame.margin)
 }
 
-/// Whether the horizontal lines and the paddings are of additive characters, as far as the table goes.
+/// Whether all horizontal lines and paddings are additive.
 fn are_plain_places(config: &SpannedConfig, rows: usize, columns: usize) -> bool
     ensures { IsTrue result ↔ (((i : ℕ) → i ≤ rows → (line : HorizontalLine)
         → rule_at config.now rows i ≡ Some line → IsPlainRule line)
@@ -115,16 +116,18 @@ fn are_plain_places(config: &SpannedConfig, rows: usize, columns: usize) -> bool
     are_plain_rules(config, rows) && are_plain_styles(config, rows, columns)
 }
 
-/// Whether the borders, fills and margins of a table with `rows` and `columns` are additive characters of
-/// one column: plain ones, or separators. Those that take no columns count too, and a missing character is
-/// a space. Horizontal lines and paddings count as far as the table goes.
+/// Whether the borders, fills and margins of a table with `rows` and `columns` are additive
+/// characters of one column: plain ones or separators.
+///
+/// Characters that aren't drawn count too, and a missing character is a space. Horizontal lines and
+/// paddings past the last row or column don't count.
 pub fn is_plain_config(config: &SpannedConfig, rows: usize, columns: usize) -> bool
     ensures { IsTrue result ↔ IsPlainConfig config.now rows columns }
 {
     is_plain_frame(config.frame()) && are_plain_places(config, rows, columns)
 }
 
-/// Whether the cells of a row are plain texts.
+/// Whether the cells of a row are plain.
 fn is_plain_row<R: PeekableRecords>(records: &R, row: usize) -> bool
     requires { row < length (R.cells records.now) }
     ensures { IsTrue result ↔ All IsPlain (slice_index_or (R.cells records.now) row []) }
@@ -137,7 +140,7 @@ fn is_plain_row<R: PeekableRecords>(records: &R, row: usize) -> bool
     true
 }
 
-/// Whether all cells are plain texts.
+/// Whether all cells are plain (`tabled_text::is_plain`).
 pub fn is_plain_records<R: PeekableRecords>(records: &R) -> bool
     ensures { IsTrue result ↔ ArePlain (R.cells records.now) }
 {

@@ -1,4 +1,4 @@
-//! A table is tested first, in the order of the refusals, and printed then.
+//! Checks the sizes of a table and then prints it.
 ghost use Rattle.std.specs.Prelude.{◌≡◌, false};
 ghost use Rattle.tabled_size.specs.Sheet.{is_empty};
 ghost use Rattle.tabled_grid.specs.Grid.{sheet_by};
@@ -14,8 +14,8 @@ use tabled_config::SpannedConfig;
 use tabled_line::{Cursor, FEW_CURSORS, MANY_CURSORS, TextSink};
 use tabled_size::{Dimension, is_empty};
 
-/// Prints a table whose sizes hold its cells, of whose first columns these are the cursors. Refused, before the first byte, where a
-/// total passes the greatest `usize`.
+/// Prints a table whose sizes hold its cells. The cursors are for the first columns. `Range`: a
+/// total passes `usize::MAX`; nothing is written.
 #[tactic(auto, unfolding(crate::specs::Picture::picture))]
 pub(crate) fn print_with_cursors<'a, R: PeekableRecords, D: Dimension, S: TextSink>(
     sink: &mut S,
@@ -31,7 +31,8 @@ pub(crate) fn print_with_cursors<'a, R: PeekableRecords, D: Dimension, S: TextSi
     write_picture(sink, grid, cursors, whole)
 }
 
-/// The same with cursors for many columns. They take 24 KiB of the stack, so that this is a call of its own.
+/// Prints with cursors for many columns. They take 24 KiB of stack, which other calls don't need,
+/// so this is a separate function.
 #[inline(never)]
 fn print_with_many_cursors<'a, R: PeekableRecords, D: Dimension, S: TextSink>(
     sink: &mut S,
@@ -45,8 +46,8 @@ fn print_with_many_cursors<'a, R: PeekableRecords, D: Dimension, S: TextSink>(
     print_with_cursors(sink, grid, &mut [Cursor::nowhere(); MANY_CURSORS])
 }
 
-/// Prints a table whose sizes hold its cells, in no memory. Refused, before the first byte, where a total passes the
-/// greatest `usize`.
+/// Prints a table whose sizes hold its cells, with cursors on the stack. `Range`: a total passes
+/// `usize::MAX`; nothing is written.
 pub(crate) fn print_checked<'a, R: PeekableRecords, D: Dimension, S: TextSink>(
     sink: &mut S,
     grid: &'a Grid<'a, R, D>,
@@ -62,10 +63,15 @@ pub(crate) fn print_checked<'a, R: PeekableRecords, D: Dimension, S: TextSink>(
     print_with_cursors(sink, grid, &mut [Cursor::nowhere(); FEW_CURSORS])
 }
 
-/// Prints a table piece by piece, in no memory of its own. A table with no row or no column prints
-/// nothing. Refused, before the first byte and in this order: `ShortWidths` and `ShortHeights` where
-/// the dimension lacks a size, `Narrow` at the first cell that its column doesn't hold, `Range` where a
-/// total passes the greatest `usize`; later only for what the sink refuses.
+/// Prints a table piece by piece, without allocation. A table with no row or no column prints
+/// nothing.
+///
+/// These errors come before anything is written, in this order:
+/// - `ShortWidths`, `ShortHeights`: the dimension has too few sizes.
+/// - `Narrow`: the first cell, row by row, that doesn't fit its column.
+/// - `Range`: the total width or height passes `usize::MAX`.
+///
+/// Later errors are those of the sink.
 #[tactic(auto, unfolding(crate::specs::Picture::picture))]
 pub fn print_grid<R: PeekableRecords, D: Dimension, S: TextSink>(
     sink: &mut S,

@@ -2,20 +2,20 @@
 use Rattle.std.proofs.Common.{◌≡◌, ℕ, ◌≤◌, Bool, List, [], ◌∷◌, ◌++◌, length, take, drop, Option, Some, None, Result, Ok, Err, refl, sym, ◌∙◌, ap, subst, append-nil, append_assoc, arith, inl, inr, ⊎_elim}
 use Rattle.std.proofs.lemmas.Grind.{common_steps}
 use Rattle.std.proofs.lemmas.List.{take-append-drop}
-use Rattle.std.specs.Io.KnownBytes.{Appends, IsCacheOf}
+use Rattle.std.specs.Io.KnownBytes.{Appends, Keeps}
 use Rattle.std.specs.Result.{IsErrAnd, OnOk}
 use Rattle.tabled_line.specs.Sent.{Sent, Sends, Stops, Took, Rose, IsCause, Writes}
 use Rattle.tabled_base.specs.declared.error.TableError.{TableError}
 use Rattle.tabled_base.specs.declared.error.TableError.TheVariants.{Memory, ShortWidths, ShortHeights, Narrow, Range, Writer}
 
-pub Appends-nil : (a b : Option (List ℕ)) → IsCacheOf a b → Appends a b []
+pub Appends-nil : (a b : Option (List ℕ)) → Keeps a b → Appends a b []
 Appends-nil None b h = tt
 Appends-nil (Some xs) None h = h
 Appends-nil (Some xs) (Some ys) h = h ∙ sym (append-nil xs)
 
-pub IsCacheOf-same : (a : Option (List ℕ)) → IsCacheOf a a
-IsCacheOf-same None = tt
-IsCacheOf-same (Some xs) = refl
+pub Keeps-same : (a : Option (List ℕ)) → Keeps a a
+Keeps-same None = tt
+Keeps-same (Some xs) = refl
 
 pub Appends-then : (a b c : Option (List ℕ)) (s t : List ℕ) → Appends a b s → Appends b c t → Appends a c (s ++ t)
 Appends-then None b c s t p q = tt
@@ -24,7 +24,7 @@ Appends-then (Some xs) (Some ys) None s t p q = q
 Appends-then (Some xs) (Some ys) (Some zs) s t p q = grind (arith, common_steps)
 
 pub sends-none : (a : Sent) → Sends a a []
-sends-none a = record { added = Appends-nil a.bytes a.bytes (IsCacheOf-same a.bytes); counted = omega arith; alike = refl }
+sends-none a = record { added = Appends-nil a.bytes a.bytes (Keeps-same a.bytes); counted = omega arith; alike = refl }
 
 pub sends-then : (a b c : Sent) (s t : List ℕ) → Sends a b s → Sends b c t → Sends a c (s ++ t)
 sends-then a b c s t p q =
@@ -80,7 +80,7 @@ pub took-all : (a b : Sent) (text rest : List ℕ) → Took a b text rest → le
 took-all a b text [] p h = sends-along a b p.front text p.sends (sym (append-nil p.front) ∙ p.whole)
 took-all a b text (x ∷ rest) p h = absurd (omega arith)
 
-pub took-part : (a b c : Sent) (text rest : List ℕ) → Took a b text rest → IsCacheOf b.bytes c.bytes → Rose b.failures c.failures → Stops a Writer c text
+pub took-part : (a b c : Sent) (text rest : List ℕ) → Took a b text rest → Keeps b.bytes c.bytes → Rose b.failures c.failures → Stops a Writer c text
 took-part a b c text rest p keeps rose = record {
   front = p.front ++ [];
   rest = rest;

@@ -1,12 +1,12 @@
 -- What a call that prints to the sink of a borrowed writer says of the writer.
 use Rattle.std.proofs.Common.{◌≡◌, ℕ, ◌<◌, ◌≤◌, true, false, List, [], ◌∷◌, ◌++◌, length, take, Option, Some, None, Result, Ok, Err, refl, sym, ◌∙◌, ap, subst, append-nil, append_assoc, arith, inl, inr, ⊎_elim}
 use Rattle.std.specs.Prelude.{MatchResult, is_some, slice_index_or}
-use Rattle.std.specs.Io.KnownBytes.{Appends, IsCacheOf, append_known}
+use Rattle.std.specs.Io.KnownBytes.{Appends, Keeps, append_known}
 use Rattle.tabled_base.specs.declared.error.TableError.{TableError}
 use Rattle.tabled_base.specs.declared.error.TableError.TheVariants.{Memory, ShortWidths, ShortHeights, Narrow, Range, Writer}
 use Rattle.tabled_line.specs.Sent.{Sent, Sends, Stops, Took}
 use Rattle.tabled_line.specs.WriterSent.{failed_byte, known_since, named_sent, writer_after, writer_before}
-use Rattle.tabled_line.proofs.Sending.{Appends-nil, IsCacheOf-same, took-all}
+use Rattle.tabled_line.proofs.Sending.{Appends-nil, Keeps-same, took-all}
 
 -- ---- while a text is handed over
 
@@ -18,7 +18,7 @@ named-appends name (Some xs) None text h = absurd h
 named-appends name (Some xs) (Some ys) text h =
     ap (λ u. name ∷ u) (append-nil ys ∙ h ∙ ap (λ u. u ++ text) (sym (append-nil xs)))
 
-failed-appends : (na nb : ℕ) (ca cb cc : Option (List ℕ)) (front : List ℕ) (first : ℕ) → IsCacheOf cb cc
+failed-appends : (na nb : ℕ) (ca cb cc : Option (List ℕ)) (front : List ℕ) (first : ℕ) → Keeps cb cc
     → Appends (named_sent na ca None).bytes (named_sent nb cb None).bytes front
     → Appends (named_sent na ca None).bytes (named_sent nb cc (Some first)).bytes (front ++ first ∷ [])
 failed-appends na nb None cb cc front first k h = tt
@@ -29,7 +29,7 @@ failed-appends na nb (Some xs) (Some ys) (Some zs) front first k h =
     ∙ append_assoc (na ∷ (xs ++ [])) front (first ∷ [])
 
 stops-failed : (na nb : ℕ) (ca cb cc : Option (List ℕ)) (text rest : List ℕ)
-    → Took (named_sent na ca None) (named_sent nb cb None) text rest → 0 < length rest → IsCacheOf cb cc
+    → Took (named_sent na ca None) (named_sent nb cb None) text rest → 0 < length rest → Keeps cb cc
     → Stops (named_sent na ca None) Writer (named_sent nb cc (Some (slice_index_or rest 0 0))) text
 stops-failed na nb ca cb cc text [] p some k = absurd (omega arith)
 stops-failed na nb ca cb cc text (first ∷ rest) p some k = record {
@@ -43,7 +43,7 @@ stops-failed na nb ca cb cc text (first ∷ rest) p some k = record {
 -- a write failed
 pub took-failed : (na nb : ℕ) (ca cb cc : Option (List ℕ)) (old new : Option ℕ) (text rest : List ℕ) → old ≡ None
     → new ≡ Some (slice_index_or rest 0 0) → Took (named_sent na ca None) (named_sent nb cb None) text rest → 0 < length rest
-    → IsCacheOf cb cc → Stops (named_sent na ca old) Writer (named_sent nb cc new) text
+    → Keeps cb cc → Stops (named_sent na ca old) Writer (named_sent nb cc new) text
 took-failed na nb ca cb cc old new text rest is failed p some k =
     let P : Option ℕ → Type 0 = λ o. Stops (named_sent na ca o) Writer (named_sent nb cc new) text in
     let Q : Option ℕ → Type 0 = λ n. Stops (named_sent na ca None) Writer (named_sent nb cc n) text in
@@ -59,7 +59,7 @@ took-whole na nb ca cb old new text rest is unfailed p none =
     subst P (sym is) (subst Q (sym unfailed) (took-all _ _ text rest p none))
 
 -- a write that took no bytes
-pub kept-none : (a b : Option (List ℕ)) (n : ℕ) (buffer : List ℕ) → n ≤ 0 → Appends a b (take n buffer) → IsCacheOf a b
+pub kept-none : (a b : Option (List ℕ)) (n : ℕ) (buffer : List ℕ) → n ≤ 0 → Appends a b (take n buffer) → Keeps a b
 kept-none None b n buffer h p = tt
 kept-none (Some xs) None n buffer h p = absurd p
 kept-none (Some xs) (Some ys) n buffer h p =
@@ -76,7 +76,7 @@ pub failed-again : (name : ℕ) (contents : Option (List ℕ)) (failed_at : Opti
 failed-again name contents None text h = let bad : ⊥ = cc in absurd bad
 failed-again name contents (Some byte) text h =
     let a = named_sent name contents (Some byte) in
-    record { front = []; rest = text; whole = refl; added = Appends-nil a.bytes a.bytes (IsCacheOf-same a.bytes); cause = inr refl }
+    record { front = []; rest = text; whole = refl; added = Appends-nil a.bytes a.bytes (Keeps-same a.bytes); cause = inr refl }
 
 -- ---- what is said of the writer
 

@@ -1,4 +1,4 @@
--- Rows whose borders and fills keep the texts of their cells apart, whatever these are.
+-- Rows whose settings separate their cells: no text can join with what is beside it.
 use Rattle.std.specs.Prelude.{◌≡◌, ℕ, ◌+◌, ◌-◌, ◌*◌, ◌<◌, ◌≤◌, ◌⊎◌, true}
 use Rattle.std.specs.Str.{IsUtf8}
 use Rattle.tabled_text.specs.Measure.{text_columns}
@@ -9,21 +9,21 @@ use Rattle.tabled_config.specs.declared.spanned.CellStyle.{CellStyle}
 use Rattle.tabled_priority.specs.Sums.{one_if, sum_below}
 use Rattle.tabled_line.specs.Row.{ColumnSheet, RowSheet}
 
--- the columns of a line over columns: their widths, the vertical lines that stand, and the side margins
+-- the width of a line: the columns, the vertical lines that are there, and the side margins
 unfoldable pub line_total : ColumnSheet → ℕ
 line_total columns =
     let f = columns.frame in
     (f.margin.left.size + one_if f.left.there)
     + ((sum_below columns.width columns.count + (columns.count - 1) * one_if f.inner.there) + (one_if f.right.there + f.margin.right.size))
 
--- a cell is padded by separators
+-- the padding of a cell consists of separators
 pub record IsApartStyle (style : CellStyle) : Type 0 where
   pub left : IsSeparatorColumn style.padding.left.fill
   pub right : IsSeparatorColumn style.padding.right.fill
   pub top : IsSeparatorColumn style.padding.top.fill
   pub bottom : IsSeparatorColumn style.padding.bottom.fill
 
--- the vertical lines are additive, and the side margins separators
+-- vertical lines are additive, and side margins are separators
 pub record IsApartFrame (frame : Frame) : Type 0 where
   pub inner : IsAdditiveColumn frame.inner.main
   pub left : IsAdditiveColumn frame.left.main
@@ -31,33 +31,35 @@ pub record IsApartFrame (frame : Frame) : Type 0 where
   pub margin_left : IsSeparatorColumn frame.margin.left.fill
   pub margin_right : IsSeparatorColumn frame.margin.right.fill
 
--- each of some cells has padding on its left
+-- each cell has left padding
 abbrev pub ArePaddedLeft : ℕ → (ℕ → CellStyle) → Type 0
 ArePaddedLeft count style = (c : ℕ) → c < count → 0 < (style c).padding.left.size
 
--- the vertical lines before cells are separators, or padding follows them: a selector at the beginning of a text would
--- join `#`, `*` or a digit before it
+-- the vertical lines before cells are separators, or padding follows them: a variation selector at
+-- the beginning of a text would join with `#`, `*` or a digit before it
 abbrev pub HasSteadyBars : Frame → ℕ → (ℕ → CellStyle) → Type 0
 HasSteadyBars frame count style = (IsSeparatorColumn frame.left.main × IsSeparatorColumn frame.inner.main) ⊎ ArePaddedLeft count style
 
--- between each two of some cells stands a vertical line, or the left or the right padding of each cell
+-- between each two cells there is a vertical line, left padding of each cell, or right padding of
+-- each cell
 abbrev pub HasGaps : Frame → ℕ → (ℕ → CellStyle) → Type 0
 HasGaps frame count style =
     (frame.inner.there ≡ true)
     ⊎ (ArePaddedLeft count style ⊎ ((c : ℕ) → c < count → 0 < (style c).padding.right.size))
 
--- some cells are kept apart by what stands beside them: no text joins that, and something stands between each two
+-- the cells of a row are separated: no text joins with what is beside it, and something is between
+-- each two
 pub record AreApartCells (frame : Frame) (count : ℕ) (style : ℕ → CellStyle) : Type 0 where
   pub styles : (c : ℕ) → c < count → IsApartStyle (style c)
   pub bars : HasSteadyBars frame count style
   pub gaps : HasGaps frame count style
 
--- a row of such cells between such edges
+-- a row of separated cells, with such a frame
 pub record IsApartRow (row : RowSheet) : Type 0 where
   pub frame : IsApartFrame row.columns.frame
   pub cells : AreApartCells row.columns.frame row.columns.count row.style
 
--- the cells are texts, and the columns hold them with their padding
+-- the cells are UTF-8, and the columns hold them with their padding
 pub record HoldsTexts (row : RowSheet) : Type 0 where
   pub texts : (c : ℕ) → c < row.columns.count → IsUtf8 (row.text c)
   pub fits : (c : ℕ) → c < row.columns.count

@@ -1,4 +1,4 @@
--- The block of a cell: its text in a width and a height.
+-- The block of a cell: its text, laid out in a width and a height.
 use Rattle.std.specs.Prelude.{ℕ, ◌+◌, ◌-◌, ◌/◌, if◌then◌else◌, List, [], ◌++◌, length, take, map, replicate}
 use Rattle.std.specs.List.{slice_index_or}
 use Rattle.tabled_text.specs.Measure.{line_columns, lines_of, text_columns}
@@ -13,28 +13,28 @@ use Rattle.tabled_line.specs.Fill.{fill, indent}
 abbrev pub first_line : List ℕ → List ℕ
 first_line text = slice_index_or (lines_of text) 0 []
 
--- the part of some free columns that stands before a text
+-- how many of the free columns come before a text
 abbrev pub before_text : AlignmentHorizontal → ℕ → ℕ
 before_text horizontal.Left free = 0
 before_text horizontal.Center free = free / 2
 before_text horizontal.Right free = free
 
--- the part of some free lines that stands above a text
+-- how many of the free lines come above a text
 abbrev pub above_text : AlignmentVertical → ℕ → ℕ
 above_text vertical.Top free = 0
 above_text vertical.Center free = free / 2
 above_text vertical.Bottom free = free
 
--- the columns that the padding leaves to the text
+-- the content width: the columns that side padding leaves for the text
 abbrev pub inner_width : CellStyle → ℕ → ℕ
 inner_width style width = width - style.padding.left.size - style.padding.right.size
 
--- the columns before a line: by those of the whole text, or by the line's own
+-- the columns before a line: by the width of the whole text, or by that of the line
 abbrev pub columns_before : CellStyle → ℕ → List ℕ → List ℕ → ℕ
 columns_before style room text line =
     before_text style.horizontal (room - (if style.line_alignment then line_columns line else text_columns text))
 
--- a line of the text of a cell: left padding, indent, the line, spaces, right padding
+-- a line of a cell's text: left padding, spaces, the line, spaces, right padding
 unfoldable pub cell_line : CellStyle → ℕ → List ℕ → List ℕ → List ℕ
 cell_line style width text line =
     let room = inner_width style width in
@@ -46,7 +46,7 @@ cell_line style width text line =
 abbrev pub free_lines : CellStyle → ℕ → List ℕ → ℕ
 free_lines style height text = height - length (lines_of text) - style.padding.top.size - style.padding.bottom.size
 
--- the lines above the text: top padding, and the part of the free lines
+-- the lines above the text: top padding, and a part of the free lines
 abbrev pub fill_above : CellStyle → ℕ → List ℕ → ℕ
 fill_above style height text = style.padding.top.size + above_text style.vertical (free_lines style height text)
 
@@ -55,8 +55,7 @@ abbrev pub fill_below : CellStyle → ℕ → List ℕ → ℕ
 fill_below style height text =
     let free = free_lines style height text in style.padding.bottom.size + (free - above_text style.vertical free)
 
--- lines of the top fill, the lines of the text, lines of the bottom fill; of these the first ones, as
--- many as the height
+-- the lines above the text, the lines of the text, and the lines below it, cut to the height
 unfoldable pub block : CellStyle → ℕ → ℕ → List ℕ → List (List ℕ)
 block style width height text =
     take height

@@ -2,11 +2,11 @@
 use Rattle.std.specs.Prelude.{ℕ, zero, suc, List, [], ◌++◌, encode_utf8}
 use Rattle.tabled_config.specs.declared.sides.Indent.{Indent}
 
--- the character c, n times
+-- the character `c`, `n` times
 abbrev pub fill : ℕ → ℕ → List ℕ
 fill c zero = []
 fill c (suc n) = encode_utf8 c ++ fill c n
 
--- a run on one side
+-- the fill character of one side, as many times as its size
 abbrev pub indent : Indent → List ℕ
 indent side = fill side.fill side.size

@@ -1,9 +1,9 @@
--- Where the cells of a blank row begin.
+-- The offsets of the cells in a blank row, in bytes.
 use Rattle.std.specs.Prelude.{ℕ, zero, suc, ◌+◌, length}
 use Rattle.tabled_line.specs.Row.{ColumnSheet, piece}
 
--- where the cell of a column begins, in bytes, if the first one begins at a place: each cell before it takes as many bytes as columns, and
--- a vertical line stands behind it
+-- the offset of a column's cell, if the first cell is at `first`: each cell before it takes as many
+-- bytes as columns, and the bytes of a vertical line follow
 abbrev pub offset_from : ℕ → ColumnSheet → ℕ → ℕ
 offset_from first columns zero = first
 offset_from first columns (suc column) =

@@ -1,4 +1,4 @@
--- Where the texts of a row of one line stand among its blank columns.
+-- The placements of the texts in a row of one line.
 use Rattle.std.specs.Prelude.{◌≡◌, ℕ, ◌+◌, ◌<◌, ◌≤◌, List, map}
 use Rattle.std.specs.List.{range_with_len}
 use Rattle.tabled_config.specs.declared.sides.Indent.{Indent}
@@ -11,17 +11,17 @@ use Rattle.tabled_line.specs.declared.placement.Placement.{Placement}
 use Rattle.tabled_line.specs.declared.placement.CellPlacement.{CellPlacement}
 use Rattle.tabled_line.specs.declared.placement.UniformPlacement.{UniformPlacement}
 
--- texts that are padded so stand between spaces, with no line above them
+-- side padding is spaces, and there is no top padding
 pub record IsSpaced (padding : Sides Indent) : Type 0 where
   pub left : padding.left.fill ≡ 32
   pub right : padding.right.fill ≡ 32
   pub top : padding.top.size ≡ 0
 
--- where a text under a style stands in a column of some width: behind its padding, among the columns that this leaves
+-- the placement of a text with a style in a column of a width
 abbrev pub placement_of : CellStyle → ℕ → Placement
 placement_of style width = record { before = style.padding.left.size; content_width = inner_width style width; horizontal = style.horizontal }
 
--- how texts under a style stand in columns of any width: behind so much padding, with so much on both sides
+-- the placement of texts with a style in columns of any width
 abbrev pub uniform_of : CellStyle → UniformPlacement
 uniform_of style =
     record {
@@ -30,31 +30,32 @@ uniform_of style =
       horizontal = style.horizontal;
     }
 
--- it stands between spaces, and its padding fits
+-- a style allows a placement, and its padding fits a width
 pub record IsPlaceable (style : CellStyle) (width : ℕ) : Type 0 where
   pub spaced : IsSpaced style.padding
   pub fits : style.padding.left.size + style.padding.right.size ≤ width
 
--- where the columns that the padding leaves to a text begin behind the left edge, in bytes, and where the text stands
+-- the placement in a column, and the offset of the first column after the left padding, in bytes
+-- after the left edge of a blank row
 abbrev pub cell_placement : (ℕ → CellStyle) → ColumnSheet → ℕ → CellPlacement
 cell_placement style columns column =
     record { place = offset_from 0 columns column + (style column).padding.left.size; placement = placement_of (style column) (columns.width column) }
 
--- those of all columns
+-- the placements of all columns, each of which is allowed
 pub record ArePlacements (style : ℕ → CellStyle) (columns : ColumnSheet) (placements : List CellPlacement) : Type 0 where
   pub listed : placements ≡ map (cell_placement style columns) (range_with_len 0 columns.count)
   pub placeable : (column : ℕ) → column < columns.count → IsPlaceable (style column) (columns.width column)
 
--- a style is one of texts between spaces, and how these stand is known
+-- a style allows a placement, and this is it
 pub record IsUniform (style : CellStyle) (uniform : UniformPlacement) : Type 0 where
   pub spaced : IsSpaced style.padding
   pub uniform_is : uniform ≡ uniform_of style
 
--- so is the padding of a style, whatever its alignment
+-- a style allows a placement, and this is it except for the alignment
 abbrev pub IsPadded : CellStyle → UniformPlacement → Type 0
 IsPadded style uniform = IsUniform style (record uniform { horizontal = style.horizontal })
 
--- a column of a row of which something is known
+-- a column of a row that `describes` is true of
 pub record IsDescribedColumn (describes : RowSheet → Type 0) (column : ℕ) : Type 0 where
   pub row : RowSheet
   pub known : describes row

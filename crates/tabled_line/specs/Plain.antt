@@ -1,4 +1,4 @@
--- What is printed of characters that take known columns.
+-- Settings that consist of additive characters of one column, and lines of equal width.
 use Rattle.std.specs.Prelude.{◌≡◌, ℕ, List, Option, unwrap_or}
 use Rattle.std.specs.List.{All}
 use Rattle.tabled_text.specs.Measure.{line_columns}
@@ -7,7 +7,7 @@ use Rattle.tabled_config.specs.declared.borders.HorizontalLine.{HorizontalLine}
 use Rattle.tabled_config.specs.declared.frame.Frame.{Frame}
 use Rattle.tabled_config.specs.declared.spanned.CellStyle.{CellStyle}
 
--- a character that is missing is a space
+-- a missing character is a space
 abbrev pub IsPlainPiece : Option ℕ → Type 0
 IsPlainPiece c = IsAdditiveColumn (unwrap_or c 32)
 
@@ -23,7 +23,7 @@ pub record IsPlainStyle (style : CellStyle) : Type 0 where
   pub top : IsAdditiveColumn style.padding.top.fill
   pub bottom : IsAdditiveColumn style.padding.bottom.fill
 
--- of a frame the characters of its vertical lines on the lines of rows, and the fills of its margin
+-- the vertical lines of rows, and the fills of the margin
 pub record IsPlainFrame (frame : Frame) : Type 0 where
   pub vertical : IsAdditiveColumn frame.inner.main
   pub left : IsAdditiveColumn frame.left.main
@@ -33,6 +33,6 @@ pub record IsPlainFrame (frame : Frame) : Type 0 where
   pub margin_top : IsAdditiveColumn frame.margin.top.fill
   pub margin_bottom : IsAdditiveColumn frame.margin.bottom.fill
 
--- each line takes n columns
+-- each line is n columns wide
 abbrev pub EachLineTakes : ℕ → List (List ℕ) → Type 0
 EachLineTakes n lines = All (λ line. line_columns line ≡ n) lines

@@ -1,4 +1,4 @@
--- A row as it is printed, and the horizontal lines between rows.
+-- The lines of rows, and the horizontal lines between them.
 use Rattle.std.specs.Prelude.{ℕ, if◌then◌else◌, Bool, List, [], ◌∷◌, ◌++◌, map, Option, Some, None, encode_utf8, unwrap_or}
 use Rattle.std.specs.List.{flat_map, range_with_len, slice_index_or}
 use Rattle.tabled_config.specs.declared.borders.HorizontalLine.{HorizontalLine}
@@ -8,20 +8,20 @@ use Rattle.tabled_config.specs.Frame.{has_bar}
 use Rattle.tabled_line.specs.Block.{block}
 use Rattle.tabled_line.specs.Fill.{fill, indent}
 
--- the columns of a table: how many there are, how wide each is, and what stands around and between them
+-- the columns of a table: their number, their widths, and the frame around and between them
 pub record ColumnSheet : Type 0 where
   pub count : ℕ
   pub width : ℕ → ℕ
   pub frame : Frame
 
--- a row of cells over columns: its lines, the text of each cell, and how that stands
+-- a row: its columns, its height in lines, and the text and style of each cell
 pub record RowSheet : Type 0 where
   pub columns : ColumnSheet
   pub height : ℕ
   pub text : ℕ → List ℕ
   pub style : ℕ → CellStyle
 
--- a character of a vertical line, if that is there
+-- the character of a vertical line, if it is there
 abbrev pub piece : Bool → ℕ → List ℕ
 piece there c = if there then encode_utf8 c else []
 
@@ -33,21 +33,21 @@ left_edge frame c = indent frame.margin.left ++ piece frame.left.there c
 unfoldable pub right_edge : Frame → ℕ → List ℕ
 right_edge frame c = piece frame.right.there c ++ indent frame.margin.right
 
--- a cell in its room
+-- the block of a cell, in the width of its column and the height of its row
 abbrev pub cell_block : RowSheet → ℕ → List (List ℕ)
 cell_block row column = block (row.style column) (row.columns.width column) row.height (row.text column)
 
--- the first line of a cell in its room
+-- the first line of a cell's block
 abbrev pub first_of_block : RowSheet → ℕ → List ℕ
 first_of_block row column = slice_index_or (cell_block row column) 0 []
 
--- a line of the block of a cell, behind the vertical line before it
+-- a line of a cell's block, after the vertical line before it
 unfoldable pub cell_piece : RowSheet → ℕ → ℕ → List ℕ
 cell_piece row index column =
     let f = row.columns.frame in
     piece (has_bar f column) f.inner.main ++ slice_index_or (cell_block row column) index []
 
--- a line of a row: the pieces of its cells between the edges
+-- a line of a row: its cells between the edges
 unfoldable pub row_line : RowSheet → ℕ → List ℕ
 row_line row index =
     let f = row.columns.frame in
@@ -58,19 +58,19 @@ row_line row index =
 unfoldable pub row_lines : RowSheet → List (List ℕ)
 row_lines row = map (row_line row) (range_with_len 0 row.height)
 
--- the part of a horizontal line at a column
+-- the part of a horizontal line over a column, after the intersection before it
 unfoldable pub rule_piece : ColumnSheet → HorizontalLine → ℕ → List ℕ
 rule_piece columns line column =
     piece (has_bar columns.frame column) (unwrap_or line.intersection 32) ++ fill (unwrap_or line.main 32) (columns.width column)
 
--- a horizontal line; where a character is missing, a space stands
+-- a horizontal line; a missing character is a space
 unfoldable pub rule_line : ColumnSheet → HorizontalLine → List ℕ
 rule_line columns line =
     let f = columns.frame in
     left_edge f (unwrap_or line.left 32)
     ++ (flat_map (rule_piece columns line) (range_with_len 0 columns.count) ++ right_edge f (unwrap_or line.right 32))
 
--- a horizontal line that may be there
+-- a horizontal line, if there is one
 abbrev pub rule_if : ColumnSheet → Option HorizontalLine → List (List ℕ)
 rule_if columns None = []
 rule_if columns (Some line) = rule_line columns line ∷ []

@@ -1,4 +1,4 @@
--- Where the cells of a row of one line stand.
+-- Slots: where the cells of a row of one line begin.
 use Rattle.std.specs.Prelude.{◌≡◌, ℕ, ◌<◌, List, map}
 use Rattle.std.specs.List.{range_with_len}
 use Rattle.tabled_line.specs.BlankRow.{first_offset}
@@ -8,18 +8,19 @@ use Rattle.tabled_line.specs.PlacedText.{IsPlacedText}
 use Rattle.tabled_line.specs.Offsets.{offset_from}
 use Rattle.tabled_line.specs.Row.{ColumnSheet, RowSheet}
 
--- where the cell of a column begins, in bytes
+-- the offset of a column's cell, in bytes
 abbrev pub offset_at : ColumnSheet → ℕ → ℕ
 offset_at columns = offset_from (first_offset columns) columns
 
 abbrev pub slot_at : ColumnSheet → ℕ → Slot
 slot_at columns column = record { place = offset_at columns column; width = columns.width column }
 
--- those of all columns
+-- the slots of all columns
 abbrev pub AreSlots : ColumnSheet → List Slot → Type 0
 AreSlots columns slots = slots ≡ map (slot_at columns) (range_with_len 0 columns.count)
 
--- a text of a row of which something is known, whose cell stands at a slot, and the first one at a place
+-- a text of a row that `describes` is true of, with the slot of its cell and the offset of the
+-- first cell
 pub record IsTextAt (describes : RowSheet → Type 0) (slot : Slot) (first column : ℕ) (placed : PlacedText)
     : Type 0 where
   pub row : RowSheet

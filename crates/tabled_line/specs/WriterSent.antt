@@ -1,4 +1,4 @@
--- What a call that prints to a borrowed writer leaves of it.
+-- What contracts say of a borrowed writer after a call that prints to it.
 use Rattle.std.specs.Prelude.{ℕ, ◌-◌, ◌^◌, false, List, [], ◌∷◌, Option, None, Some, Result, Err, is_some}
 use Rattle.std.specs.Io.KnownBytes.{append_known, prepend_known}
 use Rattle.tabled_base.specs.declared.error.TableError.{TableError}
@@ -11,15 +11,15 @@ abbrev pub failed_byte : Option ℕ → List ℕ
 failed_byte None = []
 failed_byte (Some byte) = byte ∷ []
 
--- the greatest count of failures where a write failed
+-- the count of failures: the maximum after a failed write, otherwise 0
 abbrev pub failed_count : Option ℕ → ℕ
 failed_count None = 0
 failed_count (Some byte) = 2 ^ 64 - 1
 
--- what the sink of a borrowed writer was sent, by the name of the reference and the writer's contents. The bytes start with
--- that name, so that what is known of a call's bytes says that the writer is the same. They end with the byte at which a
--- write failed, so that they are a beginning of the text longer than the writer's. A failed sink counts as one that grows,
--- so that no call succeeds with it
+-- what the sink of a borrowed writer was sent, from the name of the reference and the contents of
+-- the writer. The bytes start with the name, so that the writer is the same if they are known.
+-- After a failed write they end with its byte, so that they are longer than the contents. `grows`
+-- is true after a failure: a successful call leaves `grows` unchanged, so it had no failure
 abbrev pub named_sent : ℕ → Option (List ℕ) → Option ℕ → Sent
 named_sent name contents failed_at =
     record {
@@ -42,7 +42,8 @@ known_since (Some held) new = new
 abbrev pub writer_before : Option (List ℕ) → Sent
 writer_before contents = record { bytes = contents; failures = 0; grows = false }
 
--- a writer after a call: it has exactly what was sent, or a write failed, and the text goes on with a byte that it doesn't have
+-- a writer after a call: it has exactly what was sent, or a write failed, and the text continues
+-- with a byte that the writer doesn't have
 abbrev pub writer_after : {T : Type 0} → Result T TableError → Option (List ℕ) → ℕ → Sent
 writer_after (Err Writer) contents byte = record { bytes = append_known contents (byte ∷ []); failures = 1; grows = false }
 writer_after _ contents byte = record { bytes = contents; failures = 0; grows = false }

@@ -1,4 +1,4 @@
-//! The lines of the block of a cell.
+//! Writes the lines of a cell's block.
 ghost use Rattle.std.specs.Prelude.{◌≡◌, ◌≤◌, ◌<◌, ◌-◌, ◌^◌, List, ℕ, []};
 ghost use Rattle.std.specs.List.{slice_index_or};
 ghost use Rattle.tabled_text.specs.Measure.{line_columns};
@@ -13,11 +13,11 @@ use crate::text_sink::TextSink;
 use tabled_base::TableError;
 use tabled_config::{AlignmentHorizontal, AlignmentVertical, CellStyle};
 
-/// The part of the free columns that stands before the text.
+/// Returns how many of the free columns come before the text.
 pub(crate) fn before_text(alignment: AlignmentHorizontal, free: usize) -> usize
     ensures { result ≡ before_text alignment free }
 {
-    // As two choices of a number, and not as three ways to go on, since alignments may differ from cell to cell.
+    // Two selects instead of a three-way branch, since alignments may differ from cell to cell.
     let centered = if let AlignmentHorizontal::Center = alignment {
         free / 2
     } else {
@@ -30,7 +30,7 @@ pub(crate) fn before_text(alignment: AlignmentHorizontal, free: usize) -> usize
     }
 }
 
-/// The part of the free lines that stands above the text.
+/// Returns how many of the free lines come above the text.
 fn above_text(alignment: AlignmentVertical, free: usize) -> usize
     ensures value { result ≡ above_text alignment free }
     ensures within { result ≤ free }
@@ -42,22 +42,22 @@ fn above_text(alignment: AlignmentVertical, free: usize) -> usize
     }
 }
 
-/// A cell as it is laid out: its text in a width and a height.
+/// A cell to print: its text, style, width and height.
 #[derive(Clone, Copy)]
 pub struct CellBlock<'a> {
-    /// How the text stands.
+    /// The padding and the alignments.
     pub style: CellStyle,
-    /// The columns of the cell.
+    /// The width in columns, padding included.
     pub width: usize,
-    /// Its lines.
+    /// The height in lines, padding included.
     pub height: usize,
-    /// Its text.
+    /// The text and its measures.
     pub content: Content<'a>,
     ghost in_range: { height < 2 ^ 64 },
 }
 
 impl<'a> CellBlock<'a> {
-    /// The columns that the padding leaves to the text.
+    /// Returns the content width: the columns that side padding leaves for the text.
     fn inner_width(&self) -> usize
         ensures { result ≡ inner_width self.now.style self.now.width }
     {
@@ -66,7 +66,7 @@ impl<'a> CellBlock<'a> {
             .saturating_sub(self.style.padding.right.size)
     }
 
-    /// The columns before a line of the text, which takes so many columns itself.
+    /// Returns the columns before a line of the text, which is itself `columns` wide.
     fn columns_before(&self, columns: usize) -> usize
         ensures { (line : List ℕ) → columns ≡ line_columns line
             → result ≡ columns_before self.now.style (inner_width self.now.style self.now.width)
@@ -83,7 +83,8 @@ impl<'a> CellBlock<'a> {
         )
     }
 
-    /// A line of the text, of so many columns, in the width of the cell.
+    /// Writes a line of the text, `columns` wide, with padding and alignment, over the width of the
+    /// cell.
     pub fn write_text_line<S: TextSink>(
         &self,
         sink: &mut S,
@@ -104,7 +105,7 @@ impl<'a> CellBlock<'a> {
         write_right_padding(sink, behind, self.style.padding.right)
     }
 
-    /// The lines above the text that its alignment adds.
+    /// Returns how many lines the alignment adds above the text.
     pub fn lines_above(&self) -> usize
         ensures value { result ≡ above_text self.now.style.vertical (free_lines self.now.style self.now.height
             self.now.content.text.now) }
@@ -119,15 +120,16 @@ impl<'a> CellBlock<'a> {
         above_text(self.style.vertical, free)
     }
 
-    /// The lines of the top fill above the text. In range: what alignment adds is at most the height less
-    /// the padding.
+    /// Returns the number of lines above the text: top padding and alignment. The sum is in range,
+    /// since alignment adds at most the height less the padding.
     fn fill_above(&self) -> usize
         ensures { result ≡ fill_above self.now.style self.now.height self.now.content.text.now }
     {
         self.style.padding.top.size + self.lines_above()
     }
 
-    /// A line of the block. A line of the text is looked for from a cursor on.
+    /// Writes the line of the block at `index`. The search for a line of the text starts at
+    /// `cursor`.
     pub(crate) fn write_line<S: TextSink>(
         &self,
         sink: &mut S,

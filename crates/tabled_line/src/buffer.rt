@@ -1,4 +1,4 @@
-//! Buffer for the text of a line.
+//! Buffers for the text of a line.
 ghost use Rattle.std.specs.Prelude.{◌≡◌, ◌≤◌, Some, IfErr, IfSome, [], take, true};
 ghost use Rattle.tabled_base.specs.declared.error.TableError.TheVariants.{Memory};
 ghost use Rattle.tabled_line.specs.Sent.{Sent, Writes};
@@ -7,14 +7,15 @@ use crate::text_sink::TextSink;
 use std::alloc::Global;
 use tabled_base::TableError;
 
-/// The bytes that a buffer in no memory takes.
+/// The capacity of a `FixedBuffer`, in bytes.
 const FIXED_BYTES: usize = 4096;
 
-/// The most bytes that a buffer in memory takes. A longer line isn't worth its memory, of which there may not be enough for a line
-/// of a table that is as wide as a number can be.
+/// The most bytes that a `LineBuffer` allocates. A longer line isn't worth the memory, and a table
+/// can be wider than memory is large.
 const MOST_BYTES: usize = 1_048_576;
 
-/// A buffer of fixed size as a sink. A text that doesn't fit is refused for memory.
+/// A sink of 4096 bytes without allocation. A text that doesn't fit fails with `Memory`, and
+/// nothing of it is added.
 #[derive(Drop)]
 pub struct FixedBuffer {
     bytes: [u8; FIXED_BYTES],
@@ -23,7 +24,7 @@ pub struct FixedBuffer {
 }
 
 impl FixedBuffer {
-    /// An empty buffer.
+    /// Returns an empty buffer.
     pub fn new() -> FixedBuffer
         ensures { result.used ≡ 0 }
     {
@@ -40,7 +41,7 @@ impl FixedBuffer {
         self.used = 0;
     }
 
-    /// The text in the buffer, if it is one.
+    /// Returns the text in the buffer; `None` if it isn't UTF-8.
     pub fn text(&self) -> Option<&str>
         ensures { IfSome result (λ text. text.now ≡ take self.now.used self.now.bytes) }
     {
@@ -67,19 +68,19 @@ impl TextSink for FixedBuffer {
     }
 }
 
-/// A buffer as a sink: memory that grows up to 1 MiB where that may be taken, and else 4 KiB without memory.
+/// A sink that holds up to 1 MiB with an allocator, and 4 KiB without one.
 #[derive(Drop)]
 pub enum LineBuffer {
-    /// In no memory.
+    /// Without an allocator.
     Fixed(FixedBuffer),
-    /// In memory.
+    /// With an allocator.
     Grown(String),
 }
 
 impl LineBuffer {
     ghost use Rattle.tabled_line.specs.Buffers.{buffer_text};
 
-    /// An empty buffer, in memory of an allocator if there is one.
+    /// Returns an empty buffer, which allocates if there is an allocator.
     pub fn new(memory: Option<Global>) -> LineBuffer
         ensures { buffer_text result ≡ [] }
     {
@@ -99,7 +100,7 @@ impl LineBuffer {
         }
     }
 
-    /// The text in the buffer, if it is one.
+    /// Returns the text in the buffer; `None` if it isn't UTF-8.
     pub fn text(&self) -> Option<&str>
         ensures { IfSome result (λ text. text.now ≡ buffer_text self.now) }
     {

@@ -1,4 +1,4 @@
-//! What stands between the texts of two columns in a row of one line, kept as a text.
+//! The separator between two texts in a row of one line, cached as a string.
 ghost use Rattle.std.specs.Prelude.{◌≡◌, ◌≤◌, IfSome, take, true};
 ghost use Rattle.std.specs.Str.{is_utf8};
 ghost use Rattle.tabled_line.specs.ColumnSeparator.{separator_text};
@@ -11,7 +11,7 @@ use crate::text_sink::TextSink;
 use tabled_base::TableError;
 use tabled_config::VerticalLine;
 
-/// How many spaces stand on each side of the vertical line in the text.
+/// The number of spaces on each side of the vertical line in the cached string.
 const SPACES: usize = 64;
 
 fn write_separator_text<S: TextSink>(sink: &mut S, bar: VerticalLine) -> Result<(), TableError>
@@ -22,7 +22,7 @@ fn write_separator_text<S: TextSink>(sink: &mut S, bar: VerticalLine) -> Result<
     write_spaces(sink, SPACES)
 }
 
-/// The vertical line between 64 spaces on each side.
+/// The cached string of a separator: a vertical line with 64 spaces on each side.
 #[derive(Clone, Copy)]
 pub(crate) struct SeparatorText<'a> {
     bar: VerticalLine,
@@ -32,7 +32,7 @@ pub(crate) struct SeparatorText<'a> {
 }
 
 impl<'a> SeparatorText<'a> {
-    /// A text with this vertical line between 64 spaces on each side.
+    /// Borrows a string that is this vertical line with 64 spaces on each side.
     fn new(bar: VerticalLine, text: &'a str) -> SeparatorText<'a>
         requires { text.now ≡ separator_text bar 64 64 }
         ensures { result.bar ≡ bar }
@@ -40,7 +40,8 @@ impl<'a> SeparatorText<'a> {
         SeparatorText { bar, text }
     }
 
-    /// The part of the text with so many spaces before and behind the vertical line, up to 64 each.
+    /// Returns the part with `behind` spaces before the vertical line and `before` spaces after it,
+    /// at most 64 each.
     #[inline(always)]
     fn part(&self, behind: usize, before: usize) -> &'a str
         requires behind { behind ≤ 64 }
@@ -51,7 +52,8 @@ impl<'a> SeparatorText<'a> {
         &self.text[SPACES - behind..end]
     }
 
-    /// So many spaces behind a text, the vertical line, and so many spaces before the next text.
+    /// Writes `behind` spaces after a text, the vertical line, and `before` spaces before the next
+    /// text.
     #[inline(always)]
     pub fn write<S: TextSink>(
         &self,
@@ -69,7 +71,7 @@ impl<'a> SeparatorText<'a> {
     }
 }
 
-/// A vertical line between columns, and the text of it between spaces.
+/// The vertical line between two columns, cached with spaces around it.
 #[derive(Drop)]
 pub struct ColumnSeparator {
     bar: VerticalLine,
@@ -79,7 +81,7 @@ pub struct ColumnSeparator {
 }
 
 impl ColumnSeparator {
-    /// What stands between texts where this vertical line does.
+    /// Builds the separator for a vertical line.
     pub fn new(bar: VerticalLine) -> ColumnSeparator
         ensures { result.bar ≡ bar }
     {
@@ -88,7 +90,7 @@ impl ColumnSeparator {
         ColumnSeparator { bar, buffer, whole }
     }
 
-    /// The text, where it is kept.
+    /// Returns the cached string, if it could be built.
     pub(crate) fn text(&self) -> Option<SeparatorText<'_>>
         ensures { IfSome result (λ separator. separator.bar ≡ self.now.bar) }
     {

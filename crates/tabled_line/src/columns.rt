@@ -1,4 +1,4 @@
-//! The columns of a table, and horizontal lines over them.
+//! The columns of a table, and the horizontal lines over them.
 ghost use Rattle.std.specs.Prelude.{◌≡◌, ◌<◌, ◌≤◌, ℕ, false};
 ghost use Rattle.std.specs.List.{flat_map, range_with_len};
 ghost use Rattle.tabled_config.specs.Frame.{has_bar};
@@ -11,25 +11,27 @@ use crate::text_sink::TextSink;
 use tabled_base::TableError;
 use tabled_config::{Frame, HorizontalLine};
 
-/// The columns of a table: how many there are, how wide each is, and what stands around and between them.
+/// The columns of a table: their number, their widths, and the frame around and between them.
 pub trait TableColumns {
-    // What contracts see.
+    // The columns as contracts see them.
     ghost sheet: { Self → ColumnSheet };
 
-    /// How many columns there are.
+    /// Returns the number of columns.
     fn count_columns(&self) -> usize
         ensures { result ≡ (sheet self.now).count };
 
-    /// How many text columns a column takes, padding included.
+    /// Returns the width of a column, in text columns, padding included.
     fn width(&self, column: usize) -> usize
         requires { column < (sheet self.now).count }
         ensures { result ≡ (sheet self.now).width column };
 
-    /// What stands around and between the columns.
+    /// Returns the vertical lines and the margin.
     fn frame(&self) -> &Frame
         ensures { result.now ≡ (sheet self.now).frame };
 
-    /// A column from which on all are as wide as it, or else the number of columns. So many columns are counted at once.
+    /// Returns an index from which on all columns are equally wide, or the number of columns.
+    /// Returning the number of columns is always safe; a smaller index lets `count_drawn` skip
+    /// zero-width columns.
     fn alike_from(&self) -> usize
         ensures { (column : ℕ) → result ≤ column → column < (sheet self.now).count
             → (sheet self.now).width column ≡ (sheet self.now).width result }
@@ -38,7 +40,8 @@ pub trait TableColumns {
     }
 }
 
-/// How many first columns are drawn: each one behind them has no width, and no vertical line stands before it.
+/// Returns how many of the first columns are drawn. The others have no width and no vertical line
+/// before them.
 pub fn count_drawn<C: TableColumns>(columns: &C) -> usize
     ensures within { result ≤ (C.sheet columns.now).count }
     ensures rest { (column : ℕ) → result ≤ column → column < (C.sheet columns.now).count
@@ -67,7 +70,8 @@ fn write_rule_piece<C: TableColumns, S: TextSink>(
     write_fill(sink, line.main.unwrap_or(' '), columns.width(column))
 }
 
-/// The pieces of a horizontal line between the outer vertical lines: over each column, with what stands where a vertical line meets it.
+/// Writes a horizontal line without its two ends: the part over each column, and the intersections
+/// with vertical lines.
 pub fn write_rule_pieces<C: TableColumns, S: TextSink>(
     sink: &mut S,
     columns: &C,
@@ -82,7 +86,7 @@ pub fn write_rule_pieces<C: TableColumns, S: TextSink>(
     Ok(())
 }
 
-/// A horizontal line.
+/// Writes a horizontal line. A missing character is a space.
 pub fn write_rule_line<C: TableColumns, S: TextSink>(
     sink: &mut S,
     columns: &C,

@@ -1,4 +1,4 @@
-//! The text of a cell with the measures that were taken of it.
+//! The text of a cell with its measures.
 ghost use Rattle.std.specs.Prelude.{◌≡◌, ◌-◌, ◌<◌, ◌^◌, length, slice_get, IfSome};
 ghost use Rattle.std.specs.Option.{option_map};
 ghost use Rattle.tabled_text.specs.Measure.{line_columns, lines_of, text_columns};
@@ -8,7 +8,7 @@ ghost use Rattle.tabled_line.specs.Cursors.{IsCursor};
 use crate::cursors::Cursor;
 use tabled_text::{count_lines, line_width, split_line, text_width};
 
-/// A text, its columns and its lines.
+/// A text, its width in columns, and its number of lines.
 #[derive(Clone, Copy)]
 pub struct Content<'a> {
     pub text: &'a str,
@@ -19,7 +19,7 @@ pub struct Content<'a> {
 }
 
 impl<'a> Content<'a> {
-    /// A text, which is measured.
+    /// Measures a text.
     pub fn new(text: &'a str) -> Content<'a>
         ensures { result.text.now ≡ text.now }
     {
@@ -30,7 +30,7 @@ impl<'a> Content<'a> {
         }
     }
 
-    /// The first line with its columns.
+    /// Returns the first line and its width in columns.
     #[inline(always)]
     pub fn first_line(&self) -> (&'a str, usize)
         ensures line { result.0.now ≡ first_line self.now.text.now }
@@ -43,8 +43,9 @@ impl<'a> Content<'a> {
         (line, line_width(line))
     }
 
-    /// The line at an index with its columns, looked for from a cursor on, which moves behind it. A text of
-    /// one line is that line, and isn't measured again.
+    /// Returns the line at `index` and its width in columns; `None` past the last line. The search
+    /// starts at `cursor`, which moves to the line after it. A text of one line isn't searched or
+    /// measured again.
     pub(crate) fn line(&self, index: usize, cursor: &mut Cursor<'a>) -> Option<(&'a str, usize)>
         requires index { index < 2 ^ 64 - 1 }
         requires stands { IsCursor self.now.text.now cursor.old }
@@ -64,7 +65,8 @@ impl<'a> Content<'a> {
         Some((line, line_width(line)))
     }
 
-    /// The line at an index.
+    /// Returns the line at `index`, searched from `cursor` on, or from the start if the cursor is
+    /// past it.
     fn line_from(&self, index: usize, cursor: &mut Cursor<'a>) -> Option<&'a str>
         requires index { index < 2 ^ 64 - 1 }
         requires stands { IsCursor self.now.text.now cursor.old }

@@ -1,4 +1,5 @@
-//! Cursors in the texts of cells, so that a cell of many lines isn't searched from its start for each of them.
+//! Cursors: where the next line of each cell's text begins, so that no text is searched from its
+//! start for each line.
 ghost use Rattle.std.specs.Prelude.{◌≡◌, ◌+◌, ◌-◌, ◌<◌, ◌^◌, ℕ, List, IfNone, IfSome, slice_get};
 ghost use Rattle.std.specs.Option.{option_map};
 ghost use Rattle.tabled_text.specs.Measure.{lines_of};
@@ -6,13 +7,14 @@ ghost use Rattle.tabled_line.specs.Cursors.{AreCursors, IsCursor, nowhere};
 
 use tabled_text::split_line;
 
-/// In a row of so many cells each has a cursor in no memory.
+/// The number of cursors on the stack for rows of at most this many cells.
 pub const FEW_CURSORS: usize = 64;
 
-/// Of a row of more cells, so many first ones have a cursor each in no memory.
+/// The most cursors on the stack. Columns after these have none, unless the caller allocates more.
 pub const MANY_CURSORS: usize = 1_024;
 
-/// A line of a text by its number, and the text from there on; there is none past the last line.
+/// A position in a text: the number of the next line and the text from there on. The text is `None`
+/// past the last line.
 #[derive(Clone, Copy)]
 pub struct Cursor<'a> {
     pub(crate) line: usize,
@@ -20,7 +22,7 @@ pub struct Cursor<'a> {
 }
 
 impl<'a> Cursor<'a> {
-    /// A cursor that stands in no text yet.
+    /// Returns a cursor that isn't in a text yet.
     pub fn nowhere() -> Cursor<'a>
         ensures { result ≡ nowhere }
     {
@@ -30,7 +32,7 @@ impl<'a> Cursor<'a> {
         }
     }
 
-    /// The first line of a text.
+    /// Returns a cursor at the first line of a text.
     pub(crate) fn start(text: &'a str) -> Cursor<'a>
         ensures first { result.line ≡ 0 }
         ensures stands { IsCursor text.now result }
@@ -41,7 +43,8 @@ impl<'a> Cursor<'a> {
         }
     }
 
-    /// The line at the cursor, which moves to the next one.
+    /// Returns the line at the cursor, and moves to the next one. Past the last line, it returns
+    /// `None` and stays.
     pub(crate) fn next(&mut self) -> Option<&'a str>
         requires { self.old.line < 2 ^ 64 - 1 }
         ensures line { (text : List ℕ) → IsCursor text self.old
@@ -57,7 +60,7 @@ impl<'a> Cursor<'a> {
     }
 }
 
-/// The cursor in the text at a column, at its start where none was kept.
+/// Returns the stored cursor of a column, or the start of its text if none is stored.
 pub(crate) fn cursor_at<'a>(cursors: &[Cursor<'a>], column: usize, text: &'a str) -> Cursor<'a>
     ensures { (texts : ℕ → List ℕ) → AreCursors texts cursors.now → text.now ≡ texts column → IsCursor text.now result }
 {
@@ -71,7 +74,7 @@ pub(crate) fn cursor_at<'a>(cursors: &[Cursor<'a>], column: usize, text: &'a str
     kept
 }
 
-/// Keeps a cursor in the text at a column, if there is a place for it.
+/// Stores the cursor of a column, if `cursors` is long enough.
 pub(crate) fn keep_cursor<'a>(cursors: &mut [Cursor<'a>], column: usize, cursor: Cursor<'a>)
     ensures { (texts : ℕ → List ℕ) → AreCursors texts cursors.old
         → IsCursor (texts column) cursor.entry → AreCursors texts cursors.new }
@@ -81,7 +84,7 @@ pub(crate) fn keep_cursor<'a>(cursors: &mut [Cursor<'a>], column: usize, cursor:
     }
 }
 
-/// Forgets where the cursors stood, so that those of another row's texts can be kept.
+/// Resets all cursors, so that they can be used for another row.
 pub fn forget_cursors(cursors: &mut [Cursor<'_>])
     ensures { (texts : ℕ → List ℕ) → AreCursors texts cursors.new }
 {

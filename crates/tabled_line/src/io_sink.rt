@@ -1,4 +1,4 @@
-//! A writer as a sink.
+//! A sink that owns its writer.
 ghost use Rattle.std.specs.Prelude.{◌≡◌, ◌+◌, false, min, is_ok, if◌then◌else◌, IfErr};
 ghost use Rattle.tabled_base.specs.declared.error.TableError.TheVariants.{Writer};
 ghost use Rattle.tabled_line.specs.Sent.{Sent, Took, Writes};
@@ -7,8 +7,10 @@ use crate::text_sink::TextSink;
 use std::io::Write;
 use tabled_base::TableError;
 
-/// Text for a writer. It writes until all bytes are taken. Every error of a write is a failure,
-/// `Interrupted` too, and so is a write that takes no bytes; nothing is tried again. The writer isn't
+/// A sink over a writer that it owns.
+///
+/// It calls `write` until all bytes are taken. Every error counts as a failure, including
+/// `Interrupted`, and so does a write that takes no bytes. Nothing is retried, and the writer isn't
 /// flushed.
 #[derive(Debug, Drop)]
 pub struct IoSink<W> {
@@ -17,7 +19,7 @@ pub struct IoSink<W> {
 }
 
 impl<W> IoSink<W> {
-    /// A sink over a writer, without failures so far.
+    /// Returns a sink over a writer, with no failures yet.
     pub fn new(writer: W) -> IoSink<W>
         ensures writer { result.writer ≡ writer }
         ensures failures { result.failures ≡ 0 }
@@ -28,7 +30,7 @@ impl<W> IoSink<W> {
         }
     }
 
-    /// How often a write failed; the count stays at the greatest `usize`.
+    /// Returns how many writes failed. The count stops at `usize::MAX`.
     pub fn failures(&self) -> usize
         ensures { result ≡ self.now.failures }
     {

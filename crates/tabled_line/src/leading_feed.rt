@@ -1,4 +1,4 @@
-//! Lines that are kept behind the line feed that leads to them, and go out with it in one piece.
+//! Writes lines that are cached with a line feed before them, in one piece.
 ghost use Rattle.std.specs.Prelude.{◌≡◌, [], ◌∷◌, drop};
 ghost use Rattle.tabled_line.specs.Leading.{WritesLines};
 ghost use Rattle.tabled_line.specs.Sent.{Sent};
@@ -6,7 +6,8 @@ ghost use Rattle.tabled_line.specs.Sent.{Sent};
 use crate::text_sink::TextSink;
 use tabled_base::TableError;
 
-/// The line behind the line feed that a text begins with. That goes out too where a line went before.
+/// Writes a line that is stored with a line feed before it. The line feed is left out before the
+/// first line.
 #[inline(always)]
 pub(crate) fn write_feed_and_line<S: TextSink>(
     sink: &mut S,

@@ -1,45 +1,46 @@
-//! The lines of a table and the sinks that take them: rows, horizontal lines, margins, written piece by piece.
+//! Writes the lines of a table piece by piece: rows, horizontal lines and margins.
 //!
-//! Each piece goes out as it comes, so that printing takes no memory. A row is anything that answers the blocks of its
-//! cells: the rows of a table in memory and those of a stream print by the same calls. What the next lines may have in
-//! common is kept: a horizontal line, and where the caller lends an allocator a blank row, over which the texts of a row
-//! are laid.
+//! Pieces are written as soon as they are known, so printing needs no allocation. A row is anything
+//! that implements `Row`, so rows in memory and rows of a stream share the same code. What later
+//! lines can share is cached: the last horizontal line and, if the caller passes an allocator, a
+//! row template into which the texts of a row are copied.
 //!
 //! Sinks:
-//! - `text_sink`: the trait of what takes text
-//! - `io_sink`: a writer that the sink owns
-//! - `writer_sink`: a borrowed writer, of which a contract says what it took
-//! - `memory`: a `String` and a `Vec<u8>`
-//! - `buffer`: a buffer of 4 KiB, or one of up to 1 MiB
+//! - `text_sink`: the trait of everything that text can be written to.
+//! - `io_sink`: a writer that the sink owns.
+//! - `writer_sink`: a borrowed writer; contracts say what it took.
+//! - `memory`: a `String` and a `Vec<u8>`.
+//! - `buffer`: a buffer of 4 KiB, or one of up to 1 MiB.
 //!
 //! Pieces:
-//! - `pieces`: runs of one character
-//! - `edges`: the left and the right end of a line
-//! - `line_feed`: what leads from a line to the next
-//! - `margin`: the lines above and below a table
-//! - `columns`: the columns of a table, and horizontal lines over them
+//! - `pieces`: runs of one character.
+//! - `edges`: vertical lines, and the left and right end of a line.
+//! - `line_feed`: the line feed between two lines.
+//! - `margin`: the lines of a top or bottom margin.
+//! - `columns`: the columns of a table, and the horizontal lines over them.
 //!
 //! The text of a cell:
-//! - `content`: the text with its measures
-//! - `cursors`: where the next line of a text begins
-//! - `block`: the lines of a cell
-//! - `placement`: where a text stands in its column
+//! - `content`: a text with its measures.
+//! - `cursors`: where the next line of each text begins.
+//! - `block`: the lines of a cell.
+//! - `placement`: where a text is in its column, in a row of one line.
 //!
 //! Rows:
-//! - `row`: the trait of a row, and a line of it
-//! - `row_placements`: where the texts of a row of one line stand
-//! - `column_separator`: what stands between two texts
-//! - `spaced`: rows whose texts stand between spaces
-//! - `laws`: what holds for the lines of a row
+//! - `row`: the trait of a row, and writing one of its lines.
+//! - `row_placements`: the placements of the texts in a row of one line.
+//! - `column_separator`: the separator between two texts.
+//! - `spaced`: rows of one line with spaces around each text.
+//! - `laws`: facts about the lines of a row.
 //!
-//! Lines one below the other:
-//! - `lines`: rows, horizontal lines and margins, each behind the line feed that it needs
-//! - `line_cache`: the horizontal line that is kept
-//! - `leading_feed`: lines that are kept behind their line feed
-//! - `offsets`: where the cells of a blank row begin
-//! - `slots`: those places, listed once for all rows
-//! - `row_template`: rows that are laid over a blank one
-//! - `template_texts`: their texts
+//! Lines below each other:
+//! - `lines`: `LinePrinter`, which writes rows, horizontal lines and margins with line feeds
+//!   between them.
+//! - `line_cache`: the cached horizontal line and row template.
+//! - `leading_feed`: writes cached lines together with the line feed before them.
+//! - `offsets`: the offsets of the cells in a blank row.
+//! - `slots`: these offsets, listed once for all rows.
+//! - `row_template`: a blank row that the texts of each row are copied into.
+//! - `template_texts`: copies the texts into it.
 #![tactic(auto)]
 
 mod block;

@@ -1,5 +1,4 @@
-//! A horizontal line that is kept as it was laid out. The lines between rows are mostly alike, and one
-//! that is known goes out in one piece.
+//! Caches what later lines can share: the last horizontal line and a row template.
 ghost use Rattle.std.specs.Prelude.{◌≡◌, [], ◌∷◌, Some, None, IfSome, true};
 ghost use Rattle.tabled_line.specs.LineCache.{IsCacheOf, IsCachedRule};
 ghost use Rattle.tabled_line.specs.Leading.{WritesLines};
@@ -17,7 +16,8 @@ use std::alloc::Global;
 use tabled_base::TableError;
 use tabled_config::HorizontalLine;
 
-/// The horizontal line that was laid out last, and its text behind a line feed where the buffer held the whole.
+/// The last horizontal line, and its text with a line feed before it, if the buffer could hold
+/// that. Lines between rows are mostly the same, and a cached one is written in one piece.
 #[derive(Drop)]
 pub(crate) struct CachedRule {
     line: Option<HorizontalLine>,
@@ -25,7 +25,7 @@ pub(crate) struct CachedRule {
     whole: bool,
 }
 
-/// A line feed, and a horizontal line behind it.
+/// Writes a line feed and a horizontal line.
 fn write_next_rule<C: TableColumns, S: TextSink>(
     sink: &mut S,
     columns: &C,
@@ -38,7 +38,8 @@ fn write_next_rule<C: TableColumns, S: TextSink>(
 }
 
 impl CachedRule {
-    /// No line so far. Where memory may be taken, a line of 1 MiB at most is kept, and else one of 4 KiB.
+    /// Returns a cache without a line. With an allocator it holds a line of up to 1 MiB, else one
+    /// of up to 4 KiB.
     pub fn new(memory: Option<Global>) -> CachedRule
         ensures { result.line ≡ None }
     {
@@ -49,7 +50,7 @@ impl CachedRule {
         }
     }
 
-    /// Whether it is this line that was laid out.
+    /// Whether `line` is the cached one.
     fn is(&self, line: &HorizontalLine) -> bool
         ensures { result ≡ true → self.now.line ≡ Some line.now }
     {
@@ -59,7 +60,7 @@ impl CachedRule {
         }
     }
 
-    /// The text of the line behind a line feed, if the buffer holds it.
+    /// Returns the text of the line with a line feed before it, if the buffer holds it.
     fn text(&self) -> Option<&str>
         ensures text { IfSome result (λ text. text.now ≡ buffer_text self.now.buffer) }
         ensures whole { IfSome result (λ _. self.now.whole ≡ true) }
@@ -67,7 +68,7 @@ impl CachedRule {
         if self.whole { self.buffer.text() } else { None }
     }
 
-    /// Lays a line out.
+    /// Replaces the cached line.
     #[inline(never)]
     fn lay_out<C: TableColumns>(&mut self, columns: &C, line: HorizontalLine)
         ensures line { self.new.line ≡ Some line }
@@ -78,7 +79,7 @@ impl CachedRule {
         self.line = Some(line);
     }
 
-    /// Lays a line out, unless it is the one that is kept.
+    /// Replaces the cached line, unless it is the same.
     #[inline(always)]
     fn keep<C: TableColumns>(&mut self, columns: &C, line: HorizontalLine)
         requires known { IsCachedRule (C.sheet columns.now) self.old }
@@ -91,7 +92,7 @@ impl CachedRule {
     }
 }
 
-/// A horizontal line that isn't kept, piece by piece.
+/// Writes a horizontal line piece by piece, without the cache.
 #[inline(never)]
 fn write_uncached_rule<C: TableColumns, S: TextSink>(
     sink: &mut S,
@@ -106,7 +107,7 @@ fn write_uncached_rule<C: TableColumns, S: TextSink>(
     write_rule_line(sink, columns, &line)
 }
 
-/// A horizontal line, which is laid out anew only where it is another than the kept one.
+/// Writes a horizontal line. It is built again only if it differs from the cached one.
 #[inline(always)]
 pub(crate) fn write_cached_rule<C: TableColumns, S: TextSink>(
     sink: &mut S,
@@ -127,7 +128,8 @@ pub(crate) fn write_cached_rule<C: TableColumns, S: TextSink>(
     }
 }
 
-/// What is kept for later lines over some columns: a horizontal line, and a blank row where memory may be taken.
+/// What is cached for lines over the same columns: a horizontal line and, with an allocator, a row
+/// template.
 #[derive(Drop)]
 pub(crate) struct LineCache {
     pub rule: CachedRule,
@@ -135,7 +137,8 @@ pub(crate) struct LineCache {
 }
 
 impl LineCache {
-    /// Nothing so far. In memory a horizontal line of any length is kept, and else one of 4 KiB at most.
+    /// Returns an empty cache. With an allocator it holds a line of up to 1 MiB, else one of up to
+    /// 4 KiB.
     pub fn new(memory: Option<Global>) -> LineCache
         ensures { (columns : ColumnSheet) → IsCacheOf columns result }
     {

@@ -1,4 +1,4 @@
-//! What leads from a line to the next.
+//! The line feed between two lines.
 ghost use Rattle.std.specs.Prelude.{◌≡◌, true};
 ghost use Rattle.tabled_line.specs.Leading.{break};
 ghost use Rattle.tabled_line.specs.Sent.{Sent, Writes};
@@ -6,7 +6,7 @@ ghost use Rattle.tabled_line.specs.Sent.{Sent, Writes};
 use crate::text_sink::TextSink;
 use tabled_base::TableError;
 
-/// The line feed before a line, if a line went before.
+/// Writes a line feed if a line was written before, and sets `begun`.
 pub fn write_break<S: TextSink>(sink: &mut S, begun: &mut bool) -> Result<(), TableError>
     ensures printed { Writes (S.sent sink.old) result (S.sent sink.new) (break begun.old) }
     ensures after { begun.new ≡ true }

@@ -1,4 +1,4 @@
-//! Lines one below the other: those of rows and of margins, and horizontal lines.
+//! Writes rows, horizontal lines and margins below each other, with line feeds between them.
 ghost use Rattle.std.specs.Prelude.{◌≡◌, ◌<◌, false, [], ◌∷◌, replicate};
 ghost use Rattle.tabled_line.specs.Fill.{fill};
 ghost use Rattle.tabled_line.specs.LineCache.{IsCacheOf};
@@ -19,7 +19,7 @@ use std::alloc::Global;
 use tabled_base::TableError;
 use tabled_config::{HorizontalLine, Indent};
 
-/// A line of a row, with the line feed before it.
+/// Writes a line of a row, with a line feed before it unless it is the first line.
 fn write_next_line<'a, R: Row<'a>, S: TextSink>(
     sink: &mut S,
     begun: &mut bool,
@@ -37,7 +37,7 @@ fn write_next_line<'a, R: Row<'a>, S: TextSink>(
     write_row_line(sink, row, cursors, index)
 }
 
-/// The lines of a row, in whose texts the cursors stand.
+/// Writes the lines of a row. The cursors are in the texts of its cells.
 #[tactic(auto, unfolding(crate::specs::Row::row_lines))]
 fn write_row_lines<'a, R: Row<'a>, S: TextSink>(
     sink: &mut S,
@@ -56,7 +56,7 @@ fn write_row_lines<'a, R: Row<'a>, S: TextSink>(
     Ok(())
 }
 
-/// The lines of a row, with cursors that stood in other texts so far.
+/// Writes the lines of a row. The cursors may be in the texts of another row.
 fn write_tall_row<'a, R: Row<'a>, S: TextSink>(
     sink: &mut S,
     begun: &mut bool,
@@ -70,7 +70,8 @@ fn write_tall_row<'a, R: Row<'a>, S: TextSink>(
     write_row_lines(sink, begun, row, cursors)
 }
 
-/// Lines over the same columns while they are printed: whether a line went before, and what is kept for the next.
+/// Prints lines over the same columns. It remembers whether a line was written, and caches what
+/// later lines can share.
 #[derive(Drop)]
 pub struct LinePrinter<C: TableColumns> {
     /// The columns.
@@ -80,7 +81,8 @@ pub struct LinePrinter<C: TableColumns> {
 }
 
 impl<C: TableColumns> LinePrinter<C> {
-    /// No line so far. A horizontal line is kept in memory where that may be taken, and else in 4 KiB without.
+    /// Returns a printer that has written no line yet. With an allocator it caches a horizontal
+    /// line of up to 1 MiB and a row template, else a horizontal line of up to 4 KiB.
     pub fn new(columns: C, memory: Option<Global>) -> LinePrinter<C>
         ensures columns { result.columns ≡ columns }
         ensures begun { result.begun ≡ false }
@@ -93,7 +95,7 @@ impl<C: TableColumns> LinePrinter<C> {
         }
     }
 
-    /// The lines of a margin, each of so many columns.
+    /// Writes the lines of a margin, each with `width` fill characters.
     pub fn write_margin<S: TextSink>(
         &mut self,
         sink: &mut S,
@@ -109,7 +111,7 @@ impl<C: TableColumns> LinePrinter<C> {
         write_margin(sink, &mut self.begun, side, width)
     }
 
-    /// A horizontal line, if there is one.
+    /// Writes a horizontal line, if there is one.
     #[inline(always)]
     pub fn write_rule<S: TextSink>(
         &mut self,
@@ -134,8 +136,8 @@ impl<C: TableColumns> LinePrinter<C> {
         }
     }
 
-    /// The lines of a row over these columns. Columns for which there are cursors, wherever they stand, aren't searched from the start of
-    /// their texts for each line.
+    /// Writes the lines of a row over these columns. A text with a cursor isn't searched from its
+    /// start for each line. The cursors may be in any state.
     pub fn write_row<'a, R: Row<'a>, S: TextSink>(
         &mut self,
         sink: &mut S,

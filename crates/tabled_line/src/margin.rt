@@ -1,4 +1,4 @@
-//! The lines of a margin above or below a table.
+//! Writes the lines of a top or bottom margin.
 ghost use Rattle.std.specs.Prelude.{◌≡◌, [], ◌∷◌, replicate};
 ghost use Rattle.tabled_config.specs.declared.sides.Indent.{Indent};
 ghost use Rattle.tabled_line.specs.Fill.{fill};
@@ -11,7 +11,7 @@ use crate::text_sink::TextSink;
 use tabled_base::TableError;
 use tabled_config::Indent;
 
-/// A line of one character.
+/// Writes a line of `width` copies of `c`.
 fn write_fill_line<S: TextSink>(
     sink: &mut S,
     begun: &mut bool,
@@ -25,7 +25,7 @@ fn write_fill_line<S: TextSink>(
     write_fill(sink, c, width)
 }
 
-/// The lines of a margin, each as wide as the whole.
+/// Writes the lines of a margin, each with `width` fill characters.
 pub fn write_margin<S: TextSink>(
     sink: &mut S,
     begun: &mut bool,

@@ -1,4 +1,4 @@
-//! Texts and bytes in memory as sinks. They refuse only for memory.
+//! `String` and `Vec<u8>` as sinks, whose only error is `Memory`: an allocation failed.
 ghost use Rattle.std.specs.Prelude.{◌≡◌, Some, IfErr, string_bytes, true};
 ghost use Rattle.tabled_base.specs.declared.error.TableError.TheVariants.{Memory};
 ghost use Rattle.tabled_line.specs.Sent.{Sent, Writes};

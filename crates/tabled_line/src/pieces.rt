@@ -1,4 +1,4 @@
-//! Runs of one character.
+//! Writes runs of one character.
 ghost use Rattle.std.specs.Prelude.{◌≡◌, ◌≤◌, ◌++◌, encode_utf8};
 ghost use Rattle.tabled_line.specs.Fill.{fill, indent};
 ghost use Rattle.tabled_line.specs.Sent.{Sent, Writes};
@@ -11,7 +11,7 @@ const SPACES: &str = "                                                          
 
 const DASHES: &str = "----------------------------------------------------------------";
 
-/// One character.
+/// Writes one character.
 pub fn write_char<S: TextSink>(sink: &mut S, c: char) -> Result<(), TableError>
     ensures { Writes (S.sent sink.old) result (S.sent sink.new) (encode_utf8 c) }
 {
@@ -20,7 +20,7 @@ pub fn write_char<S: TextSink>(sink: &mut S, c: char) -> Result<(), TableError>
     sink.write_text(text)
 }
 
-/// Up to 64 spaces.
+/// Returns `count` spaces, at most 64.
 fn spaces(count: usize) -> &'static str
     requires { count ≤ 64 }
     ensures { result.now ≡ fill 32 count }
@@ -28,7 +28,7 @@ fn spaces(count: usize) -> &'static str
     &SPACES[..count]
 }
 
-/// Up to 64 dashes.
+/// Returns `count` dashes, at most 64.
 fn dashes(count: usize) -> &'static str
     requires { count ≤ 64 }
     ensures { result.now ≡ fill 45 count }
@@ -36,7 +36,8 @@ fn dashes(count: usize) -> &'static str
     &DASHES[..count]
 }
 
-/// A number of spaces, 64 at a time. Mostly there are few, and a call would take longer than they do.
+/// Writes `count` spaces, 64 at a time. Inlined, since there are mostly few of them, and a call
+/// would take longer.
 #[inline(always)]
 pub(crate) fn write_spaces<S: TextSink>(sink: &mut S, count: usize) -> Result<(), TableError>
     ensures { Writes (S.sent sink.old) result (S.sent sink.new) (fill 32 count) }
@@ -50,7 +51,7 @@ pub(crate) fn write_spaces<S: TextSink>(sink: &mut S, count: usize) -> Result<()
     Ok(())
 }
 
-/// A padding, and spaces behind it; where it is of spaces too, they go out together.
+/// Writes a padding and then `spaces` spaces, in one run if the padding is spaces too.
 pub(crate) fn write_left_padding<S: TextSink>(
     sink: &mut S,
     side: Indent,
@@ -67,7 +68,7 @@ pub(crate) fn write_left_padding<S: TextSink>(
     write_spaces(sink, spaces)
 }
 
-/// Spaces, and a padding behind them; where that is of spaces too, they go out together.
+/// Writes `spaces` spaces and then a padding, in one run if the padding is spaces too.
 pub(crate) fn write_right_padding<S: TextSink>(
     sink: &mut S,
     spaces: usize,
@@ -84,7 +85,7 @@ pub(crate) fn write_right_padding<S: TextSink>(
     write_indent(sink, side)
 }
 
-/// A number of dashes, 64 at a time.
+/// Writes `count` dashes, 64 at a time.
 fn write_dashes<S: TextSink>(sink: &mut S, count: usize) -> Result<(), TableError>
     ensures { Writes (S.sent sink.old) result (S.sent sink.new) (fill 45 count) }
 {
@@ -97,7 +98,7 @@ fn write_dashes<S: TextSink>(sink: &mut S, count: usize) -> Result<(), TableErro
     Ok(())
 }
 
-/// Any character a number of times.
+/// Writes any character `count` times.
 fn write_copies<S: TextSink>(sink: &mut S, c: char, count: usize) -> Result<(), TableError>
     ensures { Writes (S.sent sink.old) result (S.sent sink.new) (fill c count) }
 {
@@ -109,7 +110,7 @@ fn write_copies<S: TextSink>(sink: &mut S, c: char, count: usize) -> Result<(), 
     Ok(())
 }
 
-/// A character a number of times; spaces and dashes go out in blocks.
+/// Writes a character `count` times. Spaces and dashes are written 64 at a time.
 pub fn write_fill<S: TextSink>(sink: &mut S, c: char, count: usize) -> Result<(), TableError>
     ensures { Writes (S.sent sink.old) result (S.sent sink.new) (fill c count) }
 {
@@ -120,7 +121,7 @@ pub fn write_fill<S: TextSink>(sink: &mut S, c: char, count: usize) -> Result<()
     }
 }
 
-/// An indent: its character, as many times as its size.
+/// Writes an indent: its fill character, as many times as its size.
 pub fn write_indent<S: TextSink>(sink: &mut S, side: Indent) -> Result<(), TableError>
     ensures { Writes (S.sent sink.old) result (S.sent sink.new) (indent side) }
 {

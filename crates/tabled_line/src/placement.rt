@@ -1,30 +1,31 @@
-//! Where the texts of a column stand in rows of one line.
+//! The placement of texts in rows of one line.
 ghost use Rattle.std.specs.Prelude.{◌≡◌, IfSome, true};
 ghost use Rattle.tabled_config.specs.declared.spanned.CellStyle.{CellStyle};
 ghost use Rattle.tabled_line.specs.Placements.{IsPlaceable, IsSpaced, IsUniform, placement_of};
 
 use tabled_config::{AlignmentHorizontal, CellStyle, Indent, Sides};
 
-/// Where a text stands in its column of a row of one line, between spaces.
+/// Where a text is in its column, in a row of one line. Side padding is spaces, and there is no top
+/// padding.
 #[derive(Clone, Copy)]
 pub struct Placement {
-    /// The columns of padding before it.
+    /// The columns of left padding.
     pub before: usize,
-    /// The columns that the padding leaves to it.
+    /// The content width: the columns that the padding leaves for the text.
     pub content_width: usize,
-    /// Where it stands among these.
+    /// The alignment within the content width.
     pub horizontal: AlignmentHorizontal,
 }
 
-/// Where the columns that the padding leaves to a text of a row of one line begin, in bytes behind the left edge if its cell and those before it are
-/// blank, and where the text stands.
+/// The placement of a cell's text. `place` is the offset of the first column after the left
+/// padding, in bytes after the left edge of a blank row.
 #[derive(Clone, Copy)]
 pub struct CellPlacement {
     pub place: usize,
     pub placement: Placement,
 }
 
-/// Whether texts that are padded so stand between spaces, with no line above.
+/// Whether side padding is spaces and there is no top padding.
 #[inline(always)]
 fn is_spaced(padding: &Sides<Indent>) -> bool
     ensures { result ≡ true → IsSpaced padding.now }
@@ -32,17 +33,18 @@ fn is_spaced(padding: &Sides<Indent>) -> bool
     padding.left.fill == ' ' && padding.right.fill == ' ' && padding.top.size == 0
 }
 
-/// How texts under a style stand between spaces in columns of any width.
+/// The placement that texts with one style have in columns of any width.
 #[derive(Clone, Copy)]
 pub struct UniformPlacement {
     before: usize,
-    // The columns of padding on both sides.
+    // The columns of left and right padding together.
     sides: usize,
     horizontal: AlignmentHorizontal,
 }
 
 impl UniformPlacement {
-    /// How texts with some padding and alignment stand, if they stand between spaces, and a number can say the columns of the padding.
+    /// Returns the placement of texts with this padding and alignment. `None` if side padding isn't
+    /// spaces, there is top padding, or the padding overflows a `usize`.
     #[inline(always)]
     pub fn of(padding: &Sides<Indent>, horizontal: AlignmentHorizontal) -> Option<UniformPlacement>
         ensures { (style : CellStyle) → padding.now ≡ style.padding → horizontal ≡ style.horizontal → IfSome result (IsUniform style) }
@@ -57,7 +59,7 @@ impl UniformPlacement {
         })
     }
 
-    /// How texts under a style stand, if they stand between spaces, and a number can say the columns of their padding.
+    /// Returns the placement of texts with a style; `None` as for `UniformPlacement::of`.
     #[inline(always)]
     pub fn new(style: &CellStyle) -> Option<UniformPlacement>
         ensures { IfSome result (IsUniform style.now) }
@@ -65,7 +67,7 @@ impl UniformPlacement {
         UniformPlacement::of(&style.padding, style.horizontal)
     }
 
-    /// The same with another alignment.
+    /// Returns this placement with another alignment.
     #[inline(always)]
     pub fn aligned(self, horizontal: AlignmentHorizontal) -> UniformPlacement
         ensures { result ≡ record self { horizontal = horizontal } }
@@ -73,7 +75,7 @@ impl UniformPlacement {
         UniformPlacement { horizontal, ..self }
     }
 
-    /// Where such a text stands in a column of some width, if its padding fits.
+    /// Returns the placement in a column of `width` columns; `None` if the padding doesn't fit.
     #[inline(always)]
     pub fn placement(self, width: usize) -> Option<Placement>
         ensures { (style : CellStyle) → IsUniform style self
@@ -88,7 +90,8 @@ impl UniformPlacement {
 }
 
 impl Placement {
-    /// Where a text under a style stands in a column of some width, if it stands between spaces, and its padding fits.
+    /// Returns the placement of a text with a style in a column of `width` columns. `None` if side
+    /// padding isn't spaces, there is top padding, or the padding doesn't fit.
     #[inline(always)]
     pub fn new(style: &CellStyle, width: usize) -> Option<Placement>
         ensures { IfSome result (λ placement. (placement ≡ placement_of style.now width) × IsPlaceable style.now width) }

@@ -1,4 +1,4 @@
-//! A row of cells, a line at a time.
+//! The trait of rows, and writing one line of a row.
 ghost use Rattle.std.specs.Prelude.{◌≡◌, ◌<◌, ◌≤◌, ℕ, IfSome, []};
 ghost use Rattle.std.specs.List.{flat_map, range_with_len, slice_index_or};
 ghost use Rattle.tabled_config.specs.RowStyles.{style_in};
@@ -20,56 +20,59 @@ use crate::text_sink::TextSink;
 use tabled_base::TableError;
 use tabled_config::{CellStyle, Frame, KnownSides, RowStyles};
 
-/// A row of cells as it is printed: the blocks of the cells, and what stands around and between them.
+/// A row of cells to print: the cells, and the frame around and between them.
 pub trait Row<'a> {
-    // What contracts see.
+    // The row as contracts see it.
     ghost sheet: { Self → RowSheet };
 
-    /// How many cells there are.
+    /// Returns the number of cells.
     fn count_columns(&self) -> usize
         ensures { result ≡ (sheet self.now).columns.count };
 
-    /// How many lines the row takes, padding included.
+    /// Returns the number of lines, padding included.
     fn height(&self) -> usize
         ensures { result ≡ (sheet self.now).height };
 
-    /// What stands around and between the cells.
+    /// Returns the vertical lines and the margin.
     fn frame(&self) -> &Frame
         ensures { result.now ≡ (sheet self.now).columns.frame };
 
-    /// What stands between the texts of two columns in a row of one line.
+    /// Returns the separator between two texts, for a row of one line.
     fn separator(&self) -> &ColumnSeparator
         ensures { result.now.bar ≡ (sheet self.now).columns.frame.inner };
 
-    /// How the texts of all cells stand between spaces, if it is known that they stand alike, and so.
+    /// Returns the placement that all texts share, if one is known. Returning `None` is always
+    /// safe.
     fn uniform(&self) -> Option<UniformPlacement>
         ensures { IfSome result (λ uniform. (column : ℕ) → column < (sheet self.now).columns.count
             → IsUniform ((sheet self.now).style column) uniform) };
 
-    /// The padding and the alignment of the text in each column, if they are known by its place.
+    /// Returns the padding and horizontal alignment of each text, if they can be looked up by
+    /// column. Returning `None` is always safe.
     fn sides(&self) -> Option<KnownSides<'_>>
         ensures { IfSome result (λ sides. DescribesSides sides (sheet self.now).columns.count (sheet self.now).style) };
 
-    /// How the texts of the columns stand, from left to right.
+    /// Returns the styles of the cells, to be read from left to right.
     fn styles(&self) -> RowStyles<'_>
         ensures { (column : ℕ) → column < (sheet self.now).columns.count
             → style_in result column ≡ (sheet self.now).style column };
 
-    /// Where the cells of the columns begin and their texts stand if the row takes one line, if that is known for all of them.
+    /// Returns the placement and offset of each cell, if they are cached for a row of one line.
+    /// Returning `None` is always safe.
     fn placements(&self) -> Option<&[CellPlacement]>
         ensures { IfSome result (λ placements. ArePlacements (sheet self.now).style (sheet self.now).columns placements.now) };
 
-    /// How many text columns a column takes, padding included.
+    /// Returns the width of a column, in text columns, padding included.
     fn width(&self, column: usize) -> usize
         requires { column < (sheet self.now).columns.count }
         ensures { result ≡ (sheet self.now).columns.width column };
 
-    /// The text of a cell, with its measures.
+    /// Returns the text of a cell, with its measures.
     fn content(&self, column: usize) -> Content<'a>
         requires { column < (sheet self.now).columns.count }
         ensures { result.text.now ≡ (sheet self.now).text column };
 
-    /// A cell as it is laid out in its style.
+    /// Returns a cell to print, in its style.
     fn cell(&self, column: usize, style: CellStyle) -> CellBlock<'a>
         requires inside { column < (sheet self.now).columns.count }
         requires style { style ≡ (sheet self.now).style column }
@@ -78,14 +81,15 @@ pub trait Row<'a> {
         ensures height { result.height ≡ (sheet self.now).height }
         ensures text { result.content.text.now ≡ (sheet self.now).text column };
 
-    /// How many first cells are drawn: nothing stands in a line at each one behind them. So many cells are passed over at once.
+    /// Returns how many of the first cells are drawn: all lines of the others are empty, and the
+    /// others are skipped. Returning the number of cells is always safe.
     fn count_drawn(&self) -> usize
         ensures within { result ≤ (sheet self.now).columns.count }
         ensures rest { (column index : ℕ) → result ≤ column → column < (sheet self.now).columns.count
             → cell_piece (sheet self.now) index column ≡ [] };
 }
 
-/// A line of a cell: the column of the cell, how its text stands, and which of its lines it is.
+/// A line of a cell: its column, its style, and the index of the line.
 #[derive(Clone, Copy)]
 pub(crate) struct CellLine {
     pub column: usize,
@@ -93,7 +97,8 @@ pub(crate) struct CellLine {
     pub index: usize,
 }
 
-/// A line of the block of a cell. Where its text has some lines, the cursor at its column moves to the next one.
+/// Writes a line of a cell's block. If the text has several lines, the cursor of its column moves
+/// to the next one.
 fn write_block_line<'a, R: Row<'a>, S: TextSink>(
     sink: &mut S,
     row: &R,
@@ -119,7 +124,7 @@ fn write_block_line<'a, R: Row<'a>, S: TextSink>(
     Ok(())
 }
 
-/// A line of a cell, with the vertical line before it.
+/// Writes a line of a cell, after the vertical line before it.
 pub(crate) fn write_cell<'a, R: Row<'a>, S: TextSink>(
     sink: &mut S,
     row: &R,
@@ -163,7 +168,7 @@ fn write_block_cells<'a, R: Row<'a>, S: TextSink>(
     Ok(())
 }
 
-/// The cells of a row of one line, of which each text stands as it was set.
+/// Writes the cells of a row of one line, with the style of each looked up.
 #[inline(never)]
 fn write_styled_cells<'a, R: Row<'a>, S: TextSink>(
     sink: &mut S,
@@ -178,7 +183,8 @@ fn write_styled_cells<'a, R: Row<'a>, S: TextSink>(
     write_spaced_cells(sink, row, StyledPlacements::new(row.styles()), separator)
 }
 
-/// The cells of a row of one line, as it is known where its texts stand.
+/// Writes the cells of a row of one line, with the first of these that is known: cached placements,
+/// one placement, paddings and alignments, styles.
 fn write_spaced_row<'a, R: Row<'a>, S: TextSink>(
     sink: &mut S,
     row: &R,
@@ -201,7 +207,7 @@ fn write_spaced_row<'a, R: Row<'a>, S: TextSink>(
     }
 }
 
-/// The cells of a line. Those of a row of one line mostly need no blocks.
+/// Writes the cells of a line. Those of a row of one line mostly need no blocks.
 fn write_cells<'a, R: Row<'a>, S: TextSink>(
     sink: &mut S,
     row: &R,
@@ -222,7 +228,7 @@ fn write_cells<'a, R: Row<'a>, S: TextSink>(
     write_block_cells(sink, row, cursors, index)
 }
 
-/// A line of a row, in whose texts the cursors stand.
+/// Writes the line of a row at `index`. The cursors are in the texts of its cells.
 pub fn write_row_line<'a, R: Row<'a>, S: TextSink>(
     sink: &mut S,
     row: &R,

@@ -1,4 +1,4 @@
-//! Where the texts of a row of one line stand, from left to right.
+//! The placements of the texts in a row of one line, from what is known of the row.
 ghost use Rattle.std.specs.Prelude.{◌≡◌, ◌+◌, ◌<◌, ℕ, IfSome, Some, length, slice_get};
 ghost use Rattle.tabled_config.specs.RowStyles.{style_in};
 ghost use Rattle.tabled_config.specs.KnownSides.{DescribesSides};
@@ -12,56 +12,58 @@ use crate::placement::{CellPlacement, Placement, UniformPlacement};
 use crate::row::Row;
 use tabled_config::{AlignmentHorizontal, CellStyle, KnownSides, RowStyles};
 
-/// The first line of a text where it stands between spaces.
+/// The first line of a text, with the spaces around it in its cell.
 #[derive(Clone, Copy)]
 pub struct PlacedText<'a> {
-    /// The spaces before it.
+    /// The spaces before it, padding included.
     pub before: usize,
-    /// Those of them that stand behind the padding.
+    /// Those of them that alignment adds after the padding.
     pub shift: usize,
     /// The line.
     pub text: &'a str,
-    /// The columns that it takes.
+    /// Its width in columns.
     pub columns: usize,
-    /// The spaces behind it.
+    /// The spaces after it, padding included.
     pub behind: usize,
 }
 
-/// What describes where the texts of a row of one line stand, from left to right.
+/// A source of the placements in a row of one line, to be read from left to right.
 pub trait RowPlacements {
     ghost use Rattle.tabled_line.specs.Placements.{IsDescribedColumn};
     ghost use Rattle.tabled_line.specs.Offsets.{offset_from};
     ghost use Rattle.tabled_line.specs.Row.{RowSheet};
 
-    // What is known of a row is right.
+    // Whether this is true of a row.
     ghost describes: { Self → RowSheet → Type 0 };
 
-    /// Where the text of a column of some width stands, if it stands between spaces, and its padding fits.
+    /// Returns the placement of the text in a column of `width` columns. `None` if side padding
+    /// isn't spaces, there is top padding, or the padding doesn't fit.
     fn at(&mut self, column: usize, width: usize) -> Option<Placement>
         requires { IsDescribedColumn (describes self.old) column }
         ensures placement { (row : RowSheet) → describes self.old row → column < row.columns.count → width ≡ row.columns.width column
             → IfSome result (λ placement. (placement ≡ placement_of (row.style column) width) × IsPlaceable (row.style column) width) }
         ensures same { (row : RowSheet) → describes self.old row → describes self.new row };
 
-    /// Where the columns that the padding leaves to the text of a column begin behind the left edge in a blank row, in bytes, if that is at hand.
+    /// Returns the offset of the first column after the left padding, in bytes after the left edge
+    /// of a blank row, if this is cached.
     fn content_offset(&self, column: usize) -> Option<usize>
         requires { IsDescribedColumn (describes self.now) column }
         ensures { (row : RowSheet) → describes self.now row → column < row.columns.count
             → IfSome result (λ place. place ≡ offset_from 0 row.columns column + (row.style column).padding.left.size) };
 
-    /// How the text of a column stands, if that is at hand.
+    /// Returns the style of a column, if this source knows it.
     fn style(&mut self, column: usize) -> Option<CellStyle>
         ensures style { (row : RowSheet) → describes self.old row → column < row.columns.count
             → IfSome result (λ style. style ≡ row.style column) }
         ensures same { (row : RowSheet) → describes self.old row → describes self.new row };
 }
 
-/// Where the texts of the columns stand, as it is kept for rows set alike.
+/// Placements that are cached for rows with the same settings.
 #[derive(Drop)]
 pub struct CachedPlacements<'a>(pub &'a [CellPlacement]);
 
 impl<'a> CachedPlacements<'a> {
-    /// Where the text of a column stands.
+    /// Returns the placement of a column.
     #[inline(always)]
     fn cell(&self, column: usize) -> CellPlacement
         requires { column < length self.now.0.now }
@@ -91,7 +93,7 @@ impl<'a> RowPlacements for CachedPlacements<'a> {
     }
 }
 
-/// All texts stand alike.
+/// All texts have the same placement.
 impl RowPlacements for UniformPlacement {
     ghost use Rattle.std.specs.Prelude.{◌<◌, ℕ};
     ghost use Rattle.tabled_line.specs.Placements.{IsUniform};
@@ -112,15 +114,16 @@ impl RowPlacements for UniformPlacement {
     }
 }
 
-/// Each text stands as its padding and its alignment are known.
+/// Placements from the known padding and alignment of each text.
 #[derive(Drop)]
 pub struct KnownPlacements<'a> {
     sides: KnownSides<'a>,
-    // How the texts stand but for their alignments, if all are padded alike.
+    // The placement, except for the alignment, if all texts have the same padding.
     alike: Option<UniformPlacement>,
 }
 
-/// How the texts of a row stand but for their alignments, if all are told to be padded alike, and stand between spaces.
+/// Returns the placement of all texts, except for the alignment, if all have the same padding and
+/// it allows one.
 #[inline(always)]
 fn known_uniform(sides: &KnownSides<'_>) -> Option<UniformPlacement>
     ensures { (columns : ℕ) (style : ℕ → CellStyle) → DescribesSides sides.now columns style
@@ -131,7 +134,7 @@ fn known_uniform(sides: &KnownSides<'_>) -> Option<UniformPlacement>
 }
 
 impl<'a> KnownPlacements<'a> {
-    /// What these paddings and alignments say.
+    /// Returns the placements for these paddings and alignments.
     #[inline(always)]
     pub fn new(sides: KnownSides<'a>) -> KnownPlacements<'a>
         ensures sides { result.sides ≡ sides.entry }
@@ -170,15 +173,16 @@ impl<'a> RowPlacements for KnownPlacements<'a> {
     }
 }
 
-/// Each text stands as its style says.
+/// Placements from the style of each text.
 #[derive(Drop)]
 pub struct StyledPlacements<'a> {
     styles: RowStyles<'a>,
-    // How the texts stand but for their alignments, if all are padded alike.
+    // The placement, except for the alignment, if all texts have the same padding.
     alike: Option<UniformPlacement>,
 }
 
-/// How the texts of a row stand but for their alignments, if all are known to be padded alike, and stand between spaces.
+/// Returns the placement of all texts, except for the alignment, if all are known to have the same
+/// padding and it allows one.
 fn shared_uniform(styles: &RowStyles<'_>) -> Option<UniformPlacement>
     ensures { IfSome result (λ uniform. (column : ℕ) → IsPadded (style_in styles.now column) uniform) }
 {
@@ -187,7 +191,7 @@ fn shared_uniform(styles: &RowStyles<'_>) -> Option<UniformPlacement>
 }
 
 impl<'a> StyledPlacements<'a> {
-    /// What these styles say.
+    /// Returns the placements for these styles.
     #[inline(always)]
     pub fn new(styles: RowStyles<'a>) -> StyledPlacements<'a>
         ensures styles { result.styles ≡ styles.entry }
@@ -226,7 +230,8 @@ impl<'a> RowPlacements for StyledPlacements<'a> {
     }
 }
 
-/// The first line of the text of a column of some width where it stands between spaces, if it does and fits, and no further line is wider.
+/// Places the first line of the text in a column of `width` columns. `None` if there is no
+/// placement, the line doesn't fit, or a later line is wider.
 #[inline(always)]
 pub fn place<'c, R: Row<'c>, A: RowPlacements>(
     row: &R,
@@ -259,7 +264,7 @@ pub fn place<'c, R: Row<'c>, A: RowPlacements>(
     })
 }
 
-/// How the text of a column of the row stands.
+/// Returns the style of a column, from `placements` or else from the row.
 pub(crate) fn style_of<'c, R: Row<'c>, A: RowPlacements>(
     row: &R,
     placements: &mut A,

@@ -1,5 +1,5 @@
-//! Rows of one line that are laid over a blank one, as those of a new table mostly can be: the spaces, the vertical lines and the
-//! edges are made once, and the texts of a row are copied to their places.
+//! Row templates for rows of one line: a blank row with its vertical lines and edges is built once,
+//! and the texts of each row are copied into it.
 ghost use Rattle.std.specs.Prelude.{◌≡◌, [], ◌∷◌, IfOk, IsUtf8, drop, false, string_bytes, true};
 ghost use Rattle.tabled_line.specs.Template.{IsTemplateOf};
 ghost use Rattle.tabled_line.specs.BlankRow.{blank_line, blank_row, first_offset};
@@ -16,14 +16,15 @@ use std::alloc::Global;
 use tabled_base::TableError;
 use tabled_config::{Frame, HorizontalLine};
 
-/// After so many rows that could not be laid no more are tried.
+/// After this many rows that couldn't be filled in, the template is given up.
 const TRIES: usize = 16;
 
-/// The most columns that a blank row takes, but for its vertical lines. A longer one isn't worth its memory, of which there may
-/// not be enough for a row of a table that is as wide as a number can be.
+/// The most columns of a template, not counting vertical lines. A longer one isn't worth the
+/// memory, and a table can be wider than memory is large.
 const MOST_COLUMNS: usize = 65_536;
 
-/// Whether the columns are few enough for a blank row, and what they and the margin at their sides take. This says what is kept, not what is printed.
+/// Whether the columns and the side margins are short enough for a template. This decides what is
+/// cached, not what is printed.
 fn is_short<C: TableColumns>(columns: &C) -> bool {
     if columns.count_columns() > MOST_COLUMNS {
         return false;
@@ -36,7 +37,8 @@ fn is_short<C: TableColumns>(columns: &C) -> bool {
     taken <= MOST_COLUMNS
 }
 
-/// The characters of a blank row: those of a horizontal line of spaces, with the vertical lines where it meets them.
+/// Returns the characters of a blank row, as a horizontal line: spaces, with the vertical lines at
+/// its ends and intersections.
 fn blank_line(frame: &Frame) -> HorizontalLine
     ensures { result ≡ blank_line frame.now }
 {
@@ -48,7 +50,8 @@ fn blank_line(frame: &Frame) -> HorizontalLine
     }
 }
 
-/// Lays out a blank row behind a line feed, and answers where its first cell begins behind that.
+/// Writes a line feed and a blank row. Returns the offset of the first cell, in bytes after the
+/// line feed.
 fn write_blank<C: TableColumns>(blank: &mut String, columns: &C) -> Result<usize, TableError>
     requires empty { string_bytes blank.old ≡ [] }
     ensures row { IfOk result (λ _. string_bytes blank.new ≡ 10 ∷ blank_row (C.sheet columns.now)) }
@@ -63,7 +66,8 @@ fn write_blank<C: TableColumns>(blank: &mut String, columns: &C) -> Result<usize
     Ok(start)
 }
 
-/// Lays the texts of a row of one line over a blank row that stands behind a line feed. Answers whether all could be laid.
+/// Copies the texts of a row of one line into a blank row with a line feed before it. Returns
+/// whether all texts could be copied.
 fn fill_line<'a, R: Row<'a>>(led: &mut [u8], slots: &[Slot], row: &R) -> bool
     requires height { (R.sheet row.now).height ≡ 1 }
     requires blank { led.old ≡ 10 ∷ blank_row (R.sheet row.now).columns }
@@ -74,20 +78,21 @@ fn fill_line<'a, R: Row<'a>>(led: &mut [u8], slots: &[Slot], row: &R) -> bool
     fill_texts(&mut led[1..], slots, row)
 }
 
-/// A blank row over some columns, which is laid out once, and the row that was laid over it, both behind a line feed.
+/// A blank row that is built once, and the last row that was filled in. Both have a line feed
+/// before them.
 #[derive(Drop)]
 pub(crate) struct RowTemplate {
     blank: String,
-    /// Where its cells stand.
+    /// Where the cells of the blank row begin.
     slots: Vec<Slot>,
     whole: bool,
     line: Vec<u8>,
-    /// How many rows may still fail to be laid before no more are tried.
+    /// How many more rows may fail before the template is given up.
     tries: usize,
 }
 
 impl RowTemplate {
-    /// No row so far.
+    /// Returns a template without a blank row.
     pub fn new(alloc: Global) -> RowTemplate
         ensures { result.whole ≡ false }
     {
@@ -100,7 +105,8 @@ impl RowTemplate {
         }
     }
 
-    /// Lays the blank row out, unless it is there. Answers whether it is there now; no more is tried where it would be too long.
+    /// Builds the blank row, unless it is there. Returns whether it is there now. If it would be
+    /// too long, the template is given up.
     fn lay_out<C: TableColumns>(&mut self, columns: &C) -> bool
         requires known { IsTemplateOf (C.sheet columns.now) self.old }
         ensures known { IsTemplateOf (C.sheet columns.now) self.new }
@@ -121,7 +127,8 @@ impl RowTemplate {
         self.whole
     }
 
-    /// Begins a line with the blank row. Answers whether it could.
+    /// Starts a line with a copy of the blank row. Returns `false` if there is none or an
+    /// allocation failed.
     fn begin<C: TableColumns>(&mut self, columns: &C) -> bool
         requires known { IsTemplateOf (C.sheet columns.now) self.old }
         ensures known { IsTemplateOf (C.sheet columns.now) self.new }
@@ -140,7 +147,8 @@ impl RowTemplate {
         self.line.extend_from_slice(blank).is_ok()
     }
 
-    /// Lays the texts of a row over these columns over the blank one. Answers whether all could be laid.
+    /// Fills in the texts of a row over these columns. Returns whether this succeeded; if not, the
+    /// row must be written without the template.
     pub fn fill_row<'a, C: TableColumns, R: Row<'a>>(&mut self, columns: &C, row: &R) -> bool
         requires known { IsTemplateOf (C.sheet columns.now) self.old }
         requires over { (R.sheet row.now).columns ≡ C.sheet columns.now }
@@ -159,12 +167,12 @@ impl RowTemplate {
         laid
     }
 
-    /// The row that was laid, behind a line feed.
+    /// Returns the filled row, with a line feed before it.
     pub fn text(&self) -> &str
         requires { IsUtf8 self.now.line.items }
         ensures { result.now ≡ self.now.line.items }
     {
-        // In range: texts over spaces of a text make a text.
+        // Sound: the precondition says that `line` is UTF-8.
         unsafe { std::str::from_utf8_unchecked(&self.line) }
     }
 }

@@ -1,4 +1,5 @@
-//! Where the cells of a row of one line stand, known once for all rows over the same columns.
+//! Slots: where the cells of a row of one line begin, listed once for all rows over the same
+//! columns.
 ghost use Rattle.std.specs.Prelude.{◌≡◌, ◌<◌, IfOk, []};
 ghost use Rattle.tabled_line.specs.BlankRow.{first_offset};
 ghost use Rattle.tabled_line.specs.Slots.{AreSlots};
@@ -8,14 +9,16 @@ use crate::columns::TableColumns;
 use crate::offsets::{bar_length, next_offset};
 use tabled_base::TableError;
 
-/// The byte at which a cell begins, and the columns that it takes: as many bytes, as long as it is blank.
+/// The byte at which a cell begins, and its width in columns. A blank cell has as many bytes as
+/// columns.
 #[derive(Clone, Copy)]
 pub(crate) struct Slot {
     pub place: usize,
     pub width: usize,
 }
 
-/// Lists where the cells of a row stand, of which the first one begins at a place.
+/// Fills an empty list with the slot of each cell; the first one begins at `start`. `Range`: an
+/// offset overflows. `Memory`: an allocation failed.
 pub(crate) fn list_slots<C: TableColumns>(
     slots: &mut Vec<Slot>,
     columns: &C,
@@ -41,7 +44,7 @@ pub(crate) fn list_slots<C: TableColumns>(
     Ok(())
 }
 
-/// Where the first cell begins, if there is one.
+/// Returns the offset of the first cell; 0 if there is none.
 pub(crate) fn first_offset(slots: &[Slot]) -> usize
     ensures { (columns : ColumnSheet) → AreSlots columns slots.now → 0 < columns.count → result ≡ first_offset columns }
 {

@@ -1,5 +1,4 @@
-//! Rows of one line whose texts stand between spaces, as mostly all do: what stands between two texts goes out in one piece, so that the
-//! spaces behind a text are still to come when it is out.
+//! Writes rows of one line with spaces around each text, as most rows are.
 ghost use Rattle.std.specs.Prelude.{◌≡◌, ◌<◌, ◌++◌};
 ghost use Rattle.std.specs.List.{flat_map, range_with_len};
 ghost use Rattle.tabled_config.specs.Frame.{has_bar};
@@ -16,16 +15,17 @@ use crate::row_placements::{RowPlacements, place, style_of};
 use crate::text_sink::TextSink;
 use tabled_base::TableError;
 
-/// A line while its cells go out.
+/// The state of a line between two of its cells.
 #[derive(Clone, Copy)]
 struct SpacedLine<'r> {
-    /// What stands between two texts.
+    /// The separator between two texts.
     separator: SeparatorText<'r>,
-    /// The spaces behind the last text, which are still to come.
+    /// The pending spaces: those after the last text, which are written together with the next
+    /// separator.
     behind: usize,
 }
 
-/// The spaces that are still to come, the vertical line before a column, and so many spaces before its text.
+/// Writes the pending spaces, the vertical line before a column, and `before` spaces.
 #[inline(always)]
 fn write_separator<S: TextSink>(
     sink: &mut S,
@@ -44,7 +44,8 @@ fn write_separator<S: TextSink>(
     write_spaces(sink, before)
 }
 
-/// The spaces that are still to come, and the next cell but for the spaces behind its text, of which it answers how many there are.
+/// Writes the pending spaces and the next cell, except for the spaces after its text. Returns the
+/// number of these.
 #[inline(always)]
 fn write_next_text<'a, R: Row<'a>, S: TextSink, A: RowPlacements>(
     sink: &mut S,
@@ -79,7 +80,7 @@ fn write_next_text<'a, R: Row<'a>, S: TextSink, A: RowPlacements>(
     }
 }
 
-/// The cells of a row of one line, of which it is known where they stand.
+/// Writes the cells of a row of one line, at their placements.
 pub(crate) fn write_spaced_cells<'a, R: Row<'a>, S: TextSink, A: RowPlacements + Drop>(
     sink: &mut S,
     row: &R,

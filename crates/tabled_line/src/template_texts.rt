@@ -1,4 +1,4 @@
-//! The texts of a row of one line, laid over a blank one where they stand.
+//! Copies the texts of a row of one line into a row template.
 ghost use Rattle.std.specs.Prelude.{◌≡◌, List, ℕ, ◌+◌, ◌≤◌, ◌<◌, ◌^◌, ◌++◌, IsUtf8, drop, length, take, true};
 ghost use Rattle.tabled_line.specs.BlankRow.{StandsAt, blank_row};
 ghost use Rattle.tabled_line.specs.Slots.{AreSlots, IsTextAt};
@@ -11,7 +11,7 @@ use crate::row_placements::{
 };
 use crate::slots::{Slot, first_offset};
 
-/// Copies a text over some bytes of its length.
+/// Copies a text over the bytes from `place` on.
 #[inline(always)]
 fn copy_at(line: &mut [u8], place: usize, text: &str)
     requires { place + length text.now ≤ length line.old }
@@ -22,7 +22,8 @@ fn copy_at(line: &mut [u8], place: usize, text: &str)
     line[place..end].copy_from_slice(text.as_bytes());
 }
 
-/// Where the text of a column begins: in the columns that are told beside its placement, or else in its cell.
+/// Returns the offset of a text in the line: from the cached offset after its left padding, or else
+/// from its slot.
 #[inline(always)]
 fn text_offset<A: RowPlacements>(
     placements: &A,
@@ -36,13 +37,13 @@ fn text_offset<A: RowPlacements>(
     ensures { result ≡ listed.place + placed.now.before }
 {
     match placements.content_offset(column) {
-        Some(content_width) => first + content_width + placed.shift,
+        Some(start) => first + start + placed.shift,
         None => listed.place + placed.before,
     }
 }
 
-/// Lays a text over the blank columns where it stands. Answers whether it could be laid: only a text
-/// that takes as many bytes as columns is.
+/// Copies a text over the spaces from `start` on. Returns `false`, and copies nothing, if the text
+/// hasn't as many bytes as columns.
 #[inline(always)]
 fn fill_text(line: &mut [u8], start: usize, placed: &PlacedText<'_>) -> bool
     requires { StandsAt line.old start (fill 32 placed.now.columns) }
@@ -59,8 +60,8 @@ fn fill_text(line: &mut [u8], start: usize, placed: &PlacedText<'_>) -> bool
     true
 }
 
-/// Lays the texts of a row of one line over a blank row, of which it is known where they stand. Answers whether all could be laid: only texts that stand
-/// between spaces are.
+/// Copies the texts of a row into a blank row, at their placements. Returns `false` if a text has
+/// no placement, doesn't fit, or hasn't as many bytes as columns.
 fn fill_placed_texts<'a, R: Row<'a>, A: RowPlacements + Drop>(
     line: &mut [u8],
     slots: &[Slot],
@@ -87,7 +88,8 @@ fn fill_placed_texts<'a, R: Row<'a>, A: RowPlacements + Drop>(
     true
 }
 
-/// Lays the texts of a row of one line over a blank row, of which each stands as it was set. Answers whether all could be laid.
+/// Copies the texts of a row into a blank row, with the style of each looked up. Returns whether
+/// all texts could be copied.
 #[inline(never)]
 fn fill_styled_texts<'a, R: Row<'a>>(line: &mut [u8], slots: &[Slot], row: &R) -> bool
     requires height { (R.sheet row.now).height ≡ 1 }
@@ -99,7 +101,9 @@ fn fill_styled_texts<'a, R: Row<'a>>(line: &mut [u8], slots: &[Slot], row: &R) -
     fill_placed_texts(line, slots, row, StyledPlacements::new(row.styles()))
 }
 
-/// Lays the texts of a row of one line over a blank row. Answers whether all could be laid.
+/// Copies the texts of a row into a blank row, with the first of these that is known: cached
+/// placements, one placement, paddings and alignments, styles. Returns whether all texts could be
+/// copied.
 pub(crate) fn fill_texts<'a, R: Row<'a>>(line: &mut [u8], slots: &[Slot], row: &R) -> bool
     requires height { (R.sheet row.now).height ≡ 1 }
     requires blank { line.old ≡ blank_row (R.sheet row.now).columns }

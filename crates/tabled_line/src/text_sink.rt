@@ -1,15 +1,16 @@
-//! What takes the text of a table.
+//! The trait of sinks: what the text of a table is written to.
 ghost use Rattle.tabled_line.specs.Sent.{Sent, Writes};
 
 use tabled_base::TableError;
 
-/// A place for text. It is told the pieces of a text one after another.
+/// A destination for text, which is written in pieces.
 pub trait TextSink {
-    // The bytes so far, where they are known, how often a write failed, and whether memory may be wanted.
+    // The bytes so far, if they are known, the number of failed writes, and whether `Memory` can
+    // occur.
     ghost sent: { Self → Sent };
 
-    /// Adds a text. Refused only for memory, by a sink that grows, or with `Writer` where a write failed;
-    /// then a beginning of the text was added.
+    /// Appends a text. `Memory`: the sink grows, and an allocation failed. `Writer`: a write
+    /// failed. After an error, a beginning of the text was appended.
     fn write_text(&mut self, text: &str) -> Result<(), TableError>
         ensures written { Writes (sent self.old) result (sent self.new) text.now };
 }

@@ -1,4 +1,4 @@
-//! A borrowed writer as a sink.
+//! A sink over a borrowed writer.
 ghost use Rattle.std.specs.Prelude.{◌≡◌, None};
 ghost use Rattle.tabled_line.specs.WriterSent.{writer_sink_sent};
 
@@ -6,11 +6,11 @@ use crate::text_sink::TextSink;
 use std::io::Write;
 use tabled_base::TableError;
 
-/// Text for a borrowed writer. The contract of a call that prints to it says what the writer took.
+/// A sink over a borrowed writer. Contracts of calls that print to it say what the writer took.
 ///
-/// It writes as `IoSink` does, and nothing after a failed write. A caller's proof learns of the writer
-/// from `sent`: the bytes there start with the name of the reference, so that the writer is the same
-/// after the call, and after a failure end with the byte at which the write failed.
+/// It writes as `IoSink` does, and nothing after a failed write. Proofs use `sent`: its bytes start
+/// with the name of the reference, so that the writer is the same after the call. After a failure,
+/// they end with the byte at which the write failed.
 #[derive(Debug, Drop)]
 pub struct WriterSink<'a, W> {
     /// The writer.
@@ -20,7 +20,7 @@ pub struct WriterSink<'a, W> {
 }
 
 impl<'a, W> WriterSink<'a, W> {
-    /// A sink over a writer, without failures so far.
+    /// Returns a sink over a writer, with no failures yet.
     pub fn new(writer: &'a mut W) -> WriterSink<'a, W>
         ensures same_reference { result.writer.ghost_name ≡ writer.entry.ghost_name }
         ensures writer { result.writer.now ≡ writer.old }

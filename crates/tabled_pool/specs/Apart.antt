@@ -1,4 +1,4 @@
--- Pool tables whose settings keep their texts apart, whatever these are.
+-- Pool tables whose settings separate the texts, whatever these contain.
 use Rattle.std.specs.Prelude.{◌≡◌, ℕ, ◌<◌, ◌⊎◌, true}
 use Rattle.tabled_text.specs.FramedLines.{IsSeparatorColumn}
 use Rattle.tabled_config.specs.declared.borders.Borders.{Borders}
@@ -13,7 +13,7 @@ use Rattle.tabled_pool.specs.Plain.{IsAdditivePool}
 use Rattle.tabled_pool.specs.Pool.{borders_of, style_of}
 use Rattle.tabled_pool.specs.Uncoloured.{IsUncoloured}
 
--- between two texts side by side stands a line, or the left or the right padding of each text
+-- texts side by side have a vertical border or side padding between them
 abbrev pub HasGap : Borders ℕ → CellStyle → Type 0
 HasGap b style = (has_left b ≡ true) ⊎ ((0 < style.padding.left.size) ⊎ (0 < style.padding.right.size))
 
@@ -24,7 +24,8 @@ pub record IsApartMargin (margin : Sides Indent) : Type 0 where
   pub top : IsSeparatorColumn margin.top.fill
   pub bottom : IsSeparatorColumn margin.bottom.fill
 
--- lines, paddings and margins are separators of one column, which stand beside each text, and nothing is coloured
+-- borders, padding and margin are separators of one column, a border or padding is between texts
+-- side by side, and nothing is coloured
 pub record IsApartPool (t : PoolTable) : Type 0 where
   pub borders : EachCharacter IsSeparatorColumn (borders_of t)
   pub style : IsApartStyle (style_of t.config)
@@ -32,6 +33,7 @@ pub record IsApartPool (t : PoolTable) : Type 0 where
   pub margin : IsApartMargin t.config.config.margin
   pub uncoloured : IsUncoloured t
 
--- the columns of what is drawn add up: the settings separate any texts, or texts and settings are additive
+-- the columns of what is drawn add up: the settings separate any texts, or texts and settings are
+-- additive
 abbrev pub IsStraightPool : PoolTable → Type 0
 IsStraightPool t = IsApartPool t ⊎ IsAdditivePool t

@@ -1,4 +1,4 @@
--- The block of a text in its box: the lines that alignment adds are spaces, outside of the padding.
+-- The block of a text in its box. The lines that alignment adds are spaces, outside of the padding.
 use Rattle.std.specs.Prelude.{ℕ, ◌-◌, ltb, if◌then◌else◌, List, ◌++◌, map, replicate}
 use Rattle.tabled_text.specs.Measure.{lines_of}
 use Rattle.tabled_config.specs.declared.sides.Sides.{Sides}
@@ -8,26 +8,26 @@ use Rattle.tabled_line.specs.Block.{above_text, free_lines, cell_line, inner_wid
 use Rattle.tabled_line.specs.Fill.{fill, indent}
 use Rattle.tabled_pool.specs.Colours.{Mark, coloured}
 
--- the lines above the text that alignment adds
+-- how many lines alignment adds above the text
 abbrev pub lines_above : CellStyle → ℕ → List ℕ → ℕ
 lines_above style height text = above_text style.vertical (free_lines style height text)
 
--- a line below the text: of the bottom padding first, and of spaces behind that
+-- a line below the text: the bottom padding first, then spaces
 abbrev pub line_below : CellStyle → Sides Mark → ℕ → ℕ → List ℕ
 line_below style marks width index =
     if ltb index style.padding.bottom.size then coloured marks.bottom (fill style.padding.bottom.fill width) else fill 32 width
 
--- a style without padding at the sides
+-- a style without side padding
 abbrev pub without_sides : CellStyle → CellStyle
 without_sides style = record style { padding = record style.padding { left = no_indent; right = no_indent } }
 
--- a line of the text: left padding, the line in the room that is left to it, right padding
+-- a line of the text: left padding, the line in the content width, right padding
 abbrev pub text_line : CellStyle → Sides Mark → ℕ → List ℕ → List ℕ → List ℕ
 text_line style marks width text line =
     coloured marks.left (indent style.padding.left)
     ++ (cell_line (without_sides style) (inner_width style width) text line ++ coloured marks.right (indent style.padding.right))
 
--- spaces, lines of the top fill, the lines of the text, lines of the bottom fill, spaces
+-- spaces, top padding, the lines of the text, bottom padding, spaces
 unfoldable pub pool_block : CellStyle → Sides Mark → ℕ → ℕ → List ℕ → List (List ℕ)
 pool_block style marks width height text =
     let above = lines_above style height text in

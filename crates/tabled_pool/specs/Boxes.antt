@@ -1,4 +1,4 @@
--- Boxes: a size of their own, and the pieces that fill a place.
+-- Boxes: the size that each needs, and the parts that fill a rectangle.
 use Rattle.std.specs.Prelude.{
   ◌≡◌,
   ℕ,
@@ -34,7 +34,7 @@ use Rattle.tabled_pool.specs.declared.tree.TableValue.{TableValue}
 use Rattle.tabled_pool.specs.declared.tree.TableValue.TheOpen.{TableValue-F, Row, Column, Cell}
 use Rattle.tabled_pool.specs.declared.tree.TableValue.TheFolds.{fold-TableValue}
 
--- a leaf with its text, or a line between boxes
+-- a text, or a border between boxes
 pub record Part : Type 0 where
   pub kind : Kind
   pub place : Rectangle
@@ -54,7 +54,7 @@ share First surplus k = surplus
 share Last surplus k = 0
 share Each surplus k = surplus / k + (if surplus % k == 0 then 0 else 1)
 
--- the leftmost columns of a place, and the columns from the n-th on
+-- the first n columns of a rectangle, and those after them; the first n lines, and those below them
 abbrev pub left_part : ℕ → Rectangle → Rectangle
 left_part n r = record r { width = n }
 
@@ -76,7 +76,7 @@ abbrev pub row_height : Box → List Box → ℕ
 row_height b [] = b.height
 row_height b (c ∷ bs) = max b.height (row_height c bs)
 
--- the width that the first box is given; the last one gets what is left
+-- the width of the first box with its share of a surplus; the last box gets what is left
 abbrev pub first_width : BoxSpacing → Box → List Box → ℕ → ℕ
 first_width g b bs width = b.width + share g.across (width - row_width g b bs) (length bs + 1)
 
@@ -87,7 +87,7 @@ row_parts g b (c ∷ bs) r =
     let rest = right_part n r in
     b.parts (left_part n r) ++ (part_of Bar (left_part g.bar rest) [] ∷ row_parts g c bs (right_part g.bar rest))
 
--- boxes one below the other
+-- boxes below each other
 abbrev pub column_width : Box → List Box → ℕ
 column_width b [] = b.width
 column_width b (c ∷ bs) = max b.width (column_width c bs)
@@ -121,7 +121,7 @@ abbrev pub column_box : BoxSpacing → List Box → Box
 column_box g [] = leaf_box g []
 column_box g (b ∷ bs) = record { width = column_width b bs; height = column_height g b bs; parts = column_parts g b bs }
 
--- a node, with a box in place of each child
+-- the box of a node, from the boxes of its children
 abbrev pub box_step : BoxSpacing → TableValue-F Box → Box
 box_step g (Cell s) = leaf_box g (string_bytes s)
 box_step g (Row v) = row_box g v.items

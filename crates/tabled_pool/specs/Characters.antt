@@ -1,4 +1,4 @@
--- The characters that the lines of a pool table are drawn with. A missing one is a space.
+-- The border characters of a pool table. A missing one is a space.
 use Rattle.std.specs.Prelude.{ℕ, unwrap_or}
 use Rattle.tabled_config.specs.declared.borders.Borders.{Borders}
 
@@ -21,7 +21,7 @@ pub record EachIntersection (IsKind : ℕ → Type 0) (b : Borders ℕ) : Type 0
   pub right : IsKind (unwrap_or b.right_intersection 32)
   pub inner : IsKind (unwrap_or b.intersection 32)
 
--- each of them is of a kind
+-- `IsKind` holds for each border character
 pub record EachCharacter (IsKind : ℕ → Type 0) (b : Borders ℕ) : Type 0 where
   pub lines : EachLine IsKind b
   pub corners : EachCorner IsKind b

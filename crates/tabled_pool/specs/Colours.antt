@@ -1,11 +1,11 @@
--- The marks of colours: they stand around a run, and take no columns.
+-- Marks: the prefix and suffix of a colour, around a run. They take no columns.
 use Rattle.std.specs.Prelude.{ℕ, Bool, ◌&&◌, List, [], ◌++◌, Option, None, option_map}
 use Rattle.std.specs.Str.{bytes_eq}
 use Rattle.tabled_config.specs.declared.borders.Borders.{Borders}
 use Rattle.tabled_config.specs.declared.sides.Sides.{Sides}
 use Rattle.tabled_config.specs.declared.ansi.ANSIStr.{ANSIStr}
 
--- what stands before and behind a run
+-- what is written before and after a run
 pub record Mark : Type 0 where
   pub prefix : List ℕ
   pub suffix : List ℕ
@@ -19,14 +19,14 @@ no_mark = record { prefix = []; suffix = [] }
 abbrev pub marks_of : Sides ANSIStr → Sides Mark
 marks_of s = record { left = mark_of s.left; right = mark_of s.right; top = mark_of s.top; bottom = mark_of s.bottom }
 
--- a run between its marks, be it empty or not
+-- a run between its marks, which are written even if it is empty
 abbrev pub coloured : Mark → List ℕ → List ℕ
 coloured mark run = mark.prefix ++ (run ++ mark.suffix)
 
 abbrev pub is_same : Mark → Mark → Bool
 is_same a b = bytes_eq a.prefix b.prefix && bytes_eq a.suffix b.suffix
 
--- the marks of the lines around a text, whichever characters stand there
+-- the marks of the borders around a text, whatever characters these have
 pub record LineMarks : Type 0 where
   pub top_left : Option Mark
   pub top : Option Mark

@@ -1,4 +1,5 @@
--- The lines of a drawing: at each place the line of a leaf that begins there, or one border character with its colour.
+-- The lines of a drawing. At each position a line of a text's block starts, or one border character
+-- is written with its colour.
 use Rattle.std.specs.Prelude.{ℕ, ◌+◌, ◌-◌, ◌==◌, if◌then◌else◌, ◌&&◌, ◌||◌, List, [], map, Option, Some, None, unwrap_or, encode_utf8}
 use Rattle.std.specs.List.{range_with_len, flat_map}
 use Rattle.tabled_pool.specs.declared.pieces.Rectangle.{Rectangle}
@@ -14,13 +15,15 @@ use Rattle.tabled_pool.specs.Around.{around_at}
 use Rattle.tabled_pool.specs.Frames.{has_bottom}
 use Rattle.tabled_pool.specs.Owner.{owner, is_border, is_border_before, is_border_above}
 
--- the character of a line where no line meets it: the right line and the bottom line have their own
+-- the character of a border where no other meets it; the outer right and bottom borders have their
+-- own
 abbrev pub main_of : DrawingPlan → Kind → Rectangle → Option ℕ
 main_of t Leaf r = None
 main_of t Bar r = if has_right t.borders && (r.x + r.width == t.width) then t.borders.right else t.borders.left
 main_of t Rule r = if has_bottom t.borders && (r.y + r.height == t.height) then t.borders.bottom else t.borders.top
 
--- a place with a place of a line beside it and one above or below it is a junction, with an arm to each such side
+-- a position with a border at its left or right and one above or below is a junction, with an arm
+-- to each such side
 unfoldable pub border_char : DrawingPlan → Kind → Rectangle → ℕ → ℕ → ℕ
 border_char t k r x y =
     let left = is_border_before t.parts x y in
@@ -29,7 +32,7 @@ border_char t k r x y =
     let down = is_border t.parts x (y + 1) in
     unwrap_or (if (left || right) && (up || down) then junction t.borders left right up down else main_of t k r) 32
 
--- a character of a line, between the marks of its colour
+-- a border character between its marks
 unfoldable pub border_text : DrawingPlan → Kind → Rectangle → ℕ → ℕ → List ℕ
 border_text t k r x y = within_marks (around_at t t.parts x y) (encode_utf8 (border_char t k r x y))
 
@@ -42,7 +45,7 @@ abbrev pub owned_text : DrawingPlan → Option Part → ℕ → ℕ → List ℕ
 owned_text t None x y = []
 owned_text t (Some p) x y = part_text t p.kind p x y
 
--- what is written at a place
+-- what is written at a position
 unfoldable pub place_text : DrawingPlan → ℕ → ℕ → List ℕ
 place_text t y x = owned_text t (owner t.parts x y) x y
 

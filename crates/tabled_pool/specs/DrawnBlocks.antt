@@ -1,4 +1,4 @@
--- Drawn boxes that are joined, in a tree with a text of no column: lines of so many columns each.
+-- The lines of drawn boxes with their width, and how drawn boxes are joined.
 use Rattle.std.specs.Prelude.{ℕ, ◌+◌, ◌-◌, max, List, [], ◌∷◌, ◌++◌, length, map, string_bytes}
 use Rattle.std.specs.List.{flat_map, range_with_len, slice_index_or}
 use Rattle.tabled_line.specs.Fill.{fill}
@@ -11,7 +11,7 @@ pub record BlockSheet : Type 0 where
 abbrev pub block_sheet_of : DrawnBlock → BlockSheet
 block_sheet_of b = record { width = b.width; lines = map string_bytes b.lines.items }
 
--- a line of a block; below its last one stand spaces
+-- a line of a block, or spaces below its last line
 abbrev pub drawn_block_line : ℕ → BlockSheet → List ℕ
 drawn_block_line y p = slice_index_or p.lines y (fill 32 p.width)
 
@@ -31,10 +31,10 @@ most_lines (p ∷ ps) = max (length p.lines) (most_lines ps)
 abbrev pub side_by_side : List BlockSheet → BlockSheet
 side_by_side ps = record { width = all_columns ps; lines = map (λ y. flat_map (drawn_block_line y) ps) (range_with_len 0 (most_lines ps)) }
 
--- the lines of a block, filled with spaces to so many columns
+-- the lines of a block, filled with spaces to `width` columns
 abbrev pub widened : ℕ → BlockSheet → List (List ℕ)
 widened width p = map (λ line. line ++ fill 32 (width - p.width)) p.lines
 
--- blocks one below the other
+-- blocks below each other, filled with spaces to the greatest width
 abbrev pub stacked : List BlockSheet → BlockSheet
 stacked ps = record { width = most_columns ps; lines = flat_map (widened (most_columns ps)) ps }

@@ -1,8 +1,8 @@
--- Which horizontal lines of a frame are there.
+-- Which outer horizontal borders there are.
 use Rattle.std.specs.Prelude.{ℕ, Bool, ◌||◌, is_some}
 use Rattle.tabled_config.specs.declared.borders.Borders.{Borders}
 
--- a horizontal line is there if any of its characters is
+-- there is a horizontal border if any of its characters is set
 abbrev pub has_top : Borders ℕ → Bool
 has_top b = is_some b.top || (is_some b.top_left || (is_some b.top_intersection || is_some b.top_right))
 

@@ -1,6 +1,7 @@
--- Trees with a text of no column. Each text draws the line above it and the one to its left, at the right and bottom edge
--- also those, and drawn boxes are joined. Where lines meet is passed on from box to box: the widths of the boxes above,
--- the heights of the boxes to the left. Every other tree is drawn by the lines that meet.
+-- How a tree with a zero-width text is drawn. Each text draws the borders above it and to its left,
+-- at the edges of the table also those below it and to its right, and drawn boxes are joined. Boxes
+-- pass on where borders meet: their widths to the boxes below, their heights to the boxes at the
+-- right.
 use Rattle.std.specs.Prelude.{ℕ, ◌+◌, ◌-◌, ltb, ◌==◌, if◌then◌else◌, Bool, true, false, not, ◌&&◌, ◌||◌, List, [], ◌∷◌, ◌++◌, map, Option, Some, None, is_some, unwrap_or, encode_utf8, string_bytes}
 use Rattle.std.specs.List.{flat_map, range_with_len}
 use Rattle.tabled_priority.specs.Sums.{one_if}
@@ -27,23 +28,25 @@ pub record Taken : Type 0 where
   pub rest : List ℕ
   pub met : Bool
 
--- the sizes that end before a size does, with a line behind each; the next one loses what is taken of it and one for the
--- line that follows, or is met at its end
+-- a list of sizes, each followed by a border, split at a size: a size that reaches beyond loses
+-- what is before that, and one for the border there; `met` if one ends exactly there
 abbrev pub taken : ℕ → List ℕ → Taken
 taken size [] = record { part = []; rest = []; met = false }
 taken size (e ∷ es) =
     if ltb e size then (let t = taken (size - e - 1) es in record t { part = e ∷ t.part })
     else record { part = []; rest = if e == size then es else (e - size - 1) ∷ es; met = e == size }
 
--- whether a line stands at a place: behind the first of the sizes, the first two, .., as long as these are below a size
+-- whether a border is at `place`: after the first of the sizes, the first two, .., while these add
+-- up to less than `size`
 abbrev pub is_split : List ℕ → ℕ → ℕ → Bool
 is_split [] size place = false
 is_split (e ∷ es) size place =
     ltb e size && (place == e || (ltb e place && is_split es (size - e) (place - e - 1)))
 
--- ---- the characters of a text's lines
+-- ---- the border characters of a text
 
--- the last that applies: those of a meeting, of a side, of a top, of a later row, of a first text
+-- a crossing, a left edge, a top edge, a later row at the left, or the corner: the first that
+-- applies
 abbrev pub top_left : Borders ℕ → Flags → Option ℕ
 top_left b f =
     if f.cross then b.intersection
@@ -52,7 +55,7 @@ top_left b f =
     else if f.first_column && not f.first_row then b.left_intersection
     else b.top_left
 
--- the borders of a text: a line that it doesn't draw has no character
+-- the borders of a text; one that it doesn't draw has no character
 abbrev pub own_borders : Borders ℕ → Flags → Borders ℕ
 own_borders b f = record b {
   top_left = top_left b f;
@@ -63,7 +66,7 @@ own_borders b f = record b {
   bottom_right = if f.last_row && f.last_column then b.bottom_right else None;
 }
 
--- a line is there if its main character or one of its corners is
+-- there is a border if its main character or one of its corners is set
 abbrev pub is_top : Borders ℕ → Bool
 is_top b = is_some b.top || (is_some b.top_left || is_some b.top_right)
 
@@ -78,7 +81,7 @@ is_right b = is_some b.right || (is_some b.top_right || is_some b.bottom_right)
 
 -- ---- the lines of a text
 
--- a character, if its line is there; a missing one is a space
+-- the character of a border, if that is there; a missing character is a space
 abbrev pub written : Bool → Option ℕ → Option ℕ
 written there c = if there then Some (unwrap_or c 32) else None
 
@@ -91,7 +94,7 @@ abbrev pub corner_text : Option Mark → Option Mark → Option ℕ → List ℕ
 corner_text used mark None = []
 corner_text used mark (Some c) = within_marks (begun used mark) (encode_utf8 c)
 
--- a line above or below a text: a corner, a run, a corner, whose colours begin one after the other
+-- the border above or below a text: a corner, a run, a corner, each with its colour
 abbrev pub outer_line : Option Mark → Option Mark → Option Mark → Option ℕ → List ℕ → Option ℕ → List ℕ
 outer_line corner main last start run end =
     let first = if is_some start then corner else None in
@@ -100,14 +103,15 @@ outer_line corner main last start run end =
     ++ (within_marks (begun first main) run
     ++ (corner_text used last end ++ ended (if is_some end then used_after used last else used)))
 
--- a run over so many columns, with another character where lines meet it
+-- a horizontal border of `width` columns, with `split` where vertical ones meet it
 abbrev pub run_char : List ℕ → ℕ → Option ℕ → Option ℕ → ℕ → List ℕ
 run_char sizes width split main x = encode_utf8 (unwrap_or (if is_split sizes width x then split else main) 32)
 
 abbrev pub run_text : List ℕ → ℕ → Option ℕ → Option ℕ → List ℕ
 run_text sizes width split main = flat_map (run_char sizes width split main) (range_with_len 0 width)
 
--- what a box inherits: its place, its flags, the sizes of the boxes above it and of those to its left
+-- what a box inherits: its rectangle, its flags, the widths of the boxes above it and the heights
+-- of the boxes to its left
 pub record InheritedSheet : Type 0 where
   pub place : Rectangle
   pub flags : Flags
@@ -125,7 +129,7 @@ bottom_text t b h = outer_line t.line_marks.bottom_left t.line_marks.bottom t.li
 abbrev pub left_char : DrawingPlan → Borders ℕ → InheritedSheet → ℕ → Option ℕ
 left_char t b h y = if is_split h.before h.place.height y then t.borders.right_intersection else b.left
 
--- a line of the text's block between the sides
+-- a line of the text's block, between the borders at its sides
 abbrev pub inner_text : DrawingPlan → Borders ℕ → InheritedSheet → List ℕ → ℕ → List ℕ
 inner_text t b h text y =
     side_text t.line_marks.left (written (is_left b) (left_char t b h y))
@@ -141,20 +145,21 @@ bordered_block t b h text = record {
       ++ (map (inner_text t b h text) (range_with_len 0 h.place.height) ++ line_if (is_bottom b) (bottom_text t b h));
 }
 
--- a text of no column is one empty line
+-- a zero-width text is one empty line
 abbrev pub text_block : DrawingPlan → InheritedSheet → List ℕ → BlockSheet
 text_block t h text =
     if h.place.width == 0 then record { width = 0; lines = [] ∷ [] } else bordered_block t (own_borders t.borders h.flags) h text
 
 -- ---- the tree
 
--- what a box hands on: its block, its sizes for the boxes below it and for those to its right
+-- what a box passes on: its block, its widths to the boxes below it and its heights to the boxes at
+-- its right
 pub record PassedOn : Type 0 where
   pub block : BlockSheet
   pub above : List ℕ
   pub before : List ℕ
 
--- the boxes of a row or a column, with the sizes that they hand on together
+-- the boxes of a row or a column, with the sizes that they pass on together
 pub record Children : Type 0 where
   pub blocks : List BlockSheet
   pub above : List ℕ
@@ -173,7 +178,8 @@ text_passes t text h = record { block = text_block t h text; above = h.place.wid
 abbrev pub text_drawer : DrawingPlan → BoxSpacing → List ℕ → Drawer
 text_drawer t g text = record { box = leaf_box g text; draw = text_passes t text }
 
--- the flags of the first of some boxes side by side, and those of the others together
+-- the flags of the first of several boxes, and of those after it; `last` if no other follows, `met`
+-- if an inherited border ends at their corner
 abbrev pub first_in_row : Flags → Bool → Flags
 first_in_row f last = record f { last_column = f.last_column && last; leans = not f.first_column }
 
@@ -186,7 +192,7 @@ first_in_column f last = record f { last_row = f.last_row && last }
 abbrev pub later_in_column : Flags → Bool → Flags
 later_in_column f met = record f { first_row = false; leans = false; side = true; cross = met }
 
--- what the first of some boxes side by side inherits, the others together, and the last of them
+-- what boxes side by side inherit: the first, those after it together, and the last
 abbrev pub to_first_in_row : ℕ → Taken → InheritedSheet → InheritedSheet
 to_first_in_row n t h =
     record { place = left_part n h.place; flags = first_in_row h.flags false; above = t.part; before = h.before }
@@ -198,7 +204,8 @@ to_later_in_row g n t h before =
 abbrev pub to_last_in_row : InheritedSheet → InheritedSheet
 to_last_in_row h = record h { flags = first_in_row h.flags true; above = (taken h.place.width h.above).part }
 
--- the boxes of a row: each takes its part of the sizes above, and inherits the sizes to its left by the one before
+-- the boxes of a row: each takes its part of the widths above, and inherits the heights that the
+-- box before it passes on
 abbrev pub row_children : BoxSpacing → Drawer → List Drawer → InheritedSheet → Children
 row_children g d [] h =
     let l = d.draw (to_last_in_row h) in record { blocks = l.block ∷ []; above = l.above; before = l.before }
@@ -209,7 +216,7 @@ row_children g d (e ∷ ds) h =
     let ls = row_children g e ds (to_later_in_row g n t h l.before) in
     record { blocks = l.block ∷ ls.blocks; above = l.above ++ ls.above; before = ls.before }
 
--- what the first of some boxes below each other inherits, the others together, and the last of them
+-- what boxes below each other inherit: the first, those after it together, and the last
 abbrev pub to_first_in_column : ℕ → Taken → InheritedSheet → InheritedSheet
 to_first_in_column n t h =
     record { place = top_part n h.place; flags = first_in_column h.flags false; above = h.above; before = t.part }
@@ -221,7 +228,8 @@ to_later_in_column g n t h above =
 abbrev pub to_last_in_column : InheritedSheet → InheritedSheet
 to_last_in_column h = record h { flags = first_in_column h.flags true; before = (taken h.place.height h.before).part }
 
--- the boxes of a column: each takes its part of the sizes to the left, and inherits the sizes above by the one above
+-- the boxes of a column: each takes its part of the heights to the left, and inherits the widths
+-- that the box above it passes on
 abbrev pub column_children : BoxSpacing → Drawer → List Drawer → InheritedSheet → Children
 column_children g d [] h =
     let l = d.draw (to_last_in_column h) in record { blocks = l.block ∷ []; above = l.above; before = l.before }
@@ -262,7 +270,7 @@ whole_flags = record {
   cross = false;
 }
 
--- what the whole inherits, in a place of its own size
+-- what the entire tree inherits, in a rectangle of the size that it needs
 abbrev pub inherited_whole : Box → InheritedSheet
 inherited_whole b = record {
   place = record { x = 0; y = 0; width = b.width; height = b.height };
@@ -274,12 +282,12 @@ inherited_whole b = record {
 unfoldable pub inherited_block : DrawingPlan → BoxSpacing → TableValue → BlockSheet
 inherited_block t g v = ((drawer t g v).draw (inherited_whole (box_of g v))).block
 
--- ---- which trees are drawn so
+-- ---- which trees are drawn like this
 
 abbrev pub is_zero_width : Part → Bool
 is_zero_width p = not (is_line_kind p.kind) && p.place.width == 0
 
--- a text was given no column
+-- whether a text has zero width
 abbrev pub has_zero_width : List Part → Bool
 has_zero_width [] = false
 has_zero_width (p ∷ ps) = is_zero_width p || has_zero_width ps

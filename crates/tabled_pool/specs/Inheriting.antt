@@ -1,4 +1,4 @@
--- What boxes inherit, and hand on, in memory.
+-- The values of `TakenSizes`, `Inherited` and `InheritingBox`.
 use Rattle.tabled_pool.specs.declared.inherited_text.Inherited.{Inherited}
 use Rattle.tabled_pool.specs.declared.inheriting.InheritingBox.{InheritingBox}
 use Rattle.tabled_pool.specs.declared.taking.TakenSizes.{TakenSizes}
@@ -11,7 +11,7 @@ taken_of t = record { part = t.part.items; rest = t.rest.items; met = t.met }
 abbrev pub inherited_of : Inherited → InheritedSheet
 inherited_of h = record { place = h.place; flags = h.flags; above = h.above.now; before = h.before.now }
 
--- what a box inherits until it is drawn, and then hands on
+-- what a box inherits; once it is drawn, `above` and `before` are what it passes on
 abbrev pub inheriting_box : InheritingBox → InheritedSheet
 inheriting_box b = record { place = b.place; flags = b.flags; above = b.above.items; before = b.before.items }
 

@@ -1,4 +1,4 @@
--- Which parts are lines.
+-- Which parts are borders.
 use Rattle.std.specs.Prelude.{Bool, true, false}
 use Rattle.tabled_pool.specs.declared.pieces.Kind.{Kind}
 use Rattle.tabled_pool.specs.declared.pieces.Kind.TheVariants.{Leaf, Bar, Rule}

@@ -14,16 +14,16 @@ abbrev pub list : Bool → List Tree → Tree
 list true ts = across (trees ts)
 list false ts = down (trees ts)
 
--- a list with the tree of the value that is copied now
+-- the list of a level, with a tree in place of its current value
 abbrev pub filled : Level → Tree → Tree
 filled l t = list l.is_row (map tree_of l.copies.items ++ t ∷ map tree_of l.left.now)
 
--- the outermost list with that of the value that is copied now
+-- the outermost list, with a tree in place of the current value
 abbrev pub within : List Level → Tree → Tree
 within [] t = t
 within (l ∷ ls) t = filled l (within ls t)
 
--- how many texts and lists are left
+-- how many texts and lists are left to copy
 abbrev pub left_in : List Level → ℕ
 left_in [] = 0
 left_in (l ∷ ls) = nodes_in l.left.now + left_in ls
@@ -36,7 +36,7 @@ abbrev pub IsUp : List Level → Tree → List Level → Step → Type 0
 IsUp before copy after (Next v) = GoesOn before copy after v.now
 IsUp before copy after (Done v) = tree_of v ≡ within before copy
 
--- on the way down: the value that is copied now, in place of the one that was to be
+-- on the way down: `now` is the current value in place of `value`
 pub record GoesDown (before : List Level) (value : TableValue) (after : List Level) (now : TableValue) : Type 0 where
   pub same : within after (tree_of now) ≡ within before (tree_of value)
   pub left : nodes now + left_in after ≤ nodes value + left_in before
@@ -46,18 +46,18 @@ pub record GoesUp (before : List Level) (copy : Tree) (after : List Level) (larg
   pub same : within after larger ≡ within before copy
   pub left : left_in after ≤ left_in before
 
--- a list of `n` values is being copied, from its first value on
+-- a list of `n` texts and lists is being copied, from its first value on
 pub record IsBegun (before : List Level) (whole : Tree) (n : ℕ) (after : List Level) (first : TableValue) : Type 0 where
   pub same : within after (tree_of first) ≡ within before whole
   pub left : nodes first + left_in after ≤ n + left_in before
   pub smaller : nodes first ≤ n
 
--- one more value of a list is copied, and the next one is to be
+-- a copy is added to a list, whose next value is `next`
 pub record IsNext (before : Level) (copy : Tree) (after : Level) (next : TableValue) : Type 0 where
   pub same : filled after (tree_of next) ≡ filled before copy
   pub left : nodes next + nodes_in after.left.now ≡ nodes_in before.left.now
 
--- the last value of a list is copied
+-- the last copy is added to a list
 pub record IsLast (before : Level) (copy : Tree) (after : Level) : Type 0 where
   pub same : list after.is_row (map tree_of after.copies.items) ≡ filled before copy
 

@@ -10,11 +10,11 @@ abbrev pub within_margin : Sides Indent → Sides Mark → List ℕ → List ℕ
 within_margin margin marks line =
     coloured marks.left (indent margin.left) ++ (line ++ coloured marks.right (indent margin.right))
 
--- a line of the top margin, or of the bottom margin, over so many columns
+-- a line of the top or bottom margin, `width` columns between the side margins
 abbrev pub margin_line : Sides Indent → Sides Mark → Mark → ℕ → ℕ → List ℕ
 margin_line margin marks mark c width = within_margin margin marks (coloured mark (fill c width))
 
--- lines with the margin around them, of so many columns
+-- lines of `width` columns with the margin around them
 abbrev pub with_margin : Sides Indent → Sides Mark → ℕ → List (List ℕ) → List (List ℕ)
 with_margin margin marks width lines =
     replicate margin.top.size (margin_line margin marks marks.top margin.top.fill width)

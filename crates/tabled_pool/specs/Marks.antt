@@ -1,8 +1,8 @@
--- What stands around a character of a line, for its colour.
+-- The marks around a border character: prefixes and suffixes of colours.
 use Rattle.std.specs.Prelude.{ℕ, if◌then◌else◌, List, [], ◌++◌, Option, Some, None}
 use Rattle.tabled_pool.specs.Colours.{Mark, is_same}
 
--- the suffix that ends the colour before, the prefix, and the suffix behind
+-- the suffix of the colour before, the own prefix, and the suffix after the character
 pub record Around : Type 0 where
   pub close : List ℕ
   pub start : List ℕ
@@ -11,28 +11,29 @@ pub record Around : Type 0 where
 abbrev pub nothing_around : Around
 nothing_around = record { close = []; start = []; behind = [] }
 
--- a character between what stands around it
+-- a character between its marks
 abbrev pub within_marks : Around → List ℕ → List ℕ
 within_marks a c = a.close ++ (a.start ++ (c ++ a.behind))
 
--- the colour that is used behind a part: the first one that came
+-- the current colour after a part of a border: the first one that is set
 abbrev pub used_after : Option Mark → Option Mark → Option Mark
 used_after None mark = mark
 used_after (Some used) mark = Some used
 
--- a part begins: its colour is opened where none is used, or where it is another one, whose suffix goes before
+-- the start of a part: its prefix if no colour is current, the current suffix and its prefix if
+-- another one is
 abbrev pub begun : Option Mark → Option Mark → Around
 begun used None = nothing_around
 begun None (Some mark) = record { close = []; start = mark.prefix; behind = [] }
 begun (Some used) (Some mark) =
     if is_same used mark then nothing_around else record { close = used.suffix; start = mark.prefix; behind = [] }
 
--- the end of a line
+-- the end of a border
 abbrev pub ended : Option Mark → List ℕ
 ended None = []
 ended (Some used) = used.suffix
 
--- one character by itself
+-- a single character
 abbrev pub alone : Option Mark → Around
 alone None = nothing_around
 alone (Some mark) = record { close = []; start = mark.prefix; behind = mark.suffix }

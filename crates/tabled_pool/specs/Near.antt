@@ -1,10 +1,10 @@
--- The parts that a line of a drawing is drawn by.
+-- The parts near a line, which alone determine what is drawn on it.
 use Rattle.std.specs.Prelude.{ℕ, ◌+◌, leb, ◌&&◌, if◌then◌else◌, Bool, List, [], ◌∷◌}
 use Rattle.tabled_pool.specs.declared.pieces.Rectangle.{Rectangle}
 use Rattle.tabled_pool.specs.Boxes.{Part}
 use Rattle.tabled_pool.specs.Plan.{DrawingPlan}
 
--- whether a rectangle has a place on a line, above it or below it
+-- whether a rectangle reaches line `y`, the line above it or the line below it
 abbrev pub is_near : ℕ → Rectangle → Bool
 is_near y r = leb r.y (y + 1) && leb y (r.y + r.height)
 

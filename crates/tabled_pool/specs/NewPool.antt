@@ -1,4 +1,4 @@
--- New pool tables.
+-- New pool tables and copies.
 use Rattle.std.specs.Prelude.{◌≡◌, ℕ, List}
 use Rattle.tabled_config.specs.declared.compact_multiline.CompactMultilineConfig.{CompactMultilineConfig}
 use Rattle.tabled_config.specs.declared.sides.Indent.{Indent}
@@ -12,7 +12,8 @@ use Rattle.tabled_pool.specs.declared.pool_table.PoolTable.{PoolTable}
 abbrev pub one_column : Indent
 one_column = record { size = 1; fill = 32 }
 
--- ascii borders, one column of padding on the left and right, no margin, texts at the left and the top
+-- ASCII borders, one column of padding on the left and right, no margin, texts at the left and the
+-- top
 pub record IsNewConfig (config : CompactMultilineConfig) : Type 0 where
   pub plain : CompactMultilineConfig
   pub is_plain : IsPlainMultiline plain
@@ -23,7 +24,7 @@ pub record IsNewConfig (config : CompactMultilineConfig) : Type 0 where
     };
   }
 
--- a value with the settings of a new table: what is left over goes to all boxes
+-- a value with the settings of a new table; all boxes share a surplus
 pub record IsNewPool (value : TableValue) (table : PoolTable) : Type 0 where
   pub holds : table.value ≡ value
   pub config : IsNewConfig table.config

@@ -1,4 +1,4 @@
--- Whose a place is.
+-- Which part is at a position.
 use Rattle.std.specs.Prelude.{ℕ, zero, suc, ◌==◌, if◌then◌else◌, Bool, false, List, [], ◌∷◌, Option, Some, None}
 use Rattle.tabled_pool.specs.declared.pieces.Rectangle.{Rectangle}
 use Rattle.tabled_pool.specs.Boxes.{Part}
@@ -8,7 +8,7 @@ use Rattle.tabled_pool.specs.Kinds.{is_line_kind}
 abbrev pub contains : Rectangle → ℕ → ℕ → Bool
 contains r x y = within r x y == 1
 
--- the part that holds a place
+-- the first part that contains a position
 abbrev pub owner : List Part → ℕ → ℕ → Option Part
 owner [] x y = None
 owner (p ∷ ps) x y = if contains p.place x y then Some p else owner ps x y
@@ -17,7 +17,7 @@ abbrev pub is_line : Option Part → Bool
 is_line None = false
 is_line (Some p) = is_line_kind p.kind
 
--- a place of a line between or around the leaves
+-- whether a border is at a position
 abbrev pub is_border : List Part → ℕ → ℕ → Bool
 is_border ps x y = is_line (owner ps x y)
 

@@ -1,4 +1,4 @@
--- Pool tables of plain and of additive texts, and settings that are additive.
+-- Pool tables of plain or additive texts, and additive settings.
 use Rattle.tabled_text.specs.Plain.{IsAdditive, IsAdditiveColumn, IsPlain}
 use Rattle.tabled_config.specs.declared.sides.Indent.{Indent}
 use Rattle.tabled_config.specs.declared.sides.Sides.{Sides}
@@ -17,7 +17,8 @@ pub record IsPlainMargin (margin : Sides Indent) : Type 0 where
   pub top : IsAdditiveColumn margin.top.fill
   pub bottom : IsAdditiveColumn margin.bottom.fill
 
--- lines, paddings and margins are plain characters or separators of one column, and nothing is coloured
+-- borders, padding and margin are plain characters or separators of one column, and nothing is
+-- coloured
 pub record HasPlainSettings (t : PoolTable) : Type 0 where
   pub borders : EachCharacter IsAdditiveColumn (borders_of t)
   pub style : IsPlainStyle (style_of t.config)

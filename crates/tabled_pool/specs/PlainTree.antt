@@ -1,4 +1,4 @@
--- Trees of additive texts, as plain ones are, under additive borders.
+-- Drawings of additive texts, as plain ones are, with additive borders.
 use Rattle.std.specs.Prelude.{◌≡◌, ℕ, Some}
 use Rattle.tabled_text.specs.Plain.{IsAdditive, IsAdditiveColumn}
 use Rattle.tabled_config.specs.Compact.{each_side}
@@ -14,7 +14,8 @@ use Rattle.tabled_pool.specs.Characters.{EachCharacter}
 use Rattle.tabled_pool.specs.Uncoloured.{AreNoMarks}
 use Rattle.tabled_pool.specs.Whole.{whole}
 
--- parts that tile the whole, with room for their additive texts
+-- parts that tile the entire drawing, each large enough for its text; all characters are additive,
+-- and nothing is coloured
 pub record PlainTree (g : BoxSpacing) (t : DrawingPlan) : Type 0 where
   pub once : AreTiles t.parts (whole t)
   pub fits : EachFits g t.parts

@@ -1,4 +1,4 @@
--- What is drawn of pieces in memory, and the marks that are written around a character.
+-- The plan of a `Drawing`, and the value of `Marks`.
 use Rattle.std.specs.Prelude.{map}
 use Rattle.tabled_pool.specs.Shown.{shown}
 use Rattle.tabled_pool.specs.declared.marks.Marks.{Marks}

@@ -1,4 +1,4 @@
--- The text of a pool table, and what a call that prints it leaves.
+-- The text of a pool table, and what a call that prints it leaves in a sink.
 use Rattle.std.specs.Prelude.{◌≡◌, ℕ, ◌+◌, ◌^◌, ◌<◌, ◌≤◌, ◌⊎◌, ◌==◌, if◌then◌else◌, ltb, Bool, false, ◌&&◌, ◌||◌, List, length, Result, Ok, Err}
 use Rattle.std.specs.List.{join_with_byte}
 use Rattle.tabled_base.specs.declared.error.TableError.{TableError}
@@ -28,12 +28,13 @@ use Rattle.tabled_pool.specs.Frames.{has_bottom, has_top}
 abbrev pub borders_of : PoolTable → Borders ℕ
 borders_of t = t.config.config.borders
 
--- the columns and lines that each outer line takes
+-- the thickness of each outer border: one column or line if it is there, else 0
 abbrev pub frame_of : Borders ℕ → Sides ℕ
 frame_of b =
     record { left = one_if (has_left b); right = one_if (has_right b); top = one_if (has_top b); bottom = one_if (has_bottom b) }
 
--- a line stands between boxes side by side if the left one is there, between boxes below each other if the top one is
+-- there is a border between boxes side by side if there is a left one, and between boxes below each
+-- other if there is a top one
 abbrev pub spacing_of : PoolTable → BoxSpacing
 spacing_of t =
     let padding = t.config.config.padding in
@@ -54,7 +55,7 @@ style_of c =
       line_alignment = c.formatting.allow_lines_alignment;
     }
 
--- the columns and lines within the margin: those of the boxes and of the outer lines
+-- the width and height within the margin: the boxes and the outer borders
 abbrev pub framed_width : PoolTable → ℕ
 framed_width t =
     (frame_of (borders_of t)).left + (box_of (spacing_of t) t.value).width + (frame_of (borders_of t)).right
@@ -66,7 +67,7 @@ framed_height t =
 abbrev pub frame_place : PoolTable → Rectangle
 frame_place t = record { x = 0; y = 0; width = framed_width t; height = framed_height t }
 
--- the boxes in their frame
+-- the boxes with the outer borders
 unfoldable pub plan : PoolTable → DrawingPlan
 plan t =
     record {
@@ -82,7 +83,7 @@ plan t =
 abbrev pub margin_of : PoolTable → Sides Indent
 margin_of t = t.config.config.margin
 
--- a margin of no column and no line isn't coloured
+-- an empty margin has no colours
 abbrev pub has_margin : Sides Indent → Bool
 has_margin m = ltb 0 m.left.size || (ltb 0 m.right.size || (ltb 0 m.top.size || ltb 0 m.bottom.size))
 
@@ -98,22 +99,22 @@ total_width t = (margin_of t).left.size + framed_width t + (margin_of t).right.s
 abbrev pub total_height : PoolTable → ℕ
 total_height t = (margin_of t).top.size + framed_height t + (margin_of t).bottom.size
 
--- each text is given a column at least
+-- each text has at least one column
 abbrev pub HasColumns : PoolTable → Type 0
 HasColumns t = has_zero_width (plan t).parts ≡ false
 
--- each text has padding at a side
+-- each text has side padding
 abbrev pub IsPadded : PoolTable → Type 0
 IsPadded t = 0 < t.config.config.padding.left.size + t.config.config.padding.right.size
 
--- the margin around a block; the empty text has none
+-- the margin around a block; one empty line has none
 abbrev pub margin_around : PoolTable → BlockSheet → Sides Indent
 margin_around t p = if p.width == 0 && length p.lines == 1 then each_side no_indent else margin_of t
 
 abbrev pub margined : PoolTable → BlockSheet → List (List ℕ)
 margined t p = with_margin (margin_around t p) (marks_for t (margin_around t p)) p.width p.lines
 
--- drawn by the lines that meet, or as passed on from box to box where a text is given no column
+-- drawn box by box if a text has zero width, else position by position
 unfoldable pub pool_lines : PoolTable → List (List ℕ)
 pool_lines t =
     if has_zero_width (plan t).parts
@@ -123,17 +124,18 @@ pool_lines t =
 unfoldable pub pool_text : PoolTable → List ℕ
 pool_text t = join_with_byte 10 (pool_lines t)
 
--- the totals are numbers that a `usize` can say
+-- the totals fit in `usize`
 pub record IsInRange (t : PoolTable) : Type 0 where
   pub width : total_width t < 2 ^ 64
   pub height : total_height t < 2 ^ 64
 
--- a total passes the greatest `usize`
+-- a total exceeds `usize::MAX`
 abbrev pub IsOutOfRange : PoolTable → Type 0
 IsOutOfRange t = (2 ^ 64 ≤ total_width t) ⊎ (2 ^ 64 ≤ total_height t)
 
--- what a call that prints a pool table leaves: on Ok its text was added; it is refused before the first byte exactly where a
--- total passes the range, or for want of memory; else the sink refused, with a beginning of the text added
+-- what a call that prints a pool table leaves. On `Ok` its text was added. It fails before the
+-- first byte with `Range`, exactly if a total exceeds `usize::MAX`, or with `Memory`. If the sink
+-- fails, a beginning of the text was added
 abbrev pub WritesPool : {T : Type 0} → PoolTable → Sent → Result T TableError → Sent → Type 0
 WritesPool t old (Ok _) new = IsInRange t × Sends old new (pool_text t)
 WritesPool t old (Err e) new =

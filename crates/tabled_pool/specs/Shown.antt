@@ -1,4 +1,4 @@
--- What a list of pieces says, and which rectangles hold a box.
+-- A piece as a part, and which rectangles are large enough for a box.
 use Rattle.std.specs.Prelude.{◌+◌, ◌^◌, ◌<◌, ◌≤◌}
 use Rattle.tabled_pool.specs.declared.pieces.Piece.{Piece}
 use Rattle.tabled_pool.specs.declared.pieces.Rectangle.{Rectangle}

@@ -1,8 +1,8 @@
--- What holds of each text of a tree.
+-- Properties of each text of a tree.
 use Rattle.std.specs.Prelude.{ℕ, List}
 use Rattle.tabled_pool.specs.Tree.{Tree, Trees, leaf, across, down, none, one_more}
 
--- each text of a tree is of a kind
+-- `IsKind` holds for each text of a tree
 abbrev mutual
   pub EachText : (List ℕ → Type 0) → Tree → Type 0
   EachText IsKind (leaf text) = IsKind text

@@ -1,4 +1,4 @@
--- A text of lines that tiles its parts.
+-- Drawn lines in which each part is in its rectangle.
 use Rattle.std.specs.Prelude.{◌≡◌, ℕ, ◌+◌, ◌-◌, ◌<◌, ◌≤◌, true, List, ◌++◌, Some, encode_utf8}
 use Rattle.tabled_text.specs.Measure.{line_columns}
 use Rattle.tabled_pool.specs.declared.pieces.Kind.TheVariants.{Leaf}
@@ -10,15 +10,16 @@ use Rattle.tabled_pool.specs.Plan.{DrawingPlan}
 use Rattle.tabled_pool.specs.Owner.{owner}
 use Rattle.tabled_pool.specs.Drawn.{border_char, drawn_line}
 
--- a piece stands in a line behind x columns
+-- a piece is in a line, after x columns
 pub record StandsAt (line : List ℕ) (x : ℕ) (piece : List ℕ) : Type 0 where
   pub front : List ℕ
   pub rest : List ℕ
   pub whole : line ≡ front ++ (piece ++ rest)
   pub columns : line_columns front ≡ x
 
--- each place of the whole belongs to one part; the lines of a leaf's block stand in its rectangle,
--- and at each other place one character, which the lines that meet there give
+-- each position of the drawing is in exactly one part; the lines of a text's block are in its
+-- rectangle, and each other position has one border character, which depends on the borders that
+-- meet there
 pub record Tiled (t : DrawingPlan) : Type 0 where
   pub once : (x y : ℕ) → x < t.width → y < t.height → covering t.parts x y ≡ 1
   pub leaf : (u v y : ℕ) (p : Part) → owner t.parts u v ≡ Some p → p.kind ≡ Leaf → p.place.y ≤ y

@@ -1,4 +1,4 @@
--- What a value says, whatever memory it takes: a tree of texts.
+-- The tree of texts that a `TableValue` holds.
 use Rattle.std.specs.Prelude.{ℕ, List, [], ◌∷◌, map, string_bytes}
 use Rattle.tabled_pool.specs.declared.tree.TableValue.{TableValue}
 use Rattle.tabled_pool.specs.declared.tree.TableValue.TheOpen.{TableValue-F, Row, Column, Cell}

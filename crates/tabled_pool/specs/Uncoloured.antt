@@ -4,11 +4,11 @@ use Rattle.tabled_config.specs.Compact.{each_side}
 use Rattle.tabled_pool.specs.Colours.{LineMarks, Mark, line_marks_of, marks_of, no_mark}
 use Rattle.tabled_pool.specs.declared.pool_table.PoolTable.{PoolTable}
 
--- a colour that isn't set is empty, and so is one whose prefix and suffix are
+-- a colour is empty if it isn't set, or if its prefix and suffix are empty
 abbrev pub IsNoMark : Option Mark → Type 0
 IsNoMark mark = unwrap_or mark no_mark ≡ no_mark
 
--- no line is coloured
+-- no border is coloured
 pub record AreNoMarks (m : LineMarks) : Type 0 where
   pub top_left : IsNoMark m.top_left
   pub top : IsNoMark m.top
@@ -19,7 +19,7 @@ pub record AreNoMarks (m : LineMarks) : Type 0 where
   pub left : IsNoMark m.left
   pub right : IsNoMark m.right
 
--- no line, padding or margin is coloured
+-- no border, padding or margin is coloured
 pub record IsUncoloured (t : PoolTable) : Type 0 where
   pub borders : AreNoMarks (line_marks_of t.config.config.borders_color)
   pub padding : marks_of t.config.config.padding_color ≡ each_side no_mark

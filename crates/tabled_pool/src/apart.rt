@@ -1,4 +1,5 @@
-//! Whether the settings of a pool table separate its texts, so that all its lines are equally wide.
+//! `PoolTable::is_apart`: whether the settings separate the texts, so that all lines are equally
+//! wide.
 ghost use Rattle.std.specs.Prelude.{◌↔◌, IsTrue, unwrap_or};
 ghost use Rattle.tabled_text.specs.FramedLines.{IsSeparatorColumn};
 ghost use Rattle.tabled_line.specs.Apart.{IsApartStyle};
@@ -11,7 +12,7 @@ use crate::pool_table::{PoolTable, style_of};
 use tabled_config::{Borders, CellStyle, Indent, Sides};
 use tabled_text::is_separator_column;
 
-/// Whether a character of a line is a separator; a missing one is a space.
+/// Whether a border character is a separator of one column. A missing one is a space.
 fn is_separator(c: Option<char>) -> bool
     ensures { IsTrue result ↔ IsSeparatorColumn (unwrap_or c 32) }
 {
@@ -46,7 +47,7 @@ fn are_intersections(borders: &Borders<char>) -> bool
         && is_separator(borders.intersection)
 }
 
-/// Whether each character of a line is a separator.
+/// Whether each border character is a separator of one column.
 fn are_separators(borders: &Borders<char>) -> bool
     ensures { IsTrue result ↔ EachCharacter IsSeparatorColumn borders.now }
 {
@@ -71,7 +72,7 @@ fn is_apart_margin(margin: &Sides<Indent>) -> bool
         && is_separator_column(margin.bottom.fill)
 }
 
-/// Whether a line or padding is between texts side by side.
+/// Whether texts side by side have a border or padding between them.
 fn has_gap(borders: &Borders<char>, style: CellStyle) -> bool
     ensures { IsTrue result ↔ HasGap borders.now style }
 {
@@ -79,7 +80,7 @@ fn has_gap(borders: &Borders<char>, style: CellStyle) -> bool
 }
 
 impl PoolTable {
-    /// Whether lines and paddings separate the texts.
+    /// Whether borders and padding separate the texts.
     fn is_apart_inside(&self) -> bool
         ensures { IsTrue result ↔ (EachCharacter IsSeparatorColumn (borders_of self.now)
             × IsApartStyle (style_of self.now.config) × HasGap (borders_of self.now) (style_of self.now.config)) }
@@ -96,12 +97,15 @@ impl PoolTable {
         is_apart_margin(self.config.get_margin()) && self.is_uncolored()
     }
 
-    /// Whether the settings separate the texts, whatever these are. Then all printed lines are
-    /// equally wide and each text is in its place, if each text has at least one column.
+    /// Whether the settings separate the texts, so that characters of different texts can't join.
+    /// Then all printed lines are equally wide and each text is in its rectangle, if each text has
+    /// at least one column.
     ///
-    /// Lines, paddings and margins must be separators of one column, or missing: a space, lines,
-    /// blocks and dots, printable ASCII except `#`, `*` and digits. A vertical line or side padding
-    /// must be between texts side by side. Nothing may be coloured, except by an empty colour.
+    /// Returns `true` exactly if all of these hold, also for characters that aren't drawn:
+    /// - Borders, padding and margin are missing or separators of one column, such as a space,
+    ///   lines, blocks and dots, and printable ASCII except `#`, `*` and digits.
+    /// - There is a vertical border or side padding between texts side by side.
+    /// - Nothing is coloured, except by an empty colour.
     pub fn is_apart(&self) -> bool
         ensures { IsTrue result ↔ IsApartPool self.now }
     {

@@ -1,4 +1,4 @@
-//! Options of pool tables.
+//! `PoolTable::apply` and `PoolTable::with`: options.
 ghost use Rattle.std.specs.Prelude.{◌≡◌, ◌⊎◌, IfErr, IfOk, OnOk};
 ghost use Rattle.std.specs.Borrow.{RestsIfErr, sem};
 ghost use Rattle.tabled_base.specs.declared.error.TableError.TheVariants.{Memory, Range};
@@ -13,11 +13,11 @@ use tabled_size::PoolTableDimension;
 impl PoolTable {
     ghost use Rattle.tabled_pool.specs.contracts.pool_table.PoolTable.{the_row};
 
-    /// Applies an option to the settings. The option sees records without rows, and the texts stay.
+    /// Applies an option to the settings. The option sees records without rows, and can't change
+    /// the texts. Use this instead of `with` if you need the table after an error.
     ///
-    /// Fails with `Memory` where an allocation fails, and with `Range` where a sum or product of
-    /// the option exceeds `usize::MAX`. The settings are then as the option left them. This is `with`
-    /// for callers that need the table after an error.
+    /// Fails with `Memory` if an allocation fails, and with `Range` if a sum or product of the
+    /// option exceeds `usize::MAX`. The settings are then as the option left them.
     pub fn apply<O: TableOption<EmptyRecords, CompactMultilineConfig, PoolTableDimension>>(
         &mut self,
         option: O,
@@ -40,10 +40,10 @@ impl PoolTable {
     }
 
     /// Applies an option to the settings, and returns the table. The option sees records without
-    /// rows, and the texts stay.
+    /// rows, and can't change the texts.
     ///
-    /// Fails with `Memory` where an allocation fails, and with `Range` where a sum or product of
-    /// the option exceeds `usize::MAX`. The settings are then as the option left them.
+    /// Fails with `Memory` if an allocation fails, and with `Range` if a sum or product of the
+    /// option exceeds `usize::MAX`. The settings are then as the option left them.
     pub fn with<O: TableOption<EmptyRecords, CompactMultilineConfig, PoolTableDimension>>(
         &mut self,
         option: O,

@@ -1,4 +1,4 @@
-//! The lines of the block of a text.
+//! The block of a text: its lines, with padding and the lines that alignment adds.
 ghost use Rattle.std.specs.Prelude.{◌≡◌, ◌<◌, [], slice_get};
 ghost use Rattle.std.specs.List.{slice_index_or};
 ghost use Rattle.std.specs.Option.{option_map};
@@ -14,14 +14,13 @@ use tabled_config::{ANSIStr, CellStyle, Indent, Sides};
 use tabled_line::{CellBlock, TextSink, write_fill};
 use tabled_text::line_width;
 
-/// The line of a text at an index.
 fn nth_line(text: &str, index: usize) -> Option<&str>
     ensures { option_map (λ line. line.now) result ≡ slice_get (lines_of text.now) index }
 {
     text.split('\n').nth(index)
 }
 
-/// A line below the text: of the bottom padding first, and of spaces behind that.
+/// Writes a line below the text: the bottom padding first, then spaces.
 fn draw_line_below<S: TextSink>(
     sink: &mut S,
     style: &CellStyle,
@@ -38,7 +37,7 @@ fn draw_line_below<S: TextSink>(
     }
 }
 
-/// A style without padding at the sides.
+/// A style without side padding.
 fn without_sides(style: CellStyle) -> CellStyle
     ensures { result ≡ without_sides style }
 {
@@ -53,7 +52,7 @@ fn without_sides(style: CellStyle) -> CellStyle
     }
 }
 
-/// The columns that the side padding leaves of a width.
+/// The content width: what the side padding leaves of a width.
 fn inner_width(style: &CellStyle, width: usize) -> usize
     ensures { result ≡ inner_width style.now width }
 {
@@ -62,7 +61,7 @@ fn inner_width(style: &CellStyle, width: usize) -> usize
         .saturating_sub(style.padding.right.size)
 }
 
-/// A line of the text between its side paddings.
+/// Writes a line of the text, between its side padding.
 fn write_text_line<S: TextSink>(
     sink: &mut S,
     cell: &CellBlock<'_>,
@@ -85,7 +84,7 @@ fn write_text_line<S: TextSink>(
     draw_colored_fill(sink, colors.right, right.fill, right.size)
 }
 
-/// A line of the block of a text.
+/// Writes line `index` of the block of a text.
 pub fn draw_block_line<S: TextSink>(
     sink: &mut S,
     cell: &CellBlock<'_>,

@@ -1,4 +1,4 @@
-//! The lines of a tree with a text of no column, with a margin around them.
+//! Writes the lines of a drawn block, with the margin around them.
 ghost use Rattle.std.specs.Prelude.{◌≡◌, ◌++◌, [], ◌∷◌, map, string_bytes};
 ghost use Rattle.std.specs.List.{join_with_byte};
 ghost use Rattle.tabled_line.specs.Leading.{WritesLines};
@@ -12,7 +12,7 @@ use crate::margins::{ColoredMargin, draw_margin};
 use tabled_base::TableError;
 use tabled_line::{TextSink, write_break};
 
-/// A line between the side margins.
+/// Writes a line between the side margins.
 fn draw_inner_text<S: TextSink>(
     sink: &mut S,
     margin: &ColoredMargin,
@@ -39,7 +39,7 @@ fn draw_next_text<S: TextSink>(
     draw_inner_text(sink, margin, line)
 }
 
-/// Lines between the side margins.
+/// Writes lines between the side margins.
 fn draw_text_lines<S: TextSink>(
     sink: &mut S,
     begun: &mut bool,
@@ -55,7 +55,7 @@ fn draw_text_lines<S: TextSink>(
     Ok(())
 }
 
-/// The lines of a box and of its margin.
+/// Writes the lines of a block and of its margin.
 fn draw_margined<S: TextSink>(
     sink: &mut S,
     begun: &mut bool,
@@ -79,7 +79,7 @@ fn draw_margined<S: TextSink>(
     )
 }
 
-/// A box with its margin, its lines joined by line feeds.
+/// Writes a block with its margin, with line feeds between the lines.
 pub fn draw_block<S: TextSink>(
     sink: &mut S,
     block: &DrawnBlock,

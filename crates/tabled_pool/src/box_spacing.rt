@@ -1,28 +1,28 @@
-//! What the sizes of boxes rest on.
+//! `BoxSpacing`, on which the sizes of boxes depend, and `Size`.
 
 use tabled_config::Sides;
 use tabled_size::DimensionPriority;
 
-/// What stands beside the texts of a tree and between its boxes, and which boxes are widened.
+/// The padding of texts, the borders between boxes, and which boxes take a surplus.
 #[derive(Clone, Copy, Debug)]
 pub struct BoxSpacing {
     /// The padding of each text: columns on the left and right, lines at the top and bottom.
     pub padding: Sides<usize>,
-    /// The columns of the line between boxes side by side.
+    /// The width of the border between boxes side by side, in columns.
     pub bar: usize,
-    /// The lines of the line between boxes below each other.
+    /// The height of the border between boxes below each other, in lines.
     pub rule: usize,
-    /// Which of the boxes side by side takes the columns that are left over.
+    /// Which of the boxes side by side take surplus columns.
     pub across: DimensionPriority,
-    /// Which of the boxes below each other takes the lines that are left over.
+    /// Which of the boxes below each other take surplus lines.
     pub down: DimensionPriority,
 }
 
-/// Columns and lines.
+/// A width and a height.
 #[derive(Clone, Copy, Debug, PartialEq, Eq)]
 pub struct Size {
-    /// The columns.
+    /// In columns.
     pub width: usize,
-    /// The lines.
+    /// In lines.
     pub height: usize,
 }

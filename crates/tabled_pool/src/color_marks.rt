@@ -1,5 +1,4 @@
-//! The marks around the characters of lines, for their colours. Each text draws the line above it and the one to its left;
-//! at the right and bottom edge of the whole also those.
+//! The marks around border characters, by the texts that draw them.
 ghost use Rattle.std.specs.Prelude.{◌≡◌, ◌==◌, ◌^◌, ◌<◌, ◌+◌, ◌-◌, map, []};
 ghost use Rattle.std.specs.Option.{option_map};
 ghost use Rattle.tabled_pool.specs.Shown.{shown};
@@ -28,16 +27,16 @@ use crate::pieces::{Piece, Rectangle};
 use crate::uncolored::are_uncolored_lines;
 use tabled_config::ANSIStr;
 
-/// Where a place stands by a run of places.
+/// Where a position is relative to a range of columns or lines.
 #[derive(Clone, Copy, Debug, PartialEq, Eq)]
 pub(crate) enum RunSide {
-    /// The place before the first.
+    /// Directly before the range.
     Before,
-    /// One of them.
+    /// In the range.
     Inside,
-    /// The place behind the last.
+    /// Directly after the range.
     Behind,
-    /// Any other.
+    /// Anywhere else.
     Outside,
 }
 
@@ -78,7 +77,7 @@ fn is_last_row(drawing: &Drawing<'_, '_>, place: Rectangle) -> bool
         && ends_at(place.y, place.height, drawing.height - 1)
 }
 
-/// The colour of a left corner, if it is written.
+/// The colour of a left corner, if there is a left border.
 fn written_corner(
     drawing: &Drawing<'_, '_>,
     corner: Option<ANSIStr<'static>>,
@@ -92,7 +91,7 @@ fn written_corner(
     }
 }
 
-/// What stands around a character over a text.
+/// The marks around a border character above or below a text.
 fn main_around(drawing: &Drawing<'_, '_>, line: LineColors, place: Rectangle, x: usize) -> Marks
     requires { x < 2 ^ 64 - 1 }
     ensures { around_of result ≡ main_around (plan_of drawing.now) (option_map mark_of line.corner)
@@ -118,7 +117,7 @@ fn main_around(drawing: &Drawing<'_, '_>, line: LineColors, place: Rectangle, x:
     }
 }
 
-/// What stands around a character at the right end of the outer line.
+/// The marks around the right corner of the top or bottom border.
 fn right_around(drawing: &Drawing<'_, '_>, line: LineColors) -> Marks
     ensures { around_of result ≡ right_around (plan_of drawing.now) (option_map mark_of line.corner)
         (option_map mark_of line.main) (option_map mark_of line.right) }
@@ -132,7 +131,7 @@ fn right_around(drawing: &Drawing<'_, '_>, line: LineColors) -> Marks
     }
 }
 
-/// Along the top or the bottom line of a text.
+/// The marks at column `x` of the top or bottom border of a text.
 fn across(drawing: &Drawing<'_, '_>, line: LineColors, place: Rectangle, x: usize) -> Option<Marks>
     requires { x < 2 ^ 64 - 1 }
     ensures { option_map around_of result ≡ across (plan_of drawing.now) (option_map mark_of line.corner)
@@ -146,7 +145,7 @@ fn across(drawing: &Drawing<'_, '_>, line: LineColors, place: Rectangle, x: usiz
     }
 }
 
-/// Beside a text.
+/// The marks at column `x` beside a text.
 fn beside(drawing: &Drawing<'_, '_>, place: Rectangle, x: usize) -> Option<Marks>
     requires { x < 2 ^ 64 - 1 }
     ensures { option_map around_of result ≡ beside (plan_of drawing.now) place (run_side place.x place.width x) }
@@ -158,7 +157,7 @@ fn beside(drawing: &Drawing<'_, '_>, place: Rectangle, x: usize) -> Option<Marks
     }
 }
 
-/// Around a text.
+/// The marks that a text puts around a position, if it draws the border there.
 fn around_text(drawing: &Drawing<'_, '_>, place: Rectangle, x: usize, y: usize) -> Option<Marks>
     requires across { x < 2 ^ 64 - 1 }
     requires down { y < 2 ^ 64 - 1 }
@@ -194,7 +193,7 @@ fn around_piece(drawing: &Drawing<'_, '_>, piece: &Piece<'_>, x: usize, y: usize
     around_text(drawing, piece.place, x, y)
 }
 
-/// What the text that draws a place puts around its character.
+/// The marks around a position: those of the first text that draws it.
 pub(crate) fn around_at(drawing: &Drawing<'_, '_>, x: usize, y: usize) -> Marks
     requires across { x < 2 ^ 64 - 1 }
     requires down { y < 2 ^ 64 - 1 }

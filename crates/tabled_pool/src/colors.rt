@@ -1,4 +1,4 @@
-//! Runs between the marks of their colour.
+//! Runs of a character between the marks of a colour: its prefix and suffix.
 ghost use Rattle.std.specs.Prelude.{◌≡◌, [], ◌++◌};
 ghost use Rattle.tabled_line.specs.Fill.{fill};
 ghost use Rattle.tabled_line.specs.Sent.{Sent, Writes};
@@ -8,7 +8,7 @@ use tabled_base::TableError;
 use tabled_config::ANSIStr;
 use tabled_line::{TextSink, write_fill};
 
-/// A run of a character between the marks of its colour, be it empty or not.
+/// Writes `count` copies of a character between the marks of a colour, even if `count` is 0.
 pub(crate) fn draw_colored_fill<S: TextSink>(
     sink: &mut S,
     color: ANSIStr<'static>,
@@ -22,7 +22,6 @@ pub(crate) fn draw_colored_fill<S: TextSink>(
     sink.write_text(color.get_suffix())
 }
 
-/// Whether two colours have the same marks.
 pub(crate) fn is_same(first: ANSIStr<'static>, second: ANSIStr<'static>) -> bool
     ensures { result ≡ is_same (mark_of first.entry) (mark_of second.entry) }
 {

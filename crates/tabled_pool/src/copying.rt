@@ -1,4 +1,4 @@
-//! Copies of trees.
+//! `TableValue::clone`: copies of trees, without recursion.
 ghost use Rattle.std.specs.Prelude.{◌≡◌, ◌<◌, ◌≤◌, ◌+◌, [], IfErr, IfOk, MatchOption, map};
 ghost use Rattle.tabled_base.specs.declared.error.TableError.TheVariants.{Memory};
 ghost use Rattle.tabled_pool.specs.Tree.{tree_of};
@@ -9,8 +9,7 @@ use crate::tree::TableValue;
 use std::alloc::Global;
 use tabled_base::TableError;
 
-/// A list that is being copied: the copies of its first values, and the values behind the one that
-/// is copied now.
+/// A list that is being copied: the copies so far, and the values after the current one.
 #[derive(Drop)]
 pub(crate) struct Level<'a> {
     is_row: bool,
@@ -18,13 +17,13 @@ pub(crate) struct Level<'a> {
     left: &'a [TableValue],
 }
 
-/// What comes after a copy: another value to copy, or nothing, and the copy is whole.
+/// What comes after a copy: the next value to copy, or the finished copy.
 pub(crate) enum Step<'a> {
     Next(&'a TableValue),
     Done(TableValue),
 }
 
-/// A list of the copies of all of its values.
+/// A row or a column of values.
 fn list_of(is_row: bool, children: Vec<TableValue>) -> TableValue
     ensures { tree_of result ≡ list is_row (map tree_of children.items) }
 {
@@ -35,7 +34,7 @@ fn list_of(is_row: bool, children: Vec<TableValue>) -> TableValue
     }
 }
 
-/// Begins to copy a list, and returns its first value if there is one.
+/// Starts to copy a list, and returns its first value if there is one.
 #[tactic(auto, using(crate::proofs::Levels::within_push, crate::proofs::Levels::left_in_push))]
 fn begin<'a>(
     alloc: Global,
@@ -59,7 +58,7 @@ fn begin<'a>(
     Ok(Some(first))
 }
 
-/// Goes down to the first text or empty list of a value, and copies that.
+/// Descends to the first text or empty list of a value, and copies it.
 fn copy_first<'a>(
     value: &'a TableValue,
     levels: &mut Vec<Level<'a>>,
@@ -105,7 +104,7 @@ impl<'a> Level<'a> {
     }
 }
 
-/// Puts a copy into its list. A list without further values is put into the one above it.
+/// Adds a copy to the innermost list. A finished list is added to the list above it.
 #[tactic(auto, using(crate::proofs::Levels::within_push, crate::proofs::Levels::left_in_push))]
 fn put_copy<'a>(copy: TableValue, levels: &mut Vec<Level<'a>>) -> Result<Step<'a>, TableError>
     ensures ok { IfOk result (λ step. IsUp levels.old.items (tree_of copy) levels.new.items step) }
@@ -125,8 +124,8 @@ fn put_copy<'a>(copy: TableValue, levels: &mut Vec<Level<'a>>) -> Result<Step<'a
 }
 
 impl TableValue {
-    /// A copy of the tree, made without recursion, so that no tree is too deep. Fails only with
-    /// `Memory`, where an allocation fails.
+    /// Returns a copy of the tree, whatever its depth: copying doesn't recurse. Fails only with
+    /// `Memory`, if an allocation fails.
     pub fn clone(&self) -> Result<TableValue, TableError>
         ensures ok { IfOk result (λ copy. tree_of copy ≡ tree_of self.now) }
         ensures only { IfErr result (λ e. e ≡ Memory) }

@@ -1,4 +1,4 @@
-//! The lines of a drawing, place by place.
+//! Writes one line of a drawing, position by position.
 ghost use Rattle.std.specs.Prelude.{◌≡◌, ◌^◌, ◌<◌, ◌+◌, ◌-◌, map, [], ◌∷◌, ◌++◌, encode_utf8};
 ghost use Rattle.std.specs.List.{flat_map, range_with_len, join_with_byte};
 ghost use Rattle.tabled_line.specs.Sent.{Sent, Writes};
@@ -20,7 +20,7 @@ use crate::pieces::{Kind, Rectangle};
 use tabled_base::TableError;
 use tabled_line::{CellBlock, Content, TextSink, write_char};
 
-/// A character and the marks around it.
+/// Writes a character between its marks.
 fn draw_marked<S: TextSink>(sink: &mut S, marks: Marks, c: char) -> Result<(), TableError>
     ensures { Writes (S.sent sink.old) result (S.sent sink.new) (within_marks (around_of marks) (encode_utf8 c)) }
 {
@@ -28,7 +28,7 @@ fn draw_marked<S: TextSink>(sink: &mut S, marks: Marks, c: char) -> Result<(), T
     draw_opened(sink, marks, c)
 }
 
-/// A character behind its prefix, and what follows it.
+/// Writes a prefix, a character, and the suffix after it.
 fn draw_opened<S: TextSink>(sink: &mut S, marks: Marks, c: char) -> Result<(), TableError>
     ensures { Writes (S.sent sink.old) result (S.sent sink.new) (marks.start.now ++ (encode_utf8 c ++ marks.behind.now)) }
 {
@@ -37,7 +37,7 @@ fn draw_opened<S: TextSink>(sink: &mut S, marks: Marks, c: char) -> Result<(), T
     sink.write_text(marks.behind)
 }
 
-/// A character of a line, with its colour.
+/// Writes a border character with its colour.
 #[tactic(auto, unfolding(crate::specs::Drawn::border_text))]
 fn draw_border<S: TextSink>(
     sink: &mut S,
@@ -55,7 +55,7 @@ fn draw_border<S: TextSink>(
     draw_marked(sink, marks, border_char(drawing, kind, place, x, y))
 }
 
-/// What stands at a place: a leaf's line where it begins, one character of a line.
+/// Writes what starts at a position: a line of a text's block, or one border character.
 #[tactic(auto, unfolding(crate::specs::Drawn::place_text, crate::specs::Leaf::leaf_line))]
 fn draw_place<S: TextSink>(
     sink: &mut S,
@@ -89,7 +89,7 @@ fn draw_place<S: TextSink>(
     }
 }
 
-/// A line of a drawing, place by place.
+/// Writes line `y` of a drawing.
 #[tactic(auto, unfolding(crate::specs::Drawn::drawn_line))]
 pub(crate) fn draw_line<S: TextSink>(
     sink: &mut S,

@@ -1,10 +1,10 @@
-//! Placed pieces, and how they look.
+//! `Drawing`: placed pieces, and the settings that they are drawn with.
 
 use crate::pieces::Piece;
 use std::alloc::Global;
 use tabled_config::{ANSIStr, Borders, CellStyle, Sides};
 
-/// Placed pieces, and how they look.
+/// Placed pieces, and the settings that they are drawn with.
 #[derive(Clone, Copy)]
 pub struct Drawing<'d, 'a> {
     pub pieces: &'d [Piece<'a>],
@@ -12,10 +12,9 @@ pub struct Drawing<'d, 'a> {
     pub height: usize,
     pub borders: Borders<char>,
     pub style: CellStyle,
-    /// The colours of the padding.
     pub padding_colors: Sides<ANSIStr<'static>>,
-    /// The colours of the lines.
+    /// The colours of the borders.
     pub colors: Borders<ANSIStr<'static>>,
-    /// What the pieces near a line are gathered in.
+    /// The allocator for lists of pieces and for drawn lines.
     pub alloc: Global,
 }

@@ -1,4 +1,4 @@
-//! The lines of a drawing, with a margin around them.
+//! Writes all lines of a drawing, with the margin around them.
 ghost use Rattle.std.specs.Prelude.{◌≡◌, [], ◌∷◌, ◌<◌, ◌-◌, ◌^◌, map};
 ghost use Rattle.std.specs.List.{join_with_byte, range_with_len};
 ghost use Rattle.tabled_line.specs.Leading.{WritesLines};
@@ -16,7 +16,7 @@ use crate::pieces::Piece;
 use tabled_base::TableError;
 use tabled_line::{TextSink, write_break};
 
-/// A line of a drawing, between the side margins.
+/// Writes a line of a drawing, between the side margins.
 fn draw_inner_line<S: TextSink>(
     sink: &mut S,
     drawing: &Drawing<'_, '_>,
@@ -47,7 +47,8 @@ fn draw_next_line<S: TextSink>(
     draw_inner_line(sink, drawing, margin, y)
 }
 
-/// A line of a drawing, between the side margins, by the pieces near it if there is memory for them.
+/// Writes a line of a drawing, between the side margins. It uses a list of the pieces near the
+/// line, or all pieces if there is no memory for the list.
 fn draw_near_line<'a, S: TextSink>(
     sink: &mut S,
     begun: &mut bool,
@@ -70,7 +71,7 @@ fn draw_near_line<'a, S: TextSink>(
     draw_next_line(sink, begun, &close, margin, y)
 }
 
-/// The lines of a drawing, between the side margins.
+/// Writes the lines of a drawing, between the side margins.
 fn draw_inner_lines<S: TextSink>(
     sink: &mut S,
     begun: &mut bool,
@@ -88,7 +89,7 @@ fn draw_inner_lines<S: TextSink>(
     Ok(())
 }
 
-/// The lines of a drawing and of its margin.
+/// Writes the lines of a drawing and of its margin.
 #[tactic(auto, unfolding(crate::specs::Drawn::drawn))]
 fn draw_lines<S: TextSink>(
     sink: &mut S,
@@ -113,7 +114,7 @@ fn draw_lines<S: TextSink>(
     )
 }
 
-/// A drawing with its margin, its lines joined by line feeds.
+/// Writes a drawing with its margin, with line feeds between the lines.
 pub(crate) fn draw_framed<S: TextSink>(
     sink: &mut S,
     drawing: &Drawing<'_, '_>,

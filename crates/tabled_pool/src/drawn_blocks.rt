@@ -1,4 +1,4 @@
-//! Drawn boxes that are joined, in a tree with a text of no column.
+//! `DrawnBlock`: the lines of a drawn box, and how drawn boxes are joined.
 ghost use Rattle.std.specs.Prelude.{◌≡◌, ◌≤◌, ◌^◌, ◌++◌, map, IfErr, IfOk, MatchOption, string_bytes};
 ghost use Rattle.std.specs.List.{flat_map};
 ghost use Rattle.tabled_base.specs.declared.error.TableError.TheVariants.{Memory};
@@ -9,14 +9,13 @@ use std::alloc::Global;
 use tabled_base::TableError;
 use tabled_line::write_fill;
 
-/// The lines of a drawn box, and the columns that each takes.
+/// The lines of a drawn box, and their width in columns.
 #[derive(Drop)]
 pub struct DrawnBlock {
     pub width: usize,
     pub lines: Vec<String>,
 }
 
-/// Appends a run of a character.
 pub(crate) fn push_fill(line: &mut String, c: char, count: usize) -> Result<(), TableError>
     ensures ok { IfOk result (λ _. string_bytes line.new ≡ string_bytes line.old ++ fill c count) }
     ensures only { IfErr result (λ e. e ≡ Memory) }
@@ -24,7 +23,7 @@ pub(crate) fn push_fill(line: &mut String, c: char, count: usize) -> Result<(), 
     write_fill(line, c, count)
 }
 
-/// Appends a line of a box; below its last one stand spaces.
+/// Appends line `y` of a block, or spaces below its last line.
 fn push_drawn_line(line: &mut String, block: &DrawnBlock, y: usize) -> Result<(), TableError>
     ensures ok { IfOk result (λ _. string_bytes line.new ≡ string_bytes line.old ++ drawn_block_line y (block_sheet_of block.now)) }
     ensures only { IfErr result (λ e. e ≡ Memory) }
@@ -36,7 +35,7 @@ fn push_drawn_line(line: &mut String, block: &DrawnBlock, y: usize) -> Result<()
     Ok(())
 }
 
-/// The columns of boxes side by side, if they are in range.
+/// The total width of blocks side by side, if it fits in `usize`.
 fn all_columns(blocks: &[DrawnBlock]) -> Option<usize>
     ensures { MatchOption result (2 ^ 64 ≤ all_columns (map block_sheet_of blocks.now)) (λ n. n ≡ all_columns (map block_sheet_of blocks.now)) }
 {
@@ -47,7 +46,7 @@ fn all_columns(blocks: &[DrawnBlock]) -> Option<usize>
     Some(columns)
 }
 
-/// The columns of the widest box.
+/// The width of the widest block.
 fn most_columns(blocks: &[DrawnBlock]) -> usize
     ensures { result ≡ most_columns (map block_sheet_of blocks.now) }
 {
@@ -58,7 +57,7 @@ fn most_columns(blocks: &[DrawnBlock]) -> usize
     columns
 }
 
-/// The lines of the tallest box.
+/// The height of the tallest block.
 fn most_lines(blocks: &[DrawnBlock]) -> usize
     ensures { result ≡ most_lines (map block_sheet_of blocks.now) }
 {
@@ -69,7 +68,7 @@ fn most_lines(blocks: &[DrawnBlock]) -> usize
     lines
 }
 
-/// A line of boxes side by side.
+/// Line `y` of blocks side by side.
 fn joined_line(alloc: Global, blocks: &[DrawnBlock], y: usize) -> Result<String, TableError>
     ensures ok { IfOk result (λ line. string_bytes line ≡ flat_map (drawn_block_line y) (map block_sheet_of blocks.now)) }
     ensures only { IfErr result (λ e. e ≡ Memory) }
@@ -81,7 +80,8 @@ fn joined_line(alloc: Global, blocks: &[DrawnBlock], y: usize) -> Result<String,
     Ok(line)
 }
 
-/// Boxes side by side. A line of more columns than a `usize` says has no memory.
+/// Joins blocks side by side. Fails with `Memory` if an allocation fails, or if the total width
+/// exceeds `usize::MAX`.
 pub(crate) fn side_by_side(alloc: Global, blocks: &[DrawnBlock]) -> Result<DrawnBlock, TableError>
     ensures ok { IfOk result (λ joined. block_sheet_of joined ≡ side_by_side (map block_sheet_of blocks.now)) }
     ensures only { IfErr result (λ e. e ≡ Memory) }
@@ -96,7 +96,7 @@ pub(crate) fn side_by_side(alloc: Global, blocks: &[DrawnBlock]) -> Result<Drawn
     Ok(DrawnBlock { width, lines })
 }
 
-/// A line, and spaces behind it.
+/// A line with spaces after it.
 fn widened_line(alloc: Global, text: &str, spaces: usize) -> Result<String, TableError>
     ensures ok { IfOk result (λ line. string_bytes line ≡ text.now ++ fill 32 spaces) }
     ensures only { IfErr result (λ e. e ≡ Memory) }
@@ -106,7 +106,7 @@ fn widened_line(alloc: Global, text: &str, spaces: usize) -> Result<String, Tabl
     Ok(line)
 }
 
-/// Adds the lines of a box, filled with spaces to so many columns.
+/// Appends the lines of a block, filled with spaces to `width` columns.
 fn push_widened(
     alloc: Global,
     lines: &mut Vec<String>,
@@ -125,7 +125,7 @@ fn push_widened(
     Ok(())
 }
 
-/// Boxes one below the other.
+/// Joins blocks below each other, filled with spaces to the greatest width.
 pub(crate) fn stacked(alloc: Global, blocks: &[DrawnBlock]) -> Result<DrawnBlock, TableError>
     ensures ok { IfOk result (λ joined. block_sheet_of joined ≡ stacked (map block_sheet_of blocks.now)) }
     ensures only { IfErr result (λ e. e ≡ Memory) }

@@ -1,4 +1,4 @@
-//! The piece that holds a place.
+//! `find`: the piece at a position.
 ghost use Rattle.std.specs.Prelude.{◌≡◌, ◌==◌, ◌^◌, ◌<◌, ◌+◌, map, true, ◌≤◌, IfSome};
 ghost use Rattle.std.specs.Option.{option_map};
 ghost use Rattle.tabled_pool.specs.Shown.{shown};
@@ -7,7 +7,6 @@ ghost use Rattle.tabled_pool.specs.Owner.{contains, owner, is_line};
 
 use crate::pieces::{Piece, Rectangle};
 
-/// Whether a place lies in a rectangle.
 #[tactic(auto, using(crate::proofs::Contains::contains_left, crate::proofs::Contains::contains_right, crate::proofs::Contains::contains_above, crate::proofs::Contains::contains_last,))]
 fn contains(place: Rectangle, x: usize, y: usize) -> bool
     ensures value { result ≡ contains place x y }
@@ -25,7 +24,7 @@ fn contains(place: Rectangle, x: usize, y: usize) -> bool
     y - place.y < place.height
 }
 
-/// The piece that holds a place.
+/// Returns the piece at a position.
 pub(crate) fn find<'a, 'p>(pieces: &'p [Piece<'a>], x: usize, y: usize) -> Option<&'p Piece<'a>>
     ensures value { option_map (λ p. shown p.now) result ≡ owner (map shown pieces.now) x y }
     ensures found { IfSome result (λ p. (p.now.place.y ≤ y) × (y < p.now.place.y + p.now.place.height)) }

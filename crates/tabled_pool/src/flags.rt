@@ -1,30 +1,30 @@
-//! Where a box of a tree with a text of no column stands, and the characters that its lines have there.
+//! Where a box is in its tree, and which border characters it has there.
 ghost use Rattle.std.specs.Prelude.{◌≡◌, None, if◌then◌else◌};
 ghost use Rattle.tabled_pool.specs.Inherited.{first_in_column, first_in_row, is_bottom, is_left, is_right, is_top, later_in_column, later_in_row, own_borders, top_left, whole_flags};
 
 use tabled_config::Borders;
 
-/// Where a box stands in its tree, and which lines meet at its upper left corner.
+/// Where a box is in its tree, and which borders meet at its top left corner.
 #[derive(Clone, Copy)]
 pub(crate) struct Flags {
-    /// Nothing stands to its left.
+    /// Nothing is to its left.
     pub first_column: bool,
-    /// Nothing stands to its right.
+    /// Nothing is to its right.
     pub last_column: bool,
-    /// Nothing stands above it.
+    /// Nothing is above it.
     pub first_row: bool,
-    /// Nothing stands below it.
+    /// Nothing is below it.
     pub last_row: bool,
-    /// A box stands to its left, and it is the first of each column that it is in from there on.
+    /// A box is to its left, and it is the first box of each column inside its innermost row.
     pub leans: bool,
-    /// A box stands above it in a column, at whose left edge it begins.
+    /// A box is above it in a column, and it is at the left edge of that column.
     pub side: bool,
-    /// A line between the boxes above, or between those to the left, ends at its upper left corner.
+    /// A border between the boxes above, or between those to the left, ends at its top left corner.
     pub cross: bool,
 }
 
 impl Flags {
-    /// The flags of the whole.
+    /// The flags of the entire tree.
     pub fn whole() -> Flags
         ensures { result ≡ whole_flags }
     {
@@ -39,7 +39,7 @@ impl Flags {
         }
     }
 
-    /// The flags of the first of some boxes side by side.
+    /// The flags of the first of several boxes side by side; `last` if no other follows.
     pub fn first_in_row(self, last: bool) -> Flags
         ensures { result ≡ first_in_row self last }
     {
@@ -50,7 +50,7 @@ impl Flags {
         }
     }
 
-    /// The flags of the others of some boxes side by side.
+    /// The flags of the boxes after the first one; `met` if a border above ends at their corner.
     pub fn later_in_row(self, met: bool) -> Flags
         ensures { result ≡ later_in_row self met }
     {
@@ -62,7 +62,7 @@ impl Flags {
         }
     }
 
-    /// The flags of the first of some boxes below each other.
+    /// The flags of the first of several boxes below each other; `last` if no other follows.
     pub fn first_in_column(self, last: bool) -> Flags
         ensures { result ≡ first_in_column self last }
     {
@@ -72,7 +72,8 @@ impl Flags {
         }
     }
 
-    /// The flags of the others of some boxes below each other.
+    /// The flags of the boxes below the first one; `met` if a border to the left ends at their
+    /// corner.
     pub fn later_in_column(self, met: bool) -> Flags
         ensures { result ≡ later_in_column self met }
     {
@@ -86,7 +87,7 @@ impl Flags {
     }
 }
 
-/// The character of the upper left corner.
+/// The character of the top left corner.
 fn top_left(borders: &Borders<char>, flags: Flags) -> Option<char>
     ensures { result ≡ top_left borders.now flags }
 {
@@ -103,14 +104,13 @@ fn top_left(borders: &Borders<char>, flags: Flags) -> Option<char>
     }
 }
 
-/// One of two characters.
 fn either(first: bool, c: Option<char>, d: Option<char>) -> Option<char>
     ensures { result ≡ (if first then c else d) }
 {
     if first { c } else { d }
 }
 
-/// The borders of a text: a line that it doesn't draw has no character.
+/// The borders of a text. One that it doesn't draw has no character.
 pub(crate) fn own_borders(borders: &Borders<char>, flags: Flags) -> Borders<char>
     ensures { result ≡ own_borders borders.now flags }
 {
@@ -139,28 +139,25 @@ pub(crate) fn own_borders(borders: &Borders<char>, flags: Flags) -> Borders<char
     }
 }
 
-/// Whether a text has a top line: its character is there, or that of a corner.
+/// Whether a text has a top border: its character or that of a corner is set. Other sides likewise.
 pub(crate) fn is_top(own: &Borders<char>) -> bool
     ensures { result ≡ is_top own.now }
 {
     own.top.is_some() || own.top_left.is_some() || own.top_right.is_some()
 }
 
-/// Whether a text has a bottom line.
 pub(crate) fn is_bottom(own: &Borders<char>) -> bool
     ensures { result ≡ is_bottom own.now }
 {
     own.bottom.is_some() || own.bottom_left.is_some() || own.bottom_right.is_some()
 }
 
-/// Whether a text has a left line.
 pub(crate) fn is_left(own: &Borders<char>) -> bool
     ensures { result ≡ is_left own.now }
 {
     own.left.is_some() || own.top_left.is_some() || own.bottom_left.is_some()
 }
 
-/// Whether a text has a right line.
 pub(crate) fn is_right(own: &Borders<char>) -> bool
     ensures { result ≡ is_right own.now }
 {

@@ -1,4 +1,4 @@
-//! The places of a tree with the lines around it.
+//! Places a tree, and the borders around it, in a rectangle.
 ghost use Rattle.std.specs.Prelude.{◌≡◌, ◌+◌, ◌^◌, ◌<◌, ◌≤◌, map, ◌++◌, IfOk};
 ghost use Rattle.tabled_pool.specs.Boxes.{box_of};
 ghost use Rattle.tabled_pool.specs.Shown.{shown};
@@ -11,9 +11,10 @@ use crate::tree::TableValue;
 use std::alloc::AllocError;
 use tabled_config::Sides;
 
-/// Adds the places of a tree and of the lines around it, in a rectangle that holds both: each place of the rectangle
-/// belongs to exactly one text or line, and each text is given at least its columns and lines and its padding. The
-/// frame has the columns and lines that each outer line takes. The walk recurses as deep as the tree goes.
+/// Adds the texts and borders of a tree and the borders around it, in a rectangle that holds both.
+/// Each position of the rectangle is in exactly one text or border, and each text has at least the
+/// size that it needs with its padding. `frame` is the thickness of each outer border, in columns
+/// or lines. Recurses at each level.
 pub fn place_tree<'a>(
     value: &'a TableValue,
     spacing: &BoxSpacing,

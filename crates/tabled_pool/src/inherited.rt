@@ -1,5 +1,5 @@
-//! Trees with a text of no column, which alone are drawn so: drawn boxes are joined, and where lines meet is passed on
-//! from box to box. The lines are made in memory before the first one goes out.
+//! Draws a tree with a zero-width text: boxes are drawn one by one in memory and joined, and each
+//! passes on where borders meet.
 ghost use Rattle.std.specs.Prelude.{◌≡◌, ◌+◌, ◌^◌, ◌<◌, ◌∷◌, [], map, IfErr, IfOk, string_bytes};
 ghost use Rattle.tabled_base.specs.declared.error.TableError.TheVariants.{Memory};
 ghost use Rattle.tabled_pool.specs.Boxes.{box_of, column_box, row_box};
@@ -19,7 +19,7 @@ use crate::sizes::{column_size, row_size};
 use crate::tree::TableValue;
 use tabled_base::TableError;
 
-/// Whether a text was given no column.
+/// Whether a text has zero width.
 pub fn has_zero_width(pieces: &[Piece<'_>]) -> bool
     ensures { result ≡ has_zero_width (map shown pieces.now) }
 {
@@ -31,7 +31,6 @@ pub fn has_zero_width(pieces: &[Piece<'_>]) -> bool
     false
 }
 
-/// Draws boxes side by side.
 #[cycle(draws)]
 #[inline(never)]
 #[tactic(auto, using(crate::proofs::Steps::row_step_width, crate::proofs::Steps::row_step_height, crate::proofs::Steps::column_step_width, crate::proofs::Steps::column_step_height, crate::proofs::Steps::left_first, crate::proofs::Steps::left_all, crate::proofs::Steps::left_count,))]
@@ -71,7 +70,6 @@ fn draw_row(
     drawn.join_row(inherited, alloc)
 }
 
-/// Draws boxes below each other.
 #[cycle(draws)]
 #[inline(never)]
 #[tactic(auto, using(crate::proofs::Steps::row_step_width, crate::proofs::Steps::row_step_height, crate::proofs::Steps::column_step_width, crate::proofs::Steps::column_step_height, crate::proofs::Steps::left_first, crate::proofs::Steps::left_all, crate::proofs::Steps::left_count,))]
@@ -111,7 +109,6 @@ fn draw_column(
     drawn.join_column(inherited, alloc)
 }
 
-/// Draws a box.
 #[cycle(draws)]
 #[inline(never)]
 #[tactic(auto, using(crate::proofs::Steps::row_step_width, crate::proofs::Steps::row_step_height, crate::proofs::Steps::column_step_width, crate::proofs::Steps::column_step_height, crate::proofs::Steps::left_first, crate::proofs::Steps::left_all, crate::proofs::Steps::left_count,))]
@@ -138,7 +135,7 @@ fn draw_value(
     }
 }
 
-/// Draws a tree in a place of its own size.
+/// Draws a tree in a rectangle of the size that it needs.
 #[tactic(auto, unfolding(crate::specs::Inherited::inherited_block))]
 pub fn draw_tree(
     value: &TableValue,

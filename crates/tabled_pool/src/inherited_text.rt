@@ -1,5 +1,4 @@
-//! The lines of a text in a tree with a text of no column: the line above it and the one to its left, and at the right
-//! and bottom edge also those.
+//! The lines of one text in a tree with a zero-width text, with the borders that it draws.
 ghost use Rattle.std.specs.Prelude.{◌≡◌, ◌<◌, ◌+◌, ◌++◌, ◌∷◌, [], map, None, if◌then◌else◌, IfErr, IfOk, string_bytes, encode_utf8, unwrap_or};
 ghost use Rattle.std.specs.List.{range_with_len};
 ghost use Rattle.std.specs.Option.{option_map};
@@ -42,7 +41,8 @@ use tabled_base::TableError;
 use tabled_config::{ANSIStr, Borders};
 use tabled_line::{CellBlock, Content};
 
-/// What a box inherits: its place, its flags, the sizes of the boxes above it and of those to its left.
+/// What a box inherits: its rectangle, its flags, the widths of the boxes above it and the heights
+/// of the boxes to its left.
 #[derive(Clone, Copy)]
 pub(crate) struct Inherited<'g> {
     pub place: Rectangle,
@@ -51,14 +51,13 @@ pub(crate) struct Inherited<'g> {
     pub before: &'g [usize],
 }
 
-/// A character, if its line is there; a missing one is a space.
+/// The character of a border, if that is there. A missing character is a space.
 fn written(there: bool, c: Option<char>) -> Option<char>
     ensures { result ≡ written there c }
 {
     if there { Some(c.unwrap_or(' ')) } else { None }
 }
 
-/// Appends a character between its marks.
 fn push_marked(line: &mut String, marks: Marks, c: char) -> Result<(), TableError>
     ensures ok { IfOk result (λ _. string_bytes line.new
         ≡ string_bytes line.old ++ within_marks (around_of marks) (encode_utf8 c)) }
@@ -71,7 +70,7 @@ fn push_marked(line: &mut String, marks: Marks, c: char) -> Result<(), TableErro
     Ok(())
 }
 
-/// Appends a character beside a text.
+/// Appends a character of a left or right border, if there is one.
 fn push_side(
     line: &mut String,
     color: Option<ANSIStr<'static>>,
@@ -87,7 +86,7 @@ fn push_side(
     }
 }
 
-/// Appends a corner.
+/// Appends a corner, if there is one.
 fn push_corner(
     line: &mut String,
     used: Option<ANSIStr<'static>>,
@@ -104,7 +103,7 @@ fn push_corner(
     }
 }
 
-/// A character of a run.
+/// The character at column `x` of a horizontal border: `split` where a vertical one meets it.
 fn run_char(
     sizes: &[usize],
     width: usize,
@@ -121,7 +120,7 @@ fn run_char(
     }
 }
 
-/// A run over so many columns, with another character where lines meet it.
+/// A horizontal border of `width` columns, with `split` where vertical ones meet it.
 fn run_text(
     alloc: Global,
     sizes: &[usize],
@@ -139,7 +138,7 @@ fn run_text(
     Ok(run)
 }
 
-/// Appends a run between its marks.
+/// Appends a horizontal border between its marks.
 fn push_run(line: &mut String, marks: Marks, run: &str) -> Result<(), TableError>
     ensures ok { IfOk result (λ _. string_bytes line.new ≡ string_bytes line.old ++ within_marks (around_of marks) run.now) }
     ensures only { IfErr result (λ e. e ≡ Memory) }
@@ -151,7 +150,7 @@ fn push_run(line: &mut String, marks: Marks, run: &str) -> Result<(), TableError
     Ok(())
 }
 
-/// A line above or below a text: a corner, a run, a corner, whose colours begin one after the other.
+/// The border above or below a text: a corner, a run, a corner, each with its colour.
 fn outer_line(
     alloc: Global,
     colors: LineColors,
@@ -178,7 +177,7 @@ fn outer_line(
     Ok(line)
 }
 
-/// The line above a text.
+/// The border above a text.
 fn top_text(
     drawing: &Drawing<'_, '_>,
     own: &Borders<char>,
@@ -200,7 +199,7 @@ fn top_text(
     outer_line(drawing.alloc, colors, start, run.as_str(), end)
 }
 
-/// The line below a text.
+/// The border below a text.
 fn bottom_text(
     drawing: &Drawing<'_, '_>,
     own: &Borders<char>,
@@ -221,7 +220,7 @@ fn bottom_text(
     outer_line(drawing.alloc, colors, start, run.as_str(), end)
 }
 
-/// Appends a line of the block of a text.
+/// Appends line `y` of the block of a text.
 #[tactic(auto, unfolding(crate::specs::Leaf::leaf_line))]
 fn push_block_line(
     line: &mut String,
@@ -244,7 +243,7 @@ fn push_block_line(
     draw_block_line(line, &cell, &drawing.padding_colors, y)
 }
 
-/// The character to the left of a text.
+/// The character of the left border at line `y`.
 fn left_char(
     drawing: &Drawing<'_, '_>,
     own: &Borders<char>,
@@ -260,7 +259,7 @@ fn left_char(
     }
 }
 
-/// A line of the block of a text between the characters beside it.
+/// Line `y` of the block of a text, between the borders at its sides.
 fn inner_text(
     drawing: &Drawing<'_, '_>,
     own: &Borders<char>,
@@ -282,7 +281,7 @@ fn inner_text(
     Ok(line)
 }
 
-/// The lines of the block of a text.
+/// Appends the lines of the block of a text, between the borders at its sides.
 fn push_inner_texts(
     lines: &mut Vec<String>,
     drawing: &Drawing<'_, '_>,
@@ -300,7 +299,8 @@ fn push_inner_texts(
     Ok(())
 }
 
-/// The columns of a text with those of the lines beside it.
+/// The width of a text with the borders at its sides. Fails with `Memory` if it exceeds
+/// `usize::MAX`.
 fn bordered_width(own: &Borders<char>, width: usize) -> Result<usize, TableError>
     ensures ok { IfOk result (λ n. n ≡ one_if (is_left own.now) + width + one_if (is_right own.now)) }
     ensures only { IfErr result (λ e. e ≡ Memory) }
@@ -313,7 +313,7 @@ fn bordered_width(own: &Borders<char>, width: usize) -> Result<usize, TableError
     }
 }
 
-/// A text between the lines that it draws.
+/// A text with the borders that it draws.
 #[tactic(auto, unfolding(crate::specs::Inherited::bordered_block))]
 fn bordered_block(
     drawing: &Drawing<'_, '_>,
@@ -338,7 +338,7 @@ fn bordered_block(
     })
 }
 
-/// One empty line.
+/// A block of one empty line.
 fn empty_block(alloc: Global) -> Result<DrawnBlock, TableError>
     ensures ok { IfOk result (λ block. block_sheet_of block ≡ record { width = 0; lines = [] ∷ [] }) }
     ensures only { IfErr result (λ e. e ≡ Memory) }
@@ -348,7 +348,7 @@ fn empty_block(alloc: Global) -> Result<DrawnBlock, TableError>
     Ok(DrawnBlock { width: 0, lines })
 }
 
-/// A text as it is drawn; one of no column is one empty line.
+/// The drawn block of a text. A zero-width text is one empty line.
 pub(crate) fn text_block(
     drawing: &Drawing<'_, '_>,
     inherited: Inherited<'_>,

@@ -1,5 +1,5 @@
-//! What boxes inherit and hand on, one after the other. The functions here aren't inlined: the walk that calls them
-//! recurses as deep as the tree goes, and what stands in its frame is taken of the stack for each level.
+//! What boxes inherit and pass on. No function here is inlined, so that the recursive walk has a
+//! small stack frame.
 ghost use Rattle.std.specs.Prelude.{◌≡◌, ◌^◌, ◌<◌, ◌+◌, ◌-◌, ◌≤◌, ◌∷◌, ◌++◌, [], map, false, true, IfErr, IfOk};
 ghost use Rattle.tabled_base.specs.declared.error.TableError.TheVariants.{Memory};
 ghost use Rattle.tabled_pool.specs.Boxes.{box_of, share};
@@ -22,16 +22,16 @@ use std::alloc::Global;
 use std::mem;
 use tabled_base::TableError;
 
-/// A box: what it inherits until it is drawn, and then what it hands on.
+/// A box: what it inherits, and once it is drawn, what it passes on.
 #[derive(Drop)]
 pub(crate) struct InheritingBox {
     pub place: Rectangle,
     pub flags: Flags,
-    /// The sizes of the boxes above it, and then its own for the boxes below it.
+    /// The widths of the boxes above it; once it is drawn, its own for the boxes below it.
     pub above: Vec<usize>,
-    /// The sizes of the boxes to its left, and then its own for those to its right.
+    /// The heights of the boxes to its left; once it is drawn, its own for the boxes to its right.
     pub before: Vec<usize>,
-    /// Its lines.
+    /// Its drawn lines.
     pub block: DrawnBlock,
 }
 
@@ -39,13 +39,13 @@ pub(crate) struct InheritingBox {
 #[derive(Drop)]
 pub(crate) struct DrawnBoxes {
     pub blocks: Vec<DrawnBlock>,
-    /// The sizes that the drawn ones hand on together.
+    /// The sizes that the drawn ones pass on together: widths in a row, heights in a column.
     pub sizes: Vec<usize>,
     pub next: InheritingBox,
 }
 
 impl InheritingBox {
-    /// A box that inherits a place, and stands alone in it.
+    /// A box that is alone in its rectangle.
     #[inline(never)]
     pub(crate) fn new(alloc: Global, place: Rectangle) -> InheritingBox
         ensures { inheriting_box result ≡ record { place = place; flags = whole_flags; above = []; before = [] } }
@@ -62,7 +62,7 @@ impl InheritingBox {
         }
     }
 
-    /// Draws a text, which hands on its own sizes.
+    /// Draws a text, which passes on its own width and height.
     #[inline(never)]
     pub(crate) fn draw_text(
         &mut self,
@@ -86,8 +86,9 @@ impl InheritingBox {
         Ok(())
     }
 
-    /// Hands the first of some boxes side by side its part of what they inherit. They are so many, and their own columns
-    /// with the lines between them are those that are left. Answers the columns of the first.
+    /// Passes to the first of `count` boxes side by side its part of what they inherit. `left` is
+    /// the width that they and the borders between them need. Returns the width that the first one
+    /// needs.
     #[inline(never)]
     pub(crate) fn pass_to_row(
         &mut self,
@@ -126,7 +127,7 @@ impl InheritingBox {
         Ok(cut.own)
     }
 
-    /// Hands the last of some boxes side by side all that is left.
+    /// Passes to the last of the boxes side by side what is left.
     #[inline(never)]
     pub(crate) fn pass_rest_to_row(
         &mut self,
@@ -144,8 +145,9 @@ impl InheritingBox {
         Ok(())
     }
 
-    /// Hands the first of some boxes below each other its part of what they inherit. They are so many, and their own lines
-    /// with the lines between them are those that are left. Answers the lines of the first.
+    /// Passes to the first of `count` boxes below each other its part of what they inherit. `left`
+    /// is the height that they and the borders between them need. Returns the height that the first
+    /// one needs.
     #[inline(never)]
     pub(crate) fn pass_to_column(
         &mut self,
@@ -188,7 +190,7 @@ impl InheritingBox {
         Ok(cut.own)
     }
 
-    /// Hands the last of some boxes below each other all that is left.
+    /// Passes to the last of the boxes below each other what is left.
     #[inline(never)]
     pub(crate) fn pass_rest_to_column(
         &mut self,
@@ -208,7 +210,8 @@ impl InheritingBox {
 }
 
 impl DrawnBoxes {
-    /// No box is drawn. It stands apart from the stack.
+    /// No drawn boxes yet. They are on the heap, so that the recursive walk has a small stack
+    /// frame.
     #[inline(never)]
     pub(crate) fn boxed(alloc: Global, place: Rectangle) -> Result<Box<DrawnBoxes>, TableError>
         ensures blocks { IfOk result (λ drawn. drawn.value.blocks.items ≡ []) }
@@ -226,7 +229,7 @@ impl DrawnBoxes {
         }
     }
 
-    /// Adds the next box at the right, which hands its sizes on to those that follow.
+    /// Adds the drawn box at the right end, and passes its heights on to the boxes after it.
     #[inline(never)]
     pub(crate) fn add_to_row(
         &mut self,
@@ -249,7 +252,7 @@ impl DrawnBoxes {
         Ok(())
     }
 
-    /// Adds the next box below the others, which hands its sizes on to those that follow.
+    /// Adds the drawn box at the bottom, and passes its widths on to the boxes below it.
     #[inline(never)]
     pub(crate) fn add_to_column(
         &mut self,
@@ -272,7 +275,8 @@ impl DrawnBoxes {
         Ok(())
     }
 
-    /// Joins boxes side by side, which hand on the sizes of all to those below, and of the last to those at the right.
+    /// Joins boxes side by side. The widths of all pass to the boxes below, and the heights of the
+    /// last to the boxes at the right.
     #[inline(never)]
     pub(crate) fn join_row(
         &mut self,
@@ -291,7 +295,8 @@ impl DrawnBoxes {
         Ok(())
     }
 
-    /// Joins boxes below each other, which hand on the sizes of the last to those below, and of all to those at the right.
+    /// Joins boxes below each other. The widths of the last pass to the boxes below, and the
+    /// heights of all to the boxes at the right.
     #[inline(never)]
     pub(crate) fn join_column(
         &mut self,

@@ -1,10 +1,10 @@
-//! Which parts are lines.
+//! Which pieces are borders.
 ghost use Rattle.std.specs.Prelude.{◌≡◌};
 ghost use Rattle.tabled_pool.specs.Kinds.{is_line_kind};
 
 use crate::pieces::Kind;
 
-/// Whether a part is a line.
+/// Whether a piece is a border.
 pub fn is_line_kind(kind: Kind) -> bool
     ensures { result ≡ is_line_kind kind }
 {

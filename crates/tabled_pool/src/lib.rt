@@ -1,9 +1,9 @@
-//! `PoolTable`: trees of rows and columns of texts, drawn as boxes whose lines meet.
+//! `PoolTable`: trees of rows and columns of texts, drawn as boxes with borders between them.
 //!
-//! A text takes its columns and lines and its padding. Boxes are side by side or below each other,
-//! with lines between them, and fill the rectangle that they are given: each place of it belongs to
-//! exactly one text or line. A tree is drawn place by place, with one exception: in a tree with a
-//! text of no column, boxes are drawn one by one and joined.
+//! A box is a text with its padding, a row of boxes or a column of boxes. Boxes fill the rectangle
+//! that they are given: each position in it belongs to exactly one text or border. A tree is drawn
+//! position by position. Only a tree with a *zero-width* text, which is given no columns, is drawn
+//! box by box, and its boxes are joined.
 //!
 //! The table:
 //! - `pool_table`: `PoolTable`, its settings, its size, and how it is printed
@@ -13,36 +13,36 @@
 //! - `apart`: whether the settings separate the texts, so that all lines are equally wide
 //! - `uncolored`: whether the settings have no colours
 //!
-//! Trees, and the places of their boxes:
+//! Trees, and the rectangles of their boxes:
 //! - `tree`: `TableValue`, a tree of texts, and how it is dropped
 //! - `copying`: copies of trees
-//! - `box_spacing`: `Gaps`, what the sizes of boxes rest on, and `Size`
-//! - `sizes`: the columns and lines that boxes ask for
-//! - `pieces`: `Rectangle`, and `Piece`, a text or a line in its place
-//! - `places`: the places of texts, and of the lines between boxes
-//! - `frames`: the places of a tree with the lines around it
+//! - `box_spacing`: `BoxSpacing`, on which the sizes of boxes depend, and `Size`
+//! - `sizes`: the sizes that boxes need
+//! - `pieces`: `Rectangle`, and `Piece`, a text or a border in its rectangle
+//! - `places`: the rectangles of texts, and of the borders between boxes
+//! - `frames`: the rectangles of a tree with the borders around it
 //!
-//! What both ways of drawing share:
+//! Shared by both ways of drawing:
 //! - `block`: the lines of the block of a text
-//! - `colors`: runs of a character, in a colour
-//! - `marks`: the marks around a character of a line, for its colour
-//! - `margins`: `Margin`, the margin with its colours
-//! - `drawing`: `Drawing`, the pieces and how they look
-//! - `kinds`: which pieces are lines
+//! - `colors`: runs of a character between the marks of a colour, its prefix and suffix
+//! - `marks`: the marks around a border character
+//! - `margins`: `ColoredMargin`, a margin and its colours
+//! - `drawing`: `Drawing`, the pieces and their settings
+//! - `kinds`: which pieces are borders
 //!
-//! Drawing place by place:
-//! - `find`: the piece that holds a place
-//! - `near`: the pieces that one line is drawn by
-//! - `line_characters`: the characters of lines
+//! Drawing position by position:
+//! - `find`: the piece at a position
+//! - `near`: the pieces near a line
+//! - `line_characters`: the characters of borders
 //! - `color_marks`: the marks around these characters
 //! - `draw`: one line of a drawing
 //! - `drawing_lines`: all lines of a drawing, with the margin
 //!
-//! Drawing box by box, for trees with a text of no column:
+//! Drawing box by box, for trees with a zero-width text:
 //! - `inherited`: the walk over the tree, and `draw_tree`
-//! - `inheriting`: what boxes inherit and hand on
-//! - `taking`: the sizes that a box takes of those that it inherited
-//! - `flags`: where a box is, and the characters that its lines have there
+//! - `inheriting`: what boxes inherit and pass on
+//! - `taking`: how lists of inherited sizes are split
+//! - `flags`: where a box is, and the border characters that it has there
 //! - `inherited_text`: the lines of one text
 //! - `drawn_blocks`: `DrawnBlock`, and how drawn boxes are joined
 //! - `block_lines`: all lines of the drawn tree, with the margin

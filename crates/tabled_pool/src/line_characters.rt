@@ -1,4 +1,4 @@
-//! The characters of lines.
+//! The characters of borders.
 ghost use Rattle.std.specs.Prelude.{◌≡◌, ◌^◌, ◌<◌, ◌+◌, ◌-◌, ◌==◌, map};
 ghost use Rattle.std.specs.Option.{option_map};
 ghost use Rattle.tabled_pool.specs.Shown.{shown};
@@ -14,7 +14,7 @@ use crate::kinds::is_line_kind;
 use crate::pieces::{Kind, Piece, Rectangle};
 use tabled_config::Borders;
 
-/// Whether the top line is there: any of its characters is.
+/// Whether there is a top border: any of its characters is set.
 pub(crate) fn has_top(borders: &Borders<char>) -> bool
     ensures { result ≡ has_top borders.now }
 {
@@ -24,7 +24,7 @@ pub(crate) fn has_top(borders: &Borders<char>) -> bool
         || borders.top_right.is_some()
 }
 
-/// Whether the bottom line is there.
+/// Whether there is a bottom border.
 pub(crate) fn has_bottom(borders: &Borders<char>) -> bool
     ensures { result ≡ has_bottom borders.now }
 {
@@ -34,7 +34,7 @@ pub(crate) fn has_bottom(borders: &Borders<char>) -> bool
         || borders.bottom_right.is_some()
 }
 
-/// Whether a place belongs to a line.
+/// Whether a position is on a border.
 fn is_border(pieces: &[Piece<'_>], x: usize, y: usize) -> bool
     ensures { result ≡ is_border (map shown pieces.now) x y }
 {
@@ -62,14 +62,14 @@ fn is_border_above(pieces: &[Piece<'_>], x: usize, y: usize) -> bool
     is_border(pieces, x, y - 1)
 }
 
-/// Whether a part ends where the whole does.
+/// Whether `size` columns or lines from `start` on end at `whole`.
 pub(crate) fn ends_at(start: usize, size: usize, whole: usize) -> bool
     ensures { result ≡ (start + size == whole) }
 {
     size <= whole && start == whole - size
 }
 
-/// The character of a line where no line meets it.
+/// The character of a border where no other border meets it.
 fn main_of(drawing: &Drawing<'_, '_>, kind: Kind, place: Rectangle) -> Option<char>
     ensures { result ≡ main_of (plan_of drawing.now) kind place }
 {

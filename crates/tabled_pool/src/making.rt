@@ -1,4 +1,4 @@
-//! Tables of rows, and copies of tables.
+//! `PoolTable::new` and `PoolTable::clone`: tables of rows, and copies.
 ghost use Rattle.std.specs.Prelude.{◌≡◌, List, IfErr, IfOk, map};
 ghost use Rattle.std.specs.Iterator.{IsFiniteIterable};
 ghost use Rattle.tabled_base.specs.Given.{Given};
@@ -12,9 +12,9 @@ use std::alloc::Global;
 use tabled_base::{CellText, IntoRecords, TableError};
 
 impl PoolTable {
-    /// A table of rows, which may have different numbers of cells: a column with a row of cells
-    /// for each. Without rows it is drawn as the empty text. The settings are those of
-    /// `from_value`. Fails only with `Memory`, where an allocation fails.
+    /// Returns a table of rows, which may have different numbers of cells: a column of boxes, one
+    /// for each row. Without rows it is drawn as an empty text. The settings are those of
+    /// `from_value`. Fails only with `Memory`, if an allocation fails.
     pub fn new<I: IntoRecords>(alloc: Global, records: I) -> Result<PoolTable, TableError>
     where
         I::Cell: CellText + Drop,
@@ -27,7 +27,7 @@ impl PoolTable {
         Ok(PoolTable::from_value(TableValue::Column(rows)))
     }
 
-    /// A copy of the table. Fails only with `Memory`, where an allocation fails.
+    /// Returns a copy of the table. Fails only with `Memory`, if an allocation fails.
     pub fn clone(&self) -> Result<PoolTable, TableError>
         ensures ok { IfOk result (λ copy. IsCopy self.now copy) }
         ensures only { IfErr result (λ e. e ≡ Memory) }
@@ -40,7 +40,7 @@ impl PoolTable {
     }
 }
 
-/// Rows of cells, one for each row that a source gives.
+/// Copies the rows of a source.
 fn collect_rows<I: IntoRecords>(alloc: Global, records: I) -> Result<Vec<TableValue>, TableError>
 where
     I::Cell: CellText + Drop,
@@ -63,7 +63,7 @@ fn row_of(children: Vec<TableValue>) -> TableValue
     TableValue::Row(children)
 }
 
-/// The texts of cells.
+/// Copies the texts of the cells of a row.
 fn collect_row<I: IntoIterator>(alloc: Global, cells: I) -> Result<Vec<TableValue>, TableError>
 where
     I::Item: CellText + Drop,

@@ -1,4 +1,4 @@
-//! A margin, with its colours.
+//! `ColoredMargin`: a margin and its colours, and how it is written.
 ghost use Rattle.std.specs.Prelude.{◌≡◌, ◌∷◌, [], replicate};
 ghost use Rattle.tabled_line.specs.Fill.{indent};
 ghost use Rattle.tabled_line.specs.Leading.{WritesLines};
@@ -19,7 +19,7 @@ pub struct ColoredMargin {
 }
 
 impl ColoredMargin {
-    /// The left margin of a line.
+    /// Writes the left margin of a line.
     pub fn write_left_margin<S: TextSink>(&self, sink: &mut S) -> Result<(), TableError>
         ensures { Writes (S.sent sink.old) result (S.sent sink.new)
             (coloured (mark_of self.now.colors.left) (indent self.now.indent.left)) }
@@ -28,7 +28,7 @@ impl ColoredMargin {
         draw_colored_fill(sink, self.colors.left, left.fill, left.size)
     }
 
-    /// The right margin of a line.
+    /// Writes the right margin of a line.
     pub fn write_right_margin<S: TextSink>(&self, sink: &mut S) -> Result<(), TableError>
         ensures { Writes (S.sent sink.old) result (S.sent sink.new)
             (coloured (mark_of self.now.colors.right) (indent self.now.indent.right)) }
@@ -38,7 +38,7 @@ impl ColoredMargin {
     }
 }
 
-/// A line of the top or bottom margin, between the side margins.
+/// Writes a line of the top or bottom margin, between the side margins.
 fn draw_filled_line<S: TextSink>(
     sink: &mut S,
     margin: &ColoredMargin,
@@ -69,7 +69,7 @@ fn draw_next_margin_line<S: TextSink>(
     draw_filled_line(sink, margin, color, c, width)
 }
 
-/// The lines of the top or the bottom margin.
+/// Writes the lines of the top or the bottom margin.
 pub fn draw_margin<S: TextSink>(
     sink: &mut S,
     begun: &mut bool,

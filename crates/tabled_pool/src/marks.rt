@@ -1,4 +1,4 @@
-//! The marks around a character of a line, for its colour.
+//! Marks: the prefixes and suffixes of colours around a border character.
 ghost use Rattle.std.specs.Prelude.{◌≡◌};
 ghost use Rattle.std.specs.Option.{option_map};
 ghost use Rattle.tabled_pool.specs.Colours.{mark_of};
@@ -8,14 +8,14 @@ ghost use Rattle.tabled_pool.specs.Plans.{around_of};
 use crate::colors::is_same;
 use tabled_config::ANSIStr;
 
-/// What is written around a character.
+/// The marks around a character.
 #[derive(Clone, Copy)]
 pub struct Marks {
-    /// The suffix that ends the colour before.
+    /// The suffix of the colour before.
     pub close: &'static str,
-    /// The prefix.
+    /// The prefix of the character's own colour.
     pub start: &'static str,
-    /// The suffix behind the character.
+    /// The suffix after the character.
     pub behind: &'static str,
 }
 
@@ -32,7 +32,7 @@ impl Marks {
     }
 }
 
-/// The colours of the top or the bottom line of a text.
+/// The colours of the top or the bottom border of a text.
 #[derive(Clone, Copy)]
 pub struct LineColors {
     pub corner: Option<ANSIStr<'static>>,
@@ -40,7 +40,7 @@ pub struct LineColors {
     pub right: Option<ANSIStr<'static>>,
 }
 
-/// The colour that is used behind a part.
+/// Returns the current colour after a part of a border: the first one that is set.
 pub fn used_after(
     used: Option<ANSIStr<'static>>,
     color: Option<ANSIStr<'static>>,
@@ -53,7 +53,7 @@ pub fn used_after(
     }
 }
 
-/// What begins a part of a line.
+/// Returns the marks that start a part in `color`, where `used` is the current colour.
 pub fn begun(used: Option<ANSIStr<'static>>, color: Option<ANSIStr<'static>>) -> Marks
     ensures { around_of result ≡ begun (option_map mark_of used.entry) (option_map mark_of color.entry) }
 {
@@ -77,7 +77,7 @@ pub fn begun(used: Option<ANSIStr<'static>>, color: Option<ANSIStr<'static>>) ->
     }
 }
 
-/// What ends a line.
+/// Returns the suffix that ends a border.
 pub fn ended(used: Option<ANSIStr<'static>>) -> &'static str
     ensures { result.now ≡ ended (option_map mark_of used.entry) }
 {
@@ -87,7 +87,7 @@ pub fn ended(used: Option<ANSIStr<'static>>) -> &'static str
     }
 }
 
-/// What stands around one character by itself.
+/// Returns the marks around a single character.
 pub fn alone(color: Option<ANSIStr<'static>>) -> Marks
     ensures { around_of result ≡ alone (option_map mark_of color.entry) }
 {

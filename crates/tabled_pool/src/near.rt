@@ -1,11 +1,11 @@
-//! The pieces that a line of a drawing is drawn by: most others are far from it.
+//! The pieces near a line, which alone determine what is drawn on it.
 ghost use Rattle.std.specs.Prelude.{◌≡◌, ◌^◌, ◌<◌, ◌-◌, true, map};
 ghost use Rattle.tabled_pool.specs.Shown.{shown};
 ghost use Rattle.tabled_pool.specs.Near.{is_near, near_parts};
 
 use crate::pieces::{Piece, Rectangle};
 
-/// Whether a rectangle has a place on a line, above it or below it.
+/// Whether a rectangle reaches line `y`, the line above it or the line below it.
 fn is_near(place: Rectangle, y: usize) -> bool
     requires { y < 2 ^ 64 - 1 }
     ensures { result ≡ is_near y place }
@@ -13,7 +13,7 @@ fn is_near(place: Rectangle, y: usize) -> bool
     place.y <= y + 1 && y.saturating_sub(place.y) <= place.height
 }
 
-/// Gathers the pieces near a line, if there is memory for them.
+/// Lists the pieces near line `y`. Returns `false` if an allocation fails.
 pub(crate) fn gather<'a>(near: &mut Vec<Piece<'a>>, pieces: &[Piece<'a>], y: usize) -> bool
     requires { y < 2 ^ 64 - 1 }
     ensures { result ≡ true → map shown near.new.items ≡ near_parts y (map shown pieces.now) }

@@ -1,36 +1,36 @@
-//! The pieces of a picture, and where they stand.
+//! `Rectangle`, and `Piece`, a text or a border in its rectangle.
 
-/// A place in a picture: columns from the left, lines from the top.
+/// A rectangle of a drawing, in columns from the left and lines from the top.
 #[derive(Clone, Copy, Debug, PartialEq, Eq)]
 pub struct Rectangle {
-    /// The columns before it.
+    /// The columns to its left.
     pub x: usize,
     /// The lines above it.
     pub y: usize,
-    /// Its columns.
+    /// Its width in columns.
     pub width: usize,
-    /// Its lines.
+    /// Its height in lines.
     pub height: usize,
 }
 
-/// What stands in a place.
+/// What a piece is.
 #[derive(Clone, Copy, Debug, PartialEq, Eq)]
 pub enum Kind {
     /// A text with its padding.
     Leaf,
-    /// A vertical line.
+    /// A vertical border.
     Bar,
-    /// A horizontal line.
+    /// A horizontal border.
     Rule,
 }
 
-/// A text or a line, in its place.
+/// A text or a border, with its rectangle.
 #[derive(Clone, Copy)]
 pub struct Piece<'a> {
     /// What it is.
     pub kind: Kind,
-    /// Where it stands.
+    /// Where it is.
     pub place: Rectangle,
-    /// Its text; a line has none.
+    /// Its text; a border has none.
     pub text: &'a str,
 }

@@ -1,4 +1,4 @@
-//! The places of the texts of a tree, and of the lines between its boxes.
+//! Places the texts of a tree and the borders between its boxes in rectangles.
 ghost use Rattle.std.specs.Prelude.{◌≡◌, ◌+◌, ◌-◌, ◌^◌, ◌<◌, ◌≤◌, map, ◌++◌, ◌∷◌, [], IfOk};
 ghost use Rattle.tabled_pool.specs.declared.pieces.Kind.TheVariants.{Leaf};
 ghost use Rattle.tabled_pool.specs.Boxes.{box_of, leaf_box, row_box, column_box, share, part_of, left_part, right_part, top_part, bottom_part};
@@ -11,7 +11,7 @@ use crate::tree::TableValue;
 use std::alloc::AllocError;
 use tabled_size::DimensionPriority;
 
-/// What the first of some boxes gets of what is left over.
+/// What the first of `count` boxes gets of a surplus of columns or lines.
 #[tactic(auto, using(crate::proofs::Tiling::share_within))]
 fn share(priority: DimensionPriority, surplus: usize, count: usize) -> usize
     requires { 0 < count }
@@ -44,7 +44,7 @@ fn place_leaf<'a>(
     Ok(())
 }
 
-/// Adds the place of a line between boxes.
+/// Adds a border.
 pub fn place_bar<'a>(
     kind: Kind,
     place: Rectangle,
@@ -61,21 +61,21 @@ pub fn place_bar<'a>(
     Ok(())
 }
 
-/// A place of some boxes, cut behind the first of them.
+/// A rectangle of several boxes, split after the first.
 #[derive(Clone, Copy)]
 pub struct SplitPlace {
-    /// The first box's own columns, or lines.
+    /// The width or height that the first box needs.
     pub own: usize,
-    /// The place that the first box is given.
+    /// The rectangle of the first box.
     pub given: Rectangle,
-    /// The place of the line behind it.
+    /// The rectangle of the border after it.
     pub line: Rectangle,
-    /// The place of the other boxes.
+    /// The rectangle of the other boxes.
     pub rest: Rectangle,
 }
 
-/// Cuts a place of boxes side by side behind the first of them. The boxes are so many, and their own columns with the
-/// lines between them are those that are left.
+/// Splits a rectangle of `count` boxes side by side after the first. `left` is the width that they
+/// and the borders between them need.
 pub fn split_row(
     child: &TableValue,
     spacing: &BoxSpacing,
@@ -132,8 +132,8 @@ pub fn split_row(
     }
 }
 
-/// Cuts a place of boxes below each other behind the first of them. The boxes are so many, and their own lines with the
-/// lines between them are those that are left.
+/// Splits a rectangle of `count` boxes below each other after the first. `left` is the height that
+/// they and the borders between them need.
 pub fn split_column(
     child: &TableValue,
     spacing: &BoxSpacing,
@@ -254,7 +254,7 @@ fn place_column<'a>(
     place_value(last, spacing, place, pieces)
 }
 
-/// The places of the leaves of a tree and of the lines between its boxes.
+/// Adds the texts of a tree and the borders between its boxes. Recurses at each level.
 #[cycle(places)]
 #[tactic(auto, using(crate::proofs::Steps::row_step_width, crate::proofs::Steps::row_step_height, crate::proofs::Steps::column_step_width, crate::proofs::Steps::column_step_height, crate::proofs::Steps::left_first, crate::proofs::Steps::left_all, crate::proofs::Steps::left_count,))]
 pub fn place_value<'a>(

@@ -1,4 +1,4 @@
-//! Whether a pool table is made of plain characters, so that all its lines are equally wide.
+//! `PoolTable::is_plain`: whether all characters are plain, so that all lines are equally wide.
 ghost use Rattle.std.specs.Prelude.{◌↔◌, IsTrue, map};
 ghost use Rattle.tabled_text.specs.Plain.{IsAdditiveColumn, IsPlain};
 ghost use Rattle.tabled_line.specs.Plain.{IsPlainPiece, IsPlainStyle};
@@ -13,7 +13,6 @@ use crate::tree::TableValue;
 use tabled_config::{Borders, CellStyle, Indent, Sides};
 use tabled_text::{is_additive_column, is_plain};
 
-/// Whether all texts of some values are plain.
 #[cycle(plain)]
 fn are_plain_values(values: &[TableValue]) -> bool
     ensures { IsTrue result ↔ EachTextIn IsPlain (trees (map tree_of values.now)) }
@@ -26,7 +25,6 @@ fn are_plain_values(values: &[TableValue]) -> bool
     true
 }
 
-/// Whether all texts of a value are plain.
 #[cycle(plain)]
 fn is_plain_value(value: &TableValue) -> bool
     ensures { IsTrue result ↔ EachText IsPlain (tree_of value.now) }
@@ -72,7 +70,7 @@ fn are_plain_intersections(borders: &Borders<char>) -> bool
         && is_plain_piece(borders.intersection)
 }
 
-/// Whether each character of a line is plain or a separator, and takes one column.
+/// Whether each border character is plain or a separator, and takes one column.
 fn are_plain_borders(borders: &Borders<char>) -> bool
     ensures { IsTrue result ↔ EachCharacter IsAdditiveColumn borders.now }
 {
@@ -98,7 +96,8 @@ fn is_plain_margin(margin: &Sides<Indent>) -> bool
 }
 
 impl PoolTable {
-    /// Whether lines, paddings and margin are plain or separators, and nothing is coloured.
+    /// Whether the characters of borders, padding and margin are plain or separators, and nothing
+    /// is coloured.
     fn has_plain_settings(&self) -> bool
         ensures { IsTrue result ↔ HasPlainSettings self.now }
     {
@@ -108,12 +107,11 @@ impl PoolTable {
             && self.is_uncolored()
     }
 
-    /// Whether the texts are plain, and the characters of lines, paddings and margins are plain or
-    /// separators of one column, or missing. Then all printed lines are equally wide and each text
-    /// is in its place, if each text has at least one column. This holds also where texts touch.
+    /// Whether the texts are plain, and the characters of borders, padding and margin are missing,
+    /// or plain or separators of one column. Then all printed lines are equally wide and each text
+    /// is in its rectangle, if each text has at least one column. This holds even if texts touch.
     ///
-    /// Lines, paddings and margins must not be coloured, except by an empty colour. The call
-    /// recurses as deep as the tree is.
+    /// Nothing may be coloured, except by an empty colour. Recurses at each level of the value.
     #[tactic(auto, using(crate::proofs::StraightPools::straight_plain))]
     pub fn is_plain(&self) -> bool
         ensures test { IsTrue result ↔ IsPlainPool self.now }

@@ -1,4 +1,4 @@
-//! Tables of boxes.
+//! `PoolTable`: its settings, its size, and how it is printed.
 ghost use Rattle.std.specs.Prelude.{◌≡◌, ◌⊎◌, ◌≤◌, IfErr, IfOk, MatchOption, length, map, [], ◌++◌, ◌<◌, ◌^◌, ◌+◌, string_bytes, true};
 ghost use Rattle.tabled_base.specs.declared.error.TableError.TheVariants.{Memory, Range};
 ghost use Rattle.tabled_config.specs.Styles.{ascii};
@@ -69,7 +69,7 @@ fn sum(first: usize, second: usize, third: usize) -> Option<usize>
     first.checked_add(second)?.checked_add(third)
 }
 
-/// The columns and lines that each outer line takes.
+/// The thickness of each outer border: one column or line if it is there, else 0.
 fn frame_of(borders: &Borders<char>) -> Sides<usize>
     ensures { result ≡ frame_of borders.now }
 {
@@ -98,7 +98,8 @@ fn has_margin(margin: Sides<Indent>) -> bool
     margin.left.size > 0 || margin.right.size > 0 || margin.top.size > 0 || margin.bottom.size > 0
 }
 
-/// Ascii borders, one column of padding on the left and right, no margin, texts at the left and the top.
+/// The settings of a new table: ASCII borders, one column of padding on the left and right, no
+/// margin, texts at the left and the top.
 fn new_config() -> CompactMultilineConfig
     ensures { IsNewConfig result }
 {
@@ -110,16 +111,16 @@ fn new_config() -> CompactMultilineConfig
     config
 }
 
-/// A table of boxes: each box holds a text, a row of boxes or a column of boxes. Its rows may
-/// have different numbers of cells.
+/// A table of nested boxes: each box holds a text, a row of boxes or a column of boxes. Its rows
+/// may have different numbers of cells.
 ///
-/// The stack limits how deep the value may be: printing and comparing it recurse at each level, and
-/// so does `is_plain`. On 8 MiB of stack, 20,000 levels were printed, and 15,000 with
-/// a text of no column. A value that is too deep overflows the stack and ends the process, and
-/// no proof covers this. Copying and dropping a table don't recurse.
+/// The stack limits how deep the value may be: printing, comparing and `is_plain` recurse at each
+/// level. On 8 MiB of stack, printing works to about 20,000 levels, or 15,000 with a text that is
+/// given no columns. A value that is too deep overflows the stack and ends the process; no proof
+/// covers this. Copying and dropping a table don't recurse.
 ///
-/// Each level measures the levels inside it again, so the time of printing grows at least with
-/// the square of the depth.
+/// Each level measures the levels inside it again, so the time of printing grows at least with the
+/// square of the depth.
 #[derive(Debug, Drop, PartialEq, Eq, PartialOrd, Ord)]
 pub struct PoolTable {
     pub(crate) value: TableValue,
@@ -128,9 +129,9 @@ pub struct PoolTable {
 }
 
 impl PoolTable {
-    /// A table of a value, which allocates nothing. Its borders are ASCII, its padding is one column
-    /// on the left and right, and it has no margin. Texts are at the left and the top, and all
-    /// boxes share a surplus of columns or lines.
+    /// Returns a table of a value, without allocating. It has ASCII borders, one column of padding
+    /// on the left and right, and no margin. Texts are at the left and the top, and boxes share
+    /// surplus columns and lines evenly.
     pub fn from_value(value: TableValue) -> PoolTable
         ensures { IsNewPool value result }
     {
@@ -141,11 +142,11 @@ impl PoolTable {
         }
     }
 
-    /// The text that `write_to` writes. Unlike `to_string`, it can be called at the end of a chain
-    /// of `with`, which returns `&mut PoolTable`.
+    /// Returns the text that `write_to` writes. Unlike `to_string`, it can be called at the end of
+    /// a chain of `with`, which returns `&mut PoolTable`.
     ///
-    /// Fails with `Range` where the total columns or lines exceed `usize::MAX`, and with `Memory`
-    /// where an allocation fails.
+    /// Fails with `Range` if the total width or height exceeds `usize::MAX`, and with `Memory` if
+    /// an allocation fails.
     pub fn to_text(&self) -> Result<String, TableError>
         ensures ok { IfOk result (λ text. string_bytes text ≡ pool_text self.now) }
         ensures in_range { IfOk result (λ _. IsInRange self.now) }
@@ -157,8 +158,8 @@ impl PoolTable {
         Ok(text)
     }
 
-    /// The text of `to_text`, with the same errors. On a `&mut PoolTable`, as `with` returns it,
-    /// the name means std's `ToString::to_string`.
+    /// Returns the text of `to_text`, with the same errors. On a `&mut PoolTable`, as `with`
+    /// returns it, the name means std's `ToString::to_string`.
     pub fn to_string(&self) -> Result<String, TableError>
         ensures ok { IfOk result (λ text. string_bytes text ≡ pool_text self.now) }
         ensures in_range { IfOk result (λ _. IsInRange self.now) }
@@ -187,7 +188,7 @@ impl PoolTable {
         }
     }
 
-    /// The columns and lines within the margin, if they are in range.
+    /// The width and height without the margin, if both fit in `usize`.
     fn framed_size(&self) -> Option<Size>
         ensures { MatchOption result ((2 ^ 64 ≤ framed_width self.now) ⊎ (2 ^ 64 ≤ framed_height self.now))
             (λ size. (size.width ≡ framed_width self.now) × (size.height ≡ framed_height self.now)) }
@@ -201,7 +202,7 @@ impl PoolTable {
         Some(Size { width, height })
     }
 
-    /// The colours of a margin; one of no column and no line has none.
+    /// The colours of a margin. An empty margin has none.
     fn margin_colors(&self, margin: Sides<Indent>) -> Sides<ANSIStr<'static>>
         ensures { marks_of result ≡ marks_for self.now margin }
     {
@@ -212,7 +213,7 @@ impl PoolTable {
         }
     }
 
-    /// The margin around drawn lines; the empty text has none.
+    /// The margin around a drawn block. One empty line has none.
     fn margin_around(&self, block: &DrawnBlock) -> Sides<Indent>
         ensures { result ≡ margin_around self.now (block_sheet_of block.now) }
     {
@@ -223,7 +224,7 @@ impl PoolTable {
         }
     }
 
-    /// The columns and lines within the margin, if the totals are in range.
+    /// The width and height without the margin, if the totals with it fit in `usize`.
     fn checked_size(&self) -> Option<Size>
         ensures { MatchOption result (IsOutOfRange self.now) (λ size. (size.width ≡ framed_width self.now)
             × (size.height ≡ framed_height self.now) × IsInRange self.now) }
@@ -235,7 +236,7 @@ impl PoolTable {
         Some(size)
     }
 
-    /// The places of the texts and lines.
+    /// Places the texts and borders in their rectangles.
     fn pieces(&self, size: Size) -> Result<Vec<Piece<'_>>, TableError>
         requires width { size.width ≡ framed_width self.now }
         requires height { size.height ≡ framed_height self.now }
@@ -254,7 +255,7 @@ impl PoolTable {
         Ok(pieces)
     }
 
-    /// The pieces as they are drawn.
+    /// The pieces, with the settings that they are drawn with.
     fn drawing<'d, 'a>(&self, pieces: &'d [Piece<'a>], size: Size) -> Drawing<'d, 'a>
         requires width { size.width ≡ framed_width self.now }
         requires height { size.height ≡ framed_height self.now }
@@ -273,7 +274,7 @@ impl PoolTable {
         }
     }
 
-    /// Prints the drawing by the lines that meet.
+    /// Writes a drawing in which each text has at least one column, and its margin.
     fn draw_pieces<S: TextSink>(
         &self,
         sink: &mut S,
@@ -291,7 +292,7 @@ impl PoolTable {
         draw_framed(sink, drawing, &margin)
     }
 
-    /// Prints drawn lines.
+    /// Writes the drawn lines of a tree with a zero-width text, and their margin.
     fn draw_inherited<S: TextSink>(
         &self,
         sink: &mut S,
@@ -309,7 +310,7 @@ impl PoolTable {
         draw_block(sink, block, &margin)
     }
 
-    /// The size of the boxes without the outer lines.
+    /// The size without the outer borders.
     fn inner_size(&self, size: Size) -> Size
         requires width { size.width ≡ framed_width self.now }
         requires height { size.height ≡ framed_height self.now }
@@ -323,7 +324,7 @@ impl PoolTable {
         }
     }
 
-    /// Prints the table, if its totals are in range.
+    /// Writes the table, if its totals fit in `usize`.
     fn write_checked<S: TextSink>(&self, sink: &mut S) -> Result<(), TableError>
         ensures { WritesPool self.now (S.sent sink.old) result (S.sent sink.new) }
     {
@@ -344,26 +345,26 @@ impl PoolTable {
         self.draw_inherited(sink, &block)
     }
 
-    /// Writes the boxes with their lines and the margin, line by line. Where lines meet, the
-    /// character is the junction of the lines that continue from there.
+    /// Writes the boxes with their borders and the margin, line by line. Where borders meet, the
+    /// character is the junction of those that continue from there.
     ///
-    /// Fails with `Range` where the total columns or lines, with lines and margin, exceed
-    /// `usize::MAX`, and with `Memory` where an allocation fails, both before the first byte. Other
-    /// errors are the sink's, which then has a beginning of the text.
+    /// Fails with `Range` if the total width or height, with borders and margin, exceeds
+    /// `usize::MAX`, and with `Memory` if an allocation fails. Both come before the first byte. If
+    /// the sink fails, its error is returned, and it has a beginning of the text.
     ///
     /// Colours take no columns. Each run of padding or margin is between the prefix and the suffix
-    /// of its colour, even where the run is empty. Along the top or bottom line of a text, a
-    /// colour starts where none or another one is in use, and the first one ends at the end of
-    /// the line.
+    /// of its colour, even if the run is empty; an empty margin has no colours. Along the top or
+    /// bottom border of a text, the first colour stays the current one. A part in another colour
+    /// starts with the current suffix and its own prefix, and the current suffix ends the border.
     ///
-    /// A text of no column changes how the table is drawn, and side padding prevents it. All lines
-    /// are then built in memory first. Each text draws the line above it and the line to its left,
-    /// a text of no column draws none, and a box passes on where its lines meet others. The empty
-    /// text has no margin.
+    /// A text that is given no columns changes how the table is drawn; side padding prevents this.
+    /// All lines are then built in memory first. Each text draws the borders above it and to its
+    /// left, and a text of no columns draws none. Boxes pass on to the next ones where borders
+    /// meet. A table that is one empty line has no margin.
     ///
-    /// The call recurses at each level of the value, as `PoolTable` says. For each line it goes
-    /// through all texts and lines once, and at each place of the line through those near it. If
-    /// no memory is left to collect these, it goes through all of them at each place.
+    /// Recurses at each level of the value (see `PoolTable`). Each line takes a pass over all texts
+    /// and borders, and each of its columns takes passes over those near the line, or over all if
+    /// there is no memory to list these.
     pub fn write_to<S: TextSink>(&self, sink: &mut S) -> Result<(), TableError>
         ensures printed { WritesPool self.now (S.sent sink.old) result (S.sent sink.new) }
         ensures padded { IsPadded self.now → HasColumns self.now }
@@ -376,8 +377,8 @@ impl PoolTable {
     }
 }
 
-/// The text of `to_text`. Fails with `fmt::Error` where `to_text` or the writer fails. The width
-/// and precision of the formatter are ignored.
+/// Writes the text of `to_text`, and ignores the width and precision of the formatter. Fails with
+/// `fmt::Error` if `to_text` or the writer fails.
 impl fmt::Display for PoolTable {
     ghost use Rattle.std.specs.Prelude.{Some};
 

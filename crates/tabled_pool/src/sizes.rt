@@ -1,4 +1,4 @@
-//! The sizes that boxes ask for.
+//! The sizes that boxes need.
 ghost use Rattle.std.specs.Prelude.{◌≡◌, ◌+◌, ◌^◌, ◌≤◌, ◌⊎◌, map};
 ghost use Rattle.tabled_pool.specs.Boxes.{box_of, leaf_box, row_box, column_box, IsSize};
 
@@ -18,7 +18,7 @@ fn leaf_size(text: &str, spacing: &BoxSpacing) -> Option<Size>
     Some(Size { width, height })
 }
 
-/// The own size of boxes side by side, if it is in range.
+/// Returns the size that boxes side by side need, if it fits in `usize`.
 #[cycle(sizes)]
 #[tactic(auto, using(crate::proofs::Sums::row_width_more, crate::proofs::Sums::row_height_most, crate::proofs::Sums::column_width_most, crate::proofs::Sums::column_height_more,))]
 pub fn row_size(children: &[TableValue], spacing: &BoxSpacing) -> Option<Size>
@@ -39,7 +39,7 @@ pub fn row_size(children: &[TableValue], spacing: &BoxSpacing) -> Option<Size>
     Some(Size { width, height })
 }
 
-/// The own size of boxes below each other, if it is in range.
+/// Returns the size that boxes below each other need, if it fits in `usize`.
 #[cycle(sizes)]
 #[tactic(auto, using(crate::proofs::Sums::row_width_more, crate::proofs::Sums::row_height_most, crate::proofs::Sums::column_width_most, crate::proofs::Sums::column_height_more,))]
 pub fn column_size(children: &[TableValue], spacing: &BoxSpacing) -> Option<Size>
@@ -60,7 +60,7 @@ pub fn column_size(children: &[TableValue], spacing: &BoxSpacing) -> Option<Size
     Some(Size { width, height })
 }
 
-/// The own size of a tree, if it is in range.
+/// Returns the size that a tree needs, if it fits in `usize`.
 #[cycle(sizes)]
 #[tactic(auto, using(crate::proofs::Sums::row_width_more, crate::proofs::Sums::row_height_most, crate::proofs::Sums::column_width_most, crate::proofs::Sums::column_height_more,))]
 pub fn own_size(value: &TableValue, spacing: &BoxSpacing) -> Option<Size>

@@ -1,4 +1,4 @@
-//! Sizes of boxes in a tree with a text of no column: a box takes its part of those that it inherited.
+//! Splits the lists of sizes that boxes inherit, and finds where borders meet along them.
 ghost use Rattle.std.specs.Prelude.{◌≡◌, ◌==◌, ◌-◌, ◌∷◌, if◌then◌else◌, IfErr, IfOk};
 ghost use Rattle.tabled_base.specs.declared.error.TableError.TheVariants.{Memory};
 ghost use Rattle.tabled_pool.specs.Inherited.{is_split, taken};
@@ -7,7 +7,7 @@ ghost use Rattle.tabled_pool.specs.Inheriting.{taken_of};
 use std::alloc::Global;
 use tabled_base::TableError;
 
-/// A part of some sizes, what is left of them, and whether the part ends where one of them does.
+/// A list of sizes, split in two, and whether the first part ends where a size does.
 #[derive(Drop)]
 pub(crate) struct TakenSizes {
     pub part: Vec<usize>,
@@ -15,7 +15,7 @@ pub(crate) struct TakenSizes {
     pub met: bool,
 }
 
-/// What is left where a size reaches beyond a part.
+/// Ends a split in or after a size: `beyond` of it is left, and `behind` are the sizes after it.
 fn ended(
     alloc: Global,
     part: Vec<usize>,
@@ -38,8 +38,8 @@ fn ended(
     Ok(TakenSizes { part, rest, met })
 }
 
-/// Takes a part of some sizes: those that end before a size does, with a line behind each. The next one loses what is
-/// taken of it, and one for the line that follows, or is met at its end.
+/// Splits a list of sizes, each followed by a border of one column or line, at `size`. A size that
+/// reaches beyond loses what is before that, and one for the border there.
 pub(crate) fn taken(alloc: Global, size: usize, sizes: &[usize]) -> Result<TakenSizes, TableError>
     ensures ok { IfOk result (λ t. taken_of t ≡ taken size sizes.now) }
     ensures only { IfErr result (λ e. e ≡ Memory) }
@@ -61,8 +61,8 @@ pub(crate) fn taken(alloc: Global, size: usize, sizes: &[usize]) -> Result<Taken
     })
 }
 
-/// Whether a line stands at a place: behind the first of the sizes, the first two, and so on, as long as these are
-/// below a size.
+/// Whether a border is at `place`: after the first of the sizes, the first two, and so on, while
+/// these add up to less than `size`.
 pub(crate) fn is_split(sizes: &[usize], size: usize, place: usize) -> bool
     ensures { result ≡ is_split sizes.now size place }
 {

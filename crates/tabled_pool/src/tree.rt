@@ -1,15 +1,15 @@
-//! A tree of texts.
+//! `TableValue`: a tree of texts, and how it is dropped.
 ghost use Rattle.std.specs.Prelude.{◌≡◌, ◌<◌, ◌≤◌, ◌+◌, IfSome, MatchOption};
 ghost use Rattle.tabled_pool.specs.Nodes.{nodes, nodes_in};
 
 use std::alloc::Global;
 
-/// A tree of texts. An empty row or column is drawn as the empty text.
+/// A tree of texts, which a `PoolTable` prints. An empty row or column is drawn as an empty text.
 ///
 /// The stack limits how deep a tree may be: comparing it recurses at each level, and so does
-/// printing it with a `PoolTable`. On 8 MiB of stack, 20,000 levels were printed, and
-/// 15,000 with a text of no column. A tree that is too deep overflows the stack and ends the
-/// process, and no proof covers this. Copying and dropping a tree don't recurse.
+/// printing it with a `PoolTable`. On 8 MiB of stack, printing works to about 20,000 levels, or
+/// 15,000 with a text that is given no columns. A tree that is too deep overflows the stack and
+/// ends the process; no proof covers this. Copying and dropping a tree don't recurse.
 #[derive(Debug, PartialEq, Eq, PartialOrd, Ord)]
 pub enum TableValue {
     /// Values side by side, from the left.
@@ -21,7 +21,7 @@ pub enum TableValue {
 }
 
 impl TableValue {
-    /// The allocator of the text or the list.
+    /// Returns the allocator of the text or the list.
     pub fn allocator(&self) -> Global {
         match self {
             TableValue::Row(children) => *children.allocator(),
@@ -30,7 +30,7 @@ impl TableValue {
         }
     }
 
-    /// The children of a list. A text is dropped, and has none.
+    /// Returns the children of a row or column. A text is dropped, and has none.
     fn into_children(self) -> Option<Vec<TableValue>>
         ensures { MatchOption result (nodes self ≡ 1)
             (λ children. nodes self ≡ nodes_in children.items + 1) }
@@ -42,8 +42,8 @@ impl TableValue {
         }
     }
 
-    /// Goes down to the last text or empty list of a value, and drops it. Returns what is left to
-    /// drop: each list on the way down takes the list above it, in place of its last child.
+    /// Descends to the last text or empty list of a value, and drops it. Returns what is left to
+    /// drop: in each list on the way down, the list above it replaces the last child.
     #[tactic(auto, using(crate::proofs::NodeSums::nodes_in_push))]
     fn drop_last_leaf(self, above: Vec<TableValue>) -> Vec<TableValue>
         ensures { nodes_in result.items < nodes self + nodes_in above.items }
@@ -65,8 +65,8 @@ impl TableValue {
     }
 }
 
-/// Takes the next value from what `drop_last_leaf` left. A list without further children is
-/// freed, and the list above it goes on.
+/// Takes the next value from the lists that `drop_last_leaf` returned. A list without further
+/// children is freed, and the list above it continues.
 #[tactic(auto, using(crate::proofs::NodeSums::nodes_in_push))]
 fn take_next(left: Vec<TableValue>) -> Option<(TableValue, Vec<TableValue>)>
     ensures { IfSome result (λ next. nodes next.0 + nodes_in next.1.items ≤ nodes_in left.items) }
@@ -89,8 +89,7 @@ fn take_next(left: Vec<TableValue>) -> Option<(TableValue, Vec<TableValue>)>
     }
 }
 
-/// Drops a tree without recursion, so that none is too deep, and without allocating: the way
-/// back up is kept in the lists themselves.
+/// Drops a tree of any depth, without recursion or allocation: each list stores the list above it.
 impl Drop for TableValue {
     fn drop(self) {
         let root = Vec::new(self.allocator());

@@ -8,7 +8,7 @@ ghost use Rattle.tabled_pool.specs.Uncoloured.{AreNoMarks, IsNoMark, IsUncoloure
 use crate::pool_table::PoolTable;
 use tabled_config::{ANSIStr, Borders, Sides};
 
-/// Whether the colour of a line is empty, or none is set.
+/// Whether the colour of a border is empty or not set.
 fn is_uncolored_line(color: Option<ANSIStr<'static>>) -> bool
     ensures { IsTrue result ↔ IsNoMark (option_map mark_of color.entry) }
 {
@@ -18,7 +18,7 @@ fn is_uncolored_line(color: Option<ANSIStr<'static>>) -> bool
     }
 }
 
-/// Whether the colours of all lines are empty, or none is set.
+/// Whether the colours of all borders are empty or not set.
 pub(crate) fn are_uncolored_lines(colors: &Borders<ANSIStr<'static>>) -> bool
     ensures { IsTrue result ↔ AreNoMarks (line_marks_of colors.now) }
 {
@@ -42,7 +42,7 @@ fn are_uncolored_sides(colors: &Sides<ANSIStr<'static>>) -> bool
 }
 
 impl PoolTable {
-    /// Whether lines, paddings and margin have no colours, or empty ones.
+    /// Whether borders, padding and margin have no colours, or empty ones.
     pub(crate) fn is_uncolored(&self) -> bool
         ensures { IsTrue result ↔ IsUncoloured self.now }
     {

@@ -1,10 +1,11 @@
--- The grown list of each priority: the old state, the old list, the amount, the new list, the new state.
+-- The grown list of each priority. The arguments are the old state, the old list, the amount, the
+-- new list and the new state.
 use Rattle.std.specs.Prelude.{◌≡◌, ◌≢◌, ℕ, ◌+◌, ◌<◌, ◌≤◌, Bool, not, List, [], length, sum, max, if◌then◌else◌, ◌==◌}
 use Rattle.tabled_priority.specs.Permitted.{at}
 use Rattle.tabled_priority.specs.Shrunk.{ceiling, start, place_after, is_met}
 use Rattle.tabled_priority.specs.Peak.{IsLeftmost, IsRightmost, IsGreatest}
 
--- what is added where so much is wanted: nothing, if all values are zero
+-- what is added of an amount: nothing if all values are zero
 abbrev pub added : List ℕ → ℕ → ℕ
 added values by = if sum values == 0 then 0 else by
 
@@ -14,40 +15,40 @@ pub record IsNoneSmaller (old new : List ℕ) : Type 0 where
   pub least : (i : ℕ) → at old i ≤ at new i
   pub zeros : (i : ℕ) → at old i ≡ 0 → at new i ≡ 0
 
--- none smaller, and just so much is added
+-- no entry is smaller, and exactly the amount was added
 pub record IsGrownFrom (old : List ℕ) (by : ℕ) (new : List ℕ) : Type 0 where
   pub kept : IsNoneSmaller old new
   pub total : sum new ≡ sum old + added old by
 
--- one place, the one that P names, takes all
+-- all is added at one index, which P chooses
 pub record IsGrownAt (P : List ℕ → ℕ → Type 0) (old : List ℕ) (by : ℕ) (new : List ℕ) : Type 0 where
   pub grows : IsGrownFrom old by new
   pub place : ℕ
   pub named : 0 < added old by → P old place
   pub others : (i : ℕ) → i ≢ place → at new i ≡ at old i
 
--- all goes to the first nonzero value
+-- all is added to the first nonzero value
 abbrev pub IsLeftGrown : List ℕ → ℕ → List ℕ → Type 0
 IsLeftGrown = IsGrownAt (λ values. IsLeftmost values [])
 
--- all goes to the last nonzero value
+-- all is added to the last nonzero value
 abbrev pub IsRightGrown : List ℕ → ℕ → List ℕ → Type 0
 IsRightGrown = IsGrownAt (λ values. IsRightmost values [])
 
--- all goes to the greatest value, of equals by the side
+-- all is added to the greatest value, of equal ones by the side
 abbrev pub IsMaxGrown : Bool → List ℕ → ℕ → List ℕ → Type 0
 IsMaxGrown right = IsGrownAt (λ values. IsGreatest right values [])
 
--- every nonzero value is raised to a level, or one more on one side of a place: if `right`, from the
--- place on, else before it
+-- each nonzero value is raised to a level, or one more on one side of an index: from it on if
+-- `right`, else before it
 pub record IsMinGrown (right : Bool) (old : List ℕ) (by : ℕ) (new : List ℕ) : Type 0 where
   pub grows : IsGrownFrom old by new
   pub level : ℕ
   pub place : ℕ
   pub raised : (i : ℕ) → 0 < at old i → at new i ≡ max (at old i) (ceiling (not right) level place i)
 
--- every nonzero value gains one in each of some rounds, those from the kept place round to the last
--- one more. The place after the last is kept; where nothing is added, the kept place stays.
+-- each nonzero value gains one in each round, and those from the stored index round to `last` one
+-- more. The index after `last` is stored; if nothing is added, the stored index stays
 pub record IsRoundGrown (kept : ℕ) (old : List ℕ) (by : ℕ) (new : List ℕ) (kept' : ℕ) : Type 0 where
   pub grows : IsGrownFrom old by new
   pub rounds : ℕ

@@ -1,5 +1,5 @@
--- What is proved of the definitions beside this folder, where an implementation of a priority cites it. (A ghost member
--- cites nothing of its own crate's `proofs`.)
+-- Laws of the definitions in this crate's specs. Ghost members of a priority cite them here, since
+-- they can't cite `proofs` of their own crate.
 pub mod Grown
 pub mod Permitted
 pub mod Round

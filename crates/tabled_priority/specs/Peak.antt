@@ -1,4 +1,5 @@
--- The places that the priorities name: a state's side or kept place, the values, the minimums, the place.
+-- The indices that the priorities choose: the side or the stored index of a state, the values, the
+-- minimums, the index.
 use Rattle.std.specs.Prelude.{◌≡◌, ◌≢◌, ℕ, ◌<◌, ◌≤◌, Bool, true, List, length, nat_le, if◌then◌else◌}
 use Rattle.tabled_priority.specs.Permitted.{at}
 use Rattle.tabled_priority.specs.Shrunk.{comes_before, start, is_met}
@@ -17,18 +18,18 @@ pub record IsRightmost (values mins : List ℕ) (i : ℕ) : Type 0 where
   pub above : at mins i < at values i
   pub last : (j : ℕ) → i < j → at values j ≤ at mins j
 
--- the greatest value of those above their minimum, of equals the rightmost or the leftmost
+-- the greatest value above its minimum, of equal ones the rightmost or the leftmost
 pub record IsGreatest (right : Bool) (values mins : List ℕ) (i : ℕ) : Type 0 where
   pub above : at mins i < at values i
   pub most : (j : ℕ) → at mins j < at values j → at values j ≤ at values i
   pub side : (j : ℕ) → at mins j < at values j → at values j ≡ at values i → (if right then nat_le j i else nat_le i j) ≡ true
 
--- the least value of those above their minimum, of equals the rightmost or the leftmost
+-- the smallest value above its minimum, of equal ones the rightmost or the leftmost
 pub record IsLeast (right : Bool) (values mins : List ℕ) (i : ℕ) : Type 0 where
   pub above : at mins i < at values i
   pub first : (j : ℕ) → j ≢ i → at mins j < at values j → comes_before right values i j ≡ true
 
--- the next value above its minimum, round the list from the kept place
+-- the next value above its minimum, round the list from the stored index
 pub record IsNext (kept : ℕ) (values mins : List ℕ) (i : ℕ) : Type 0 where
   pub above : at mins i < at values i
   pub passed : (j : ℕ) → j < length values → j ≢ i → is_met (start kept (length values)) i j ≡ true → at values j ≤ at mins j

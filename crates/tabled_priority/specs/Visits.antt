@@ -1,4 +1,4 @@
--- How many columns were visited.
+-- How often columns are read.
 use Rattle.std.specs.Prelude.{ℕ, ◌+◌, ◌-◌, ◌*◌, ◌≤◌, List, [], ◌∷◌, length, min, cond, ◌==◌}
 use Rattle.tabled_priority.specs.Numbers.{greatest_usize}
 
@@ -8,12 +8,12 @@ changed [] ys = 0
 changed (x ∷ xs) [] = 1 + changed xs []
 changed (x ∷ xs) (y ∷ ys) = cond (x == y) 0 1 + changed xs ys
 
--- the count after so many visits more, as far as there is room below the greatest usize: there it stays
+-- the count after more visits, `greatest_usize` at most
 abbrev pub counted : ℕ → ℕ → ℕ
 counted before visits = before + min visits (greatest_usize - before)
 
--- a change of a list is counted: each changed column was visited, and whatever the amount, there were
--- at most 8 (c + 1) (c + 1) visits of c columns
+-- the count of a change: each changed column was read at least once, and c columns at most 8 (c +
+-- 1) (c + 1) times, whatever the amount
 pub record IsBounded (old new : List ℕ) (before after : ℕ) : Type 0 where
   pub fewest : counted before (changed old new) ≤ after
   pub most : after ≤ counted before (8 * (length old + 1) * (length old + 1))

@@ -1,21 +1,21 @@
-//! The one way in which columns are read.
+//! Reading a column, which is counted.
 ghost use Rattle.std.specs.Prelude.{◌≡◌, ◌+◌, ◌-◌, ◌<◌, ◌^◌, length, slice_set};
 ghost use Rattle.tabled_priority.specs.Permitted.{at};
 ghost use Rattle.tabled_priority.specs.Visits.{counted};
 
 use crate::steps::Steps;
 
-/// A column as it was read.
+/// The size and the minimum of a column.
 #[derive(Clone, Copy)]
 pub(crate) struct Column {
     /// Its size.
     pub(crate) value: usize,
-    /// Its minimum, 0 without minimums.
+    /// Its minimum, 0 if there are no minimums.
     pub(crate) least: usize,
 }
 
 impl Column {
-    /// What can be taken from it.
+    /// Returns how much can be taken from it.
     pub(crate) fn spare(&self) -> usize
         ensures { result ≡ self.now.value - self.now.least }
     {
@@ -23,7 +23,7 @@ impl Column {
     }
 }
 
-/// The minimum of a place, 0 without minimums.
+/// Returns the minimum at an index, 0 if there are no minimums.
 pub(crate) fn minimum(mins: &[usize], place: usize) -> usize
     ensures { result ≡ at mins.now place }
 {

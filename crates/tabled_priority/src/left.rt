@@ -1,4 +1,4 @@
-//! The first size first.
+//! The priority of the first size.
 ghost use Rattle.std.specs.Prelude.{◌≡◌, ◌+◌, ◌<◌, ◌≤◌, ◌^◌, MatchOption, [], length, sum};
 ghost use Rattle.std.proofs.Common.{refl, ◌∙◌};
 ghost use Rattle.tabled_priority.specs.Permitted.{FitsMinimums, HasOneBetween, IsPermitted};
@@ -13,12 +13,12 @@ use crate::column::{add_to, visit};
 use crate::peaker::{Peaker, TakesAll};
 use crate::steps::Steps;
 
-/// It names the first size that is above its minimum.
+/// Chooses the first size above its minimum.
 #[derive(Debug, Clone, Copy, Default, PartialEq, Eq, PartialOrd, Ord, Hash)]
 pub struct PriorityLeft;
 
 impl PriorityLeft {
-    /// A priority of the left.
+    /// Makes the priority.
     pub const fn new() -> Self {
         PriorityLeft
     }

@@ -1,12 +1,12 @@
-//! Whether a list of sizes is level.
+//! Checks whether sizes are level.
 ghost use Rattle.std.specs.Prelude.{◌↔◌, IsTrue, MatchOption};
 ghost use Rattle.tabled_priority.specs.Permitted.{FitsMinimums, IsPermitted};
 ghost use Rattle.tabled_priority.specs.Least.{HasLeastGreatest, IsHighest, IsLevel};
 
 use crate::column::minimum;
 
-/// The greatest new size above its minimum, 0 where there is none; or `None` where the new list is not
-/// a permitted one of the old list.
+/// Returns the greatest new size above its minimum, or 0 if there is none. Returns `None` if the
+/// new list isn't permitted.
 fn highest(old: &[usize], mins: &[usize], new: &[usize]) -> Option<usize>
     ensures { MatchOption result (IsPermitted old.now mins.now new.now → ⊥) (IsHighest old.now mins.now new.now) }
 {
@@ -27,10 +27,13 @@ fn highest(old: &[usize], mins: &[usize], new: &[usize]) -> Option<usize>
     Some(top)
 }
 
-/// Whether shrinking may level a list so: the new list is as long as the old one, each of its sizes
-/// lies between the lesser of its old size and its minimum, and its old size, and no lowered size is
-/// two or more below one that is above its minimum. Minimums are as many as the old sizes, or none,
-/// which stands for zeros; with others the answer is no.
+/// Whether `new` is `old` shrunk to a level:
+/// - It is as long as `old`.
+/// - Each size is at most its old size, and at least the lesser of its old size and its minimum.
+/// - No lowered size is two or more below one that is above its minimum.
+///
+/// `mins` has a minimum for each size, or is empty: then all minimums are 0. Returns `false` for
+/// other `mins`.
 pub fn is_level(old: &[usize], mins: &[usize], new: &[usize]) -> bool
     ensures exact { IsTrue result ↔ (FitsMinimums old.now mins.now × IsLevel old.now mins.now new.now) }
     ensures least { IsTrue result → HasLeastGreatest old.now mins.now new.now }

@@ -1,4 +1,4 @@
-//! Taking from all columns, or adding to them, up to a level.
+//! Changes of all columns up to a level.
 ghost use Rattle.std.specs.Prelude.{◌≡◌, ℕ, ◌+◌, ◌<◌, ◌≤◌, ◌^◌, [], length};
 ghost use Rattle.tabled_priority.specs.Permitted.{at};
 ghost use Rattle.tabled_priority.specs.Schedule.{first_level, last_level, share};
@@ -8,7 +8,7 @@ use crate::schedule::{Schedule, visit_ramp};
 use crate::span::Span;
 use crate::steps::Steps;
 
-/// Takes from each column its share up to a level, in the span one level more.
+/// Takes from each column its amount up to a level, and up to one level more in the span.
 pub(crate) fn lower(
     kind: Schedule,
     mins: &[usize],
@@ -32,7 +32,7 @@ pub(crate) fn lower(
     }
 }
 
-/// Adds to each column its share up to a level, in the span one level more.
+/// Adds to each column its amount up to a level, and up to one level more in the span.
 pub(crate) fn raise(
     kind: Schedule,
     values: &mut [usize],

@@ -1,17 +1,17 @@
-//! The order in which sizes shrink or grow: priorities over lists of numbers, each step by step
-//! and all at once.
+//! Priorities: in which order a list of sizes shrinks or grows, step by step and all at once.
 //!
-//! Nothing here knows tables: a size is a number, and so is a minimum.
+//! Sizes and minimums are plain numbers here; this crate knows no tables.
 //!
-//! - `peaker.rt`: `Peaker`, which names the size to change next, and `TakesAll`.
-//! - `none.rt`, `min.rt`, `max.rt`, `left.rt`, `right.rt`: the five priorities; `priority.rt` names
-//!   them, as the crate does.
-//! - `schedule.rt`: from which level to which a size gives or takes one a level.
+//! - `peaker.rt`: `Peaker` chooses the size to change next; `TakesAll`.
+//! - `none.rt`, `min.rt`, `max.rt`, `left.rt`, `right.rt`: the five priorities.
+//! - `priority.rt`: `Priority` makes them.
+//! - `schedule.rt`: the levels from which and up to which a size changes by one a level.
 //! - `search.rt`, `reach.rt`: the search for the level that is reached.
-//! - `spread.rt`, `span.rt`: all sizes up to a level, and those that give one more.
+//! - `level_changes.rt`: changes all sizes up to a level.
+//! - `span.rt`: the sizes that change by one more.
 //! - `spares.rt`: the smallest sizes first, each as far as it can.
-//! - `level.rt`: `is_level`, whether a list of sizes is level.
-//! - `column.rt`, `steps.rt`: how a size is read, and the count of these reads.
+//! - `level.rt`: `is_level`, whether sizes are level.
+//! - `column.rt`, `steps.rt`: reads a size; counts these reads.
 #![tactic(auto)]
 
 mod column;

@@ -1,4 +1,4 @@
-//! The greatest size first.
+//! The priority of the greatest size.
 ghost use Rattle.std.specs.Prelude.{◌≡◌, ◌+◌, ◌<◌, ◌≤◌, ◌^◌, MatchOption, [], true, false, length, sum};
 ghost use Rattle.std.proofs.Common.{refl, subst, ◌∙◌};
 ghost use Rattle.tabled_priority.specs.Permitted.{FitsMinimums, IsPermitted, lowered, raised};
@@ -18,28 +18,28 @@ use crate::schedule::{Schedule, total_amount};
 use crate::span::side_span;
 use crate::steps::Steps;
 
-/// It names the greatest size of those above their minimum, of equal ones that on its side.
+/// Chooses the greatest size above its minimum, of equal ones that on its side.
 #[derive(Debug, Clone, Copy, Default, PartialEq, Eq, PartialOrd, Ord, Hash)]
 pub struct PriorityMax {
     right: bool,
 }
 
 impl PriorityMax {
-    /// Of equal sizes the rightmost if `right`, else the leftmost.
+    /// Chooses of equal sizes the rightmost if `right`, else the leftmost.
     pub const fn new(right: bool) -> Self
         ensures { result.right ≡ right }
     {
         PriorityMax { right }
     }
 
-    /// Of equal sizes the leftmost.
+    /// Chooses of equal sizes the leftmost.
     pub const fn left() -> Self
         ensures { result.right ≡ false }
     {
         PriorityMax::new(false)
     }
 
-    /// Of equal sizes the rightmost.
+    /// Chooses of equal sizes the rightmost.
     pub const fn right() -> Self
         ensures { result.right ≡ true }
     {

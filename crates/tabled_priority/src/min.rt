@@ -1,4 +1,4 @@
-//! The least size first.
+//! The priority of the smallest size.
 ghost use Rattle.std.specs.Prelude.{◌≡◌, ◌+◌, ◌<◌, ◌≤◌, ◌^◌, MatchOption, [], true, false, length, sum};
 ghost use Rattle.std.proofs.Common.{refl, subst, ◌∙◌};
 ghost use Rattle.tabled_priority.specs.Permitted.{FitsMinimums, HasOneBetween, IsPermitted, lowered, raised};
@@ -19,28 +19,28 @@ use crate::span::side_span;
 use crate::spares::{Spares, last_giver, take};
 use crate::steps::Steps;
 
-/// It names the least size of those above their minimum, of equal ones that on its side.
+/// Chooses the smallest size above its minimum, of equal ones that on its side.
 #[derive(Debug, Clone, Copy, Default, PartialEq, Eq, PartialOrd, Ord, Hash)]
 pub struct PriorityMin {
     right: bool,
 }
 
 impl PriorityMin {
-    /// Of equal sizes the rightmost if `right`, else the leftmost.
+    /// Chooses of equal sizes the rightmost if `right`, else the leftmost.
     pub const fn new(right: bool) -> Self
         ensures { result.right ≡ right }
     {
         PriorityMin { right }
     }
 
-    /// Of equal sizes the leftmost.
+    /// Chooses of equal sizes the leftmost.
     pub const fn left() -> Self
         ensures { result.right ≡ false }
     {
         PriorityMin::new(false)
     }
 
-    /// Of equal sizes the rightmost.
+    /// Chooses of equal sizes the rightmost.
     pub const fn right() -> Self
         ensures { result.right ≡ true }
     {

@@ -1,4 +1,4 @@
-//! One size after the other.
+//! The priority that changes sizes in turn.
 ghost use Rattle.std.specs.Prelude.{◌≡◌, ◌+◌, ◌<◌, ◌≤◌, ◌^◌, MatchOption, [], length, sum};
 ghost use Rattle.std.proofs.Common.{sym, subst};
 ghost use Rattle.tabled_priority.specs.Permitted.{FitsMinimums, HasEvenLosses, IsPermitted, lowered, raised};
@@ -17,14 +17,14 @@ use crate::schedule::{Schedule, total_amount};
 use crate::span::round_span;
 use crate::steps::Steps;
 
-/// It names the next size that is above its minimum, round the list, and keeps the place after it.
+/// Chooses the next size above its minimum, round the list, and stores the index after it.
 #[derive(Debug, Clone, Copy, Default, PartialEq, Eq, PartialOrd, Ord, Hash)]
 pub struct PriorityNone {
     kept: usize,
 }
 
 impl PriorityNone {
-    /// It begins with the first size.
+    /// Begins with the first size.
     pub const fn new() -> Self
         ensures { result.kept ≡ 0 }
     {
@@ -32,7 +32,7 @@ impl PriorityNone {
     }
 }
 
-/// The place after this one, 0 after the last.
+/// Returns the index after this one, and 0 after the last.
 fn place_after(count: usize, place: usize) -> usize
     requires { place < usize.MAX }
     ensures { result ≡ place_after count place }

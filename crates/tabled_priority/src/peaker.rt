@@ -1,4 +1,4 @@
-//! What names the size to change next.
+//! The traits of priorities.
 ghost use Rattle.std.specs.Prelude.{◌≡◌, ℕ, ◌+◌, ◌≤◌, ◌<◌, ◌^◌, List, [], Option, Some, None, IfSome, sum};
 ghost use Rattle.tabled_priority.specs.Permitted.{FitsMinimums, IsAbove, IsPermitted, IsTakenFrom, lowered, raised};
 ghost use Rattle.tabled_priority.specs.Grown.{IsNoneSmaller};
@@ -6,27 +6,29 @@ ghost use Rattle.tabled_priority.specs.Visits.{changed, counted};
 
 use crate::steps::Steps;
 
-/// An order in which sizes are shrunk or grown. Whoever writes one gives `peak`, three relations and
-/// their laws; `shrink` and `grow` then change one size by one at a time.
+/// An order in which sizes shrink or grow. An implementation needs `peak`, three relations and
+/// their laws; by default `shrink` and `grow` change one size by one at a time.
 pub trait Peaker {
-    // What `peak` may answer: the state, the values, the minimums, the answer, the new state.
+    // What `peak` may return: the state, the values, the minimums, the result, the new state.
     ghost peaks: { Self → List ℕ → List ℕ → Option ℕ → Self → Type 0 };
 
-    // What `shrink` may leave: the state, the values, the minimums, the amount, the new values, the new state.
+    // What `shrink` may leave: the state, the values, the minimums, the amount, the new values, the
+    // new state.
     ghost shrinks: { Self → List ℕ → List ℕ → ℕ → List ℕ → Self → Type 0 };
 
     // What `grow` may leave: the state, the values, the amount, the new values, the new state.
     ghost grows: { Self → List ℕ → ℕ → List ℕ → Self → Type 0 };
 
-    /// The place to change next, or `None`. The place's value is above its minimum. There is a minimum
-    /// for each value, or none at all, which stands for zeros.
+    /// Returns the index of the size to change next, if there is one. That size is above its
+    /// minimum. `mins` has a minimum for each size, or is empty: then all minimums are 0.
     fn peak(&mut self, mins: &[usize], values: &[usize]) -> Option<usize>
         requires { FitsMinimums values.now mins.now }
         ensures place { IfSome result (IsAbove values.now mins.now) }
         ensures peaks { peaks self.old values.now mins.now result self.new };
 
-    /// Takes an amount from the values, or as much as `peak` lets it, and answers how much was taken.
-    /// Minimums are those of `peak`. A step is one visit of one column; each column that changes was visited.
+    /// Takes `by` from the sizes, or as much as `peak` allows, and returns how much was taken.
+    /// `mins` is that of `peak`. `steps` counts how often a column is read, at least once for each
+    /// that changes.
     fn shrink(
         &mut self,
         mins: &[usize],
@@ -51,8 +53,9 @@ pub trait Peaker {
         by
     }
 
-    /// Adds an amount to the values, or as much as `peak` lets it, and answers how much was added.
-    /// Without minimums only values above zero are named, so zeros stay. Each column that changes was visited.
+    /// Adds `by` to the sizes, or as much as `peak` allows, and returns how much was added. Sizes
+    /// that are 0 stay 0. `steps` counts how often a column is read, at least once for each that
+    /// changes.
     fn grow(&mut self, values: &mut [usize], by: usize, steps: &mut Steps) -> usize
         requires { sum values.old + by < 2 ^ 64 }
         ensures grows { grows self.old values.old by values.new self.new }
@@ -74,27 +77,27 @@ pub trait Peaker {
     // Taking nothing changes nothing.
     ghost nothing: { (s : Self) (values mins : List ℕ) → shrinks s values mins 0 values s };
 
-    // Where no place is named, the list may stay.
+    // If no index is chosen, the list may stay.
     ghost ends: { (s t : Self) (values mins : List ℕ) (by : ℕ) → FitsMinimums values mins → peaks s values mins None t
         → shrinks s values mins by values t };
 
-    // One is taken from the named place, and then one less is to be taken.
+    // One is taken from the chosen size, and then the amount less one.
     ghost goes_on: { (s t u : Self) (values mins new : List ℕ) (by place : ℕ) → FitsMinimums values mins → IsAbove values mins place
         → peaks s values mins (Some place) t → shrinks t (lowered values place) mins by new u → shrinks s values mins (by + 1) new u };
 
     // Adding nothing changes nothing.
     ghost grows_nothing: { (s : Self) (values : List ℕ) → grows s values 0 values s };
 
-    // Where no place is named, the list may stay.
+    // If no index is chosen, the list may stay.
     ghost growing_ends: { (s t : Self) (values : List ℕ) (by : ℕ) → peaks s values [] None t → grows s values by values t };
 
-    // One is added to the named place, and then one less is to be added.
+    // One is added to the chosen size, and then the amount less one.
     ghost growing_goes_on: { (s t u : Self) (values new : List ℕ) (by place : ℕ) → IsAbove values [] place
         → peaks s values [] (Some place) t → grows t (raised values place) by new u → grows s values (by + 1) new u };
 }
 
-/// A priority that stops only where no value is above its minimum.
+/// A priority that stops only if no size is above its minimum.
 pub trait TakesAll: Peaker {
-    // As much is taken as is wanted, or as there is.
+    // The whole amount is taken, or all that there is.
     ghost takes_all: { (s t : Self) (old mins new : List ℕ) (by : ℕ) → Self.shrinks s old mins by new t → IsTakenFrom old mins by new };
 }

@@ -7,38 +7,38 @@ use crate::min::PriorityMin;
 use crate::none::PriorityNone;
 use crate::right::PriorityRight;
 
-/// Makes the five priorities.
+/// Makes priorities.
 #[derive(Debug, Clone, Copy, Default, PartialEq, Eq, PartialOrd, Ord, Hash)]
 pub struct Priority;
 
 impl Priority {
-    /// One size after the other, from the first.
+    /// Changes each size in turn by one, from the first.
     pub fn none() -> PriorityNone
         ensures { result.kept ≡ 0 }
     {
         PriorityNone::new()
     }
 
-    /// The least size first, of equal ones the rightmost if `right`, else the leftmost.
+    /// Changes the smallest size first; of equal ones the rightmost if `right`, else the leftmost.
     pub fn min(right: bool) -> PriorityMin
         ensures { result.right ≡ right }
     {
         PriorityMin::new(right)
     }
 
-    /// The greatest size first, of equal ones the rightmost if `right`, else the leftmost.
+    /// Changes the greatest size first; of equal ones the rightmost if `right`, else the leftmost.
     pub fn max(right: bool) -> PriorityMax
         ensures { result.right ≡ right }
     {
         PriorityMax::new(right)
     }
 
-    /// The first size first.
+    /// Changes the first size first.
     pub fn left() -> PriorityLeft {
         PriorityLeft::new()
     }
 
-    /// The last size first.
+    /// Changes the last size first.
     pub fn right() -> PriorityRight {
         PriorityRight::new()
     }

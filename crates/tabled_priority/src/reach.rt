@@ -1,4 +1,4 @@
-//! The level up to which just enough is taken.
+//! The level up to which the wanted amount is taken.
 ghost use Rattle.std.specs.Prelude.{◌≡◌, ◌+◌, ◌*◌, ◌<◌, ◌≤◌, length};
 ghost use Rattle.tabled_priority.specs.Schedule.{total_amount, first_level, last_level, IsBase, IsReached};
 ghost use Rattle.tabled_priority.specs.Visits.{counted};
@@ -7,14 +7,14 @@ use crate::schedule::{Schedule, count_open, total_amount, visit_ramp};
 use crate::search::{Bracket, Levels, halved};
 use crate::steps::Steps;
 
-/// The highest level up to which less is taken than is wanted, and the rest that is wanted.
+/// The highest level that takes less than is wanted, and how much is missing.
 #[derive(Clone, Copy)]
 pub(crate) struct Reached {
     pub(crate) level: usize,
     pub(crate) rest: usize,
 }
 
-/// Columns that take one a level, each from a level of its own to another.
+/// Columns that take one a level, each between two levels of its own.
 #[derive(Clone, Copy)]
 struct Ramps<'a> {
     kind: Schedule,
@@ -33,8 +33,8 @@ impl Levels for Ramps<'_> {
     }
 }
 
-/// The highest of the levels at which columns start and end that takes less than is wanted, or 0. Only levels between those that
-/// are known to take too little and enough are tried.
+/// Returns the highest of the columns' first and last levels that takes less than is wanted, or 0.
+/// Only levels inside the bracket are tried.
 fn find_base(
     kind: Schedule,
     mins: &[usize],
@@ -62,7 +62,8 @@ fn find_base(
     bracket.base
 }
 
-/// From the base on each open column takes one a level, until less than one for each is left.
+/// Returns the level that is reached. Each open column takes one a level above the base, until less
+/// than one for each is missing.
 pub(crate) fn reach(
     kind: Schedule,
     mins: &[usize],

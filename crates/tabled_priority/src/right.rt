@@ -1,4 +1,4 @@
-//! The last size first.
+//! The priority of the last size.
 ghost use Rattle.std.specs.Prelude.{◌≡◌, ◌+◌, ◌<◌, ◌≤◌, ◌^◌, MatchOption, [], length, sum};
 ghost use Rattle.std.proofs.Common.{refl, ◌∙◌};
 ghost use Rattle.tabled_priority.specs.Permitted.{FitsMinimums, HasOneBetween, IsPermitted};
@@ -13,12 +13,12 @@ use crate::column::{add_to, visit};
 use crate::peaker::{Peaker, TakesAll};
 use crate::steps::Steps;
 
-/// It names the last size that is above its minimum.
+/// Chooses the last size above its minimum.
 #[derive(Debug, Clone, Copy, Default, PartialEq, Eq, PartialOrd, Ord, Hash)]
 pub struct PriorityRight;
 
 impl PriorityRight {
-    /// A priority of the right.
+    /// Makes the priority.
     pub const fn new() -> Self {
         PriorityRight
     }

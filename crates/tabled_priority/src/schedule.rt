@@ -1,4 +1,4 @@
-//! How sizes change as a level rises.
+//! How sizes change while a level rises.
 ghost use Rattle.std.specs.Prelude.{◌≡◌, ℕ, ◌+◌, ◌-◌, ◌*◌, ◌<◌, ◌≤◌, nat_le, nat_lt, ◌&&◌, length, min};
 ghost use Rattle.tabled_priority.specs.Permitted.{at};
 ghost use Rattle.tabled_priority.specs.Schedule.{amount, total_amount, first_level, last_level, open_count, IsBase, IsReached};
@@ -7,21 +7,21 @@ ghost use Rattle.tabled_priority.specs.Visits.{counted};
 use crate::column::{Column, visit};
 use crate::steps::Steps;
 
-/// What a level is. Up to a level each column takes so much of what is to be taken or added.
+/// What a level means. Up to a level, each column takes its part of the amount.
 #[derive(Clone, Copy)]
 pub(crate) enum Schedule {
-    /// A ceiling that comes down from the greatest `usize`, by so much. A column gives what is above
-    /// it, as far as its minimum.
+    /// The level is how far a ceiling is below `usize::MAX`. A column gives what is above the
+    /// ceiling, down to its minimum.
     Depths,
-    /// So many rounds in which each column gives one, as far as its minimum.
+    /// The level is a number of rounds. In each a column gives one, down to its minimum.
     Rounds,
-    /// A floor that rises to this size. A column that is not zero gains what it is below it.
+    /// The level is a floor. A column that isn't 0 gains what it is below the floor.
     Heights,
-    /// So many rounds in which each column that is not zero gains one.
+    /// The level is a number of rounds. In each a column that isn't 0 gains one.
     Gains,
 }
 
-/// A column as it was read, and the levels from and up to which it takes one a level.
+/// A column, and the levels between which it takes one a level.
 #[derive(Clone, Copy)]
 pub(crate) struct Ramp {
     pub(crate) value: usize,
@@ -30,14 +30,14 @@ pub(crate) struct Ramp {
 }
 
 impl Ramp {
-    /// What the column takes up to a level.
+    /// Returns what the column takes up to a level.
     pub(crate) fn amount(&self, level: usize) -> usize
         ensures { result ≡ min level self.now.to - self.now.from }
     {
         level.min(self.to).saturating_sub(self.from)
     }
 
-    /// Whether it takes one more at a level.
+    /// Whether the column takes one more at a level.
     pub(crate) fn is_open(&self, level: usize) -> bool
         ensures { result ≡ (nat_le self.now.from level && nat_lt level self.now.to) }
     {
@@ -45,7 +45,7 @@ impl Ramp {
     }
 }
 
-/// Reads a column, and says from and up to which level it takes.
+/// Reads a column, and returns it with its levels.
 pub(crate) fn visit_ramp(
     kind: Schedule,
     mins: &[usize],
@@ -71,7 +71,7 @@ pub(crate) fn visit_ramp(
     Ramp { value, from, to }
 }
 
-/// What all columns take up to a level, or the greatest `usize` if that is less.
+/// Returns what all columns take up to a level, `usize::MAX` at most.
 #[tactic(auto, using(crate::proofs::Sums::sum_step))]
 pub(crate) fn total_amount(
     kind: Schedule,
@@ -95,7 +95,7 @@ pub(crate) fn total_amount(
     total
 }
 
-/// How many of the columns before a place take one more at a level.
+/// Returns how many of the columns before `end` take one more at a level.
 #[tactic(auto, using(crate::proofs::Sums::sum_step))]
 pub(crate) fn count_open(
     kind: Schedule,

@@ -1,31 +1,31 @@
-//! The search for a level between one that gives too little and one that gives enough.
+//! The search for a level, between one that gives too little and one that gives enough.
 ghost use Rattle.std.specs.Prelude.{◌≡◌, ℕ, ◌*◌, ◌<◌, ◌≤◌, min};
 ghost use Rattle.tabled_priority.specs.Visits.{counted};
 
 use crate::steps::Steps;
 
-/// Columns that give more, or as much, up to a higher level.
+/// Columns that give no less up to a higher level.
 pub(crate) trait Levels {
-    // What all give up to a level.
+    // What all columns give up to a level.
     ghost total: { Self → ℕ → ℕ };
 
-    // How many columns there are.
+    // The number of columns.
     ghost columns: { Self → ℕ };
 
-    /// What all give up to a level, or the greatest `usize` if that is less.
+    /// Returns what all columns give up to a level, `usize::MAX` at most.
     fn total(&self, level: usize, steps: &mut Steps) -> usize
         ensures total { result ≡ min (total self.now level) usize.MAX }
         ensures steps { steps.new.count ≡ counted steps.old.count (columns self.now) };
 }
 
-/// A level up to which less is given than is wanted, and one up to which enough is.
+/// A level that gives less than is wanted, and one that gives enough.
 #[derive(Clone, Copy)]
 pub(crate) struct Bracket {
     pub(crate) base: usize,
     pub(crate) ceiling: usize,
 }
 
-/// The bracket with a level in place of its base or its ceiling, if the level is between these.
+/// Replaces the base or the ceiling of a bracket by a level between them.
 fn narrowed<L: Levels>(
     levels: &L,
     wanted: usize,
@@ -59,8 +59,8 @@ fn narrowed<L: Levels>(
     }
 }
 
-/// The bracket with a level in place of its base or its ceiling, if the level is between these. It is halved first, so that no more
-/// than 64 levels are tried, whichever are asked for.
+/// Replaces the base or the ceiling of a bracket by a level between them. The bracket is halved
+/// first, so that at most 64 of the levels in all calls are tried.
 pub(crate) fn halved<L: Levels>(
     levels: &L,
     wanted: usize,

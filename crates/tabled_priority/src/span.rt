@@ -1,4 +1,4 @@
-//! Which columns take one more for the rest.
+//! The columns that take one more, for what is missing.
 ghost use Rattle.std.specs.Prelude.{◌≡◌, ◌+◌, ◌*◌, ◌<◌, ◌≤◌, true, false, length};
 ghost use Rattle.tabled_priority.specs.Schedule.{first_level, last_level, is_open, open_count, share, IsSpan};
 ghost use Rattle.tabled_priority.specs.Shrunk.{is_met, start};
@@ -9,7 +9,7 @@ use crate::reach::Reached;
 use crate::schedule::{Schedule, count_open, visit_ramp};
 use crate::steps::Steps;
 
-/// The places from the first to the last, round the list.
+/// The indices from the first to the last, round the list.
 #[derive(Clone, Copy)]
 pub(crate) struct Span {
     pub(crate) first: usize,
@@ -17,7 +17,7 @@ pub(crate) struct Span {
 }
 
 impl Span {
-    /// The level at a place: one higher where the place is met on the way from the first to the last.
+    /// Returns the level at an index: one higher inside the span.
     pub(crate) fn level_at(&self, level: usize, place: usize) -> usize
         requires { level < usize.MAX }
         ensures { result ≡ level + one_if (is_met self.now.first self.now.last place) }
@@ -31,7 +31,7 @@ impl Span {
     }
 }
 
-/// The place of the n-th column from the left that takes one more at a level.
+/// Returns the index of the n-th column from the left that takes one more at a level.
 #[tactic(auto, using(crate::proofs::Sums::sum_step))]
 fn nth_open(
     kind: Schedule,
@@ -61,7 +61,7 @@ fn nth_open(
     unreachable!()
 }
 
-/// The places on one side, the right or the left, with so many open columns as are a rest.
+/// Returns the span on one side, right or left, that has as many open columns as are missing.
 pub(crate) fn side_span(
     kind: Schedule,
     mins: &[usize],
@@ -95,8 +95,8 @@ pub(crate) fn side_span(
     }
 }
 
-/// The places from the kept one round the list with so many open columns as are a rest, of which the
-/// last is one.
+/// Returns the span from the stored index round the list that has as many open columns as are
+/// missing. It ends with one of them.
 pub(crate) fn round_span(
     kind: Schedule,
     mins: &[usize],

@@ -1,4 +1,4 @@
-//! The least sizes give first, each all that it can.
+//! Taking from the smallest sizes first, from each as much as possible.
 ghost use Rattle.std.specs.Prelude.{◌≡◌, ℕ, ◌+◌, ◌*◌, ◌<◌, ◌≤◌, length};
 ghost use Rattle.tabled_priority.specs.Permitted.{at, spare};
 ghost use Rattle.tabled_priority.specs.Laws.Shrunk.{before};
@@ -9,14 +9,14 @@ use crate::column::visit;
 use crate::search::{Bracket, Levels, halved};
 use crate::steps::Steps;
 
-/// Columns that give what is above their minimums.
+/// Columns that give what they have above their minimums.
 #[derive(Clone, Copy)]
 pub(crate) struct Spares<'a> {
     pub(crate) mins: &'a [usize],
     pub(crate) values: &'a [usize],
 }
 
-/// Up to a size those give all they can that are no greater.
+/// A level is a size: the columns up to this size give all they can.
 impl Levels for Spares<'_> {
     ghost total = { λ s size. spare_up_to s.values.now s.mins.now size };
 
@@ -35,7 +35,7 @@ impl Levels for Spares<'_> {
     }
 }
 
-/// The last column that gives, with its size, and what it gives.
+/// The last column that gives, its size, and what it gives.
 #[derive(Clone, Copy)]
 pub(crate) struct Giver {
     pub(crate) place: usize,
@@ -44,7 +44,7 @@ pub(crate) struct Giver {
 }
 
 impl Giver {
-    /// Whether a column of a size at a place gives before this one.
+    /// Whether a column with this size and index gives before this one.
     fn is_behind(&self, right: bool, size: usize, place: usize) -> bool
         ensures { result ≡ before right size self.now.size place self.now.place }
     {
@@ -59,7 +59,8 @@ impl Giver {
     }
 }
 
-/// Two sizes between which no column's size is: those up to the base give less than is wanted, and those up to the ceiling enough.
+/// Returns two sizes with no column's size between them: columns up to the base give less than is
+/// wanted, and columns up to the ceiling give enough.
 fn find_sizes(spares: &Spares, wanted: usize, steps: &mut Steps) -> Bracket
     requires some { 0 < wanted }
     requires enough { wanted ≤ spare_up_to spares.now.values.now spares.now.mins.now usize.MAX }
@@ -80,7 +81,8 @@ fn find_sizes(spares: &Spares, wanted: usize, steps: &mut Steps) -> Bracket
     bracket
 }
 
-/// Of the columns of a size, from the right if `right`, else from the left, the one at which a rest is reached.
+/// Returns the column of this size, counted from the right if `right`, at which the rest is
+/// reached.
 fn find_giver(spares: &Spares, right: bool, size: usize, rest: usize, steps: &mut Steps) -> Giver
     requires some { 0 < rest }
     requires enough { rest ≤ spare_where (has_size spares.now.values.now size) spares.now.values.now spares.now.mins.now }
@@ -113,7 +115,7 @@ fn find_giver(spares: &Spares, right: bool, size: usize, rest: usize, steps: &mu
     unreachable!()
 }
 
-/// The last column that gives where so much is wanted.
+/// Returns the last column that gives, for a wanted amount.
 pub(crate) fn last_giver(spares: &Spares, right: bool, wanted: usize, steps: &mut Steps) -> Giver
     requires some { 0 < wanted }
     requires enough { wanted ≤ spare_up_to spares.now.values.now spares.now.mins.now usize.MAX }
@@ -128,7 +130,7 @@ pub(crate) fn last_giver(spares: &Spares, right: bool, wanted: usize, steps: &mu
     find_giver(spares, right, sizes.ceiling, rest, steps)
 }
 
-/// Takes all they can give from the columns before the last giver, and from that one its amount.
+/// Takes all they can give from the columns before the last giver, and its amount from that one.
 pub(crate) fn take(
     right: bool,
     mins: &[usize],

@@ -1,23 +1,22 @@
-//! The count of visits.
+//! Counting how often columns are read.
 ghost use Rattle.std.specs.Prelude.{◌≡◌};
 ghost use Rattle.tabled_priority.specs.Visits.{counted};
 
-/// How often a column was visited while sizes were shrunk or grown. The count stays at the greatest
-/// `usize` once there.
+/// How often a column was read while sizes shrank or grew. The count stops at `usize::MAX`.
 #[derive(Debug, Drop)]
 pub struct Steps {
     count: usize,
 }
 
 impl Steps {
-    /// No visit so far.
+    /// Starts at 0.
     pub fn new() -> Self
         ensures { result.count ≡ 0 }
     {
         Steps { count: 0 }
     }
 
-    /// The visits so far.
+    /// Returns the count.
     pub fn count(&self) -> usize
         ensures { result ≡ self.now.count }
     {

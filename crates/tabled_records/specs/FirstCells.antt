@@ -5,7 +5,8 @@ use Rattle.std.specs.declared.option.Option.TheVariants.{None, Some}
 use Rattle.std.specs.Iterator.{YieldsThen}
 use Rattle.tabled_records.specs.declared.limit_columns.FirstCells.{FirstCells}
 
--- a cell came, which counts; or the others were walked to the end, and there are none where some might have counted
+-- a cell within the limit is yielded; or the others are read to their end, and there are none if
+-- the limit isn't reached
 abbrev pub first_cells_steps : {S A : Type 0} → (S → Option A → S → Type 0) → FirstCells S → Option A → FirstCells S → Type 0
 first_cells_steps {S} {A} steps s r t = MatchOption r
     ((others : List A) × YieldsThen steps s.cells others None t.cells × (0 < s.left → others ≡ []))

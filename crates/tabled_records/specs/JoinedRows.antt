@@ -1,4 +1,4 @@
--- Rows of texts. A range is where the texts of a row begin among all texts, and how many they are.
+-- Rows of texts. A range is the index of the first text of a row, and the number of its texts.
 use Rattle.std.specs.Prelude.{◌≡◌, ℕ, ◌+◌, ◌<◌, ◌≤◌, List, [], drop, length, map, slice_index_or, take}
 use Rattle.std.specs.List.{All}
 use Rattle.tabled_text.specs.Measure.{greatest, text_columns}
@@ -12,19 +12,19 @@ part texts range = take range.1 (drop range.0 texts)
 abbrev pub parts : List (List ℕ) → List (ℕ × ℕ) → List (List (List ℕ))
 parts texts ranges = map (part texts) ranges
 
--- the rows, each lengthened to the longest
+-- the rows, each filled up to the longest with empty cells
 abbrev pub rows_in : List (List ℕ) → List (ℕ × ℕ) → List (List (List ℕ))
 rows_in texts ranges = lengthened_rows (parts texts ranges)
 
--- how many texts the longest row has
+-- the number of texts in the longest row
 abbrev pub longest_range : List (ℕ × ℕ) → ℕ
 longest_range ranges = greatest (map (λ range. range.1) ranges)
 
--- all rows' texts are there
+-- each range is within the texts
 abbrev pub AreRanges : ℕ → List (ℕ × ℕ) → Type 0
 AreRanges count ranges = All (λ range. range.0 + range.1 ≤ count) ranges
 
--- a cell's text is told, with its columns and its place among all texts
+-- the text of a cell is returned with its columns and its index among all texts
 pub record IsCell (texts : List (List ℕ)) (cell told : List ℕ) (columns place : ℕ) : Type 0 where
   pub there : place < length texts
   pub found : slice_index_or texts place [] ≡ cell

@@ -1,4 +1,4 @@
--- Rows behind some that are walked and passed over.
+-- The rows after those that are skipped.
 use Rattle.std.specs.Prelude.{◌≡◌, ◌+◌, List, length, OnSome}
 use Rattle.std.specs.List.{All, AllZip}
 use Rattle.std.specs.declared.option.Option.{Option}
@@ -6,15 +6,15 @@ use Rattle.std.specs.Iterator.{Count, HoldsAlong, IsFinite, IsFiniteIterable, Yi
 use Rattle.tabled_base.specs.Given.{Given}
 use Rattle.tabled_records.specs.declared.skip_rows.LaterRows.{LaterRows}
 
--- rows may be asked for to their end, and so may the cells of each that comes
+-- rows may be requested to their end, and so may the cells of each
 pub record MayPass {S W T : Type 0} (can_row : S → Type 0) (row_steps : S → Option W → S → Type 0) (rows_left : S → Count)
     (cells_become : W → T → Type 0) (can_cell : T → Type 0) (cells_left : T → Count) (rows : S) : Type 0 where
   pub can : can_row rows
   pub finite : IsFinite (rows_left rows)
   pub each : HoldsAlong row_steps rows (All (IsFiniteIterable cells_become can_cell cells_left))
 
--- rows came and their cells were walked, and then this one came, or no more; some may still have to be passed over
--- where no more came
+-- rows were read with their cells, and then this one was yielded, or none is left; if none is left,
+-- some may still be to be skipped
 pub record SkipsRows {S W T A : Type 0} (row_steps : S → Option W → S → Type 0) (cells_become : W → T → Type 0)
     (cell_steps : T → Option A → T → Type 0) (s : LaterRows S) (r : Option W) (t : LaterRows S) : Type 0 where
   pub lists : List W

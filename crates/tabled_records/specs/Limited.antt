@@ -1,7 +1,7 @@
--- The first rows of records, of which it is known what comes first of them.
+-- The first rows of records.
 use Rattle.std.specs.Prelude.{◌≡◌, Bool, true, ℕ, ◌<◌, ◌≤◌, List, length}
 
--- rows that come first, at most so many; where fewer are the whole, no more come
+-- at most `limit` first rows; if they are all and fewer, the records end
 pub record IsLimited {A : Type 0} (begins : List A → Bool → Type 0) (limit : ℕ) (rows : List A) (whole : Bool) : Type 0 where
   pub end : Bool
   pub first : begins rows end

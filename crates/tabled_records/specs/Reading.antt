@@ -1,4 +1,4 @@
--- What is read of an iterator of rows, of each row its cells.
+-- Rows that are read from an iterator, with their cells.
 use Rattle.std.specs.Prelude.{◌≡◌, ℕ, ◌<◌, ◌≤◌, Bool, true, false, List, length}
 use Rattle.std.specs.List.{All, AllZip}
 use Rattle.std.specs.declared.option.Option.{Option}
@@ -6,28 +6,28 @@ use Rattle.std.specs.declared.option.Option.TheVariants.{None}
 use Rattle.std.specs.Iterator.{Count, HoldsAlong, IsFinite, IsFiniteIterable, Yields}
 use Rattle.tabled_base.specs.Given.{Given}
 
--- an iterator may be asked for further rows, these end, and so do the cells of each
+-- the iterator may be asked for rows; these end, and so do the cells of each
 pub record MayGive {S W T : Type 0} (can_row : S → Type 0) (row_steps : S → Option W → S → Type 0) (rows_left : S → Count)
     (cells_become : W → T → Type 0) (can_cell : T → Type 0) (cells_left : T → Count) (it : S) : Type 0 where
   pub can : can_row it
   pub ends : IsFinite (rows_left it)
   pub each : HoldsAlong row_steps it (All (IsFiniteIterable cells_become can_cell cells_left))
 
--- items came of an iterator, and more may be asked for
+-- items were yielded, and more may be requested
 pub record Walked {S A : Type 0} (can : S → Type 0) (steps : S → Option A → S → Type 0) (left : S → Count) (from to : S) : Type 0 where
   pub items : List A
   pub yielded : Yields steps from items to
   pub may : can to
   pub finite : IsFinite (left to)
 
--- rows come, and of each its cells
+-- rows are yielded, with their cells
 pub record Reads {S W T A : Type 0} (row_steps : S → Option W → S → Type 0) (cells_become : W → T → Type 0)
     (cell_steps : T → Option A → T → Type 0) (from : S) (cells : List (List A)) (to : S) : Type 0 where
   pub lists : List W
   pub yielded : Yields row_steps from lists to
   pub each : AllZip (Given cells_become cell_steps) lists cells
 
--- one row comes at least, and no more than so many
+-- at least one row is yielded, and at most `most` rows
 pub record ReadsSome {S W T A : Type 0} (row_steps : S → Option W → S → Type 0) (cells_become : W → T → Type 0)
     (cell_steps : T → Option A → T → Type 0) (from : S) (most : ℕ) (to : S) : Type 0 where
   pub cells : List (List A)
@@ -35,7 +35,7 @@ pub record ReadsSome {S W T A : Type 0} (row_steps : S → Option W → S → Ty
   pub some : 0 < length cells
   pub within : length cells ≤ most
 
--- rows come; where they are the whole, no more do
+-- rows are yielded; if they are the whole, none is left
 pub record ReadsTo {S W T A : Type 0} (row_steps : S → Option W → S → Type 0) (cells_become : W → T → Type 0)
     (cell_steps : T → Option A → T → Type 0) (from : S) (cells : List (List A)) (whole : Bool) (to : S) : Type 0 where
   pub reached : S

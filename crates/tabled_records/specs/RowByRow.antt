@@ -1,13 +1,13 @@
--- Rows that are made of those of a source, one of each.
+-- Rows that are made of the rows of a source, one of each.
 use Rattle.std.specs.Prelude.{◌≡◌, List, MatchOption}
 use Rattle.std.specs.declared.option.Option.{Option}
 use Rattle.std.specs.declared.option.Option.TheVariants.{None, Some}
 
--- a row of the source came, of which this one is made, or no more came
+-- this row is made of the next row of the source, or none is left
 abbrev pub RowOfRow : {S W X : Type 0} → (S → Option W → S → Type 0) → (W → X → Type 0) → S → Option X → S → Type 0
 RowOfRow {S} {W} {X} steps makes s r t = MatchOption r (steps s None t) (λ x. (row : W) × steps s (Some row) t × makes row x)
 
--- rows are those that a relation holds of, changed as a whole
+-- the rows are a change of rows for which `before` holds
 pub record AreChanged {A B : Type 0} (before : List A → Type 0) (change : List A → List B) (rows : List B) : Type 0 where
   pub all : List A
   pub given : before all

@@ -17,11 +17,11 @@ row_lines text = if length text == 0 then [] else lines_of (without_last_feed te
 abbrev pub cells_of : List ℕ → List (List ℕ)
 cells_of line = slice_split (λ b. b == 9) line
 
--- the cells of the longest row
+-- the number of cells in the longest row
 abbrev pub most_cells : List (List ℕ) → ℕ
 most_cells lines = greatest (map (λ line. length (cells_of line)) lines)
 
--- the rows of a text, short ones lengthened with empty cells
+-- the rows of a text; short ones are filled up with empty cells
 unfoldable pub text_rows : List ℕ → List (List (List ℕ))
 text_rows text =
     map (λ line. lengthened (most_cells (row_lines text)) (cells_of line)) (row_lines text)

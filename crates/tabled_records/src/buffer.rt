@@ -1,4 +1,4 @@
-//! Records of which some rows are read ahead.
+//! Records with some rows read ahead.
 ghost use Rattle.std.specs.Prelude.{◌≡◌, ◌<◌, ◌≤◌, List, Bool, length, false, true, MatchOption, None, ⊤, IfErr, IfOk, OnErr, is_none};
 ghost use Rattle.tabled_base.specs.declared.error.TableError.TheVariants.{Memory};
 ghost use Rattle.tabled_records.specs.Buffered.{BeginsSome, BufBegin, MayGiveLater, buf_cell_steps, buf_steps, can_cell, cells_ahead, cells_left, rows_left};
@@ -8,19 +8,19 @@ use std::alloc::Global;
 use std::{fmt, vec};
 use tabled_base::{IntoRecords, TableError};
 
-/// The rows of records, the first of which were read ahead and are kept.
+/// Records whose first rows are read ahead and stored.
 #[derive(Drop)]
 pub struct BufRecords<R: IntoRecords> {
     ahead: Vec<Vec<R::Cell>>,
     rows: Option<<R::IterRows as IntoIterator>::IntoIter>,
 }
 
-/// The cells of a row that was read ahead, or of a later one.
+/// The cells of a row.
 #[derive(Debug, Drop)]
 pub enum BufCells<C, I> {
-    /// A row that was read ahead.
+    /// The row was read ahead.
     Kept(vec::IntoIter<C>),
-    /// A row that comes of the records.
+    /// The row comes from the records.
     Later(I),
 }
 
@@ -41,7 +41,7 @@ impl<C: Drop, I: Iterator<Item = C>> Iterator for BufCells<C, I> {
     }
 }
 
-/// The rows that were read ahead, and then those that come of the records.
+/// The rows that were read ahead, and then the others.
 #[derive(Debug, Drop)]
 pub struct BufRows<C, I> {
     pub(crate) kept: vec::IntoIter<Vec<C>>,
@@ -91,9 +91,8 @@ impl<R: IntoRecords> BufRecords<R>
 where
     R::Cell: Drop,
 {
-    /// The records, of which the first so many rows are read here, each with all its cells: all where
-    /// fewer come. No row past these is asked for, and none after the end was seen. Fails only with
-    /// `Memory`, where a row came.
+    /// Reads the first `count` rows with all their cells, or all rows if there are fewer. Requests
+    /// no row after these, and none after the end. Error: `Memory`, only if there is a row.
     pub fn new(alloc: Global, records: R, count: usize) -> Result<BufRecords<R>, TableError>
         requires { R.ends records }
         ensures ahead { IfOk result (λ view. R.begins records (cells_ahead view.ahead.items) (is_none view.rows)) }
@@ -120,7 +119,7 @@ where
         })
     }
 
-    /// The rows that were read ahead.
+    /// Returns the rows that were read ahead.
     pub fn as_slice(&self) -> &[Vec<R::Cell>]
         ensures { result.now ≡ self.now.ahead.items }
     {

@@ -5,7 +5,7 @@ ghost use Rattle.tabled_records.specs.Empty.{cells_left, rows_left};
 
 use tabled_base::{ExactRecords, PeekableRecords, Position, Records};
 
-/// So many rows of so many empty cells. They take no memory.
+/// A number of rows of empty cells. They take no memory.
 #[derive(Clone, Copy, Debug, Default, Eq, PartialEq)]
 pub struct EmptyRecords {
     pub rows: usize,
@@ -13,7 +13,7 @@ pub struct EmptyRecords {
 }
 
 impl EmptyRecords {
-    /// So many rows of so many empty cells.
+    /// Makes `rows` rows of `columns` empty cells.
     pub fn new(rows: usize, columns: usize) -> EmptyRecords
         ensures rows { result.rows ≡ rows }
         ensures columns { result.columns ≡ columns }
@@ -22,7 +22,7 @@ impl EmptyRecords {
     }
 }
 
-/// The cells of a row that are left, all of them empty.
+/// The remaining cells of a row, all of them empty.
 #[derive(Clone, Copy, Debug, Drop)]
 pub struct EmptyCells {
     pub(crate) count: usize,
@@ -44,7 +44,7 @@ impl Iterator for EmptyCells {
     }
 }
 
-/// The rows that are left.
+/// The remaining rows.
 #[derive(Clone, Copy, Debug, Drop)]
 pub struct EmptyRows {
     pub(crate) count: usize,
@@ -85,7 +85,7 @@ impl Records for EmptyRecords {
     }
 }
 
-/// Where there is no row, no columns are counted, whatever number of them is kept in `columns`.
+/// Without rows it has no columns, whatever `columns` is.
 impl ExactRecords for EmptyRecords {
     ghost cells = { λ records. replicate records.rows (replicate records.columns []) };
 

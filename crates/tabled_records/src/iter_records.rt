@@ -3,8 +3,8 @@ ghost use Rattle.std.specs.Prelude.{◌≡◌};
 
 use tabled_base::{IntoRecords, Records};
 
-/// Rows as they come, and how many columns and rows they are said to have. Neither number is a limit: all rows are
-/// given, each with all of its cells.
+/// The rows of an iterator, with a declared number of columns and rows. Neither is a limit: all
+/// rows are yielded, with all their cells.
 #[derive(Clone, Copy, Debug, Drop)]
 pub struct IterRecords<I> {
     iter: I,
@@ -13,7 +13,7 @@ pub struct IterRecords<I> {
 }
 
 impl<I> IterRecords<I> {
-    /// The rows of a source, said to have so many columns and, where it is known, so many rows.
+    /// Makes records of rows. `columns` and `rows` are only declared.
     pub fn new(iter: I, columns: usize, rows: Option<usize>) -> IterRecords<I>
         ensures iter { result.iter ≡ iter }
         ensures columns { result.columns ≡ columns }
@@ -26,14 +26,14 @@ impl<I> IterRecords<I> {
         }
     }
 
-    /// How many columns the rows are said to have.
+    /// Returns the declared number of columns.
     pub fn count_columns(&self) -> usize
         ensures { result ≡ self.now.columns }
     {
         self.columns
     }
 
-    /// How many rows there are said to be, where it is known.
+    /// Returns the declared number of rows, if there is one.
     pub fn count_rows(&self) -> Option<usize>
         ensures { result ≡ self.now.rows }
     {

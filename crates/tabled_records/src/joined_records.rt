@@ -1,4 +1,4 @@
-//! Records whose texts stand one after another in one text.
+//! Records whose texts are joined in one buffer.
 ghost use Rattle.std.specs.Prelude.{◌≡◌, ℕ, List, [], ◌++◌, IfErr, IfOk, OnErr, OnOk, map};
 ghost use Rattle.std.specs.Iterator.{IsFiniteIterable};
 ghost use Rattle.tabled_base.specs.Cells.{with_record};
@@ -11,8 +11,7 @@ use std::alloc::Global;
 use std::marker::Model;
 use tabled_base::{CellText, ExactRecords, PeekableRecords, Position, TableError};
 
-/// Rows of texts, which stand one after another in one text. A row that is shorter than the longest
-/// is read as if empty cells stood behind it.
+/// Rows whose texts are joined in one buffer. Rows shorter than the longest end with empty cells.
 #[derive(Debug, Drop)]
 pub struct JoinedRecords {
     texts: JoinedTexts,
@@ -30,7 +29,7 @@ impl Model for JoinedRecords {
     ghost invariant = { λ r. AreRanges (length r.texts) r.rows };
 }
 
-/// Adds the texts of a row. Where memory is refused, some of them may be there.
+/// Adds the texts of a row. Some of them may be there after an allocation failed.
 fn push_texts<I: IntoIterator>(texts: &mut JoinedTexts, cells: I) -> Result<(), TableError>
 where
     I::Item: CellText + Drop,
@@ -49,7 +48,7 @@ where
 }
 
 impl JoinedRecords {
-    /// No record.
+    /// Makes empty records.
     pub fn new(alloc: Global) -> JoinedRecords
         ensures { result ≡ [] }
     {
@@ -59,7 +58,7 @@ impl JoinedRecords {
         }
     }
 
-    /// Adds a row. Where memory is refused, the records are as they were.
+    /// Adds a row. Error: `Memory`; the records are unchanged then.
     pub fn push_record<I: IntoIterator>(&mut self, cells: I) -> Result<(), TableError>
     where
         I::Item: CellText + Drop,

@@ -1,4 +1,4 @@
-//! Texts that stand one after another in one text.
+//! Texts that are joined in one buffer.
 ghost use Rattle.std.specs.Prelude.{◌≡◌, ℕ, ◌+◌, ◌<◌, ◌≤◌, ◌++◌, [], ◌∷◌, IfErr, OnErr, OnOk, length};
 ghost use Rattle.std.specs.List.{slice_index_or};
 ghost use Rattle.tabled_base.specs.Cells.{IsInside, cell_at};
@@ -13,13 +13,14 @@ use std::marker::Model;
 use tabled_base::{Position, TableError};
 use tabled_text::tail_measures;
 
-/// Texts that stand one after another in one text, each with its columns and lines.
+/// Texts that are joined in one buffer, each with its columns and lines.
 #[derive(Debug, Drop)]
 pub(crate) struct JoinedTexts {
     whole: String,
-    // Where each text ends, and its columns. It begins where the one before it ends.
+    // For each text the byte where it ends, and its columns. It begins where the one before it
+    // ends.
     ends: Pairs,
-    // The lines of the texts up to the last one that has several; each text behind it has one.
+    // The lines of the texts up to the last one with several lines. Each text after it has one.
     lines: Vec<usize>,
 }
 
@@ -34,7 +35,7 @@ impl Model for JoinedTexts {
     ghost invariant = { λ t. AreFilled (string_bytes t.whole) t.ends t.lines.items };
 }
 
-/// The lines of the text at a place.
+/// Returns the lines of the text at an index.
 #[inline(always)]
 fn lines_at(lines: &[usize], place: usize) -> usize
     ensures { result ≡ slice_index_or lines.now place 1 }
@@ -45,8 +46,8 @@ fn lines_at(lines: &[usize], place: usize) -> usize
     }
 }
 
-/// Notes the lines of the text at a place, where those of none behind it are noted. Where memory is
-/// refused, they are told as before.
+/// Stores the lines of the text at an index, after all that are stored. Error: `Memory`; the lines
+/// of the texts before it are unchanged then.
 fn note_lines(lines: &mut Vec<usize>, place: usize, count: usize) -> Result<(), TableError>
     requires { length lines.old.items ≤ place }
     ensures same { (k : ℕ) → k < place
@@ -66,8 +67,8 @@ fn note_lines(lines: &mut Vec<usize>, place: usize, count: usize) -> Result<(), 
     Ok(())
 }
 
-/// Keeps where a text ends and its columns and lines. Where memory is refused, the texts before it
-/// are told as before.
+/// Stores the end, the columns and the lines of a text. Error: `Memory`; those of the texts before
+/// it are unchanged then.
 fn push_ends(
     ends: &mut Pairs,
     lines: &mut Vec<usize>,
@@ -88,7 +89,7 @@ fn push_ends(
 }
 
 impl JoinedTexts {
-    /// No text.
+    /// Makes an empty list.
     pub fn new(alloc: Global) -> JoinedTexts
         ensures { result ≡ [] }
     {
@@ -99,15 +100,15 @@ impl JoinedTexts {
         }
     }
 
-    /// How many texts there are.
+    /// Returns the number of texts.
     pub fn len(&self) -> usize
         ensures { result ≡ length self.now }
     {
         self.ends.len()
     }
 
-    /// The text of a cell of rows of them, its columns and its lines. One that only lengthens its
-    /// row is empty.
+    /// Returns the text of a cell, its columns and its lines. A cell that only fills up its row is
+    /// empty.
     #[inline(always)]
     pub fn cell(&self, rows: &RowRanges, at: Position) -> (&str, usize, usize)
         requires ranges { AreRanges (length self.now) rows.now }
@@ -121,7 +122,7 @@ impl JoinedTexts {
         }
     }
 
-    /// Adds a text. Where memory is refused, they are as they were.
+    /// Adds a text. Error: `Memory`; the texts are unchanged then.
     pub fn push(&mut self, text: &str) -> Result<(), TableError>
         ensures ok { OnOk result (self.new ≡ self.old ++ text.now ∷ []) }
         ensures err { OnErr result (self.new ≡ self.old) }

@@ -1,4 +1,4 @@
-//! Records whose cells lend those of other records until they are set.
+//! Records whose cells borrow those of other records.
 ghost use Rattle.std.specs.Prelude.{◌≡◌, ◌<◌, IfErr, IfOk, length, slice_index_or, []};
 ghost use Rattle.tabled_base.specs.Cells.{columns};
 ghost use Rattle.tabled_base.specs.declared.error.TableError.TheVariants.{Memory};
@@ -7,8 +7,8 @@ use std::alloc::Global;
 use std::borrow::CowStr;
 use tabled_base::{PeekableRecords, Position, TableError, Text, VecRecords};
 
-/// Records of the same texts, whose cells lend those of some records: no text is copied, and none is measured again. A cell
-/// that is set keeps its new text. Refused for memory alone.
+/// Makes records whose cells borrow those of `records`: no text is copied or measured again. A cell
+/// that is set gets its own text. Error: `Memory`.
 pub fn lend_cells<R: PeekableRecords>(
     alloc: Global,
     records: &R,
@@ -25,7 +25,7 @@ pub fn lend_cells<R: PeekableRecords>(
     Ok(VecRecords::new(rows))
 }
 
-/// The cells of a row, which has so many columns.
+/// Borrows the cells of a row with `count` columns.
 fn lend_row<R: PeekableRecords>(
     alloc: Global,
     records: &R,

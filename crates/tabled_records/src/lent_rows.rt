@@ -1,4 +1,4 @@
-//! The rows of a text, whose cells lend it.
+//! Rows whose cells borrow one text.
 ghost use Rattle.std.specs.Prelude.{◌≡◌, ℕ, List, length, []};
 ghost use Rattle.tabled_records.specs.Joined.{AreKept, texts_from};
 ghost use Rattle.tabled_records.specs.JoinedRows.{AreRanges, rows_in};
@@ -8,13 +8,12 @@ use crate::row_ranges::RowRanges;
 use std::marker::Model;
 use tabled_base::{ExactRecords, PeekableRecords, Position};
 
-/// Rows of a text, which its cells lend. The cells of all rows stand one after another, and a row
-/// that is shorter than the longest is read as if empty cells stood behind it.
+/// Rows whose cells borrow one text. Rows shorter than the longest end with empty cells.
 #[derive(Debug, Drop)]
 pub struct LentRows<'a> {
     text: &'a str,
-    // Where each cell ends, and its columns. It begins a byte behind the end of the one before it,
-    // and is one line.
+    // For each cell the byte where it ends, and its columns. A cell begins one byte after the end
+    // of the cell before it, and is one line.
     cells: Pairs,
     rows: RowRanges,
 }
@@ -28,7 +27,7 @@ impl<'a> Model for LentRows<'a> {
 }
 
 impl<'a> LentRows<'a> {
-    /// Rows of the cells of a text.
+    /// Makes rows of the cells of a text.
     pub(crate) fn new(text: &'a str, cells: Pairs, rows: RowRanges) -> LentRows<'a>
         requires kept { AreKept 1 text.now cells [] }
         requires ranges { AreRanges (length cells) rows }
@@ -63,7 +62,7 @@ impl<'a> PeekableRecords for LentRows<'a> {
         self.get_measured(at).2
     }
 
-    // A cell of a text has no line feed.
+    // No cell has a line feed.
     #[inline(always)]
     fn get_measured(&self, at: Position) -> (&str, usize, usize) {
         match self.rows.cell(self.text, &self.cells, 1, at) {

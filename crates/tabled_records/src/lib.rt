@@ -1,33 +1,32 @@
-//! Records that borrow or share their texts: the rows of a text, texts joined in one buffer, views
-//! of records, and the records of an iterator.
+//! Records that borrow or share their texts, views of records, and the records of an iterator.
 //!
-//! Records that keep texts:
+//! Records that store texts:
 //!
-//! - `pairs.rt`: `Pairs`, a list of pairs, in half of the memory as long as the numbers are small.
-//! - `row_ranges.rt`: `RowRanges`, rows of texts that stand one behind another in one text.
-//! - `lent_rows.rt`: `LentRows`, the rows of a text, whose cells lend it.
-//! - `split.rt`: `text_rows`, which finds the rows and cells of a text.
-//! - `lent_cells.rt`: `lend_cells`, records whose cells lend those of others until they are set.
-//! - `joined_texts.rt`: texts that stand one after another in one text, with their measures.
-//! - `joined_records.rt`: `JoinedRecords`, rows of such texts.
+//! - `pairs.rt`: `Pairs`, a list of pairs that takes half the memory while the numbers are small.
+//! - `row_ranges.rt`: `RowRanges`, rows as ranges of a list of texts.
+//! - `lent_rows.rt`: `LentRows`, rows whose cells borrow one text.
+//! - `split.rt`: `text_rows` finds the rows and cells of a text.
+//! - `lent_cells.rt`: `lend_cells` makes records whose cells borrow those of other records.
+//! - `joined_texts.rt`: texts joined in one buffer, with their measures.
+//! - `joined_records.rt`: `JoinedRecords`, rows of joined texts.
 //!
-//! Records whose cells are made as they are asked for:
+//! Records that make their cells on demand:
 //!
 //! - `empty.rt`: `EmptyRecords`, whose cells are all empty.
 //! - `iter_records.rt`: `IterRecords`, the records of an iterator.
 //!
-//! Views, which are taken row by row:
+//! Views that are read row by row:
 //!
 //! - `limit_rows.rt`: `LimitRows`, the first rows.
-//! - `skip_rows.rt`: `SkipRows`, the rows behind the first ones.
+//! - `skip_rows.rt`: `SkipRows`, the rows after the first ones.
 //! - `limit_columns.rt`: `LimitColumns`, the first cells of each row.
-//! - `truncate.rt`: `TruncateContent`, cells that are cut to the width of their column.
-//! - `buffer.rt`: `BufRecords`, records of which some rows were read ahead.
+//! - `truncate.rt`: `TruncateContent`, cells that are cut to the widths of their columns.
+//! - `buffer.rt`: `BufRecords`, records with some rows read ahead.
 //!
-//! Walks over rows:
+//! Iteration over rows:
 //!
-//! - `reading.rt`: the next rows and cells of an iterator, as `take_rows` keeps them.
-//! - `walk.rt`: cells that are walked to their end and dropped.
+//! - `reading.rt`: reads the next rows and cells of an iterator.
+//! - `walk.rt`: reads cells to their end and drops them.
 #![tactic(auto)]
 
 mod buffer;

@@ -1,4 +1,4 @@
-//! The first columns alone.
+//! The first columns of records.
 ghost use Rattle.std.specs.Prelude.{◌≡◌, ◌<◌, List, Bool, map, take, true};
 ghost use Rattle.std.specs.Iterator.{HoldsAlong, IsFinite, IsFiniteIterable};
 ghost use Rattle.std.specs.List.{All};
@@ -8,8 +8,8 @@ ghost use Rattle.tabled_records.specs.FirstCells.{first_cells_steps};
 use crate::walk::walk_rest;
 use tabled_base::IntoRecords;
 
-/// Of each row of records the first cells. The cells behind them are walked when the end of their row is asked
-/// for, and passed over.
+/// The first cells of each row. The other cells are read and dropped when the iterator is asked for
+/// the end of the row.
 #[derive(Clone, Copy, Debug, Drop)]
 pub struct LimitColumns<R> {
     records: R,
@@ -17,7 +17,7 @@ pub struct LimitColumns<R> {
 }
 
 impl<R> LimitColumns<R> {
-    /// At most so many cells of each row.
+    /// Limits each row to `limit` cells.
     pub fn new(records: R, limit: usize) -> LimitColumns<R>
         ensures records { result.records ≡ records }
         ensures limit { result.limit ≡ limit }
@@ -55,7 +55,7 @@ where
     }
 }
 
-/// Rows of which the first cells are given.
+/// Rows that are limited to their first cells.
 #[derive(Clone, Copy, Debug, Drop)]
 pub struct NarrowRows<I> {
     pub(crate) rows: I,

@@ -1,11 +1,11 @@
-//! The first rows alone.
+//! The first rows of records.
 ghost use Rattle.std.specs.Prelude.{◌≡◌, true, List, Bool};
 ghost use Rattle.tabled_records.specs.Limited.{IsLimited};
 
 use std::iter::Take;
 use tabled_base::IntoRecords;
 
-/// The first rows of records. No row past these is asked for.
+/// The first rows of records. Later rows are never requested.
 #[derive(Clone, Copy, Debug, Drop)]
 pub struct LimitRows<R> {
     records: R,
@@ -13,7 +13,7 @@ pub struct LimitRows<R> {
 }
 
 impl<R> LimitRows<R> {
-    /// At most so many rows of the records.
+    /// Limits the records to `limit` rows.
     pub fn new(records: R, limit: usize) -> LimitRows<R>
         ensures records { result.records ≡ records }
         ensures limit { result.limit ≡ limit }

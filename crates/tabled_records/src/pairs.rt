@@ -1,4 +1,4 @@
-//! Pairs of numbers, in half of the memory as long as the numbers are small.
+//! Pairs of numbers, in half the memory while the numbers are small.
 ghost use Rattle.std.specs.Prelude.{◌≡◌, ◌<◌, ◌++◌, [], ◌∷◌, IfErr, IfSome, OnErr, OnOk, length};
 ghost use Rattle.std.specs.List.{slice_index_or};
 ghost use Rattle.tabled_base.specs.declared.error.TableError.TheVariants.{Memory};
@@ -7,8 +7,8 @@ use std::alloc::Global;
 use std::marker::Model;
 use tabled_base::TableError;
 
-/// A list of pairs. Up to the first one with a number that doesn't fit 32 bits, a pair takes 8 bytes, and from
-/// there on 16.
+/// A list of pairs. A pair takes 8 bytes up to the first number that doesn't fit 32 bits, and 16
+/// bytes from there on.
 #[derive(Debug, Drop)]
 pub struct Pairs {
     small: Vec<(u32, u32)>,
@@ -23,7 +23,7 @@ impl Model for Pairs {
     ghost view = { λ p. p.small.items ++ p.great.items };
 }
 
-/// Two numbers as they fit 32 bits each, if they do.
+/// Converts a pair to 32 bits, if both numbers fit.
 #[inline(always)]
 fn small(pair: (usize, usize)) -> Option<(u32, u32)>
     ensures { IfSome result (λ s. s ≡ pair) }
@@ -35,7 +35,7 @@ fn small(pair: (usize, usize)) -> Option<(u32, u32)>
 }
 
 impl Pairs {
-    /// No pairs.
+    /// Makes an empty list.
     pub fn new(alloc: Global) -> Pairs
         ensures { result ≡ [] }
     {
@@ -45,14 +45,14 @@ impl Pairs {
         }
     }
 
-    /// How many there are.
+    /// Returns the number of pairs.
     pub fn len(&self) -> usize
         ensures { result ≡ length self.now }
     {
         self.small.len() + self.great.len()
     }
 
-    /// The pair at a place.
+    /// Returns the pair at an index.
     #[inline(always)]
     pub fn at(&self, place: usize) -> (usize, usize)
         requires { place < length self.now }
@@ -67,7 +67,7 @@ impl Pairs {
         }
     }
 
-    /// Adds a pair. Where memory is refused, they are as they were.
+    /// Adds a pair. Error: `Memory`; the list is unchanged then.
     #[inline(always)]
     pub fn push(&mut self, pair: (usize, usize)) -> Result<(), TableError>
         ensures ok { OnOk result (self.new ≡ self.old ++ pair ∷ []) }

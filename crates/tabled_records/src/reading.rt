@@ -1,4 +1,4 @@
-//! Rows that are read of a source one by one.
+//! Reading rows one by one.
 ghost use Rattle.std.specs.Prelude.{◌≡◌, ◌<◌, ◌≤◌, ◌∷◌, ◌++◌, List, [], false, true, map, length, IfErr, IfOk, OnErr, OnOk, MatchOption, Some, None};
 ghost use Rattle.std.specs.Iterator.{IsFinite, IsFiniteIterable, YieldsThen, size};
 ghost use Rattle.tabled_base.specs.declared.error.TableError.TheVariants.{Memory};
@@ -10,7 +10,7 @@ use crate::walk::walk_rest;
 use std::alloc::Global;
 use tabled_base::TableError;
 
-/// Puts the cells that come into a row. Fails only with `Memory`, behind the cell that wanted it.
+/// Appends cells to a row. Error: `Memory`; the cells after the failed one aren't read then.
 fn keep_cells<I: Iterator<Item = C>, C: Drop>(
     row: &mut Vec<C>,
     cells: &mut I,
@@ -28,8 +28,8 @@ fn keep_cells<I: Iterator<Item = C>, C: Drop>(
     Ok(())
 }
 
-/// The cells of a row. Fails only with `Memory`; the others are walked then, so that a source whose
-/// rows share what they read goes on with its next row.
+/// Reads the cells of a row. Error: `Memory`; the other cells are read and dropped then, so that a
+/// source whose rows share their input goes on with its next row.
 fn collect_cells<I: IntoIterator<Item = C>, C: Drop>(
     alloc: Global,
     cells: I,
@@ -49,8 +49,8 @@ fn collect_cells<I: IntoIterator<Item = C>, C: Drop>(
     Ok(row)
 }
 
-/// The cells of the next row, if one comes. Fails only with `Memory`, where a row came: its cells
-/// were walked to their end then.
+/// Reads the cells of the next row, if there is one. Error: `Memory`, only if there is a row; its
+/// cells are read to their end then.
 pub fn next_cells<I: Iterator<Item = W>, W: IntoIterator<Item = C>, C: Drop>(
     alloc: Global,
     rows: &mut I,
@@ -71,17 +71,17 @@ pub fn next_cells<I: Iterator<Item = W>, W: IntoIterator<Item = C>, C: Drop>(
     }
 }
 
-/// Rows that were read, and whether these are all.
+/// Rows that were read, and whether they are all.
 #[derive(Drop)]
 pub struct Taken<C> {
     /// The cells of each row.
     pub rows: Vec<Vec<C>>,
-    /// Whether no more rows come.
+    /// Whether there are no more rows.
     pub whole: bool,
 }
 
-/// The first rows, as many as are wanted, or all where fewer come. Fails only with `Memory`, where
-/// a row came; none past those that are wanted did.
+/// Reads the first `count` rows, or all if there are fewer. Requests no row after these. Error:
+/// `Memory`, only if there is a row.
 pub fn take_rows<I: Iterator<Item = W>, W: IntoIterator<Item = C>, C: Drop>(
     alloc: Global,
     rows: &mut I,

@@ -1,4 +1,4 @@
-//! Rows of texts that stand one behind another in one text.
+//! Rows as ranges of a list of texts.
 ghost use Rattle.std.specs.Prelude.{◌≡◌, ◌<◌, ◌^◌, [], ◌∷◌, ◌++◌, IfErr, MatchOption, OnErr, OnOk, length};
 ghost use Rattle.tabled_base.specs.Cells.{IsInside, cell_at};
 ghost use Rattle.tabled_base.specs.declared.error.TableError.TheVariants.{Memory};
@@ -10,11 +10,11 @@ use std::alloc::Global;
 use std::marker::Model;
 use tabled_base::{Position, TableError};
 
-/// Where the texts of each row begin among all texts, and how many they are.
+/// For each row the index of its first text, and the number of its texts.
 #[derive(Debug, Drop)]
 pub(crate) struct RowRanges {
     ranges: Pairs,
-    // How many texts the longest row has.
+    // The number of texts in the longest row.
     columns: usize,
 }
 
@@ -29,7 +29,7 @@ impl Model for RowRanges {
     ghost invariant = { λ r. r.columns ≡ longest_range r.ranges };
 }
 
-/// Where the text at a place begins, which is a gap behind the end of the one before it.
+/// Returns the byte where a text begins: `gap` bytes after the end of the one before it.
 #[inline(always)]
 fn start_of(ends: &Pairs, gap: usize, place: usize) -> usize
     requires inside { place < length ends.now }
@@ -42,7 +42,7 @@ fn start_of(ends: &Pairs, gap: usize, place: usize) -> usize
     }
 }
 
-/// The text at a place, and its columns.
+/// Returns the text at an index, and its columns.
 #[inline(always)]
 fn text_at<'a>(whole: &'a str, ends: &Pairs, gap: usize, place: usize) -> (&'a str, usize)
     requires joined { AreJoined gap whole.now 0 ends.now }
@@ -54,7 +54,7 @@ fn text_at<'a>(whole: &'a str, ends: &Pairs, gap: usize, place: usize) -> (&'a s
 }
 
 impl RowRanges {
-    /// No row.
+    /// Makes an empty list.
     pub fn new(alloc: Global) -> RowRanges
         ensures { result ≡ [] }
     {
@@ -64,21 +64,21 @@ impl RowRanges {
         }
     }
 
-    /// How many rows there are.
+    /// Returns the number of rows.
     pub fn len(&self) -> usize
         ensures { result ≡ length self.now }
     {
         self.ranges.len()
     }
 
-    /// How many texts the longest row has.
+    /// Returns the number of texts in the longest row.
     pub fn columns(&self) -> usize
         ensures { result ≡ longest_range self.now }
     {
         self.columns
     }
 
-    /// Adds a row. Where memory is refused, they are as they were.
+    /// Adds a row. Error: `Memory`; the rows are unchanged then.
     #[inline(always)]
     pub fn push(&mut self, start: usize, count: usize) -> Result<(), TableError>
         ensures ok { OnOk result (self.new ≡ self.old ++ (start, count) ∷ []) }
@@ -90,8 +90,8 @@ impl RowRanges {
         Ok(())
     }
 
-    /// The text of a cell, its columns and its place among all texts, if it isn't one that only
-    /// lengthens its row. The texts are parts of a whole, each a gap behind the end of the last.
+    /// Returns the text of a cell, its columns and its index among all texts; `None` if the cell
+    /// only fills up its row. The texts are parts of `whole`, `gap` bytes apart.
     #[inline(always)]
     pub fn cell<'a>(
         &self,
@@ -113,7 +113,7 @@ impl RowRanges {
         if at.column >= count {
             return None;
         }
-        // A number says how many texts there are, so the place of each is in range.
+        // The number of texts is a `usize`, and so each index is in range.
         let _count = ends.len();
         let place = start + at.column;
         let (text, columns) = text_at(whole, ends, gap, place);

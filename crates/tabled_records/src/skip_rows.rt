@@ -1,4 +1,4 @@
-//! All rows but the first.
+//! The rows after the first ones.
 ghost use Rattle.std.specs.Prelude.{◌≡◌, List, Bool, drop};
 ghost use Rattle.tabled_records.specs.RowByRow.{AreChanged};
 ghost use Rattle.tabled_records.specs.LaterRows.{MayPass, SkipsRows};
@@ -6,8 +6,8 @@ ghost use Rattle.tabled_records.specs.LaterRows.{MayPass, SkipsRows};
 use crate::walk::walk;
 use tabled_base::IntoRecords;
 
-/// The rows of records behind the first ones. Those are walked, cell by cell, when the first row is asked for, and
-/// passed over.
+/// The rows of records without the first ones. Those are read and dropped, cell by cell, when the
+/// first row is requested.
 #[derive(Clone, Copy, Debug, Drop)]
 pub struct SkipRows<R> {
     records: R,
@@ -15,7 +15,7 @@ pub struct SkipRows<R> {
 }
 
 impl<R> SkipRows<R> {
-    /// The rows without the first so many.
+    /// Skips the first `count` rows.
     pub fn new(records: R, count: usize) -> SkipRows<R>
         ensures records { result.records ≡ records }
         ensures count { result.count ≡ count }
@@ -24,7 +24,7 @@ impl<R> SkipRows<R> {
     }
 }
 
-/// Rows, of which so many are still to be passed over.
+/// Rows, and how many of them are still to be skipped.
 #[derive(Clone, Copy, Debug, Drop)]
 pub struct LaterRows<I> {
     pub(crate) rows: I,

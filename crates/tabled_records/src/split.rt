@@ -1,4 +1,4 @@
-//! The rows and cells of a text.
+//! Splitting a text into rows and cells.
 ghost use Rattle.std.specs.Prelude.{◌≡◌, ◌<◌, ◌≤◌, IfErr, IfOk, OnErr, length, map, true};
 ghost use Rattle.std.specs.List.{slice_range};
 ghost use Rattle.std.specs.Str.{IsCharBoundary};
@@ -15,9 +15,9 @@ use std::alloc::Global;
 use tabled_base::TableError;
 use tabled_text::{line_width, run_end};
 
-/// The rows of a text by line feeds, with cells by tabs, short rows lengthened with empty cells. A
-/// last line feed ends the last row, and the empty text has no row. Every cell lends the text. The
-/// empty text takes no memory.
+/// Splits a text at line feeds into rows, and rows at tabs into cells. Short rows get empty cells.
+/// A last line feed ends the last row, and the empty text has no rows. All cells borrow the text.
+/// Error: `Memory`, unless the text is empty.
 #[tactic(auto, unfolding(crate::specs::TextRows::text_rows))]
 pub fn text_rows(alloc: Global, text: &str) -> Result<LentRows<'_>, TableError>
     ensures ok { IfOk result (λ rows. rows ≡ text_rows text.now) }
@@ -30,7 +30,7 @@ pub fn text_rows(alloc: Global, text: &str) -> Result<LentRows<'_>, TableError>
     split_rows(alloc, without_last_feed(text))
 }
 
-/// The text without a line feed at its end.
+/// Returns the text without a line feed at its end.
 fn without_last_feed(text: &str) -> &str
     ensures { result.now ≡ without_last_feed text.now }
 {
@@ -42,7 +42,7 @@ fn without_last_feed(text: &str) -> &str
     }
 }
 
-/// The lines of a text as rows.
+/// Makes each line of a text a row.
 fn split_rows(alloc: Global, text: &str) -> Result<LentRows<'_>, TableError>
     ensures ok { IfOk result (λ rows. rows
         ≡ map (λ line. lengthened (most_cells (lines_of text.now)) (cells_of line))
@@ -54,7 +54,7 @@ fn split_rows(alloc: Global, text: &str) -> Result<LentRows<'_>, TableError>
     let mut rows = RowRanges::new(alloc);
     let mut start: usize = 0;
     let mut first: usize = 0;
-    // Whether the cell is printable ASCII so far.
+    // Whether all of the cell so far is printable ASCII.
     let mut printable = true;
     let mut at = run_end(bytes, 0, b' ', b'~');
     'bytes: while at < bytes.len() {
@@ -84,8 +84,8 @@ fn split_rows(alloc: Global, text: &str) -> Result<LentRows<'_>, TableError>
     Ok(LentRows::new(text, cells, rows))
 }
 
-/// The columns of the cell that stands between two places of a text. Printable ASCII takes as many
-/// as bytes.
+/// Returns the columns of the cell between two byte offsets: in printable ASCII the number of
+/// bytes.
 fn cell_columns(text: &str, start: usize, end: usize, printable: bool) -> usize
     requires ordered { start ≤ end }
     requires begins { IsCharBoundary text.now start }

@@ -1,4 +1,4 @@
-//! Cells that are cut to the width of their column.
+//! Cells that are cut to the widths of their columns.
 ghost use Rattle.std.specs.Prelude.{◌≡◌, ℕ, List, Bool, map, IfErr, IfOk, OnErr, MatchOption};
 ghost use Rattle.std.specs.Cow.{cow_str_bytes, IsOwnedStr};
 ghost use Rattle.tabled_base.specs.declared.error.TableError.TheVariants.{Memory};
@@ -11,10 +11,10 @@ use std::borrow::CowStr;
 use tabled_base::{CellText, IntoRecords, TableError};
 use tabled_text::cut_str;
 
-/// A cell, and the columns that its text is cut to, if any.
+/// A cell, and the columns to which its text is cut, if any.
 ///
-/// It is no `CellText`: the cut of a text may need a U+FFFD in place of a wide character, and so
-/// memory, which `CellText::text` can't ask for. Take `text(alloc)` of each cell.
+/// It is no `CellText`: the cut may end with U+FFFD in place of half a wide character, which has to
+/// be allocated, and `CellText::text` can't fail. Call `text(alloc)` on each cell.
 #[derive(Clone, Copy, Debug, Drop)]
 pub struct CutCell<C> {
     pub cell: C,
@@ -22,8 +22,8 @@ pub struct CutCell<C> {
 }
 
 impl<C: CellText> CutCell<C> {
-    /// The text of the cell, cut to its columns, or as it is where it isn't cut. It is borrowed, and
-    /// allocates only where it ends with U+FFFD: then it may fail with `Memory`.
+    /// Returns the text of the cell, cut to its width if it has one. The text is borrowed unless it
+    /// ends with such a U+FFFD; then it is allocated. Error: `Memory`.
     pub fn text(&self, alloc: Global) -> Result<CowStr<'_, Global>, TableError>
         ensures text { IfOk result (λ answer. IsShown self.now.width (C.text self.now.cell) (cow_str_bytes answer)) }
         ensures owned { IfOk result (λ answer. IsOwnedStr answer → WantsFill self.now.width (C.text self.now.cell)) }
@@ -37,11 +37,11 @@ impl<C: CellText> CutCell<C> {
     }
 }
 
-/// The rows of records, each cell with the width of its column, to which its text is cut. The cells of
-/// columns past the list of widths are as they are.
+/// Records whose cells are cut to the widths of their columns. Cells of columns after the list of
+/// widths aren't cut.
 ///
-/// No table prints this view, since its cells are no `CellText`: take `text(alloc)` of each cell, and
-/// print a table of these texts.
+/// No table prints this view, since its cells are no `CellText`. Call `text(alloc)` on each cell,
+/// and print a table of these texts.
 #[derive(Clone, Copy, Debug, Drop)]
 pub struct TruncateContent<'a, R> {
     records: R,
@@ -49,7 +49,7 @@ pub struct TruncateContent<'a, R> {
 }
 
 impl<'a, R> TruncateContent<'a, R> {
-    /// The records, the texts of their cells cut to so many columns each.
+    /// Cuts the cells of column i to `widths[i]` columns.
     pub fn new(records: R, widths: &'a [usize]) -> TruncateContent<'a, R>
         ensures records { result.records ≡ records }
         ensures widths { result.widths.now ≡ widths.now }
@@ -89,7 +89,7 @@ impl<'a, I: Iterator> Iterator for CutCells<'a, I> {
     }
 }
 
-/// Rows of cells with the widths of their columns.
+/// Rows of cells, with the widths of their columns.
 #[derive(Clone, Copy, Debug, Drop)]
 pub struct CutRows<'a, I> {
     pub(crate) rows: I,

@@ -1,10 +1,10 @@
-//! Cells that are walked and passed over.
+//! Reading cells to their end.
 ghost use Rattle.std.specs.Prelude.{List};
 ghost use Rattle.std.specs.declared.option.Option.TheVariants.{None};
 ghost use Rattle.std.specs.Iterator.{IsFinite, IsFiniteIterable, YieldsThen};
 ghost use Rattle.tabled_base.specs.Given.{Given};
 
-/// Walks cells to their end.
+/// Reads cells to their end and drops them.
 pub(crate) fn walk<C: IntoIterator>(cells: C)
 where
     C::Item: Drop,
@@ -14,7 +14,7 @@ where
     for _cell in cells {}
 }
 
-/// Walks what is left of cells.
+/// Reads the remaining cells and drops them.
 pub(crate) fn walk_rest<I: Iterator>(cells: &mut I)
 where
     I::Item: Drop,

@@ -1,4 +1,4 @@
--- Tables that were narrowed as well as they can be.
+-- Tables that were narrowed as well as possible.
 use Rattle.std.specs.Prelude.{◌≡◌, ◌<◌, ◌-◌, ℕ, Bool, true, false}
 use Rattle.tabled_text.specs.Exact.{IsExactLine}
 use Rattle.tabled_base.specs.Cells.{IsInside, cell_at}
@@ -12,16 +12,16 @@ use Rattle.tabled_text.specs.Longest.{IsLongestCut}
 use Rattle.tabled_text.specs.Measure.{text_columns}
 use Rattle.tabled_text.specs.OldText.{HasOldText}
 
--- what its column leaves for the text of a cell
+-- the content width of a cell
 abbrev pub inner_width : Sheet → ℕ → ℕ → ℕ
 inner_width t row column = at t.widths column - side_padding t.config row column
 
--- no permitted list of the same sum has a lesser greatest width
+-- no permitted list of the same sum has a smaller maximum
 abbrev pub HasLeastWidth : Sheet → Sheet → Type 0
 HasLeastWidth old new = HasLeastGreatest old.widths (minimums old.cells old.config) new.widths
 
--- a wrapped table: no breaking of a cell's old text for its content size has fewer lines, and where each unit finds room, the
--- new text is the old one with line feeds put in
+-- a wrapped table: no breaking of a cell's old text for its content width has fewer lines, and if
+-- each unit fits, the new text is the old one with line feeds inserted
 pub record IsBestWrapped (words : Bool) (old new : Sheet) : Type 0 where
   pub fewest : (row column : ℕ) → IsInside old.cells row column
       → HasFewestLines (inner_width new row column) words (cell_at old.cells row column) (cell_at new.cells row column)
@@ -29,9 +29,9 @@ pub record IsBestWrapped (words : Bool) (old new : Sheet) : Type 0 where
       → EachUnitFits (inner_width new row column) words (cell_at old.cells row column)
       → HasOldText (cell_at old.cells row column) (cell_at new.cells row column)
 
--- a truncated table, no suffix put behind the texts: of a cell that was wider than its content size a line whose characters count as
--- its columns, as those of plain ones do, is the longest beginning that fits, and where lines are truncated by themselves,
--- each such line is
+-- a table truncated without a suffix. A cell that was too wide, and is one line whose width is the
+-- sum of its characters' widths (as in plain text), becomes the longest beginning that fits. With
+-- `multiline`, each such line of a cell does
 pub record IsBestCut (multiline : Bool) (old new : Sheet) : Type 0 where
   pub line : multiline ≡ false → (row column : ℕ) → IsInside old.cells row column
       → IsExactLine (cell_at old.cells row column)

@@ -1,4 +1,4 @@
--- Cells of which some are changed, and the others stay.
+-- Tables of which some cells change and the others don't.
 use Rattle.std.specs.Prelude.{◌≡◌, ◌⊎◌, ℕ, Bool, true, not, ◌&&◌, ◌||◌, ◌==◌, nat_lt, List, [], MatchBool, Option, Some, None, length, slice_index_or}
 use Rattle.tabled_base.specs.Cells.{IsInside, cell_at}
 use Rattle.tabled_base.specs.declared.error.TableError.{TableError}
@@ -16,7 +16,7 @@ use Rattle.tabled_set.specs.declared.cell_filter.CellFilter.TheVariants.{Every, 
 
 -- ---- one text
 
--- a text is wrapped in a content size, words kept or not
+-- a text is wrapped to a content size, words kept whole or not
 abbrev pub wrapping : Bool → ℕ → List ℕ → List ℕ → Type 0
 wrapping words content_size before after = IsWrapped content_size words before after
 
@@ -24,7 +24,7 @@ wrapping words content_size before after = IsWrapped content_size words before a
 abbrev pub truncating : List ℕ → SuffixLimit → Bool → ℕ → List ℕ → List ℕ → Type 0
 truncating suffix limit multiline content_size before after = IsTruncated content_size suffix limit multiline before after
 
--- whether a text is changed for a content size: any text, one of more or fewer columns or of either, or of more or fewer lines
+-- whether a text passes a filter for a content size
 abbrev pub is_taken : CellFilter → ℕ → List ℕ → Bool
 is_taken Every content_size text = true
 is_taken Wider content_size text = nat_lt content_size (text_columns text)
@@ -33,43 +33,43 @@ is_taken NotAsWide content_size text = not (text_columns text == content_size)
 is_taken Higher content_size text = nat_lt content_size (length (lines_of text))
 is_taken Lower content_size text = nat_lt (length (lines_of text)) content_size
 
--- such a text is changed, another stays
+-- a text that passes the filter changes, another doesn't
 abbrev pub if_taken : CellFilter → (ℕ → List ℕ → List ℕ → Type 0) → ℕ → List ℕ → List ℕ → Type 0
 if_taken cell_filter change content_size before after = MatchBool (is_taken cell_filter content_size before) (change content_size before after) (after ≡ before)
 
--- a text wider than its content size is changed, another stays
+-- a text wider than its content size changes, another doesn't
 abbrev pub if_wider : (ℕ → List ℕ → List ℕ → Type 0) → ℕ → List ℕ → List ℕ → Type 0
 if_wider change content_size before after = MatchBool (nat_lt content_size (text_columns before)) (change content_size before after) (after ≡ before)
 
--- a text that has a content size is changed for it, another stays
+-- a text is changed for its content size; one without a content size isn't
 abbrev pub in_room : (ℕ → List ℕ → List ℕ → Type 0) → Option ℕ → List ℕ → List ℕ → Type 0
 in_room change None before after = after ≡ before
 in_room change (Some content_size) before after = change content_size before after
 
--- a text can't be changed without memory: it is changed for a content size, and not in its place
+-- changing a text needs an allocation: it passes the filter, and can't be changed in place
 pub record NeedsMemory (cell_filter : CellFilter) (in_place : ℕ → List ℕ → Type 0) (content_size : ℕ) (text : List ℕ) : Type 0 where
   pub taken : is_taken cell_filter content_size text ≡ true
   pub apart : in_place content_size text → ⊥
 
--- so for the content size that it has, if it has one
+-- a text has a content size, and changing it needs an allocation
 abbrev pub NeedsMemoryIn : CellFilter → (ℕ → List ℕ → Type 0) → Option ℕ → List ℕ → Type 0
 NeedsMemoryIn cell_filter in_place None text = ⊥
 NeedsMemoryIn cell_filter in_place (Some content_size) text = NeedsMemory cell_filter in_place content_size text
 
--- a transform that changes no text in its place
+-- no text is changed in place
 abbrev pub never_in_place : ℕ → List ℕ → Type 0
 never_in_place = λ content_size text. ⊥
 
 -- ---- cells
 
--- the cells at the chosen places are changed, each as its row and column say, and the others are the old ones
+-- the chosen cells change, each by the relation for its row and column, and the others don't
 pub record AreChanged (chosen : ℕ → ℕ → Bool) (change : ℕ → ℕ → List ℕ → List ℕ → Type 0) (old new : List (List (List ℕ))) : Type 0 where
   pub rows : length new ≡ length old
   pub row_lengths : (row : ℕ) → length (slice_index_or new row []) ≡ length (slice_index_or old row [])
   pub cells : (row column : ℕ) → IsInside old row column
       → MatchBool (chosen row column) (change row column (cell_at old row column) (cell_at new row column)) (cell_at new row column ≡ cell_at old row column)
 
--- the line in which a cell is visited, a row or a column, and its place there
+-- the line in which a cell is visited, which is a row or a column, and its place in it
 abbrev pub line_of : WalkOrder → ℕ → ℕ → ℕ
 line_of ByRow row column = row
 line_of ByColumn row column = column
@@ -82,8 +82,8 @@ place_of ByColumn row column = row
 abbrev pub precedes : WalkOrder → ℕ → ℕ → ℕ → ℕ → Bool
 precedes order line place row column = nat_lt (line_of order row column) line || (line_of order row column == line && nat_lt (place_of order row column) place)
 
--- where a change stopped: at one of the chosen cells, whose text can't be changed without memory.
--- The chosen cells before it are changed, and it and all others are the old ones
+-- a change stopped at a chosen cell whose text needs an allocation. The chosen cells before it have
+-- changed; it and all others haven't
 pub record AreChangedBefore (order : WalkOrder) (chosen : ℕ → ℕ → Bool) (needs : ℕ → ℕ → List ℕ → Type 0) (change : ℕ → ℕ → List ℕ → List ℕ → Type 0)
     (old new : List (List (List ℕ))) : Type 0 where
   pub row : ℕ
@@ -93,21 +93,21 @@ pub record AreChangedBefore (order : WalkOrder) (chosen : ℕ → ℕ → Bool) 
   pub wanting : needs row column (cell_at old row column)
   pub changed : AreChanged (λ r c. chosen r c && precedes order (line_of order row column) (place_of order row column) r c) change old new
 
--- what a failure leaves: with `Range` all cells as they were, and with `Memory` the cells before
--- the one at which it stopped changed
+-- what an error leaves: with `Range` no cell has changed, with `Memory` the cells before the one at
+-- which it stopped have
 abbrev pub StopsChanging : WalkOrder → (ℕ → ℕ → Bool) → (ℕ → ℕ → List ℕ → Type 0) → (ℕ → ℕ → List ℕ → List ℕ → Type 0) → TableError
     → List (List (List ℕ)) → List (List (List ℕ)) → Type 0
 StopsChanging order chosen needs change error old new =
     ((error ≡ Range) × (new ≡ old)) ⊎ ((error ≡ Memory) × AreChangedBefore order chosen needs change old new)
 
--- ---- the cells of an entity, all for one content size
+-- ---- the cells of an entity, all with one content size
 
--- each of them is changed, and all others stay
+-- the entity's cells change, and no others
 abbrev pub ChangesEntity : (ℕ → List ℕ → List ℕ → Type 0) → ℕ → Entity → List (List (List ℕ)) → List (List (List ℕ)) → Type 0
 ChangesEntity change content_size entity old new = AreChanged (covers entity) (λ row column. change content_size) old new
 
--- what a failure leaves where those of them are changed that a transform is for, row by row, some of
--- them in their place
+-- what an error leaves if those of the entity's cells that pass a filter are changed row by row,
+-- some of them in place
 abbrev pub StopsEntity : CellFilter → (ℕ → List ℕ → Type 0) → (ℕ → List ℕ → List ℕ → Type 0) → ℕ → Entity → TableError → List (List (List ℕ))
     → List (List (List ℕ)) → Type 0
 StopsEntity cell_filter in_place change content_size entity error old new =

@@ -1,4 +1,4 @@
--- Tables that were narrowed to a total.
+-- Tables that were narrowed to a total width.
 use Rattle.std.specs.Prelude.{◌≡◌, ℕ, max}
 use Rattle.tabled_set.specs.Minimums.{emptied}
 use Rattle.tabled_size.specs.Estimates.{estimated_widths}
@@ -12,12 +12,12 @@ use Rattle.tabled_size.specs.Totals.{total_width}
 abbrev pub HasEstimatedWidths : Sheet → Type 0
 HasEstimatedWidths t = t.widths ≡ estimated_widths t.cells t.config
 
--- the columns that the table takes with empty cells
+-- the total width of the table with empty cells
 abbrev pub empty_width : Sheet → ℕ
 empty_width t = total_width (estimated (emptied t.cells) t.config)
 
--- a table narrowed to n: its total is n, or that of the empty table where this is greater, and it holds its cells,
--- which are texts, and additive where they were
+-- a table narrowed to n columns: its total is n, or that of the empty table if this is greater. It
+-- holds its cells, which are texts, and additive if they were
 pub record HasExactTotal (n : ℕ) (old new : Sheet) : Type 0 where
   pub total : total_width new ≡ max n (empty_width old)
   pub sized : IsSized new

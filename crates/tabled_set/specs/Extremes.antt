@@ -1,4 +1,4 @@
--- The greatest and the least of what the texts of a table measure.
+-- The maximum or minimum size of a table's cells.
 use Rattle.std.specs.Prelude.{ℕ, List, [], ◌∷◌, length, map, min}
 use Rattle.std.specs.List.{range_with_len}
 use Rattle.tabled_base.specs.Cells.{cell_at, columns}
@@ -8,12 +8,12 @@ use Rattle.tabled_set.specs.declared.extremes.TextMeasure.TheVariants.{Columns, 
 use Rattle.tabled_set.specs.declared.extremes.Pick.{Pick}
 use Rattle.tabled_set.specs.declared.extremes.Pick.TheVariants.{Greatest, Least}
 
--- the least of a number and some others
+-- the minimum of a number and a list
 abbrev pub least_of : ℕ → List ℕ → ℕ
 least_of x [] = x
 least_of x (y ∷ ys) = min x (least_of y ys)
 
--- the least of some numbers, 0 where there is none
+-- the minimum of a list, 0 if it is empty
 abbrev pub least : List ℕ → ℕ
 least [] = 0
 least (x ∷ xs) = least_of x xs
@@ -22,17 +22,17 @@ abbrev pub picked : Pick → List ℕ → ℕ
 picked Greatest numbers = greatest numbers
 picked Least numbers = least numbers
 
--- the columns of a text, or its lines
+-- the columns or lines of a text
 abbrev pub extent_of : TextMeasure → List ℕ → ℕ
 extent_of Columns text = text_columns text
 extent_of Lines text = length (lines_of text)
 
--- the greatest or the least of a row's cells
+-- the maximum or minimum size of a row's cells
 abbrev pub picked_in_row : Pick → TextMeasure → List (List (List ℕ)) → ℕ → ℕ
 picked_in_row pick extent cells row =
     picked pick (map (λ column. extent_of extent (cell_at cells row column)) (range_with_len 0 (columns cells)))
 
--- the greatest or the least over the rows, of each row's greatest or least cell
+-- the maximum or minimum over the rows of `picked_in_row`
 abbrev pub picked_of_rows : Pick → Pick → TextMeasure → List (List (List ℕ)) → ℕ
 picked_of_rows across within extent cells =
     picked across (map (picked_in_row within extent cells) (range_with_len 0 (length cells)))

@@ -1,8 +1,8 @@
--- Lists that a priority grew.
+-- Lists that a priority has grown.
 use Rattle.std.specs.Prelude.{ℕ, List}
 use Rattle.tabled_priority.specs.Grown.{IsNoneSmaller}
 
--- a list that the priority may make of another, adding so much to it; no entry is smaller
+-- the priority may grow the old list by an amount to the new one; no entry is smaller
 pub record IsGrownBy {P : Type 0} (grows : P → List ℕ → ℕ → List ℕ → P → Type 0) (priority : P) (old : List ℕ) (by : ℕ) (new : List ℕ) : Type 0 where
   pub last : P
   pub grown : grows priority old by new last

@@ -1,5 +1,5 @@
--- Texts that are truncated in their place: a beginning of them is left, with an ending behind it that is a part of the suffix, and
--- no memory is wanted. Texts are lists of bytes.
+-- Texts that are truncated in place, without an allocation: a beginning of the text is left, and a
+-- part of the suffix follows it. Texts are lists of bytes.
 use Rattle.std.specs.Prelude.{◌≡◌, ℕ, ◌==◌, Bool, true, nat_lt, List, [], ◌∷◌, ◌++◌, MatchBool, take}
 use Rattle.std.specs.Str.{IsCharBoundary}
 use Rattle.tabled_base.specs.ShortOr.{FitsBehind}
@@ -16,31 +16,32 @@ ended_text kept text = take kept.bytes text ++ kept.ending.now
 
 -- ---- the suffix
 
--- what stands for a suffix that takes its whole content size or more is no part of it: copies of a character, or a beginning with
--- U+FFFD behind it
+-- a suffix that leaves the text no column has to be allocated: for copies of a character, or for a
+-- beginning that is filled with U+FFFD
 abbrev pub IsMadeFor : ℕ → List ℕ → SuffixLimit → Type 0
 IsMadeFor content_size suffix Cut = NeedsFill content_size suffix
 IsMadeFor content_size suffix Ignore = ⊥
 IsMadeFor content_size suffix (Replace c) = Unit {0}
 
--- what stands for a suffix in a content size is no part of it; in no content size nothing stands, and a suffix that leaves a column is whole
+-- whether a suffix has to be allocated: not if the content size is 0, as then it is left out, and
+-- not if it leaves the text a column
 abbrev pub IsMade : ℕ → List ℕ → SuffixLimit → Type 0
 IsMade content_size suffix limit = MatchBool (content_size == 0) ⊥ (MatchBool (nat_lt (suffix_columns suffix) content_size) ⊥ (IsMadeFor content_size suffix limit))
 
 -- ---- the text
 
--- so many bytes are what a text is cut to, with no U+FFFD behind them
+-- `bytes` is the length of a text cut to n columns, which isn't filled with U+FFFD
 pub record IsCutAt (columns : ℕ) (text : List ℕ) (bytes : ℕ) : Type 0 where
   pub cut : IsCut columns text (take bytes text)
   pub boundary : IsCharBoundary text bytes
   pub whole : NeedsFill columns text → ⊥
 
--- so many bytes are left of a text in the columns that are left to it: none in no column
+-- `bytes` is the length of a text cut to the columns that are left, 0 if there are none
 abbrev pub IsLeftAt : ℕ → List ℕ → ℕ → Type 0
 IsLeftAt left text bytes = MatchBool (left == 0) (bytes ≡ 0) (IsCutAt left text bytes)
 
--- a text is truncated in its place: as a whole, which its only line is too, and with an ending that takes no memory behind
--- what is left of it
+-- a text is truncated in place: it is cut as a whole (with `multiline` it has one line), its suffix
+-- isn't allocated, and the suffix fits after what is left of the text
 pub record IsTruncatedInPlace (content_size : ℕ) (suffix : List ℕ) (limit : SuffixLimit) (multiline : Bool) (text : List ℕ) : Type 0 where
   pub one_line : multiline ≡ true → lines_of text ≡ text ∷ []
   pub used : List ℕ
@@ -51,6 +52,6 @@ pub record IsTruncatedInPlace (content_size : ℕ) (suffix : List ℕ) (limit : 
   pub kept : IsLeftAt left text bytes
   pub fits : FitsBehind bytes used
 
--- so it is in a content size
+-- the same, as a relation of a content size and a text
 abbrev pub truncating_in_place : List ℕ → SuffixLimit → Bool → ℕ → List ℕ → Type 0
 truncating_in_place suffix limit multiline content_size text = IsTruncatedInPlace content_size suffix limit multiline text

@@ -1,4 +1,4 @@
--- Rows that grow or shrink one after the other, from the first: what is done where no priority is named.
+-- Rows that grow or shrink in turn, from the first: the default if no priority is given.
 use Rattle.std.specs.Prelude.{ℕ, List}
 use Rattle.tabled_priority.specs.Grown.{IsRoundGrown}
 use Rattle.tabled_priority.specs.Shrunk.{IsRoundShrunk}

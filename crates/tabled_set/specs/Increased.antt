@@ -15,8 +15,8 @@ use Rattle.tabled_set.specs.Growing.{IsGrownBy}
 
 -- ---- the width
 
--- a table of fewer than n columns: the widths that stand grow by what is wanting and are stored, and so are the
--- heights that stand
+-- a table of fewer than n columns in total: the effective widths grow by the difference and are
+-- stored, and so are the effective heights
 pub record IsWidened {P : Type 0} (grows : P → List ℕ → ℕ → List ℕ → P → Type 0) (priority : P) (n : ℕ) (cells : List (List (List ℕ)))
     (config : SpannedConfig) (old new : CompleteDimension) : Type 0 where
   pub widths : List ℕ
@@ -24,8 +24,8 @@ pub record IsWidened {P : Type 0} (grows : P → List ℕ → ℕ → List ℕ �
   pub stored : widths_of new ≡ Some widths
   pub heights : heights_of new ≡ Some (unwrap_or (heights_of old) (estimated_heights cells config))
 
--- what is left of the sizes where a table is to be n columns wide at least: all as they were of an empty table, filled
--- in where it is so wide already, and else widened
+-- the sizes after a table was widened to at least n columns: unchanged if the table is empty,
+-- filled in if it was wide enough, else widened
 abbrev pub IncreasesWidth : {P : Type 0} → (P → List ℕ → ℕ → List ℕ → P → Type 0) → P → ℕ → List (List (List ℕ)) → SpannedConfig → CompleteDimension
     → CompleteDimension → Type 0
 IncreasesWidth grows priority n cells config old new =
@@ -33,25 +33,25 @@ IncreasesWidth grows priority n cells config old new =
     (MatchBool (nat_le n (total_width (effective cells config old))) (IsFilledIn old cells config new)
     (IsWidened grows priority n cells config old new))
 
--- a failure of a table whose sizes were filled in: of memory, only where it has fewer than n
--- columns
+-- an error after sizes were filled in. It is `Memory` only if the table has fewer than n columns
 pub record StopsWidening (n : ℕ) (error : TableError) (cells : List (List (List ℕ))) (config : SpannedConfig)
     (old new : CompleteDimension) : Type 0 where
   pub narrower : error ≡ Memory → total_width (effective cells config old) < n
   pub filled : IsFilledIn old cells config new
 
--- what a failure leaves of the sizes: as they were, or filled in
+-- what an error leaves of the sizes: unchanged or filled in
 abbrev pub StopsIncreasing : ℕ → TableError → List (List (List ℕ)) → SpannedConfig → CompleteDimension → CompleteDimension → Type 0
 StopsIncreasing n error cells config old new = StopsFilling error old new ⊎ StopsWidening n error cells config old new
 
--- a sum passes the greatest number: the measure's, a cell's that isn't stored, or the total
+-- a sum overflows `usize`: in the measurement, in the estimate of a missing size, or the total
 abbrev pub WidthOutOfRange : Type 0 → List (List (List ℕ)) → SpannedConfig → CompleteDimension → Type 0
 WidthOutOfRange measure_out_of_range cells config sizes =
     (is_empty cells ≡ false) × (measure_out_of_range ⊎ (HasNoEstimate sizes cells config ⊎ (2 ^ 64 ≤ total_width (effective cells config sizes))))
 
 -- ---- the height, for which stored heights don't count
 
--- a table of fewer than n lines: the estimated heights grow by what is wanting and are stored, and the widths stay
+-- a table of fewer than n lines in total: the estimated heights grow by the difference and are
+-- stored, and the widths don't change
 pub record IsHeightened {P : Type 0} (grows : P → List ℕ → ℕ → List ℕ → P → Type 0) (priority : P) (n : ℕ) (cells : List (List (List ℕ)))
     (config : SpannedConfig) (old new : CompleteDimension) : Type 0 where
   pub heights : List ℕ
@@ -59,8 +59,8 @@ pub record IsHeightened {P : Type 0} (grows : P → List ℕ → ℕ → List �
   pub stored : heights_of new ≡ Some heights
   pub widths : widths_of new ≡ widths_of old
 
--- what is left of the sizes where a table is to be n lines high at least: all as they were of an empty table and of one
--- that is so high already
+-- the sizes after a table was grown to at least n lines: unchanged if the table is empty or was
+-- high enough, else heightened
 abbrev pub IncreasesHeight : {P : Type 0} → (P → List ℕ → ℕ → List ℕ → P → Type 0) → P → ℕ → List (List (List ℕ)) → SpannedConfig → CompleteDimension
     → CompleteDimension → Type 0
 IncreasesHeight grows priority n cells config old new =
@@ -68,7 +68,7 @@ IncreasesHeight grows priority n cells config old new =
     (MatchBool (nat_le n (total_height (estimated cells config))) (new ≡ old)
     (IsHeightened grows priority n cells config old new))
 
--- a sum passes the greatest number: the measure's, a cell's, or the total
+-- a sum overflows `usize`: in the measurement, in an estimate, or the total
 abbrev pub HeightOutOfRange : Type 0 → List (List (List ℕ)) → SpannedConfig → Type 0
 HeightOutOfRange measure_out_of_range cells config =
     (is_empty cells ≡ false) × (measure_out_of_range ⊎ (IsTooHigh cells config ⊎ (2 ^ 64 ≤ total_height (estimated cells config))))

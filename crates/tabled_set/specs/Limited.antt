@@ -15,16 +15,17 @@ use Rattle.tabled_set.specs.declared.cell_filter.CellFilter.TheVariants.{Higher}
 use Rattle.tabled_set.specs.TextLines.{limiting}
 use Rattle.tabled_set.specs.Shrinking.{IsShrunkBy}
 
--- a cell of more lines than its row's height keeps as many, the first ones, whatever its padding is
+-- a cell with more lines than its row's height keeps that many of its first lines, whatever its
+-- padding
 abbrev pub for_height : List ℕ → ℕ → ℕ → List ℕ → List ℕ → Type 0
 for_height heights row column = if_taken Higher limiting (at heights row)
 
--- a cell has more lines than its row's height, and so can't stay
+-- a cell has more lines than its row's height, and so changing it needs an allocation
 abbrev pub needs_for_height : List ℕ → ℕ → ℕ → List ℕ → Type 0
 needs_for_height heights row column = NeedsMemory Higher never_in_place (at heights row)
 
--- a table of more than n lines: the estimated heights shrink by what is too much, with no minimums, and are stored, the
--- cells are limited to their rows' heights, and the widths stay
+-- a table of more than n lines in total: the estimated heights shrink by the excess, without
+-- minimums, and are stored. Cells are limited to their rows' heights, and the widths don't change
 pub record IsLowered {P : Type 0} (shrinks : P → List ℕ → List ℕ → ℕ → List ℕ → P → Type 0) (priority : P) (n : ℕ) (cells : List (List (List ℕ)))
     (config : SpannedConfig) (old : CompleteDimension) (cells' : List (List (List ℕ))) (new : CompleteDimension) : Type 0 where
   pub heights : List ℕ
@@ -33,7 +34,8 @@ pub record IsLowered {P : Type 0} (shrinks : P → List ℕ → List ℕ → ℕ
   pub stored : heights_of new ≡ Some heights
   pub widths : widths_of new ≡ widths_of old
 
--- what is left where a table is to be n lines high at most: all as it was of an empty table and of one of so few lines
+-- what is left after a table was limited to n lines: unchanged if the table is empty or was low
+-- enough, else lowered
 abbrev pub LimitsHeight : {P : Type 0} → (P → List ℕ → List ℕ → ℕ → List ℕ → P → Type 0) → P → ℕ → List (List (List ℕ)) → SpannedConfig
     → CompleteDimension → List (List (List ℕ)) → CompleteDimension → Type 0
 LimitsHeight shrinks priority n cells config old cells' new =
@@ -41,8 +43,8 @@ LimitsHeight shrinks priority n cells config old cells' new =
     (MatchBool (nat_le (total_height (estimated cells config)) n) ((cells' ≡ cells) × (new ≡ old))
     (IsLowered shrinks priority n cells config old cells' new))
 
--- memory failed at a cell of more lines than its row's height, of a table of more than n lines: the
--- cells before it, row by row, are limited, and it and the others are the old ones
+-- an allocation failed in a table of more than n lines, at a cell with more lines than its row's
+-- height. The cells before it, row by row, are limited; it and the others are unchanged
 pub record IsLoweredBefore {P : Type 0} (shrinks : P → List ℕ → List ℕ → ℕ → List ℕ → P → Type 0) (priority : P) (n : ℕ)
     (cells : List (List (List ℕ))) (config : SpannedConfig) (cells' : List (List (List ℕ))) : Type 0 where
   pub higher : n < total_height (estimated cells config)
@@ -50,8 +52,8 @@ pub record IsLoweredBefore {P : Type 0} (shrinks : P → List ℕ → List ℕ �
   pub shrunk : IsShrunkBy shrinks priority (estimated_heights cells config) [] (total_height (estimated cells config) - n) heights
   pub changed : AreChangedBefore ByRow (λ row column. true) (needs_for_height heights) (for_height heights) cells cells'
 
--- what a failure leaves of the cells: all as they were, or with `Memory` those before the one at
--- which it stopped limited
+-- what an error leaves of the cells: all unchanged, or with `Memory` those before the one at which
+-- it stopped limited
 abbrev pub StopsLimiting : {P : Type 0} → (P → List ℕ → List ℕ → ℕ → List ℕ → P → Type 0) → P → ℕ → TableError → List (List (List ℕ)) → SpannedConfig
     → List (List (List ℕ)) → Type 0
 StopsLimiting shrinks priority n error cells config cells' =

@@ -1,4 +1,4 @@
--- Tables whose columns shrink to a total, and whose cells are changed for the content sizes that these leave.
+-- Tables whose columns shrink to a total, and whose cells are changed to fit.
 use Rattle.std.specs.Prelude.{◌≡◌, ◌⊎◌, ◌<◌, ◌≤◌, ◌^◌, ℕ, ◌-◌, true, false, nat_le, List, MatchBool, Some, None, length, take}
 use Rattle.tabled_base.specs.declared.error.TableError.{TableError}
 use Rattle.tabled_base.specs.declared.error.TableError.TheVariants.{Memory}
@@ -18,23 +18,23 @@ use Rattle.tabled_set.specs.ColumnChanges.{for_width, needs_for_width}
 use Rattle.tabled_set.specs.Filling.{StopsFilling}
 use Rattle.tabled_set.specs.Minimums.{emptied, minimums}
 
--- the widths are a list that the priority may make of those that stand, taking what the total has above n, with the
--- minimums of the columns that stand: as many, each between its limits
+-- the priority may shrink the widths of a table to these, by the excess of its total over n. There
+-- are as many, permitted by the columns' minimums
 pub record IsShrunkTo {P : Type 0} (shrinks : P → List ℕ → List ℕ → ℕ → List ℕ → P → Type 0) (priority : P) (n : ℕ) (t : Sheet) (widths : List ℕ) : Type 0 where
   pub last : P
   pub shrunk : shrinks priority t.widths (take (length t.widths) (minimums t.cells t.config)) (total_width t - n) widths last
   pub permitted : IsPermitted t.widths (take (length t.widths) (minimums t.cells t.config)) widths
 
--- a cell of a column that isn't below its minimum is changed for the content size that the column leaves it, another stays
+-- a cell of a column that isn't below its minimum is changed for its content width, another isn't
 abbrev pub for_content_size : (ℕ → List ℕ → List ℕ → Type 0) → Sheet → List ℕ → ℕ → ℕ → List ℕ → List ℕ → Type 0
 for_content_size change t widths = for_width change t.config widths (minimums t.cells t.config)
 
--- it has such a content size, and a text that can't be changed without memory
+-- changing such a cell needs an allocation
 abbrev pub needs_for_content_size : CellFilter → (ℕ → List ℕ → Type 0) → Sheet → List ℕ → ℕ → ℕ → List ℕ → Type 0
 needs_for_content_size cell_filter in_place t widths = needs_for_width cell_filter in_place t.config widths (minimums t.cells t.config)
 
--- a table wider than n is narrowed: its widths are shrunk and stored, every cell is changed for its content size, and its
--- heights are to be estimated anew
+-- a table wider than n is narrowed: its widths are shrunk and stored, its cells are changed for
+-- their content widths, and its heights are cleared
 pub record IsNarrowed {P : Type 0} (shrinks : P → List ℕ → List ℕ → ℕ → List ℕ → P → Type 0) (priority : P) (change : ℕ → List ℕ → List ℕ → Type 0)
     (n : ℕ) (t : Sheet) (cells : List (List (List ℕ))) (sizes : CompleteDimension) : Type 0 where
   pub widths : List ℕ
@@ -43,8 +43,8 @@ pub record IsNarrowed {P : Type 0} (shrinks : P → List ℕ → List ℕ → �
   pub stored : widths_of sizes ≡ Some widths
   pub cleared : heights_of sizes ≡ None
 
--- what narrowing to n leaves: an empty table as it was, one of a total of at most n with its sizes filled in, and
--- another narrowed
+-- what narrowing to n columns leaves: an empty table unchanged, one of at most n columns with its
+-- sizes filled in, and a wider one narrowed
 abbrev pub Narrows : {P : Type 0} → (P → List ℕ → List ℕ → ℕ → List ℕ → P → Type 0) → P → (ℕ → List ℕ → List ℕ → Type 0) → ℕ → List (List (List ℕ))
     → SpannedConfig → CompleteDimension → List (List (List ℕ)) → CompleteDimension → Type 0
 Narrows shrinks priority change n cells config sizes cells' sizes' =
@@ -52,8 +52,8 @@ Narrows shrinks priority change n cells config sizes cells' sizes' =
     (MatchBool (nat_le (total_width (effective cells config sizes)) n) ((cells' ≡ cells) × IsFilledIn sizes cells config sizes')
     (IsNarrowed shrinks priority change n (effective cells config sizes) cells' sizes'))
 
--- memory failed at a cell of a table wider than n whose text can't be changed without: the cells
--- before it, column by column, are changed, and it and the others are the old ones
+-- an allocation failed at a cell of a table wider than n. The cells before it, column by column,
+-- have changed; it and the others haven't
 pub record IsNarrowedBefore {P : Type 0} (shrinks : P → List ℕ → List ℕ → ℕ → List ℕ → P → Type 0) (priority : P) (cell_filter : CellFilter)
     (in_place : ℕ → List ℕ → Type 0) (change : ℕ → List ℕ → List ℕ → Type 0) (n : ℕ) (t : Sheet) (cells : List (List (List ℕ))) : Type 0 where
   pub wider : n < total_width t
@@ -61,8 +61,8 @@ pub record IsNarrowedBefore {P : Type 0} (shrinks : P → List ℕ → List ℕ 
   pub shrunk : IsShrunkTo shrinks priority n t widths
   pub changed : AreChangedBefore ByColumn (λ row column. true) (needs_for_content_size cell_filter in_place t widths) (for_content_size (if_taken cell_filter change) t widths) t.cells cells
 
--- a failure of a table whose sizes were filled in: it is wider than n. All cells are as they were,
--- or with `Memory` those before the one at which it stopped are changed
+-- an error after sizes were filled in: the table is wider than n. No cell has changed, or with
+-- `Memory` those before the one at which it stopped have
 pub record StopsShrinking {P : Type 0} (shrinks : P → List ℕ → List ℕ → ℕ → List ℕ → P → Type 0) (priority : P) (cell_filter : CellFilter)
     (in_place : ℕ → List ℕ → Type 0) (change : ℕ → List ℕ → List ℕ → Type 0) (n : ℕ) (error : TableError) (cells : List (List (List ℕ)))
     (config : SpannedConfig) (sizes : CompleteDimension) (cells' : List (List (List ℕ))) (sizes' : CompleteDimension) : Type 0 where
@@ -70,8 +70,7 @@ pub record StopsShrinking {P : Type 0} (shrinks : P → List ℕ → List ℕ �
   pub filled : IsFilledIn sizes cells config sizes'
   pub stopped : (cells' ≡ cells) ⊎ ((error ≡ Memory) × IsNarrowedBefore shrinks priority cell_filter in_place change n (effective cells config sizes) cells')
 
--- what a failure leaves: all as it was while sizes were estimated, or of a wider table what
--- shrinking leaves
+-- what an error leaves: all unchanged while sizes are estimated, else what `StopsShrinking` says
 abbrev pub StopsNarrowing : {P : Type 0} → (P → List ℕ → List ℕ → ℕ → List ℕ → P → Type 0) → P → CellFilter → (ℕ → List ℕ → Type 0)
     → (ℕ → List ℕ → List ℕ → Type 0) → ℕ → TableError → List (List (List ℕ)) → SpannedConfig → CompleteDimension → List (List (List ℕ))
     → CompleteDimension → Type 0
@@ -79,12 +78,13 @@ StopsNarrowing shrinks priority cell_filter in_place change n error cells config
     ((cells' ≡ cells) × StopsFilling error sizes sizes')
     ⊎ StopsShrinking shrinks priority cell_filter in_place change n error cells config sizes cells' sizes'
 
--- the total passes the greatest number, or the padding of a cell of a table wider than n
+-- the total overflows `usize`, or the side padding of a cell does in a table wider than n
 abbrev pub WiderOutOfRange : ℕ → List (List (List ℕ)) → SpannedConfig → CompleteDimension → Type 0
 WiderOutOfRange n cells config sizes =
     (2 ^ 64 ≤ total_width (effective cells config sizes)) ⊎ ((n < total_width (effective cells config sizes)) × IsTooWide (emptied cells) config)
 
--- a sum passes the greatest number: the measure's, a cell's that isn't stored, or one that narrowing to n needs
+-- a sum overflows `usize`: in the measurement, in the estimate of a missing size, or in narrowing
+-- to n
 abbrev pub NarrowingOutOfRange : Type 0 → ℕ → List (List (List ℕ)) → SpannedConfig → CompleteDimension → Type 0
 NarrowingOutOfRange measure_out_of_range n cells config sizes =
     (is_empty cells ≡ false) × (measure_out_of_range ⊎ (HasNoEstimate sizes cells config ⊎ WiderOutOfRange n cells config sizes))

@@ -1,9 +1,9 @@
--- Margins and paddings of spaces, and of other characters.
+-- The sizes and characters of margins and paddings.
 use Rattle.std.specs.Prelude.{ℕ}
 use Rattle.tabled_config.specs.declared.sides.Indent.{Indent}
 use Rattle.tabled_config.specs.declared.sides.Sides.{Sides}
 
--- so many columns and lines of spaces, one number for each side
+-- spaces on each side, in columns and lines
 abbrev pub spaced : ℕ → ℕ → ℕ → ℕ → Sides Indent
 spaced left right top bottom =
     record {

@@ -1,25 +1,26 @@
--- Texts whose lines are filled up, and texts that get more lines or fewer. Texts are lists of bytes.
+-- Texts whose lines are filled up, and texts that get more or fewer lines. Texts are lists of
+-- bytes.
 use Rattle.std.specs.Prelude.{◌≡◌, ℕ, ◌-◌, List, ◌++◌, encode_utf8_all, length, map, replicate, take}
 use Rattle.std.specs.List.{join_with_byte}
 use Rattle.tabled_text.specs.Measure.{line_columns, lines_of}
 
--- behind a line as many of a character as the line has columns less than the content size
+-- a line with a copy of a character for each column that it has less than the content size
 abbrev pub filled_line : ℕ → ℕ → List ℕ → List ℕ
 filled_line c content_size line = line ++ encode_utf8_all (replicate (content_size - line_columns line) c)
 
--- so behind each line of a text
+-- a text with each of its lines filled up
 abbrev pub filled : ℕ → ℕ → List ℕ → List ℕ
 filled c content_size text = join_with_byte 10 (map (filled_line c content_size) (lines_of text))
 
--- behind the text as many line feeds as it has lines less than the content size
+-- a text with a line feed for each line that it has less than the content size
 abbrev pub lengthened : ℕ → List ℕ → List ℕ
 lengthened content_size text = text ++ replicate (content_size - length (lines_of text)) 10
 
--- as many lines as the content size has, the first ones, or all; no line is the empty text
+-- the first lines of a text, as many as the content size says, or all; empty for 0 lines
 abbrev pub limited : ℕ → List ℕ → List ℕ
 limited content_size text = join_with_byte 10 (take content_size (lines_of text))
 
--- ---- what is made of a text in a content size
+-- ---- the same, as relations of a content size and two texts
 
 abbrev pub filling : ℕ → ℕ → List ℕ → List ℕ → Type 0
 filling c content_size before after = after ≡ filled c content_size before

@@ -1,29 +1,29 @@
-//! The cells that a transform is for.
+//! Which cells a transform is for.
 ghost use Rattle.std.specs.Prelude.{◌≡◌};
 ghost use Rattle.tabled_base.specs.Cells.{IsInside, cell_at};
 ghost use Rattle.tabled_set.specs.CellChanges.{is_taken};
 
 use tabled_base::{PeekableRecords, Position};
 
-/// Which cells are changed, by what their texts take beside their content sizes.
+/// Which cells are changed, by the size of their text and their content size.
 #[derive(Clone, Copy, Debug)]
 pub enum CellFilter {
     /// All cells.
     Every,
-    /// Cells of more columns than the content size has.
+    /// Cells with more columns than the content size.
     Wider,
-    /// Cells of fewer columns.
+    /// Cells with fewer columns than the content size.
     Narrower,
-    /// Cells of more or fewer columns.
+    /// Cells with more or fewer columns than the content size.
     NotAsWide,
-    /// Cells of more lines.
+    /// Cells with more lines than the content size.
     Higher,
-    /// Cells of fewer lines.
+    /// Cells with fewer lines than the content size.
     Lower,
 }
 
 impl CellFilter {
-    /// Whether a cell is one of these.
+    /// Whether a cell passes the filter.
     pub(crate) fn takes<R: PeekableRecords>(
         self,
         records: &R,

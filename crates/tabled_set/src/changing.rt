@@ -1,4 +1,4 @@
-//! Texts of cells that are changed in place.
+//! Changes the text of one cell, in place if possible.
 ghost use Rattle.std.specs.Prelude.{◌≡◌, ℕ, true, IfErr, IfNone, IfOk, IfSome, List, OnErr, OnOk, string_bytes};
 ghost use Rattle.std.specs.Str.{IsCharBoundary};
 ghost use Rattle.tabled_base.specs.Cells.{IsInside, cell_at};
@@ -15,22 +15,23 @@ use crate::content_sizes::ContentSizes;
 use std::alloc::Global;
 use tabled_base::{PeekableRecords, Position, RecordsMut, TableError};
 
-/// What is left of a text in its place: a beginning of so many bytes, and an ending behind it.
+/// What a text becomes if it is cut in place: its first `bytes` bytes, and then `ending`.
 #[derive(Clone, Copy, Debug)]
 pub struct Beginning<'a> {
     pub bytes: usize,
     pub ending: &'a str,
 }
 
-/// A transform for one text: what is made of it in a content size, a number of columns or of lines.
+/// A transform of one text, for a content size in columns or lines.
 pub trait TextTransform {
-    // Holds of the content size, a text, and what may be made of it.
+    // Relates a content size, a text, and what may be made of it.
     ghost makes: { Self → ℕ → List ℕ → List ℕ → Type 0 };
 
-    // Holds of a content size and a text of which a beginning is left in its place, for which no memory is wanted.
+    // Holds for a content size and a text that is cut in place, without an allocation.
     ghost shortens: { Self → ℕ → List ℕ → Type 0 };
 
-    /// What is left of a text in its place, if no memory is wanted for it.
+    /// Returns what the text becomes if it is cut in place, or `None` if the transform has to
+    /// allocate.
     fn beginning(&self, text: &str, content_size: usize) -> Option<Beginning<'_>>
         ensures made { IfSome result (λ kept. makes self.now content_size text.now (ended_text kept text.now)) }
         ensures boundary { IfSome result (λ kept. IsCharBoundary text.now kept.bytes) }
@@ -38,7 +39,7 @@ pub trait TextTransform {
         ensures some { IfSome result (λ _. shortens self.now content_size text.now) }
         ensures none { IfNone result (shortens self.now content_size text.now → ⊥) };
 
-    /// The other text. Refused with `Memory` alone.
+    /// Returns the transformed text. Fails only with `Memory`.
     fn changed_text(
         &self,
         alloc: Global,
@@ -49,7 +50,7 @@ pub trait TextTransform {
         ensures only { IfErr result (λ e. e ≡ Memory) };
 }
 
-/// What is changed of cells: the transform for their texts, which of them it is for, and their content sizes.
+/// A change of cells: the transform, which cells it is for, and their content sizes.
 #[derive(Drop)]
 pub struct Change<'a, T, M> {
     pub transform: &'a T,
@@ -58,7 +59,7 @@ pub struct Change<'a, T, M> {
 }
 
 impl<'a, T: TextTransform, M: ContentSizes> Change<'a, T, M> {
-    /// Whether a cell stays, or a beginning of its text is left in its place.
+    /// Whether a cell doesn't change, or is cut in place.
     pub(crate) fn is_cut_in_place<R: PeekableRecords>(&self, records: &R, at: Position) -> bool
         requires { IsInside (R.cells records.now) at.row at.column }
         ensures { result ≡ true → IsCutInPlace self.now.cell_filter (T.shortens self.now.transform.now) (M.content_size_at self.now.content_sizes.now)
@@ -74,9 +75,9 @@ impl<'a, T: TextTransform, M: ContentSizes> Change<'a, T, M> {
         }
     }
 
-    /// Changes a cell that has a content size, if its text is one that is changed. The others stay, and all
-    /// do on an error. Fails with `Memory` alone, and only where the text is changed, and more than
-    /// a beginning of it is left.
+    /// Changes a cell if it has a content size and passes the filter. No other cell changes, and on
+    /// an error none does. Fails only with `Memory`, and only if the cell changes and can't be cut
+    /// in place.
     pub(crate) fn change_cell<R: RecordsMut>(
         &self,
         records: &mut R,
@@ -102,7 +103,7 @@ impl<'a, T: TextTransform, M: ContentSizes> Change<'a, T, M> {
     }
 }
 
-/// Gives a cell the text that is made of its own.
+/// Transforms the text of a cell, in place if possible.
 fn set_changed<T: TextTransform, R: RecordsMut>(
     transform: &T,
     records: &mut R,

@@ -1,4 +1,4 @@
-//! Columns whose cells are changed for the content sizes that their widths leave.
+//! Changes the cells of columns to fit the columns' widths.
 ghost use Rattle.std.specs.Prelude.{◌≡◌, None, Some, if◌then◌else◌, ◌-◌, IfErr, OnErr, OnOk, true};
 ghost use Rattle.tabled_base.specs.declared.error.TableError.TheVariants.{Memory};
 ghost use Rattle.tabled_set.specs.CellChanges.{AreChanged, AreChangedBefore, if_taken};
@@ -15,7 +15,7 @@ use crate::walk_order::WalkOrder;
 use tabled_base::{Entity, Position, RecordsMut, TableError};
 use tabled_config::SpannedConfig;
 
-/// The columns that a width leaves beside the side padding of a cell, 0 where it leaves none.
+/// Returns what the side padding of a cell leaves of a width, at least 0.
 fn content_width_beside(config: &SpannedConfig, at: Position, width: usize) -> usize
     ensures { result ≡ width - side_padding config.now at.row at.column }
 {
@@ -25,7 +25,7 @@ fn content_width_beside(config: &SpannedConfig, at: Position, width: usize) -> u
         .saturating_sub(padding.right.size)
 }
 
-/// The widths of the columns of a table, from the left, and the minimum of each.
+/// The widths of a table's columns, from the left, and their minimums.
 #[derive(Drop)]
 pub(crate) struct ColumnWidths {
     pub(crate) widths: Vec<usize>,
@@ -33,7 +33,7 @@ pub(crate) struct ColumnWidths {
 }
 
 impl ColumnWidths {
-    /// The width of a column, if it has one that is not below its minimum.
+    /// Returns the width of a column, or `None` if it has none or is below its minimum.
     fn permitted_width(&self, column: usize) -> Option<usize>
         ensures { result ≡ (if is_permitted self.now.widths.items self.now.mins.items column
             then Some (at self.now.widths.items column) else None) }
@@ -44,8 +44,8 @@ impl ColumnWidths {
     }
 }
 
-/// The content size that a column leaves each of its cells beside the cell's own padding. The cells of a column below its
-/// minimum have none.
+/// The content width of each cell: its column's width less its own padding. Cells of a column below
+/// its minimum have none.
 #[derive(Drop)]
 struct ColumnContentWidths<'a> {
     config: &'a SpannedConfig,
@@ -64,8 +64,8 @@ impl<'a> ContentSizes for ColumnContentWidths<'a> {
     }
 }
 
-/// Changes the cells of each column that has one of the widths, not below its minimum, column by column
-/// from the top.
+/// Changes the cells of each column that has a width, unless that is below its minimum, column by
+/// column from the top. Fails only with `Memory`.
 pub(crate) fn change_columns<T: TextTransform, R: RecordsMut>(
     transform: &T,
     cell_filter: CellFilter,

@@ -1,4 +1,4 @@
-//! The greatest and the least of what the texts of a table measure.
+//! Finds the maximum or minimum size of a table's cells.
 ghost use Rattle.std.specs.Prelude.{◌≡◌, ◌+◌, ◌<◌, ℕ, length, map};
 ghost use Rattle.std.specs.List.{range_with_len};
 ghost use Rattle.tabled_base.specs.Cells.{IsInside, cell_at};
@@ -6,7 +6,7 @@ ghost use Rattle.tabled_set.specs.Extremes.{extent_of, picked, picked_in_row, pi
 
 use tabled_base::{PeekableRecords, Position};
 
-/// What a text takes: columns, or lines.
+/// What is measured of a text: its columns or its lines.
 #[derive(Clone, Copy)]
 pub(crate) enum TextMeasure {
     Columns,
@@ -14,7 +14,6 @@ pub(crate) enum TextMeasure {
 }
 
 impl TextMeasure {
-    /// What a cell takes.
     fn of_cell<R: PeekableRecords>(self, records: &R, at: Position) -> usize
         requires { IsInside (R.cells records.now) at.row at.column }
         ensures { result ≡ extent_of self (cell_at (R.cells records.now) at.row at.column) }
@@ -26,7 +25,7 @@ impl TextMeasure {
     }
 }
 
-/// Which of some numbers is picked.
+/// Whether the maximum or the minimum is picked.
 #[derive(Clone, Copy)]
 pub(crate) enum Pick {
     Greatest,
@@ -34,7 +33,8 @@ pub(crate) enum Pick {
 }
 
 impl Pick {
-    /// The pick of the first n numbers of a sequence and the next one, by that of the first n.
+    /// Returns the pick of the first n + 1 numbers of a sequence: `best` is the pick of the first
+    /// n, `next` the number after them.
     fn with(self, n: usize, best: usize, next: usize) -> usize
         ensures { (f : ℕ → ℕ) → best ≡ picked self (map f (range_with_len 0 n)) → next ≡ f n
             → result ≡ picked self (map f (range_with_len 0 (n + 1))) }
@@ -46,7 +46,7 @@ impl Pick {
     }
 }
 
-/// The greatest or the least that the cells of a row take, 0 where it has none.
+/// Returns the maximum or minimum size of a row's cells, 0 if it has none.
 fn picked_in_row<R: PeekableRecords>(
     within: Pick,
     extent: TextMeasure,
@@ -67,7 +67,7 @@ fn picked_in_row<R: PeekableRecords>(
     best
 }
 
-/// The greatest or the least over the rows, of each row's greatest or least cell; 0 where there is no row.
+/// Returns the maximum or minimum over the rows of what `picked_in_row` finds, 0 without rows.
 pub(crate) fn picked_of_rows<R: PeekableRecords>(
     across: Pick,
     within: Pick,

@@ -1,4 +1,4 @@
-//! The transform by which the lines of a text are filled up.
+//! The transform that fills up the lines of a text.
 ghost use Rattle.std.specs.Prelude.{◌≡◌};
 ghost use Rattle.tabled_set.specs.TextLines.{filling};
 
@@ -7,10 +7,10 @@ use std::alloc::Global;
 use tabled_base::TableError;
 use tabled_text::{line_width, lines, push_copies};
 
-/// Puts a character behind each line of a text, as often as the line has columns less than the content size.
+/// Fills up each line of a text to the content size, in columns.
 #[derive(Clone, Copy, Debug, PartialEq, Eq, PartialOrd, Ord)]
 pub struct Filling {
-    /// The character, which is taken for one column.
+    /// The character to append. It counts as one column, whatever its width.
     pub fill: char,
 }
 

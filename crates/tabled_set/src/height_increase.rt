@@ -1,4 +1,4 @@
-//! Increasing whole tables to some lines.
+//! The table options `CellHeightIncrease` and `TableHeightIncrease`.
 ghost use Rattle.std.specs.Prelude.{◌≡◌, ◌⊎◌, IfErr, None, OnErr, OnOk, false};
 ghost use Rattle.tabled_base.specs.declared.error.TableError.TheVariants.{Memory, Range};
 ghost use Rattle.tabled_set.specs.Increased.{HeightOutOfRange, IncreasesHeight};
@@ -17,9 +17,9 @@ use tabled_base::{Entity, PeekableRecords, TableError, TableOption};
 use tabled_config::ColoredConfig;
 use tabled_size::{CompleteDimension, Peaker, PriorityNone, is_empty};
 
-/// Makes a table as many lines high as are measured, at least. Fails with `Memory`, or with `Range`
-/// where the measure does, or a height or the total passes the greatest `usize`; the stored sizes
-/// then stay as they were.
+/// Makes a table at least as high as measured, in lines. Fails with `Memory`, or with `Range` if
+/// the measurement does, or a height or the total overflows `usize`. The stored sizes are then
+/// unchanged.
 fn increase_measured<W: Measurement<Height> + Drop, P: Peaker + Drop, R: PeekableRecords>(
     height: W,
     priority: P,
@@ -44,8 +44,8 @@ fn increase_measured<W: Measurement<Height> + Drop, P: Peaker + Drop, R: Peekabl
     increase_height(priority, records, config, dims, n)
 }
 
-/// The estimated heights of a table of fewer lines grow, one row after the other, by what is wanting and are stored,
-/// whatever was stored. Nothing else changes.
+/// Grows the rows of a table that has fewer lines than measured, in turn, by the difference. Starts
+/// from the estimated heights, whatever is stored, and stores the result. Nothing else changes.
 impl<W: Measurement<Height> + Drop, R: PeekableRecords> TableOption<
     R,
     ColoredConfig,
@@ -54,14 +54,14 @@ impl<W: Measurement<Height> + Drop, R: PeekableRecords> TableOption<
     ghost changes = { λ s r c d r' c' d'. IncreasesHeight grows_in_turn first_in_turn
         (W.measures s.height (R.cells r) c.config) (R.cells r) c.config d d' × ((r' ≡ r) × (c' ≡ c)) };
 
-    // Only a table with a row and a column fails, and all stays.
+    // Only a table with cells fails. Nothing has changed then.
     ghost refuses = { λ s e r c d r' c' d'. (is_empty (R.cells r) ≡ false)
         × ((r' ≡ r) × ((c' ≡ c) × (d' ≡ d))) };
 
     ghost out_of_range = { λ s r c d.
         HeightOutOfRange (W.out_of_range s.height (R.cells r) c.config) (R.cells r) c.config };
 
-    // Of the sizes that are left once what is hinted was forgotten.
+    // About the sizes that are left after those of the hint are cleared.
     ghost promises = { λ s r c d r' c' d'. (left : CompleteDimension) → AreCleared None d' left
         → HeightensAsPromised grows_in_turn first_in_turn (W.measures s.height (R.cells r) c.config)
         (R.cells r) c.config (effective (R.cells r') c'.config left) };
@@ -82,8 +82,9 @@ impl<W: Measurement<Height> + Drop, R: PeekableRecords> TableOption<
     }
 }
 
-/// The estimated heights of a table of fewer lines grow by what is wanting and are stored, whatever was stored. Nothing
-/// else changes.
+/// Grows the rows of a table that has fewer lines than measured, in the order of its priority, by
+/// the difference. Starts from the estimated heights, whatever is stored, and stores the result.
+/// Nothing else changes.
 impl<W: Measurement<Height> + Drop, P: Peaker + Drop, R: PeekableRecords> TableOption<
     R,
     ColoredConfig,
@@ -92,14 +93,14 @@ impl<W: Measurement<Height> + Drop, P: Peaker + Drop, R: PeekableRecords> TableO
     ghost changes = { λ s r c d r' c' d'. IncreasesHeight P.grows s.priority
         (W.measures s.height (R.cells r) c.config) (R.cells r) c.config d d' × ((r' ≡ r) × (c' ≡ c)) };
 
-    // Only a table with a row and a column fails, and all stays.
+    // Only a table with cells fails. Nothing has changed then.
     ghost refuses = { λ s e r c d r' c' d'. (is_empty (R.cells r) ≡ false)
         × ((r' ≡ r) × ((c' ≡ c) × (d' ≡ d))) };
 
     ghost out_of_range = { λ s r c d.
         HeightOutOfRange (W.out_of_range s.height (R.cells r) c.config) (R.cells r) c.config };
 
-    // Of the sizes that are left once what is hinted was forgotten.
+    // About the sizes that are left after those of the hint are cleared.
     ghost promises = { λ s r c d r' c' d'. (left : CompleteDimension) → AreCleared None d' left
         → HeightensAsPromised P.grows s.priority (W.measures s.height (R.cells r) c.config)
         (R.cells r) c.config (effective (R.cells r') c'.config left) };

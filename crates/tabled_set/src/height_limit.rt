@@ -1,4 +1,4 @@
-//! Limiting whole tables to some lines.
+//! The table options `CellHeightLimit` and `TableHeightLimit`.
 ghost use Rattle.std.specs.Prelude.{◌≡◌, ◌⊎◌, IfErr, None, OnErr, OnOk, false};
 ghost use Rattle.tabled_base.specs.declared.error.TableError.TheVariants.{Memory, Range};
 ghost use Rattle.tabled_set.specs.Increased.{HeightOutOfRange};
@@ -18,9 +18,9 @@ use tabled_base::{Entity, RecordsMut, TableError, TableOption};
 use tabled_config::ColoredConfig;
 use tabled_size::{CompleteDimension, Peaker, PriorityNone, is_empty};
 
-/// Makes a table as many lines high as are measured, at most. Fails with `Memory`, or with `Range`
-/// where the measure does, or a height or the total passes the greatest `usize`; the stored sizes
-/// then stay as they were.
+/// Limits a table to the measured number of lines. Fails with `Memory`, or with `Range` if the
+/// measurement does, or a height or the total overflows `usize`. The stored sizes are then
+/// unchanged.
 fn limit_measured<W: Measurement<Height> + Drop, P: Peaker + Drop, R: RecordsMut>(
     height: W,
     priority: P,
@@ -48,15 +48,16 @@ fn limit_measured<W: Measurement<Height> + Drop, P: Peaker + Drop, R: RecordsMut
     limit_height(priority, records, config, dims, n)
 }
 
-/// The estimated heights of a table of more lines shrink, one row after the other, by what is too much, with no
-/// minimums, and are stored, whatever was stored. Each cell keeps its first lines, as many as its row's height, whatever
-/// its padding is. The widths stay.
+/// Shrinks the rows of a table that has more lines than measured, in turn, by the excess, without
+/// minimums. Starts from the estimated heights, whatever is stored, and stores the result. Each
+/// cell keeps as many of its first lines as its row is high, whatever its padding. The widths don't
+/// change.
 impl<W: Measurement<Height> + Drop, R: RecordsMut> TableOption<R, ColoredConfig, CompleteDimension>
     for CellHeight<Limiting, W> {
     ghost changes = { λ s r c d r' c' d'. LimitsHeight shrinks_in_turn first_in_turn
         (W.measures s.height (R.cells r) c.config) (R.cells r) c.config d (R.cells r') d' × (c' ≡ c) };
 
-    // Only a table with a row and a column fails, and the sizes stay.
+    // Only a table with cells fails. Its sizes are then unchanged.
     ghost refuses = { λ s e r c d r' c' d'. (is_empty (R.cells r) ≡ false)
         × StopsLimiting shrinks_in_turn first_in_turn
         (W.measures s.height (R.cells r) c.config) e (R.cells r) c.config (R.cells r')
@@ -65,7 +66,7 @@ impl<W: Measurement<Height> + Drop, R: RecordsMut> TableOption<R, ColoredConfig,
     ghost out_of_range = { λ s r c d.
         HeightOutOfRange (W.out_of_range s.height (R.cells r) c.config) (R.cells r) c.config };
 
-    // Of the sizes that are left once what is hinted was forgotten.
+    // About the sizes that are left after those of the hint are cleared.
     ghost promises = { λ s r c d r' c' d'. (left : CompleteDimension) → AreCleared None d' left
         → LimitsAsPromised shrinks_in_turn first_in_turn (W.measures s.height (R.cells r) c.config)
         (R.cells r) c.config (effective (R.cells r') c'.config left) };
@@ -86,8 +87,10 @@ impl<W: Measurement<Height> + Drop, R: RecordsMut> TableOption<R, ColoredConfig,
     }
 }
 
-/// The estimated heights of a table of more lines shrink by what is too much, with no minimums, and are stored, whatever
-/// was stored. Each cell keeps its first lines, as many as its row's height, whatever its padding is. The widths stay.
+/// Shrinks the rows of a table that has more lines than measured, in the order of its priority, by
+/// the excess, without minimums. Starts from the estimated heights, whatever is stored, and stores
+/// the result. Each cell keeps as many of its first lines as its row is high, whatever its padding.
+/// The widths don't change.
 impl<W: Measurement<Height> + Drop, P: Peaker + Drop, R: RecordsMut> TableOption<
     R,
     ColoredConfig,
@@ -96,7 +99,7 @@ impl<W: Measurement<Height> + Drop, P: Peaker + Drop, R: RecordsMut> TableOption
     ghost changes = { λ s r c d r' c' d'. LimitsHeight P.shrinks s.priority
         (W.measures s.height (R.cells r) c.config) (R.cells r) c.config d (R.cells r') d' × (c' ≡ c) };
 
-    // Only a table with a row and a column fails, and the sizes stay.
+    // Only a table with cells fails. Its sizes are then unchanged.
     ghost refuses = { λ s e r c d r' c' d'. (is_empty (R.cells r) ≡ false)
         × StopsLimiting P.shrinks s.priority
         (W.measures s.height (R.cells r) c.config) e (R.cells r) c.config (R.cells r')
@@ -105,7 +108,7 @@ impl<W: Measurement<Height> + Drop, P: Peaker + Drop, R: RecordsMut> TableOption
     ghost out_of_range = { λ s r c d.
         HeightOutOfRange (W.out_of_range s.height (R.cells r) c.config) (R.cells r) c.config };
 
-    // Of the sizes that are left once what is hinted was forgotten.
+    // About the sizes that are left after those of the hint are cleared.
     ghost promises = { λ s r c d r' c' d'. (left : CompleteDimension) → AreCleared None d' left
         → LimitsAsPromised P.shrinks s.priority (W.measures s.height (R.cells r) c.config)
         (R.cells r) c.config (effective (R.cells r') c'.config left) };

@@ -1,4 +1,5 @@
-//! Options of heights: a transform for the lines of texts, a measure of lines, and the order in which rows change.
+//! The options of minimum and maximum heights, of cells (`CellHeight`) and of a table
+//! (`TableHeight`).
 ghost use Rattle.std.specs.Prelude.{◌≡◌};
 ghost use Rattle.tabled_set.specs.CellChanges.{ChangesEntity, StopsEntity, if_taken};
 
@@ -9,14 +10,16 @@ use tabled_base::{CellOption, Entity, RecordsMut, TableError};
 use tabled_config::ColoredConfig;
 use tabled_size::{Peaker, PriorityNone};
 
-/// A transform by which cells get the lines of a measure. As an option of a table it changes the rows, one after the other.
+/// Changes cells that have too few or too many lines. As a table option it changes the table's
+/// total height, and its rows in turn.
 #[derive(Clone, Copy, Debug, PartialEq, Eq, PartialOrd, Ord)]
 pub struct CellHeight<T, W = usize> {
     transform: T,
     pub(crate) height: W,
 }
 
-/// A transform by which a table gets the lines of a measure, and the order in which its rows change.
+/// Changes the height of a table that has too few or too many lines. `priority` is the order in
+/// which its rows change.
 #[derive(Clone, Debug, Drop)]
 pub struct TableHeight<T, W = usize, P = PriorityNone> {
     transform: T,
@@ -24,21 +27,23 @@ pub struct TableHeight<T, W = usize, P = PriorityNone> {
     pub(crate) priority: P,
 }
 
-/// Increases what has fewer lines than a measure to it: cells get empty lines at their ends, and the rows of a table
-/// grow.
+/// Appends empty lines to cells that have fewer than `height` lines. As a table option it grows the
+/// rows of a table to a total of `height` lines.
 pub type CellHeightIncrease<W = usize> = CellHeight<Lengthening, W>;
 
-/// Limits what has more lines than a measure to it: cells keep their first lines, and the rows of a table shrink.
+/// Limits cells to their first `height` lines. As a table option it shrinks the rows of a table to
+/// a total of `height` lines.
 pub type CellHeightLimit<W = usize> = CellHeight<Limiting, W>;
 
-/// Increases a table of fewer lines than a measure to it: its rows grow.
+/// Grows the rows of a table that has fewer than `height` lines to that total.
 pub type TableHeightIncrease<W = usize, P = PriorityNone> = TableHeight<Lengthening, W, P>;
 
-/// Limits a table of more lines than a measure to it: its rows shrink, and their texts keep their first lines.
+/// Shrinks the rows of a table that has more than `height` lines to that total. Cells keep their
+/// first lines.
 pub type TableHeightLimit<W = usize, P = PriorityNone> = TableHeight<Limiting, W, P>;
 
 impl<T: LineRule, W> CellHeight<T, W> {
-    /// Increases or limits to a measure.
+    /// Creates an option that increases or limits to `height` lines.
     pub fn new(height: W) -> CellHeight<T, W>
     where
         W: Measurement<Height>,
@@ -50,7 +55,8 @@ impl<T: LineRule, W> CellHeight<T, W> {
         }
     }
 
-    /// The table option of this measure, with the order in which the rows grow or shrink.
+    /// Makes this an option of the table's total height, whose rows change in the order of
+    /// `priority`.
     pub fn priority<P: Peaker>(self, priority: P) -> TableHeight<T, W, P>
     where
         W: Measurement<Height>,
@@ -65,7 +71,7 @@ impl<T: LineRule, W> CellHeight<T, W> {
 }
 
 impl<T: LineRule, W> TableHeight<T, W> {
-    /// Increases or limits to a measure. The rows grow or shrink one after the other.
+    /// Creates an option that increases or limits to `height` lines. The rows change in turn.
     pub fn new(height: W) -> TableHeight<T, W>
     where
         W: Measurement<Height>,
@@ -77,7 +83,7 @@ impl<T: LineRule, W> TableHeight<T, W> {
 }
 
 impl<T, W, P: Drop> TableHeight<T, W, P> {
-    /// The order in which the rows grow or shrink.
+    /// Sets the order in which the rows grow or shrink.
     pub fn priority<Q: Peaker>(self, priority: Q) -> TableHeight<T, W, Q>
         ensures { result ≡ record { transform = self.transform; height = self.height; priority = priority } }
     {
@@ -89,9 +95,9 @@ impl<T, W, P: Drop> TableHeight<T, W, P> {
     }
 }
 
-/// The entity's cells of fewer lines than the measure, or of more, are changed by the transform, and no other cell changes.
-/// Where the measure is refused, with `Range`, no cell has changed; where memory is, those before the refused one have,
-/// row by row.
+/// Changes the entity's cells that have fewer lines than measured, or more. No other cell changes.
+/// Fails with `Range` if the measurement does, before any change, or with `Memory` at a cell. The
+/// cells before that, row by row, have changed.
 impl<T: LineRule, W: Measurement<Height>, R: RecordsMut> CellOption<R, ColoredConfig>
     for CellHeight<T, W> {
     ghost changes = { λ s r c e r' c'. ChangesEntity (if_taken T.WHICH (T.makes s.transform))

@@ -1,4 +1,4 @@
-//! Tables whose columns or rows grow to a total.
+//! Grows the columns or rows of a table to a total.
 ghost use Rattle.std.specs.Prelude.{◌≡◌, ◌⊎◌, ◌≤◌, ◌^◌, IfErr, IfOk, OnErr, OnOk, false};
 ghost use Rattle.tabled_base.specs.declared.error.TableError.TheVariants.{Memory, Range};
 ghost use Rattle.tabled_set.specs.Increased.{IncreasesHeight, IncreasesWidth, StopsIncreasing};
@@ -16,10 +16,11 @@ use tabled_base::{PeekableRecords, TableError};
 use tabled_config::SpannedConfig;
 use tabled_size::{CompleteDimension, Estimate, Peaker, estimate_heights};
 
-/// Makes a table that has a row and a column n columns wide at least. Sizes that aren't stored are
-/// estimated first, and stay stored on a later error. Fails with `Memory` only where sizes aren't
-/// stored or the table is narrower than n; with `Range` where an estimate or the total passes the
-/// greatest `usize`.
+/// Widens a table with cells to a total of at least n columns. Missing sizes are estimated first,
+/// and are stored even if an error follows.
+///
+/// Fails with `Memory` only if sizes are missing or the table is narrower than n. Fails with
+/// `Range` if an estimate or the total overflows `usize`.
 pub fn increase_width<P: Peaker + Drop, R: PeekableRecords>(
     priority: P,
     records: &R,
@@ -50,8 +51,8 @@ pub fn increase_width<P: Peaker + Drop, R: PeekableRecords>(
     Ok(())
 }
 
-/// The estimated heights of a table that has a row and a column, and its lines in all. Refused for memory, or with
-/// `Range` where a height or the total passes the greatest `usize`.
+/// Returns the estimated heights of a table with cells, and its total height. Fails with `Memory`,
+/// or with `Range` if a height or the total overflows `usize`.
 pub(crate) fn estimated_rows<R: PeekableRecords>(
     alloc: Global,
     records: &R,
@@ -71,9 +72,9 @@ pub(crate) fn estimated_rows<R: PeekableRecords>(
     }
 }
 
-/// Makes a table that has a row and a column n lines high at least, by its estimated heights. Fails
-/// with `Memory`, or with `Range` where a height or the total passes the greatest `usize`; the
-/// stored sizes then stay as they were.
+/// Grows a table with cells to a total of at least n lines, from its estimated heights. Fails with
+/// `Memory`, or with `Range` if a height or the total overflows `usize`. The stored sizes are then
+/// unchanged.
 pub fn increase_height<P: Peaker + Drop, R: PeekableRecords>(
     priority: P,
     records: &R,

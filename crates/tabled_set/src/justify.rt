@@ -1,4 +1,4 @@
-//! Cells of the same columns.
+//! The option `Justify`, which makes all cells equally wide.
 ghost use Rattle.std.specs.Prelude.{◌≡◌};
 ghost use Rattle.tabled_base.specs.declared.position.Entity.TheVariants.{Global};
 ghost use Rattle.tabled_set.specs.CellChanges.{ChangesEntity, StopsEntity, never_in_place};
@@ -13,15 +13,15 @@ use crate::measurement::{Measurement, Width};
 use tabled_base::{Entity, RecordsMut, TableError, TableOption};
 use tabled_config::ColoredConfig;
 
-/// Gives all cells of a table the columns of a measure: the lines of a narrower text are filled up with spaces, and a
-/// wider one is cut.
+/// Gives all cells of a table the same width: fills up the lines of narrower cells with spaces, and
+/// cuts wider ones.
 #[derive(Clone, Copy, Debug, PartialEq, Eq, PartialOrd, Ord)]
 pub struct Justify<W> {
     width: W,
 }
 
 impl<W> Justify<W> {
-    /// Justifies to a measure.
+    /// Creates an option that justifies to `width` columns.
     pub fn new(width: W) -> Justify<W>
     where
         W: Measurement<Width>,
@@ -32,21 +32,21 @@ impl<W> Justify<W> {
 }
 
 impl Justify<Max> {
-    /// Justifies to the columns of the widest cell.
+    /// Creates an option that justifies to the width of the widest cell.
     pub fn max() -> Justify<Max> {
         Justify { width: Max }
     }
 }
 
 impl Justify<Min> {
-    /// Justifies to the greatest, over the rows, of a row's narrowest cell.
+    /// Creates an option that justifies to the maximum over the rows of each row's narrowest cell.
     pub fn min() -> Justify<Min> {
         Justify { width: Min }
     }
 }
 
-/// The measure is read once. Where it is refused, with `Range`, no cell has changed; where memory is, those before the
-/// refused one have, row by row.
+/// Measures the width once. Fails with `Range` if the measurement does, before any change, or with
+/// `Memory` at a cell. The cells before that, row by row, have changed.
 impl<W: Measurement<Width> + Drop, R: RecordsMut, D> TableOption<R, ColoredConfig, D>
     for Justify<W> {
     ghost changes = { λ s r c d r' c' d'. ChangesEntity IsJustified (W.measures s.width (R.cells r) c.config) Global

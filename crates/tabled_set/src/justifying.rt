@@ -1,4 +1,4 @@
-//! The transform by which a text gets just the columns of its content size.
+//! The transform that fills up a narrow text and cuts a wide one.
 ghost use Rattle.std.specs.Prelude.{◌≡◌};
 ghost use Rattle.tabled_set.specs.Justified.{IsJustified};
 
@@ -10,7 +10,7 @@ use std::alloc::Global;
 use tabled_base::TableError;
 use tabled_text::text_width;
 
-/// Fills a text of fewer columns up with spaces, and then cuts what is wider.
+/// Fills up the lines of a text that is too narrow with spaces, and then cuts what is too wide.
 #[derive(Clone, Copy, Debug)]
 pub struct Justifying;
 

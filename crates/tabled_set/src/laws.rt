@@ -1,4 +1,4 @@
-//! Laws of truncated texts, each the contract of a function.
+//! Facts about truncated texts, stated as contracts.
 ghost use Rattle.std.specs.Prelude.{ℕ, Bool, true, false, List, []};
 ghost use Rattle.tabled_text.specs.Exact.{IsExactLine};
 ghost use Rattle.tabled_text.specs.Fitting.{FitsIn};
@@ -11,9 +11,12 @@ ghost use Rattle.tabled_text.specs.Longest.{IsLongestCut};
 ghost use Rattle.tabled_text.specs.Plain.{IsAdditive};
 ghost use Rattle.tabled_text.specs.Room.{StaysWithin};
 
-/// A truncated text fits in its content size, whatever its characters are, if the suffix and the character in its place are
-/// additive, as plain ones are; an additive one stays additive. Without a suffix it is the cut text, and of a line whose characters count as its columns the longest beginning that
-/// finds room, as each such line is where lines are truncated by themselves.
+/// States what holds for a truncated text:
+/// - It fits in its content width, whatever its characters are, if the suffix and a character that
+///   replaces it are additive, as plain ones are. A text that was additive stays so.
+/// - Without a suffix it is the cut text. For a line whose width is the sum of its characters'
+///   widths, each at least 1, that is the longest beginning that fits.
+/// - With `multiline` and without a suffix, that holds for each such line of the text.
 pub fn truncated_texts()
     ensures fits { (content_size : ℕ) (suffix : List ℕ) (limit : SuffixLimit) (multiline : Bool) (text answer : List ℕ)
         → IsAdditive suffix → IsAdditiveLimit limit

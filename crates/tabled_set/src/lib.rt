@@ -1,37 +1,40 @@
-//! The options of a table: its widths and heights, measurements, margins and paddings, and the one walk that changes
-//! the cells for which an option is.
+//! Options that change the widths and heights of a table, its margin and its padding, and the
+//! measurements that they read.
 //!
-//! What options read and keep:
-//! - `measurement`: the trait `Measurement`, and `Width` and `Height`, which make options
-//! - `max_min`: the measures `Max` and `Min`; `extremes` finds the greatest or least cell for them
-//! - `percent`: the measure `Percent`
-//! - `margin`, `padding`: the options `Margin` and `Padding`; `sides` makes their indents
+//! Measurements:
+//! - `measurement`: the trait `Measurement`, and the directions `Width` and `Height`, which create
+//!   options
+//! - `max_min`: `Max` and `Min`; `extremes` finds the maximum or minimum for them
+//! - `percent`: `Percent`
 //!
-//! One text:
-//! - `changing`: the trait `TextTransform`, and a change of one cell by a transform
-//! - `wrapping`, `truncating`, `filling`, `justifying`, `line_counts`: the rules
-//! - `suffix`: `SuffixLimit`, and what stands for a suffix in few columns
-//! - `laws`: what is known of truncated texts
-//!
-//! Cells, one after another:
-//! - `cell_filter`: the cells that a transform is for
-//! - `content_sizes`: the content size of each cell
-//! - `walk_order`: by row or by column
-//! - `walk`: the walk that changes the cells of an entity
-//! - `measured`: the walk for one measured content size
-//!
-//! Whole tables:
-//! - `priority_lists`: lists that a priority shrinks or grows
-//! - `totals`, `minimums`: the total of a list of sizes, and widths with empty cells
-//! - `shrinking`, `columns`, `narrowing`: narrower columns, and cells that are changed for them
-//! - `increasing`: more columns or lines
-//! - `rows`, `limiting`: fewer lines, and cells that are changed for them
-//!
-//! The options:
+//! Options:
 //! - `wrap`, `truncate`, `min_width`, `justify`: `Wrap`, `Truncate`, `MinWidth` and `Justify`
-//! - `height_option`: `CellHeightIncrease`, `CellHeightLimit`, `TableHeightIncrease` and `TableHeightLimit`;
-//!   `height_increase` and `height_limit` are what these are for whole tables
+//! - `height_option`: `CellHeightIncrease`, `CellHeightLimit`, `TableHeightIncrease` and
+//!   `TableHeightLimit`, as cell options
+//! - `height_increase`, `height_limit`: the same options, for a whole table
 //! - `size_list`: `WidthList` and `HeightList`
+//! - `margin`, `padding`: `Margin` and `Padding`; `sides` makes their indents
+//!
+//! Changing one text:
+//! - `changing`: the trait `TextTransform`, and the change of one cell
+//! - `wrapping`, `truncating`, `filling`, `justifying`, `line_counts`: the transforms
+//! - `suffix`: `SuffixLimit`, and the suffix that is written for a content size
+//! - `laws`: facts about truncated texts
+//!
+//! Changing the cells of an entity:
+//! - `cell_filter`: which cells are changed
+//! - `content_sizes`: the content size of each cell
+//! - `walk_order`: row by row or column by column
+//! - `walk`: changes the cells of an entity
+//! - `measured`: changes them for one measured content size
+//!
+//! Changing whole tables:
+//! - `priority_lists`: shrinks or grows a list of sizes by a priority
+//! - `totals`: the total width or height for a list of sizes
+//! - `minimums`: the widths of columns with empty cells
+//! - `shrinking`, `columns`, `narrowing`: narrow a table, and change its cells to fit
+//! - `increasing`: grows columns or rows
+//! - `rows`, `limiting`: limit the height of a table, and its cells to fit
 #![tactic(auto)]
 
 mod cell_filter;

@@ -1,4 +1,4 @@
-//! Tables whose rows shrink to a total.
+//! Limits a table to a total height.
 ghost use Rattle.std.specs.Prelude.{◌≡◌, ◌⊎◌, ◌≤◌, ◌^◌, IfErr, OnErr, OnOk, false};
 ghost use Rattle.tabled_base.specs.declared.error.TableError.TheVariants.{Memory, Range};
 ghost use Rattle.tabled_set.specs.Limited.{LimitsHeight, StopsLimiting};
@@ -13,9 +13,9 @@ use tabled_base::{RecordsMut, TableError};
 use tabled_config::SpannedConfig;
 use tabled_size::{CompleteDimension, Peaker};
 
-/// Makes a table that has a row and a column n lines high at most, by its estimated heights. Fails
-/// with `Memory`, or with `Range` where a height or the total passes the greatest `usize`; the
-/// stored sizes then stay as they were.
+/// Limits a table with cells to a total of n lines, from its estimated heights. Fails with
+/// `Memory`, or with `Range` if a height or the total overflows `usize`. The stored sizes are then
+/// unchanged.
 pub fn limit_height<P: Peaker + Drop, R: RecordsMut>(
     priority: P,
     records: &mut R,

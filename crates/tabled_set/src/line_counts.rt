@@ -1,4 +1,4 @@
-//! The rules by which a text gets more lines, or fewer.
+//! The transforms that give a text more or fewer lines.
 ghost use Rattle.std.specs.Prelude.{◌≡◌};
 ghost use Rattle.tabled_set.specs.TextLines.{lengthening, limiting};
 ghost use Rattle.tabled_set.specs.declared.cell_filter.CellFilter.{CellFilter};
@@ -10,18 +10,18 @@ use std::alloc::Global;
 use tabled_base::TableError;
 use tabled_text::{count_lines, lines, push_copies};
 
-/// A transform that gives a text more lines, or fewer, and the cells that it is for.
+/// A transform that gives a text more or fewer lines, and the cells that it is for.
 pub trait LineRule: TextTransform {
     ghost WHICH: { CellFilter };
 
-    /// The cells whose texts have too few lines, or too many.
+    /// The cells that have too few lines, or too many.
     const WHICH: CellFilter;
 
-    /// The transform.
+    /// Returns the transform.
     fn transform() -> Self;
 }
 
-/// Puts line feeds behind a text, as many as it has lines less than the content size.
+/// Appends a line feed for each line that a text has less than the content size.
 #[derive(Clone, Copy, Debug, PartialEq, Eq, PartialOrd, Ord)]
 pub struct Lengthening;
 
@@ -60,7 +60,8 @@ impl LineRule for Lengthening {
     }
 }
 
-/// Keeps the first lines of a text, as many as the content size has, or all. No line is the empty text.
+/// Keeps as many of the first lines of a text as the content size says. The result is empty for 0
+/// lines.
 #[derive(Clone, Copy, Debug, PartialEq, Eq, PartialOrd, Ord)]
 pub struct Limiting;
 

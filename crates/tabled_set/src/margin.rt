@@ -1,4 +1,4 @@
-//! The margin around a table.
+//! The option `Margin`, the space around a table.
 ghost use Rattle.std.specs.Prelude.{◌≡◌};
 ghost use Rattle.tabled_config.specs.Options.{Becomes, colored};
 ghost use Rattle.tabled_set.specs.Sides.{filled, spaced};
@@ -7,14 +7,15 @@ use crate::sides::{filled, spaced};
 use tabled_base::{Entity, TableError, TableOption};
 use tabled_config::{ColoredConfig, CompactConfig, CompactMultilineConfig, Indent, Sides};
 
-/// Columns and lines kept free around the frame of a table. As an option it replaces the margin, and is never refused.
+/// The space around a table, outside its frame. As an option it replaces the table's margin, and
+/// never fails.
 #[derive(Clone, Debug, Drop)]
 pub struct Margin {
     indent: Sides<Indent>,
 }
 
 impl Margin {
-    /// A margin of so many columns and lines of spaces.
+    /// Creates a margin of spaces: columns at the left and right, lines at the top and bottom.
     pub fn new(left: usize, right: usize, top: usize, bottom: usize) -> Margin
         ensures { result ≡ record { indent = spaced left right top bottom } }
     {
@@ -23,7 +24,7 @@ impl Margin {
         }
     }
 
-    /// The same margin, filled with other characters.
+    /// Fills the margin with other characters, one for each side.
     pub fn fill(self, left: char, right: char, top: char, bottom: char) -> Margin
         ensures { result ≡ record { indent = filled self.indent left right top bottom } }
     {

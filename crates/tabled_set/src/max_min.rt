@@ -1,4 +1,4 @@
-//! Measures of the texts of a table: the greatest of them, and the least.
+//! The measurements `Max` and `Min`, the size of a table's largest or smallest cells.
 ghost use Rattle.tabled_set.specs.Extremes.{picked_of_rows};
 ghost use Rattle.tabled_set.specs.declared.extremes.TextMeasure.TheVariants.{Columns, Lines};
 ghost use Rattle.tabled_set.specs.declared.extremes.Pick.TheVariants.{Greatest, Least};
@@ -8,13 +8,15 @@ use crate::measurement::{Height, Measurement, Width};
 use tabled_base::{PeekableRecords, TableError};
 use tabled_config::SpannedConfig;
 
-/// As a width the columns of the widest cell, as a height the lines of the highest one; without a cell 0. Padding
-/// doesn't count. Never refused.
+/// Measures the largest cell: as a width, the columns of the widest cell; as a height, the lines of
+/// the tallest. Padding doesn't count. A table without cells measures 0. Never fails.
 #[derive(Debug, Drop)]
 pub struct Max;
 
-/// As a width the greatest, over the rows, of a row's narrowest cell; as a height the least, over the rows, of a row's
-/// highest cell; without a cell 0. Padding doesn't count. Never refused.
+/// Measures a minimum of the cells. As a width, it is the maximum over the rows of each row's
+/// narrowest cell. As a height, it is the minimum over the rows of each row's tallest cell.
+///
+/// Padding doesn't count. A table without cells measures 0. Never fails.
 #[derive(Debug, Drop)]
 pub struct Min;
 

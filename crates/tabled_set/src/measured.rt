@@ -1,4 +1,4 @@
-//! Cells of an entity that are changed for a measure of their table.
+//! Changes the cells of an entity for a measured content size.
 ghost use Rattle.std.specs.Prelude.{◌≡◌, ◌⊎◌, IfErr, OnOk};
 ghost use Rattle.tabled_base.specs.declared.error.TableError.TheVariants.{Memory, Range};
 ghost use Rattle.tabled_set.specs.CellChanges.{ChangesEntity, StopsEntity, if_taken};
@@ -11,9 +11,9 @@ use crate::walk_order::WalkOrder;
 use tabled_base::{Entity, RecordsMut, TableError};
 use tabled_config::ColoredConfig;
 
-/// Changes the cells of an entity by a transform, each for the content size that is measured once. Fails with
-/// `Range` where the measure does, before a cell has changed, and with `Memory` at a cell that
-/// can't be changed in its place: those before it have changed, row by row.
+/// Transforms the entity's cells that pass the filter, all for one content size, which is measured
+/// once. Fails with `Range` if the measurement does, before any change, or with `Memory` at a cell
+/// that can't be cut in place. The cells before that, row by row, have changed.
 pub(crate) fn change_measured<A, W: Measurement<A>, T: TextTransform, R: RecordsMut>(
     measure: &W,
     transform: &T,

@@ -1,4 +1,4 @@
-//! Numbers that are read from a table.
+//! The trait `Measurement`, the numbers that options read from a table.
 ghost use Rattle.std.specs.Prelude.{◌≡◌, ℕ, IfErr, IfOk, List, OnOk, [], false};
 ghost use Rattle.std.specs.Iterator.{IsFiniteIterable};
 ghost use Rattle.tabled_base.specs.Given.{Given};
@@ -16,26 +16,26 @@ use std::alloc::Global;
 use tabled_base::{PeekableRecords, TableError};
 use tabled_config::SpannedConfig;
 
-/// The direction across a table: what measures a `Width` answers text columns, and an option of it changes
-/// how wide cells and columns are.
+/// The horizontal direction: its measurements count terminal columns, its options change the widths
+/// of cells and columns.
 #[derive(Debug, Drop)]
 pub struct Width;
 
-/// The direction down a table: what measures a `Height` answers lines, and an option of it changes how high
-/// cells and rows are.
+/// The vertical direction: its measurements count lines, its options change the heights of cells
+/// and rows.
 #[derive(Debug, Drop)]
 pub struct Height;
 
-/// A number that an option reads from the table that it changes: text columns where `A` is `Width`, lines
-/// where it is `Height`.
+/// A number that an option reads from the table that it changes: terminal columns if `A` is
+/// `Width`, lines if it is `Height`.
 pub trait Measurement<A> {
     // The number for some cells, row by row, and a configuration.
     ghost measures: { Self → List (List (List ℕ)) → SpannedConfig → ℕ };
 
-    // Holds where a sum or product that it is made of passes the greatest `usize`: none does where nothing else is said.
+    // Holds if a sum or product in the measurement overflows `usize`. By default none does.
     ghost out_of_range: { Self → List (List (List ℕ)) → SpannedConfig → Type 0 } = { λ _ _ _. ⊥ };
 
-    /// Reads the number. It is refused with `Range`, exactly where a sum or product of it passes the greatest
+    /// Reads the number. Fails with `Range`, exactly if one of its sums or products overflows
     /// `usize`.
     fn measure<R: PeekableRecords>(
         &self,
@@ -47,7 +47,7 @@ pub trait Measurement<A> {
         ensures err { IfErr result (λ e. (e ≡ Range) × out_of_range self.now (R.cells records.now) cfg.now) };
 }
 
-/// A number measures itself, whatever the table is.
+/// Measures a fixed number, the same for every table.
 impl<A> Measurement<A> for usize {
     ghost measures = { λ n cells config. n };
 
@@ -61,7 +61,7 @@ impl<A> Measurement<A> for usize {
 }
 
 impl Width {
-    /// Wraps to a measure, as `Wrap::new` does.
+    /// Creates an option that wraps to `width` columns, as `Wrap::new` does.
     pub fn wrap<W: Measurement<Width>>(width: W) -> Wrap<W>
         ensures width { result.width ≡ width }
         ensures keep_words { result.transform.keep_words ≡ false }
@@ -70,7 +70,7 @@ impl Width {
         Wrap::new(width)
     }
 
-    /// Truncates to a measure, as `Truncate::new` does.
+    /// Creates an option that truncates to `width` columns, as `Truncate::new` does.
     pub fn truncate<W: Measurement<Width>>(width: W) -> Truncate<'static, W>
         ensures width { result.width ≡ width }
         ensures suffix { result.transform.suffix.now ≡ [] }
@@ -81,7 +81,7 @@ impl Width {
         Truncate::new(width)
     }
 
-    /// Increases to a measure, as `MinWidth::new` does.
+    /// Creates an option that widens to `width` columns, as `MinWidth::new` does.
     pub fn increase<W: Measurement<Width>>(width: W) -> MinWidth<W>
         ensures width { result.width ≡ width }
         ensures fill { result.transform.fill ≡ 32 }
@@ -90,14 +90,15 @@ impl Width {
         MinWidth::new(width)
     }
 
-    /// Gives all cells the columns of a measure, as `Justify::new` does.
+    /// Creates an option that makes all cells `width` columns wide, as `Justify::new` does.
     pub fn justify<W: Measurement<Width>>(width: W) -> Justify<W>
         ensures { result.width ≡ width }
     {
         Justify::new(width)
     }
 
-    /// Stores the widths that an iterator gives, as `WidthList::from_iter` does. Refused with `Memory` alone.
+    /// Creates an option that stores these column widths, as `WidthList::from_iter` does. Fails
+    /// only with `Memory`.
     pub fn list<I: IntoIterator<Item = usize>>(
         alloc: Global,
         widths: I,
@@ -112,21 +113,22 @@ impl Width {
 }
 
 impl Height {
-    /// Increases to a measure, as `CellHeightIncrease::new` does.
+    /// Creates an option that grows cells to `height` lines, as `CellHeightIncrease::new` does.
     pub fn increase<W: Measurement<Height>>(height: W) -> CellHeightIncrease<W>
         ensures { result.height ≡ height }
     {
         CellHeightIncrease::new(height)
     }
 
-    /// Limits to a measure, as `CellHeightLimit::new` does.
+    /// Creates an option that limits cells to `height` lines, as `CellHeightLimit::new` does.
     pub fn limit<W: Measurement<Height>>(height: W) -> CellHeightLimit<W>
         ensures { result.height ≡ height }
     {
         CellHeightLimit::new(height)
     }
 
-    /// Stores the heights that an iterator gives, as `HeightList::from_iter` does. Refused with `Memory` alone.
+    /// Creates an option that stores these row heights, as `HeightList::from_iter` does. Fails only
+    /// with `Memory`.
     pub fn list<I: IntoIterator<Item = usize>>(
         alloc: Global,
         heights: I,

@@ -1,4 +1,4 @@
-//! Increasing to some columns.
+//! The option `MinWidth`, which widens cells and tables.
 ghost use Rattle.std.specs.Prelude.{◌≡◌, None, false};
 ghost use Rattle.tabled_set.specs.CellChanges.{ChangesEntity, StopsEntity, if_taken, never_in_place};
 ghost use Rattle.tabled_set.specs.Increased.{IncreasesWidth, StopsIncreasing, WidthOutOfRange};
@@ -19,8 +19,8 @@ use tabled_base::{CellOption, Entity, PeekableRecords, RecordsMut, TableError, T
 use tabled_config::ColoredConfig;
 use tabled_size::{CompleteDimension, Peaker, PriorityNone, is_empty};
 
-/// Increases what is narrower than a measure in columns: the lines of a text are filled up, and the columns of a table
-/// grow.
+/// Widens cells that are narrower than `width`, by filling up their lines. As a table option it
+/// widens the columns of a table to a total of `width`, and changes no text.
 #[derive(Clone, Copy, Debug, PartialEq, Eq, PartialOrd, Ord)]
 pub struct MinWidth<W = usize, P = PriorityNone> {
     width: W,
@@ -29,7 +29,8 @@ pub struct MinWidth<W = usize, P = PriorityNone> {
 }
 
 impl<W> MinWidth<W> {
-    /// Increases to a measure. Texts are filled up with spaces, and the columns of a table grow one after the other.
+    /// Creates an option that widens to `width` columns. It fills up lines with spaces, and grows
+    /// the columns of a table in turn.
     pub fn new(width: W) -> MinWidth<W>
     where
         W: Measurement<Width>,
@@ -46,7 +47,7 @@ impl<W> MinWidth<W> {
 }
 
 impl<W, P> MinWidth<W, P> {
-    /// The character with which texts are filled up. It is taken for one column, whatever it takes.
+    /// Sets the character that fills up lines. It counts as one column, whatever its width.
     pub fn fill_with(self, c: char) -> MinWidth<W, P>
         ensures { result ≡ record self { transform = record { fill = c } } }
     {
@@ -58,7 +59,7 @@ impl<W, P> MinWidth<W, P> {
 }
 
 impl<W, P: Drop> MinWidth<W, P> {
-    /// The order in which the columns of a table grow.
+    /// Sets the order in which the columns of a table grow.
     pub fn priority<Q: Peaker>(self, priority: Q) -> MinWidth<W, Q>
         ensures { result ≡ record { width = self.width; transform = self.transform; priority = priority } }
     {
@@ -70,9 +71,9 @@ impl<W, P: Drop> MinWidth<W, P> {
     }
 }
 
-/// Each line of the entity's cells that are narrower than the measure is filled up to it, and no other cell changes.
-/// Where the measure is refused, with `Range`, no cell has changed; where memory is, those before the refused one have, row
-/// by row.
+/// Fills up each line of the entity's cells that are narrower than the measured width to it. No
+/// other cell changes. Fails with `Range` if the measurement does, before any change, or with
+/// `Memory` at a cell. The cells before that, row by row, have changed.
 impl<W: Measurement<Width>, P, R: RecordsMut> CellOption<R, ColoredConfig> for MinWidth<W, P> {
     ghost changes = { λ s r c e r' c'. ChangesEntity (if_taken Narrower (filling s.transform.fill))
         (W.measures s.width (R.cells r) c.config) e (R.cells r) (R.cells r') × (c' ≡ c) };
@@ -103,10 +104,11 @@ impl<W: Measurement<Width>, P, R: RecordsMut> CellOption<R, ColoredConfig> for M
     }
 }
 
-/// A table narrower than the measure is widened to it: its columns grow by what is wanting, and
-/// their widths are stored. Columns of no width stay so. Sizes that aren't stored are estimated and
-/// stored, of other tables too. `Memory` comes only where sizes aren't stored or the table is
-/// narrower than the measure.
+/// Widens a table that is narrower than the measured width to it: its columns grow by the
+/// difference. Columns of width 0 don't grow.
+///
+/// The widths are stored. Missing sizes are estimated first, and stored even if the table is wide
+/// enough. Fails with `Memory` only if sizes are missing or the table is too narrow.
 impl<W: Measurement<Width> + Drop, P: Peaker + Drop, R: PeekableRecords> TableOption<
     R,
     ColoredConfig,
@@ -115,7 +117,7 @@ impl<W: Measurement<Width> + Drop, P: Peaker + Drop, R: PeekableRecords> TableOp
     ghost changes = { λ s r c d r' c' d'. IncreasesWidth P.grows s.priority
         (W.measures s.width (R.cells r) c.config) (R.cells r) c.config d d' × ((r' ≡ r) × (c' ≡ c)) };
 
-    // Only a table with a row and a column fails. The sizes are as they were, or filled in.
+    // Only a table with cells fails. Its sizes are then unchanged, or the missing ones filled in.
     ghost refuses = { λ s e r c d r' c' d'. (is_empty (R.cells r) ≡ false)
         × StopsIncreasing (W.measures s.width (R.cells r) c.config) e (R.cells r) c.config d d'
         × ((r' ≡ r) × (c' ≡ c)) };
@@ -123,7 +125,7 @@ impl<W: Measurement<Width> + Drop, P: Peaker + Drop, R: PeekableRecords> TableOp
     ghost out_of_range = { λ s r c d.
         WidthOutOfRange (W.out_of_range s.width (R.cells r) c.config) (R.cells r) c.config d };
 
-    // Of the sizes that are left once what is hinted was forgotten.
+    // About the sizes that are left after those of the hint are cleared.
     ghost promises = { λ s r c d r' c' d'. (left : CompleteDimension) → AreCleared None d' left
         → WidensAsPromised P.grows s.priority (W.measures s.width (R.cells r) c.config)
         (effective (R.cells r) c.config d) (effective (R.cells r') c'.config left) };

@@ -1,4 +1,4 @@
-//! The widths below which no column should shrink.
+//! The minimum widths of columns, which they have with empty cells.
 ghost use Rattle.std.specs.Prelude.{◌≡◌, ◌⊎◌, IfErr, IfOk, take};
 ghost use Rattle.tabled_base.specs.declared.error.TableError.TheVariants.{Memory, Range};
 ghost use Rattle.tabled_set.specs.Minimums.{emptied, minimums};
@@ -10,7 +10,7 @@ use tabled_config::SpannedConfig;
 use tabled_size::estimate_widths;
 use tabled_text::{count_lines, text_width};
 
-/// Records as if their cells had no text.
+/// A view of records with all cells empty.
 #[derive(Drop)]
 struct EmptiedRecords<'a, R> {
     records: &'a R,
@@ -42,8 +42,8 @@ impl<'a, R: ExactRecords> PeekableRecords for EmptiedRecords<'a, R> {
     }
 }
 
-/// The first so many of the widths that the table has with empty cells. Refused for memory, or with
-/// `Range` where the side padding of a cell passes the greatest `usize`.
+/// Returns the minimum widths of the first `columns` columns. Fails with `Memory`, or with `Range`
+/// if the side padding of a cell overflows `usize`.
 pub(crate) fn minimum_widths<R: ExactRecords>(
     alloc: Global,
     records: &R,

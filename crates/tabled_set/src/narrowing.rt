@@ -1,4 +1,4 @@
-//! Tables that are narrowed to a total.
+//! Narrows a table to a total width.
 ghost use Rattle.std.specs.Prelude.{◌≡◌, ◌⊎◌, IfErr, OnOk, false};
 ghost use Rattle.tabled_base.specs.declared.error.TableError.TheVariants.{Memory, Range};
 ghost use Rattle.tabled_set.specs.CellChanges.{if_taken};
@@ -14,10 +14,12 @@ use tabled_base::{RecordsMut, TableError};
 use tabled_config::SpannedConfig;
 use tabled_size::{CompleteDimension, Estimate, Peaker};
 
-/// Narrows a table that has a row and a column to a total of n columns. Sizes that aren't stored
-/// are estimated first, and stay stored on a later error. Fails with `Memory` only where sizes
-/// aren't stored or the table is wider than n; with `Range` where an estimate, the total or, in a
-/// table that is wider, the side padding of a cell passes the greatest `usize`.
+/// Narrows a table with cells to a total of n columns. Missing sizes are estimated first, and are
+/// stored even if an error follows.
+///
+/// Fails with `Memory` only if sizes are missing or the table is wider than n. Fails with `Range`
+/// if an estimate or the total overflows `usize`, or if the side padding of a cell does in a table
+/// wider than n.
 pub fn narrow_table<T: TextTransform, P: Peaker + Drop, R: RecordsMut>(
     transform: &T,
     cell_filter: CellFilter,

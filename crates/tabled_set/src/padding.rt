@@ -1,4 +1,4 @@
-//! The padding of cells.
+//! The option `Padding`, the space around the text of a cell.
 ghost use Rattle.std.specs.Prelude.{◌≡◌, if◌then◌else◌};
 ghost use Rattle.tabled_config.specs.Options.{Becomes, colored};
 ghost use Rattle.tabled_entity.specs.Changes.{for_all, with_change};
@@ -11,8 +11,8 @@ use crate::sides::{filled, spaced};
 use tabled_base::{CellOption, Entity, TableError, TableOption};
 use tabled_config::{ColoredConfig, CompactConfig, CompactMultilineConfig, Indent, Sides};
 
-/// Columns and lines kept free around the texts of cells. As an option of a table it replaces the padding of all
-/// cells, as one of an entity that of its cells.
+/// The space around the text of a cell. As a table option it replaces the padding of all cells, as
+/// a cell option that of an entity's cells.
 #[derive(Clone, Copy, Debug, PartialEq, Eq, PartialOrd, Ord)]
 pub struct Padding {
     indent: Sides<Indent>,
@@ -28,7 +28,7 @@ pub enum PaddingExpand {
 }
 
 impl Padding {
-    /// A padding of so many columns and lines of spaces.
+    /// Creates a padding of spaces: columns at the left and right, lines at the top and bottom.
     pub fn new(left: usize, right: usize, top: usize, bottom: usize) -> Padding
         ensures { result ≡ record { indent = spaced left right top bottom } }
     {
@@ -37,14 +37,14 @@ impl Padding {
         }
     }
 
-    /// No padding.
+    /// Creates a padding of size 0 on all sides.
     pub fn zero() -> Padding
         ensures { result ≡ record { indent = spaced 0 0 0 0 } }
     {
         Padding::new(0, 0, 0, 0)
     }
 
-    /// The same padding, filled with other characters.
+    /// Fills the padding with other characters, one for each side.
     pub fn fill(self, left: char, right: char, top: char, bottom: char) -> Padding
         ensures { result ≡ record { indent = filled self.indent left right top bottom } }
     {
@@ -53,7 +53,7 @@ impl Padding {
         }
     }
 
-    /// The direction across a table, or down it.
+    /// Returns `Horizontal` if `horizontal` is true, else `Vertical`.
     pub fn expand(horizontal: bool) -> PaddingExpand
         ensures { result ≡ (if horizontal then Horizontal else Vertical) }
     {
@@ -81,7 +81,7 @@ impl From<Sides<Indent>> for Padding {
     }
 }
 
-/// Refused with `Memory` alone, for a part of a table, and then all is as it was.
+/// Fails only with `Memory`, and only for a row, a column or a cell. Nothing has changed then.
 impl<R> CellOption<R, ColoredConfig> for Padding {
     ghost changes = { λ s r c e r' c'. (r' ≡ r)
         × (c' ≡ colored (record c.config { padding = with_change c.config.padding e s.indent })) };

@@ -1,4 +1,4 @@
-//! Measures that are a part of the whole table.
+//! The measurement `Percent`, a part of a table's total size.
 ghost use Rattle.std.specs.Prelude.{◌≡◌, ◌<◌, ◌≤◌, ◌^◌, ◌*◌, IfErr, IfOk, OnOk};
 ghost use Rattle.tabled_base.specs.declared.error.TableError.TheVariants.{Range};
 ghost use Rattle.tabled_set.specs.Percents.{HasNoPercent, percent_of};
@@ -10,12 +10,14 @@ use tabled_base::{PeekableRecords, TableError};
 use tabled_config::SpannedConfig;
 use tabled_size::{estimated_total_height, estimated_total_width};
 
-/// So many hundredths of the whole table with estimated sizes, rounded down: of its columns or its lines, with borders
-/// and margins. Refused with `Range` where the total or its product with the number passes the greatest `usize`.
+/// Measures a percentage of the table's total width or height, rounded down. The total includes
+/// borders and margins. It is estimated: stored sizes don't count. Fails with `Range` if the total,
+/// or its product with the percentage, overflows `usize`.
 #[derive(Debug, Drop)]
 pub struct Percent(pub usize);
 
-/// So many hundredths of a number. Refused with `Range` where the product passes the greatest `usize`.
+/// Returns `percent` hundredths of a number, rounded down. Fails with `Range` if the product
+/// overflows `usize`.
 fn hundredths(whole: usize, percent: usize) -> Result<usize, TableError>
     ensures ok { IfOk result (λ n. n ≡ percent_of percent whole) }
     ensures fits { OnOk result (whole * percent < 2 ^ 64) }

@@ -1,4 +1,4 @@
-//! Lists that a priority shrinks or grows.
+//! Shrinks or grows lists of sizes by a priority.
 ghost use Rattle.std.specs.Prelude.{◌≡◌, ◌+◌, ◌<◌, ◌≤◌, ◌^◌, IfErr, IfOk, length, sum, take};
 ghost use Rattle.tabled_base.specs.declared.error.TableError.TheVariants.{Memory};
 ghost use Rattle.tabled_priority.specs.Permitted.{FitsMinimums};
@@ -9,7 +9,7 @@ use std::alloc::Global;
 use tabled_base::TableError;
 use tabled_size::{Peaker, Steps};
 
-/// The first so many sizes of a list, or all of them.
+/// Returns the first `count` sizes of a list, or all if there are fewer.
 pub(crate) fn first_sizes(sizes: &[usize], count: usize) -> &[usize]
     ensures first { result.now ≡ take count sizes.now }
     ensures short { length result.now ≤ count }
@@ -17,7 +17,7 @@ pub(crate) fn first_sizes(sizes: &[usize], count: usize) -> &[usize]
     sizes.split_at(count.min(sizes.len())).0
 }
 
-/// A list that a priority shrank by an amount.
+/// Returns a copy of the sizes, shrunk by the priority by an amount. Fails only with `Memory`.
 pub(crate) fn shrunk<P: Peaker + Drop>(
     alloc: Global,
     priority: P,
@@ -36,7 +36,7 @@ pub(crate) fn shrunk<P: Peaker + Drop>(
     Ok(list)
 }
 
-/// A list that a priority grew by an amount.
+/// Returns a copy of the sizes, grown by the priority by an amount. Fails only with `Memory`.
 pub(crate) fn grown<P: Peaker + Drop>(
     alloc: Global,
     priority: P,

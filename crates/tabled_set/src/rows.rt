@@ -1,4 +1,4 @@
-//! Rows whose cells are limited to their heights.
+//! Limits cells to the heights of their rows.
 ghost use Rattle.std.specs.Prelude.{◌≡◌, IfErr, OnErr, OnOk, Some, true};
 ghost use Rattle.tabled_base.specs.declared.error.TableError.TheVariants.{Memory};
 ghost use Rattle.tabled_set.specs.CellChanges.{AreChanged, AreChangedBefore};
@@ -14,7 +14,7 @@ use crate::walk::change_cells;
 use crate::walk_order::WalkOrder;
 use tabled_base::{Entity, Position, RecordsMut, TableError};
 
-/// The lines that a row leaves each of its cells: its height, whatever the padding is.
+/// The content height of each cell: its row's height, whatever its padding.
 #[derive(Drop)]
 struct RowContentHeights<'a> {
     heights: &'a [usize],
@@ -28,7 +28,8 @@ impl<'a> ContentSizes for RowContentHeights<'a> {
     }
 }
 
-/// Limits each cell of more lines than its row's height to these, row by row.
+/// Limits each cell that has more lines than its row's height, row by row. Fails only with
+/// `Memory`.
 pub(crate) fn limit_rows<R: RecordsMut>(
     records: &mut R,
     heights: &[usize],

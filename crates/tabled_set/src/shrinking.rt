@@ -19,7 +19,7 @@ use tabled_base::{ExactRecords, TableError};
 use tabled_config::SpannedConfig;
 use tabled_size::{CompleteDimension, Dimension, Peaker, Steps, filled_width};
 
-/// The widths that are stored.
+/// Returns the widths, which must be stored.
 pub(crate) fn stored_widths(sizes: &CompleteDimension) -> &[usize]
     requires { is_some (widths_of sizes.now) ≡ true }
     ensures { widths_of sizes.now ≡ Some result.now }
@@ -30,10 +30,10 @@ pub(crate) fn stored_widths(sizes: &CompleteDimension) -> &[usize]
     }
 }
 
-/// The widths to which the columns of a table shrink, with their minimums, or `None` where its
-/// total is at most n. The table has a row and a column, and its widths are stored. Fails only
-/// where it is wider than n: with `Memory`, or with `Range` where the total or the side padding of
-/// a cell passes the greatest `usize`.
+/// Returns the widths to which the columns of a table shrink, with their minimums, or `None` if the
+/// total is at most n. The table has cells, and its widths are stored. Fails only if the table is
+/// wider than n: with `Memory`, or with `Range` if the total or the side padding of a cell
+/// overflows `usize`.
 pub(crate) fn narrowed_widths<P: Peaker + Drop, R: ExactRecords>(
     alloc: Global,
     priority: P,

@@ -1,10 +1,10 @@
-//! Indents on four sides.
+//! Makes the indents of `Margin` and `Padding`.
 ghost use Rattle.std.specs.Prelude.{◌≡◌};
 ghost use Rattle.tabled_set.specs.Sides.{filled, spaced};
 
 use tabled_config::{Indent, Sides};
 
-/// So many columns and lines of spaces.
+/// Returns indents of spaces: columns at the left and right, lines at the top and bottom.
 pub(crate) fn spaced(left: usize, right: usize, top: usize, bottom: usize) -> Sides<Indent>
     ensures { result ≡ spaced left right top bottom }
 {
@@ -16,7 +16,7 @@ pub(crate) fn spaced(left: usize, right: usize, top: usize, bottom: usize) -> Si
     )
 }
 
-/// The same sizes, filled with other characters.
+/// Returns indents of the same sizes, filled with other characters.
 pub(crate) fn filled(
     sides: Sides<Indent>,
     left: char,

@@ -1,4 +1,4 @@
-//! Lists of sizes as options.
+//! The options `WidthList` and `HeightList`, which store given sizes.
 ghost use Rattle.std.specs.Prelude.{◌≡◌, IfErr, IfOk, None, length};
 ghost use Rattle.std.specs.Iterator.{IsFiniteIterable};
 ghost use Rattle.tabled_base.specs.Cells.{columns};
@@ -12,22 +12,22 @@ use std::marker::PhantomData;
 use tabled_base::{Entity, ExactRecords, TableError, TableOption};
 use tabled_size::CompleteDimension;
 
-/// The sizes of a table in a direction, as an option that stores them. A list that is shorter than the table changes
-/// nothing; entries past the table are passed over where sizes are read. Never refused.
+/// Stores the widths or the heights of a table. A list that is shorter than the table changes
+/// nothing. Entries past the table's last column or row are ignored. Never fails.
 #[derive(Debug, Drop)]
 pub struct SizeList<A> {
     list: Vec<usize>,
     direction: PhantomData<A>,
 }
 
-/// The widths of a table, one a column.
+/// Stores the widths of the columns, in terminal columns, padding included.
 pub type WidthList = SizeList<Width>;
 
-/// The heights of a table, one a row.
+/// Stores the heights of the rows, in lines, padding included.
 pub type HeightList = SizeList<Height>;
 
 impl<A> SizeList<A> {
-    /// These sizes.
+    /// Creates an option that stores these sizes.
     pub fn new(list: Vec<usize>) -> SizeList<A>
         ensures { result.list ≡ list }
     {
@@ -37,7 +37,7 @@ impl<A> SizeList<A> {
         }
     }
 
-    /// The sizes that an iterator gives. Refused with `Memory` alone.
+    /// Creates an option that stores the sizes that an iterator yields. Fails only with `Memory`.
     pub fn from_iter<I: IntoIterator<Item = usize>>(
         alloc: Global,
         sizes: I,

@@ -1,4 +1,4 @@
-//! What stands for a suffix where a text is truncated.
+//! The suffix of a truncated text, and what happens to it if it is too wide.
 ghost use Rattle.std.specs.Prelude.{◌≡◌, ◌-◌, IfNone, IfOk, IfSome, None, Some, if◌then◌else◌, nat_lt};
 ghost use Rattle.std.specs.Cow.{cow_str_bytes};
 ghost use Rattle.tabled_set.specs.InPlace.{IsMade, IsMadeFor};
@@ -8,37 +8,39 @@ use std::alloc::{AllocError, Global};
 use std::borrow::CowStr;
 use tabled_text::{copies, cut_length, cut_str, line_width, lines};
 
-/// What is done with a suffix that takes its whole content size, or more.
+/// What happens to a suffix that is as wide as the content width, or wider.
 #[derive(Clone, Copy, Debug, PartialEq, Eq, PartialOrd, Ord)]
 pub enum SuffixLimit {
-    /// It is cut to the content size, and nothing is left to the text.
+    /// The suffix is cut to the content width. Nothing of the text is left.
     Cut,
-    /// It is left out, and the text takes the content size.
+    /// The suffix is left out. The text gets the whole content width.
     Ignore,
-    /// It is replaced by as many of a character as the content size has columns, and nothing is left to the text.
+    /// The suffix is replaced by n copies of this character, where n is the content width in
+    /// columns. Nothing of the text is left.
     Replace(char),
 }
 
-/// What stands for a suffix in a content size, and the columns that it leaves to the text.
+/// The suffix that is written for a content size, and the columns that it leaves to the text.
 #[derive(Drop)]
 pub(crate) struct UsedSuffix<'a> {
     pub text: CowStr<'a, Global>,
     pub left: usize,
 }
 
-/// What stands for a suffix in a content size and is a part of it, and the columns that it leaves to the text.
+/// A `UsedSuffix` that borrows its text.
 #[derive(Clone, Copy)]
 pub(crate) struct BorrowedSuffix<'a> {
     pub text: &'a str,
     pub left: usize,
 }
 
-/// The columns that a suffix leaves of a content size, if it leaves any.
+/// Returns the columns that a suffix leaves of a content size, or `None` if it leaves none.
 fn columns_beside(suffix: &str, content_size: usize) -> Option<usize>
     ensures { result
         ≡ (if nat_lt (suffix_columns suffix.now) content_size then Some (content_size - suffix_columns suffix.now) else None) }
 {
-    // Each line takes a column more than its own, so one too many is taken in all.
+    // Each line takes one column more than its own, for its line feed. The last line has no line
+    // feed, hence the `+ 1`.
     let mut left = content_size;
     for line in lines(suffix) {
         left = left.checked_sub(line_width(line))?.checked_sub(1)?;
@@ -46,7 +48,8 @@ fn columns_beside(suffix: &str, content_size: usize) -> Option<usize>
     Some(left + 1)
 }
 
-/// What stands for a suffix that takes its whole content size, or more, if it is a part of it.
+/// Applies the limit to a suffix that leaves the text no column. Returns `None` if the result has
+/// to be allocated.
 fn borrowed_limited(
     suffix: &str,
     limit: SuffixLimit,
@@ -70,7 +73,7 @@ fn borrowed_limited(
     }
 }
 
-/// What stands for a suffix in a content size of so many columns, if it is a part of it, which takes no memory.
+/// Returns the suffix to write for `content_size` columns, or `None` if it has to be allocated.
 pub(crate) fn borrowed_suffix(
     suffix: &str,
     limit: SuffixLimit,
@@ -92,7 +95,7 @@ pub(crate) fn borrowed_suffix(
     }
 }
 
-/// What stands for a suffix and is no part of it.
+/// Allocates the suffix to write for `content_size` columns, if it can't be borrowed.
 fn made_suffix(
     alloc: Global,
     suffix: &str,
@@ -110,7 +113,7 @@ fn made_suffix(
     Ok(UsedSuffix { text, left: 0 })
 }
 
-/// What stands for a suffix in a content size of so many columns.
+/// Returns the suffix to write for `content_size` columns, borrowed if possible.
 pub(crate) fn used_suffix(
     alloc: Global,
     suffix: &str,

@@ -1,4 +1,4 @@
-//! Totals of sizes in a list.
+//! The total width and height of a table, for a list of sizes.
 ghost use Rattle.std.specs.Prelude.{◌≡◌, ◌≤◌, ◌^◌, MatchOption, Some};
 ghost use Rattle.std.specs.List.{slice_index};
 ghost use Rattle.tabled_size.specs.Totals.{filled_height, filled_width};
@@ -6,14 +6,13 @@ ghost use Rattle.tabled_size.specs.Totals.{filled_height, filled_width};
 use tabled_config::SpannedConfig;
 use tabled_size::{Dimension, filled_height, filled_width};
 
-/// Sizes that are read as 0 past the end of their list.
+/// A list of sizes, read as 0 past its end.
 #[derive(Drop)]
 struct PaddedSizes<'a> {
     sizes: &'a [usize],
 }
 
 impl<'a> PaddedSizes<'a> {
-    /// The size at a place.
     fn at(&self, place: usize) -> usize
         ensures { result ≡ slice_index self.now.sizes.now place }
     {
@@ -43,8 +42,8 @@ impl<'a> Dimension for PaddedSizes<'a> {
     }
 }
 
-/// The columns of a whole table with some columns, of which those past the end of a list have no width. `None` where
-/// they pass the greatest `usize`.
+/// Returns the total width of a table with `columns` columns. Those past the end of the list have
+/// width 0. Returns `None` if the total overflows `usize`.
 pub(crate) fn padded_width(
     config: &SpannedConfig,
     columns: usize,
@@ -56,8 +55,8 @@ pub(crate) fn padded_width(
     filled_width(config, columns, &PaddedSizes { sizes: widths })
 }
 
-/// The lines of a whole table with some rows, of which those past the end of a list have no height. `None` where they
-/// pass the greatest `usize`.
+/// Returns the total height of a table with `rows` rows. Those past the end of the list have height
+/// 0. Returns `None` if the total overflows `usize`.
 pub(crate) fn padded_height(config: &SpannedConfig, rows: usize, heights: &[usize]) -> Option<usize>
     ensures { MatchOption result (2 ^ 64 ≤ filled_height config.now rows heights.now)
         (λ n. n ≡ filled_height config.now rows heights.now) }

@@ -1,4 +1,4 @@
-//! Truncating to some columns.
+//! The option `Truncate`, which truncates cells and narrows tables.
 ghost use Rattle.std.specs.Cow.{IsOwnedStr, cow_str_bytes};
 ghost use Rattle.std.specs.Prelude.{◌≡◌, IfErr, IfOk, OnErr, [], false, string_bytes, None};
 ghost use Rattle.tabled_base.specs.declared.error.TableError.TheVariants.{Memory};
@@ -29,7 +29,8 @@ use tabled_config::ColoredConfig;
 use tabled_size::{CompleteDimension, Peaker, PriorityNone, is_empty};
 use tabled_text::cut_str;
 
-/// Truncates what is wider than a measure in columns: a text is cut, and a suffix stands at its end.
+/// Truncates cells that are wider than `width`: cuts the text, and appends a suffix. As a table
+/// option it narrows a table to a total of `width` columns, and truncates its cells to fit.
 #[derive(Clone, Debug, Drop, PartialEq, Eq, PartialOrd, Ord)]
 pub struct Truncate<'a, W = usize, P = PriorityNone> {
     width: W,
@@ -38,8 +39,8 @@ pub struct Truncate<'a, W = usize, P = PriorityNone> {
 }
 
 impl<W> Truncate<'static, W> {
-    /// Truncates to a measure. There is no suffix, a text is cut as a whole, and the columns of a table
-    /// shrink one after the other.
+    /// Creates an option that truncates to `width` columns. It has no suffix, cuts a text as a
+    /// whole, and shrinks the columns of a table in turn.
     pub fn new(width: W) -> Truncate<'static, W>
     where
         W: Measurement<Width>,
@@ -62,7 +63,7 @@ impl<W> Truncate<'static, W> {
 }
 
 impl<'a, W, P> Truncate<'a, W, P> {
-    /// The text at the end of what was truncated.
+    /// Sets the suffix, which ends each truncated text.
     pub fn suffix(self, suffix: &'a str) -> Truncate<'a, W, P>
         ensures { result ≡ record self.entry { transform = record self.entry.transform { suffix = suffix.entry } } }
     {
@@ -75,7 +76,7 @@ impl<'a, W, P> Truncate<'a, W, P> {
         }
     }
 
-    /// What is done with a suffix that takes its whole content size, or more.
+    /// Sets what happens to a suffix that is as wide as the content width, or wider.
     pub fn suffix_limit(self, limit: SuffixLimit) -> Truncate<'a, W, P>
         ensures { result ≡ record self.entry { transform = record self.entry.transform { limit = limit } } }
     {
@@ -88,7 +89,8 @@ impl<'a, W, P> Truncate<'a, W, P> {
         }
     }
 
-    /// Whether each line of a text is truncated by itself. The suffix then stands at the end of each.
+    /// Sets whether each line of a text is truncated on its own. Each line then ends with the
+    /// suffix, even a short one.
     pub fn multiline(self, on: bool) -> Truncate<'a, W, P>
         ensures { result ≡ record self.entry { transform = record self.entry.transform { multiline = on } } }
     {
@@ -101,9 +103,11 @@ impl<'a, W, P> Truncate<'a, W, P> {
         }
     }
 
-    /// A text truncated to a content size of so many columns, whatever the measure is. Where the suffix leaves columns of the
-    /// content size, the text is cut to these and the suffix follows; else the limit says what stands there. In no column
-    /// stands nothing. Refused with `Memory` alone.
+    /// Truncates a text to `content_size` columns, whatever the option's width is: cuts it to the
+    /// columns that the suffix leaves, and appends the suffix. If the suffix leaves none, the limit
+    /// says what is written. For 0 columns every line is empty.
+    ///
+    /// Fails only with `Memory`.
     pub fn shorten(
         &self,
         alloc: Global,
@@ -119,7 +123,7 @@ impl<'a, W, P> Truncate<'a, W, P> {
 }
 
 impl<'a, W, P: Drop> Truncate<'a, W, P> {
-    /// The order in which the columns of a table shrink.
+    /// Sets the order in which the columns of a table shrink.
     pub fn priority<Q: Peaker>(self, priority: Q) -> Truncate<'a, W, Q>
         ensures { result
             ≡ record {
@@ -137,9 +141,9 @@ impl<'a, W, P: Drop> Truncate<'a, W, P> {
 }
 
 impl Truncate<'static, (), ()> {
-    /// The longest beginning of a text of which no line passes `width` columns, as `tabled_text::cut_str` cuts it. The
-    /// text is lent, and takes no memory, unless U+FFFD stands in columns that a dropped character leaves. Refused
-    /// with `Memory` alone, where memory for these is.
+    /// Cuts a text as soon as one of its lines is `width` columns wide, as `tabled_text::cut_str`
+    /// does. The result is borrowed unless U+FFFD fills columns that a dropped character leaves.
+    /// Fails only with `Memory`, and only in that case.
     pub fn truncate(
         alloc: Global,
         text: &str,
@@ -154,11 +158,14 @@ impl Truncate<'static, (), ()> {
     }
 }
 
-/// The entity's cells that are wider than the measure are truncated to it, and no other cell
-/// changes. Where the measure fails, with `Range`, no cell has changed. `Memory` comes at a cell
-/// that can't be cut in its place, and those before it have changed, row by row. A text is cut in
-/// its place where no U+FFFD is needed, and with no suffix, or one with which it takes at most 16
-/// bytes.
+/// Truncates the entity's cells that are wider than the measured width to it. No other cell
+/// changes. Fails with `Range` if the measurement does, before any change, or with `Memory` at a
+/// cell that can't be cut in place. The cells before that, row by row, have changed.
+///
+/// A text is cut in place, without an allocation, if all of these hold:
+/// - `multiline` is off, or the text has one line.
+/// - Neither the text nor the suffix needs U+FFFD, and the suffix isn't replaced.
+/// - It ends without a suffix, or takes at most 16 bytes with it.
 impl<'a, W: Measurement<Width>, P, R: RecordsMut> CellOption<R, ColoredConfig>
     for Truncate<'a, W, P> {
     ghost changes = { λ s r c e r' c'. ChangesEntity (if_wider (truncating s.transform.suffix.now s.transform.limit s.transform.multiline))
@@ -192,12 +199,13 @@ impl<'a, W: Measurement<Width>, P, R: RecordsMut> CellOption<R, ColoredConfig>
     }
 }
 
-/// A table wider than the measure is narrowed to it: its columns shrink by the excess, and each
-/// cell that is wider than its column's new width less its own padding is truncated to that. Cells
-/// of a column that ends below its minimum, its width with empty cells, stay. The widths are
-/// stored, and heights are cleared where the table was wider. `Memory` comes only where sizes
-/// aren't stored or the table is wider than the measure, and at a cell only where its text can't be
-/// cut in its place.
+/// Narrows a table that is wider than the measured width to it. Columns shrink by the excess, and
+/// each cell that is wider than its column's new width less its own padding is truncated to that.
+/// Cells of a column that ends up below its minimum, its width with empty cells, don't change.
+///
+/// The widths are stored, and the heights of a table that was too wide are cleared. Fails with
+/// `Memory` only if sizes are missing or the table is too wide, and at a cell only if it can't be
+/// cut in place.
 impl<'a, W: Measurement<Width> + Drop, P: Peaker + Drop, R: RecordsMut> TableOption<
     R,
     ColoredConfig,
@@ -207,7 +215,7 @@ impl<'a, W: Measurement<Width> + Drop, P: Peaker + Drop, R: RecordsMut> TableOpt
         Narrows P.shrinks s.priority (if_wider (truncating s.transform.suffix.now s.transform.limit s.transform.multiline))
         (W.measures s.width (R.cells r) c.config) (R.cells r) c.config d (R.cells r') d' × (c' ≡ c) };
 
-    // Only a table with a row and a column fails. The sizes are as they were, or filled in.
+    // Only a table with cells fails. Its sizes are then unchanged, or the missing ones filled in.
     ghost refuses = { λ s e r c d r' c' d'. (is_empty (R.cells r) ≡ false)
         × StopsNarrowing P.shrinks s.priority Wider
         (truncating_in_place s.transform.suffix.now s.transform.limit s.transform.multiline)
@@ -218,7 +226,7 @@ impl<'a, W: Measurement<Width> + Drop, P: Peaker + Drop, R: RecordsMut> TableOpt
     ghost out_of_range = { λ s r c d. NarrowingOutOfRange (W.out_of_range s.width (R.cells r) c.config)
         (W.measures s.width (R.cells r) c.config) (R.cells r) c.config d };
 
-    // Of the sizes that are left once what is hinted was forgotten.
+    // About the sizes that are left after those of the hint are cleared.
     ghost promises = { λ s r c d r' c' d'. (left : CompleteDimension) → AreCleared None d' left
         → TruncatesAsPromised P.shrinks s.priority s.transform.suffix.now s.transform.limit s.transform.multiline
         (W.measures s.width (R.cells r) c.config)

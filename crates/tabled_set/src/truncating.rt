@@ -1,4 +1,4 @@
-//! The transform by which a text is truncated.
+//! The transform that truncates a text.
 ghost use Rattle.std.specs.Prelude.{◌≡◌, ◌≢◌, IfNone, IfOk, IfSome, OnOk, string_bytes};
 ghost use Rattle.std.specs.Cow.{cow_str_bytes};
 ghost use Rattle.tabled_set.specs.CellChanges.{truncating};
@@ -12,15 +12,15 @@ use std::alloc::{AllocError, Global};
 use tabled_base::{SHORT_TEXT, TableError};
 use tabled_text::{count_lines, cut_length, cut_str, lines};
 
-/// Truncates a text to the columns of its content size. Where the suffix leaves columns of the content size, the text is cut to these
-/// and the suffix follows; else the limit says what stands there. In no column stands nothing.
+/// Cuts a text to the columns that the suffix leaves of the content size, and appends the suffix.
+/// If the suffix leaves none, the limit says what is written. For 0 columns every line is empty.
 #[derive(Clone, Copy, Debug, PartialEq, Eq, PartialOrd, Ord)]
 pub struct Truncating<'a> {
-    /// The text at the end of what was truncated.
+    /// The suffix, which ends each truncated text.
     pub suffix: &'a str,
-    /// What is done with a suffix that takes its whole content size, or more.
+    /// What happens to a suffix that is as wide as the content size, or wider.
     pub limit: SuffixLimit,
-    /// Whether each line is truncated by itself, and the suffix stands at the end of each.
+    /// Whether each line is truncated on its own, and ends with the suffix.
     pub multiline: bool,
 }
 
@@ -60,7 +60,8 @@ impl<'a> TextTransform for Truncating<'a> {
     }
 }
 
-/// How many bytes are left of a text in some columns, where no U+FFFD stands behind them.
+/// Returns the length in bytes of a text cut to some columns, or `None` if it has to be filled with
+/// U+FFFD.
 fn length_left(text: &str, columns: usize) -> Option<usize>
     ensures some { IfSome result (λ bytes. IsLeftAt columns text.now bytes) }
     ensures none { IfNone result ((columns ≢ 0) × NeedsFill columns text.now) }
@@ -72,7 +73,7 @@ fn length_left(text: &str, columns: usize) -> Option<usize>
     }
 }
 
-/// Appends a text that is cut to the columns left, and what stands for the suffix.
+/// Appends a text, cut to the columns left, and the suffix.
 fn push_ended(answer: &mut String, text: &str, used: &UsedSuffix<'_>) -> Result<(), AllocError>
     ensures { OnOk result (AddsEnded used.now.left (cow_str_bytes used.now.text) text.now
         (string_bytes answer.old) (string_bytes answer.new)) }
@@ -87,7 +88,7 @@ fn push_ended(answer: &mut String, text: &str, used: &UsedSuffix<'_>) -> Result<
     Ok(())
 }
 
-/// The lines of a text, each with what stands for the suffix.
+/// Returns the lines of a text, each cut to the columns left, with the suffix.
 fn ended_lines(alloc: Global, text: &str, used: &UsedSuffix<'_>) -> Result<String, AllocError>
     ensures { IfOk result (λ answer. HasEndedLines used.now.left (cow_str_bytes used.now.text) text.now (string_bytes answer)) }
 {

@@ -1,4 +1,4 @@
-//! The cells of an entity, changed one after another.
+//! Changes the cells of an entity, one after another.
 ghost use Rattle.std.specs.Prelude.{◌≡◌, ◌≤◌, ◌<◌, ◌==◌, ◌&&◌, ℕ, IfErr, OnErr, OnOk, length, true};
 ghost use Rattle.tabled_base.specs.Cells.{IsInside, columns};
 ghost use Rattle.tabled_base.specs.declared.error.TableError.TheVariants.{Memory};
@@ -12,7 +12,7 @@ use crate::content_sizes::ContentSizes;
 use crate::walk_order::WalkOrder;
 use tabled_base::{Entity, ExactRecords, Position, RecordsMut, TableError};
 
-/// Rows or columns beside each other: the first of them, and the one after the last.
+/// Adjacent rows or columns: the first, and the one after the last.
 #[derive(Clone, Copy)]
 struct Band {
     first: usize,
@@ -20,7 +20,6 @@ struct Band {
 }
 
 impl Band {
-    /// All of so many rows or columns.
     fn all(count: usize) -> Band
         ensures { result ≡ record { first = 0; end = count } }
     {
@@ -30,7 +29,7 @@ impl Band {
         }
     }
 
-    /// One of so many rows or columns, or none where it isn't there.
+    /// Returns the band of one of `count` rows or columns, empty if `place` is out of range.
     fn one(place: usize, count: usize) -> Band
         ensures within { (k : ℕ) → k < count → is_within result k ≡ (place == k) }
         ensures end { result.end ≤ count }
@@ -46,7 +45,8 @@ impl Band {
     }
 }
 
-/// The rows and the columns, of so many, in which the cells of an entity stand.
+/// Returns the rows and columns of an entity's cells, in a table of `rows` rows and `columns`
+/// columns.
 fn bands_of(entity: Entity, rows: usize, columns: usize) -> (Band, Band)
     ensures cells { (r c : ℕ) → r < rows → c < columns
         → covers entity r c ≡ (is_within result.0 r && is_within result.1 c) }
@@ -61,7 +61,8 @@ fn bands_of(entity: Entity, rows: usize, columns: usize) -> (Band, Band)
     }
 }
 
-/// The lines and the places on them, in some order, in which the cells of an entity stand.
+/// Returns the lines of an entity's cells and their places in each. The order says whether a line
+/// is a row or a column.
 fn lines_of_entity<R: ExactRecords>(entity: Entity, order: WalkOrder, records: &R) -> (Band, Band)
     ensures cells { (r c : ℕ) → IsInside (R.cells records.now) r c
         → covers entity r c ≡ (is_within result.0 (line_of order r c) && is_within result.1 (place_of order r c)) }
@@ -75,7 +76,7 @@ fn lines_of_entity<R: ExactRecords>(entity: Entity, order: WalkOrder, records: &
     }
 }
 
-/// Changes the cells of a line that stand in a band of places.
+/// Changes the cells of a line at the places of a band.
 fn change_line<T: TextTransform, M: ContentSizes, R: RecordsMut>(
     by: &Change<'_, T, M>,
     records: &mut R,
@@ -100,7 +101,7 @@ fn change_line<T: TextTransform, M: ContentSizes, R: RecordsMut>(
     Ok(())
 }
 
-/// Changes the cells of an entity that have a content size and whose texts are ones that are changed, in some order.
+/// Changes the entity's cells that have a content size and pass the filter, in the given order.
 fn walk_cells<T: TextTransform, M: ContentSizes, R: RecordsMut>(
     by: &Change<'_, T, M>,
     records: &mut R,
@@ -123,7 +124,7 @@ fn walk_cells<T: TextTransform, M: ContentSizes, R: RecordsMut>(
     Ok(())
 }
 
-/// Whether the cells of a row that stand in a band of columns stay, or beginnings of their texts are left in their place.
+/// Whether each cell of a row, in a band of columns, doesn't change or is cut in place.
 fn are_cut_in_place_in<T: TextTransform, M: ContentSizes, R: RecordsMut>(
     by: &Change<'_, T, M>,
     records: &R,
@@ -143,7 +144,7 @@ fn are_cut_in_place_in<T: TextTransform, M: ContentSizes, R: RecordsMut>(
     true
 }
 
-/// Whether the cells of an entity stay, or beginnings of their texts are left in their place, so that no memory is wanted for any of them.
+/// Whether each cell of an entity doesn't change or is cut in place, so that nothing is allocated.
 fn are_cut_in_place<T: TextTransform, M: ContentSizes, R: RecordsMut>(
     by: &Change<'_, T, M>,
     records: &R,
@@ -161,10 +162,11 @@ fn are_cut_in_place<T: TextTransform, M: ContentSizes, R: RecordsMut>(
     true
 }
 
-/// Changes the cells of an entity that have a content size and whose texts are ones that are changed, in
-/// some order. No other cell is visited. Fails with `Memory` alone, at one of these cells of which
-/// more than a beginning is left: it and those after it are the old ones. Where only beginnings are
-/// left, none fails: then cells are changed row by row, as they stand in memory.
+/// Changes the entity's cells that have a content size and pass the filter, in the given order. No
+/// other cell changes. Fails only with `Memory`, at one of these cells that can't be cut in place.
+/// That cell and those after it are unchanged.
+///
+/// If all can be cut in place, this never fails. They are then changed row by row, in memory order.
 pub fn change_cells<T: TextTransform, M: ContentSizes, R: RecordsMut>(
     by: &Change<'_, T, M>,
     records: &mut R,

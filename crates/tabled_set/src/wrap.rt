@@ -1,4 +1,4 @@
-//! Wrapping to some columns.
+//! The option `Wrap`, which wraps cells and narrows tables.
 ghost use Rattle.std.specs.Prelude.{◌≡◌, ◌<◌, IfErr, IfOk, OnErr, false, length, string_bytes, Some};
 ghost use Rattle.tabled_base.specs.declared.error.TableError.TheVariants.{Memory};
 ghost use Rattle.tabled_base.specs.declared.position.Entity.TheVariants.{Row};
@@ -24,7 +24,8 @@ use tabled_config::ColoredConfig;
 use tabled_size::{CompleteDimension, Peaker, PriorityNone, is_empty};
 use tabled_text::wrap_text;
 
-/// Wraps what is wider than a measure in columns: what finds no room on a line begins the next.
+/// Wraps cells that are wider than `width` into more lines. As a table option it narrows a table to
+/// a total of `width` columns, and wraps its cells to fit.
 #[derive(Clone, Debug, Drop)]
 pub struct Wrap<W = usize, P = PriorityNone> {
     width: W,
@@ -33,7 +34,8 @@ pub struct Wrap<W = usize, P = PriorityNone> {
 }
 
 impl<W> Wrap<W> {
-    /// Wraps to a measure. Words are broken, and the columns of a table shrink one after the other.
+    /// Creates an option that wraps to `width` columns. It breaks words, and shrinks the columns of
+    /// a table in turn.
     pub fn new(width: W) -> Wrap<W>
     where
         W: Measurement<Width>,
@@ -50,7 +52,7 @@ impl<W> Wrap<W> {
 }
 
 impl<W, P> Wrap<W, P> {
-    /// Whether a word that finds room on a line of its own is kept whole.
+    /// Sets whether words that fit on a line of their own are kept whole.
     pub fn keep_words(self, on: bool) -> Wrap<W, P>
         ensures { result ≡ record self { transform = record { keep_words = on } } }
     {
@@ -62,7 +64,7 @@ impl<W, P> Wrap<W, P> {
 }
 
 impl<W, P: Drop> Wrap<W, P> {
-    /// The order in which the columns of a table shrink.
+    /// Sets the order in which the columns of a table shrink.
     pub fn priority<Q: Peaker>(self, priority: Q) -> Wrap<W, Q>
         ensures { result ≡ record { width = self.width; transform = self.transform; priority = priority } }
     {
@@ -75,9 +77,11 @@ impl<W, P: Drop> Wrap<W, P> {
 }
 
 impl Wrap<(), ()> {
-    /// A text in lines of at most `width` columns, with words kept or not, as `tabled_text::wrap_text`
-    /// writes it; empty for no columns. No other breaking has fewer lines. Fails only with `Memory`, and never for
-    /// no columns or an empty text.
+    /// Wraps a text to lines of at most `width` columns, as `tabled_text::wrap_text` does. With
+    /// `keep_words`, words that fit on a line are kept whole. No other breaking has fewer lines.
+    /// The result is empty if `width` is 0.
+    ///
+    /// Fails only with `Memory`, and never for 0 columns or an empty text.
     pub fn wrap(
         alloc: Global,
         text: &str,
@@ -95,8 +99,9 @@ impl Wrap<(), ()> {
     }
 }
 
-/// The entity's cells that are wider than the measure are wrapped to it, and no other cell changes. Where the
-/// measure is refused, with `Range`, no cell has changed; where memory is, those before the refused one have, row by row.
+/// Wraps the entity's cells that are wider than the measured width to it. No other cell changes.
+/// Fails with `Range` if the measurement does, before any change, or with `Memory` at a cell. The
+/// cells before that, row by row, have changed.
 impl<W: Measurement<Width>, P, R: RecordsMut> CellOption<R, ColoredConfig> for Wrap<W, P> {
     ghost changes = { λ s r c e r' c'. ChangesEntity (if_wider (wrapping s.transform.keep_words))
         (W.measures s.width (R.cells r) c.config) e (R.cells r) (R.cells r') × (c' ≡ c) };
@@ -128,11 +133,12 @@ impl<W: Measurement<Width>, P, R: RecordsMut> CellOption<R, ColoredConfig> for W
     }
 }
 
-/// A table wider than the measure is narrowed to it: its columns shrink by the excess, and every
-/// cell is wrapped to its column's new width less its own padding. Cells of a column that ends
-/// below its minimum, its width with empty cells, stay. The widths are stored, and where none were,
-/// of other tables too. `Memory` comes only where sizes aren't stored or the table is wider than
-/// the measure.
+/// Narrows a table that is wider than the measured width to it. Columns shrink by the excess, and
+/// each cell is wrapped to its column's new width less its own padding. Cells of a column that ends
+/// up below its minimum, its width with empty cells, don't change.
+///
+/// The widths are stored. Missing sizes are estimated first, and stored even if the table isn't too
+/// wide. Fails with `Memory` only if sizes are missing or the table is too wide.
 impl<W: Measurement<Width> + Drop, P: Peaker + Drop, R: RecordsMut> TableOption<
     R,
     ColoredConfig,
@@ -141,7 +147,7 @@ impl<W: Measurement<Width> + Drop, P: Peaker + Drop, R: RecordsMut> TableOption<
     ghost changes = { λ s r c d r' c' d'. Narrows P.shrinks s.priority (wrapping s.transform.keep_words)
         (W.measures s.width (R.cells r) c.config) (R.cells r) c.config d (R.cells r') d' × (c' ≡ c) };
 
-    // Only a table with a row and a column fails. The sizes are as they were, or filled in.
+    // Only a table with cells fails. Its sizes are then unchanged, or the missing ones filled in.
     ghost refuses = { λ s e r c d r' c' d'. (is_empty (R.cells r) ≡ false)
         × StopsNarrowing P.shrinks s.priority Every never_in_place (wrapping s.transform.keep_words)
         (W.measures s.width (R.cells r) c.config) e (R.cells r) c.config d (R.cells r') d'
@@ -150,7 +156,7 @@ impl<W: Measurement<Width> + Drop, P: Peaker + Drop, R: RecordsMut> TableOption<
     ghost out_of_range = { λ s r c d. NarrowingOutOfRange (W.out_of_range s.width (R.cells r) c.config)
         (W.measures s.width (R.cells r) c.config) (R.cells r) c.config d };
 
-    // Of the sizes that are left once what is hinted was forgotten.
+    // About the sizes that are left after those of the hint are cleared.
     ghost promises = { λ s r c d r' c' d'. (left : CompleteDimension) → AreCleared (Some (Row 0)) d' left
         → WrapsAsPromised P.shrinks s.priority s.transform.keep_words (W.measures s.width (R.cells r) c.config)
         (effective (R.cells r) c.config d) (effective (R.cells r') c'.config left) };

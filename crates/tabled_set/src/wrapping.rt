@@ -1,4 +1,4 @@
-//! The transform by which a text is wrapped.
+//! The transform that wraps a text.
 ghost use Rattle.std.specs.Prelude.{◌≡◌};
 ghost use Rattle.tabled_set.specs.CellChanges.{wrapping};
 
@@ -7,10 +7,10 @@ use std::alloc::Global;
 use tabled_base::TableError;
 use tabled_text::wrap_text;
 
-/// Wraps a text in the columns of its content size: what finds no room on a line begins the next.
+/// Wraps a text to lines of at most the content size, in columns.
 #[derive(Clone, Copy, Debug)]
 pub struct Wrapping {
-    /// Whether a word that finds room on a line of its own is kept whole.
+    /// Whether words that fit on a line of their own are kept whole.
     pub keep_words: bool,
 }
 

@@ -1,4 +1,4 @@
--- What padding adds to the texts of a row.
+-- What padding adds to the width and height of each cell.
 use Rattle.std.specs.Prelude.{◌≡◌, ℕ, ◌+◌, ◌<◌, ◌≤◌, ◌^◌, ◌⊎◌, Some, None, map, true}
 use Rattle.std.specs.List.{range_with_len}
 use Rattle.tabled_config.specs.declared.sides.Indent.{Indent}
@@ -10,7 +10,7 @@ use Rattle.tabled_size.specs.declared.added.KnownAdded.{KnownAdded}
 use Rattle.tabled_size.specs.declared.added.ListedRow.{ListedRow}
 use Rattle.tabled_size.specs.declared.added.KnownAdded.TheVariants as known
 
--- what padding adds to a text
+-- what a padding adds
 abbrev pub added_by : Sides Indent → Extent
 added_by padding =
     record {
@@ -18,11 +18,11 @@ added_by padding =
       lines = padding.top.size + padding.bottom.size;
     }
 
--- what padding adds to the text of a cell
+-- what padding adds to a cell
 abbrev pub added_at : SpannedConfig → ℕ → ℕ → Extent
 added_at config row column = added_by (style_at config row column).padding
 
--- more columns or lines than numbers can say
+-- the columns or the lines exceed `usize::MAX`
 abbrev pub PassesRange : Extent → Type 0
 PassesRange extent = (2 ^ 64 ≤ extent.columns) ⊎ (2 ^ 64 ≤ extent.lines)
 
@@ -30,22 +30,23 @@ PassesRange extent = (2 ^ 64 ≤ extent.columns) ⊎ (2 ^ 64 ≤ extent.lines)
 abbrev pub nothing : Extent
 nothing = record { columns = 0; lines = 0 }
 
--- of each text in so many columns is known what its padding adds
+-- `known` gives what padding adds in the first columns of a row
 pub record DescribesAdded (known : ℕ → Extent) (config : SpannedConfig) (row columns : ℕ) : Type 0 where
   pub at : (column : ℕ) → column < columns → known column ≡ added_at config row column
 
--- what is listed of so many columns is what padding adds in the row of its number, and all rows are padded so if it says so
+-- the list has what padding adds in the reference row; `everywhere` only if all rows have the same
+-- paddings
 pub record IsListed (config : SpannedConfig) (columns : ℕ) (listed : ListedRow) : Type 0 where
   pub extents : listed.extents.items ≡ map (added_at config listed.reference) (range_with_len 0 columns)
   pub everywhere : listed.everywhere ≡ true → (row column : ℕ)
       → (style_at config row column).padding ≡ (style_at config listed.reference column).padding
 
--- what is known of the texts in so many columns
+-- what is known of the first columns
 abbrev pub known_of : KnownAdded → SpannedConfig → ℕ → Type 0
 known_of (known.Alike extent) config columns = (row column : ℕ) → extent ≡ added_at config row column
 known_of (known.Unlike (Some listed)) config columns = IsListed config columns listed
 known_of (known.Unlike None) config columns = Unit
 
--- what is known of the texts in so many columns is what their padding adds
+-- what is known of the first columns is what padding adds there
 pub record KnowsAdded (known : KnownAdded) (config : SpannedConfig) (columns : ℕ) : Type 0 where
   pub is : known_of known config columns

@@ -1,4 +1,4 @@
--- A table with the sizes that stand.
+-- A table with its effective sizes.
 use Rattle.std.specs.Prelude.{ℕ, List, length, take, Option, Some, None}
 use Rattle.tabled_base.specs.Cells.{columns}
 use Rattle.tabled_config.specs.declared.spanned.SpannedConfig.{SpannedConfig}
@@ -7,7 +7,7 @@ use Rattle.tabled_size.specs.Estimates.{estimated_heights, estimated_widths}
 use Rattle.tabled_size.specs.Sheet.{Sheet}
 use Rattle.tabled_size.specs.Stored.{heights_of, widths_of}
 
--- a list that is stored, as far as the table goes, and else the estimates
+-- the stored list, truncated to the table, else the estimates
 abbrev pub effective_sizes : Option (List ℕ) → List ℕ → ℕ → List ℕ
 effective_sizes None estimates count = estimates
 effective_sizes (Some sizes) estimates count = take count sizes

@@ -1,4 +1,4 @@
--- A table with the sizes that stand.
+-- A table with its effective sizes.
 use Rattle.std.specs.Prelude.{ℕ, ◌==◌, ◌||◌, Bool, List, length}
 use Rattle.tabled_base.specs.Cells.{columns}
 use Rattle.tabled_config.specs.declared.spanned.SpannedConfig.{SpannedConfig}
@@ -10,7 +10,7 @@ pub record Sheet : Type 0 where
   pub widths : List ℕ
   pub heights : List ℕ
 
--- the table with estimated sizes
+-- a table with estimated sizes
 abbrev pub estimated : List (List (List ℕ)) → SpannedConfig → Sheet
 estimated cells config = record {
   cells = cells;
@@ -19,6 +19,6 @@ estimated cells config = record {
   heights = estimated_heights cells config;
 }
 
--- it has no row or no column
+-- there are no rows or no columns
 abbrev pub is_empty : List (List (List ℕ)) → Bool
 is_empty cells = (length cells == 0) || (columns cells == 0)

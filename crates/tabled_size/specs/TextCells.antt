@@ -1,8 +1,8 @@
--- Cells that are texts, whatever their characters are.
+-- Cells with arbitrary text.
 use Rattle.std.specs.Prelude.{ℕ, List}
 use Rattle.std.specs.List.{All}
 use Rattle.std.specs.Str.{IsUtf8}
 
--- the cells are texts of any characters
+-- all cells are valid UTF-8
 abbrev pub AreTexts : List (List (List ℕ)) → Type 0
 AreTexts cells = All (All IsUtf8) cells

@@ -1,23 +1,23 @@
--- Sizes by a value, a list, or a list and a value for the rest.
+-- Sizes from a single value, a list, or a list with a value for the rest.
 use Rattle.std.specs.Prelude.{◌≡◌, ℕ, Option, Some, length, nat_lt, if◌then◌else◌}
 use Rattle.tabled_size.specs.declared.static_dimension.DimensionValue.{DimensionValue}
 use Rattle.tabled_size.specs.declared.static_dimension.DimensionValue.TheVariants.{Exact, List as Listed, Partial}
 use Rattle.tabled_priority.specs.Permitted.{at}
 use Rattle.tabled_size.specs.Entries.{entry}
 
--- the size at a place
+-- the size at an index
 abbrev pub value_at : DimensionValue → ℕ → Option ℕ
 value_at (Exact size) i = Some size
 value_at (Listed sizes) i = entry sizes.items i
 value_at (Partial sizes rest) i = Some (if nat_lt i (length sizes.items) then at sizes.items i else rest)
 
--- there is a list, which may be of no size
+-- there is a list, even an empty one
 abbrev pub HasList : DimensionValue → Type 0
 HasList (Exact size) = ⊥
 HasList (Listed sizes) = Unit {0}
 HasList (Partial sizes rest) = Unit {0}
 
--- the same form, with the same sizes
+-- the same variant, with the same sizes
 abbrev pub IsSameValue : DimensionValue → DimensionValue → Type 0
 IsSameValue (Exact a) (Exact b) = a ≡ b
 IsSameValue (Exact a) (Listed v) = ⊥

@@ -1,4 +1,4 @@
-//! What padding adds to the texts of a row's cells.
+//! What padding adds to the width and height of each cell.
 ghost use Rattle.std.specs.Prelude.{◌≡◌, ℕ, IfNone, IfSome, map, true};
 ghost use Rattle.std.specs.List.{range_with_len, slice_index_or};
 ghost use Rattle.tabled_config.specs.Settings.{style_at};
@@ -11,54 +11,54 @@ use tabled_base::Position;
 use tabled_config::{Indent, Sides, SpannedConfig};
 use tabled_entity::{KnownValues, RowValues};
 
-/// For more columns nothing is listed.
+/// Padding is listed for at most this number of columns.
 const MOST_COLUMNS: usize = 65_536;
 
-/// So many columns and lines: those that padding adds to a text, or those that a cell needs.
+/// A number of columns and lines: what padding adds to a cell, or what a cell needs.
 #[derive(Clone, Copy)]
 pub(crate) struct Extent {
     pub(crate) columns: usize,
     pub(crate) lines: usize,
 }
 
-/// What tells what padding adds to the texts of a row's cells, from left to right.
+/// Looks up what padding adds in each column of a row, from left to right.
 pub(crate) trait RowPadding {
     ghost use Rattle.tabled_size.specs.declared.added.Extent.{Extent};
 
-    // What is known of the text in a column.
+    // What padding adds in a column.
     ghost known: { Self → ℕ → Extent };
 
-    /// What padding adds to the text in a column, if numbers can say it.
+    /// Returns what padding adds in a column, or `None` if it exceeds `usize::MAX`.
     fn at(&mut self, column: usize) -> Option<Extent>
         ensures some { IfSome result (λ extent. extent ≡ known self.old column) }
         ensures none { IfNone result (PassesRange (known self.old column)) }
         ensures same { (column : ℕ) → known self.new column ≡ known self.old column };
 }
 
-/// To the text in each column as it is listed, and nothing behind the listed columns.
+/// What padding adds, as a list with one entry for each column, and 0 after its end.
 #[derive(Drop)]
 pub(crate) struct Listed<'a>(pub(crate) &'a [Extent]);
 
-/// What padding adds in each column of a row, and so in each row that is padded like it.
+/// What padding adds in each column of one row, and of every row with the same padding.
 #[derive(Drop)]
 pub(crate) struct ListedRow {
     pub(crate) reference: usize,
-    // Whether all rows are known to be padded like it.
+    // Whether all rows are known to have this padding.
     pub(crate) everywhere: bool,
     pub(crate) extents: Vec<Extent>,
 }
 
-/// What padding adds to the texts of a table, where that is known for more than one row. That it is the same to
-/// all is known by one test, so that a loop over rows is compiled for that case by itself.
+/// What padding adds in a table, computed once for several rows if possible. Uniform padding is a
+/// variant of its own, so that the row loop is compiled separately for it.
 #[derive(Drop)]
 pub(crate) enum KnownAdded {
-    /// The same to all.
+    /// The same for all cells.
     Alike(Extent),
-    /// As it is listed for one row, or nothing is known.
+    /// The list for one row, or `None` if nothing is known.
     Unlike(Option<ListedRow>),
 }
 
-/// What padding adds to a text, if numbers can say it.
+/// Returns what a padding adds, or `None` if it exceeds `usize::MAX`.
 #[inline(always)]
 fn added_by(padding: Sides<Indent>) -> Option<Extent>
     ensures some { IfSome result (λ extent. extent ≡ added_by padding) }
@@ -70,7 +70,8 @@ fn added_by(padding: Sides<Indent>) -> Option<Extent>
     })
 }
 
-/// What padding adds to the text of each cell, where all are known to be padded alike, and numbers can say it.
+/// Returns what padding adds to every cell, if that is known to be the same and at most
+/// `usize::MAX`.
 fn shared_added(config: &SpannedConfig) -> Option<Extent>
     ensures { IfSome result (λ extent. (row column : ℕ) → extent ≡ added_at config.now row column) }
 {
@@ -78,7 +79,8 @@ fn shared_added(config: &SpannedConfig) -> Option<Extent>
     added_by(padding)
 }
 
-/// What padding adds to each text of a row, where all are known to be padded alike, and numbers can say it.
+/// Returns what padding adds to every cell of a row, if that is known to be the same and at most
+/// `usize::MAX`.
 fn row_added(config: &SpannedConfig, row: usize) -> Option<Extent>
     ensures { IfSome result (λ extent. (column : ℕ) → extent ≡ added_at config.now row column) }
 {
@@ -86,7 +88,7 @@ fn row_added(config: &SpannedConfig, row: usize) -> Option<Extent>
     added_by(padding)
 }
 
-/// What padding adds to each text in a row's first columns, where all are known to be padded alike, and numbers can say it.
+/// Returns what these paddings add, if they are known to be the same and add at most `usize::MAX`.
 #[inline(always)]
 pub(crate) fn known_row_added(paddings: &KnownValues<'_, Sides<Indent>>) -> Option<Extent>
     ensures { IfSome result (λ extent. (column : ℕ) → extent ≡ added_by (known_value paddings.now column)) }
@@ -95,7 +97,8 @@ pub(crate) fn known_row_added(paddings: &KnownValues<'_, Sides<Indent>>) -> Opti
     added_by(*padding)
 }
 
-/// What padding adds to the texts in so many columns of a row, if numbers can say it, and memory isn't refused.
+/// Lists what padding adds in the first `columns` columns of a row. `None` if a sum exceeds
+/// `usize::MAX` or an allocation failed.
 fn listed_in(
     alloc: Global,
     config: &SpannedConfig,
@@ -112,7 +115,7 @@ fn listed_in(
     Some(extents)
 }
 
-/// The same to all texts.
+/// The same in all columns.
 impl RowPadding for Extent {
     ghost known = { λ extent column. extent };
 
@@ -137,7 +140,7 @@ impl<'a> RowPadding for Listed<'a> {
     }
 }
 
-/// To each text as its padding is known.
+/// Known paddings, found by index.
 impl<'a> RowPadding for KnownValues<'a, Sides<Indent>> {
     ghost known = { λ paddings column. added_by (known_value paddings column) };
 
@@ -147,7 +150,7 @@ impl<'a> RowPadding for KnownValues<'a, Sides<Indent>> {
     }
 }
 
-/// To each text as its padding was set.
+/// Paddings looked up in the configuration.
 impl<'a> RowPadding for RowValues<'a, Sides<Indent>> {
     ghost known = { λ paddings column. added_by (value_at paddings column) };
 
@@ -158,7 +161,7 @@ impl<'a> RowPadding for RowValues<'a, Sides<Indent>> {
 }
 
 impl ListedRow {
-    /// Whether the texts of a row are known to be padded like those of the listed one.
+    /// Whether a row is known to have the same paddings as the listed one.
     #[inline(always)]
     pub(crate) fn is_padded_in(&self, config: &SpannedConfig, row: usize) -> bool
         ensures { (columns : ℕ) → IsListed config.now columns self.now → result ≡ true → (column : ℕ)
@@ -169,8 +172,9 @@ impl ListedRow {
 }
 
 impl KnownAdded {
-    /// What padding adds to the texts of a table with so many rows and columns. It is listed where there are few enough columns,
-    /// and padding was set for no cell. That memory for the list is refused changes what is kept, and not what is known.
+    /// Computes what padding adds in a table with `rows` rows and `columns` columns. It is listed
+    /// only if there are at most `MOST_COLUMNS` columns and no padding was set for a cell. If an
+    /// allocation fails, nothing is listed, and each row looks up its paddings.
     pub(crate) fn new(
         alloc: Global,
         config: &SpannedConfig,
@@ -182,11 +186,11 @@ impl KnownAdded {
         if let Some(extent) = shared_added(config) {
             return KnownAdded::Alike(extent);
         }
-        // Where padding was set for rows alone, each row is asked for its own.
+        // If padding was set only for rows, each row looks up its own.
         if rows < 2 || columns > MOST_COLUMNS || row_added(config, rows).is_some() {
             return KnownAdded::Unlike(None);
         }
-        // For the row behind the last hardly anything is set, so that most rows are padded like it.
+        // Hardly anything is set for the row after the last one, so most rows have its padding.
         if !config.are_padded_alike(rows, rows) {
             return KnownAdded::Unlike(None);
         }

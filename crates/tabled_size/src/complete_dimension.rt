@@ -1,4 +1,4 @@
-//! Sizes that are stored or estimated.
+//! Sizes that are stored or not (`CompleteDimension`).
 ghost use Rattle.std.specs.Prelude.{◌≡◌, ◌&&◌, ◌⊎◌, ℕ, IfErr, IfOk, IsSome, List, None, OnErr, Option, Some, is_none, is_some, option_map, true};
 ghost use Rattle.tabled_base.specs.declared.error.TableError.TheVariants.{Memory};
 ghost use Rattle.tabled_size.specs.Entries.{clears_heights, clears_widths, stored_at, unless_cleared};
@@ -8,8 +8,8 @@ use crate::dimension::Dimension;
 use std::alloc::Global;
 use tabled_base::{Entity, TableError};
 
-/// The widths and heights of a table, each of them stored or not. What isn't stored is estimated when
-/// it is needed.
+/// The widths and the heights of a table, each stored or not. What isn't stored is estimated when
+/// needed.
 #[derive(Debug, Drop, PartialEq, Eq, PartialOrd, Ord)]
 pub struct CompleteDimension {
     alloc: Global,
@@ -18,7 +18,7 @@ pub struct CompleteDimension {
 }
 
 impl CompleteDimension {
-    /// No sizes stored.
+    /// Creates a dimension without stored sizes.
     pub fn new(alloc: Global) -> Self
         ensures widths { widths_of result ≡ None }
         ensures heights { heights_of result ≡ None }
@@ -30,7 +30,7 @@ impl CompleteDimension {
         }
     }
 
-    /// Whether widths and heights are stored.
+    /// Whether both widths and heights are stored.
     pub fn is_complete(&self) -> bool
         ensures { result ≡ is_stored self.now }
     {
@@ -44,7 +44,7 @@ impl CompleteDimension {
         self.width.is_none() && self.height.is_none()
     }
 
-    /// Stores widths, in columns of text with their padding, one for each column of the table.
+    /// Stores the width of each column of the table, in terminal columns, padding included.
     pub fn set_widths(&mut self, columns: Vec<usize>)
         ensures widths { widths_of self.new ≡ Some columns.items }
         ensures heights { heights_of self.new ≡ heights_of self.old }
@@ -52,7 +52,7 @@ impl CompleteDimension {
         self.width = Some(columns);
     }
 
-    /// Stores heights, in lines, one for each row of the table.
+    /// Stores the height of each row of the table, in lines, padding included.
     pub fn set_heights(&mut self, rows: Vec<usize>)
         ensures heights { heights_of self.new ≡ Some rows.items }
         ensures widths { widths_of self.new ≡ widths_of self.old }
@@ -60,7 +60,7 @@ impl CompleteDimension {
         self.height = Some(rows);
     }
 
-    /// Forgets the widths.
+    /// Removes the stored widths.
     pub fn clear_width(&mut self)
         ensures widths { widths_of self.new ≡ None }
         ensures heights { heights_of self.new ≡ heights_of self.old }
@@ -68,7 +68,7 @@ impl CompleteDimension {
         self.width = None;
     }
 
-    /// Forgets the heights.
+    /// Removes the stored heights.
     pub fn clear_height(&mut self)
         ensures heights { heights_of self.new ≡ None }
         ensures widths { widths_of self.new ≡ widths_of self.old }
@@ -76,7 +76,7 @@ impl CompleteDimension {
         self.height = None;
     }
 
-    /// Forgets widths and heights.
+    /// Removes the stored widths and heights.
     pub fn clear(&mut self)
         ensures widths { widths_of self.new ≡ None }
         ensures heights { heights_of self.new ≡ None }
@@ -85,8 +85,8 @@ impl CompleteDimension {
         self.clear_height();
     }
 
-    /// Forgets what a change may have made wrong: both where the whole table or a cell was changed, the
-    /// widths for a column, the heights for a row, nothing without a hint.
+    /// Removes the stored sizes that a change may have made wrong: the widths for a column, the
+    /// heights for a row, both for a cell or the whole table, none without a hint.
     pub fn reastimate(&mut self, hint: Option<Entity>)
         ensures widths { widths_of self.new ≡ unless_cleared (clears_widths hint) (widths_of self.old) }
         ensures heights { heights_of self.new ≡ unless_cleared (clears_heights hint) (heights_of self.old) }
@@ -100,28 +100,28 @@ impl CompleteDimension {
         }
     }
 
-    /// The widths, where they are stored.
+    /// Returns the stored widths, if any.
     pub fn get_widths(&self) -> Option<&[usize]>
         ensures { option_map (λ sizes. sizes.now) result ≡ widths_of self.now }
     {
         self.width.as_deref()
     }
 
-    /// The heights, where they are stored.
+    /// Returns the stored heights, if any.
     pub fn get_heights(&self) -> Option<&[usize]>
         ensures { option_map (λ sizes. sizes.now) result ≡ heights_of self.now }
     {
         self.height.as_deref()
     }
 
-    /// What the lists grow by.
+    /// Returns the allocator of the stored sizes.
     pub fn allocator(&self) -> Global
         ensures { result ≡ self.now.alloc }
     {
         self.alloc
     }
 
-    /// The same sizes. Refused for memory, which stored lists alone take.
+    /// Clones the sizes. Fails only with `Memory`, and only if sizes are stored.
     pub fn clone(&self) -> Result<Self, TableError>
         ensures widths { IfOk result (λ sizes. widths_of sizes ≡ widths_of self.now) }
         ensures heights { IfOk result (λ sizes. heights_of sizes ≡ heights_of self.now) }

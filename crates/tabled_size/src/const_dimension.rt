@@ -1,4 +1,4 @@
-//! Sizes that are arrays or single values.
+//! Sizes from arrays or single values (`ConstDimension`).
 ghost use Rattle.std.specs.Prelude.{◌≡◌, ◌⊎◌, IfErr, OnErr, OnOk, ◌<◌, ◌≤◌, ℕ, Some, is_some, length, true};
 ghost use Rattle.tabled_size.specs.declared.const_dimension.ConstSize.TheVariants.{List as Listed, Value};
 ghost use Rattle.tabled_size.specs.ConstSizes.{size_at};
@@ -8,7 +8,7 @@ ghost use Rattle.tabled_base.specs.declared.error.TableError.TheVariants.{Memory
 use crate::dimension::{Dimension, Estimate};
 use tabled_base::TableError;
 
-/// Sizes by an array, or one for all.
+/// Sizes from an array, or one size for all.
 #[derive(Debug, Clone, Copy)]
 pub enum ConstSize<const N: usize> {
     /// One for each of the first columns or rows.
@@ -60,7 +60,7 @@ impl<const N: usize> ConstSize<N> {
         }
     }
 
-    /// The place from which on all have the same size, or none.
+    /// Returns an index from which on all sizes are equal, or all are missing.
     fn alike_from(&self) -> usize
         ensures { (place : ℕ) → result ≤ place → size_at self.now place ≡ size_at self.now result }
     {
@@ -71,7 +71,7 @@ impl<const N: usize> ConstSize<N> {
     }
 }
 
-/// Widths and heights that are arrays, or one number for all. They stay, and take no memory.
+/// Widths and heights from arrays or single values. They never change or allocate.
 #[derive(Debug, Clone, Copy)]
 pub struct ConstDimension<const COLUMNS: usize, const ROWS: usize> {
     width: ConstSize<COLUMNS>,
@@ -79,7 +79,7 @@ pub struct ConstDimension<const COLUMNS: usize, const ROWS: usize> {
 }
 
 impl<const COLUMNS: usize, const ROWS: usize> ConstDimension<COLUMNS, ROWS> {
-    /// The given widths and heights.
+    /// Creates a dimension from widths and heights.
     pub const fn new(width: ConstSize<COLUMNS>, height: ConstSize<ROWS>) -> Self
         ensures widths { result.width ≡ width.entry }
         ensures heights { result.height ≡ height.entry }

@@ -1,38 +1,39 @@
-//! What the sizes of a table are answered by.
+//! The traits of sizes (`Dimension`, `Estimate`).
 ghost use Rattle.std.specs.Prelude.{◌≡◌, ◌≤◌, ◌⊎◌, ℕ, Option, Some, IfErr, IfSome, OnOk, OnErr, is_some, true};
 ghost use Rattle.tabled_base.specs.declared.error.TableError.TheVariants.{Memory, Range};
 
 use tabled_base::TableError;
 
-/// The widths of columns and the heights of rows. Widths count columns of text with their padding,
-/// heights lines.
+/// The widths of columns, in terminal columns, and the heights of rows, in lines. Both include
+/// padding.
 pub trait Dimension {
-    // The width of a column, if it is there.
+    // The width of a column, if it is known.
     ghost width_at: { Self → ℕ → Option ℕ };
 
-    // The height of a row, if it is there.
+    // The height of a row, if it is known.
     ghost height_at: { Self → ℕ → Option ℕ };
 
-    /// Whether the width of a column is there.
+    /// Whether the width of a column is known.
     fn has_width(&self, column: usize) -> bool
         ensures { result ≡ is_some (width_at self.now column) };
 
-    /// Whether the height of a row is there.
+    /// Whether the height of a row is known.
     fn has_height(&self, row: usize) -> bool
         ensures { result ≡ is_some (height_at self.now row) };
 
-    /// The width of a column, which has to be there.
+    /// Returns the width of a column, which must be known.
     fn get_width(&self, column: usize) -> usize
         requires { is_some (width_at self.now column) ≡ true }
         ensures { Some result ≡ width_at self.now column };
 
-    /// The height of a row, which has to be there.
+    /// Returns the height of a row, which must be known.
     fn get_height(&self, row: usize) -> usize
         requires { is_some (height_at self.now row) ≡ true }
         ensures { Some result ≡ height_at self.now row };
 
-    /// A column from which on all are as wide as it, or lack a width as it does, where one is known. So many columns are counted
-    /// at once.
+    /// Returns a column, if one is known, whose width all later columns share; without a width,
+    /// they have none either. Callers then handle these columns at once. Returning `None` is always
+    /// safe.
     fn alike_from(&self) -> Option<usize>
         ensures { IfSome result (λ from. (column : ℕ) → from ≤ column → width_at self.now column ≡ width_at self.now from) }
     {
@@ -40,16 +41,16 @@ pub trait Dimension {
     }
 }
 
-/// A dimension that can measure records `R` under a configuration `C`, where it needs to.
+/// Sizes that can be estimated from records `R` and a configuration `C`.
 pub trait Estimate<R, C> {
-    // What measuring may leave: the old sizes, the records, the configuration, the new sizes.
+    // Relates the old sizes, the records and the configuration to the new sizes.
     ghost estimates: { Self → R → C → Self → Type 0 };
 
-    // A measure passes the greatest `usize`: none does where nothing else is said.
+    // A needed size exceeds `usize::MAX`. By default none does.
     ghost out_of_range: { Self → R → C → Type 0 } = { λ _ _ _. ⊥ };
 
-    /// Stores estimated sizes where none are stored. Refused for memory, or with `Range` where a
-    /// measure passes the greatest `usize`; the sizes then stay as they were.
+    /// Estimates and stores the sizes that aren't stored. Errors: `Memory`, or `Range` if a size
+    /// exceeds `usize::MAX`. The sizes then don't change.
     fn estimate(&mut self, records: &R, config: &C) -> Result<(), TableError>
         ensures ok { OnOk result (estimates self.old records.now config.now self.new) }
         ensures err { OnErr result (self.new ≡ self.old) }

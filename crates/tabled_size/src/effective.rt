@@ -1,4 +1,4 @@
-//! The totals of a table with the sizes that stand: those that are stored, and else estimated ones.
+//! Totals and checks of the effective sizes of a table: stored ones, else estimates.
 ghost use Rattle.std.specs.Prelude.{◌≡◌, ◌⊎◌, ◌<◌, ◌≤◌, ℕ, IfErr, None, Ok, OnOk, false, length, true};
 ghost use Rattle.tabled_base.specs.Cells.{IsRectangular, columns};
 ghost use Rattle.tabled_base.specs.declared.error.TableError.TheVariants.{Memory, Range, ShortHeights, ShortWidths};
@@ -17,7 +17,7 @@ use std::alloc::Global;
 use tabled_base::{ExactRecords, PeekableRecords, TableError};
 use tabled_config::SpannedConfig;
 
-/// Whether there is no row or no column.
+/// Whether there are no rows or no columns.
 pub fn is_empty<R: ExactRecords>(records: &R) -> bool
     ensures value { result ≡ is_empty (R.cells records.now) }
     ensures rectangular { IsRectangular (R.cells records.now) }
@@ -26,7 +26,7 @@ pub fn is_empty<R: ExactRecords>(records: &R) -> bool
     records.count_rows() == 0 || columns == 0
 }
 
-/// How many of so many columns are asked for their widths: each other one is as one of these.
+/// Returns how many of the first columns to check. Each other one has the width of one of these.
 fn count_asked<D: Dimension>(sizes: &D, columns: usize) -> usize
     ensures within { result ≤ columns }
     ensures rest { (column : ℕ) → result ≤ column → column < columns
@@ -38,7 +38,8 @@ fn count_asked<D: Dimension>(sizes: &D, columns: usize) -> usize
     }
 }
 
-/// Whether the widths of so many columns are there. Refused with `ShortWidths` where one isn't.
+/// Checks that the widths of the first `columns` columns are known. Fails with `ShortWidths` if one
+/// isn't.
 pub fn check_widths<D: Dimension>(sizes: &D, columns: usize) -> Result<(), TableError>
     ensures ok { OnOk result (columns ≤ length (reached (D.width_at sizes.now) columns)) }
     ensures err { IfErr result (λ e. (e ≡ ShortWidths)
@@ -52,7 +53,8 @@ pub fn check_widths<D: Dimension>(sizes: &D, columns: usize) -> Result<(), Table
     Ok(())
 }
 
-/// Whether the heights of so many rows are there. Refused with `ShortHeights` where one isn't.
+/// Checks that the heights of the first `rows` rows are known. Fails with `ShortHeights` if one
+/// isn't.
 pub fn check_heights<D: Dimension>(sizes: &D, rows: usize) -> Result<(), TableError>
     ensures ok { OnOk result (rows ≤ length (reached (D.height_at sizes.now) rows)) }
     ensures err { IfErr result (λ e. (e ≡ ShortHeights)
@@ -66,7 +68,7 @@ pub fn check_heights<D: Dimension>(sizes: &D, rows: usize) -> Result<(), TableEr
     Ok(())
 }
 
-/// The columns of a table with some columns whose widths may be there.
+/// Returns the total width for given sizes. Errors: `ShortWidths`, `Range`.
 fn reached_width<D: Dimension>(
     config: &SpannedConfig,
     columns: usize,
@@ -82,7 +84,7 @@ fn reached_width<D: Dimension>(
     }
 }
 
-/// The lines of a table with some rows whose heights may be there.
+/// Returns the total height for given sizes. Errors: `ShortHeights`, `Range`.
 fn reached_height<D: Dimension>(
     config: &SpannedConfig,
     rows: usize,
@@ -98,7 +100,7 @@ fn reached_height<D: Dimension>(
     }
 }
 
-/// The columns of a table with some columns whose widths are estimated.
+/// Returns the total width for estimated widths.
 fn estimated_width<R: PeekableRecords>(
     alloc: Global,
     records: &R,
@@ -113,7 +115,7 @@ fn estimated_width<R: PeekableRecords>(
     reached_width(config, records.count_columns(), &sizes)
 }
 
-/// The lines of a table with some rows whose heights are estimated.
+/// Returns the total height for estimated heights.
 fn estimated_height<R: PeekableRecords>(
     alloc: Global,
     records: &R,
@@ -128,9 +130,13 @@ fn estimated_height<R: PeekableRecords>(
     reached_height(config, records.count_rows(), &sizes)
 }
 
-/// The columns of the whole table: 0 where it has no row or no column, else the widths that stand, the
-/// vertical lines and the side margins. Refused for memory where no widths are stored, with `ShortWidths` where a list is stored that
-/// is shorter than the table, and with `Range` where the sum passes the greatest `usize`.
+/// Returns the total width of a table, in columns: effective widths, vertical lines and side
+/// margins. It is 0 without rows or columns.
+///
+/// Errors:
+/// - `Memory`: an allocation failed. Never if widths are stored.
+/// - `ShortWidths`: the stored list is shorter than the table.
+/// - `Range`: the sum exceeds `usize::MAX`.
 pub fn total_width<R: PeekableRecords>(
     records: &R,
     config: &SpannedConfig,
@@ -151,9 +157,13 @@ pub fn total_width<R: PeekableRecords>(
     }
 }
 
-/// The lines of the whole table: 0 where it has no row or no column, else the heights that stand, the
-/// horizontal lines, top and bottom margin. Refused for memory where no heights are stored, with `ShortHeights` where a list is stored
-/// that is shorter than the table, and with `Range` where the sum passes the greatest `usize`.
+/// Returns the total height of a table, in lines: effective heights, horizontal lines, top and
+/// bottom margin. It is 0 without rows or columns.
+///
+/// Errors:
+/// - `Memory`: an allocation failed. Never if heights are stored.
+/// - `ShortHeights`: the stored list is shorter than the table.
+/// - `Range`: the sum exceeds `usize::MAX`.
 pub fn total_height<R: PeekableRecords>(
     records: &R,
     config: &SpannedConfig,

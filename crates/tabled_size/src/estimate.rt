@@ -1,4 +1,4 @@
-//! The widths and heights that the texts of a table ask for.
+//! The widths and heights that the cells of a table need.
 ghost use Rattle.std.specs.Prelude.{◌≡◌, ◌⊎◌, ◌+◌, ◌<◌, ◌≤◌, ◌^◌, ℕ, IfOk, IfErr, IfNone, IfSome, MatchOption, length};
 ghost use Rattle.tabled_base.specs.Cells.{IsInside, columns};
 ghost use Rattle.tabled_base.specs.declared.error.TableError.TheVariants.{Memory, Range};
@@ -13,7 +13,7 @@ use tabled_base::{PeekableRecords, Position, TableError};
 use tabled_config::{Indent, Sides, SpannedConfig};
 use tabled_entity::KnownValues;
 
-/// The columns that a cell needs, if a number can say them.
+/// Returns the width that a cell needs, or `None` if it exceeds `usize::MAX`.
 pub(crate) fn needed_width<R: PeekableRecords>(
     records: &R,
     config: &SpannedConfig,
@@ -27,7 +27,7 @@ pub(crate) fn needed_width<R: PeekableRecords>(
     padded_width(records, config, at, config.get_padding(at))
 }
 
-/// The columns that a cell needs with its padding, if a number can say them.
+/// Returns the width that a cell with this padding needs, or `None` if it exceeds `usize::MAX`.
 #[inline(always)]
 fn padded_width<R: PeekableRecords>(
     records: &R,
@@ -46,7 +46,7 @@ fn padded_width<R: PeekableRecords>(
     records.get_width(at).checked_add(sides)
 }
 
-/// The lines that a cell needs with its padding, if a number can say them.
+/// Returns the height that a cell with this padding needs, or `None` if it exceeds `usize::MAX`.
 #[inline(always)]
 fn padded_height<R: PeekableRecords>(
     records: &R,
@@ -65,7 +65,8 @@ fn padded_height<R: PeekableRecords>(
     records.count_lines(at).checked_add(sides)
 }
 
-/// Makes room for the cells of a row.
+/// Raises the widths to what the cells of a row need. Fails with `Range` if one exceeds
+/// `usize::MAX`.
 fn raise_widths<R: PeekableRecords>(
     records: &R,
     config: &SpannedConfig,
@@ -88,8 +89,8 @@ fn raise_widths<R: PeekableRecords>(
     Ok(())
 }
 
-/// The estimated widths, one a column. Refused for memory, or `Range` where a cell's text and padding
-/// pass the greatest `usize`.
+/// Estimates the width of each column. Errors: `Memory`, or `Range` if a cell needs more than
+/// `usize::MAX` columns.
 pub fn estimate_widths<R: PeekableRecords>(
     alloc: Global,
     records: &R,
@@ -106,7 +107,7 @@ pub fn estimate_widths<R: PeekableRecords>(
     Ok(widths)
 }
 
-/// The lines that the cells of a row need, if a number can say them.
+/// Returns the height that the cells of a row need, or `None` if it exceeds `usize::MAX`.
 pub(crate) fn row_height<R: PeekableRecords>(
     records: &R,
     config: &SpannedConfig,
@@ -126,8 +127,8 @@ pub(crate) fn row_height<R: PeekableRecords>(
     Some(most)
 }
 
-/// The estimated heights, one a row. Refused for memory, or `Range` where a cell's lines and padding
-/// pass the greatest `usize`.
+/// Estimates the height of each row. Errors: `Memory`, or `Range` if a cell needs more than
+/// `usize::MAX` lines.
 pub fn estimate_heights<R: PeekableRecords>(
     alloc: Global,
     records: &R,
@@ -147,7 +148,7 @@ pub fn estimate_heights<R: PeekableRecords>(
     Ok(heights)
 }
 
-/// What a cell needs, to whose text padding adds so much, if numbers can say it.
+/// Returns what a cell needs, given what its padding adds. `None` if it exceeds `usize::MAX`.
 #[inline(always)]
 fn needed<R: PeekableRecords>(
     records: &R,
@@ -171,8 +172,8 @@ fn needed<R: PeekableRecords>(
     })
 }
 
-/// Makes room for the cells of a row, and answers the lines that they need, if numbers can say both. What padding adds to their
-/// texts is known.
+/// Raises the widths to what the cells of a row need, and returns the height that they need, given
+/// what padding adds. `None` if a size exceeds `usize::MAX`.
 #[inline]
 fn measure_row<R: PeekableRecords, A: RowPadding + Drop>(
     records: &R,
@@ -198,7 +199,7 @@ fn measure_row<R: PeekableRecords, A: RowPadding + Drop>(
     Some(most)
 }
 
-/// Makes room for the cells of a row, and answers the lines that they need, if numbers can say both. The padding of each text is known.
+/// Measures a row as `measure_row` does, with known paddings.
 #[inline]
 fn measure_known_paddings<R: PeekableRecords>(
     records: &R,
@@ -221,7 +222,7 @@ fn measure_known_paddings<R: PeekableRecords>(
     }
 }
 
-/// Makes room for the cells of a row, and answers the lines that they need, if numbers can say both. Each text is padded as it was set.
+/// Measures a row as `measure_row` does, and looks up its paddings.
 #[inline(never)]
 fn measure_set_paddings<R: PeekableRecords>(
     records: &R,
@@ -238,8 +239,7 @@ fn measure_set_paddings<R: PeekableRecords>(
     measure_row(records, config, row, widths, config.paddings_in(row))
 }
 
-/// Makes room for the cells of a row, and answers the lines that they need, if numbers can say both. What padding adds to their
-/// texts is known, or else asked for.
+/// Measures a row as `measure_row` does. What padding adds is known, or else looked up.
 #[inline]
 fn measure_known<R: PeekableRecords>(
     records: &R,
@@ -273,8 +273,8 @@ fn measure_known<R: PeekableRecords>(
     }
 }
 
-/// The estimated widths and heights, one row after another. Refused for memory, or `Range` where a
-/// cell's text and padding pass the greatest `usize`.
+/// Estimates widths and heights in one pass over the rows. Errors: `Memory`, or `Range` if a cell
+/// needs more than `usize::MAX` columns or lines.
 pub fn estimate_sizes<R: PeekableRecords>(
     alloc: Global,
     records: &R,

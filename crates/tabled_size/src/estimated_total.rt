@@ -1,4 +1,4 @@
-//! Totals of estimated sizes, which take no memory: no list of sizes is kept.
+//! Totals of estimated sizes, computed without an allocation.
 ghost use Rattle.std.specs.Prelude.{◌≡◌, ◌⊎◌, ◌<◌, ◌≤◌, ◌^◌, MatchOption, length};
 ghost use Rattle.std.specs.List.{slice_index};
 ghost use Rattle.tabled_base.specs.Cells.{columns};
@@ -13,7 +13,7 @@ use crate::total::{framed_height, framed_width, one_if};
 use tabled_base::{PeekableRecords, Position};
 use tabled_config::SpannedConfig;
 
-/// The columns that the cells of a column need, if a number can say them.
+/// Returns the estimated width of a column, or `None` if it exceeds `usize::MAX`.
 fn column_width<R: PeekableRecords>(
     records: &R,
     config: &SpannedConfig,
@@ -31,7 +31,7 @@ fn column_width<R: PeekableRecords>(
     Some(most)
 }
 
-/// The estimated widths in all, if a number can say them.
+/// Returns the sum of the estimated widths, or `None` if it exceeds `usize::MAX`.
 #[tactic(auto, using(tabled_priority::proofs::Sums::sum_step, crate::proofs::Passing::width_at))]
 fn sum_columns<R: PeekableRecords>(records: &R, config: &SpannedConfig) -> Option<usize>
     ensures { let widths = estimated_widths (R.cells records.now) config.now in
@@ -45,8 +45,8 @@ fn sum_columns<R: PeekableRecords>(records: &R, config: &SpannedConfig) -> Optio
     Some(total)
 }
 
-/// The columns of the whole table with estimated widths, 0 where it has no row or no column. `None` where they pass the
-/// greatest `usize`.
+/// Returns the total width of a table with estimated widths, in columns. It is 0 without rows or
+/// columns. `None` if it exceeds `usize::MAX`.
 pub fn estimated_total_width<R: PeekableRecords>(
     records: &R,
     config: &SpannedConfig,
@@ -64,7 +64,8 @@ pub fn estimated_total_width<R: PeekableRecords>(
     )
 }
 
-/// A row's estimated height with the horizontal line above it, if a number can say them.
+/// Returns the estimated height of a row and the horizontal line above it, or `None` if it exceeds
+/// `usize::MAX`.
 #[tactic(auto, unfolding(crate::specs::Totals::part_height), using(crate::proofs::Passing::height_at))]
 fn estimated_part<R: PeekableRecords>(
     records: &R,
@@ -80,7 +81,8 @@ fn estimated_part<R: PeekableRecords>(
     line.checked_add(row_height(records, config, row)?)
 }
 
-/// The estimated heights with the horizontal lines above them in all, if a number can say them.
+/// Returns the sum of the estimated heights and of the horizontal lines above the rows, or `None`
+/// if it exceeds `usize::MAX`.
 #[tactic(auto, using(tabled_priority::proofs::Sums::sum_step))]
 fn sum_parts<R: PeekableRecords>(records: &R, config: &SpannedConfig) -> Option<usize>
     ensures { let part = part_height config.now (length (R.cells records.now))
@@ -95,8 +97,8 @@ fn sum_parts<R: PeekableRecords>(records: &R, config: &SpannedConfig) -> Option<
     Some(total)
 }
 
-/// The lines of the whole table with estimated heights, 0 where it has no row or no column. `None` where they pass the
-/// greatest `usize`.
+/// Returns the total height of a table with estimated heights, in lines. It is 0 without rows or
+/// columns. `None` if it exceeds `usize::MAX`.
 pub fn estimated_total_height<R: PeekableRecords>(
     records: &R,
     config: &SpannedConfig,

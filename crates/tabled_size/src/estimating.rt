@@ -1,4 +1,4 @@
-//! Sizes that are estimated where none are stored.
+//! Estimates for the sizes that aren't stored in a `CompleteDimension`.
 ghost use Rattle.std.specs.Prelude.{◌≡◌, ◌⊎◌, IfErr, IsOk, IsTrue, OnErr, OnOk};
 ghost use Rattle.tabled_base.specs.declared.error.TableError.TheVariants.{Memory, Range};
 ghost use Rattle.tabled_size.specs.FilledIn.{HasNoEstimate, IsFilledIn};

@@ -1,14 +1,17 @@
-//! The sizes of a table: the widths and heights that its texts need, its totals, and the dimensions
+//! The sizes of a table: the widths and heights that its cells need, its totals, and the dimensions
 //! that store them.
 //!
-//! - `dimension.rt`: `Dimension` and `Estimate`, the traits of sizes.
-//! - `complete_dimension.rt`: `CompleteDimension`, stored sizes or none.
-//! - `const_dimension.rt`, `static_dimension.rt`, `zero_dimension.rt`, `pool_table_dimension.rt`:
-//!   the other dimensions.
-//! - `estimate.rt`: the widest cell of each column and the highest of each row; `added.rt`: what
-//!   padding adds to them; `estimating.rt`: estimates for what isn't stored.
+//! - `dimension.rt`: the traits of sizes, `Dimension` and `Estimate`.
+//! - `complete_dimension.rt`: sizes that are stored or not (`CompleteDimension`).
+//! - `const_dimension.rt`, `static_dimension.rt`, `zero_dimension.rt`: given sizes that never
+//!   change.
+//! - `pool_table_dimension.rt`: which boxes of a pool table are made wider or taller
+//!   (`PoolTableDimension`).
+//! - `estimate.rt`: the widest cell of each column and the tallest of each row.
+//! - `added.rt`: what padding adds to the size of a cell.
+//! - `estimating.rt`: estimates for the sizes that aren't stored.
 //! - `total.rt`: the total of given sizes, with borders and margins.
-//! - `effective.rt`: totals and checks of the sizes that count: stored ones, else estimates.
+//! - `effective.rt`: totals and checks of the effective sizes: stored ones, else estimates.
 //! - `estimated_total.rt`: totals of estimates, without a list of sizes.
 #![tactic(auto)]
 

@@ -1,20 +1,20 @@
-//! Which boxes of a pool table are widened.
+//! Which boxes of a pool table are made wider or taller (`PoolTableDimension`).
 ghost use Rattle.std.specs.Prelude.{◌≡◌};
 
 use tabled_base::{Entity, TableError, TableOption};
 
-/// Which of the boxes side by side, or below each other, takes what is to be filled up.
+/// Which of several neighbouring boxes get the columns or lines that are left over.
 #[derive(Debug, Clone, Copy, PartialEq, Eq, PartialOrd, Ord)]
 pub enum DimensionPriority {
     /// The first.
     First,
     /// The last.
     Last,
-    /// All, one by one.
+    /// All of them, as evenly as possible. A remainder goes to the first ones, one each.
     List,
 }
 
-/// How the boxes of a pool table are widened and heightened.
+/// Which boxes of a `PoolTable` are made wider, and which taller.
 #[derive(Debug, Clone, Copy, PartialEq, Eq, PartialOrd, Ord)]
 pub struct PoolTableDimension {
     width: DimensionPriority,
@@ -22,7 +22,7 @@ pub struct PoolTableDimension {
 }
 
 impl PoolTableDimension {
-    /// A priority for widths and one for heights.
+    /// Creates a dimension from the priorities of widths and heights.
     pub fn new(width: DimensionPriority, height: DimensionPriority) -> Self
         ensures widths { result.width ≡ width }
         ensures heights { result.height ≡ height }
@@ -30,14 +30,14 @@ impl PoolTableDimension {
         PoolTableDimension { width, height }
     }
 
-    /// The priority of widths.
+    /// Returns the priority of widths.
     pub fn width(&self) -> DimensionPriority
         ensures { result ≡ self.now.width }
     {
         self.width
     }
 
-    /// The priority of heights.
+    /// Returns the priority of heights.
     pub fn height(&self) -> DimensionPriority
         ensures { result ≡ self.now.height }
     {
@@ -45,7 +45,7 @@ impl PoolTableDimension {
     }
 }
 
-/// It takes the place of the one that a table has; its records and its configuration stay.
+/// Replaces the dimension of a table. Its records and its configuration don't change.
 impl<R, C> TableOption<R, C, PoolTableDimension> for PoolTableDimension {
     ghost changes = { λ option r c d r' c' d'. (r' ≡ r) × ((c' ≡ c) × (d' ≡ option)) };
 

@@ -1,4 +1,4 @@
-//! Sizes that are given once.
+//! Sizes from lists or single values (`StaticDimension`).
 ghost use Rattle.std.specs.Prelude.{◌≡◌, ◌≤◌, ◌⊎◌, ℕ, IfErr, IfOk, OnErr, OnOk, Some, is_some, true};
 ghost use Rattle.tabled_base.specs.declared.error.TableError.TheVariants.{Memory, Range};
 ghost use Rattle.tabled_size.specs.Values.{value_at, HasList, IsSameValue};
@@ -6,7 +6,7 @@ ghost use Rattle.tabled_size.specs.Values.{value_at, HasList, IsSameValue};
 use crate::dimension::{Dimension, Estimate};
 use tabled_base::TableError;
 
-/// Widths or heights.
+/// Widths or heights from a list, a single value, or both.
 #[derive(Debug, Drop)]
 pub enum DimensionValue {
     /// The same for all.
@@ -18,7 +18,7 @@ pub enum DimensionValue {
 }
 
 impl DimensionValue {
-    /// The size of a column or row. A `List` has to have the entry.
+    /// Returns the size of a column or row. A `List` must have an entry for it.
     pub fn get(&self, col: usize) -> usize
         requires { is_some (value_at self.now col) ≡ true }
         ensures { Some result ≡ value_at self.now col }
@@ -42,7 +42,7 @@ impl DimensionValue {
         }
     }
 
-    /// The column or row from which on all have the same size, or none.
+    /// Returns an index from which on all sizes are equal, or all are missing.
     fn alike_from(&self) -> usize
         ensures { (place : ℕ) → result ≤ place → value_at self.now place ≡ value_at self.now result }
     {
@@ -53,7 +53,7 @@ impl DimensionValue {
         }
     }
 
-    /// The same value. Refused for memory, which one size for all doesn't take.
+    /// Clones the sizes. Fails only with `Memory`, and never for `Exact`.
     pub fn clone(&self) -> Result<Self, TableError>
         ensures ok { IfOk result (IsSameValue self.now) }
         ensures list { OnErr result (HasList self.now) }
@@ -69,7 +69,7 @@ impl DimensionValue {
     }
 }
 
-/// Widths and heights that are numbers or lists. They stay; a copy of a list may be refused memory.
+/// Widths and heights from lists or single values. They never change.
 #[derive(Debug, Drop)]
 pub struct StaticDimension {
     width: DimensionValue,
@@ -77,7 +77,7 @@ pub struct StaticDimension {
 }
 
 impl StaticDimension {
-    /// The given widths and heights.
+    /// Creates a dimension from widths and heights.
     pub fn new(width: DimensionValue, height: DimensionValue) -> Self
         ensures widths { result.width ≡ width }
         ensures heights { result.height ≡ height }
@@ -85,7 +85,7 @@ impl StaticDimension {
         StaticDimension { width, height }
     }
 
-    /// The same sizes. Refused for memory, which lists alone take.
+    /// Clones the sizes. Fails only with `Memory`, and only if one of them has a list.
     pub fn clone(&self) -> Result<Self, TableError>
         ensures widths { IfOk result (λ sizes. IsSameValue self.now.width sizes.width) }
         ensures heights { IfOk result (λ sizes. IsSameValue self.now.height sizes.height) }

@@ -1,4 +1,4 @@
-//! The columns and lines of a whole table.
+//! The total width and height of a table, from given sizes.
 ghost use Rattle.std.specs.Prelude.{◌≡◌, ◌<◌, ◌≤◌, ◌^◌, MatchOption, length};
 ghost use Rattle.std.specs.List.{slice_index};
 ghost use Rattle.tabled_size.specs.Reached.{reached};
@@ -14,7 +14,6 @@ pub(crate) fn one_if(there: bool) -> usize
     if there { 1 } else { 0 }
 }
 
-/// The width of a column that is there.
 fn width_at<D: Dimension>(sizes: &D, columns: usize, column: usize) -> usize
     requires { column < length (reached (D.width_at sizes.now) columns) }
     ensures { result ≡ slice_index (reached (D.width_at sizes.now) columns) column }
@@ -23,7 +22,6 @@ fn width_at<D: Dimension>(sizes: &D, columns: usize, column: usize) -> usize
     sizes.get_width(column)
 }
 
-/// The height of a row that is there.
 fn height_at<D: Dimension>(sizes: &D, rows: usize, row: usize) -> usize
     requires { row < length (reached (D.height_at sizes.now) rows) }
     ensures { result ≡ slice_index (reached (D.height_at sizes.now) rows) row }
@@ -46,8 +44,8 @@ fn sum_widths<D: Dimension>(sizes: &D, columns: usize) -> Option<usize>
     Some(total)
 }
 
-/// The columns of a table with so many columns, at least one, that take so much in all: these, vertical lines and side
-/// margins. `None` where they pass the greatest `usize`.
+/// Returns the total width of a table with `columns` columns, at least one, whose widths add up to
+/// `inside`: that sum, the vertical lines and the side margins. `None` if it exceeds `usize::MAX`.
 #[tactic(auto, unfolding(crate::specs::Totals::framed_width))]
 pub(crate) fn framed_width(config: &SpannedConfig, columns: usize, inside: usize) -> Option<usize>
     ensures { let whole = framed_width config.now columns inside in
@@ -62,8 +60,8 @@ pub(crate) fn framed_width(config: &SpannedConfig, columns: usize, inside: usize
     left.checked_add(inside.checked_add(right)?)
 }
 
-/// The columns of a table with so many columns, at least one, whose widths are all there: the widths,
-/// vertical lines and side margins. `None` where they pass the greatest `usize`.
+/// Returns the total width of a table with `columns` columns, at least one, whose widths are all
+/// known: the widths, the vertical lines and the side margins. `None` if it exceeds `usize::MAX`.
 #[tactic(auto, unfolding(crate::specs::Totals::filled_width, crate::specs::Totals::framed_width))]
 pub fn filled_width<D: Dimension>(
     config: &SpannedConfig,
@@ -106,8 +104,9 @@ fn sum_rows<D: Dimension>(config: &SpannedConfig, rows: usize, sizes: &D) -> Opt
     Some(total)
 }
 
-/// The lines of a table with so many rows, at least one, that take so much in all with the lines above them: these, the
-/// last line, top and bottom margin. `None` where they pass the greatest `usize`.
+/// Returns the total height of a table with `rows` rows, at least one, whose heights and the lines
+/// above them add up to `inside`: that sum, the last line, top and bottom margin. `None` if it
+/// exceeds `usize::MAX`.
 #[tactic(auto, unfolding(crate::specs::Totals::framed_height))]
 pub(crate) fn framed_height(config: &SpannedConfig, rows: usize, inside: usize) -> Option<usize>
     ensures { let whole = framed_height config.now rows inside in
@@ -119,8 +118,8 @@ pub(crate) fn framed_height(config: &SpannedConfig, rows: usize, inside: usize) 
     margin.top.size.checked_add(inside.checked_add(below)?)
 }
 
-/// The lines of a table with so many rows, at least one, whose heights are all there: the heights,
-/// horizontal lines, top and bottom margin. `None` where they pass the greatest `usize`.
+/// Returns the total height of a table with `rows` rows, at least one, whose heights are all known:
+/// the heights, the horizontal lines, top and bottom margin. `None` if it exceeds `usize::MAX`.
 #[tactic(auto, unfolding(crate::specs::Totals::filled_height, crate::specs::Totals::framed_height))]
 pub fn filled_height<D: Dimension>(config: &SpannedConfig, rows: usize, sizes: &D) -> Option<usize>
     requires { rows ≤ length (reached (D.height_at sizes.now) rows) }

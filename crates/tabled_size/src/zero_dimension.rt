@@ -1,16 +1,16 @@
-//! No width and no height.
+//! Sizes that are all 0 (`ZeroDimension`).
 ghost use Rattle.std.specs.Prelude.{◌≡◌, ◌⊎◌, IfErr, OnErr, OnOk, Some};
 ghost use Rattle.tabled_base.specs.declared.error.TableError.TheVariants.{Memory, Range};
 
 use crate::dimension::{Dimension, Estimate};
 use tabled_base::TableError;
 
-/// Every column is 0 wide, every row 0 high.
+/// Sizes that are 0 for every column and row.
 #[derive(Debug, Clone, Copy, Default, PartialEq, Eq, PartialOrd, Ord, Hash)]
 pub struct ZeroDimension;
 
 impl ZeroDimension {
-    /// No width and no height.
+    /// Creates the dimension.
     pub fn new() -> Self {
         ZeroDimension
     }

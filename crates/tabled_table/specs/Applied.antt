@@ -1,4 +1,5 @@
--- What an option leaves of a table. The sizes that are stored are cleared as it hints, and all of them where it is refused.
+-- What an option leaves of a table. The stored sizes that its hint names are cleared, and all of
+-- them if it fails.
 use Rattle.std.specs.Prelude.{◌≡◌, ℕ, List, [], ◌∷◌, Option, None}
 use Rattle.tabled_base.specs.declared.position.Entity.{Entity}
 use Rattle.tabled_config.specs.declared.colored.ColoredConfig.{ColoredConfig}
@@ -7,7 +8,7 @@ use Rattle.tabled_size.specs.Stored.{heights_of, widths_of}
 use Rattle.tabled_size.specs.declared.complete_dimension.CompleteDimension.{CompleteDimension}
 use Rattle.tabled_table.specs.declared.table.Table.{Table}
 
--- the texts of a table, row by row
+-- the cells of a table, row by row
 abbrev pub Cells : Type 0
 Cells = List (List (List ℕ))
 
@@ -16,21 +17,22 @@ pub record AreNone (sizes : CompleteDimension) : Type 0 where
   pub widths : widths_of sizes ≡ None
   pub heights : heights_of sizes ≡ None
 
--- a table option's change, or what it promises of it, and then its hint
+-- a table option's change, or what it promises of that; then the sizes that its hint names are
+-- cleared
 pub record IsApplied (changes : Cells → ColoredConfig → CompleteDimension → Cells → ColoredConfig → CompleteDimension
     → Type 0) (hint : Option Entity) (old new : Table) : Type 0 where
   pub sizes : CompleteDimension
   pub changed : changes old.records old.config old.dimension new.records new.config sizes
   pub cleared : AreCleared hint sizes new.dimension
 
--- a table option's refusal
+-- what a table option leaves when it fails
 pub record IsRefusedBy (refuses : Cells → ColoredConfig → CompleteDimension → Cells → ColoredConfig
     → CompleteDimension → Type 0) (old new : Table) : Type 0 where
   pub sizes : CompleteDimension
   pub refused : refuses old.records old.config old.dimension new.records new.config sizes
   pub cleared : AreNone new.dimension
 
--- a cell option's changes at some entities, one after the other
+-- a cell option's changes to some entities, one after another
 abbrev pub ChangesEach : (Cells → ColoredConfig → Entity → Cells → ColoredConfig → Type 0) → List Entity → Cells
     → ColoredConfig → Cells → ColoredConfig → Type 0
 ChangesEach changes [] cells config cells' config' = (cells' ≡ cells) × (config' ≡ config)
@@ -38,7 +40,7 @@ ChangesEach changes (entity ∷ entities) cells config cells' config' =
     (between : Cells) × (between_config : ColoredConfig) × changes cells config entity between between_config
     × ChangesEach changes entities between between_config cells' config'
 
--- the changes at each entity in turn, and then the hint
+-- the changes to each entity in order; then the sizes that the hint names are cleared
 pub record IsModified (changes : Cells → ColoredConfig → Entity → Cells → ColoredConfig → Type 0)
     (entities : List Entity) (hint : Option Entity) (old new : Table) : Type 0 where
   pub changed : ChangesEach changes entities old.records old.config new.records new.config

@@ -1,12 +1,13 @@
--- Rows that are taken in batches: where each batch begins.
+-- Where each batch of rows begins.
 use Rattle.std.specs.Prelude.{ℕ, ◌+◌, ◌-◌, ◌*◌, ◌/◌, ◌==◌, ◌&&◌, Bool, List, [], ◌∷◌, Option, Some, None, if◌then◌else◌, nat_lt, suc, zero}
 use Rattle.tabled_table.specs.declared.batches.LayoutIterator.{LayoutIterator}
 
--- how many batches it takes from one number to another, the last one maybe not whole; none of batches of nothing
+-- the number of batches from one number to another, the last one maybe incomplete; 0 for batches of
+-- no row
 unfoldable pub batch_count : ℕ → ℕ → ℕ → ℕ
 batch_count from to batch = if batch == 0 then 0 else ((to - from) + (batch - 1)) / batch
 
--- so many numbers, the first one given and each other a step above the one before
+-- `count` numbers, the first one given and each a step above the one before
 abbrev pub progression : ℕ → ℕ → ℕ → List ℕ
 progression first step zero = []
 progression first step (suc count) = first ∷ progression (first + step) step count
@@ -15,10 +16,10 @@ progression first step (suc count) = first ∷ progression (first + step) step c
 abbrev pub batches_left : LayoutIterator → List ℕ
 batches_left b = progression b.offset b.batch (batch_count (b.from + b.offset) b.to b.batch)
 
--- whether the batch k begins before the end
+-- whether batch k begins before the end
 abbrev pub begins_before : ℕ → ℕ → ℕ → ℕ → Bool
 begins_before from to batch k = nat_lt 0 batch && nat_lt (from + k * batch) to
 
--- the number k of a list of all beginnings: k batches, exactly where these and the first number are below the end
+-- item k of the list of all beginnings: k batches, if batch k begins before the end
 abbrev pub batch_at : ℕ → ℕ → ℕ → ℕ → Option ℕ
 batch_at from to batch k = if begins_before from to batch k then Some (k * batch) else None

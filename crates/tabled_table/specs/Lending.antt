@@ -1,5 +1,5 @@
--- Parts of a table that are lent out to be changed. The table ends with what is left behind the
--- reference, and its other parts as they were.
+-- Parts of a table that are borrowed mutably. Afterwards the table has what the reference leaves in
+-- that part, and its other parts unchanged.
 use Rattle.std.specs.Borrow.{Fml, Lends, MutBor}
 use Rattle.tabled_config.specs.declared.colored.ColoredConfig.{ColoredConfig}
 use Rattle.tabled_config.specs.contracts.colored.ColoredConfig.{the_row as config_row}

@@ -6,11 +6,11 @@ use Rattle.tabled_entity.specs.Changes.{for_all}
 use Rattle.tabled_config.specs.Spanned.{new_spanned}
 use Rattle.tabled_config.specs.Styles.{ascii}
 
--- so many columns of spaces
+-- an indent of spaces
 abbrev pub spaced : ℕ → Indent
 spaced size = record { size = size; fill = 32 }
 
--- borders of `-`, `|` and `+`, no margin, one column of padding on the left and right
+-- ASCII borders, no margin, one column of padding on the left and right
 unfoldable pub new_config : SpannedConfig
 new_config =
     record new_spanned {

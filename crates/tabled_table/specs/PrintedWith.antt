@@ -1,4 +1,4 @@
--- A table that is shown with a width and an alignment of its own, without being changed.
+-- A table that is printed with a minimum width and an alignment, without being changed.
 use Rattle.std.specs.Prelude.{ℕ, ◌+◌, ◌-◌, ◌/◌, ◌==◌, ◌||◌, Bool, Option, Some, None, if◌then◌else◌, is_some, nat_lt, not, unwrap_or}
 use Rattle.tabled_base.specs.declared.position.Entity.TheVariants.{Global}
 use Rattle.tabled_config.specs.declared.sides.Indent.{Indent}
@@ -14,28 +14,28 @@ use Rattle.tabled_size.specs.Totals.{total_width}
 use Rattle.tabled_table.specs.TableSheet.{cells_of, sheet}
 use Rattle.tabled_table.specs.declared.table.Table.{Table}
 
--- the columns that a total lacks to a width, if one is asked for
+-- the columns that a total lacks to a width; 0 if none is asked for
 abbrev pub missing_to : Option ℕ → ℕ → ℕ
 missing_to None whole = 0
 missing_to (Some width) whole = width - whole
 
--- how many of the missing columns stand on the left: all of them, where the table is to be at the left or nothing is said,
--- the smaller half in the middle, and none at the right
+-- how many of the missing columns are added on the left: all for `Left` or no alignment, the
+-- smaller half for `Center`, none for `Right`
 abbrev pub left_part : Option AlignmentHorizontal → ℕ → ℕ
 left_part None missing = missing
 left_part (Some Left) missing = missing
 left_part (Some Center) missing = missing / 2
 left_part (Some Right) missing = 0
 
--- what fills the side margins: a space in place of U+0000
+-- the fill of the side margins: a space instead of U+0000
 abbrev pub shown_fill : ℕ → ℕ
 shown_fill fill = if fill == 0 then 32 else fill
 
--- so many columns more of a fill
+-- an indent with more columns and this fill
 abbrev pub grown : Indent → ℕ → ℕ → Indent
 grown indent more fill = record { size = indent.size + more; fill = shown_fill fill }
 
--- a margin with the missing columns on its sides; where none are missing it stays, with its fills
+-- a margin with the missing columns added to its sides; unchanged if none are missing
 abbrev pub widened : Sides Indent → Option AlignmentHorizontal → ℕ → ℕ → Sides Indent
 widened margin align fill missing =
     if missing == 0 then margin
@@ -44,12 +44,12 @@ widened margin align fill missing =
       right = grown margin.right (missing - left_part align missing) fill;
     })
 
--- an alignment for the whole table, if one is given
+-- the alignments, with one for the whole table if it is given
 abbrev pub aligned : Changes AlignmentHorizontal → Option AlignmentHorizontal → Changes AlignmentHorizontal
 aligned changes None = changes
 aligned changes (Some alignment) = with_change changes Global alignment
 
--- the settings that a table is shown with
+-- the settings that a table is printed with
 abbrev pub shown_config : SpannedConfig → Option AlignmentHorizontal → ℕ → ℕ → SpannedConfig
 shown_config config align fill missing =
     record config {
@@ -61,15 +61,16 @@ shown_config config align fill missing =
 abbrev pub missing_columns : Table → Option ℕ → ℕ
 missing_columns table width = missing_to width (total_width (sheet table))
 
--- the table as it is shown: its cells and the sizes that stand, under these settings
+-- the sheet that is printed: the cells and effective sizes of a table, with these settings
 abbrev pub shown : Table → Option ℕ → Option AlignmentHorizontal → ℕ → Sheet
 shown table width align fill =
     effective (cells_of table) (shown_config table.config.config align fill (missing_columns table width)) table.dimension
 
--- the columns that are asked for, none where nothing is said
+-- the width that is asked for; 0 if none is
 abbrev pub asked : Option ℕ → ℕ
 asked width = unwrap_or width 0
 
--- memory is wanted: for a copy of the settings, where something of them is to be changed, or for sizes that aren't stored
+-- whether printing allocates: to copy settings that have to change, or to estimate sizes that
+-- aren't stored
 abbrev pub takes_memory : Table → Option ℕ → Option AlignmentHorizontal → Bool
 takes_memory table width align = (is_some align || nat_lt 0 (missing_columns table width)) || not (is_stored table.dimension)

@@ -1,4 +1,4 @@
--- The types of a table's parts as the logic holds them, for the clauses on what a `&mut` lends.
+-- The logic's types of a table's parts, for contracts about mutable borrows.
 use denote.RattleType.{RattleType}
 use Rattle.std.specs.contracts.alloc.Global as global
 use Rattle.std.specs.contracts.impls.GlobalAllocator.TheImpl.{ghosts}

@@ -1,4 +1,4 @@
--- A modification that stops at an entity, and why.
+-- A modification that fails at an entity, and why.
 use Rattle.std.specs.Prelude.{◌≡◌, ◌⊎◌, ◌<◌, ℕ, List, None, Option, Some, if◌then◌else◌, length, nat_lt, slice_get, take, unwrap_or}
 use Rattle.tabled_base.specs.declared.error.TableError.{TableError}
 use Rattle.tabled_base.specs.declared.error.TableError.TheVariants.{Memory, Range}
@@ -7,8 +7,8 @@ use Rattle.tabled_config.specs.declared.colored.ColoredConfig.{ColoredConfig}
 use Rattle.tabled_table.specs.Applied.{AreNone, Cells, ChangesEach}
 use Rattle.tabled_table.specs.declared.table.Table.{Table}
 
--- the changes at the first entities, and at the next one a refusal, with `Range` only where a sum or product passes the
--- greatest `usize` there
+-- the option changes the first entities and fails at the next one; `Range` comes only if a sum or
+-- product exceeds the greatest `usize` there
 pub record IsStopped (changes : Cells → ColoredConfig → Entity → Cells → ColoredConfig → Type 0)
     (refuses : TableError → Cells → ColoredConfig → Entity → Cells → ColoredConfig → Type 0) (out_of_range : Cells → ColoredConfig → Entity → Type 0)
     (entities : List Entity) (error : TableError) (cells : Cells) (config : ColoredConfig) (cells' : Cells) (config' : ColoredConfig) : Type 0 where
@@ -21,12 +21,12 @@ pub record IsStopped (changes : Cells → ColoredConfig → Entity → Cells →
   pub refused : refuses error between between_config entity cells' config'
   pub cause : error ≡ Range → out_of_range between between_config entity
 
--- a copy of the configuration, which is made where there are several entities
+-- a copy of the configuration, if there are several entities
 abbrev pub kept_config : List Entity → ColoredConfig → Option ColoredConfig
 kept_config entities config = if nat_lt 1 (length entities) then Some config else None
 
--- the option fails at an entity: those before it are changed, and the configuration is the copy
--- where there is one, else what the option leaves
+-- the option fails at an entity: those before it stay changed, and the configuration is the copy,
+-- or what the option leaves if there is no copy
 abbrev pub StopsAtPart : (Cells → ColoredConfig → Entity → Cells → ColoredConfig → Type 0)
     → (TableError → Cells → ColoredConfig → Entity → Cells → ColoredConfig → Type 0)
     → (Cells → ColoredConfig → Entity → Type 0) → List Entity → Option ColoredConfig → TableError
@@ -36,9 +36,9 @@ StopsAtPart changes refuses out_of_range entities kept error cells config cells'
     × IsStopped changes refuses out_of_range entities error cells config cells' last
     × (config' ≡ unwrap_or kept last)
 
--- what a failed modification of some entities leaves. Either there is no memory for the list of
--- them or for the copy of the configuration: then there is an entity, and all is as it was. Or the
--- option fails at one of them
+-- what a failed modification of some entities leaves: either an allocation failed, for their list
+-- or the copy of the configuration, and then there is an entity and nothing changed; or the option
+-- failed at one of them
 abbrev pub IsPutBack : (Cells → ColoredConfig → Entity → Cells → ColoredConfig → Type 0)
     → (TableError → Cells → ColoredConfig → Entity → Cells → ColoredConfig → Type 0)
     → (Cells → ColoredConfig → Entity → Type 0) → List Entity → TableError → Cells → ColoredConfig → Cells → ColoredConfig → Type 0
@@ -47,7 +47,7 @@ IsPutBack changes refuses out_of_range entities error cells config cells' config
     ⊎ StopsAtPart changes refuses out_of_range entities (kept_config entities config) error
     cells config cells' config'
 
--- so of a table, whose stored sizes are forgotten
+-- what a failed modification leaves of a table, which then has no sizes stored
 pub record IsModifyingRefused (changes : Cells → ColoredConfig → Entity → Cells → ColoredConfig → Type 0)
     (refuses : TableError → Cells → ColoredConfig → Entity → Cells → ColoredConfig → Type 0) (out_of_range : Cells → ColoredConfig → Entity → Type 0)
     (entities : List Entity) (error : TableError) (old new : Table) : Type 0 where

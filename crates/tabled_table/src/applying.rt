@@ -1,4 +1,4 @@
-//! Options of whole tables, and of some of their cells.
+//! Applies options to a whole table, or to some of its cells.
 ghost use Rattle.std.specs.Prelude.{◌≡◌, ◌⊎◌, ◌<◌, IfErr, IfOk, OnErr, OnOk, length};
 ghost use Rattle.std.specs.Borrow.{RestsIfErr, sem};
 ghost use Rattle.tabled_base.specs.Cells.{columns};
@@ -16,10 +16,12 @@ use tabled_size::CompleteDimension;
 impl Table {
     ghost use Rattle.tabled_table.specs.contracts.table.Table.{the_row};
 
-    /// Applies an option, and then forgets the stored sizes that it hints. This is `with` for callers
-    /// that need the table after a refusal: then it is as the option left it, with no sizes stored.
-    /// Refused for memory, and with `Range` where a sum or product of the option passes the greatest
-    /// `usize`.
+    /// Applies an option, and then clears the stored sizes that its hint names. Use it instead of
+    /// `with` if you need the table after an error: it is then as the option left it, with no sizes
+    /// stored.
+    ///
+    /// Fails with `Memory`, and with `Range` if a sum or product of the option exceeds
+    /// `usize::MAX`.
     pub fn apply<O: TableOption<VecRecords<Text<String>>, ColoredConfig, CompleteDimension>>(
         &mut self,
         option: O,
@@ -44,9 +46,10 @@ impl Table {
         }
     }
 
-    /// Applies an option, forgets the stored sizes that it hints, and gives the table back. Refused for
-    /// memory, and with `Range` where a sum or product of the option passes the greatest `usize`. A refusal
-    /// leaves what `apply` leaves: the table as the option left it, with no sizes stored.
+    /// Applies an option, clears the stored sizes that its hint names, and returns the table.
+    ///
+    /// Fails with `Memory`, and with `Range` if a sum or product of the option exceeds
+    /// `usize::MAX`. After an error the table is as the option left it, with no sizes stored.
     pub fn with<O: TableOption<VecRecords<Text<String>>, ColoredConfig, CompleteDimension>>(
         &mut self,
         option: O,
@@ -66,15 +69,16 @@ impl Table {
         }
     }
 
-    /// Applies a cell option at each part that a target names, in order, and then forgets the
-    /// stored sizes that the option hints. This is `modify` for callers that need the table after
+    /// Applies a cell option to each part that a target names, in order, and then clears the stored
+    /// sizes that the option's hint names. Use it instead of `modify` if you need the table after
     /// an error.
     ///
-    /// Where the option fails at a part, the cells of the parts before it are changed, no sizes are
-    /// stored, and where the target names several parts the configuration is as it was. The option
-    /// fails with `Memory`, or with `Range` where a sum or product passes the greatest `usize`.
-    /// Where the target names a part, `Memory` may come before the first change too: then cells and
-    /// configuration are as they were.
+    /// If the option fails at a part, the cells of the parts before it stay changed, and no sizes
+    /// are stored. If the target names several parts, the configuration is restored.
+    ///
+    /// Fails with `Memory`, and with `Range` if a sum or product of the option exceeds
+    /// `usize::MAX`. If the target names a part, `Memory` can also come before the first change;
+    /// then cells and configuration are unchanged.
     pub fn apply_to<
         T: Object<VecRecords<Text<String>>> + Drop,
         O: CellOption<VecRecords<Text<String>>, ColoredConfig>,
@@ -100,10 +104,12 @@ impl Table {
         }
     }
 
-    /// Applies a cell option at each part that a target names, in order, forgets the stored sizes
-    /// that the option hints, and returns the table. It fails as `apply_to` does, with `Memory` or
-    /// `Range`: the cells of the parts before the failed one are changed, no sizes are stored, and
-    /// where the target names several parts the configuration is as it was.
+    /// Applies a cell option to each part that a target names, in order, clears the stored sizes
+    /// that the option's hint names, and returns the table.
+    ///
+    /// Fails with `Memory` or `Range`, as `apply_to` does. Then the cells of the parts before the
+    /// failed one stay changed, and no sizes are stored. If the target names several parts, the
+    /// configuration is restored.
     pub fn modify<
         T: Object<VecRecords<Text<String>>> + Drop,
         O: CellOption<VecRecords<Text<String>>, ColoredConfig> + Drop,
@@ -129,7 +135,7 @@ impl Table {
         }
     }
 
-    /// `apply_to` with an option that is let go then.
+    /// Does what `apply_to` does, and drops the option.
     fn apply_own<
         T: Object<VecRecords<Text<String>>> + Drop,
         O: CellOption<VecRecords<Text<String>>, ColoredConfig> + Drop,
@@ -147,16 +153,16 @@ impl Table {
     }
 }
 
-/// The parts that a target names. Where they are several, also a copy of the configuration, to put
-/// back when the option fails at one of them.
+/// The parts that a target names. If there are several, also a copy of the configuration, which is
+/// restored when the option fails at one of them.
 #[derive(Drop)]
 struct Parts {
     entities: Vec<Entity>,
     before: Option<ColoredConfig>,
 }
 
-/// The parts that a target names. Fails with `Memory` alone, and only where the target names a
-/// part. All that a modification allocates by itself, it allocates here, before the first change.
+/// Returns the parts that a target names. Fails only if an allocation fails (`Memory`), and only if
+/// the target names a part. A modification itself allocates only here, before the first change.
 fn find_parts<T: Object<VecRecords<Text<String>>>>(
     records: &VecRecords<Text<String>>,
     config: &ColoredConfig,
@@ -179,9 +185,8 @@ fn find_parts<T: Object<VecRecords<Text<String>>>>(
     Ok(Parts { entities, before })
 }
 
-/// Applies an option at some parts in order. Where it fails at one, the parts before that stay
-/// changed, and the configuration is put back where there is a copy of it. Nothing else fails here:
-/// each error is the option's at a part.
+/// Applies an option to some parts in order. If it fails at one, the parts before it stay changed,
+/// and the configuration is restored if there is a copy. Each error is the option's at a part.
 fn change_parts<O: CellOption<VecRecords<Text<String>>, ColoredConfig>>(
     records: &mut VecRecords<Text<String>>,
     config: &mut ColoredConfig,
@@ -208,7 +213,7 @@ fn change_parts<O: CellOption<VecRecords<Text<String>>, ColoredConfig>>(
     }
 }
 
-/// Applies an option at each part that a target names.
+/// Applies an option to each part that a target names.
 fn change_target<
     T: Object<VecRecords<Text<String>>>,
     O: CellOption<VecRecords<Text<String>>, ColoredConfig>,
@@ -230,7 +235,7 @@ fn change_target<
     change_parts(records, config, parts, option)
 }
 
-/// Applies an option at some parts in order, up to one where it is refused.
+/// Applies an option to some parts in order, up to the first at which it fails.
 fn change_each<O: CellOption<VecRecords<Text<String>>, ColoredConfig>>(
     records: &mut VecRecords<Text<String>>,
     config: &mut ColoredConfig,

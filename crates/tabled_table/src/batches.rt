@@ -8,8 +8,8 @@ ghost use Rattle.tabled_table.specs.TableSheet.{cells_of};
 use crate::table::Table;
 use tabled_value::Tabled;
 
-/// The numbers 0, `batch`, 2 `batch` and so on, as many as it takes batches from one number to another. The default gives
-/// nothing.
+/// An iterator over 0, `batch`, 2 `batch` and so on: one number for each batch between two numbers.
+/// The default is empty.
 #[derive(Clone, Copy, Debug, Drop, PartialEq, Eq, PartialOrd, Ord, Hash, Default)]
 pub struct LayoutIterator {
     from: usize,
@@ -19,8 +19,9 @@ pub struct LayoutIterator {
 }
 
 impl LayoutIterator {
-    /// Gives k batches for each k from 0 on, as long as `from` and k batches are below `to`; nothing for batches of 0. Such a
-    /// sum may pass the greatest `usize`, and then it isn't below `to`. It takes no memory.
+    /// Returns an iterator over k times `batch`, for each k from 0 on while `from` plus that
+    /// product is below `to`. A sum that exceeds `usize::MAX` isn't below `to`. If `batch` is 0, it
+    /// is empty. Allocates nothing.
     pub fn new(from: usize, to: usize, batch: usize) -> LayoutIterator
         ensures { (k : ℕ) → slice_get (batches_left result) k ≡ batch_at from to batch k }
     {
@@ -32,7 +33,7 @@ impl LayoutIterator {
         }
     }
 
-    /// The rows of a table in batches of as many as a value has fields: where each value begins in a table that `Table::kv` made.
+    /// Returns the row where each value begins, for a table that `Table::kv` made.
     pub fn kv_batches<T: Tabled>(table: &Table) -> LayoutIterator
         ensures { (k : ℕ) → slice_get (batches_left result) k
             ≡ batch_at 0 (length (cells_of table.now)) T.LENGTH k }
@@ -40,7 +41,7 @@ impl LayoutIterator {
         LayoutIterator::new(0, table.count_rows(), T::length())
     }
 
-    /// Whether nothing is left.
+    /// Whether no number is left.
     #[tactic(auto, using(crate::proofs::Progressions::done_left, crate::proofs::Progressions::empty_left))]
     fn is_done(&self) -> bool
         ensures done { IsTrue result → batches_left self.now ≡ [] }

@@ -5,8 +5,8 @@ ghost use Rattle.tabled_table.specs.NewConfig.{new_config};
 use std::alloc::Global;
 use tabled_config::{CompactConfig, Indent, Sides, SpannedConfig, Style};
 
-/// The settings of a new table: ascii borders, no margin, one column of padding on the left and right,
-/// texts at the left and the top. It takes no memory.
+/// Returns the settings of a new table: ASCII borders, no margin, one column of padding on the left
+/// and right, and text at the left and the top. Allocates nothing.
 #[tactic(auto, unfolding(crate::specs::NewConfig::new_config))]
 pub fn new_config(alloc: Global) -> SpannedConfig
     ensures { result ≡ new_config }

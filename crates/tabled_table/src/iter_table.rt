@@ -1,4 +1,4 @@
-//! Streamed tables, and how they are set.
+//! `IterTable`: a table that is printed while its rows are read.
 ghost use Rattle.std.specs.Prelude.{◌≡◌, IfErr, IfOk, None, Some};
 ghost use Rattle.std.specs.Iterator.{IsFiniteIterable};
 ghost use Rattle.tabled_base.specs.declared.error.TableError.TheVariants.{Memory};
@@ -24,8 +24,9 @@ use std::alloc::Global;
 use tabled_base::{CellText, IntoRecords, TableError};
 use tabled_config::{AlignmentHorizontal, CompactConfig, Indent, Sides, Style};
 
-/// A table that is printed row by row as a source gives its rows. Only the rows that its columns are measured by are kept;
-/// each later row is taken as it is printed. Every cell is cut to the columns that its column leaves to texts.
+/// A table that is printed row by row while a source gives its rows. It stores only the rows that
+/// are read ahead to measure the columns; each later row is read when it is printed. Each cell is
+/// cut to the content width of its column.
 #[derive(Debug, Clone, Copy, PartialEq, Eq, PartialOrd, Ord, Hash)]
 pub struct IterTable<I> {
     pub(crate) records: I,
@@ -33,7 +34,8 @@ pub struct IterTable<I> {
     pub(crate) settings: StreamSettings,
 }
 
-/// Ascii borders, one column of padding left and right, texts at the left.
+/// Returns the configuration of a new table: ASCII borders, one column of padding on the left and
+/// right, and text at the left.
 fn new_config() -> CompactConfig
     ensures { IsNewConfig result }
 {
@@ -49,7 +51,8 @@ fn new_config() -> CompactConfig
 }
 
 impl<I> IterTable<I> {
-    /// A table of rows. A thousand rows are read ahead; columns, rows and sizes aren't given.
+    /// Returns a table of rows that reads 1000 rows ahead. The numbers of columns and rows and the
+    /// sizes aren't set.
     pub fn new(records: I) -> Self
     where
         I: IntoRecords,
@@ -70,8 +73,8 @@ impl<I> IterTable<I> {
         }
     }
 
-    /// Shows so many columns. Further cells of a row are passed over, and missing ones are empty. Else there are as many
-    /// columns as the longest row that is read ahead has cells.
+    /// Sets the number of columns. Further cells of a row are ignored, and missing ones are empty.
+    /// If it isn't set, it is the number of cells in the longest row that is read ahead.
     pub fn columns(&mut self, count: usize) -> &mut Self
         ensures same_reference { result.ghost_name ≡ self.entry.ghost_name }
         ensures set { result.now ≡ record self.old { settings = record self.old.settings { columns = Some count } } }
@@ -80,7 +83,7 @@ impl<I> IterTable<I> {
         self
     }
 
-    /// Shows so many rows at most. Those that are read ahead aren't limited by it.
+    /// Sets how many rows are shown at most. It doesn't limit how many rows are read ahead.
     pub fn rows(&mut self, count: usize) -> &mut Self
         ensures same_reference { result.ghost_name ≡ self.entry.ghost_name }
         ensures set { result.now ≡ record self.old { settings = record self.old.settings { rows = Some count } } }
@@ -89,8 +92,8 @@ impl<I> IterTable<I> {
         self
     }
 
-    /// Reads so many rows ahead at most, by which columns and their widths are measured. Where both are given, none is read
-    /// ahead.
+    /// Sets how many rows are read ahead at most, to find and measure the columns. If both the
+    /// number of columns and their width are set, no row is read ahead.
     pub fn sniff(&mut self, count: usize) -> &mut Self
         ensures same_reference { result.ghost_name ≡ self.entry.ghost_name }
         ensures set { result.now ≡ record self.old { settings = record self.old.settings { sniff = count } } }
@@ -99,7 +102,8 @@ impl<I> IterTable<I> {
         self
     }
 
-    /// Leaves so many lines of each row to texts, whatever their lines; padding comes to it.
+    /// Sets the number of lines for text in each row, whatever its cells need. Padding is added to
+    /// it.
     pub fn height(&mut self, lines: usize) -> &mut Self
         ensures same_reference { result.ghost_name ≡ self.entry.ghost_name }
         ensures set { result.now ≡ record self.old { settings = record self.old.settings { height = Some lines } } }
@@ -108,8 +112,8 @@ impl<I> IterTable<I> {
         self
     }
 
-    /// Leaves so many columns of each column to texts, whatever their columns; padding comes to it. A row whose height isn't
-    /// given then leaves one line to texts.
+    /// Sets the content width of each column, whatever its cells need. Padding is added to it. A
+    /// row then has one line for text, unless the height is set.
     pub fn width(&mut self, columns: usize) -> &mut Self
         ensures same_reference { result.ghost_name ≡ self.entry.ghost_name }
         ensures set { result.now ≡ record self.old { settings = record self.old.settings { width = Some columns } } }

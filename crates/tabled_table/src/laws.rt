@@ -21,8 +21,9 @@ ghost use Rattle.tabled_table.specs.Stream.GoesOn.{GoesOn};
 ghost use Rattle.tabled_table.specs.Stream.LikeTable.{IsLikeTable};
 ghost use Rattle.tabled_table.specs.Stream.Streamed.{IsCutRow, IsStreamed, column_count, limited, sniffed};
 
-/// A new table has the sizes that its texts ask for, which hold its cells. Its settings keep texts apart: so each of its
-/// lines takes exactly the total width, whatever its texts are. Its borders, fills and margins are additive too.
+/// A new table has the sizes that its cells need, and these hold the cells. Its settings separate
+/// the cells, so each line is exactly the total width, whatever the cells contain. Its borders,
+/// fills and margins are additive too.
 #[tactic(auto, using(crate::proofs::NewTables::new_stands, crate::proofs::NewTables::new_holds, crate::proofs::NewTables::new_is_apart))]
 pub fn new_tables()
     ensures sizes { (cells : List (List (List ℕ))) (table : Table) → IsNew cells table
@@ -35,9 +36,10 @@ pub fn new_tables()
         → Holds (sheet table) }
 {}
 
-/// A stream of equally long rows that are all read ahead, whose cells are lines that count as many as their columns, and of
-/// which nothing is given, is the table with estimated sizes: so it has the bytes of a `Table` of these cells. Plain lines
-/// count as many as their columns.
+/// A stream prints the same bytes as a `Table` of the same cells if
+/// - its rows are equally long and all of them are read ahead
+/// - each cell is a line whose characters count as many as its columns, as those of a plain line do
+/// - the numbers of columns and rows and the sizes aren't set.
 #[tactic(auto, using(tabled_text::proofs::ExactLines::plain_exact, crate::proofs::Stream::SameSheet::like_table))]
 pub fn streams_like_tables()
     ensures sheet { (settings : StreamSettings) (config : CompactConfig) (rows : List (List (List ℕ))) (t : Sheet) → IsLikeTable settings rows
@@ -45,16 +47,16 @@ pub fn streams_like_tables()
     ensures plain { (text : List ℕ) → IsAdditive text → length (lines_of text) ≡ 1 → IsExactLine text }
 {}
 
-/// Every text can be cut at any count, and so can every row of texts for columns that leave any counts to texts.
+/// Every text can be cut to any number of columns, and every row of texts to any content widths.
 pub fn texts_can_be_cut()
     ensures text { (n : ℕ) (text : List ℕ) → IsUtf8 text → (answer : List ℕ) × IsCut n text answer }
     ensures row { (content : ℕ → ℕ) (count : ℕ) (row : List (List ℕ)) → All IsUtf8 row
         → (cells : List (List ℕ)) × IsCutRow content count row cells }
 {}
 
-/// The table of the first of some rows goes on, whatever texts the rows behind them have and however high these are: there
-/// is a streamed table of all rows, and what stands above the rows behind is the beginning of its text. There must be a
-/// column and a row, since a table without one has no text.
+/// A table of the first rows can be continued with any rows of texts, however tall. There is a
+/// streamed table of all rows, and the lines above the later rows are a beginning of its text.
+/// There must be a row and a column, since a table without one has no text.
 pub fn streams_go_on()
     ensures { (settings : StreamSettings) (config : CompactConfig) (ahead_rows shown rest : List (List (List ℕ))) (t : Sheet)
         → IsStreamed settings config ahead_rows shown t → AreTexts rest
@@ -62,9 +64,9 @@ pub fn streams_go_on()
         → GoesOn settings config ahead_rows shown rest t }
 {}
 
-/// The rows of a streamed table are equally long, each cell is a text, whatever the bytes of the source's cells are, and the
-/// columns hold the cells: a cut text takes no more columns than its characters count. So each line of its picture takes
-/// exactly the total width where the settings keep the cells apart, as the law of pictures says.
+/// The rows of a streamed table are equally long, each cell is a text, whatever the bytes of the
+/// source's cells are, and the columns hold the cells. So each line of its picture is exactly the
+/// total width if the settings separate the cells, by `tabled_grid::laws::pictures`.
 pub fn streams_hold()
     ensures rectangular { (settings : StreamSettings) (config : CompactConfig) (ahead_rows rows : List (List (List ℕ))) (t : Sheet)
         → IsStreamed settings config ahead_rows rows t → IsRectangular t.cells }

@@ -1,4 +1,4 @@
-//! Tables made of values.
+//! Makes tables of values and of rows.
 ghost use Rattle.std.specs.Prelude.{◌≡◌, ◌∷◌, ℕ, List, IfErr, IfOk, map};
 ghost use Rattle.std.specs.Iterator.{IsFiniteIterable};
 ghost use Rattle.std.specs.List.{AllZip, flat_map};
@@ -15,8 +15,8 @@ use tabled_value::{Tabled, field_records, named_records};
 impl Table {
     ghost use Rattle.tabled_table.specs.NewTable.{IsNew};
 
-    /// A table of the fields' names, then a row a value. Without a value it has the names alone. Refused
-    /// only for memory.
+    /// Returns a table with the names of the fields as its header, and a row for each value.
+    /// Without a value it has the header alone. Fails only if an allocation fails (`Memory`).
     pub fn new<I: IntoIterator>(alloc: Global, iter: I) -> Result<Table, TableError>
     where
         I::Item: Tabled + Drop,
@@ -30,7 +30,8 @@ impl Table {
         Table::with_capacity(alloc, iter, 0)
     }
 
-    /// `new`, with room for so many values from the start.
+    /// Returns the same table as `new`, and allocates for `rows` values at the start. Fails only if
+    /// an allocation fails (`Memory`).
     pub fn with_capacity<I: IntoIterator>(
         alloc: Global,
         iter: I,
@@ -49,8 +50,8 @@ impl Table {
         Ok(Table::of_records(records))
     }
 
-    /// A table without a header, with a row of name and text for each field of each value. Refused only
-    /// for memory.
+    /// Returns a table with no header, and a row of name and text for each field of each value.
+    /// Fails only if an allocation fails (`Memory`).
     pub fn kv<I: IntoIterator>(alloc: Global, iter: I) -> Result<Table, TableError>
     where
         I::Item: Tabled + Drop,
@@ -66,7 +67,8 @@ impl Table {
         Ok(Table::of_records(records))
     }
 
-    /// A builder of the fields' names, then a row a value. Refused only for memory.
+    /// Returns a builder with a row of the fields' names, and then a row for each value. Fails only
+    /// if an allocation fails (`Memory`).
     pub fn builder<I: IntoIterator>(alloc: Global, iter: I) -> Result<Builder, TableError>
     where
         I::Item: Tabled + Drop,
@@ -82,7 +84,8 @@ impl Table {
         Ok(Builder::from(records))
     }
 
-    /// A table of the rows that a source gives, the short ones lengthened. Refused only for memory.
+    /// Returns a table of the rows of a source. Short rows are filled with empty cells. Fails only
+    /// if an allocation fails (`Memory`).
     pub fn from_iter<I: IntoRecords>(alloc: Global, rows: I) -> Result<Table, TableError>
     where
         I::Cell: CellText + Drop,

@@ -1,4 +1,4 @@
-//! A table that is printed with a width and an alignment of its own.
+//! Prints a table with a minimum width and an alignment, and implements `Display`.
 ghost use Rattle.std.specs.Prelude.{◌≡◌, ◌⊎◌, ◌||◌, ◌+◌, ◌<◌, ◌^◌, IfErr, IfOk, None, Some, false, is_some, length, max, nat_lt};
 ghost use Rattle.tabled_text.specs.FramedLines.{IsSeparatorColumn};
 ghost use Rattle.tabled_text.specs.Plain.{IsAdditiveColumn};
@@ -26,7 +26,7 @@ use tabled_config::{AlignmentHorizontal, Indent, Sides, SpannedConfig};
 use tabled_grid::{TextSink, print_standing};
 use tabled_size::is_empty;
 
-/// How many of the missing columns stand on the left.
+/// Returns how many of the missing columns are added on the left.
 fn left_part(align: Option<AlignmentHorizontal>, missing: usize) -> usize
     ensures { result ≡ left_part align missing }
 {
@@ -37,14 +37,14 @@ fn left_part(align: Option<AlignmentHorizontal>, missing: usize) -> usize
     }
 }
 
-/// Whether settings are to be changed for an alignment, if one is given, and the missing columns.
+/// Whether the settings have to change: an alignment is given, or columns are missing.
 fn is_changed(align: Option<AlignmentHorizontal>, missing: usize) -> bool
     ensures { result ≡ (is_some align || nat_lt 0 missing) }
 {
     align.is_some() || missing > 0
 }
 
-/// A margin with the missing columns on its sides.
+/// Returns a margin with the missing columns added to its sides.
 fn widened(
     margin: Sides<Indent>,
     align: Option<AlignmentHorizontal>,
@@ -68,8 +68,8 @@ fn widened(
     )
 }
 
-/// A copy of some settings, with an alignment for the whole table if one is given, and the missing columns in the margin.
-/// Refused for memory alone.
+/// Returns a copy of the settings, with the missing columns in the margin and with an alignment for
+/// the whole table, if one is given. Fails only if an allocation fails (`Memory`).
 fn shown_config(
     config: &SpannedConfig,
     align: Option<AlignmentHorizontal>,
@@ -89,8 +89,10 @@ fn shown_config(
 }
 
 impl Table {
-    /// The columns that a table with a row and a column lacks to a width: none where no width is asked for, or where the total
-    /// passes the greatest `usize`. Refused for memory where no widths are stored, and with `ShortWidths`.
+    /// Returns how many columns the table lacks to a width. Returns 0 if no width is asked for, or
+    /// if the total exceeds `usize::MAX`.
+    ///
+    /// Fails with `Memory` only if no widths are stored, and with `ShortWidths`.
     #[tactic(auto, using(crate::proofs::Shown::margins_within))]
     fn missing_columns(&self, width: Option<usize>) -> Result<usize, TableError>
         requires { is_empty (cells_of self.now) ≡ false }
@@ -110,11 +112,15 @@ impl Table {
         }
     }
 
-    /// Prints the table as `write_to` does, with an alignment for the whole of it, if one is given, and at least as wide as is
-    /// asked for: the columns that its total lacks become margin. `Left` (as `None`) puts all of them on the left, `Right` on the
-    /// right, `Center` the smaller half on the left. Where columns are missing, both side margins are of `fill`, of spaces for
-    /// U+0000; else the fills stay. The table is left as it was. Refused as `write_to`, and for memory also where
-    /// settings are to be changed, before the first byte.
+    /// Prints the table as `write_to` does, but at least `width` columns wide, and with an
+    /// alignment for the whole table, if they are given. The table itself doesn't change.
+    ///
+    /// The missing columns are added to the side margins. `Left`, as `None`, adds all of them on
+    /// the left, `Right` on the right, and `Center` the smaller half on the left. If columns are
+    /// missing, both side margins are filled with `fill`, or with spaces if it is U+0000.
+    ///
+    /// Fails as `write_to` does, and also with `Memory`, before the first byte, if settings have to
+    /// change.
     #[tactic(auto, using(crate::proofs::ShownTables::total_of_shown, crate::proofs::ShownTables::texts_of_shown, crate::proofs::ShownTables::columns_of_shown))]
     pub fn print_with<S: TextSink>(
         &self,
@@ -146,7 +152,8 @@ impl Table {
     }
 }
 
-/// The text that `to_text` returns; `fmt::Error` where that is refused, or a writer fails.
+/// Writes the text that `to_text` returns. Fails with `fmt::Error` if `to_text` or the writer
+/// fails.
 impl fmt::Display for Table {
     ghost use Rattle.tabled_table.specs.TableSheet.{sheet};
     ghost use Rattle.tabled_grid.specs.Picture.{table_text};

@@ -1,4 +1,4 @@
-//! A table of owned texts.
+//! `Table`: cells with settings and sizes.
 ghost use Rattle.std.specs.Prelude.{◌≡◌, ◌↔◌, ◌⊎◌, ◌≤◌, ◌^◌, [], ℕ, List, IfErr, IfOk, IsTrue, None, Ok, OnOk, false, length, not, string_bytes, true};
 ghost use Rattle.std.specs.Borrow.{Lends, sem};
 ghost use Rattle.tabled_base.specs.contracts.text.Text.{the_row as text_row};
@@ -32,8 +32,9 @@ use tabled_grid::{TextSink, is_apart_config, is_plain_config, is_plain_records, 
 use tabled_size::{CompleteDimension, is_empty, total_height, total_width};
 use tabled_value::{Tabled, value_records};
 
-/// Rows of texts, how they are set, and the sizes that are stored. What isn't stored is estimated when it
-/// is needed. Two tables are equal where their texts, settings and stored sizes are.
+/// A table: its cells, its settings, and the sizes that were stored. Sizes that aren't stored are
+/// estimated from the cells when they are needed. Two tables are equal if their cells, settings and
+/// stored sizes are.
 #[derive(Debug, PartialEq, Eq)]
 pub struct Table {
     pub(crate) records: VecRecords<Text<String>>,
@@ -41,7 +42,7 @@ pub struct Table {
     pub(crate) dimension: CompleteDimension,
 }
 
-/// One call lets a table go, so that whoever lets it go needn't prove it of each part.
+/// Drops a table in one function, so that its callers need no proof for each field.
 impl Drop for Table {
     fn drop(self) {
         let Table {
@@ -58,7 +59,7 @@ impl Table {
     ghost use Rattle.tabled_table.specs.NewTable.{IsNew};
     ghost use Rattle.tabled_table.specs.TableSheet.{cells_of, sheet};
 
-    /// A table of records, set as a new one. It takes no memory.
+    /// Returns a table of these records with the settings of a new one. Allocates nothing.
     pub(crate) fn of_records(records: VecRecords<Text<String>>) -> Table
         ensures { IsNew records result }
     {
@@ -70,7 +71,7 @@ impl Table {
         }
     }
 
-    /// The records, without settings and sizes.
+    /// Returns the records, and drops settings and sizes.
     fn into_records(self) -> VecRecords<Text<String>>
         ensures { result ≡ self.records }
     {
@@ -82,14 +83,15 @@ impl Table {
         records
     }
 
-    /// A table with no row. It takes no memory.
+    /// Returns a table without rows. Allocates nothing.
     pub fn empty(alloc: Global) -> Table
         ensures { IsNew [] result }
     {
         Table::from(Builder::new(alloc))
     }
 
-    /// A table without a header, with a row a value. Refused only for memory.
+    /// Returns a table with a row for each value and no header. Fails only if an allocation fails
+    /// (`Memory`).
     pub fn nohead<I: IntoIterator>(alloc: Global, iter: I) -> Result<Table, TableError>
     where
         I::Item: Tabled + Drop,
@@ -104,7 +106,7 @@ impl Table {
         Ok(Table::of_records(records))
     }
 
-    /// The same table. Refused only for memory.
+    /// Returns a copy of the table. Fails only if an allocation fails (`Memory`).
     pub fn clone(&self) -> Result<Table, TableError>
         ensures records { IfOk result (λ table. table.records ≡ self.now.records) }
         ensures config { IfOk result (λ table. table.config ≡ self.now.config) }
@@ -119,14 +121,14 @@ impl Table {
         })
     }
 
-    /// The settings.
+    /// Returns the settings.
     pub fn get_config(&self) -> &ColoredConfig
         ensures { result.now ≡ self.now.config }
     {
         &self.config
     }
 
-    /// The settings, to be changed.
+    /// Returns the settings by mutable reference.
     pub fn get_config_mut(&mut self) -> &mut ColoredConfig
         ensures* lends { sem 𝓛 (LendsConfig self.entry result) }
         ensures value { result.now ≡ self.old.config }
@@ -134,14 +136,14 @@ impl Table {
         &mut self.config
     }
 
-    /// The records.
+    /// Returns the records.
     pub fn get_records(&self) -> &VecRecords<Text<String>>
         ensures { result.now ≡ self.now.records }
     {
         &self.records
     }
 
-    /// The records, to be changed.
+    /// Returns the records by mutable reference.
     pub fn get_records_mut(&mut self) -> &mut VecRecords<Text<String>>
         ensures* lends { sem 𝓛 (Lends the_row
             (records_row (text_row string_row ⟦<String as AsStr>⟧) ⟦<Text<String> as CellText>⟧)
@@ -151,14 +153,14 @@ impl Table {
         &mut self.records
     }
 
-    /// The sizes that are stored.
+    /// Returns the stored sizes.
     pub fn get_dimension(&self) -> &CompleteDimension
         ensures { result.now ≡ self.now.dimension }
     {
         &self.dimension
     }
 
-    /// The sizes that are stored, to be changed.
+    /// Returns the stored sizes by mutable reference.
     pub fn get_dimension_mut(&mut self) -> &mut CompleteDimension
         ensures* lends { sem 𝓛 (LendsDimension self.entry result) }
         ensures value { result.now ≡ self.old.dimension }
@@ -166,7 +168,7 @@ impl Table {
         &mut self.dimension
     }
 
-    /// How many rows and columns the table has.
+    /// Returns the number of rows and the number of columns.
     pub fn shape(&self) -> (usize, usize)
         ensures rows { result.0 ≡ length (cells_of self.now) }
         ensures columns { result.1 ≡ columns (cells_of self.now) }
@@ -174,14 +176,14 @@ impl Table {
         (self.count_rows(), self.count_columns())
     }
 
-    /// How many rows the table has.
+    /// Returns the number of rows.
     pub fn count_rows(&self) -> usize
         ensures { result ≡ length (cells_of self.now) }
     {
         self.records.count_rows()
     }
 
-    /// How many columns the table has; none where it has no row.
+    /// Returns the number of columns; 0 for a table without rows.
     pub fn count_columns(&self) -> usize
         ensures { result ≡ columns (cells_of self.now) }
     {
@@ -195,11 +197,17 @@ impl Table {
         is_empty(&self.records)
     }
 
-    /// Whether the settings keep the texts apart, whatever these are: what stands beside cells are separators of one column
-    /// (a space, lines, blocks and dots, printable ASCII but `#`, `*` and digits), or vertical lines of any additive characters
-    /// with left padding behind them; a vertical line or padding stands between each two cells of a row; and horizontal lines
-    /// and the lines of margins are of additive characters. Then each printed line takes `total_width` columns, if the widths hold
-    /// the texts, as estimated ones do.
+    /// Whether the settings separate the cells, so that the columns of a line add up whatever the
+    /// cells contain. Then each printed line is exactly `total_width` columns wide, if the widths
+    /// hold the cells, as estimated widths do.
+    ///
+    /// Returns `true` exactly if all of these hold:
+    /// - Padding and side margins are filled with separators of one column: a space, lines, blocks
+    ///   and dots, or printable ASCII except `#`, `*` and digits.
+    /// - Horizontal lines and the top and bottom margins are of additive characters, whose columns
+    ///   add up.
+    /// - Vertical lines are of additive characters before left padding, or of separators.
+    /// - There is a vertical line or padding between any two cells of a row.
     pub fn is_apart(&self) -> bool
         ensures { IsTrue result ↔ IsApartConfig (sheet self.now).config (length (cells_of self.now))
             (columns (cells_of self.now)) }
@@ -211,9 +219,9 @@ impl Table {
         )
     }
 
-    /// Whether the texts are plain, and the borders, fills and margins plain characters or separators of
-    /// one column. Then each printed line takes `total_width` columns, if the widths hold the texts, as
-    /// estimated ones do, also where cells touch.
+    /// Whether the cells are plain, and borders, fills and margins are plain characters or
+    /// separators of one column. Then each printed line is exactly `total_width` columns wide, even
+    /// where cells touch, if the widths hold the cells, as estimated widths do.
     pub fn is_plain(&self) -> bool
         ensures { IsTrue result ↔ (IsPlainConfig (sheet self.now).config (length (cells_of self.now))
             (columns (cells_of self.now)) × ArePlain (cells_of self.now)) }
@@ -223,9 +231,11 @@ impl Table {
             && is_plain_records(&self.records)
     }
 
-    /// The columns of each line of the printed table: the widths that stand, the vertical lines and the
-    /// side margins; 0 for an empty table. Refused for memory where no widths are stored, with `ShortWidths` where fewer widths are
-    /// stored than there are columns, and with `Range` where the sum passes the greatest `usize`.
+    /// Returns the columns of each line of the printed table: the effective widths, the vertical
+    /// lines and the side margins. An empty table has 0.
+    ///
+    /// Fails with `Memory` only if no widths are stored, with `ShortWidths` if fewer widths are
+    /// stored than there are columns, and with `Range` if the sum exceeds `usize::MAX`.
     #[tactic(auto, using(crate::proofs::Sheets::sheet_columns, crate::proofs::Sheets::sheet_texts))]
     pub fn total_width(&self) -> Result<usize, TableError>
         ensures empty { is_empty (cells_of self.now) ≡ true → result ≡ Ok 0 }
@@ -242,9 +252,11 @@ impl Table {
         total_width(&self.records, self.config.as_ref(), &self.dimension)
     }
 
-    /// The lines of the printed table: the heights that stand, the horizontal lines, top and bottom
-    /// margin; 0 for an empty table. Refused for memory where no heights are stored, with `ShortHeights` where fewer heights are stored
-    /// than there are rows, and with `Range` where the sum passes the greatest `usize`.
+    /// Returns the number of lines of the printed table: the effective heights, the horizontal
+    /// lines, and the top and bottom margins. An empty table has 0.
+    ///
+    /// Fails with `Memory` only if no heights are stored, with `ShortHeights` if fewer heights are
+    /// stored than there are rows, and with `Range` if the sum exceeds `usize::MAX`.
     #[tactic(auto, using(crate::proofs::Sheets::sheet_lines))]
     pub fn total_height(&self) -> Result<usize, TableError>
         ensures empty { is_empty (cells_of self.now) ≡ true → result ≡ Ok 0 }
@@ -256,24 +268,28 @@ impl Table {
         total_height(&self.records, self.config.as_ref(), &self.dimension)
     }
 
-    /// Prints the table piece by piece: the picture of its sizes, its lines joined by line feeds. An
-    /// empty table prints nothing. Refused, before the first byte and in this order: `ShortWidths` and
-    /// `ShortHeights` where fewer sizes are stored than there are columns or rows, `Narrow` at the first cell
-    /// whose text and side padding its column doesn't hold, `Range` where a total passes the greatest
-    /// `usize`; later only for what the sink refuses, and then a beginning went out. Memory is taken, and
-    /// may be refused, only where widths or heights aren't stored.
+    /// Prints the table to a sink piece by piece, its lines joined by line feeds. A table without
+    /// rows or columns prints nothing.
+    ///
+    /// These errors come before the first byte, and are checked in this order:
+    /// - `ShortWidths`, `ShortHeights`: fewer sizes are stored than there are columns or rows.
+    /// - `Narrow`: a column is narrower than a cell with its side padding. The error names the
+    ///   first such cell.
+    /// - `Range`: a total exceeds `usize::MAX`.
+    ///
+    /// If widths or heights aren't stored, printing allocates and can fail with `Memory` before the
+    /// first byte. Every later error is the sink's, and then a beginning of the table was written.
     pub fn write_to<S: TextSink>(&self, sink: &mut S) -> Result<(), TableError>
         ensures { Prints (not (is_stored self.now.dimension)) (sheet self.now) (S.sent sink.old) result (S.sent sink.new) }
     {
         print_standing(sink, &self.records, self.config.as_ref(), &self.dimension)
     }
 
-    /// The printed text. Fails with `Memory`, and for each cause for which `write_to` fails before
-    /// its first byte.
+    /// Returns the printed table. Fails with `Memory`, and with each error that `write_to` returns
+    /// before its first byte.
     ///
-    /// It is what `to_string` returns. On a `&mut Table`, as `with` returns one, the name
-    /// `to_string` means std's method, which reports each failure as one of allocation; `to_text`
-    /// means the same everywhere.
+    /// `to_string` returns the same. But on a `&mut Table`, as `with` returns one, `to_string` is
+    /// std's method, which reports every error as an allocation failure.
     ///
     /// ```rust
     /// Table::from_iter(alloc, rows)?.with(Style::modern())?.to_text()
@@ -290,7 +306,7 @@ impl Table {
         Ok(text)
     }
 
-    /// The printed text, by the crate's name; see `to_text`.
+    /// Returns the printed table; see `to_text`.
     pub fn to_string(&self) -> Result<String, TableError>
         ensures ok { IfOk result (λ text. string_bytes text ≡ table_text (sheet self.now)) }
         ensures printable { IfOk result (λ _. (is_empty (cells_of self.now) ≡ true)
@@ -312,7 +328,7 @@ impl From<Builder> for Table {
     }
 }
 
-/// The rows of the table, its settings and sizes left. It takes no memory.
+/// Turns the cells into a builder, and drops settings and sizes. Allocates nothing.
 impl From<Table> for Builder {
     ghost from_gives = { λ table builder. builder ≡ table.records };
 

@@ -1,5 +1,5 @@
--- What it means to cut a text at n columns: all beginnings of the text are compared. A beginning is a list of
--- characters, a text and an answer are lists of bytes.
+-- Cutting a text to n columns, defined by comparing all beginnings of the text. Beginnings are
+-- lists of characters; texts and answers are lists of bytes.
 use Rattle.std.specs.Prelude.{◌≡◌, ℕ, ◌-◌, ◌<◌, ◌≤◌, ◌==◌, List, [], ◌∷◌, ◌++◌, chars, length, take, drop, replicate, All, if◌then◌else◌}
 use Rattle.std.specs.Str.{IsUtf8}
 use Rattle.tabled_text.specs.Measure.{lines_of, count_of}
@@ -12,28 +12,28 @@ last_of (x ∷ y ∷ xs) = last_of (y ∷ xs)
 abbrev pub last_line : List ℕ → List ℕ
 last_line cs = last_of (lines_of cs)
 
--- a beginning is reached if each of its lines counts at most n, and the last line of every shorter beginning
--- less than n
+-- a beginning is reached if each of its lines counts at most n, and the last line of every shorter
+-- beginning counts less than n
 pub record IsReached (n : ℕ) (front : List ℕ) : Type 0 where
   pub fits : All (λ line. count_of line ≤ n) (lines_of front)
   pub shorter : (k : ℕ) → k < length front → count_of (last_line (take k front)) < n
 
--- of all reached beginnings of a text, front is the longest, and rest follows it
+-- `front` is the longest reached beginning of a text, and `rest` follows it
 pub record IsLongestReached (n : ℕ) (text front rest : List ℕ) : Type 0 where
   pub parts : text ≡ front ++ rest
   pub reached : IsReached n front
   pub longest : (k : ℕ) → k ≤ length text → IsReached n (take k text) → k ≤ length front
 
--- the columns that are left in the last line, where the text goes on
+-- the columns left in the last line if the text goes on, else 0
 abbrev pub missing_columns : ℕ → List ℕ → List ℕ → ℕ
 missing_columns n front [] = 0
 missing_columns n front (c ∷ rest) = n - count_of (last_line front)
 
--- what follows: a character that would have passed n is dropped
+-- the rest after the cut, without the character that would have passed n
 abbrev pub following : ℕ → List ℕ → List ℕ
 following missing rest = if missing == 0 then rest else drop 1 rest
 
--- the cut text: the longest reached beginning, and U+FFFD in the columns that are left
+-- the cut text: the longest reached beginning, with U+FFFD in the columns left
 pub record IsCut (n : ℕ) (text answer : List ℕ) : Type 0 where
   pub front : List ℕ
   pub rest : List ℕ
@@ -41,22 +41,22 @@ pub record IsCut (n : ℕ) (text answer : List ℕ) : Type 0 where
   pub utf8 : IsUtf8 answer
   pub characters : chars answer ≡ front ++ replicate (missing_columns n front rest) 0xFFFD
 
--- the cut text, and what follows its beginning and a dropped character
+-- the cut text, and the rest after the cut
 pub record IsSplit (n : ℕ) (text answer after : List ℕ) : Type 0 where
   pub cut : IsCut n text answer
   pub utf8 : IsUtf8 after
   pub characters : chars after ≡ following (missing_columns n cut.front cut.rest) cut.rest
 
--- the cut text ends with U+FFFD
+-- U+FFFD fills columns of the cut text
 pub record NeedsFill (n : ℕ) (text : List ℕ) : Type 0 where
   pub front : List ℕ
   pub rest : List ℕ
   pub longest : IsLongestReached n (chars text) front rest
   pub missing : 0 < missing_columns n front rest
 
--- ---- for the private function that looks for the place
+-- ---- for the private function that finds the cut
 
--- the longest reached beginning, the columns that are left, and what follows
+-- the longest reached beginning, the columns left, and the rest after the cut
 pub record IsParted (n : ℕ) (text front : List ℕ) (missing : ℕ) (after : List ℕ) : Type 0 where
   pub rest : List ℕ
   pub longest : IsLongestReached n text front rest

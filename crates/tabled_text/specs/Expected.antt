@@ -1,8 +1,8 @@
--- What a text that is expected piece by piece has left.
+-- What is still expected of a text that is compared piece by piece.
 use Rattle.std.specs.Prelude.{◌≡◌, ℕ, List, [], ◌++◌, ◌↔◌, Option, Some}
 use Rattle.std.proofs.Common.{append_assoc, sym, ap, ◌∙◌}
 
--- afterwards z is left exactly if before it x and z were
+-- `x` was matched: z is expected afterwards exactly if x and then z were expected before
 abbrev pub Expects : Option (List ℕ) → List ℕ → Option (List ℕ) → Type 0
 Expects s x t = (z : List ℕ) → (s ≡ Some (x ++ z)) ↔ (t ≡ Some z)
 

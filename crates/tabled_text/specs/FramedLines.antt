@@ -1,4 +1,4 @@
--- Lines of any characters, and the frames around them. Both are given by bytes.
+-- Lines of any characters, and the frames around them. Both are lists of bytes.
 use Rattle.std.specs.Prelude.{◌≡◌, ℕ, Bool, true, false, not, ◌==◌, List, chars}
 use Rattle.std.specs.List.{list_all}
 use Rattle.std.specs.Str.{IsUtf8}
@@ -14,18 +14,18 @@ pub record IsSeparatorColumn (c : ℕ) : Type 0 where
   pub additive : IsAdditiveColumn c
   pub steady : is_keycap_base c ≡ false
 
--- a text without line feeds, of any other characters, that takes n columns
+-- a line of any characters except line feeds, which takes n columns
 pub record IsLine (line : List ℕ) (n : ℕ) : Type 0 where
   pub utf8 : IsUtf8 line
   pub feedless : list_all is_no_feed (chars line) ≡ true
   pub columns : line_columns line ≡ n
 
--- borders, fills and padding that take n columns
+-- separators, as in borders, fills and padding, which take n columns
 pub record IsFrame (text : List ℕ) (n : ℕ) : Type 0 where
   pub utf8 : IsUtf8 text
   pub separators : list_all is_separator (chars text) ≡ true
   pub columns : line_columns text ≡ n
 
--- the text ends with a character that stands apart from whatever follows, or is empty
+-- the text is empty, or its last character's columns add up with whatever follows
 abbrev pub EndsApart : List ℕ → Type 0
 EndsApart text = (back : List ℕ) → ends_before (chars text) back ≡ true

@@ -1,4 +1,4 @@
--- Letters that take the same columns wherever they stand, and what their first bytes tell of them.
+-- Letters that take the same columns in every text, and how their first byte determines these.
 use Rattle.std.specs.Prelude.{◌≡◌, ◌≤◌, ◌||◌, ℕ, Bool, true, encode_utf8}
 use Rattle.std.specs.Int.{is_in_range}
 use Rattle.std.specs.List.{slice_index_or}
@@ -9,15 +9,16 @@ use Rattle.tabled_text.specs.Measure.{char_columns}
 abbrev pub lead_byte : ℕ → ℕ
 lead_byte c = slice_index_or (encode_utf8 c) 0 0
 
--- one of printable ASCII, or of the characters from U+00C0 to U+02FF and from U+0380 to U+047F: Latin, Greek and Cyrillic letters, × and ÷
+-- the first byte of printable ASCII, or of a character from U+00C0 to U+02FF or from U+0380 to
+-- U+047F: Latin, Greek and Cyrillic letters, × and ÷
 abbrev pub is_narrow_lead : ℕ → Bool
 is_narrow_lead lead = is_in_range 0x20 0x7E lead || (is_in_range 0xC3 0xCB lead || is_in_range 0xCE 0xD1 lead)
 
--- one of the characters from U+4000 to U+9FFF: ideographs, and the hexagrams among them
+-- the first byte of a character from U+4000 to U+9FFF: ideographs, and the hexagrams among them
 abbrev pub is_wide_lead : ℕ → Bool
 is_wide_lead lead = is_in_range 0xE4 0xE9 lead
 
--- a character that ends no special sequence of `unicode_width` takes n columns
+-- a character of n columns that ends no special sequence of `unicode_width`
 pub record IsLetter (c n : ℕ) : Type 0 where
   pub simple : is_simple c ≡ true
   pub columns : char_columns c ≡ n

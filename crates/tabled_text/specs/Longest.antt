@@ -1,4 +1,5 @@
--- The longest beginning of a line that finds room. Beginnings are lists of characters, a line and an answer bytes.
+-- The longest beginning of a line that fits. Beginnings are lists of characters; lines and answers
+-- are lists of bytes.
 use Rattle.std.specs.Prelude.{◌≡◌, ℕ, ◌≤◌, ◌++◌, List, chars, length, take, replicate}
 use Rattle.tabled_text.specs.Measure.{columns_of}
 use Rattle.tabled_text.specs.Cut.{missing_columns}
@@ -8,7 +9,7 @@ pub record IsLongestFitting (n : ℕ) (line front : List ℕ) : Type 0 where
   pub fits : columns_of front ≤ n
   pub longest : (k : ℕ) → k ≤ length line → columns_of (take k line) ≤ n → k ≤ length front
 
--- the longest beginning that finds room, and U+FFFD in the column that a cut character leaves
+-- the longest beginning that fits, with U+FFFD in the columns that a dropped character leaves
 pub record IsLongestCut (n : ℕ) (line answer : List ℕ) : Type 0 where
   pub front : List ℕ
   pub rest : List ℕ

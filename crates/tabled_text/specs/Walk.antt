@@ -1,4 +1,4 @@
--- What the private functions that wrap and check do: unit after unit, with no look ahead.
+-- What the private functions that wrap and compare do, unit after unit and without looking ahead.
 use Rattle.std.specs.Prelude.{ℕ, ◌+◌, Bool, true, false, ◌||◌, nat_le, List, [], ◌∷◌, ◌++◌, chars, Option, Some, None, if◌then◌else◌}
 use Rattle.std.specs.Borrow.{Bor}
 use Rattle.std.specs.List.{list_all}
@@ -7,26 +7,26 @@ use Rattle.tabled_text.specs.OldText.{finds_room}
 use Rattle.tabled_text.specs.Units.{TextUnit, units, words_of}
 use Rattle.tabled_text.specs.Wrapping.{needed, shown}
 
--- the words of what follows a space, if one does
+-- the words of the rest after a space, if there is one
 abbrev pub words_in : Option (Bor (List ℕ)) → List (List ℕ)
 words_in (Some text) = words_of (chars text.now)
 words_in None = []
 
--- the column at which a unit begins that needs so many, and what is written before it
+-- the column at which a unit of `needed` columns begins, and what is written before it
 abbrev pub begin_at : ℕ → ℕ → ℕ → ℕ
 begin_at n used needed = if nat_le (used + needed) n then used else 0
 
 abbrev pub begin_text : ℕ → ℕ → ℕ → List ℕ
 begin_text n used needed = if nat_le (used + needed) n then [] else 10 ∷ []
 
--- what a unit writes, and the columns that its line then has
+-- what a unit writes, and the columns then used in its line
 abbrev pub append_text : ℕ → ℕ → TextUnit → List ℕ
 append_text n used unit = begin_text n used (needed n unit) ++ shown n (begin_at n used (needed n unit)) unit
 
 abbrev pub append_used : ℕ → ℕ → TextUnit → ℕ
 append_used n used unit = begin_at n used (needed n unit) + unit.width
 
--- what all units write, and the columns that the last line then has
+-- what a list of units writes, and the columns then used in the last line
 abbrev pub append_all : ℕ → ℕ → List TextUnit → List ℕ
 append_all n used [] = []
 append_all n used (unit ∷ units) = append_text n used unit ++ append_all n (append_used n used unit) units
@@ -35,13 +35,13 @@ abbrev pub used_after : ℕ → ℕ → List TextUnit → ℕ
 used_after n used [] = used
 used_after n used (unit ∷ units) = used_after n (append_used n used unit) units
 
--- what the lines that are left write, where some were written before or none was
+-- what the remaining lines write. `begun` says that a line was written before
 abbrev pub pending : ℕ → Bool → Bool → List (List ℕ) → List ℕ
 pending n words begun [] = []
 pending n words begun (line ∷ lines) =
     (if begun then 10 ∷ [] else []) ++ (append_all n 0 (units n words line) ++ pending n words true lines)
 
--- whether each unit of a word, and of a line, is at most n wide
+-- whether each unit of a word, and of a line, is at most n columns wide
 abbrev pub fits_word : ℕ → List ℕ → Bool
 fits_word n word = nat_le (columns_of word) n || finds_room n word
 

@@ -1,10 +1,10 @@
-//! The characters of a text, one after another, and what each counts.
+//! Takes a text apart character by character, and counts the columns of each.
 ghost use Rattle.std.specs.Prelude.{◌≡◌, ◌<◌, ◌≤◌, ◌∷◌, [], ◌++◌, chars, encode_utf8, length, MatchOption};
 ghost use Rattle.tabled_text.specs.Measure.{char_count};
 
 use unicode_width::UnicodeWidthChar;
 
-/// What a character counts where texts are cut and wrapped: its columns, and 1 at least.
+/// Returns what a character counts in cutting and wrapping: its columns, at least 1.
 pub(crate) fn char_count(c: char) -> usize
     ensures value { result ≡ char_count c }
     ensures low { 1 ≤ result }
@@ -13,7 +13,7 @@ pub(crate) fn char_count(c: char) -> usize
     c.width().unwrap_or(0).max(1)
 }
 
-/// The first character of a text, and what follows it.
+/// Returns the first character of a text and the rest, or `None` if the text is empty.
 pub(crate) fn split_first(text: &str) -> Option<(char, &str)>
     ensures { MatchOption result (chars text.now ≡ []) (λ x. (text.now ≡ encode_utf8 x.0 ++ x.1.now)
         × (length x.1.now < length text.now) × (chars text.now ≡ x.0 ∷ chars x.1.now)) }

@@ -1,4 +1,4 @@
-//! Cutting a text to some columns.
+//! Cuts texts to n columns.
 ghost use Rattle.std.specs.Prelude.{◌≡◌, ◌++◌, ◌<◌, chars, length, replicate, take, encode_utf8_all, IfNone, IfOk, IfSome, OnErr, OnOk, IsUtf8, string_bytes};
 ghost use Rattle.std.specs.Str.{IsCharBoundary};
 ghost use Rattle.std.specs.Cow.{cow_str_bytes, IsOwnedStr};
@@ -9,7 +9,7 @@ use crate::sink::append_copies;
 use std::alloc::{AllocError, Global};
 use std::borrow::CowStr;
 
-/// A text in two parts, without a character that is dropped between them.
+/// A text cut in two. A character dropped between the parts is in neither.
 #[derive(Drop)]
 struct Parts<'a> {
     front: &'a str,
@@ -17,7 +17,7 @@ struct Parts<'a> {
     after: &'a str,
 }
 
-/// The two parts of a text that is cut to n columns.
+/// Cuts a text to n columns. `missing` is the number of columns that a dropped character leaves.
 fn part(text: &str, n: usize) -> Parts<'_>
     ensures parted { IsParted n (chars text.now) (chars result.front.now) result.missing (chars result.after.now) }
     ensures front { IsUtf8 result.front.now }
@@ -55,7 +55,7 @@ fn part(text: &str, n: usize) -> Parts<'_>
     }
 }
 
-/// The beginning of a text, with U+FFFD in the columns that are missing.
+/// Returns `front` with U+FFFD in the missing columns, borrowed if there are none.
 fn fill(alloc: Global, front: &str, missing: usize) -> Result<CowStr<'_, Global>, AllocError>
     ensures text { IfOk result (λ answer.
         cow_str_bytes answer ≡ front.now ++ encode_utf8_all (replicate missing 0xFFFD)) }
@@ -70,10 +70,11 @@ fn fill(alloc: Global, front: &str, missing: usize) -> Result<CowStr<'_, Global>
     Ok(CowStr::Owned(answer))
 }
 
-/// The longest beginning of a text of which no line passes n columns, each character counted by itself (1 at
-/// least). It ends at a full line, also before a line feed. A character that would pass n is dropped, and
-/// U+FFFD stands in each column that is left; where there is none, the text is lent. Refused only where memory
-/// for U+FFFD is.
+/// Cuts a text as soon as one of its lines is n columns wide, even before a line feed. Each
+/// character counts as its own columns, at least 1. A character that would pass n columns is
+/// dropped, and U+FFFD fills the columns left.
+///
+/// The result is borrowed unless it is filled. Fails only if the allocation of a filled text fails.
 pub fn cut_str(alloc: Global, text: &str, n: usize) -> Result<CowStr<'_, Global>, AllocError>
     ensures cut { IfOk result (λ answer. IsCut n text.now (cow_str_bytes answer)) }
     ensures owned { IfOk result (λ answer. IsOwnedStr answer → NeedsFill n text.now) }
@@ -83,7 +84,8 @@ pub fn cut_str(alloc: Global, text: &str, n: usize) -> Result<CowStr<'_, Global>
     fill(alloc, parts.front, parts.missing)
 }
 
-/// How many bytes `cut_str` leaves of a text where they are a beginning of it, in which no U+FFFD stands for a column.
+/// Returns the length in bytes of what `cut_str` returns, or `None` if `cut_str` fills columns with
+/// U+FFFD.
 pub fn cut_length(text: &str, n: usize) -> Option<usize>
     ensures cut { IfSome result (λ length. IsCut n text.now (take length text.now)) }
     ensures boundary { IfSome result (λ length. IsCharBoundary text.now length) }
@@ -98,7 +100,8 @@ pub fn cut_length(text: &str, n: usize) -> Option<usize>
     }
 }
 
-/// A text as `cut_str` cuts it, and what follows its beginning and a dropped character. Refused as `cut_str` is.
+/// Returns a text as `cut_str` cuts it, and the rest after the cut. A dropped character is in
+/// neither. Fails as `cut_str` does.
 pub fn split_str(
     alloc: Global,
     text: &str,

@@ -1,4 +1,4 @@
-//! Whether a text is another one wrapped. Nothing is written: the walk that wraps tells what is expected next.
+//! Checks whether a text is another one wrapped: the wrapping walk compares instead of writing.
 ghost use Rattle.std.specs.Prelude.{◌≡◌, ◌++◌, ◌↔◌, ◌<◌, ℕ, List, [], Some, None, Option, chars, encode_utf8, IsTrue};
 ghost use Rattle.std.specs.List.{list_all};
 ghost use Rattle.std.specs.Option.{option_copied};
@@ -17,7 +17,7 @@ use crate::sink::Sink;
 use crate::wrap::{append_lines, split_word};
 use std::convert::Infallible;
 
-/// The text without a beginning, if it begins so.
+/// Removes `text` from the front of `rest`, or returns `None` if `rest` doesn't begin with it.
 fn strip<'a>(rest: Option<&'a [u8]>, text: &[u8]) -> Option<&'a [u8]>
     ensures { (z : List ℕ)
         → (option_copied rest.entry ≡ Some (text.now ++ z)) ↔ (option_copied result ≡ Some z) }
@@ -25,7 +25,8 @@ fn strip<'a>(rest: Option<&'a [u8]>, text: &[u8]) -> Option<&'a [u8]>
     rest?.strip_prefix(text)
 }
 
-/// A text that is expected piece by piece: what is left of it, or nothing if a piece differed.
+/// A sink that compares what is written with an expected text. `rest` is what is still expected, or
+/// `None` after a difference.
 #[derive(Drop)]
 struct Expected<'a> {
     rest: Option<&'a [u8]>,
@@ -54,7 +55,7 @@ impl<'a> Sink for Expected<'a> {
         Expects-more (option_copied s.rest) (option_copied t.rest) (option_copied u.rest) x y h k };
 }
 
-/// Whether nothing more is expected.
+/// Whether everything expected was written.
 fn is_done(rest: Option<&[u8]>) -> bool
     ensures { IsTrue result ↔ (option_copied rest.entry ≡ Some []) }
 {
@@ -64,14 +65,14 @@ fn is_done(rest: Option<&[u8]>) -> bool
     }
 }
 
-/// Whether no character of a text counts more than n.
+/// Whether each character of a text counts at most n.
 fn chars_fit(text: &str, n: usize) -> bool
     ensures { result ≡ finds_room n (chars text.now) }
 {
     text.chars().all(|c| char_count(c) <= n)
 }
 
-/// Whether each unit of the words of a line is at most n wide.
+/// Whether each unit of a line broken at words is at most n columns wide.
 fn words_fit(line: &str, n: usize) -> bool
     ensures { result ≡ list_all (fits_word n) (words_of (chars line.now)) }
 {
@@ -88,10 +89,11 @@ fn words_fit(line: &str, n: usize) -> bool
     }
 }
 
-/// What the widest characters count.
+/// The most that a character counts.
 const WIDEST: usize = 3;
 
-/// Whether each unit of a text is at most n wide. Where even the widest character is, nothing is read.
+/// Whether each unit of a text is at most n columns wide. The text isn't read if n is at least
+/// `WIDEST`.
 fn units_fit(text: &str, n: usize, words: bool) -> bool
     ensures { result ≡ list_all (fits_line n words) (lines_of (chars text.now)) }
 {
@@ -111,8 +113,9 @@ fn units_fit(text: &str, n: usize, words: bool) -> bool
     true
 }
 
-/// Whether each unit of a text is at most n wide, n is at least 1, and `wrapped` is what `wrap_text` gives. Then
-/// it has the fewest lines of all breakings of the text. Takes no memory.
+/// Whether `wrapped` is what `wrap_text` returns, n is at least 1 and no unit of the text is wider
+/// than n columns. Then `wrapped` has the fewest lines of all breakings of the text. Doesn't
+/// allocate.
 pub fn is_fullest(text: &str, wrapped: &str, n: usize, words: bool) -> bool
     ensures fullest { IsTrue result ↔ IsRoomyWrapping n words text.now wrapped.now }
     ensures fewest { IsTrue result → HasFewestLines n words text.now wrapped.now }

@@ -1,4 +1,4 @@
-//! Laws of lines, each the contract of a function.
+//! Laws of texts of any characters, each the contract of a function.
 ghost use Rattle.std.specs.Prelude.{◌≡◌, ◌↔◌, ◌⊎◌, ◌<◌, ◌≤◌, ℕ, Bool, true, false, List, [], ◌∷◌, ◌++◌, ◌+◌, All, chars, encode_utf8, encode_utf8_all, length, replicate, sum_by, take};
 ghost use Rattle.std.specs.List.{flat_map, join_with_byte, slice_index_or};
 ghost use Rattle.std.specs.Str.{IsUtf8};
@@ -13,8 +13,8 @@ ghost use Rattle.tabled_text.specs.Fitting.{FitsIn};
 ghost use Rattle.tabled_text.specs.FramedLines.{EndsApart, IsFrame, IsLine, IsSeparatorColumn};
 ghost use Rattle.tabled_text.specs.Separators.{begins_apart, is_separator, meet};
 
-/// A separator adds its own columns, whatever stands before and after it. The columns of two texts add up where one
-/// stands apart from the other. An additive character of one column is plain, or a separator.
+/// A separator adds its own columns, whatever is before and after it. The columns of two texts that
+/// `meet` add up. An additive character of one column is plain or a separator.
 pub fn separators()
     ensures additive { (c : ℕ) → IsAdditiveColumn c ↔ (IsPlainColumn c ⊎ IsSeparatorColumn c) }
     ensures first { (c : ℕ) (back : List ℕ) → is_separator c ≡ true
@@ -25,13 +25,14 @@ pub fn separators()
         → columns_of (front ++ back) ≡ columns_of front + columns_of back }
 {}
 
-/// A line takes no more columns than its characters count.
+/// The columns of a line are at most the sum of its characters' counts.
 pub fn count_is_bound()
     ensures { (line : List ℕ) → columns_of line ≤ count_of line }
 {}
 
-/// Lines whose characters count as many as their columns, as plain ones do: the characters of each beginning do so too. Cut, such
-/// a line is the longest beginning that finds room, filled up, and stays where it finds room itself.
+/// Lines whose characters' counts add up to their columns, as those of additive lines do. The same
+/// holds for each beginning of such a line. Cut, such a line is its longest beginning that fits,
+/// with U+FFFD in a column left over, and it is unchanged if it fits.
 pub fn exact_lines()
     ensures plain { (text : List ℕ) → IsAdditive text → length (lines_of text) ≡ 1 → IsExactLine text }
     ensures beginnings { (line : List ℕ) → columns_of line ≡ count_of line
@@ -42,8 +43,8 @@ pub fn exact_lines()
         → answer ≡ line }
 {}
 
-/// Lines of any characters: where they stand apart, their columns add up. So do those of a line between frames, and of
-/// pieces that each begin apart.
+/// The columns of lines that `meet` add up. So do those of a line between frames, and those of
+/// pieces that each begin apart or end apart.
 pub fn lines_of_any_text()
     ensures frame { (text : List ℕ) (n : ℕ) → IsFrame text n → IsLine text n }
     ensures one { (c : ℕ) → IsSeparatorColumn c → IsFrame (encode_utf8 c) 1 }
@@ -62,8 +63,9 @@ pub fn lines_of_any_text()
         → IsLine (slice_index_or (lines_of text) k []) (line_columns (slice_index_or (lines_of text) k [])) }
 {}
 
-/// Texts of any characters that take at most some columns: what is cut, also with an additive suffix or another text behind
-/// it that stays in the room, what is wrapped, what is joined of such texts, no text, and copies of an additive character.
+/// Texts that take at most n columns, whatever their characters: cut texts, alone or with an
+/// additive suffix or another text after them that fits; wrapped texts; such texts joined by line
+/// feeds; the empty text; and at most n copies of an additive character of one column.
 pub fn texts_that_fit()
     ensures cut { (n : ℕ) (text answer : List ℕ) → IsCut n text answer → FitsIn n answer }
     ensures suffix { (n w : ℕ) (text answer suffix : List ℕ) → IsAdditive suffix

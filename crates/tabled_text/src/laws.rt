@@ -1,4 +1,4 @@
-//! Laws of texts, each the contract of a function.
+//! Laws of additive texts, and of cut and wrapped ones, each the contract of a function.
 ghost use Rattle.std.specs.Prelude.{◌≡◌, ◌<◌, ◌≤◌, ℕ, Bool, true, List, [], ◌∷◌, ◌++◌, ◌+◌, ◌*◌, All, IsTrue, chars, encode_utf8, encode_utf8_all, length, map, max, replicate, sum_by};
 ghost use Rattle.std.specs.Int.{is_in_range};
 ghost use Rattle.std.specs.List.{join_with_byte, list_all, slice_index_or};
@@ -15,7 +15,8 @@ ghost use Rattle.tabled_text.specs.Wrapping.{IsWrapped};
 
 use crate::measure::line_width;
 
-/// A line of additive characters, as plain ones are, takes as many columns as its characters do, each by itself.
+/// Returns the columns of a line of additive characters, which are the sum of the characters'
+/// columns.
 pub fn plain_line_width(line: &str) -> usize
     requires { IsTrue (list_all is_additive (chars line.now)) }
     ensures { result ≡ sum_by char_columns (chars line.now) }
@@ -23,8 +24,9 @@ pub fn plain_line_width(line: &str) -> usize
     line_width(line)
 }
 
-/// Listed characters of one or two columns are plain, as U+FFFD and printable ASCII are, which take one column. Plain
-/// characters and texts are additive, and so are drawn characters of one or two columns.
+/// Listed characters of one or two columns are plain. Printable ASCII and U+FFFD are plain and take
+/// one column. Plain characters and texts are additive, and so are drawn characters of one or two
+/// columns.
 pub fn plain_characters()
     ensures listed { (c : ℕ) → is_listed c ≡ true → has_plain_width c ≡ true → is_plain_character c ≡ true }
     ensures printable { (c : ℕ) → is_in_range 0x20 0x7E c ≡ true → IsPlainColumn c }
@@ -35,7 +37,7 @@ pub fn plain_characters()
     ensures texts { (text : List ℕ) → IsPlain text → IsAdditive text }
 {}
 
-/// Additive lines, as plain ones are, are made of additive pieces, and the columns of the pieces add up.
+/// The columns of joined additive lines add up. Each line of an additive text is additive.
 pub fn plain_lines()
     ensures one { (c : ℕ) → IsAdditiveColumn c → IsAdditiveLine (encode_utf8 c) 1 }
     ensures joined { (front back : List ℕ) (m n : ℕ) → IsAdditiveLine front m → IsAdditiveLine back n → IsAdditiveLine (front ++ back) (m + n) }
@@ -43,7 +45,8 @@ pub fn plain_lines()
         → IsAdditiveLine (slice_index_or (lines_of text) k []) (line_columns (slice_index_or (lines_of text) k [])) }
 {}
 
-/// What an additive line takes, as a law of lists: its characters' columns add up, and its count is as great.
+/// The columns of an additive line are the sum of its characters' columns, and also the sum of
+/// their counts. U+FFFD is additive and takes one column.
 pub fn plain_columns()
     ensures sum { (line : List ℕ) → list_all is_additive (chars line) ≡ true
         → line_columns line ≡ sum_by char_columns (chars line) }
@@ -52,14 +55,13 @@ pub fn plain_columns()
     ensures replacement { IsAdditiveColumn 0xFFFD }
 {}
 
-/// Bounds by the bytes of a text, which keep sums in range.
+/// The lines and columns of a text are bounded by its bytes, so that sums of them stay in range.
 pub fn text_bounds()
     ensures lines { (text : List ℕ) → length (lines_of text) ≤ length text + 1 }
     ensures columns { (text : List ℕ) → IsAdditive text → text_columns text ≤ 2 * length text }
 {}
 
-/// A line feed between two texts ends a line, so the lines of both stand one after another, and the wider
-/// text gives the columns.
+/// Texts joined by line feeds have the lines of each, in order, and are as wide as the widest.
 pub fn joined_lines()
     ensures lines { (front back : List ℕ) → lines_of (front ++ 10 ∷ back) ≡ lines_of front ++ lines_of back }
     ensures columns { (front back : List ℕ)
@@ -72,7 +74,8 @@ pub fn joined_lines()
         → text_columns (join_with_byte 10 texts) ≡ greatest (map text_columns texts) }
 {}
 
-/// Additive texts of which no line passes n columns: what is joined of them, no text, and copies of a character.
+/// Additive texts of at most n columns: such texts joined by line feeds, the empty text, and at
+/// most n copies of an additive character of one column.
 pub fn texts_that_stay()
     ensures additive { (n : ℕ) (text : List ℕ) → StaysWithin n text → IsAdditive text × (text_columns text ≤ n) }
     ensures from { (n : ℕ) (text : List ℕ) → IsAdditive text → text_columns text ≤ n → StaysWithin n text }
@@ -82,8 +85,9 @@ pub fn texts_that_stay()
     ensures filled { (n k c : ℕ) → k ≤ n → IsAdditiveColumn c → StaysWithin n (encode_utf8_all (replicate k c)) }
 {}
 
-/// A cut additive text stays in its columns, alone and with what follows it. It has no more lines than the text, and of
-/// an additive line it is the longest beginning that finds room, and the line itself where that does.
+/// A cut additive text stays within its columns, alone and with a text after it that fits. A cut
+/// text has no more lines than before. An additive line is cut to its longest beginning that fits,
+/// with U+FFFD in a column left over, and is unchanged if it fits.
 pub fn cut_texts()
     ensures room { (n : ℕ) (text answer : List ℕ) → IsAdditive text → IsCut n text answer → StaysWithin n answer }
     ensures suffix { (n w : ℕ) (text answer suffix : List ℕ) → IsAdditive text → IsAdditive suffix
@@ -98,8 +102,8 @@ pub fn cut_texts()
         → answer ≡ line }
 {}
 
-/// There is a breaking exactly where each unit finds room, as where no character counts more than n. The units of a
-/// line, joined, are the line.
+/// A text can be broken to n ≥ 1 columns exactly if each of its units fits, for example if no
+/// character counts more than n. The units of a line, joined, are the line.
 pub fn breakings()
     ensures units { (n : ℕ) (words : Bool) (line : List ℕ) → text_of (units n words line) ≡ line }
     ensures permitted { (n : ℕ) (words : Bool) (text : List ℕ) (broken : List (List (List TextUnit)))
@@ -110,9 +114,9 @@ pub fn breakings()
         → EachUnitFits n words text }
 {}
 
-/// A wrapped additive text stays in its columns, whatever its characters take, and is the old text where that does. No
-/// breaking has fewer lines. Where each unit finds room, a wrapped text is the text of a breaking, and without the
-/// line feeds that were put in the old text.
+/// A wrapped additive text stays within n columns, and for n ≥ 1 is unchanged if it did so before.
+/// No breaking has fewer lines. If n ≥ 1 and each unit fits, the wrapped text is the text of a
+/// breaking: the old text with line feeds inserted.
 pub fn wrapped_texts()
     ensures room { (n : ℕ) (words : Bool) (text answer : List ℕ) → IsAdditive text → IsWrapped n words text answer
         → StaysWithin n answer }

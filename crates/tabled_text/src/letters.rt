@@ -1,11 +1,13 @@
-//! Letters that stand in no special sequence of `unicode_width`. The first byte of each tells what it takes, so that they need no table.
+//! Measures letters by their first byte alone, without a table. They end no special sequence of
+//! `unicode_width`.
 ghost use Rattle.std.specs.Prelude.{◌≡◌, ◌*◌, ◌≤◌, ℕ, IfSome, length};
 ghost use Rattle.tabled_text.specs.Letters.{IsLetter, is_narrow_lead, is_wide_lead, lead_byte};
 ghost use Rattle.tabled_text.specs.Measure.{line_columns};
 
 use crate::character::split_first;
 
-/// Whether a byte is printable ASCII, or begins a character from U+00C0 to U+02FF or from U+0380 to U+047F.
+/// Whether a byte is printable ASCII, or begins a character from U+00C0 to U+02FF or from U+0380 to
+/// U+047F.
 #[inline(always)]
 fn is_narrow_lead(lead: u8) -> bool
     ensures { result ≡ is_narrow_lead lead }
@@ -21,8 +23,8 @@ fn is_wide_lead(lead: u8) -> bool
     matches!(lead, 0xE4..=0xE9)
 }
 
-/// The columns of a character by its first byte, if that tells them: one of printable ASCII and of what stands among Latin, Greek
-/// and Cyrillic letters, and two of what stands among ideographs.
+/// Returns the columns of a character by its first byte: 1 for printable ASCII and the ranges of
+/// Latin, Greek and Cyrillic letters, 2 for that of ideographs, else `None`.
 #[inline(always)]
 fn lead_width(lead: u8) -> Option<usize>
     ensures { (c : ℕ) → lead ≡ lead_byte c → IfSome result (IsLetter c) }
@@ -36,7 +38,7 @@ fn lead_width(lead: u8) -> Option<usize>
     }
 }
 
-/// The columns of a line, if the first bytes of its characters tell them.
+/// Returns the columns of a line, or `None` if the first byte of a character isn't enough.
 pub(crate) fn letters_width(line: &str) -> Option<usize>
     ensures value { IfSome result (λ columns. columns ≡ line_columns line.now) }
     ensures bound { IfSome result (λ columns. columns ≤ 2 * length line.now) }

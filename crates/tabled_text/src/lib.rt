@@ -1,31 +1,31 @@
-//! What a text takes: columns and lines; where it is cut, and how it is wrapped; separators.
+//! Measures, cuts and wraps texts for a terminal.
 //!
 //! A column is what `unicode_width` counts, by Unicode Standard Annex 11. A text has one line more
-//! than line feeds, and is as wide as its widest line. Cutting and wrapping count each character by
-//! itself, and 1 at least, so that they never look ahead; words that are kept are measured as a line.
-//! For additive texts, as plain ones are, both measures are the same. Separators are characters that
-//! stand apart from whatever follows them: around them the columns of any texts add up.
+//! than line feeds, and is as wide as its widest line. Cutting and wrapping count each character
+//! alone, as at least 1 column, and so never look ahead. Only a word that wrapping doesn't break is
+//! measured as a line. For additive texts, which include plain ones, both measures are equal.
+//! Around separators, the columns of any texts add up.
 //!
-//! Measures:
-//! - `measure`: the columns and the lines of a text.
-//! - `character`: the characters of a text, one after another, and what each counts.
-//! - `letters`: letters that are measured by their first bytes, with no table.
-//! - `line`: the lines of a text, one after another.
+//! Measuring:
+//! - `measure`: the columns and lines of a text.
+//! - `character`: the characters of a text, and what each counts in cutting and wrapping.
+//! - `letters`: letters that are measured by their first byte, without a table.
+//! - `line`: an iterator over the lines of a text.
 //! - `runs`: runs of bytes within a range.
 //!
-//! Texts that are made:
-//! - `cut`: a text cut to some columns.
-//! - `wrap`: a text wrapped to some columns.
+//! Making texts:
+//! - `cut`: cuts a text to n columns.
+//! - `wrap`: wraps a text to n columns.
 //! - `fullest`: whether a text is another one wrapped.
-//! - `sink`: what takes a text piece by piece.
+//! - `sink`: where wrapping writes to, and copies of a character.
 //!
 //! Tests of characters:
 //! - `plain`: plain and additive characters.
 //! - `separator`: separators of one column.
 //!
 //! Laws, each the contract of a function:
-//! - `laws`: of additive texts, and of cut and wrapped ones.
-//! - `general_laws`: of texts of any characters, around separators.
+//! - `laws`: additive texts, and cut and wrapped ones.
+//! - `general_laws`: texts of any characters, around separators.
 #![tactic(auto)]
 
 mod character;

@@ -1,23 +1,24 @@
-//! The lines of a text, one after another.
+//! Iterates over the lines of a text.
 ghost use Rattle.std.specs.Prelude.{◌≡◌, ◌∷◌};
 ghost use Rattle.std.specs.Iterator.{YieldsFirstBy, item_count};
 ghost use Rattle.tabled_text.specs.Lines.{lines_in, lines_left};
 ghost use Rattle.tabled_text.specs.Measure.{lines_of};
 
-/// The lines of a text that are left, as `lines` gives them.
+/// An iterator over the lines of a text. `lines` returns it.
 #[derive(Debug, Drop)]
 pub struct TextLines<'a> {
     rest: Option<&'a str>,
 }
 
-/// The lines of a text, without their line feeds. The empty text has one empty line.
+/// Returns an iterator over the lines of a text, without their line feeds. The empty text has one
+/// empty line.
 pub fn lines(text: &str) -> TextLines<'_>
     ensures { lines_left result ≡ lines_of text.now }
 {
     TextLines { rest: Some(text) }
 }
 
-/// The first line of a text, and what follows its line feed, if it has one.
+/// Returns the first line of a text, and the rest after its line feed, if it has one.
 pub fn split_line(text: &str) -> (&str, Option<&str>)
     ensures { lines_of text.now ≡ result.0.now ∷ lines_in result.1 }
 {

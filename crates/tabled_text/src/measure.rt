@@ -1,4 +1,4 @@
-//! The columns and the lines of a text.
+//! Measures the columns and lines of texts.
 ghost use Rattle.std.specs.Prelude.{◌≡◌, ◌*◌, ◌≤◌, drop, length};
 ghost use Rattle.std.specs.Int.{is_in_range};
 ghost use Rattle.std.specs.List.{list_all};
@@ -10,7 +10,8 @@ use crate::line::lines;
 use crate::runs::{BLOCK, is_run};
 use unicode_width::UnicodeWidthStr;
 
-/// The columns of a line, by `unicode_width`. The text is taken as one line, line feeds and all. Of letters alone they are told without a table.
+/// Returns the columns of a line, as `unicode_width` counts them. The text is taken as one line,
+/// and line feeds are measured too.
 pub fn line_width(line: &str) -> usize
     ensures value { result ≡ line_columns line.now }
     ensures bound { result ≤ 2 * length line.now }
@@ -21,7 +22,7 @@ pub fn line_width(line: &str) -> usize
     }
 }
 
-/// The columns of a text: those of its widest line.
+/// Returns the columns of a text: those of its widest line.
 pub fn text_width(text: &str) -> usize
     ensures value { result ≡ text_columns text.now }
     ensures bound { result ≤ 2 * length text.now }
@@ -33,14 +34,14 @@ pub fn text_width(text: &str) -> usize
     widest
 }
 
-/// The lines of a text, one more than its line feeds.
+/// Returns the number of lines of a text: one more than its line feeds.
 pub fn count_lines(text: &str) -> usize
     ensures { result ≡ length (lines_of text.now) }
 {
     text.split('\n').count()
 }
 
-/// Whether a text is printable ASCII, and so one line of as many columns as bytes.
+/// Whether a text is printable ASCII, and so one line with as many columns as bytes.
 #[inline(always)]
 fn is_printable(text: &str) -> bool
     ensures { result ≡ list_all (is_in_range 0x20 0x7E) text.now }
@@ -48,7 +49,8 @@ fn is_printable(text: &str) -> bool
     is_run(text.as_bytes(), 0, b' ', b'~')
 }
 
-/// Whether what stands behind a place is printable ASCII. What ends a longer text is tested in one block with some bytes before it.
+/// Whether the bytes from `start` on are printable ASCII. If they are fewer than a block, they are
+/// first tested together with the bytes before them, in one block.
 #[inline(always)]
 fn is_printable_tail(bytes: &[u8], start: usize) -> bool
     requires { start ≤ length bytes.now }
@@ -58,7 +60,7 @@ fn is_printable_tail(bytes: &[u8], start: usize) -> bool
     is_run(bytes, earlier, b' ', b'~') || is_run(bytes, start, b' ', b'~')
 }
 
-/// The columns and the lines of any text. A text of one line is measured as that line.
+/// Returns the columns and the number of lines of any text. A text of one line isn't split.
 #[inline(never)]
 fn measures_of_any(text: &str) -> (usize, usize)
     ensures columns { result.0 ≡ text_columns text.now }
@@ -72,7 +74,7 @@ fn measures_of_any(text: &str) -> (usize, usize)
     }
 }
 
-/// The columns and the lines of a text, which are told at once of printable ASCII.
+/// Returns the columns and the number of lines of a text. Printable ASCII is measured fastest.
 #[inline]
 pub fn text_measures(text: &str) -> (usize, usize)
     ensures columns { result.0 ≡ text_columns text.now }
@@ -86,7 +88,8 @@ pub fn text_measures(text: &str) -> (usize, usize)
     }
 }
 
-/// The columns and the lines of what stands behind a place of a text, which are told at once of printable ASCII.
+/// Returns the columns and the number of lines of a text from byte `start` on. Printable ASCII is
+/// measured fastest.
 #[inline]
 pub fn tail_measures(text: &str, start: usize) -> (usize, usize)
     requires { IsCharBoundary text.now start }

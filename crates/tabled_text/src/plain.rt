@@ -1,4 +1,4 @@
-//! Plain and additive characters. The columns of additive ones add up.
+//! Tests for plain and additive characters. The columns of additive ones add up.
 ghost use Rattle.std.specs.Prelude.{◌≡◌, ◌↔◌, IsTrue, chars};
 ghost use Rattle.std.specs.List.{list_all};
 ghost use Rattle.tabled_text.specs.Plain.{is_listed, is_drawn, has_plain_width, is_plain_character, is_plain_or_feed, IsPlain, IsPlainColumn, is_listed_or_drawn, is_additive, is_additive_or_feed, IsAdditive, IsAdditiveColumn};
@@ -40,14 +40,15 @@ fn has_plain_width(c: char) -> bool
     width == 1 || width == 2
 }
 
-/// The tables of `unicode_width` name no listed character as the end of a special sequence.
+/// Whether a character is plain. The tables of `unicode_width` name no listed character as the end
+/// of a special sequence, so its width decides.
 fn is_plain_char(c: char) -> bool
     ensures { result ≡ is_plain_character c }
 {
     is_listed(c) && has_plain_width(c)
 }
 
-/// Nor do they name one that borders are drawn with.
+/// Whether a character is additive. The tables name no drawn character either.
 fn is_additive_char(c: char) -> bool
     ensures { result ≡ is_additive c }
 {
@@ -89,12 +90,12 @@ pub fn is_plain_column(c: char) -> bool
     is_plain_char(c) && c.width() == Some(1)
 }
 
-/// Whether every character of a text is additive or a line feed. A line of additive characters takes
-/// the sum of their columns.
+/// Whether every character of a text is additive or a line feed. A line of additive characters
+/// takes the sum of their columns.
 ///
-/// Plain characters are additive, and these too, if they take one or two columns:
+/// Plain characters are additive, and so are these, if they take one or two columns:
 ///
-/// - dashes, dots and daggers from U+2010 to U+2027, except for the quotes ‘ ’ “ ”;
+/// - dashes, dots and daggers from U+2010 to U+2027, except the quotes ‘ ’ “ ”;
 /// - blocks from U+2580 to U+259F;
 /// - braille from U+2800 to U+28FF.
 pub fn is_additive(text: &str) -> bool
@@ -103,8 +104,8 @@ pub fn is_additive(text: &str) -> bool
     has_additive_chars(text)
 }
 
-/// Whether a character is additive and takes one column. Borders, fills and margins of such characters
-/// are as wide as they are long.
+/// Whether a character is additive and takes one column. Borders, fills and margins of such
+/// characters take one column for each character.
 pub fn is_additive_column(c: char) -> bool
     ensures { IsTrue result ↔ IsAdditiveColumn c }
 {

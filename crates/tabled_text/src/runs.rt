@@ -1,4 +1,4 @@
-//! Runs of bytes within a range, looked through in blocks of sixteen.
+//! Finds the end of a run of bytes within a range, 16 bytes at a time.
 ghost use Rattle.std.specs.Prelude.{◌≡◌, ℕ, ◌+◌, ◌-◌, ◌%◌, ◌<◌, ◌≤◌, drop, false, length, map, nat_lt, not, slice_index, true};
 ghost use Rattle.std.specs.Int.{is_in_range};
 ghost use Rattle.std.specs.List.{list_all};
@@ -7,10 +7,10 @@ ghost use Rattle.tabled_text.specs.Runs.{EndsRun, LieWithin};
 
 use std::simd::prelude::*;
 
-/// The bytes of a block.
+/// The size of a block in bytes.
 pub(crate) const BLOCK: usize = 16;
 
-/// The block at a place.
+/// Returns the block at index `at`.
 #[inline(always)]
 fn block_at(bytes: &[u8], at: usize) -> u8x16
     requires { at + BLOCK ≤ length bytes.now }
@@ -19,7 +19,7 @@ fn block_at(bytes: &[u8], at: usize) -> u8x16
     u8x16::from_slice(&bytes[at..])
 }
 
-/// The block with a number taken from each byte, around the end.
+/// Subtracts `by` from each byte, modulo 256.
 #[inline(always)]
 fn lowered(block: u8x16, by: u8) -> u8x16
     ensures { result ≡ map (λ byte. (byte + (256 - by)) % 256) block }
@@ -27,7 +27,7 @@ fn lowered(block: u8x16, by: u8) -> u8x16
     block - u8x16::splat(by)
 }
 
-/// The places of a block with greater bytes, a bit each.
+/// Returns a mask with a bit for each byte that is greater than `than`.
 #[inline(always)]
 fn greater(block: u8x16, than: u8) -> u64
     ensures { result ≡ mask_l (map (λ byte. nat_lt than byte) block) }
@@ -35,7 +35,7 @@ fn greater(block: u8x16, than: u8) -> u64
     block.simd_gt(u8x16::splat(than)).to_bitmask()
 }
 
-/// The places of a block with bytes outside of a range, a bit each.
+/// Returns a mask with a bit for each byte of the block at `at` that is outside of `first..=last`.
 #[inline(always)]
 fn outside(bytes: &[u8], at: usize, first: u8, last: u8) -> u64
     requires room { at + BLOCK ≤ length bytes.now }
@@ -45,7 +45,7 @@ fn outside(bytes: &[u8], at: usize, first: u8, last: u8) -> u64
     greater(lowered(block_at(bytes, at), first), last - first)
 }
 
-/// How many bytes at the front of the block at a place lie within a range.
+/// Returns how many bytes at the front of the block at `at` are in `first..=last`.
 #[inline(always)]
 fn run_in_block(bytes: &[u8], at: usize, first: u8, last: u8) -> usize
     requires room { at + BLOCK ≤ length bytes.now }
@@ -62,7 +62,7 @@ fn run_in_block(bytes: &[u8], at: usize, first: u8, last: u8) -> usize
     }
 }
 
-/// Where a run ends, byte by byte.
+/// Finds the end of a run byte by byte.
 fn short_run_end(bytes: &[u8], from: usize, first: u8, last: u8) -> usize
     requires { from ≤ length bytes.now }
     ensures { EndsRun first last bytes.now from result }
@@ -78,7 +78,8 @@ fn short_run_end(bytes: &[u8], from: usize, first: u8, last: u8) -> usize
     at
 }
 
-/// Where the run of bytes from `first` to `last` that begins at a place ends: at the first other byte, or at the end.
+/// Returns the index of the first byte from `from` on that is outside of `first..=last`, or the
+/// length if there is none.
 #[inline(always)]
 pub fn run_end(bytes: &[u8], from: usize, first: u8, last: u8) -> usize
     requires from { from ≤ length bytes.now }
@@ -96,7 +97,7 @@ pub fn run_end(bytes: &[u8], from: usize, first: u8, last: u8) -> usize
     short_run_end(bytes, at, first, last)
 }
 
-/// Whether all bytes from a place on lie within a range.
+/// Whether all bytes from `from` on are in `first..=last`.
 #[inline(always)]
 pub(crate) fn is_run(bytes: &[u8], from: usize, first: u8, last: u8) -> bool
     requires from { from ≤ length bytes.now }

@@ -1,4 +1,4 @@
-//! The test that a table's borders and fills pass.
+//! The test for the characters of borders and fills.
 ghost use Rattle.std.specs.Prelude.{◌≡◌, ◌↔◌, IsTrue};
 ghost use Rattle.tabled_text.specs.FramedLines.{IsSeparatorColumn};
 ghost use Rattle.tabled_text.specs.Separators.{is_keycap_base};
@@ -11,8 +11,8 @@ fn is_keycap_base(c: char) -> bool
     matches!(c, '#' | '*' | '0'..='9')
 }
 
-/// Whether a character takes one column and stands apart from any text: additive ones do, except for `#`, `*` and
-/// digits.
+/// Whether a character takes one column whatever text is around it. These are the additive
+/// characters of one column except `#`, `*` and digits, which U+FE0F widens.
 pub fn is_separator_column(c: char) -> bool
     ensures { IsTrue result ↔ IsSeparatorColumn c }
 {

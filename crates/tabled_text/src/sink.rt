@@ -1,14 +1,14 @@
-//! What takes a text piece by piece.
+//! The trait of what wrapping writes to, and copies of a character.
 ghost use Rattle.std.specs.Prelude.{◌≡◌, ◌++◌, encode_utf8, encode_utf8_all, replicate, List, ℕ, IfOk, OnOk, [], string_bytes};
 ghost use Rattle.std.proofs.Common.{sym, ap, ◌∙◌, append-nil, append_assoc};
 
 use std::alloc::{AllocError, Global};
 
-/// What takes a text piece by piece.
+/// What a text is written to, piece by piece.
 pub(crate) trait Sink {
     type Error;
 
-    // The sink, what it is given, and the sink afterwards.
+    // Holds of the sink before a write, the bytes written, and the sink after it.
     ghost adds: { Self → List ℕ → Self → Type 0 };
 
     fn append_str(&mut self, text: &str) -> Result<(), Self::Error>
@@ -40,7 +40,7 @@ impl Sink for String {
     ghost adds_more = { λ s t u x y h k. k ∙ ap (λ l. l ++ y) h ∙ append_assoc (string_bytes s) x y };
 }
 
-/// Gives n copies of a character.
+/// Writes n copies of a character.
 pub(crate) fn append_copies<S: Sink>(out: &mut S, c: char, n: usize) -> Result<(), S::Error>
     ensures { OnOk result (S.adds out.old (encode_utf8_all (replicate n c)) out.new) }
 {
@@ -50,8 +50,8 @@ pub(crate) fn append_copies<S: Sink>(out: &mut S, c: char, n: usize) -> Result<(
     Ok(())
 }
 
-/// Appends n copies of a character to a text. Refused for memory, which is asked for before the first copy, so that more copies
-/// than memory can hold are refused at once.
+/// Appends n copies of a character to a text. Fails if an allocation fails. All memory is allocated
+/// before the first copy, so an excessive n fails at once.
 pub fn push_copies(text: &mut String, c: char, n: usize) -> Result<(), AllocError>
     ensures { OnOk result (string_bytes text.new ≡ string_bytes text.old ++ encode_utf8_all (replicate n c)) }
 {
@@ -59,7 +59,7 @@ pub fn push_copies(text: &mut String, c: char, n: usize) -> Result<(), AllocErro
     append_copies(text, c, n)
 }
 
-/// A text of n copies of a character. Refused for memory.
+/// Returns n copies of a character. Fails if an allocation fails.
 pub fn copies(alloc: Global, c: char, n: usize) -> Result<String, AllocError>
     ensures { IfOk result (λ answer. string_bytes answer ≡ encode_utf8_all (replicate n c)) }
 {

@@ -1,4 +1,4 @@
-//! Wrapping a text to some columns. One walk adds unit to unit; where they are written is a parameter.
+//! Wraps texts to n columns. One walk writes unit after unit to a `Sink`.
 ghost use Rattle.std.specs.Prelude.{◌≡◌, ◌++◌, ◌<◌, ◌≤◌, ◌+◌, ◌∷◌, chars, encode_utf8_all, length, map, IfOk, OnOk, IfSome, IsUtf8, string_bytes, List, ℕ, OnErr, [], encode_utf8, replicate, false};
 ghost use Rattle.std.proofs.Common.{sym, ap, ◌∙◌, append-nil, append_assoc};
 ghost use Rattle.tabled_text.specs.Measure.{lines_of};
@@ -13,7 +13,8 @@ use crate::measure::line_width;
 use crate::sink::{Sink, append_copies};
 use std::alloc::{AllocError, Global};
 
-/// The column at which a unit begins that needs some columns: on a new line if they are not left.
+/// Returns the column at which a unit of `needed` columns begins. Begins a new line if the current
+/// one has fewer columns left.
 fn begin<S: Sink>(out: &mut S, used: usize, n: usize, needed: usize) -> Result<usize, S::Error>
     ensures at { IfOk result (λ column. column ≡ begin_at n used needed) }
     ensures text { OnOk result (S.adds out.old (begin_text n used needed) out.new) }
@@ -25,7 +26,7 @@ fn begin<S: Sink>(out: &mut S, used: usize, n: usize, needed: usize) -> Result<u
     Ok(0)
 }
 
-/// Writes a word.
+/// Writes a word, and returns the columns then used.
 fn append_word<S: Sink>(
     out: &mut S,
     used: usize,
@@ -44,7 +45,8 @@ fn append_word<S: Sink>(
     Ok(column + width)
 }
 
-/// Writes a character.
+/// Writes a character, and returns the columns then used. If it is wider than n, writes U+FFFD in
+/// the columns left; the line is then full.
 fn append_char<S: Sink>(out: &mut S, used: usize, n: usize, c: char) -> Result<usize, S::Error>
     requires { 0 < n }
     ensures used { IfOk result (λ column. column ≡ append_used n used (unit_of_char c)) }
@@ -61,7 +63,7 @@ fn append_char<S: Sink>(out: &mut S, used: usize, n: usize, c: char) -> Result<u
     Ok(column + count)
 }
 
-/// Writes the characters of a text.
+/// Writes the characters of a text, and returns the columns then used.
 fn append_chars<S: Sink>(out: &mut S, used: usize, n: usize, text: &str) -> Result<usize, S::Error>
     requires { 0 < n }
     ensures used { IfOk result (λ column. column ≡ used_after n used (map unit_of_char (chars text.now))) }
@@ -77,7 +79,7 @@ fn append_chars<S: Sink>(out: &mut S, used: usize, n: usize, text: &str) -> Resu
     Ok(column)
 }
 
-/// Writes a word, or its characters where it is too long for a line.
+/// Writes a word, or its characters if it is wider than n columns. Returns the columns then used.
 fn append_unit<S: Sink>(out: &mut S, used: usize, n: usize, word: &str) -> Result<usize, S::Error>
     requires { 0 < n }
     ensures used { IfOk result (λ column. column ≡ used_after n used (units_of_word n (chars word.now))) }
@@ -95,7 +97,7 @@ fn append_unit<S: Sink>(out: &mut S, used: usize, n: usize, word: &str) -> Resul
     }
 }
 
-/// The first word of a line, and what follows its space.
+/// Returns the first word of a line, and the rest after its space, if it has one.
 pub(crate) fn split_word(text: &str) -> (&str, Option<&str>)
     ensures words { words_of (chars text.now) ≡ chars result.0.now ∷ words_in result.1 }
     ensures word { IsUtf8 result.0.now }
@@ -128,7 +130,7 @@ fn append_words<S: Sink>(out: &mut S, n: usize, line: &str) -> Result<(), S::Err
     }
 }
 
-/// Writes a line, broken.
+/// Writes a line, broken to n columns.
 fn append_line<S: Sink>(out: &mut S, n: usize, words: bool, line: &str) -> Result<(), S::Error>
     requires { 0 < n }
     ensures { OnOk result (S.adds out.old
@@ -141,7 +143,7 @@ fn append_line<S: Sink>(out: &mut S, n: usize, words: bool, line: &str) -> Resul
     Ok(())
 }
 
-/// Writes the lines of a text, broken.
+/// Writes the lines of a text, each broken to n columns.
 pub(crate) fn append_lines<S: Sink>(
     out: &mut S,
     n: usize,
@@ -163,11 +165,15 @@ pub(crate) fn append_lines<S: Sink>(
     Ok(())
 }
 
-/// A text in lines of at most n columns, empty for no columns. Each line takes units while they fit. Units are
-/// the characters, each counted by itself (1 at least), or with `words` the spaces, the words of at most n
-/// columns, measured as lines, and the characters of longer words. A character that is wider than n is written
-/// as U+FFFD in the columns that are left, at least one. No other breaking has fewer lines. Fails only if an
-/// allocation fails. For no columns or an empty text nothing is allocated.
+/// Wraps a text to lines of at most n columns. Returns an empty text if n is 0.
+///
+/// A text is broken only between units, and each line takes units while they fit. Units are the
+/// characters, each counted as its own columns, at least 1. With `words`, units are the spaces, the
+/// words of at most n columns, measured as lines, and the characters of wider words. A character
+/// wider than n columns is replaced by U+FFFD in the columns left, at least one. No other breaking
+/// has fewer lines.
+///
+/// Fails only if an allocation fails. Nothing is allocated if n is 0 or the text is empty.
 pub fn wrap_text(alloc: Global, text: &str, n: usize, words: bool) -> Result<String, AllocError>
     ensures wrapped { IfOk result (λ answer. IsWrapped n words text.now (string_bytes answer)) }
     ensures fewest { IfOk result (λ answer. HasFewestLines n words text.now (string_bytes answer)) }

@@ -1,8 +1,8 @@
--- The fields of values that are made of others.
+-- The fields of values that are made of other values.
 use Rattle.std.specs.Prelude.{◌≡◌, ℕ, List, [], ◌∷◌, ◌++◌, IfSome}
 use Rattle.std.specs.declared.option.Option.{Option}
 
--- a row is two, one behind the other, each of which holds what it should
+-- a row is two lists of fields, one after the other, with P for the first and Q for the second
 pub record Joined (P Q : List (List ℕ) → Type 0) (row : List (List ℕ)) : Type 0 where
   pub front : List (List ℕ)
   pub behind : List (List ℕ)
@@ -10,17 +10,17 @@ pub record Joined (P Q : List (List ℕ) → Type 0) (row : List (List ℕ)) : T
   pub of_front : P front
   pub of_behind : Q behind
 
--- a text is the one that Display is known to write; nothing is said where that isn't known
+-- a text is what `Display` writes, where that is known
 abbrev pub Says : Option (List ℕ) → List ℕ → Type 0
 Says known text = IfSome known (λ bytes. text ≡ bytes)
 
--- what is known of some texts holds of those that stand behind others
+-- strings with the property P were appended
 pub record CellsAdded (P : List (List ℕ) → Type 0) (before after : List (List ℕ)) : Type 0 where
   pub texts : List (List ℕ)
   pub whole : after ≡ before ++ texts
   pub shown : P texts
 
--- there is one text, and it is the one that Display is known to write
+-- there is one string, which is what `Display` writes, where that is known
 pub record OneSays (known : Option (List ℕ)) (texts : List (List ℕ)) : Type 0 where
   pub text : List ℕ
   pub lone : texts ≡ text ∷ []

@@ -1,12 +1,12 @@
--- The rows of values.
+-- The records that values make.
 use Rattle.std.specs.Prelude.{◌≡◌, ℕ, ◌∷◌, ◌++◌, [], List, length, map}
 use Rattle.std.specs.List.{All, AllZip, flat_map, zip}
 
--- a row of name and text for each field
+-- a row of name and string for each field
 abbrev pub pairs : List (List ℕ) → List (List ℕ) → List (List (List ℕ))
 pairs names texts = map (λ field. field.0 ∷ field.1 ∷ []) (zip names texts)
 
--- a row a value stands behind others, each of so many fields
+-- a row of `count` fields was appended for each value
 pub record ValuesAdded {V : Type 0} (shows : V → List (List ℕ) → Type 0) (count : ℕ) (values : List V)
     (before all : List (List (List ℕ))) : Type 0 where
   pub rows : List (List (List ℕ))

@@ -1,4 +1,4 @@
-//! Texts that are measured and put behind the cells of a row.
+//! Strings that are measured and appended to a row.
 ghost use Rattle.std.specs.Prelude.{◌≡◌, ◌∷◌, ◌++◌, ◌+◌, [], IfErr, OnOk, map, replicate, vec_len};
 ghost use Rattle.std.specs.Cow.{cow_str_bytes};
 ghost use Rattle.tabled_base.specs.declared.error.TableError.TheVariants.{Memory};
@@ -10,7 +10,6 @@ use std::fmt::Display;
 use std::string::ToString;
 use tabled_base::{TableError, Text};
 
-/// Puts a text behind the cells of a row.
 pub(crate) fn push_text(row: &mut Vec<Text<String>>, text: &str) -> Result<(), TableError>
     ensures texts { OnOk result
         (CellsAdded (λ texts. texts ≡ text.now ∷ []) row.old.items row.new.items) }
@@ -22,7 +21,6 @@ pub(crate) fn push_text(row: &mut Vec<Text<String>>, text: &str) -> Result<(), T
     Ok(())
 }
 
-/// Puts an integer behind the cells of a row.
 pub(crate) fn push_integer<I: Integer>(row: &mut Vec<Text<String>>, n: I) -> Result<(), TableError>
     ensures texts { OnOk result
         (CellsAdded (λ texts. texts ≡ I.text n ∷ []) row.old.items row.new.items) }
@@ -32,8 +30,8 @@ pub(crate) fn push_integer<I: Integer>(row: &mut Vec<Text<String>>, n: I) -> Res
     push_text(row, Buffer::new().format(n))
 }
 
-/// Puts the text that Display writes of a value behind the cells of a row. A Display that fails counts as a refused
-/// growth.
+/// Appends what `Display` writes of a value to a row. A `Display` that fails is reported as
+/// `Memory`.
 pub(crate) fn push_displayed<T: Display>(
     row: &mut Vec<Text<String>>,
     value: &T,
@@ -48,7 +46,6 @@ pub(crate) fn push_displayed<T: Display>(
     Ok(())
 }
 
-/// Puts so many empty texts behind the cells of a row.
 pub(crate) fn push_empty(row: &mut Vec<Text<String>>, count: usize) -> Result<(), TableError>
     ensures texts { OnOk result
         (CellsAdded (λ texts. texts ≡ replicate count []) row.old.items row.new.items) }
@@ -62,7 +59,6 @@ pub(crate) fn push_empty(row: &mut Vec<Text<String>>, count: usize) -> Result<()
     Ok(())
 }
 
-/// Puts texts behind the cells of a row.
 pub(crate) fn push_texts(
     row: &mut Vec<Text<String>>,
     texts: Vec<CowStr<'_>>,

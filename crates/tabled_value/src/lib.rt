@@ -1,9 +1,9 @@
-//! Values as rows: what can be a row of a table, and the records that values make.
+//! Values as rows of a table: the trait `Tabled`, and the records that values make.
 //!
 //! - `value.rt`: `Tabled`; `value/`: its impls for strings, numbers, tuples, arrays, options, boxes
 //!   and references.
 //! - `rows.rt`: the records of some values, with or without a header.
-//! - `cells.rt`: strings that are measured and added to a row.
+//! - `cells.rt`: strings that are measured and appended to a row.
 #![tactic(auto)]
 
 mod cells;

@@ -1,4 +1,4 @@
-//! The rows of values.
+//! The records that values make, with or without a header.
 ghost use Rattle.std.specs.Prelude.{◌≡◌, ◌∷◌, ◌++◌, [], ℕ, List, IfErr, IfOk, OnOk, length, map, string_bytes, vec_len};
 ghost use Rattle.std.specs.Cow.{cow_str_bytes};
 ghost use Rattle.std.specs.Iterator.{IsFiniteIterable};
@@ -14,7 +14,7 @@ use std::alloc::Global;
 use std::borrow::CowStr;
 use tabled_base::{TableError, Text, VecRecords};
 
-/// A row a value. Refused only for memory.
+/// Makes a row of each value. Fails only with `Memory`.
 #[tactic(auto, using(crate::proofs::RowsAdded::all_added, crate::proofs::RowsAdded::rectangular_all))]
 pub fn value_records<I: IntoIterator>(
     alloc: Global,
@@ -35,7 +35,8 @@ where
     Ok(VecRecords::new(rows))
 }
 
-/// The names of the fields, then a row a value, with room for so many rows. Refused only for memory.
+/// Makes a row of the field names, then a row of each value. `room` is the number of rows, with the
+/// header, to allocate in advance. Fails only with `Memory`.
 pub fn named_records<I: IntoIterator>(
     alloc: Global,
     iter: I,
@@ -58,7 +59,7 @@ where
     Ok(VecRecords::new(rows))
 }
 
-/// A row of name and text for each field of each value. Refused only for memory.
+/// Makes a row of name and string for each field of each value. Fails only with `Memory`.
 pub fn field_records<I: IntoIterator>(
     alloc: Global,
     iter: I,
@@ -82,7 +83,7 @@ where
     Ok(VecRecords::new(rows))
 }
 
-/// Puts a row of name and text for each field behind others.
+/// Appends a row of name and string for each field.
 fn push_fields(
     rows: &mut Vec<Vec<Text<String>>>,
     names: &[CowStr<'_>],
@@ -99,7 +100,6 @@ fn push_fields(
     Ok(())
 }
 
-/// A row of two texts.
 fn pair(alloc: Global, name: &str, text: String) -> Result<Vec<Text<String>>, TableError>
     ensures ok { IfOk result (λ row. row.items ≡ name.now ∷ string_bytes text ∷ []) }
     ensures only { IfErr result (λ e. e ≡ Memory) }
@@ -110,7 +110,6 @@ fn pair(alloc: Global, name: &str, text: String) -> Result<Vec<Text<String>>, Ta
     Ok(row)
 }
 
-/// The texts of a value's fields, measured.
 fn value_row<T: Tabled>(alloc: Global, value: &T) -> Result<Vec<Text<String>>, TableError>
     ensures texts { IfOk result (λ row. T.shows value.now row.items) }
     ensures length { IfOk result (λ row. length row.items ≡ T.LENGTH) }
@@ -121,7 +120,6 @@ fn value_row<T: Tabled>(alloc: Global, value: &T) -> Result<Vec<Text<String>>, T
     Ok(row)
 }
 
-/// Texts, measured.
 fn measured(alloc: Global, texts: Vec<CowStr<'_>>) -> Result<Vec<Text<String>>, TableError>
     ensures texts { IfOk result (λ row. row.items ≡ map cow_str_bytes texts.entry.items) }
     ensures length { IfOk result (λ row. length row.items ≡ vec_len texts.entry) }

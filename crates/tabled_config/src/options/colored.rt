@@ -1,4 +1,4 @@
-//! Configurations of whole tables as options. A lent one is copied, which wants memory.
+//! `ColoredConfig` and `SpannedConfig` as table options. A borrowed one is cloned, which allocates.
 ghost use Rattle.std.specs.Prelude.{◌≡◌};
 ghost use Rattle.tabled_config.specs.Options.{Becomes, Stays, colored};
 

@@ -1,4 +1,5 @@
-//! A compact configuration as an option. What it lacks is as in a new configuration.
+//! `CompactConfig` as a table option. Settings that it lacks get the defaults of
+//! `SpannedConfig::new`.
 ghost use Rattle.std.specs.Prelude.{◌≡◌};
 ghost use Rattle.tabled_config.specs.Options.{Becomes, colored};
 ghost use Rattle.tabled_config.specs.Spanned.{spanned_of_compact};

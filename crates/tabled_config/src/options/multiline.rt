@@ -1,4 +1,4 @@
-//! A compact configuration of cells of several lines as an option.
+//! `CompactMultilineConfig` as a table option.
 ghost use Rattle.std.specs.Prelude.{◌≡◌};
 ghost use Rattle.tabled_config.specs.Options.{Becomes};
 

@@ -1,4 +1,5 @@
-//! A style as an option. Compact configurations have no lines by index, and take its borders alone.
+//! `Style` as a table option. Compact configurations have no lines by index and take only its
+//! borders.
 ghost use Rattle.std.specs.Prelude.{◌≡◌, IsSome};
 ghost use Rattle.tabled_config.specs.Options.{Becomes, Stays, colored, with_style};
 
@@ -47,7 +48,7 @@ impl<R, D> TableOption<R, CompactMultilineConfig, D> for Style {
 impl<R, D> TableOption<R, ColoredConfig, D> for Style {
     ghost changes = { λ option r c d. Becomes (colored (with_style c.config option)) r d };
 
-    // A style that sets no line by its index takes no memory.
+    // Only a style with a line by index allocates.
     ghost refuses = { λ option e r c d r' c' d'. IsSome option.below_first × Stays e r c d r' c' d' };
 
     fn change(

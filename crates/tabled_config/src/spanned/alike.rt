@@ -1,4 +1,4 @@
-//! Cells and rows that are known to be set alike.
+//! Whether cells or rows share their settings.
 ghost use Rattle.std.specs.Prelude.{◌≡◌, ℕ, IfSome, true};
 ghost use Rattle.tabled_config.specs.Settings.{shared_style, style_at};
 ghost use Rattle.tabled_entity.specs.Changes.{shared};
@@ -7,8 +7,8 @@ use super::{CellStyle, SpannedConfig};
 use crate::sides::{Indent, Sides};
 
 impl SpannedConfig {
-    /// Whether the texts of two rows are known to stand alike, column by column: where nothing was set for either of the rows, nor
-    /// for a cell.
+    /// Whether two rows are known to have the same styles, column by column: no style was set for
+    /// either row, nor for any cell.
     #[tactic(auto, unfolding(crate::specs::Settings::style_at))]
     pub fn are_alike(&self, row: usize, other: usize) -> bool
         ensures { result ≡ true → (column : ℕ) → style_at self.now row column ≡ style_at self.now other column }
@@ -19,7 +19,8 @@ impl SpannedConfig {
             && self.line_alignment.are_alike(row, other)
     }
 
-    /// Whether the texts of all rows are known to stand alike, column by column: where nothing was set for a row, nor for a cell.
+    /// Whether all rows are known to have the same styles, column by column: no style was set for a
+    /// row or a cell.
     #[tactic(auto, unfolding(crate::specs::Settings::style_at))]
     pub fn are_all_alike(&self) -> bool
         ensures { result ≡ true → (row other column : ℕ) → style_at self.now row column ≡ style_at self.now other column }
@@ -30,8 +31,8 @@ impl SpannedConfig {
             && self.line_alignment.are_all_alike()
     }
 
-    /// Whether the cells of two rows are known to be padded alike, column by column: where no padding was set for either of the
-    /// rows, nor for a cell.
+    /// Whether two rows are known to have the same paddings, column by column: no padding was set
+    /// for either row, nor for any cell.
     #[inline]
     #[tactic(auto, unfolding(crate::specs::Settings::style_at))]
     pub fn are_padded_alike(&self, row: usize, other: usize) -> bool
@@ -40,7 +41,8 @@ impl SpannedConfig {
         self.padding.are_alike(row, other)
     }
 
-    /// Whether the cells of all rows are known to be padded alike, column by column: where no padding was set for a row, nor for a cell.
+    /// Whether all rows are known to have the same paddings, column by column: no padding was set
+    /// for a row or a cell.
     #[tactic(auto, unfolding(crate::specs::Settings::style_at))]
     pub fn are_all_padded_alike(&self) -> bool
         ensures { result ≡ true → (row other column : ℕ)
@@ -49,7 +51,7 @@ impl SpannedConfig {
         self.padding.are_all_alike()
     }
 
-    /// How the texts of all cells stand, where nothing was set for parts of the table.
+    /// Returns the style of all cells, if none was set for a row, a column or a cell.
     #[tactic(auto, unfolding(crate::specs::Settings::shared_style, crate::specs::Settings::style_at))]
     pub fn shared_style(&self) -> Option<CellStyle>
         ensures value { result ≡ shared_style self.now }
@@ -63,7 +65,7 @@ impl SpannedConfig {
         })
     }
 
-    /// The columns and lines kept free around the texts of all cells, where no padding was set for a part of the table.
+    /// Returns the padding of all cells, if none was set for a row, a column or a cell.
     #[inline]
     #[tactic(auto, unfolding(crate::specs::Settings::style_at))]
     pub fn shared_padding(&self) -> Option<Sides<Indent>>

@@ -1,4 +1,4 @@
-//! What a row of one line asks of the styles of its texts, where that is told of each column by its place.
+//! The padding and horizontal alignment of a row's first columns, found by index.
 ghost use Rattle.std.specs.Prelude.{◌≡◌, ◌<◌, ℕ, IfSome};
 ghost use Rattle.tabled_config.specs.Settings.{style_at};
 ghost use Rattle.tabled_config.specs.KnownSides.{DescribesSides};
@@ -9,7 +9,8 @@ use crate::alignment::AlignmentHorizontal;
 use crate::sides::{Indent, Sides};
 use tabled_entity::KnownValues;
 
-/// What is kept free around the texts of a row's first columns, and where they stand among the columns that are left. No look-up is taken.
+/// The padding and horizontal alignment of a row's first columns. Each is found by index, without a
+/// lookup in the settings.
 #[derive(Clone, Copy)]
 pub struct KnownSides<'a> {
     padding: KnownValues<'a, Sides<Indent>>,
@@ -17,7 +18,7 @@ pub struct KnownSides<'a> {
 }
 
 impl<'a> KnownSides<'a> {
-    /// What is kept free around each text, if it is known to be the same.
+    /// Returns the padding of all columns, if it is known to be the same.
     #[inline(always)]
     pub fn shared_padding(&self) -> Option<&'a Sides<Indent>>
         ensures { IfSome result (λ padding. (column : ℕ) → known_value self.now.padding column ≡ padding.now) }
@@ -25,7 +26,7 @@ impl<'a> KnownSides<'a> {
         self.padding.shared()
     }
 
-    /// What is kept free around the text in a column.
+    /// Returns the padding of a column.
     #[inline(always)]
     pub fn padding(&self, column: usize) -> &'a Sides<Indent>
         ensures { result.now ≡ known_value self.now.padding column }
@@ -33,7 +34,7 @@ impl<'a> KnownSides<'a> {
         self.padding.at(column)
     }
 
-    /// Where the text in a column stands among its columns.
+    /// Returns the horizontal alignment of a column.
     #[inline(always)]
     pub fn horizontal(&self, column: usize) -> AlignmentHorizontal
         ensures { result ≡ known_value self.now.horizontal column }
@@ -43,7 +44,8 @@ impl<'a> KnownSides<'a> {
 }
 
 impl SpannedConfig {
-    /// The paddings and alignments in a row's first columns, where each of the two is known to be one, or was set from cell to cell.
+    /// Returns the paddings and horizontal alignments of a row's first `columns` columns, if each
+    /// of the two is uniform or a dense run.
     #[inline(always)]
     #[tactic(auto, unfolding(crate::specs::Settings::style_at))]
     pub fn told_sides(&self, row: usize, columns: usize) -> Option<KnownSides<'_>>
@@ -55,7 +57,7 @@ impl SpannedConfig {
         })
     }
 
-    /// What is kept free around the texts in a row's first columns, where that is known to be one, or was set from cell to cell.
+    /// Returns the paddings of a row's first `columns` columns, if they are uniform or a dense run.
     #[inline(always)]
     #[tactic(auto, unfolding(crate::specs::Settings::style_at))]
     pub fn told_paddings(
@@ -69,7 +71,8 @@ impl SpannedConfig {
         self.padding.known_values(row, columns)
     }
 
-    /// The padding and the alignment of all texts of a row, where neither was set for columns or cells.
+    /// Returns the padding and horizontal alignment shared by all cells of a row. `None` only if
+    /// one of them was set for a column or a cell.
     #[inline(always)]
     #[tactic(auto, unfolding(crate::specs::Settings::style_at))]
     pub fn row_sides(&self, row: usize) -> Option<(&Sides<Indent>, AlignmentHorizontal)>

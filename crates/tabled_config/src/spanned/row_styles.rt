@@ -1,4 +1,4 @@
-//! How the texts of a row stand, from left to right.
+//! The styles of a row's cells, from left to right (`RowStyles`).
 ghost use Rattle.std.specs.Prelude.{◌≡◌, ℕ, IfSome};
 ghost use Rattle.tabled_entity.specs.Changes.{value_at};
 ghost use Rattle.tabled_config.specs.RowStyles.{SameStyles, DescribesStyles, plain_style, set_style, style_in};
@@ -9,7 +9,8 @@ use crate::alignment::{AlignmentHorizontal, AlignmentVertical};
 use crate::sides::{Indent, Sides};
 use tabled_entity::RowValues;
 
-/// What was set for the texts of a row. Columns that are asked for from left to right take no look-up among the cells.
+/// The styles set for a row's cells. Reading the columns from left to right needs no lookup among
+/// the cells.
 #[derive(Drop)]
 pub struct SetStyles<'a> {
     padding: RowValues<'a, Sides<Indent>>,
@@ -18,18 +19,18 @@ pub struct SetStyles<'a> {
     line_alignment: RowValues<'a, bool>,
 }
 
-/// How the texts of a row stand.
+/// The styles of a row's cells.
 #[derive(Drop)]
 pub enum RowStyles<'a> {
-    /// All alike.
+    /// One style for all columns.
     Alike(CellStyle),
-    /// Those of each column as it is listed.
+    /// One style for each column.
     Listed(&'a [CellStyle]),
-    /// Each as it was set.
+    /// The styles set in the configuration.
     Set(SetStyles<'a>),
 }
 
-/// At the left and the top, with nothing around: how a text stands of which nothing is told.
+/// The style of a cell without settings: no padding, at the left and the top.
 fn plain_style() -> CellStyle
     ensures { result ≡ plain_style }
 {
@@ -66,7 +67,8 @@ impl<'a> SetStyles<'a> {
 }
 
 impl<'a> RowStyles<'a> {
-    /// How the text in a column stands. Behind the listed columns texts stand at the left and the top, with nothing around.
+    /// Returns the style of a column. Columns after a list have no padding and are at the left and
+    /// the top.
     #[inline(always)]
     pub fn at(&mut self, column: usize) -> CellStyle
         ensures style { result ≡ style_in self.old column }
@@ -82,8 +84,8 @@ impl<'a> RowStyles<'a> {
         }
     }
 
-    /// What is kept free around the text in a column, and where the text stands among the columns that are left: of its style what a
-    /// row of one line asks for.
+    /// Returns the padding and the horizontal alignment of a column, which is all that a row of one
+    /// line needs.
     #[inline(always)]
     pub fn beside(&mut self, column: usize) -> (Sides<Indent>, AlignmentHorizontal)
         ensures padding { result.0 ≡ (style_in self.old column).padding }
@@ -100,7 +102,7 @@ impl<'a> RowStyles<'a> {
         }
     }
 
-    /// What is kept free around each text, if it is known to be the same.
+    /// Returns the padding of all columns, if it is known to be the same.
     pub fn shared_padding(&self) -> Option<Sides<Indent>>
         ensures { IfSome result (λ padding. (column : ℕ) → (style_in self.now column).padding ≡ padding) }
     {
@@ -111,7 +113,7 @@ impl<'a> RowStyles<'a> {
         }
     }
 
-    /// Where the text in a column stands among its columns.
+    /// Returns the horizontal alignment of a column.
     #[inline(always)]
     pub fn horizontal(&mut self, column: usize) -> AlignmentHorizontal
         ensures horizontal { result ≡ (style_in self.old column).horizontal }
@@ -129,7 +131,8 @@ impl<'a> RowStyles<'a> {
 }
 
 impl SpannedConfig {
-    /// How all texts of a row stand, where nothing was set for columns or cells.
+    /// Returns the style shared by all cells of a row. `None` only if a style was set for a column
+    /// or a cell.
     #[tactic(auto, unfolding(crate::specs::Settings::style_at))]
     pub fn row_style(&self, row: usize) -> Option<CellStyle>
         ensures { IfSome result (λ style. (column : ℕ) → style_at self.now row column ≡ style) }
@@ -142,7 +145,7 @@ impl SpannedConfig {
         })
     }
 
-    /// How the texts of a row stand, from left to right.
+    /// Returns the styles of a row's cells, to be read from left to right.
     #[tactic(auto, unfolding(crate::specs::Settings::style_at))]
     pub fn styles_in(&self, row: usize) -> RowStyles<'_>
         ensures { DescribesStyles result (style_at self.now row) }
@@ -158,7 +161,8 @@ impl SpannedConfig {
         })
     }
 
-    /// The columns and lines kept free around each text of a row, where no padding was set for columns or cells.
+    /// Returns the padding shared by all cells of a row. `None` only if padding was set for a
+    /// column or a cell.
     #[tactic(auto, unfolding(crate::specs::Settings::style_at))]
     pub fn row_padding(&self, row: usize) -> Option<Sides<Indent>>
         ensures { IfSome result (λ padding. (column : ℕ) → (style_at self.now row column).padding ≡ padding) }
@@ -166,7 +170,7 @@ impl SpannedConfig {
         Some(*self.padding.row_value(row)?)
     }
 
-    /// The paddings of a row's cells, from left to right.
+    /// Returns the paddings of a row's cells, to be read from left to right.
     #[tactic(auto, unfolding(crate::specs::Settings::style_at))]
     pub fn paddings_in(&self, row: usize) -> RowValues<'_, Sides<Indent>>
         ensures { (column : ℕ) → value_at result column ≡ (style_at self.now row column).padding }

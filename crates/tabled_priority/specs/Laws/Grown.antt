@@ -1,4 +1,4 @@
--- The shapes of grown lists, with one more step in front.
+-- Grown lists, with one more step at the beginning.
 use Rattle.std.proofs.Common.{
   ◌≡◌,
   ◌≢◌,
@@ -66,7 +66,7 @@ added-some xs by i h = let s = at-le-sum xs i in ap (λ b. cond b 0 by) (ne_eqb 
 pub IsNoneSmaller-self : (xs : List ℕ) → IsNoneSmaller xs xs
 IsNoneSmaller-self xs = record { same_length = refl; least = λ i. omega arith; zeros = λ i h. h }
 
--- one more is added to a place that is not zero
+-- one more is added to a value that isn't zero
 pub IsNoneSmaller-raised : (old xs : List ℕ) (i : ℕ) → 0 < at xs i → IsNoneSmaller old xs → IsNoneSmaller old (raised xs i)
 IsNoneSmaller-raised old xs i h k =
     let l = IsRaised-raised xs i 0 h in
@@ -102,13 +102,13 @@ IsGrownFrom-step xs i by new h t =
           let b = added-some xs (by + 1) i h in let c = t.total in let d = l.total in omega arith;
     }
 
--- where nothing is added, the list is the old one
+-- if nothing is added, the list is the old one
 same_grown : (old : List ℕ) (by : ℕ) (new : List ℕ) → IsGrownFrom old by new → added old by ≡ 0 → (i : ℕ) → at new i ≡ at old i
 same_grown old by new t z i = ⊎_elim
     (λ less. let s = lt-sum old new i (sym t.kept.same_length) t.kept.least less in let e = t.total in absurd (omega arith))
     (λ ge. let m = t.kept.least i in omega arith) (cases_lt (at old i) (at new i))
 
--- ---- one place takes all
+-- ---- all is added at one index
 pub IsGrownAt-nothing : (P : List ℕ → ℕ → Type 0) (xs : List ℕ) → IsGrownAt P xs 0 xs
 IsGrownAt-nothing P xs = record {
   grows = IsGrownFrom-nothing xs;
@@ -188,12 +188,12 @@ floor-here : (right : Bool) (height i j : ℕ) → (ceiling (not right) height (
 floor-here true height i j = (grind (arith, nat_tests), grind (arith, nat_tests), λ ne side. grind (arith, nat_tests))
 floor-here false height i j = (grind (arith, nat_tests), grind (arith, nat_tests), λ ne side. grind (arith, nat_tests))
 
--- a place after the least stands above it, or on its side
+-- an index after the smallest has a greater value, or is on its side
 least-side : (right : Bool) (x y i j : ℕ) → before right x y i j ≡ true → x ≡ y → (if right then nat_lt j i else nat_lt i j) ≡ true
 least-side true x y i j h e = grind (arith, nat_tests)
 least-side false x y i j h e = grind (arith, nat_tests)
 
--- where the floor of i is at most its height, no other nonzero place is raised
+-- if the floor at i is at most its value, no other nonzero value is raised
 floor-side : (right : Bool) (level p i j : ℕ) → (if right then nat_lt j i else nat_lt i j) ≡ true
     → ceiling (not right) level p j ≤ ceiling (not right) level p i
 floor-side true level p i j h = grind (arith, nat_tests)
@@ -287,7 +287,7 @@ IsRoundGrown-step kept xs i by new kept' g s =
     let t = IsGrownFrom-step xs i by new h s.grows in
     let some_now = added-some xs (by + 1) i h in
     let some_then = added-some (raised xs i) by i (omega arith) in
-    -- a place that is met before i is zero
+    -- an index that is met before i has a zero
     let unmet : (j : ℕ) → j < n → j ≢ i → 0 < at xs j → is_met s₀ i j ≡ false =
     λ j in' ne pos. ⊎_elim (λ met. let z = g.passed j in' ne met in absurd (omega arith)) (λ no. no) (cases_Bool (is_met s₀ i j)) in
     ⊎_elim

@@ -1,4 +1,4 @@
--- One step of shrinking: a place above its minimum loses one.
+-- One step of shrinking: a value above its minimum loses one.
 use Rattle.std.proofs.Common.{◌≡◌, ℕ, ◌+◌, ◌-◌, ◌<◌, ◌≤◌, List, length, sum, min, refl, sym, ap, ◌∙◌, subst, arith, ⊎_elim, ◌≢◌, length-set}
 use Rattle.std.proofs.lemmas.List.{get_or-set_same, get_or-set_other, get_or_past}
 use Rattle.std.proofs.lemmas.List.Sums.{sum_by-set}
@@ -10,7 +10,7 @@ use Rattle.tabled_priority.specs.Permitted.{at, low, lowered, spare, spare_total
 pub in_range : (xs : List ℕ) (i k : ℕ) → k < at xs i → i < length xs
 in_range xs i k h = ⊎_elim (λ l. l) (λ past. let e = get_or_past xs i 0 past in absurd (omega arith)) (cases_lt i (length xs))
 
--- the old list and the one with one taken, place by place
+-- the old list and the one with one taken, index by index
 pub record IsLowered (i : ℕ) (old new : List ℕ) : Type 0 where
   pub here : at new i + 1 ≡ at old i
   pub there : (j : ℕ) → j ≢ i → at new j ≡ at old j
@@ -32,7 +32,7 @@ spare_total-lowered xs mins i h =
     ∙ sum_below-less (spare xs mins) (spare (lowered xs i) mins) (length xs) i 1 (in_range xs i (at mins i) h)
     (omega arith) (λ j ne. ap (λ x. x - at mins j) (l.there j ne))
 
--- low stays where one is taken from a place above its minimum
+-- low limits stay if one is taken from a value above its minimum
 pub low-lowered : (old mins new : List ℕ) (i : ℕ) → at mins i < at old i → IsLowered i old new → (j : ℕ) → low new mins j ≡ low old mins j
 low-lowered old mins new i h l j = ⊎_elim
     (λ e. let here : at new j + 1 ≡ at old j = subst (λ k. at new k + 1 ≡ at old k) (sym e) l.here in

@@ -1,4 +1,4 @@
--- Round the list: the shape of a list from which one is taken at each place in turn.
+-- Lists from which one is taken at each index in turn.
 use Rattle.std.proofs.Common.{◌≡◌, ℕ, ◌+◌, ◌-◌, ◌<◌, ◌≤◌, true, false, cond, List, length, min, refl, sym, ap, ◌∙◌, subst, arith, ⊎_elim, ◌≢◌}
 use Rattle.std.proofs.lemmas.List.{length-set}
 use Rattle.std.proofs.lemmas.Bool.{cases_lt, cases_eq, cases_Bool}
@@ -9,7 +9,7 @@ use Rattle.tabled_priority.specs.Peak.{IsNext}
 use Rattle.tabled_priority.specs.Laws.Permitted.{IsLowered-lowered, in_range, IsTakenFrom-none, IsTakenFrom-done, IsTakenFrom-step}
 use Rattle.tabled_priority.specs.Laws.Shrunk.{IsTakenFrom-still, same_where_none, taken-step}
 
--- ---- places round a list of n
+-- ---- indices round a list of n
 pub met_itself : (s i : ℕ) → is_met s i i ≡ true
 met_itself s i = grind (arith, nat_tests)
 
@@ -19,15 +19,15 @@ start-le kept n h = grind (arith, nat_tests)
 pub start-place_after : (n i : ℕ) → 0 < n → start (place_after n i) n ≡ place_after n i
 start-place_after n i h = grind (arith, nat_tests)
 
--- from the place after i round to i every place is met
+-- from the index after i round to i every index is met
 pub met_all : (n i j : ℕ) → i < n → j < n → is_met (place_after n i) i j ≡ true
 met_all n i j h k = grind (arith, nat_tests)
 
--- and i only at the end
+-- and i is met only at the end
 pub unmet_last : (n i e : ℕ) → i < n → e < n → e ≢ i → is_met (place_after n i) e i ≡ false
 unmet_last n i e h k ne = grind (arith, nat_tests)
 
--- what is not met before i comes after it
+-- an index that isn't met before i comes after it
 pub met_first : (n s i e : ℕ) → s < n → i < n → e < n → is_met s i e ≡ false → is_met s e i ≡ true
 met_first n s i e a b c h = grind (arith, nat_tests)
 
@@ -60,7 +60,7 @@ IsRoundShrunk-done kept xs mins by h =
       losses = λ i l z. absurd (omega arith);
     }
 
--- where nothing is taken the list may stay
+-- if nothing is taken, the list may stay
 pub IsRoundShrunk-still : (kept : ℕ) (xs mins : List ℕ) (by : ℕ) → taken xs mins by ≡ 0 → IsRoundShrunk kept xs mins by xs kept
 IsRoundShrunk-still kept xs mins by h = record {
   takes = IsTakenFrom-still xs mins by h;
@@ -72,7 +72,7 @@ IsRoundShrunk-still kept xs mins by h = record {
   losses = λ i l z. absurd (omega arith);
 }
 
--- the loss of a place that has nothing to lose
+-- the loss of a value that has nothing to lose
 nothing_lost : (xs mins new : List ℕ) (j k : ℕ) → at new j ≡ at xs j → at xs j ≤ at mins j → at new j + min (spare xs mins j) k ≡ at xs j
 nothing_lost xs mins new j k e h = omega arith
 
@@ -93,7 +93,7 @@ IsRoundShrunk-step kept xs mins i by new kept' g s =
     let taken_is = taken-step xs mins i by h in
     let least = λ (j : ℕ). t.permitted.least j in
     let most = λ (j : ℕ). t.permitted.most j in
-    -- a place that keeps its value and has nothing to lose
+    -- a value that stays and has nothing to lose
     let idle = λ (j k : ℕ) (none : at xs j ≤ at mins j). nothing_lost xs mins new j k (let a = t.permitted.least j in
     let b = t.permitted.most j in omega arith) none in
     ⊎_elim
@@ -104,7 +104,7 @@ IsRoundShrunk-step kept xs mins i by new kept' g s =
     let loss = λ (j : ℕ) (in' : j < n). subst (λ k. at new j + min (spare (lowered xs i) mins j)
     (cond (is_met k p j) (s.rounds + 1) s.rounds) ≡ at (lowered xs i) j) started (s.losses j (omega arith) some) in
     ⊎_elim
-    -- the last round ends at i: every place is in it, and i begins another
+    -- the last round ends at i: every index is in it, and i begins another round
     (λ own.
     let reached_i : at new i + (s.rounds + 1) ≡ at (lowered xs i) i = subst (λ k. at new k + (s.rounds + 1) ≡ at (lowered xs i) k) own reached in
     record {

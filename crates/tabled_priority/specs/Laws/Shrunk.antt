@@ -1,4 +1,4 @@
--- The shapes of shrunk lists, with one more step in front.
+-- Shrunk lists, with one more step at the beginning.
 use Rattle.std.proofs.Common.{
   ◌≡◌,
   ℕ,
@@ -139,7 +139,7 @@ IsMaxShrunk-done right xs mins by h = record {
   cut = λ i. let a = h i in omega arith;
 }
 
--- where nothing is taken the list may stay
+-- if nothing is taken, the list may stay
 pub IsTakenFrom-still : (xs mins : List ℕ) (by : ℕ) → taken xs mins by ≡ 0 → IsTakenFrom xs mins by xs
 IsTakenFrom-still xs mins by h = record { permitted = (IsTakenFrom-none xs mins).permitted; total = omega arith }
 
@@ -147,19 +147,19 @@ pub IsMaxShrunk-still : (right : Bool) (xs mins : List ℕ) (by : ℕ) → taken
 IsMaxShrunk-still right xs mins by h = let s = IsMaxShrunk-none right xs mins in
     record { takes = IsTakenFrom-still xs mins by h; level = s.level; place = s.place; cut = s.cut }
 
--- the ceilings with one taken from i, at the height of i
+-- the ceilings after one is taken from i, at the height of i
 ceiling-here : (right : Bool) (height i j : ℕ) → 0 < height → (ceiling right (height - 1) (cond right i (i + 1)) i + 1 ≡ height)
     × (height ≤ ceiling right (height - 1) (cond right i (i + 1)) j + 1)
     × ((j ≢ i → cond right (nat_le j i) (nat_le i j) ≡ true → ceiling right (height - 1) (cond right i (i + 1)) j ≡ height))
 ceiling-here true height i j h = (grind (arith, nat_tests), grind (arith, nat_tests), λ ne side. grind (arith, nat_tests))
 ceiling-here false height i j h = (grind (arith, nat_tests), grind (arith, nat_tests), λ ne side. grind (arith, nat_tests))
 
--- the ceiling does not rise on the side that is named
+-- the ceiling doesn't rise on the given side
 pub ceiling-side : (right : Bool) (level p i j : ℕ) → cond right (nat_le j i) (nat_le i j) ≡ true → ceiling right level p i ≤ ceiling right level p j
 ceiling-side true level p i j h = grind (arith, nat_tests)
 ceiling-side false level p i j h = grind (arith, nat_tests)
 
--- where the ceiling of i is at least its height, no other place above its minimum is cut
+-- if the ceiling at i is at least its value, no other value above its minimum is lowered
 ceiling-other : (right : Bool) (level p i j : ℕ) (x height : ℕ) → height ≤ ceiling right level p i → x ≤ height
     → (x ≡ height → cond right (nat_le j i) (nat_le i j) ≡ true) → x ≤ ceiling right level p j
 ceiling-other right level p i j x height a b c = ⊎_elim
@@ -167,7 +167,7 @@ ceiling-other right level p i j x height a b c = ⊎_elim
     (λ ne. let f = level-le-ceiling right level p i in let g = level-le-ceiling right level p j in omega (arith, f.0, f.1, g.0, g.1))
     (cases_eq x height)
 
--- a place whose ceiling is at least its old value keeps it
+-- a value whose ceiling is at least the value stays
 keeps : (xs mins : List ℕ) (j c : ℕ) → (at mins j < at xs j → at xs j ≤ c) → max (low xs mins j) (min (at xs j) c) ≡ at xs j
 keeps xs mins j c h = ⊎_elim (λ above. let a = h above in omega arith) (λ none. omega arith) (cases_lt (at mins j) (at xs j))
 
@@ -185,7 +185,7 @@ IsMaxShrunk-step right xs mins i by new g s =
     let own : at new i ≡ max (low xs mins i) (min (at (lowered xs i) i) (ceiling right s.level s.place i)) = s.cut i ∙
     ap (λ k. max k (min (at (lowered xs i) i) (ceiling right s.level s.place i))) (lo i) in
     ⊎_elim
-    -- the ceiling cuts i further: it stays
+    -- the ceiling lowers i further, and stays
     (λ below. record {
       takes = t;
       level = s.level;
@@ -193,7 +193,7 @@ IsMaxShrunk-step right xs mins i by new g s =
       cut = λ j. ⊎_elim (λ e. subst (λ k. at new k
           ≡ max (low xs mins k) (min (at xs k) (ceiling right s.level s.place k))) (sym e) (omega arith)) (λ ne. other j ne) (cases_eq j i);
     })
-    -- else only i has lost one
+    -- otherwise only i has lost one
     (λ high.
     let height = at xs i in
     let p = cond right i (i + 1) in
@@ -223,7 +223,7 @@ le-sum (x ∷ xs) [] e h = absurd (omega arith)
 le-sum (x ∷ xs) (y ∷ ys) e h = let a = h 0 in let r = le-sum xs ys (omega arith) (λ i. h (suc i)) in
     omega (arith, sum_by-cons (λ (z : ℕ). z) x xs, sum_by-cons (λ (z : ℕ). z) y ys)
 
--- a list that is nowhere above another and below it at a place has a smaller sum
+-- a list that is nowhere greater than another one and smaller at an index has a smaller sum
 pub lt-sum : (xs ys : List ℕ) (i : ℕ) → length xs ≡ length ys → ((j : ℕ) → at xs j ≤ at ys j) → at xs i < at ys i → sum xs < sum ys
 lt-sum [] [] i e h l = absurd (omega arith)
 lt-sum [] (y ∷ ys) i e h l = absurd (omega arith)
@@ -233,7 +233,7 @@ lt-sum (x ∷ xs) (y ∷ ys) zero e h l = let r = le-sum xs ys (omega arith) (λ
 lt-sum (x ∷ xs) (y ∷ ys) (suc i) e h l = let a = h 0 in let r = lt-sum xs ys i (omega arith) (λ i. h (suc i)) l in
     omega (arith, sum_by-cons (λ (z : ℕ). z) x xs, sum_by-cons (λ (z : ℕ). z) y ys)
 
--- where nothing is taken, the list is the old one
+-- if nothing is taken, the list is the old one
 pub same_where_none : (old mins : List ℕ) (by : ℕ) (new : List ℕ) → IsTakenFrom old mins by new → taken old mins by
     ≡ 0 → (i : ℕ) → at new i ≡ at old i
 same_where_none old mins by new t z i = ⊎_elim
@@ -287,7 +287,7 @@ IsMinShrunk-step right xs mins i by new g s =
     let here = l.here in
     let lo = low-lowered xs mins (lowered xs i) i h l in
     let t = IsTakenFrom-step xs mins i by new h s.takes in
-    -- no place above its minimum comes before i
+    -- no value above its minimum comes before i
     let none_before = λ (j : ℕ) (above : at mins j < at xs j) (b : comes_before right xs j i ≡ true). ⊎_elim
     (λ e. before-irrefl right (at xs i) i (subst (λ k. before right (at xs k) (at xs i) k i ≡ true) e b))
     (λ ne. before-asym right (at xs j) (at xs i) j i b (g.first j ne above)) (cases_eq j i) in
@@ -295,7 +295,7 @@ IsMinShrunk-step right xs mins i by new g s =
     (subst (λ k. before right (at xs i) (at xs k) i k ≡ true) e b) in
     ⊎_elim
     (λ some. ⊎_elim
-    -- the place of the rest is i itself
+    -- the index of the rest is i
     (λ own. record {
       takes = t;
       place = i;

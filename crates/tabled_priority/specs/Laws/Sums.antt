@@ -1,4 +1,4 @@
--- Sums over places.
+-- Sums over indices.
 use Rattle.std.proofs.Common.{◌≡◌, ◌≢◌, ℕ, ◌+◌, ◌<◌, ◌≤◌, List, [], ◌∷◌, length, sum, refl, sym, subst, arith, ⊎_elim, zero, suc}
 use Rattle.std.proofs.lemmas.List.Sums.{sum_by-cons}
 use Rattle.std.proofs.lemmas.Bool.{cases_lt}
@@ -21,7 +21,7 @@ pub sum_below-zero : (f : ℕ → ℕ) (n : ℕ) → ((i : ℕ) → i < n → f 
 sum_below-zero f zero h = refl
 sum_below-zero f (suc n) h = let r = sum_below-zero f n (λ i l. h i (omega arith)) in let e = h n (omega arith) in omega arith
 
--- one of the terms
+-- one term is at most the sum
 pub sum_below-term : (f : ℕ → ℕ) (n i : ℕ) → i < n → f i ≤ sum_below f n
 sum_below-term f zero i l = absurd (omega arith)
 sum_below-term f (suc n) i l = ⊎_elim
@@ -29,7 +29,7 @@ sum_below-term f (suc n) i l = ⊎_elim
     (λ (past : n ≤ i). let e : n ≡ i = omega arith in subst (λ k. f k ≤ sum_below f (suc n)) e (omega arith))
     (cases_lt i n)
 
--- fewer places
+-- a sum of fewer terms is at most the sum
 pub sum_below-prefix : (f : ℕ → ℕ) (m n : ℕ) → m ≤ n → sum_below f m ≤ sum_below f n
 sum_below-prefix f m zero h = let e : m ≡ 0 = omega arith in subst (λ k. sum_below f k ≤ 0) (sym e) (omega arith)
 sum_below-prefix f m (suc n) h = ⊎_elim
@@ -37,7 +37,7 @@ sum_below-prefix f m (suc n) h = ⊎_elim
     (λ (past : suc n ≤ m). let e : m ≡ suc n = omega arith in subst (λ k. sum_below f k ≤ sum_below f (suc n)) (sym e) (omega arith))
     (cases_lt m (suc n))
 
--- one term is less by d
+-- if one term is less by d, so is the sum
 pub sum_below-less : (f g : ℕ → ℕ) (n i d : ℕ) → i < n → g i + d ≡ f i → ((j : ℕ) → j ≢ i → g j ≡ f j) → sum_below g n + d ≡ sum_below f n
 sum_below-less f g zero i d l here there = absurd (omega arith)
 sum_below-less f g (suc n) i d l here there = ⊎_elim

@@ -86,7 +86,7 @@ module _ {settings : StreamSettings} {config : CompactConfig} {ahead_rows rows :
       ∙ length-cut (content_width settings ahead_rows) (column_count settings ahead_rows) (get_or rows 0 []) (get_or t.cells 0 []) (s.cells 0 h)
       ∙ sym l.count in
       let listed : t.widths ≡ map (width_at layout) (range_with_len 0 layout.count) = s.widths ∙ widths-laid l in
-      let around : frame t.config ≡ layout.frame = ap frame s.arguments_of ∙ sym l.around in
+      let around : frame t.config ≡ layout.frame = ap frame s.settings_of ∙ sym l.around in
       let F : ℕ → List ℕ → _ → ColumnSheet = λ n ws f. record { count = n; width = slice_index ws; frame = f } in
       ap (λ n. F n t.widths (frame t.config)) wide ∙ ap (λ ws. F layout.count ws (frame t.config)) listed
       ∙ ap (λ f. F layout.count (map (width_at layout) (range_with_len 0 layout.count)) f) around
@@ -97,12 +97,12 @@ module _ {settings : StreamSettings} {config : CompactConfig} {ahead_rows rows :
   unfolding part-of
   part-laid l s k h =
       let above : rule_at t.config (length t.cells) k ≡ rule_of layout (k == 0) =
-      ap (λ g. rule_at g (length t.cells) k) s.arguments_of
+      ap (λ g. rule_at g (length t.cells) k) s.settings_of
       ∙ rule-above config (length t.cells) k (let e = s.as_many in omega arith)
       ∙ ap (λ a. if k == 0 then a else rule_at (spanned_of_compact config) 2 1) (sym l.top)
       ∙ ap (λ a. if k == 0 then layout.top else a) (sym l.inner) in
       let styled : style_at t.config k ≡ (λ _. layout.style) =
-      ap (λ g. style_at g k) s.arguments_of ∙ style-everywhere config k ∙ ap (λ x. λ (_ : ℕ). x) (sym l.style) in
+      ap (λ g. style_at g k) s.settings_of ∙ style-everywhere config k ∙ ap (λ x. λ (_ : ℕ). x) (sym l.style) in
       let sheet = columns-laid l s (omega arith) in
       part-is t k
       ∙ ap (λ a. part-of a (rule_at t.config (length t.cells) k) (slice_index t.heights k) (cell_at t.cells k) (style_at t.config k)) sheet

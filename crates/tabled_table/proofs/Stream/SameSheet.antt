@@ -213,7 +213,7 @@ module _ {settings : StreamSettings} {rows : List (List (List ℕ))} (a : IsLike
         let cells : t.cells ≡ rows =
         ext_get_or [] t.cells rows s.as_many (λ k l. row-kept k (get_or t.cells k []) (let m = s.as_many in omega arith) (s.cells k (let m = s.as_many in omega arith))) in
         let F : List (List (List ℕ)) → SpannedConfig → List ℕ → List ℕ → Sheet = λ c g w h. record { cells = c; config = g; widths = w; heights = h } in
-        ap (λ c. F c t.config t.widths t.heights) cells ∙ ap (λ g. F rows g t.widths t.heights) s.arguments_of
+        ap (λ c. F c t.config t.widths t.heights) cells ∙ ap (λ g. F rows g t.widths t.heights) s.settings_of
         ∙ ap (λ w. F rows (spanned_of_compact config) w t.heights) (s.widths ∙ widths-same (measured-of a) config)
         ∙ ap (λ h. F rows (spanned_of_compact config) (estimated_widths rows (spanned_of_compact config)) h) (heights-same (measured-of a) config t.heights s.as_high s.heights)
 

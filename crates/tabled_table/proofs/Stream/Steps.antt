@@ -60,7 +60,7 @@ module _ {settings : StreamSettings} {config : CompactConfig} {ahead_rows : List
             each-pushed (λ k r. C r (get_or (t.cells ++ cells ∷ []) k [])) shown row [] n refl
             (λ k b. subst (C (get_or shown k [])) (sym (pushed-before t.cells cells [] n k s.as_many b)) (s.cells k b))
             (subst (C row) (sym (pushed-at t.cells cells [] n s.as_many)) (cut-laid l c)) k (omega arith);
-        arguments_of = s.arguments_of;
+        settings_of = s.settings_of;
         widths = s.widths;
         as_high = length-pushed t.heights height n s.as_high ∙ sym longer;
         heights = λ k b.

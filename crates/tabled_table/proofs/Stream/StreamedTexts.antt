@@ -89,7 +89,7 @@ module _ {settings : StreamSettings} {config : CompactConfig} {ahead_rows rows :
       let fits = (row-fits s row column h).columns in
       let count = streamed_columns s (let m = s.as_many in omega arith) in
       let padding : padded t.config row column ≡ config.padding.left.size + config.padding.right.size =
-      ap (λ g. padded g row column) s.arguments_of ∙ padded-alike config row column in
+      ap (λ g. padded g row column) s.settings_of ∙ padded-alike config row column in
       let width : slice_index t.widths column ≡ stream_width settings config ahead_rows column =
       ap (λ ws. slice_index ws column) s.widths ∙ listed (stream_width settings config ahead_rows) (column_count settings ahead_rows) column (omega arith) in
       let needed = needed-is t.cells t.config row column in

@@ -38,7 +38,7 @@ none-in-reach settings config ahead_rows = record {
   streamed = record {
     as_many = refl;
     cells = λ k h. absurd (omega arith);
-    arguments_of = refl;
+    settings_of = refl;
     widths = refl;
     as_high = refl;
     heights = λ k h. absurd (omega arith);
@@ -91,12 +91,12 @@ module _ {settings : StreamSettings} {config : CompactConfig} {ahead_rows : List
       let some : length t.cells ≡ length shown = s.as_many in
       let filled : is_empty t.cells ≡ false =
       ap (λ b. b || (columns t.cells == 0)) (not-zero (length t.cells) (omega arith)) ∙ not-zero (columns t.cells) (omega arith) in
-      let around : frame t.config ≡ layout.frame = ap frame s.arguments_of ∙ sym l.around in
+      let around : frame t.config ≡ layout.frame = ap frame s.settings_of ∙ sym l.around in
       let total : filled_width t.config layout.count t.widths ≡ whole =
-      ap (λ g. filled_width g layout.count t.widths) s.arguments_of ∙ ap (λ ws. filled_width (spanned_of_compact config) layout.count ws) s.widths
+      ap (λ g. filled_width g layout.count t.widths) s.settings_of ∙ ap (λ ws. filled_width (spanned_of_compact config) layout.count ws) s.widths
       ∙ ap (λ n. filled_width (spanned_of_compact config) n (stream_widths settings config ahead_rows)) l.count ∙ sym e in
       let below : rule_at t.config (length t.cells) (length t.cells) ≡ layout.bottom =
-      ap (λ g. rule_at g (length t.cells) (length t.cells)) s.arguments_of ∙ rule-below config (length t.cells) (omega arith) ∙ sym l.bottom in
+      ap (λ g. rule_at g (length t.cells) (length t.cells)) s.settings_of ∙ rule-below config (length t.cells) (omega arith) ∙ sym l.bottom in
       let top = (frame t.config).margin.top in
       let W = filled_width t.config layout.count t.widths in
       let T = replicate top.size (fill top.fill W) in

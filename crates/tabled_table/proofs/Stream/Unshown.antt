@@ -42,7 +42,7 @@ blank-streamed settings config ahead_rows rows none =
           subst (C (get_or rows k [])) (sym (get_or-map (λ _. []) rows k [] [] b))
           (⊎_elim (λ h. no-cells (content_width settings ahead_rows) (column_count settings ahead_rows) (get_or rows k []) h)
           (λ (h : length rows ≡ 0). absurd (omega arith)) none);
-      arguments_of = refl;
+      settings_of = refl;
       widths = refl;
       as_high = length-map-range_with_len (λ k. stream_height settings config ahead_rows k (get_or rows k [])) 0 (length rows);
       heights = λ k b. get_or-map-range_with_len (λ k. stream_height settings config ahead_rows k (get_or rows k [])) 0 (length rows) k k 0 b (omega arith);

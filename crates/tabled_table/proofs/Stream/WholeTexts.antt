@@ -90,7 +90,7 @@ module _ {settings : StreamSettings} {config : CompactConfig} {ahead_rows : List
       record {
         as_many = omega (arith, length-append t.cells cells);
         cells = each-joined (IsCutAs settings ahead_rows) shown rest t.cells cells [] [] s.as_many s.cells c.each;
-        arguments_of = s.arguments_of;
+        settings_of = s.settings_of;
         widths = s.widths;
         as_high = omega (arith, length-append t.heights heights);
         heights = each-joined H shown rest t.heights heights [] 0 s.as_high s.heights each;
@@ -112,8 +112,8 @@ module _ {settings : StreamSettings} {config : CompactConfig} {ahead_rows : List
       let wide : columns_of u ≡ columns_of t =
       ap (λ count. record { count = count; width = slice_index t.widths; frame = frame t.config }) (columns-before t.cells cells (omega arith)) in
       let line : rule_at t.config m k ≡ rule_at t.config n k =
-      ap (λ g. rule_at g m k) s.arguments_of ∙ rule-above config m k (omega arith) ∙ sym (rule-above config n k (omega arith))
-      ∙ sym (ap (λ g. rule_at g n k) s.arguments_of) in
+      ap (λ g. rule_at g m k) s.settings_of ∙ rule-above config m k (omega arith) ∙ sym (rule-above config n k (omega arith))
+      ∙ sym (ap (λ g. rule_at g n k) s.settings_of) in
       let row : get_or u.cells k [] ≡ get_or t.cells k [] = get_or_append_left t.cells cells [] k (omega arith) in
       let height : slice_index u.heights k ≡ slice_index t.heights k = get_or_append_left t.heights heights 0 k (omega arith) in
       ap (λ sheet. part sheet (rule_at t.config m k) (get_or u.cells k []) (slice_index u.heights k)) wide

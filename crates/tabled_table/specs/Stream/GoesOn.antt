@@ -1,4 +1,4 @@
--- How the table of the first of some rows goes on.
+-- How the table of the first rows is continued.
 use Rattle.std.specs.Prelude.{◌≡◌, ℕ, ◌++◌, List, length}
 use Rattle.tabled_config.specs.declared.compact.CompactConfig.{CompactConfig}
 use Rattle.tabled_size.specs.Sheet.{Sheet}
@@ -7,7 +7,7 @@ use Rattle.tabled_table.specs.declared.iter_table.settings.StreamSettings.{Strea
 use Rattle.tabled_table.specs.Stream.Printed.{text_above}
 use Rattle.tabled_table.specs.Stream.Streamed.{IsStreamed, column_count}
 
--- there is a table of these rows and of the rest behind them, and its text begins with the lines above the rest
+-- there is a table of `shown` and `rest`, and its text begins with the lines above `rest`
 pub record GoesOn (settings : StreamSettings) (config : CompactConfig) (ahead_rows shown rest : List (List (List ℕ))) (t : Sheet) : Type 0 where
   pub sheet : Sheet
   pub streamed : IsStreamed settings config ahead_rows (shown ++ rest) sheet

@@ -1,4 +1,4 @@
--- Streams that print the bytes of a `Table`.
+-- Streams that print the same bytes as a `Table`.
 use Rattle.std.specs.Prelude.{◌≡◌, ℕ, ◌<◌, ◌≤◌, Bool, true, List, None, length}
 use Rattle.std.specs.List.{All}
 use Rattle.tabled_text.specs.Exact.{IsExactLine}
@@ -11,8 +11,8 @@ use Rattle.tabled_size.specs.Sheet.{estimated}
 use Rattle.tabled_table.specs.declared.iter_table.settings.StreamSettings.{StreamSettings}
 use Rattle.tabled_table.specs.Stream.Streams.{AreEnough}
 
--- some rows are measured whole: there is a row and a column, the rows are equally long, all are read ahead, and nothing is given
--- of columns, rows and sizes
+-- all rows are measured: there is a row and a column, the rows are equally long, all are read
+-- ahead, and the numbers of columns and rows and the sizes aren't set
 pub record AreMeasured (settings : StreamSettings) (cells : List (List (List ℕ))) : Type 0 where
   pub has_row : 0 < length cells
   pub has_column : 0 < columns cells
@@ -23,8 +23,8 @@ pub record AreMeasured (settings : StreamSettings) (cells : List (List (List ℕ
   pub no_width : settings.width ≡ None
   pub no_height : settings.height ≡ None
 
--- some rows make a stream like a table: there is a row and a column, the rows are equally long, each cell is an exact line, all
--- rows are read ahead, and nothing is given of columns, rows and sizes
+-- a stream of these rows is like a table: the rows are measured, as in `AreMeasured`, and each cell
+-- is an exact line
 pub record IsLikeTable (settings : StreamSettings) (cells : List (List (List ℕ))) : Type 0 where
   pub has_row : 0 < length cells
   pub has_column : 0 < columns cells
@@ -36,8 +36,9 @@ pub record IsLikeTable (settings : StreamSettings) (cells : List (List (List ℕ
   pub no_width : settings.width ≡ None
   pub no_height : settings.height ≡ None
 
--- what a call that prints a source of rows whole leaves: some rows came first, as many as were needed; where they make it like a
--- table, they are all, and the text of the table with estimated sizes was added
+-- what a call that prints a source leaves: some rows were read first, as many as were needed; if
+-- their stream is like a table, they are all, and the text of the table with estimated sizes was
+-- written
 pub record PrintsLikeTable (settings : StreamSettings) (config : CompactConfig) (comes : List (List (List ℕ)) → Bool → Type 0)
     (old new : Sent) : Type 0 where
   pub rows : List (List (List ℕ))

@@ -1,4 +1,4 @@
--- How a new streamed table is set.
+-- The settings of a new streamed table.
 use Rattle.std.specs.Prelude.{◌≡◌, None}
 use Rattle.tabled_config.specs.declared.sides.Indent.{Indent}
 use Rattle.tabled_config.specs.declared.sides.Sides.{Sides}
@@ -13,12 +13,13 @@ abbrev pub one_beside : Sides Indent
 one_beside =
     let one : Indent = record { size = 1; fill = 32 } in record { left = one; right = one; top = no_indent; bottom = no_indent }
 
--- ascii borders, one column of padding left and right, texts at the left; all else as in a new configuration
+-- ASCII borders, one column of padding on the left and right, text at the left; otherwise a new
+-- configuration
 pub record IsNewConfig (config : CompactConfig) : Type 0 where
   pub plain : CompactConfig
   pub is_plain : IsPlainCompact plain
   pub set : config ≡ record plain { padding = one_beside; borders = ascii.borders; alignment_horizontal = Left }
 
--- a thousand rows are read ahead, and nothing else is given
+-- 1000 rows are read ahead, and nothing else is set
 abbrev pub new_settings : StreamSettings
 new_settings = record { sniff = 1000; columns = None; rows = None; width = None; height = None }

@@ -7,20 +7,20 @@ use Rattle.tabled_size.specs.Sheet.{Sheet}
 use Rattle.tabled_size.specs.Totals.{filled_width}
 use Rattle.tabled_grid.specs.Picture.{row_part}
 
--- of a table with so many columns the lines above a row and above its horizontal line: the top margin, and the rows before
--- it with the horizontal lines above them
+-- the lines above a row and its horizontal line, in a table of `count` columns: the top margin, and
+-- the rows before it with the horizontal lines above them
 unfoldable pub lines_above : Sheet → ℕ → ℕ → List (List ℕ)
 lines_above t count row =
     let margin = (frame t.config).margin in
     replicate margin.top.size (fill margin.top.fill (filled_width t.config count t.widths))
     ++ flat_map (row_part t) (range_with_len 0 row)
 
--- the lines above the last of so many rows; above the top margin there is none
+-- the lines above the last of some rows; without a row there are none, not even the top margin
 abbrev pub lines_before : Sheet → ℕ → ℕ → List (List ℕ)
 lines_before t count zero = []
 lines_before t count (suc row) = lines_above t count row
 
--- their texts
+-- the text of these lines
 abbrev pub text_above : Sheet → ℕ → ℕ → List ℕ
 text_above t count row = join_with_byte 10 (lines_above t count row)
 

@@ -19,7 +19,7 @@ use Rattle.tabled_table.specs.Stream.Row.{compact_style, content_at}
 use Rattle.tabled_table.specs.Stream.Streamed.{IsStreamed, ahead, column_count, content_height, content_width}
 use Rattle.tabled_table.specs.Stream.Streams.{IsTooHighFirst, stream_total}
 
--- a layout is that of some settings, where some rows were read ahead
+-- a layout for these settings and the rows that were read ahead
 pub record IsLaidOut (settings : StreamSettings) (config : CompactConfig) (ahead_rows : List (List (List ℕ))) (layout : Layout) : Type 0 where
   pub count : layout.count ≡ column_count settings ahead_rows
   pub contents : (column : ℕ) → column < layout.count → content_at layout column ≡ content_width settings ahead_rows column
@@ -30,12 +30,12 @@ pub record IsLaidOut (settings : StreamSettings) (config : CompactConfig) (ahead
   pub inner : layout.inner ≡ rule_at (spanned_of_compact config) 2 1
   pub bottom : layout.bottom ≡ rule_at (spanned_of_compact config) 1 1
 
--- the table of some rows, whose heights are in range
+-- the sheet of these rows, whose heights are in range
 pub record IsInReach (settings : StreamSettings) (config : CompactConfig) (ahead_rows shown : List (List (List ℕ))) (t : Sheet) : Type 0 where
   pub streamed : IsStreamed settings config ahead_rows shown t
   pub heights : (index : ℕ) → index < length shown → slice_index t.heights index < 2 ^ 64
 
--- the top margin and some rows were printed since the start
+-- the top margin and these rows were written since the start
 pub record HasPut (settings : StreamSettings) (config : CompactConfig) (ahead_rows shown : List (List (List ℕ))) (start : Sent)
     (layout : Layout) (first : Bool) (now : Sent) (begun : Bool) : Type 0 where
   pub laid : IsLaidOut settings config ahead_rows layout
@@ -44,7 +44,8 @@ pub record HasPut (settings : StreamSettings) (config : CompactConfig) (ahead_ro
   pub is_first : first ≡ (length shown == 0)
   pub sends : LineSends start false now begun (lines_above sheet layout.count (length shown))
 
--- printing halts before a row, which is too high, or an allocation for it failed; no other row follows
+-- printing stops before a row that is too tall, or for which an allocation failed; no row after it
+-- was read
 pub record HaltsBefore (settings : StreamSettings) (config : CompactConfig) (ahead_rows shown rest : List (List (List ℕ))) (start : Sent)
     (count : ℕ) (error : TableError) (now : Sent) : Type 0 where
   pub sheet : Sheet
@@ -54,14 +55,14 @@ pub record HaltsBefore (settings : StreamSettings) (config : CompactConfig) (ahe
   pub taken : length rest ≤ 1
   pub cause : ((error ≡ Range) × IsTooHighFirst settings config ahead_rows (length shown) rest) ⊎ ((error ≡ Memory) × (0 < length rest))
 
--- the sink failed in the top margin or in the last row, and the lines above that row are out
+-- the sink failed in the top margin or in the last row, and the lines above that row are written
 pub record HaltsWithin (settings : StreamSettings) (config : CompactConfig) (ahead_rows shown : List (List (List ℕ))) (start : Sent)
     (count : ℕ) (error : TableError) (now : Sent) : Type 0 where
   pub sheet : Sheet
   pub in_reach : IsInReach settings config ahead_rows shown sheet
   pub stops : StopsBelow (lines_after false (lines_before sheet count (length shown))) start error now (lines_after false (lines_above sheet count (length shown)))
 
--- printing of some rows halts
+-- printing stops at one of these rows
 pub record Halts (settings : StreamSettings) (config : CompactConfig) (ahead_rows rows : List (List (List ℕ))) (start : Sent)
     (count : ℕ) (error : TableError) (now : Sent) : Type 0 where
   pub shown : List (List (List ℕ))
@@ -70,70 +71,70 @@ pub record Halts (settings : StreamSettings) (config : CompactConfig) (ahead_row
   pub halts : HaltsBefore settings config ahead_rows shown rest start count error now
       ⊎ ((rest ≡ []) × HaltsWithin settings config ahead_rows shown start count error now)
 
--- what printing of some rows leaves, by its answer
+-- what printing these rows leaves, by its result
 abbrev pub PutsRows : {R : Type 0} → StreamSettings → CompactConfig → List (List (List ℕ)) → List (List (List ℕ)) → Sent → Layout → Result R TableError
     → Bool → Sent → Bool → Type 0
 PutsRows settings config ahead_rows rows start layout (Ok _) first now begun = HasPut settings config ahead_rows rows start layout first now begun
 PutsRows settings config ahead_rows rows start layout (Err error) first now begun = Halts settings config ahead_rows rows start layout.count error now
 
--- the same of a row behind those that were printed, which leaves so many lines to texts
+-- what printing the next row leaves, which has `lines` lines for text
 abbrev pub PutsNext : {R : Type 0} → ℕ → List (List ℕ) → Layout → Bool → Sent → Bool → Result R TableError → Bool → Sent → Bool → Type 0
 PutsNext lines row layout first old begun result first' new begun' =
     (settings : StreamSettings) (config : CompactConfig) (ahead_rows shown : List (List (List ℕ))) (start : Sent)
     → HasPut settings config ahead_rows shown start layout first old begun → lines ≡ content_height settings ahead_rows (length shown) row
     → PutsRows settings config ahead_rows (shown ++ row ∷ []) start layout result first' new begun'
 
--- further rows were printed behind those that were read ahead
+-- further rows were written after those that were read ahead
 abbrev pub HasPutMore : ℕ → List (List (List ℕ)) → Layout → Bool → Sent → Bool → Bool → Sent → Bool → Type 0
 HasPutMore lines more layout first old begun first' new begun' =
     (settings : StreamSettings) (config : CompactConfig) (ahead_rows shown : List (List (List ℕ))) (start : Sent)
     → length ahead_rows ≤ length shown → lines ≡ unwrap_or settings.height 1 → HasPut settings config ahead_rows shown start layout first old begun
     → HasPut settings config ahead_rows (shown ++ more) start layout first' new begun'
 
--- and printing of them halts
+-- printing stops at one of these further rows
 abbrev pub HaltsMore : ℕ → List (List (List ℕ)) → Layout → Bool → Sent → Bool → TableError → Sent → Type 0
 HaltsMore lines more layout first old begun error new =
     (settings : StreamSettings) (config : CompactConfig) (ahead_rows shown : List (List (List ℕ))) (start : Sent)
     → length ahead_rows ≤ length shown → lines ≡ unwrap_or settings.height 1 → HasPut settings config ahead_rows shown start layout first old begun
     → Halts settings config ahead_rows (shown ++ more) start layout.count error new
 
--- how many rows may still be shown after so many
+-- how many more rows may be shown after `count`; no limit stays none
 abbrev pub left_of : Option ℕ → ℕ → Option ℕ
 left_of None count = None
 left_of (Some limit) count = Some (limit - count)
 
--- rows that were taken are as many as are shown at most, or all there are
+-- the rows that were read are as many as are shown at most, or all there are
 abbrev pub IsLimited : Option ℕ → ℕ → Bool → Type 0
 IsLimited None count whole = whole ≡ true
 IsLimited (Some limit) count whole = (count ≤ limit) × (whole ≡ false → count ≡ limit)
 
--- no more are taken than are shown at most
+-- no more rows were read than are shown at most
 abbrev pub IsPermitted : Option ℕ → ℕ → Type 0
 IsPermitted None count = Unit {0}
 IsPermitted (Some limit) count = count ≤ limit
 
--- rows that were taken before the first byte: all there are, or those that are read ahead, or where there are none of these, one
--- that is shown
+-- the rows that were read before the first byte: all there are, or those that are read ahead, or
+-- else one that is shown
 pub record AreFirst (settings : StreamSettings) (kept : List (List (List ℕ))) (all : Bool) : Type 0 where
   pub sniffed : all ≡ false → ahead settings ≤ length kept
   pub needed : (length kept ≤ ahead settings)
       ⊎ ((length kept ≤ 1) × (0 < unwrap_or settings.columns 0) × (settings.rows ≢ Some 0))
   pub none : all ≡ false → length kept ≡ 0 → (unwrap_or settings.columns 0 ≡ 0) ⊎ (settings.rows ≡ Some 0)
 
--- how many were taken behind them: none where they were all, and no more than may be shown
+-- how many rows were read after these: none if these were all, and no more than may be shown
 pub record AreFurther (limit : Option ℕ) (kept : ℕ) (all : Bool) (more : ℕ) (whole : Bool) : Type 0 where
   pub permitted : IsPermitted (left_of limit kept) more
   pub none : all ≡ true → (more ≡ 0) × (whole ≡ true)
 
--- what printing the end of a table leaves: its whole text, or a beginning of that which has all rows
+-- what printing the end of a table leaves: its whole text, or a beginning of it that has all rows
 pub record EndsSheet {R : Type 0} (settings : StreamSettings) (config : CompactConfig) (ahead_rows shown : List (List (List ℕ))) (start : Sent)
     (result : Result R TableError) (now : Sent) : Type 0 where
   pub sheet : Sheet
   pub in_reach : IsInReach settings config ahead_rows shown sheet
   pub writes : WritesBelow (text_above sheet (column_count settings ahead_rows) (length shown)) start result now (table_text sheet)
 
--- printing of further rows behind those that were printed, as many as may be, and of the end of the table: it is done, or was
--- refused there, or halts before
+-- what printing further rows, as many as may be shown, and the end of the table leaves: all is
+-- written, or the sink failed in the end of the table, or printing stopped before
 abbrev pub FinishesMore : {R : Type 0} → Option ℕ → ℕ → ℕ → Bool → List (List (List ℕ)) → Layout → Bool → Sent → Bool → Result R TableError → Sent → Type 0
 FinishesMore limit lines total whole more layout first old begun result new =
     (settings : StreamSettings) (config : CompactConfig) (ahead_rows shown : List (List (List ℕ))) (start : Sent)
@@ -142,7 +143,8 @@ FinishesMore limit lines total whole more layout first old begun result new =
     → (IsLimited limit (length more) whole × EndsSheet settings config ahead_rows (shown ++ more) start result new)
     ⊎ IsErrAnd result (λ e. Halts settings config ahead_rows (shown ++ more) start layout.count e new)
 
--- the same behind the rows that were taken first, where rows may follow behind those that are read ahead alone
+-- what is left, as in `FinishesMore`, after the rows that were read first; if further rows may be
+-- shown, those that are read ahead are written
 abbrev pub FinishesBehind : {R : Type 0} → Option ℕ → ℕ → ℕ → Bool → List (List (List ℕ)) → Layout → Bool → Sent → Bool → Result R TableError → Sent → Type 0
 FinishesBehind left lines total whole more layout first old begun result new =
     (settings : StreamSettings) (config : CompactConfig) (ahead_rows shown : List (List (List ℕ))) (start : Sent)

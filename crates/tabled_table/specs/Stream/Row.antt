@@ -15,15 +15,16 @@ use Rattle.tabled_line.specs.Sent.{Sent}
 use Rattle.tabled_table.specs.declared.iter_table.layout.Layout.{Layout}
 use Rattle.tabled_table.specs.Stream.Streamed.{IsCutRow}
 
--- the columns that a column leaves to texts
+-- the content width of a column
 abbrev pub content_at : Layout → ℕ → ℕ
 content_at layout column = slice_index_or layout.contents.items column layout.rest
 
--- its width
+-- the width of a column, padding included
 abbrev pub width_at : Layout → ℕ → ℕ
 width_at layout column = content_at layout column + layout.side
 
--- each further column takes nothing where its cell is empty: no width, no padding, and no vertical line before it
+-- an empty cell in a further column takes nothing: no content width, no padding, and no vertical
+-- line before it
 pub record TakesNoMore (layout : Layout) : Type 0 where
   pub rest : layout.rest ≡ 0
   pub side : layout.side ≡ 0
@@ -31,7 +32,7 @@ pub record TakesNoMore (layout : Layout) : Type 0 where
   pub right : layout.style.padding.right.size ≡ 0
   pub bar : layout.frame.inner.there ≡ false
 
--- the widths of all columns, the vertical lines that are there, and the side margins
+-- the total width: all widths, the vertical lines, and the side margins
 unfoldable pub layout_total : Layout → ℕ
 layout_total layout =
     let f = layout.frame in
@@ -46,7 +47,7 @@ layout_columns layout = record {
   frame = layout.frame;
 }
 
--- a row of some cells
+-- a row of these cells
 abbrev pub layout_row : Layout → ℕ → List (List ℕ) → RowSheet
 layout_row layout height cells = record {
   columns = layout_columns layout;
@@ -55,7 +56,7 @@ layout_row layout height cells = record {
   style = λ _. layout.style;
 }
 
--- how the texts of all cells stand
+-- the padding and alignment of all cells
 abbrev pub compact_style : CompactConfig → CellStyle
 compact_style config = record {
   padding = config.padding;
@@ -64,15 +65,16 @@ compact_style config = record {
   line_alignment = false;
 }
 
--- the lines of a row of cut cells, below a horizontal line
+-- the lines of a row of cut cells, below its horizontal line
 abbrev pub record_lines : Layout → Option HorizontalLine → ℕ → List (List ℕ) → List (List ℕ)
 record_lines layout rule height cells = rule_if (layout_columns layout) rule ++ row_lines (layout_row layout height cells)
 
--- the horizontal line above a row, which is the first or not
+-- the horizontal line above the first or a further row
 abbrev pub rule_of : Layout → Bool → Option HorizontalLine
 rule_of layout first = if first then layout.top else layout.inner
 
--- a row of cells is printed whole, or memory was refused before its first byte, or the sink refused in its lines
+-- a row of cut cells was written; or an allocation failed before its first byte, or the sink failed
+-- in its lines
 abbrev pub PutsCut : {R : Type 0} → Layout → Option HorizontalLine → ℕ → List (List ℕ) → Sent → Bool → Result R TableError → Sent → Bool → Type 0
 PutsCut layout rule height cut old begun (Ok _) new begun' =
     LineSends old begun new begun' (record_lines layout rule height (lengthened layout.count cut))
@@ -80,7 +82,7 @@ PutsCut layout rule height cut old begun (Err error) new begun' =
     ((error ≡ Memory) × (new ≡ old) × (begun' ≡ begun))
     ⊎ LineStops old begun error new (record_lines layout rule height (lengthened layout.count cut))
 
--- the same of a row that is cut
+-- the cells of a row were cut, and its lines were written
 pub record IsPut (layout : Layout) (rule : Option HorizontalLine) (height : ℕ) (row : List (List ℕ)) (old : Sent) (begun : Bool)
     (new : Sent) (begun' : Bool) : Type 0 where
   pub cells : List (List ℕ)

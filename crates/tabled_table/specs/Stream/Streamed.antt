@@ -1,4 +1,4 @@
--- The table that is streamed: how many of its rows are read ahead, its columns, its rows, and their sizes.
+-- The table that is streamed: the rows that are read ahead, the columns, the rows, and their sizes.
 use Rattle.std.specs.Prelude.{◌≡◌, ℕ, ◌+◌, ◌<◌, ◌&&◌, ◌||◌, nat_lt, not, if◌then◌else◌, List, [], Option, Some, None, is_some, unwrap_or, length, map, max, min, take}
 use Rattle.std.specs.List.{range_with_len, slice_index, slice_index_or}
 use Rattle.tabled_text.specs.Cut.{IsCut}
@@ -9,7 +9,8 @@ use Rattle.tabled_config.specs.Spanned.{spanned_of_compact}
 use Rattle.tabled_size.specs.Sheet.{Sheet}
 use Rattle.tabled_table.specs.declared.iter_table.settings.StreamSettings.{StreamSettings}
 
--- how many rows are read ahead at most: none where the columns and their widths are given
+-- the greatest number of rows that are read ahead: 0 if both the number of columns and their width
+-- are set
 abbrev pub ahead : StreamSettings → ℕ
 ahead settings = if is_some settings.width && is_some settings.columns then 0 else settings.sniff
 
@@ -17,40 +18,40 @@ ahead settings = if is_some settings.width && is_some settings.columns then 0 el
 abbrev pub sniffed : StreamSettings → List (List (List ℕ)) → List (List (List ℕ))
 sniffed settings rows = take (ahead settings) rows
 
--- the first of some rows, as many as are shown at most
+-- the first rows, as many as are shown at most
 abbrev pub limited : Option ℕ → List (List (List ℕ)) → List (List (List ℕ))
 limited None rows = rows
 limited (Some limit) rows = take limit rows
 
--- how many columns there are: as given, and else as many as the longest sniffed row has cells
+-- the number of columns: as set, else the number of cells in the longest row that is read ahead
 abbrev pub column_count : StreamSettings → List (List (List ℕ)) → ℕ
 column_count settings ahead_rows = unwrap_or settings.columns (longest ahead_rows)
 
--- the columns of the widest of some rows' cells in a column; a missing cell is empty
+-- the width of the widest cell in a column, without padding; a missing cell is empty
 abbrev pub widest : List (List (List ℕ)) → ℕ → ℕ
 widest rows column = greatest (map (λ row. text_columns (slice_index_or row column [])) rows)
 
--- the columns that a column leaves to texts: as given, and else those of its widest sniffed cell
+-- the content width of a column: as set, else the width of its widest cell that is read ahead
 abbrev pub content_width : StreamSettings → List (List (List ℕ)) → ℕ → ℕ
 content_width settings ahead_rows column = unwrap_or settings.width (widest ahead_rows column)
 
--- the lines of the tallest of a row's first cells, and one at least
+-- the lines of the tallest of a row's first cells, at least 1
 abbrev pub tallest : ℕ → List (List ℕ) → ℕ
 tallest count row = max 1 (greatest (map (λ text. length (lines_of text)) (take count row)))
 
--- the lines that a row leaves to texts: as given, and else those of its tallest cell in a sniffed row whose columns' width isn't
--- given; any other row has one
+-- the lines for text in a row: as set; else those of its tallest cell, if the row is read ahead and
+-- no width is set; else 1
 abbrev pub content_height : StreamSettings → List (List (List ℕ)) → ℕ → List (List ℕ) → ℕ
 content_height settings ahead_rows index row =
     unwrap_or settings.height
     (if is_some settings.width || not (nat_lt index (length ahead_rows)) then 1 else tallest (column_count settings ahead_rows) row)
 
--- with padding on the left and right
+-- the width of a column: its content width and side padding
 abbrev pub stream_width : StreamSettings → CompactConfig → List (List (List ℕ)) → ℕ → ℕ
 stream_width settings config ahead_rows column =
     content_width settings ahead_rows column + (config.padding.left.size + config.padding.right.size)
 
--- with padding at the top and bottom
+-- the height of a row: its lines for text, and top and bottom padding
 abbrev pub stream_height : StreamSettings → CompactConfig → List (List (List ℕ)) → ℕ → List (List ℕ) → ℕ
 stream_height settings config ahead_rows index row =
     content_height settings ahead_rows index row + (config.padding.top.size + config.padding.bottom.size)
@@ -60,7 +61,8 @@ abbrev pub stream_widths : StreamSettings → CompactConfig → List (List (List
 stream_widths settings config ahead_rows =
     map (stream_width settings config ahead_rows) (range_with_len 0 (column_count settings ahead_rows))
 
--- the cells of a row that is shown: its first ones, each cut to its column, and empty ones where cells are missing
+-- the cells of a row that is shown: its first cells, each cut to its column, and empty ones for
+-- those that are missing
 pub record IsCutRow (content : ℕ → ℕ) (count : ℕ) (row cells : List (List ℕ)) : Type 0 where
   pub cut : List (List ℕ)
   pub as_many : length cut ≡ min count (length row)
@@ -68,13 +70,13 @@ pub record IsCutRow (content : ℕ → ℕ) (count : ℕ) (row cells : List (Lis
       → IsCut (content column) (slice_index_or row column []) (slice_index_or cut column [])
   pub whole : cells ≡ lengthened count cut
 
--- the table of some rows, where some were read ahead of them
+-- the sheet of these rows, where `ahead_rows` were read ahead
 pub record IsStreamed (settings : StreamSettings) (config : CompactConfig) (ahead_rows rows : List (List (List ℕ))) (t : Sheet) : Type 0 where
   pub as_many : length t.cells ≡ length rows
   pub cells : (index : ℕ) → index < length rows
       → IsCutRow (content_width settings ahead_rows) (column_count settings ahead_rows) (slice_index_or rows index [])
       (slice_index_or t.cells index [])
-  pub arguments_of : t.config ≡ spanned_of_compact config
+  pub settings_of : t.config ≡ spanned_of_compact config
   pub widths : t.widths ≡ stream_widths settings config ahead_rows
   pub as_high : length t.heights ≡ length rows
   pub heights : (index : ℕ) → index < length rows

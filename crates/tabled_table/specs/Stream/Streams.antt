@@ -14,47 +14,48 @@ use Rattle.tabled_table.specs.Stream.Below.{StopsBelow}
 use Rattle.tabled_table.specs.Stream.Printed.{text_above, text_before}
 use Rattle.tabled_table.specs.Stream.Streamed.{IsStreamed, ahead, column_count, limited, sniffed, stream_height, stream_widths}
 
--- the columns of the whole table
+-- the total width
 abbrev pub stream_total : StreamSettings → CompactConfig → List (List (List ℕ)) → ℕ
 stream_total settings config ahead_rows =
     filled_width (spanned_of_compact config) (column_count settings ahead_rows) (stream_widths settings config ahead_rows)
 
--- as many rows as are shown at most are there
+-- there are as many rows as are shown at most
 abbrev pub reaches : Option ℕ → ℕ → Type 0
 reaches None count = ⊥
 reaches (Some limit) count = limit ≤ count
 
--- the rows that were taken are all, or those that are read ahead are among them
+-- the rows that were read are all, or include those that are read ahead
 abbrev pub AreSniffed : StreamSettings → List (List (List ℕ)) → Bool → Type 0
 AreSniffed settings rows whole = (whole ≡ true) ⊎ (ahead settings ≤ length rows)
 
--- the rows that were taken are all, or further ones would change nothing
+-- the rows that were read are all, or further ones would change nothing
 abbrev pub AreEnough : StreamSettings → List (List (List ℕ)) → Bool → Type 0
 AreEnough settings rows whole =
     (whole ≡ true)
     ⊎ ((ahead settings ≤ length rows)
     × (reaches settings.rows (length rows) ⊎ (column_count settings (sniffed settings rows) ≡ 0)))
 
--- the rows that are shown: none where there is no column
+-- the rows that are shown: none if there is no column
 abbrev pub shown_rows : StreamSettings → List (List (List ℕ)) → List (List (List ℕ))
 shown_rows settings rows = if column_count settings (sniffed settings rows) == 0 then [] else limited settings.rows rows
 
--- each row that was taken is read ahead or shown
+-- each row that was read is read ahead or shown
 abbrev pub ArePermitted : StreamSettings → List (List (List ℕ)) → Type 0
 ArePermitted settings rows = length rows ≤ max (ahead settings) (length (shown_rows settings rows))
 
--- there is a row that is shown, and a column
+-- a row is shown, and there is a column
 pub record IsFilled (settings : StreamSettings) (rows : List (List (List ℕ))) : Type 0 where
   pub shown : 0 < length (limited settings.rows rows)
   pub columns : 0 < column_count settings (sniffed settings rows)
 
--- the table of all rows, of which the heights are in range
+-- the sheet of all rows that are shown; if it is filled, its heights and its total width are in
+-- range
 pub record IsWholeStream (settings : StreamSettings) (config : CompactConfig) (rows : List (List (List ℕ))) (t : Sheet) : Type 0 where
   pub streamed : IsStreamed settings config (sniffed settings rows) (limited settings.rows rows) t
   pub heights : IsFilled settings rows → (index : ℕ) → index < length (limited settings.rows rows) → slice_index t.heights index < 2 ^ 64
   pub width : IsFilled settings rows → stream_total settings config (sniffed settings rows) < 2 ^ 64
 
--- the table of the first of the rows that are shown: rest follows them
+-- the sheet of the first rows that are shown; `rest` are those after them
 pub record IsBegun (settings : StreamSettings) (config : CompactConfig) (rows : List (List (List ℕ))) (whole : Bool) (shown rest : List (List (List ℕ)))
     (t : Sheet) : Type 0 where
   pub read : AreSniffed settings rows whole
@@ -64,13 +65,13 @@ pub record IsBegun (settings : StreamSettings) (config : CompactConfig) (rows : 
   pub columns : 0 < column_count settings (sniffed settings rows)
   pub width : stream_total settings config (sniffed settings rows) < 2 ^ 64
 
--- the first of the rows that follow is higher than a number can say
+-- the first of the following rows is too tall: its height exceeds the greatest `usize`
 abbrev pub IsTooHighFirst : StreamSettings → CompactConfig → List (List (List ℕ)) → ℕ → List (List (List ℕ)) → Type 0
 IsTooHighFirst settings config ahead_rows index [] = ⊥
 IsTooHighFirst settings config ahead_rows index (row ∷ rest) = 2 ^ 64 ≤ stream_height settings config ahead_rows index row
 
--- exactly the lines above a row are out, and it is too high, or an allocation for it failed. No row behind it was taken, but those
--- that are read ahead
+-- exactly the lines above a row are written, and it is too tall, or an allocation for it failed; no
+-- row after it was read, except those that are read ahead
 pub record StopsAtRow (settings : StreamSettings) (config : CompactConfig) (rows : List (List (List ℕ))) (whole : Bool)
     (old : Sent) (error : TableError) (new : Sent) : Type 0 where
   pub shown : List (List (List ℕ))
@@ -82,8 +83,9 @@ pub record StopsAtRow (settings : StreamSettings) (config : CompactConfig) (rows
       ⊎ ((error ≡ Memory) × (0 < length rest))
   pub sends : Sends old new (text_above sheet (column_count settings (sniffed settings rows)) (length shown))
 
--- the sink failed in the top margin, or in the last of some rows or its horizontal line: the lines above that row are out. No row
--- behind it was taken, but those that are read ahead, and the first
+-- the sink failed in the top margin, or in the last of some rows or its horizontal line; the lines
+-- above that row are written; no row after it was read, except those that are read ahead and the
+-- first
 pub record StopsInRows (settings : StreamSettings) (config : CompactConfig) (rows : List (List (List ℕ))) (whole : Bool)
     (old : Sent) (error : TableError) (new : Sent) : Type 0 where
   pub shown : List (List (List ℕ))
@@ -94,7 +96,7 @@ pub record StopsInRows (settings : StreamSettings) (config : CompactConfig) (row
   pub stops : StopsBelow (text_before sheet (column_count settings (sniffed settings rows)) (length shown)) old error new
       (text_above sheet (column_count settings (sniffed settings rows)) (length shown))
 
--- the sink failed below the last row, in the text of the whole table
+-- the sink failed below the last row
 pub record StopsAtEnd (settings : StreamSettings) (config : CompactConfig) (rows : List (List (List ℕ))) (whole : Bool)
     (old : Sent) (error : TableError) (new : Sent) : Type 0 where
   pub enough : AreEnough settings rows whole
@@ -103,14 +105,15 @@ pub record StopsAtEnd (settings : StreamSettings) (config : CompactConfig) (rows
   pub stops : StopsBelow (text_above sheet (column_count settings (sniffed settings rows)) (length (limited settings.rows rows)))
       old error new (table_text sheet)
 
--- an error before the first byte: the whole is too wide, or an allocation failed, which only a row that was taken asks for
+-- an error before the first byte: the total width is out of range, or an allocation failed, which
+-- happens only if a row was read
 pub record StopsEarly (settings : StreamSettings) (config : CompactConfig) (rows : List (List (List ℕ))) (whole : Bool)
     (old : Sent) (error : TableError) (new : Sent) : Type 0 where
   pub same : new ≡ old
   pub cause : ((error ≡ Range) × AreSniffed settings rows whole × IsFilled settings rows
       × (2 ^ 64 ≤ stream_total settings config (sniffed settings rows))) ⊎ ((error ≡ Memory) × (0 < length rows))
 
--- what is printed of the rows that were taken
+-- the table of the rows that were read was written
 pub record StreamSends (settings : StreamSettings) (config : CompactConfig) (rows : List (List (List ℕ))) (whole : Bool) (old new : Sent) : Type 0 where
   pub enough : AreEnough settings rows whole
   pub sheet : Sheet
@@ -124,16 +127,17 @@ StreamStops settings config rows whole old error new =
     ⊎ (StopsAtRow settings config rows whole old error new
     ⊎ (StopsInRows settings config rows whole old error new ⊎ StopsAtEnd settings config rows whole old error new))
 
--- what a call that prints a stream leaves of the rows that were taken, by its answer
+-- what a call that prints a stream leaves for the rows that were read, by its result
 abbrev pub Streams : {T : Type 0} → StreamSettings → CompactConfig → List (List (List ℕ)) → Bool → Sent → Result T TableError → Sent → Type 0
 Streams settings config rows whole old (Ok _) new = StreamSends settings config rows whole old new
 Streams settings config rows whole old (Err error) new = StreamStops settings config rows whole old error new
 
--- the texts of rows that came of a source first, and whether these are all
+-- the cells of the first rows that a source gives, and whether these are all
 abbrev pub Came : {A : Type 0} → (List (List A) → Bool → Type 0) → (A → List ℕ) → List (List (List ℕ)) → Bool → Type 0
 Came {A} begins text rows whole = (cells : List (List A)) × begins cells whole × (rows ≡ map (map text) cells)
 
--- what a call that prints a source of rows leaves: some rows came first, as many as were needed, and of these it is told
+-- what a call that prints a source leaves: some rows were read first, as many as were needed, and
+-- `streams` says what was written of them
 pub record PrintsStream {T : Type 0} (settings : StreamSettings) (config : CompactConfig) (comes : List (List (List ℕ)) → Bool → Type 0)
     (old : Sent) (result : Result T TableError) (new : Sent) : Type 0 where
   pub rows : List (List (List ℕ))
@@ -142,7 +146,7 @@ pub record PrintsStream {T : Type 0} (settings : StreamSettings) (config : Compa
   pub permitted : ArePermitted settings rows
   pub streams : Streams settings config rows whole old result new
 
--- what such a call leaves of the contents of a writer that it prints to
+-- what such a call leaves in the writer that it prints to
 abbrev pub BuildsStream : {T : Type 0} → StreamSettings → CompactConfig → (List (List (List ℕ)) → Bool → Type 0)
     → Option (List ℕ) → Result T TableError → Option (List ℕ) → Type 0
 BuildsStream settings config comes old result new =

@@ -1,4 +1,4 @@
-//! Options of streamed tables.
+//! Applies options to streamed tables.
 ghost use Rattle.std.specs.Prelude.{◌≡◌, ◌⊎◌, IfErr, IfOk, OnOk};
 ghost use Rattle.std.specs.Borrow.{RestsIfErr, sem};
 ghost use Rattle.tabled_base.specs.declared.error.TableError.TheVariants.{Memory, Range};
@@ -12,9 +12,12 @@ use tabled_size::ZeroDimension;
 impl<I> IterTable<I> {
     ghost use Rattle.tabled_table.specs.contracts.iter_table.IterTable.{the_row};
 
-    /// Applies an option to the source and the configuration; what is given of columns, rows and sizes stays. This is `with`
-    /// for callers that need the table after a refusal: then it is as the option left it. Refused for memory, and with `Range`
-    /// where a sum or product of the option passes the greatest `usize`.
+    /// Applies an option to the source and the configuration; the numbers of columns and rows and
+    /// the sizes stay as they were set. Use it instead of `with` if you need the table after an
+    /// error: it is then as the option left it.
+    ///
+    /// Fails with `Memory`, and with `Range` if a sum or product of the option exceeds
+    /// `usize::MAX`.
     pub fn apply<O: TableOption<I, CompactConfig, ZeroDimension>>(
         &mut self,
         option: O,
@@ -32,9 +35,11 @@ impl<I> IterTable<I> {
         }
     }
 
-    /// Applies an option to the source and the configuration, and gives the table back; what is given of columns, rows and
-    /// sizes stays. Refused for memory, and with `Range` where a sum or product of the option passes the greatest `usize`.
-    /// A refusal leaves what `apply` leaves: the table as the option left it.
+    /// Applies an option to the source and the configuration, and returns the table; the numbers of
+    /// columns and rows and the sizes stay as they were set.
+    ///
+    /// Fails with `Memory`, and with `Range` if a sum or product of the option exceeds
+    /// `usize::MAX`. After an error the table is as the option left it.
     pub fn with<O: TableOption<I, CompactConfig, ZeroDimension>>(
         &mut self,
         option: O,

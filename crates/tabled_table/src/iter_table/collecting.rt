@@ -1,4 +1,4 @@
-//! Streamed tables of rows that are collected first.
+//! Makes streamed tables of rows that are collected first.
 ghost use Rattle.std.specs.Prelude.{◌≡◌, IfErr, IfOk, map, true};
 ghost use Rattle.tabled_base.specs.declared.error.TableError.TheVariants.{Memory};
 ghost use Rattle.tabled_base.specs.RowsGiven.{RowsEnd, RowsGiven};
@@ -10,7 +10,7 @@ use std::alloc::Global;
 use tabled_base::{CellText, IntoRecords, TableError};
 use tabled_records::reading::next_cells;
 
-/// All rows that come.
+/// Collects all rows of an iterator.
 fn collect_rows<I: Iterator<Item = W>, W: IntoIterator<Item = C>, C: Drop>(
     alloc: Global,
     rows: &mut I,
@@ -27,7 +27,7 @@ fn collect_rows<I: Iterator<Item = W>, W: IntoIterator<Item = C>, C: Drop>(
     Ok(kept)
 }
 
-/// All rows that a source gives.
+/// Collects all rows of a source.
 fn collect_source<R, W>(alloc: Global, rows: R) -> Result<Vec<Vec<W::Item>>, TableError>
 where
     R: IntoIterator<Item = W>,
@@ -44,7 +44,8 @@ where
 }
 
 impl<T: CellText + Drop> IterTable<Vec<Vec<T>>> {
-    /// A table of the rows that a source gives, all of which are kept. Refused only for memory.
+    /// Returns a table that stores all rows of a source. Fails only if an allocation fails
+    /// (`Memory`).
     pub fn from_iter<I: IntoRecords<Cell = T>>(alloc: Global, rows: I) -> Result<Self, TableError>
         requires { I.ends rows }
         ensures records { IfOk result (λ table. I.gives rows (map (λ row. row.items) table.records.items)) }

@@ -11,11 +11,10 @@ use tabled_line::TableColumns;
 /// are printed.
 #[derive(Drop)]
 pub(crate) struct StreamColumns<'a> {
-    /// The columns.
     pub layout: &'a Layout,
-    /// What is set of the stream.
+    /// The settings of the stream.
     pub settings: &'a StreamSettings,
-    /// The columns of the entire table.
+    /// The total width in columns.
     pub total: usize,
     ghost in_range: { (column : ℕ) → column < layout.now.count
         → width_at layout.now column < 2 ^ 64 },

@@ -1,4 +1,4 @@
-//! The columns of a stream, laid out by its settings and the rows that are read ahead.
+//! Computes the layout of a stream from its settings and the rows that are read ahead.
 ghost use Rattle.std.specs.Prelude.{◌≡◌, ◌+◌, ◌<◌, ◌≤◌, ◌^◌, ◌⊎◌, ℕ, IfErr, IfOk, MatchOption, MatchResult};
 ghost use Rattle.std.specs.List.{slice_index_or};
 ghost use Rattle.tabled_base.specs.Cells.{texts_of};
@@ -17,7 +17,7 @@ use tabled_base::{CellText, TableError};
 use tabled_config::{AlignmentVertical, CellStyle, CompactConfig, SpannedConfig};
 use tabled_line::{ColumnSeparator, UniformPlacement};
 
-/// How many columns there are.
+/// Returns the number of columns: the one that is set, or else that of the longest row.
 pub(crate) fn count_columns<C: CellText>(settings: &StreamSettings, rows: &[Vec<C>]) -> usize
     ensures { result ≡ column_count settings.now (texts_of C.text rows.now) }
 {
@@ -27,7 +27,7 @@ pub(crate) fn count_columns<C: CellText>(settings: &StreamSettings, rows: &[Vec<
     }
 }
 
-/// The columns that the first columns leave to texts, and those that each further one does.
+/// The content widths of the first columns, and that of each further column.
 #[derive(Drop)]
 struct Contents {
     first: Vec<usize>,
@@ -56,7 +56,7 @@ fn contents_of<C: CellText>(
     }
 }
 
-/// How the texts of all cells stand.
+/// Returns the padding and alignment of all cells.
 fn style_of(config: &CompactConfig) -> CellStyle
     ensures { result ≡ compact_style config.now }
 {
@@ -68,7 +68,8 @@ fn style_of(config: &CompactConfig) -> CellStyle
     }
 }
 
-/// So many columns of a stream, with so many columns of side padding. Refused for memory.
+/// Returns the layout of `count` columns with `side` columns of side padding. Fails only if an
+/// allocation fails (`Memory`).
 fn lay_out<C: CellText>(
     alloc: Global,
     settings: &StreamSettings,
@@ -102,18 +103,18 @@ fn lay_out<C: CellText>(
     })
 }
 
-/// What a stream is laid out as.
+/// A layout and its total width.
 #[derive(Drop)]
 pub(crate) struct StreamPlan {
-    /// Its columns.
     pub layout: Layout,
-    /// How many columns the whole takes.
+    /// The total width in columns.
     pub total: usize,
     ghost whole: { total ≡ layout_total layout },
     ghost in_range: { layout_total layout < 2 ^ 64 },
 }
 
-/// The columns of left and right padding. Refused with `Range` where they pass the greatest `usize`.
+/// Returns the columns of left and right padding. Fails with `Range` if the sum exceeds
+/// `usize::MAX`.
 fn side_of(config: &CompactConfig) -> Result<usize, TableError>
     ensures { let side = config.now.padding.left.size + config.now.padding.right.size in
         MatchResult result (λ n. n ≡ side) (λ e. (e ≡ Range) × (2 ^ 64 ≤ side)) }
@@ -125,8 +126,8 @@ fn side_of(config: &CompactConfig) -> Result<usize, TableError>
     }
 }
 
-/// So many columns of a stream, at least one, and the whole that they make. Refused with `Range` where that passes the greatest
-/// `usize`, and for memory.
+/// Returns the layout of `count` columns, at least one, and the total width. Fails with `Memory`,
+/// and with `Range` if the total width exceeds `usize::MAX`.
 pub(crate) fn plan_stream<C: CellText>(
     alloc: Global,
     settings: &StreamSettings,

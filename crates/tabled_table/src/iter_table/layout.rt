@@ -1,4 +1,4 @@
-//! The columns of a stream, and what is printed around its cells.
+//! The layout of a stream: its columns, and the lines and padding around its cells.
 ghost use Rattle.std.specs.Prelude.{◌≡◌, ◌+◌, ◌<◌, ◌≤◌, ◌^◌, false, if◌then◌else◌, IfSome, MatchOption};
 ghost use Rattle.std.proofs.Props.{props};
 ghost use Rattle.tabled_line.specs.Placements.{IsUniform};
@@ -6,30 +6,30 @@ ghost use Rattle.tabled_line.specs.Placements.{IsUniform};
 use tabled_config::{CellStyle, Frame, HorizontalLine};
 use tabled_line::{ColumnSeparator, UniformPlacement};
 
-/// The columns of a stream: what each leaves to texts, what stands around and between them, and how texts stand.
+/// The columns of a stream, the lines around and between them, and the placement of texts.
 #[derive(Drop)]
 pub(crate) struct Layout {
-    /// How many columns there are.
+    /// The number of columns.
     pub count: usize,
-    /// The columns that the first columns leave to texts.
+    /// The content widths of the first columns.
     pub contents: Vec<usize>,
-    /// Those that each further one leaves.
+    /// The content width of each further column.
     pub rest: usize,
-    /// The columns of left and right padding.
+    /// Left and right padding, in columns.
     pub side: usize,
-    /// What stands around and between the cells of any line.
+    /// The margin and the vertical lines.
     pub frame: Frame,
     /// The horizontal line above the first row.
     pub top: Option<HorizontalLine>,
-    /// That above each further row.
+    /// The horizontal line above each further row.
     pub inner: Option<HorizontalLine>,
-    /// That below the last one.
+    /// The horizontal line below the last row.
     pub bottom: Option<HorizontalLine>,
-    /// How the texts of all cells stand.
+    /// Padding and alignment of all cells.
     pub style: CellStyle,
-    /// What stands between the texts of two columns in a row of one line.
+    /// The separator between two texts, for a row of one line.
     pub separator: ColumnSeparator,
-    /// How the texts stand, if they stand between spaces.
+    /// The placement that all texts share, if there is one.
     pub uniform: Option<UniformPlacement>,
     ghost bar: { separator.bar ≡ frame.inner },
     ghost uniform_is: { IfSome uniform (IsUniform style) } by { Prim.hlevel props },
@@ -38,7 +38,7 @@ pub(crate) struct Layout {
 impl Layout {
     ghost use Rattle.tabled_table.specs.Stream.Row.{content_at, TakesNoMore};
 
-    /// The columns that a column leaves to texts.
+    /// Returns the content width of a column.
     pub fn content_width(&self, column: usize) -> usize
         ensures { result ≡ content_at self.now column }
     {
@@ -49,7 +49,8 @@ impl Layout {
         }
     }
 
-    /// Whether an empty cell takes something in a further column: a width, padding, or the vertical line before it.
+    /// Whether an empty cell takes columns in a further column: a content width, padding, or the
+    /// vertical line before it.
     pub fn takes_more(&self) -> bool
         ensures { result ≡ false → TakesNoMore self.now }
     {
@@ -61,14 +62,15 @@ impl Layout {
             || self.frame.inner.there
     }
 
-    /// The horizontal line above a row, which is the first or not.
+    /// Returns the horizontal line above the first or a further row.
     pub fn rule(&self, first: bool) -> Option<HorizontalLine>
         ensures { result ≡ (if first then self.now.top else self.now.inner) }
     {
         if first { self.top } else { self.inner }
     }
 
-    /// The lines of a row that leaves so many to texts, if they are in range.
+    /// Returns the height of a row with this many lines for text, padding included. `None` if it
+    /// exceeds `usize::MAX`.
     pub fn padded_height(&self, lines: usize) -> Option<usize>
         ensures { let height = lines + (self.now.style.padding.top.size + self.now.style.padding.bottom.size) in
             MatchOption result (2 ^ 64 ≤ height) (λ n. (n ≡ height) × (height < 2 ^ 64)) }

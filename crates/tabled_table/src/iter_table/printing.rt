@@ -1,4 +1,4 @@
-//! Streamed tables that are printed.
+//! Prints streamed tables.
 ghost use Rattle.std.specs.Prelude.{◌≡◌, IfOk, OnOk, Some, [], string_bytes, false, true};
 ghost use Rattle.tabled_line.specs.Sent.{Sent};
 ghost use Rattle.tabled_table.specs.Stream.LikeTable.{PrintsLikeTable};
@@ -15,17 +15,21 @@ impl<I: IntoRecords> IterTable<I>
 where
     I::Cell: CellText + Drop,
 {
-    /// Prints the table to a sink, its lines joined by line feeds. Nothing is printed where no row is
+    /// Prints the table to a sink, its lines joined by line feeds. Prints nothing if no row is
     /// shown or there is no column.
     ///
-    /// Rows are taken one by one as they are printed. Before the first byte only those that are read
-    /// ahead are taken, or the first where none is. When the sink fails, every other row that was
-    /// taken has all of its lines in what the sink took, except the last one.
+    /// Each row is read when it is printed. Before the first byte only the rows that are read ahead
+    /// are read, or the first row if there are none. If the sink fails, all lines of the rows that
+    /// were read later are written, except for those of the last one.
     ///
-    /// Fails with `Range` where the columns of the whole table exceed the greatest `usize`, before the
-    /// first byte, and where the lines of a row do. Fails with `Memory` where an allocation failed,
-    /// which only a row that was taken or the sink asks for. At a row's `Range` or `Memory` exactly
-    /// the lines above that row are out, with no line feed behind them. Fails with the sink's errors.
+    /// Errors:
+    /// - `Range`: the total width exceeds `usize::MAX`, before the first byte; or the height of a
+    ///   row does.
+    /// - `Memory`: an allocation failed, for a row that was read or in the sink.
+    /// - The sink's errors.
+    ///
+    /// If a row is too tall or an allocation for it fails, exactly the lines above it are written,
+    /// with no line feed after them.
     pub fn fmt<S: TextSink>(self, alloc: Global, sink: &mut S) -> Result<(), TableError>
         requires { I.ends self.records }
         ensures printed { PrintsStream self.settings self.config (Came (I.begins self.records) I.Cell.text) (S.sent sink.old) result (S.sent sink.new) }
@@ -47,10 +51,10 @@ where
 
     /// Prints the table to a writer, as `fmt` does to a sink. The writer isn't flushed.
     ///
-    /// On `Ok` the writer took exactly the text of the table. Else it took a beginning of that text: nothing
-    /// where a call of `fmt` fails before the first byte, and the lines above the row where one fails at
-    /// that row. `Writer` comes when a write fails or takes no byte; then the text goes on behind what the
-    /// writer took. Nothing is written after that.
+    /// On `Ok` the writer took exactly the text of the table. On an error it took a beginning of
+    /// that text: nothing if `fmt` fails before the first byte, and the lines above a row if `fmt`
+    /// fails at that row. `Writer`: a write failed or took no byte, before all of the text was
+    /// written. Nothing is written after that.
     pub fn build<W: Write>(self, alloc: Global, writer: &mut W) -> Result<(), TableError>
         requires { I.ends self.records }
         ensures { BuildsStream self.settings self.config (Came (I.begins self.records) I.Cell.text)
@@ -59,12 +63,13 @@ where
         let mut sink = WriterSink::new(writer);
         let result = self.fmt(alloc, &mut sink);
         let WriterSink { writer, .. } = sink;
-        // The proof reads here what the writer holds.
+        // Lets the proof refer to the contents of the writer here.
         let _ = &*writer;
         result
     }
 
-    /// The text of the table. Refused as `fmt` is; a text never fails to be written to.
+    /// Returns the text of the table. Fails as `fmt` does; writing to the string fails only with
+    /// `Memory`.
     pub fn to_string(self, alloc: Global) -> Result<String, TableError>
         requires { I.ends self.records }
         ensures { (new : Sent) × PrintsStream self.settings self.config (Came (I.begins self.records) I.Cell.text)

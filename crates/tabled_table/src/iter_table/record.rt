@@ -14,14 +14,13 @@ use tabled_config::{CellStyle, Frame, KnownSides, RowStyles};
 use tabled_line::{CellBlock, CellPlacement, ColumnSeparator, Content, Row, UniformPlacement};
 use tabled_text::cut_str;
 
-/// A row of a stream whose cells are cut; missing ones are empty.
+/// A row of a stream. Its cells are cut to their columns, and missing ones are empty.
 #[derive(Drop)]
 pub(crate) struct CutRow<'a> {
-    /// Its columns.
     pub layout: &'a Layout,
-    /// Its first cells.
+    /// The first cells; those after them are empty.
     pub cells: &'a [Text<CowStr<'a>>],
-    /// Its lines.
+    /// The height in lines, padding included.
     pub height: usize,
     ghost in_range: { (column : ℕ) → column < layout.now.count → width_at layout.now column < 2 ^ 64 },
     ghost high: { height < 2 ^ 64 },
@@ -95,7 +94,8 @@ impl<'a> Row<'a> for CutRow<'a> {
     }
 }
 
-/// The cells of a row as far as its columns go, each cut to its column and measured.
+/// Cuts the cells of a row to their columns and measures them. Cells after the last column are
+/// ignored. Fails only if an allocation fails (`Memory`).
 pub(crate) fn cut_cells<'a, C: CellText>(
     alloc: Global,
     layout: &Layout,

@@ -1,23 +1,24 @@
-//! What is set of a stream.
+//! The settings of a stream.
 ghost use Rattle.std.specs.Prelude.{◌≡◌, max, min, unwrap_or};
 ghost use Rattle.tabled_table.specs.Stream.Streamed.{ahead};
 
-/// How many rows a stream reads ahead and prints, and what is given of its columns and rows.
+/// How many rows a stream reads ahead and prints, and which sizes are set.
 #[derive(Clone, Copy, Debug, PartialEq, Eq, PartialOrd, Ord, Hash)]
 pub struct StreamSettings {
-    /// How many rows are read ahead at most.
+    /// The greatest number of rows that are read ahead.
     pub sniff: usize,
-    /// How many columns there are.
+    /// The number of columns, if it is set.
     pub columns: Option<usize>,
-    /// How many rows are printed at most.
+    /// The greatest number of rows that are printed, if it is set.
     pub rows: Option<usize>,
-    /// How many columns each column leaves to texts.
+    /// The content width of each column, if it is set.
     pub width: Option<usize>,
-    /// How many lines each row leaves to texts.
+    /// The lines for text in each row, if they are set.
     pub height: Option<usize>,
 }
 
-/// How many rows are read ahead: none where the columns and their widths are given.
+/// Returns how many rows are read ahead at most: none if both the number of columns and their width
+/// are set.
 pub(crate) fn ahead(settings: &StreamSettings) -> usize
     ensures { result ≡ ahead settings.now }
 {

@@ -1,4 +1,4 @@
-//! What is measured of the rows that are read ahead.
+//! Measures the rows that are read ahead.
 ghost use Rattle.std.specs.Prelude.{◌≡◌, ◌+◌, ◌<◌, ◌≤◌, ◌≢◌, ◌||◌, ℕ, [], IfErr, IfOk, OnErr, OnOk, if◌then◌else◌, is_some, length, map, max, nat_lt, not, unwrap_or};
 ghost use Rattle.std.specs.List.{slice_index, slice_index_or};
 ghost use Rattle.tabled_base.specs.Cells.{longest, texts_of};
@@ -10,7 +10,7 @@ use crate::iter_table::settings::StreamSettings;
 use std::alloc::Global;
 use tabled_base::{CellText, TableError};
 
-/// How many cells the longest row has.
+/// Returns the number of cells in the longest row.
 pub(crate) fn longest_row<C: CellText>(rows: &[Vec<C>]) -> usize
     ensures { result ≡ longest (texts_of C.text rows.now) }
 {
@@ -21,7 +21,8 @@ pub(crate) fn longest_row<C: CellText>(rows: &[Vec<C>]) -> usize
     columns
 }
 
-/// Has a column leave at least so much to texts. It is among the first ones, or the next.
+/// Raises the content width of a column to at least `columns`. The column is one of those in
+/// `contents`, or the next.
 fn raise(contents: &mut Vec<usize>, column: usize, columns: usize) -> Result<(), TableError>
     requires { column ≤ length contents.old.items }
     ensures at { OnOk result (slice_index contents.new.items column ≡ max (slice_index contents.old.items column) columns) }
@@ -37,7 +38,7 @@ fn raise(contents: &mut Vec<usize>, column: usize, columns: usize) -> Result<(),
     Ok(())
 }
 
-/// Has each column leave as much to texts as its cell in a row takes.
+/// Raises the content width of each column to at least the width of its cell in a row.
 fn widen<C: CellText>(
     contents: &mut Vec<usize>,
     cells: &[C],
@@ -54,7 +55,7 @@ fn widen<C: CellText>(
     Ok(())
 }
 
-/// The columns of the widest cell of each column.
+/// Returns the columns of the widest cell in each column.
 pub(crate) fn widest_cells<C: CellText>(
     alloc: Global,
     rows: &[Vec<C>],
@@ -71,7 +72,7 @@ pub(crate) fn widest_cells<C: CellText>(
     Ok(contents)
 }
 
-/// The lines of the tallest of a row's first cells, and one at least.
+/// Returns the lines of the tallest of a row's first cells, at least 1.
 fn tallest_cell<C: CellText>(cells: &[C], count: usize) -> usize
     ensures { result ≡ tallest count (map C.text cells.now) }
 {
@@ -83,7 +84,7 @@ fn tallest_cell<C: CellText>(cells: &[C], count: usize) -> usize
     lines
 }
 
-/// How many lines a row leaves to texts, which is read ahead or not.
+/// Returns the lines for text in a row, which is read ahead or not.
 pub(crate) fn content_height<C: CellText>(
     settings: &StreamSettings,
     count: usize,

@@ -1,4 +1,4 @@
-//! A stream while it is printed, from its first line to its last.
+//! Prints a stream, from its first line to its last.
 ghost use Rattle.std.specs.Prelude.{◌≡◌, ◌<◌, ◌^◌, ◌++◌, Bool, ℕ, List, [], IfErr, IfOk, MatchResult, OnOk, false, true, length, map, take, unwrap_or};
 ghost use Rattle.std.proofs.Props.{props};
 ghost use Rattle.tabled_base.specs.Cells.{texts_of};
@@ -28,7 +28,7 @@ use tabled_records::reading::{Taken, next_cells};
 #[derive(Drop)]
 pub(crate) struct Stream<'a> {
     alloc: Global,
-    // Over the columns, which come with the settings and the total width.
+    // The columns come with the settings and the total width.
     lines: LinePrinter<StreamColumns<'a>>,
     // Whether no row was printed so far.
     first: bool,
@@ -36,7 +36,7 @@ pub(crate) struct Stream<'a> {
 }
 
 impl<'a> Stream<'a> {
-    /// No line so far.
+    /// Returns a stream of which no line is printed yet.
     pub fn new(alloc: Global, columns: StreamColumns<'a>) -> Stream<'a>
         ensures columns { result.lines.columns ≡ columns.entry }
         ensures begun { result.lines.begun ≡ false }
@@ -49,7 +49,8 @@ impl<'a> Stream<'a> {
         }
     }
 
-    /// A row of cut cells, below its horizontal line. The cursors are those of its first columns.
+    /// Writes a row of cut cells below its horizontal line. The cursors are those of its first
+    /// columns.
     fn write_cut_row<'c, S: TextSink>(
         &mut self,
         sink: &mut S,
@@ -77,8 +78,9 @@ impl<'a> Stream<'a> {
         self.lines.write_row(sink, &row, cursors)
     }
 
-    /// The same with a cursor for each column. Only a row of several lines needs them; for more
-    /// than a few they are allocated, which may fail before the first byte.
+    /// Writes a row of cut cells as `write_cut_row` does, with a cursor for each cell. Only a row
+    /// of several lines needs them. More than `FEW_CURSORS` are allocated, which may fail with
+    /// `Memory` before the first byte.
     fn write_cut_cells<'c, S: TextSink>(
         &mut self,
         sink: &mut S,
@@ -104,8 +106,8 @@ impl<'a> Stream<'a> {
         self.write_cut_row(sink, height, cells, &mut cursors)
     }
 
-    /// A row, cut to its columns, below its horizontal line. Fails with `Memory` before its first
-    /// byte, and with the sink's errors.
+    /// Cuts a row to its columns, and writes it below its horizontal line. Fails with `Memory`
+    /// before its first byte, and with the sink's errors.
     fn write_stream_row<C: CellText, S: TextSink>(
         &mut self,
         sink: &mut S,
@@ -123,8 +125,8 @@ impl<'a> Stream<'a> {
         self.write_cut_cells(sink, height, cut.as_slice())
     }
 
-    /// The next row, which leaves so many lines to texts. Fails, before its first byte, with
-    /// `Range` where its height exceeds the greatest `usize`, and with `Memory`.
+    /// Writes the next row, with `lines` lines for text. Before its first byte it fails with
+    /// `Range` if its height exceeds `usize::MAX`, and with `Memory`.
     fn write_next_record<C: CellText, S: TextSink>(
         &mut self,
         sink: &mut S,
@@ -142,7 +144,7 @@ impl<'a> Stream<'a> {
         }
     }
 
-    /// The top margin.
+    /// Writes the top margin.
     fn write_top<S: TextSink>(&mut self, sink: &mut S) -> Result<(), TableError>
         requires begun { self.old.lines.begun ≡ false }
         requires first { self.old.first ≡ true }
@@ -163,7 +165,7 @@ impl<'a> Stream<'a> {
         self.lines.write_margin(sink, margin.top, total)
     }
 
-    /// The horizontal line below the last row, and the bottom margin.
+    /// Writes the horizontal line below the last row, and the bottom margin.
     fn write_bottom<S: TextSink>(&mut self, sink: &mut S) -> Result<(), TableError>
         ensures printed { (settings : StreamSettings) (config : CompactConfig)
             (ahead_rows shown : List (List (List ℕ))) (start : Sent)
@@ -181,7 +183,7 @@ impl<'a> Stream<'a> {
             .write_margin(sink, layout.frame.margin.bottom, total)
     }
 
-    /// The first rows, of which some were read ahead.
+    /// Writes the first rows, of which the first `ahead` were read ahead.
     fn write_first_rows<C: CellText, S: TextSink>(
         &mut self,
         sink: &mut S,
@@ -214,7 +216,7 @@ impl<'a> Stream<'a> {
         Ok(())
     }
 
-    /// The top margin, and the first rows, of which some were read ahead.
+    /// Writes the top margin and the first rows, of which the first `ahead` were read ahead.
     fn write_first_lines<C: CellText, S: TextSink>(
         &mut self,
         sink: &mut S,
@@ -242,8 +244,8 @@ impl<'a> Stream<'a> {
         self.write_first_rows(sink, ahead, rows)
     }
 
-    /// The rows that come, as many as may be printed. Each is taken once the lines above it are
-    /// out. Returns whether these are all.
+    /// Reads and writes further rows, at most `limit`. Each is read once the lines above it are
+    /// written. Returns whether the source has no more rows.
     fn write_other_rows<
         I: Iterator<Item = W>,
         W: IntoIterator<Item = C>,
@@ -285,7 +287,7 @@ impl<'a> Stream<'a> {
         }
     }
 
-    /// The rows that come, as many as may be printed, and what stands below the last row.
+    /// Reads and writes further rows, at most `limit`, and then writes what is below the last row.
     fn write_other_lines<
         I: Iterator<Item = W>,
         W: IntoIterator<Item = C>,
@@ -311,8 +313,8 @@ impl<'a> Stream<'a> {
         self.write_bottom(sink)
     }
 
-    /// What stands behind the rows that were taken first: those that come, unless these were all,
-    /// and what stands below the last row.
+    /// Writes what follows the rows that were read first: further rows, unless there are none, and
+    /// what is below the last row.
     fn write_after_first<
         I: Iterator<Item = W>,
         W: IntoIterator<Item = C>,
@@ -344,7 +346,8 @@ impl<'a> Stream<'a> {
         self.write_other_lines(sink, rows, left, lines)
     }
 
-    /// The rows that were taken first, as many as are shown, and what stands behind them.
+    /// Writes the entire table: of the rows that were read first those that are shown, and what
+    /// follows them.
     pub fn write_all<
         I: Iterator<Item = W>,
         W: IntoIterator<Item = C>,

@@ -1,11 +1,11 @@
-//! How many rows of a stream are taken, and how many of them are shown.
+//! How many rows of a stream are read, and how many of them are shown.
 ghost use Rattle.std.specs.Prelude.{◌≡◌, ◌<◌, ◌≤◌, ◌-◌, ◌==◌, ◌&&◌, ◌⊎◌, ◌≢◌, ℕ, MatchOption, None, Some, false, min, true, unwrap_or};
 ghost use Rattle.tabled_table.specs.Stream.Progress.{left_of};
 ghost use Rattle.tabled_table.specs.Stream.Streamed.{ahead};
 
 use crate::iter_table::settings::{StreamSettings, ahead};
 
-/// One row fewer that may be printed.
+/// Returns the limit that is left after one more row.
 pub(crate) fn one_fewer(left: Option<usize>) -> Option<usize>
     ensures { MatchOption left (result ≡ None) (λ n. result ≡ Some (n - 1)) }
 {
@@ -23,7 +23,7 @@ pub(crate) fn is_none_left(left: Option<usize>) -> bool
     matches!(left, Some(0))
 }
 
-/// Whether a row may be shown where none is read ahead: there is a column, and rows may be printed.
+/// Whether a row may be shown if none is read ahead: there is a column, and rows may be printed.
 fn shows_unread(settings: &StreamSettings) -> bool
     ensures shown { result ≡ true → (0 < unwrap_or settings.now.columns 0) × (settings.now.rows ≢ Some 0) }
     ensures none { result ≡ false → (unwrap_or settings.now.columns 0 ≡ 0) ⊎ (settings.now.rows ≡ Some 0) }
@@ -31,7 +31,8 @@ fn shows_unread(settings: &StreamSettings) -> bool
     settings.columns.unwrap_or(0) > 0 && !is_none_left(settings.rows)
 }
 
-/// How many rows are taken before the first byte: those that are read ahead, or else the first that may be shown.
+/// Returns how many rows are read before the first byte: those that are read ahead, or else the
+/// first if it may be shown.
 pub(crate) fn first_rows(settings: &StreamSettings) -> usize
     ensures ahead { ahead settings.now ≤ result }
     ensures needed { (result ≡ ahead settings.now) ⊎ ((ahead settings.now ≡ 0) × (result ≡ 1)
@@ -46,7 +47,7 @@ pub(crate) fn first_rows(settings: &StreamSettings) -> usize
     }
 }
 
-/// How many of so many rows are shown.
+/// Returns how many of `count` rows are shown.
 pub(crate) fn up_to(limit: Option<usize>, count: usize) -> usize
     ensures { MatchOption limit (result ≡ count) (λ n. result ≡ min n count) }
 {
@@ -56,7 +57,7 @@ pub(crate) fn up_to(limit: Option<usize>, count: usize) -> usize
     }
 }
 
-/// How many more may be shown after so many.
+/// Returns how many more rows may be shown after `count`; `None` if there is no limit.
 pub(crate) fn fewer(limit: Option<usize>, count: usize) -> Option<usize>
     ensures { result ≡ left_of limit count }
 {

@@ -1,4 +1,4 @@
-//! The columns of a whole stream.
+//! The total width of a stream.
 ghost use Rattle.std.specs.Prelude.{◌≡◌, ◌+◌, ◌*◌, ◌<◌, ◌≤◌, ◌^◌, MatchOption};
 ghost use Rattle.tabled_priority.specs.Sums.{one_if, sum_below};
 ghost use Rattle.tabled_table.specs.Stream.Row.{layout_total, width_at};
@@ -11,7 +11,7 @@ fn one_if(there: bool) -> usize
     if there { 1 } else { 0 }
 }
 
-/// The widths of so many first columns.
+/// Returns the sum of the first `known` widths; `None` if it exceeds `usize::MAX`.
 #[tactic(auto, using(tabled_priority::proofs::Sums::sum_step))]
 fn known_widths(layout: &Layout, known: usize) -> Option<usize>
     ensures { MatchOption result (2 ^ 64 ≤ sum_below (width_at layout.now) known) (λ n. n ≡ sum_below (width_at layout.now) known) }
@@ -24,7 +24,7 @@ fn known_widths(layout: &Layout, known: usize) -> Option<usize>
     Some(sum)
 }
 
-/// What was summed up, and so many times more two numbers.
+/// Returns `sum + times * (first + second)`; `None` if it exceeds `usize::MAX`.
 #[tactic(auto, using(crate::proofs::Stream::Widths::at_least))]
 fn add_times(sum: usize, times: usize, first: usize, second: usize) -> Option<usize>
     ensures { let whole = sum + times * (first + second) in MatchOption result (2 ^ 64 ≤ whole) (λ n. n ≡ whole) }
@@ -36,7 +36,8 @@ fn add_times(sum: usize, times: usize, first: usize, second: usize) -> Option<us
     sum.checked_add(times.checked_mul(each)?)
 }
 
-/// The widths of all columns. Those that leave the same to texts are counted at once.
+/// Returns the sum of all widths; `None` if it exceeds `usize::MAX`. The equal widths at the end
+/// are multiplied.
 fn sum_widths(layout: &Layout) -> Option<usize>
     ensures { let whole = sum_below (width_at layout.now) layout.now.count in MatchOption result (2 ^ 64 ≤ whole) (λ n. n ≡ whole) }
 {
@@ -45,7 +46,8 @@ fn sum_widths(layout: &Layout) -> Option<usize>
     add_times(sum, layout.count - known, layout.rest, layout.side)
 }
 
-/// The widths, the vertical lines and the side margins. `None` where they pass the greatest `usize`.
+/// Returns the total width: all widths, the vertical lines and the side margins. `None` if it
+/// exceeds `usize::MAX`.
 #[tactic(auto, unfolding(crate::specs::Stream::Row::layout_total))]
 pub(crate) fn total_width(layout: &Layout) -> Option<usize>
     ensures { MatchOption result (2 ^ 64 ≤ layout_total layout.now) (λ n. (n ≡ layout_total layout.now) × (layout_total layout.now < 2 ^ 64)) }

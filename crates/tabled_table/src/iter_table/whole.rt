@@ -1,5 +1,5 @@
-//! A whole stream: its first rows are taken, it is laid out by those that were read ahead, and
-//! printed.
+//! Prints an entire stream: reads its first rows, computes its layout from those that were read
+//! ahead, and writes it.
 ghost use Rattle.std.specs.Prelude.{◌≡◌, ◌<◌, ◌≤◌, ◌++◌, Bool, List, false, length, map};
 ghost use Rattle.tabled_base.specs.Cells.{texts_of};
 ghost use Rattle.tabled_base.specs.RowsGiven.{RowsBegin, RowsEnd};
@@ -19,7 +19,7 @@ use tabled_config::CompactConfig;
 use tabled_line::TextSink;
 use tabled_records::reading::{Taken, take_rows};
 
-/// How streams are printed: what is set of them, and the allocator.
+/// The settings of a stream and the allocator.
 #[derive(Drop)]
 pub(crate) struct Printer<'a> {
     pub alloc: Global,
@@ -28,7 +28,7 @@ pub(crate) struct Printer<'a> {
 }
 
 impl<'a> Printer<'a> {
-    /// The stream whose first rows were taken. Nothing is printed, and no row taken, where there is
+    /// Prints the stream whose first rows were read. Prints nothing, and reads no row, if there is
     /// no column or no row is shown.
     fn print_taken<
         I: Iterator<Item = W>,
@@ -67,8 +67,8 @@ impl<'a> Printer<'a> {
         Stream::new(self.alloc, columns).write_all(sink, rows, taken)
     }
 
-    /// The stream that an iterator gives. The iterator is left behind exactly the rows of which
-    /// this tells.
+    /// Prints the stream of an iterator. The iterator is left after exactly the rows that the
+    /// contract names.
     fn print_stream<
         I: Iterator<Item = W>,
         W: IntoIterator<Item = C>,
@@ -88,7 +88,7 @@ impl<'a> Printer<'a> {
         self.print_taken(sink, rows, &taken)
     }
 
-    /// The stream that a source gives.
+    /// Prints the stream of a source.
     pub fn print_source<R, W, S: TextSink>(&self, sink: &mut S, rows: R) -> Result<(), TableError>
     where
         R: IntoIterator<Item = W>,

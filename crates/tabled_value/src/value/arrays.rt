@@ -1,4 +1,4 @@
-//! Arrays of what has a text: a field an item, named by its place.
+//! `Tabled` for arrays of `Display` values: one field for each item, named by its index.
 ghost use Rattle.std.specs.Prelude.{List, decimal, map};
 ghost use Rattle.std.specs.List.{AllZip, range_with_len};
 ghost use Rattle.tabled_value.specs.Fields.{Says};

@@ -1,4 +1,4 @@
-//! Values that hold another one.
+//! `Tabled` for references, boxes and options.
 ghost use Rattle.std.specs.Prelude.{◌≡◌, [], MatchOption, replicate};
 
 use super::Tabled;
@@ -56,7 +56,7 @@ impl<T: Tabled> Tabled for Box<T> {
     }
 }
 
-/// None has empty texts.
+/// The fields of `None` are empty.
 impl<T: Tabled> Tabled for Option<T> {
     ghost LENGTH = { T.LENGTH };
 

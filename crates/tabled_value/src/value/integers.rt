@@ -1,4 +1,4 @@
-//! Integers as values of one field, named by their type.
+//! `Tabled` for integers: one field, named after the type.
 ghost use Rattle.std.specs.Prelude.{◌≡◌, ◌∷◌, [], codes, decimal};
 ghost use Rattle.std.specs.Fmt.{signed_decimal};
 

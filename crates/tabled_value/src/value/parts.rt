@@ -1,4 +1,4 @@
-//! Lists of texts, of which fields and names are made.
+//! Lists of strings, for the fields and the names of values.
 ghost use Rattle.std.specs.Prelude.{◌≡◌, ◌∷◌, [], ◌++◌, ◌+◌, List, IfErr, IfOk, IfSome, map, replicate, vec_len};
 ghost use Rattle.std.specs.Cow.{cow_str_bytes};
 ghost use Rattle.tabled_base.specs.declared.error.TableError.TheVariants.{Memory};
@@ -10,7 +10,7 @@ use std::fmt::Display;
 use std::string::ToString;
 use tabled_base::TableError;
 
-/// A list of one lent text.
+/// Returns a list of one borrowed string.
 pub(crate) fn one_text(alloc: Global, text: &str) -> Result<Vec<CowStr<'_>>, TableError>
     ensures ok { IfOk result (λ v. map cow_str_bytes v.items ≡ text.now ∷ []) }
     ensures length { IfOk result (λ v. vec_len v ≡ 1) }
@@ -21,7 +21,7 @@ pub(crate) fn one_text(alloc: Global, text: &str) -> Result<Vec<CowStr<'_>>, Tab
     Ok(texts)
 }
 
-/// The text that Display writes of a value. A Display that fails counts as a refused growth.
+/// Returns what `Display` writes of a value. A `Display` that fails is reported as `Memory`.
 pub(crate) fn displayed<'a, T: Display>(alloc: Global, value: &T) -> Result<CowStr<'a>, TableError>
     ensures text { IfOk result (λ text. Says (T.output value.now) (cow_str_bytes text)) }
     ensures only { IfErr result (λ e. e ≡ Memory) }
@@ -29,7 +29,6 @@ pub(crate) fn displayed<'a, T: Display>(alloc: Global, value: &T) -> Result<CowS
     Ok(CowStr::Owned(value.to_string(alloc)?))
 }
 
-/// A list of the one text that Display writes of a value.
 pub(crate) fn one_displayed<'a, T: Display>(
     alloc: Global,
     value: &T,
@@ -44,7 +43,6 @@ pub(crate) fn one_displayed<'a, T: Display>(
     Ok(texts)
 }
 
-/// So many empty texts.
 pub(crate) fn empty_texts<'a>(alloc: Global, count: usize) -> Result<Vec<CowStr<'a>>, TableError>
     ensures ok { IfOk result (λ v. map cow_str_bytes v.items ≡ replicate count []) }
     ensures length { IfOk result (λ v. vec_len v ≡ count) }
@@ -57,7 +55,6 @@ pub(crate) fn empty_texts<'a>(alloc: Global, count: usize) -> Result<Vec<CowStr<
     Ok(texts)
 }
 
-/// Two lists, one behind the other.
 pub(crate) fn joined<'a>(
     mut front: Vec<CowStr<'a>>,
     mut behind: Vec<CowStr<'a>>,

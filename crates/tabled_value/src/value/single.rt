@@ -1,4 +1,4 @@
-//! Texts, characters and truth values as values of one field, named by their type.
+//! `Tabled` for strings, characters and booleans: one field, named after the type.
 ghost use Rattle.std.specs.Prelude.{◌≡◌, ◌∷◌, [], IfErr, IfOk, codes, encode_utf8, if◌then◌else◌, map, string_bytes, vec_len};
 ghost use Rattle.std.specs.Cow.{cow_str_bytes};
 ghost use Rattle.tabled_base.specs.declared.error.TableError.TheVariants.{Memory};

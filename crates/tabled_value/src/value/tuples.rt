@@ -1,4 +1,4 @@
-//! Tuples: the fields of each part, one behind the other.
+//! `Tabled` for tuples: the fields of each part, one after another.
 ghost use Rattle.std.specs.Prelude.{◌+◌, ◌++◌, ◌-◌, ◌^◌, min};
 ghost use Rattle.tabled_value.specs.Fields.{Joined};
 

@@ -1,5 +1,5 @@
 use Rattle.std.proofs.Common.{[], refl, arith}
-use Rattle.std.specs.Io.KnownBytes.{IsCacheOf}
+use Rattle.std.specs.Io.KnownBytes.{Keeps}
 use Rattle.tabled_line.proofs.Sending.{Appends-nil, further}
 use Rattle.tabled.specs.BlockSent.{waiting}
 use Rattle.tabled.proofs.BytesSince.{advances_then, failed, kept_so, took, took_none}
@@ -21,7 +21,7 @@ taken-preserved g c = record {
 
 pub returns-in_default-clause-written : goal.returns-in_default-clause-written
 returns-in_default-clause-written g c =
-    let kept : IsCacheOf (g.W.Write.contents c.taken.self.writer.now) (g.W.Write.contents c.write.new.self) =
+    let kept : Keeps (g.W.Write.contents c.taken.self.writer.now) (g.W.Write.contents c.write.new.self) =
     elim c.in_default.branch [
       | in_default-via-in-Ok+else-n-gt0 w ↦ took_none _ _ w.in-Ok.n _ w.if-n-gt0.false
           w.in-Ok.ensures.bytes
@@ -32,7 +32,7 @@ returns-in_default-clause-written g c =
 
 pub returns-in_default-clause-advanced : goal.returns-in_default-clause-advanced
 returns-in_default-clause-advanced g c =
-    let kept : IsCacheOf (g.W.Write.contents c.taken.self.writer.now) (g.W.Write.contents c.write.new.self) =
+    let kept : Keeps (g.W.Write.contents c.taken.self.writer.now) (g.W.Write.contents c.write.new.self) =
     elim c.in_default.branch [
       | in_default-via-in-Ok+else-n-gt0 w ↦ took_none _ _ w.in-Ok.n _ w.if-n-gt0.false
           w.in-Ok.ensures.bytes

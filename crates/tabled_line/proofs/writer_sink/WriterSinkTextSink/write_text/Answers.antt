@@ -1,5 +1,5 @@
 use Rattle.std.proofs.Common.{◌<◌, arith, length, refl, rules}
-use Rattle.std.specs.Io.KnownBytes.{IsCacheOf}
+use Rattle.std.specs.Io.KnownBytes.{Keeps}
 use Rattle.tabled_line.proofs.Sending.{took-more}
 use Rattle.tabled_line.proofs.Writers.{kept-failed, kept-none, named-appends, took-failed}
 use Rattle.tabled_line.proofs.writer_sink.WriterSinkTextSink.write_text.Goals as goal
@@ -15,7 +15,7 @@ taken-preserved g c = record {
 
 pub returns-in_default : goal.returns-in_default
 returns-in_default g c =
-    let kept : IsCacheOf (g.W.Write.contents c.taken.self.writer.now) (g.W.Write.contents c.write.new.self) =
+    let kept : Keeps (g.W.Write.contents c.taken.self.writer.now) (g.W.Write.contents c.write.new.self) =
     elim c.in_default.branch [
       | in_default-via-in-Ok+else-n-gt0 w ↦ kept-none _ _ w.in-Ok.n _ w.if-n-gt0.false w.in-Ok.ensures.bytes
       | in_default-via-in_default w ↦ kept-failed _ _ _ w.in_default.not-Ok c.write.ensures.bytes
