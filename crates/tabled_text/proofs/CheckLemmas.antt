@@ -1,37 +1,8 @@
 -- A text is the wrapping exactly if it is what the walk writes.
-use Rattle.std.proofs.Common.{
-  ◌≡◌,
-  ◌≢◌,
-  ℕ,
-  ◌<◌,
-  Bool,
-  true,
-  false,
-  List,
-  [],
-  ◌∷◌,
-  ◌++◌,
-  ◌↔◌,
-  Option,
-  Some,
-  None,
-  MatchOption,
-  Bor,
-  refl,
-  sym,
-  ap,
-  ◌∙◌,
-  subst,
-  chars,
-  encode_utf8_all,
-  append-nil,
-  option_copied,
-  IsUtf8,
-  ◌⊎◌,
-  ⊎_elim,
-  ◌==◌,
-  arith,
-}
+use Rattle.std.proofs.Common.{◌≡◌, ◌≢◌, ℕ, ◌<◌, Bool, true, false, List, [], ◌∷◌, ◌++◌, ◌↔◌, Option}
+use Rattle.std.proofs.Common.{Some, None, MatchOption, Bor, refl, sym, ap, ◌∙◌, subst, chars}
+use Rattle.std.proofs.Common.{encode_utf8_all, append-nil, option_copied, IsUtf8, ◌⊎◌, ⊎_elim, ◌==◌}
+use Rattle.std.proofs.Common.{arith}
 use Rattle.std.specs.Prelude.{MatchBool}
 use Rattle.std.specs.List.{AllZip, list_all}
 use Rattle.std.proofs.lemmas.Bool.{ne_eqb}

@@ -1,29 +1,6 @@
 -- No text takes more columns than its characters count.
-use Rattle.std.proofs.Common.{
-  ◌≡◌,
-  ℕ,
-  ◌+◌,
-  ◌≤◌,
-  Bool,
-  true,
-  false,
-  cond,
-  not,
-  nat_le,
-  ◌==◌,
-  ◌&&◌,
-  List,
-  [],
-  ◌∷◌,
-  Option,
-  Some,
-  None,
-  refl,
-  ap,
-  arith,
-  subst,
-  max,
-}
+use Rattle.std.proofs.Common.{◌≡◌, ℕ, ◌+◌, ◌≤◌, Bool, true, false, cond, not, nat_le, ◌==◌, ◌&&◌}
+use Rattle.std.proofs.Common.{List, [], ◌∷◌, Option, Some, None, refl, ap, arith, subst, max}
 use Rattle.std.proofs.lemmas.Bool.{and_parts}
 use Rattle.std.proofs.lemmas.Bool.Decides.{nat_tests}
 use Rattle.std.proofs.lemmas.List.Sums.{sum_by-cons}
@@ -33,84 +10,23 @@ use Rattle.ucd_bidi.specs.declared.JoiningType.TheVariants.{Transparent}
 use Rattle.unicode_width.specs.declared.kind.Kind.{Kind}
 use Rattle.unicode_width.specs.declared.kind.Kind.TheVariants as kinds
 use Rattle.unicode_width.specs.declared.state.After.{After}
-use Rattle.unicode_width.specs.declared.state.After.TheVariants.{
-  Nothing,
-  LineFeed,
-  EmojiModifier,
-  RegionalIndicator,
-  RegionalIndicators,
-  Emoji,
-  ZwjEmoji,
-  KeycapZwjEmoji,
-  IndicatorZwj,
-  EvenIndicatorsZwj,
-  OddIndicatorsZwj,
-  TagEnd,
-  TagDigit1,
-  TagDigit2,
-  TagDigit3,
-  TagLetter1,
-  TagLetter2,
-  TagLetter3,
-  TagLetter4,
-  TagLetter5,
-  TagLetter6,
-  KiratE,
-  KiratAi,
-  Alef,
-  Solidus,
-  SolidusAlef,
-  Lamed,
-  ZwjLamed,
-  Ya,
-  ZwjYa,
-  VowelZwjYa,
-  Tifinagh,
-  ZwjTifinagh,
-  JoinerTifinagh,
-  LisuTone,
-  OrkhonI,
-  ZwjOrkhonI,
-  KhmerLetter,
-}
+use Rattle.unicode_width.specs.declared.state.After.TheVariants as states
 use Rattle.unicode_width.specs.declared.state.State.{State}
 use Rattle.unicode_width.specs.declared.state.Change.{Change}
 use Rattle.unicode_width.specs.declared.state.Change.TheVariants.{Less, Same, One, Three}
 use Rattle.unicode_width.specs.Kind.{kind, is_ligature_transparent, is_text_presentation_base}
-use Rattle.unicode_width.specs.Width.{
-  plain,
-  single,
-  of_kind,
-  alone,
-  char_width,
-  before_alef,
-  joins,
-  Reading,
-  added,
-  joined_or,
-  with_joiner,
-  if_kept,
-  is_joined_emoji,
-  is_kept,
-  is_lam,
-  skips_marks,
-  is_line_feed,
-  is_quote,
-  is_plain,
-  past_selectors,
-  in_context,
-  past_emoji,
-  step,
-  read_before,
-  str_width,
-}
+use Rattle.unicode_width.specs.Width.{plain, single, of_kind, alone, char_width, before_alef, joins}
+use Rattle.unicode_width.specs.Width.{Reading, added, joined_or, with_joiner, if_kept}
+use Rattle.unicode_width.specs.Width.{is_joined_emoji, is_kept, is_lam, skips_marks, is_line_feed}
+use Rattle.unicode_width.specs.Width.{is_quote, is_plain, past_selectors, in_context, past_emoji}
+use Rattle.unicode_width.specs.Width.{step, read_before, str_width}
 use Rattle.tabled_text.specs.Measure.{char_columns, char_count, columns_of, count_of}
 
 -- ---- what a state keeps back
 
 -- the columns that a later step may add beyond the count of its character
 abbrev pub slack_after : After → ℕ
-slack_after EvenIndicatorsZwj = 2
+slack_after states.EvenIndicatorsZwj = 2
 slack_after _ = 0
 
 abbrev pub flag : Bool → ℕ
@@ -122,10 +38,10 @@ slack s = slack_after s.after + max (flag s.emoji) (flag s.quote)
 
 -- the columns that there are at least, where a step may take one away
 abbrev pub credit : After → ℕ
-credit KhmerLetter = 1
-credit JoinerTifinagh = 1
-credit IndicatorZwj = 1
-credit OddIndicatorsZwj = 1
+credit states.KhmerLetter = 1
+credit states.JoinerTifinagh = 1
+credit states.IndicatorZwj = 1
+credit states.OddIndicatorsZwj = 1
 credit _ = 0
 
 -- the columns and the slack are at most m
@@ -201,47 +117,47 @@ IsCovered-cond after false x y f g = g
 
 joins-covered : (after : After) (c : ℕ) → IsCovered after (joins false after c)
 unfolding joins before_alef
-joins-covered Nothing c = grind arith
-joins-covered LineFeed c = grind arith
-joins-covered EmojiModifier c = grind arith
-joins-covered RegionalIndicator c = grind arith
-joins-covered RegionalIndicators c = grind arith
-joins-covered Emoji c = grind arith
-joins-covered ZwjEmoji c = grind arith
-joins-covered KeycapZwjEmoji c = grind arith
-joins-covered IndicatorZwj c = grind arith
-joins-covered EvenIndicatorsZwj c = grind arith
-joins-covered OddIndicatorsZwj c = grind arith
-joins-covered TagEnd c = grind arith
-joins-covered TagDigit1 c = grind arith
-joins-covered TagDigit2 c = grind arith
-joins-covered TagDigit3 c = grind arith
-joins-covered TagLetter1 c = grind arith
-joins-covered TagLetter2 c = grind arith
-joins-covered TagLetter3 c = grind arith
-joins-covered TagLetter4 c = grind arith
-joins-covered TagLetter5 c = grind arith
-joins-covered TagLetter6 c = grind arith
-joins-covered KiratE c = grind arith
-joins-covered KiratAi c = grind arith
-joins-covered Alef c =
-    let same : (credit Nothing ≡ 0) × (slack_after Nothing ≤ slack_after Alef + 1) = (refl, omega arith) in
-    let mark : (credit Alef ≡ 0) × (slack_after Alef ≤ slack_after Alef + 1) = (refl, omega arith) in
-    IsCovered-cond Alef (is_lam c) _ _ same (IsCovered-cond Alef (((alone false c).0 == 0) && joining_type_eq (joining_type c) Transparent) _ _ mark tt)
-joins-covered Solidus c = grind arith
-joins-covered SolidusAlef c = grind arith
-joins-covered Lamed c = grind arith
-joins-covered ZwjLamed c = grind arith
-joins-covered Ya c = grind arith
-joins-covered ZwjYa c = grind arith
-joins-covered VowelZwjYa c = grind arith
-joins-covered Tifinagh c = grind arith
-joins-covered ZwjTifinagh c = grind arith
-joins-covered JoinerTifinagh c = grind arith
-joins-covered LisuTone c = grind arith
-joins-covered OrkhonI c = grind arith
-joins-covered ZwjOrkhonI c = grind arith
-joins-covered KhmerLetter c = grind arith
+joins-covered states.Nothing c = grind arith
+joins-covered states.LineFeed c = grind arith
+joins-covered states.EmojiModifier c = grind arith
+joins-covered states.RegionalIndicator c = grind arith
+joins-covered states.RegionalIndicators c = grind arith
+joins-covered states.Emoji c = grind arith
+joins-covered states.ZwjEmoji c = grind arith
+joins-covered states.KeycapZwjEmoji c = grind arith
+joins-covered states.IndicatorZwj c = grind arith
+joins-covered states.EvenIndicatorsZwj c = grind arith
+joins-covered states.OddIndicatorsZwj c = grind arith
+joins-covered states.TagEnd c = grind arith
+joins-covered states.TagDigit1 c = grind arith
+joins-covered states.TagDigit2 c = grind arith
+joins-covered states.TagDigit3 c = grind arith
+joins-covered states.TagLetter1 c = grind arith
+joins-covered states.TagLetter2 c = grind arith
+joins-covered states.TagLetter3 c = grind arith
+joins-covered states.TagLetter4 c = grind arith
+joins-covered states.TagLetter5 c = grind arith
+joins-covered states.TagLetter6 c = grind arith
+joins-covered states.KiratE c = grind arith
+joins-covered states.KiratAi c = grind arith
+joins-covered states.Alef c =
+    let same : (credit states.Nothing ≡ 0) × (slack_after states.Nothing ≤ slack_after states.Alef + 1) = (refl, omega arith) in
+    let mark : (credit states.Alef ≡ 0) × (slack_after states.Alef ≤ slack_after states.Alef + 1) = (refl, omega arith) in
+    IsCovered-cond states.Alef (is_lam c) _ _ same (IsCovered-cond states.Alef (((alone false c).0 == 0) && joining_type_eq (joining_type c) Transparent) _ _ mark tt)
+joins-covered states.Solidus c = grind arith
+joins-covered states.SolidusAlef c = grind arith
+joins-covered states.Lamed c = grind arith
+joins-covered states.ZwjLamed c = grind arith
+joins-covered states.Ya c = grind arith
+joins-covered states.ZwjYa c = grind arith
+joins-covered states.VowelZwjYa c = grind arith
+joins-covered states.Tifinagh c = grind arith
+joins-covered states.ZwjTifinagh c = grind arith
+joins-covered states.JoinerTifinagh c = grind arith
+joins-covered states.LisuTone c = grind arith
+joins-covered states.OrkhonI c = grind arith
+joins-covered states.ZwjOrkhonI c = grind arith
+joins-covered states.KhmerLetter c = grind arith
 
 -- a character of one column at least
 Bounded-joined : (m n total : ℕ) (after : After) (j : Option (Change × After)) (own : ℕ × State) → 1 ≤ n → total + slack_after after ≤ m
@@ -263,44 +179,44 @@ pub record IsSame (a b : After) : Type 0 where
   pub credit : credit a ≡ credit b
 
 pub with_joiner-same : (after : After) → IsSame (with_joiner after) after
-with_joiner-same Nothing = record { slack = refl; credit = refl }
-with_joiner-same LineFeed = record { slack = refl; credit = refl }
-with_joiner-same EmojiModifier = record { slack = refl; credit = refl }
-with_joiner-same RegionalIndicator = record { slack = refl; credit = refl }
-with_joiner-same RegionalIndicators = record { slack = refl; credit = refl }
-with_joiner-same Emoji = record { slack = refl; credit = refl }
-with_joiner-same ZwjEmoji = record { slack = refl; credit = refl }
-with_joiner-same KeycapZwjEmoji = record { slack = refl; credit = refl }
-with_joiner-same IndicatorZwj = record { slack = refl; credit = refl }
-with_joiner-same EvenIndicatorsZwj = record { slack = refl; credit = refl }
-with_joiner-same OddIndicatorsZwj = record { slack = refl; credit = refl }
-with_joiner-same TagEnd = record { slack = refl; credit = refl }
-with_joiner-same TagDigit1 = record { slack = refl; credit = refl }
-with_joiner-same TagDigit2 = record { slack = refl; credit = refl }
-with_joiner-same TagDigit3 = record { slack = refl; credit = refl }
-with_joiner-same TagLetter1 = record { slack = refl; credit = refl }
-with_joiner-same TagLetter2 = record { slack = refl; credit = refl }
-with_joiner-same TagLetter3 = record { slack = refl; credit = refl }
-with_joiner-same TagLetter4 = record { slack = refl; credit = refl }
-with_joiner-same TagLetter5 = record { slack = refl; credit = refl }
-with_joiner-same TagLetter6 = record { slack = refl; credit = refl }
-with_joiner-same KiratE = record { slack = refl; credit = refl }
-with_joiner-same KiratAi = record { slack = refl; credit = refl }
-with_joiner-same Alef = record { slack = refl; credit = refl }
-with_joiner-same Solidus = record { slack = refl; credit = refl }
-with_joiner-same SolidusAlef = record { slack = refl; credit = refl }
-with_joiner-same Lamed = record { slack = refl; credit = refl }
-with_joiner-same ZwjLamed = record { slack = refl; credit = refl }
-with_joiner-same Ya = record { slack = refl; credit = refl }
-with_joiner-same ZwjYa = record { slack = refl; credit = refl }
-with_joiner-same VowelZwjYa = record { slack = refl; credit = refl }
-with_joiner-same Tifinagh = record { slack = refl; credit = refl }
-with_joiner-same ZwjTifinagh = record { slack = refl; credit = refl }
-with_joiner-same JoinerTifinagh = record { slack = refl; credit = refl }
-with_joiner-same LisuTone = record { slack = refl; credit = refl }
-with_joiner-same OrkhonI = record { slack = refl; credit = refl }
-with_joiner-same ZwjOrkhonI = record { slack = refl; credit = refl }
-with_joiner-same KhmerLetter = record { slack = refl; credit = refl }
+with_joiner-same states.Nothing = record { slack = refl; credit = refl }
+with_joiner-same states.LineFeed = record { slack = refl; credit = refl }
+with_joiner-same states.EmojiModifier = record { slack = refl; credit = refl }
+with_joiner-same states.RegionalIndicator = record { slack = refl; credit = refl }
+with_joiner-same states.RegionalIndicators = record { slack = refl; credit = refl }
+with_joiner-same states.Emoji = record { slack = refl; credit = refl }
+with_joiner-same states.ZwjEmoji = record { slack = refl; credit = refl }
+with_joiner-same states.KeycapZwjEmoji = record { slack = refl; credit = refl }
+with_joiner-same states.IndicatorZwj = record { slack = refl; credit = refl }
+with_joiner-same states.EvenIndicatorsZwj = record { slack = refl; credit = refl }
+with_joiner-same states.OddIndicatorsZwj = record { slack = refl; credit = refl }
+with_joiner-same states.TagEnd = record { slack = refl; credit = refl }
+with_joiner-same states.TagDigit1 = record { slack = refl; credit = refl }
+with_joiner-same states.TagDigit2 = record { slack = refl; credit = refl }
+with_joiner-same states.TagDigit3 = record { slack = refl; credit = refl }
+with_joiner-same states.TagLetter1 = record { slack = refl; credit = refl }
+with_joiner-same states.TagLetter2 = record { slack = refl; credit = refl }
+with_joiner-same states.TagLetter3 = record { slack = refl; credit = refl }
+with_joiner-same states.TagLetter4 = record { slack = refl; credit = refl }
+with_joiner-same states.TagLetter5 = record { slack = refl; credit = refl }
+with_joiner-same states.TagLetter6 = record { slack = refl; credit = refl }
+with_joiner-same states.KiratE = record { slack = refl; credit = refl }
+with_joiner-same states.KiratAi = record { slack = refl; credit = refl }
+with_joiner-same states.Alef = record { slack = refl; credit = refl }
+with_joiner-same states.Solidus = record { slack = refl; credit = refl }
+with_joiner-same states.SolidusAlef = record { slack = refl; credit = refl }
+with_joiner-same states.Lamed = record { slack = refl; credit = refl }
+with_joiner-same states.ZwjLamed = record { slack = refl; credit = refl }
+with_joiner-same states.Ya = record { slack = refl; credit = refl }
+with_joiner-same states.ZwjYa = record { slack = refl; credit = refl }
+with_joiner-same states.VowelZwjYa = record { slack = refl; credit = refl }
+with_joiner-same states.Tifinagh = record { slack = refl; credit = refl }
+with_joiner-same states.ZwjTifinagh = record { slack = refl; credit = refl }
+with_joiner-same states.JoinerTifinagh = record { slack = refl; credit = refl }
+with_joiner-same states.LisuTone = record { slack = refl; credit = refl }
+with_joiner-same states.OrkhonI = record { slack = refl; credit = refl }
+with_joiner-same states.ZwjOrkhonI = record { slack = refl; credit = refl }
+with_joiner-same states.KhmerLetter = record { slack = refl; credit = refl }
 
 -- ---- one step
 

@@ -1,37 +1,7 @@
 -- One more character at the end of a beginning.
-use Rattle.std.proofs.Common.{
-  ◌≡◌,
-  ℕ,
-  ◌+◌,
-  ◌-◌,
-  ◌<◌,
-  ◌≤◌,
-  Bool,
-  true,
-  false,
-  cond,
-  List,
-  [],
-  ◌∷◌,
-  ◌++◌,
-  length,
-  take,
-  drop,
-  refl,
-  sym,
-  ap,
-  ◌∙◌,
-  subst,
-  arith,
-  All,
-  replicate,
-  length-append,
-  chars,
-  ⊎_elim,
-  ◌==◌,
-  zero,
-  suc,
-}
+use Rattle.std.proofs.Common.{◌≡◌, ℕ, ◌+◌, ◌-◌, ◌<◌, ◌≤◌, Bool, true, false, cond, List, [], ◌∷◌}
+use Rattle.std.proofs.Common.{◌++◌, length, take, drop, refl, sym, ap, ◌∙◌, subst, arith, All}
+use Rattle.std.proofs.Common.{replicate, length-append, chars, ⊎_elim, ◌==◌, zero, suc}
 use Rattle.std.specs.List.{onto_first}
 use Rattle.std.specs.Str.{IsUtf8, IsCharBoundary}
 use Rattle.std.specs.Prelude.{encode_utf8, encode_utf8_all}
@@ -387,6 +357,3 @@ IsSplit-filled u v p e = record {
   utf8 = v;
   characters = p.dropped ∙ ap (λ k. following k p.rest) p.columns;
 }
-
-pub NeedsFill-from : {n missing : ℕ} {text front after : List ℕ} → IsParted n (chars text) front missing after → 0 < missing → NeedsFill n text
-NeedsFill-from {front = front} p some = record { front = front; rest = p.rest; longest = p.longest; missing = subst (λ k. 0 < k) p.columns some }

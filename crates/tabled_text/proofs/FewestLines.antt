@@ -1,34 +1,7 @@
 -- The lines of a wrapped text are the groups of its breaking, and no breaking has fewer.
-use Rattle.std.proofs.Common.{
-  ◌≡◌,
-  ℕ,
-  ◌+◌,
-  ◌-◌,
-  ◌<◌,
-  ◌≤◌,
-  Bool,
-  true,
-  false,
-  cond,
-  ◌==◌,
-  nat_le,
-  List,
-  [],
-  ◌∷◌,
-  ◌++◌,
-  chars,
-  length,
-  refl,
-  sym,
-  ap,
-  ◌∙◌,
-  subst,
-  arith,
-  sum_by,
-  replicate,
-  ⊎_elim,
-  suc,
-}
+use Rattle.std.proofs.Common.{◌≡◌, ℕ, ◌+◌, ◌-◌, ◌<◌, ◌≤◌, Bool, true, false, cond, ◌==◌, nat_le}
+use Rattle.std.proofs.Common.{List, [], ◌∷◌, ◌++◌, chars, length, refl, sym, ap, ◌∙◌, subst, arith}
+use Rattle.std.proofs.Common.{sum_by, replicate, ⊎_elim, suc}
 use Rattle.std.specs.Prelude.{MatchBool}
 use Rattle.std.specs.List.{list_all, onto_first, flat_map, AllZip}
 use Rattle.std.specs.Str.{IsUtf8}

@@ -1,30 +1,7 @@
 -- The walk that adds unit to unit, as a function, and that it gives the fullest breaking.
-use Rattle.std.proofs.Common.{
-  ◌≡◌,
-  ℕ,
-  ◌+◌,
-  ◌<◌,
-  ◌≤◌,
-  Bool,
-  true,
-  false,
-  cond,
-  List,
-  [],
-  ◌∷◌,
-  ◌++◌,
-  length,
-  refl,
-  sym,
-  ap,
-  ◌∙◌,
-  subst,
-  arith,
-  All,
-  length-append,
-  ⊎_elim,
-  nat_le,
-}
+use Rattle.std.proofs.Common.{◌≡◌, ℕ, ◌+◌, ◌<◌, ◌≤◌, Bool, true, false, cond, List, [], ◌∷◌, ◌++◌}
+use Rattle.std.proofs.Common.{length, refl, sym, ap, ◌∙◌, subst, arith, All, length-append, ⊎_elim}
+use Rattle.std.proofs.Common.{nat_le}
 use Rattle.std.specs.List.{flat_map}
 use Rattle.std.proofs.lemmas.List.{append_assoc, append-nil}
 use Rattle.std.proofs.lemmas.List.Sums.{sum_by-cons, sum_by_push}
@@ -40,10 +17,6 @@ pub append_all-append : (n used : ℕ) (xs ys : List TextUnit) → append_all n 
 append_all-append n used [] ys = refl
 append_all-append n used (x ∷ xs) ys = ap (λ l. append_text n used x ++ l) (append_all-append n (append_used n used x) xs ys) ∙
     sym (append_assoc (append_text n used x) (append_all n (append_used n used x) xs) (append_all n (used_after n (append_used n used x) xs) ys))
-
-pub used_after-append : (n used : ℕ) (xs ys : List TextUnit) → used_after n used (xs ++ ys) ≡ used_after n (used_after n used xs) ys
-used_after-append n used [] ys = refl
-used_after-append n used (x ∷ xs) ys = used_after-append n (append_used n used x) xs ys
 
 -- the groups that the walk makes, where current is the group that it fills
 abbrev groups_from : ℕ → List TextUnit → List TextUnit → List (List TextUnit)

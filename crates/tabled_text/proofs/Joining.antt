@@ -14,46 +14,7 @@ use Rattle.ucd_table.proofs.StepsLemmas.{rises_from}
 use Rattle.unicode_width.specs.declared.kind.Kind.{Kind}
 use Rattle.unicode_width.specs.declared.kind.Kind.TheVariants as kinds
 use Rattle.unicode_width.specs.declared.state.After.{After}
-use Rattle.unicode_width.specs.declared.state.After.TheVariants.{
-  Nothing,
-  LineFeed,
-  EmojiModifier,
-  RegionalIndicator,
-  RegionalIndicators,
-  Emoji,
-  ZwjEmoji,
-  KeycapZwjEmoji,
-  IndicatorZwj,
-  EvenIndicatorsZwj,
-  OddIndicatorsZwj,
-  TagEnd,
-  TagDigit1,
-  TagDigit2,
-  TagDigit3,
-  TagLetter1,
-  TagLetter2,
-  TagLetter3,
-  TagLetter4,
-  TagLetter5,
-  TagLetter6,
-  KiratE,
-  KiratAi,
-  Alef,
-  Solidus,
-  SolidusAlef,
-  Lamed,
-  ZwjLamed,
-  Ya,
-  ZwjYa,
-  VowelZwjYa,
-  Tifinagh,
-  ZwjTifinagh,
-  JoinerTifinagh,
-  LisuTone,
-  OrkhonI,
-  ZwjOrkhonI,
-  KhmerLetter,
-}
+use Rattle.unicode_width.specs.declared.state.After.TheVariants as states
 use Rattle.unicode_width.specs.declared.state.State.{State}
 use Rattle.unicode_width.specs.declared.state.Change.{Change}
 use Rattle.unicode_width.specs.declared.state.Change.TheVariants.{Less, Same, One, Three}
@@ -67,10 +28,10 @@ use Rattle.tabled_text.proofs.CountBound.{slack_after, slack}
 
 -- behind a joiner and an emoji
 abbrev pub is_linked : After → Bool
-is_linked ZwjEmoji = true
-is_linked IndicatorZwj = true
-is_linked EvenIndicatorsZwj = true
-is_linked OddIndicatorsZwj = true
+is_linked states.ZwjEmoji = true
+is_linked states.IndicatorZwj = true
+is_linked states.EvenIndicatorsZwj = true
+is_linked states.OddIndicatorsZwj = true
 is_linked _ = false
 
 -- no text selector, one other selector at most, and behind no joiner of emoji
@@ -79,9 +40,9 @@ is_open s = not (is_linked s.after) && (not s.text && not (s.emoji && s.quote))
 
 -- the characters that take a column by a join, by the state that they lead to
 abbrev pub takes_column : After → ℕ → Bool
-takes_column RegionalIndicators c = is_indicator c
-takes_column JoinerTifinagh c = c == 0x2D7F
-takes_column KiratE c = c == 0x16D68
+takes_column states.RegionalIndicators c = is_indicator c
+takes_column states.JoinerTifinagh c = c == 0x2D7F
+takes_column states.KiratE c = c == 0x16D68
 takes_column _ c = false
 
 -- what a join does to such a state
@@ -98,126 +59,126 @@ IsCalm-cond c false x y f g = g
 
 pub joins-calm : (after : After) (c : ℕ) → is_linked after ≡ false → IsCalm c (joins false after c)
 unfolding joins before_alef
-joins-calm Nothing c h = grind arith
-joins-calm LineFeed c h = grind arith
-joins-calm EmojiModifier c h = grind arith
-joins-calm RegionalIndicator c h = grind arith
-joins-calm RegionalIndicators c h = grind arith
-joins-calm Emoji c h = grind arith
-joins-calm ZwjEmoji c h = absurd cc
-joins-calm KeycapZwjEmoji c h = grind arith
-joins-calm IndicatorZwj c h = absurd cc
-joins-calm EvenIndicatorsZwj c h = absurd cc
-joins-calm OddIndicatorsZwj c h = absurd cc
-joins-calm TagEnd c h = grind arith
-joins-calm TagDigit1 c h = grind arith
-joins-calm TagDigit2 c h = grind arith
-joins-calm TagDigit3 c h = grind arith
-joins-calm TagLetter1 c h = grind arith
-joins-calm TagLetter2 c h = grind arith
-joins-calm TagLetter3 c h = grind arith
-joins-calm TagLetter4 c h = grind arith
-joins-calm TagLetter5 c h = grind arith
-joins-calm TagLetter6 c h = grind arith
-joins-calm KiratE c h = grind arith
-joins-calm KiratAi c h = grind arith
-joins-calm Alef c h =
+joins-calm states.Nothing c h = grind arith
+joins-calm states.LineFeed c h = grind arith
+joins-calm states.EmojiModifier c h = grind arith
+joins-calm states.RegionalIndicator c h = grind arith
+joins-calm states.RegionalIndicators c h = grind arith
+joins-calm states.Emoji c h = grind arith
+joins-calm states.ZwjEmoji c h = absurd cc
+joins-calm states.KeycapZwjEmoji c h = grind arith
+joins-calm states.IndicatorZwj c h = absurd cc
+joins-calm states.EvenIndicatorsZwj c h = absurd cc
+joins-calm states.OddIndicatorsZwj c h = absurd cc
+joins-calm states.TagEnd c h = grind arith
+joins-calm states.TagDigit1 c h = grind arith
+joins-calm states.TagDigit2 c h = grind arith
+joins-calm states.TagDigit3 c h = grind arith
+joins-calm states.TagLetter1 c h = grind arith
+joins-calm states.TagLetter2 c h = grind arith
+joins-calm states.TagLetter3 c h = grind arith
+joins-calm states.TagLetter4 c h = grind arith
+joins-calm states.TagLetter5 c h = grind arith
+joins-calm states.TagLetter6 c h = grind arith
+joins-calm states.KiratE c h = grind arith
+joins-calm states.KiratAi c h = grind arith
+joins-calm states.Alef c h =
     IsCalm-cond c (is_lam c) _ _ refl (IsCalm-cond c (((alone false c).0 == 0) && joining_type_eq (joining_type c) Transparent) _ _ refl tt)
-joins-calm Solidus c h = grind arith
-joins-calm SolidusAlef c h = grind arith
-joins-calm Lamed c h = grind arith
-joins-calm ZwjLamed c h = grind arith
-joins-calm Ya c h = grind arith
-joins-calm ZwjYa c h = grind arith
-joins-calm VowelZwjYa c h = grind arith
-joins-calm Tifinagh c h = grind arith
-joins-calm ZwjTifinagh c h = grind arith
-joins-calm JoinerTifinagh c h = grind arith
-joins-calm LisuTone c h = grind arith
-joins-calm OrkhonI c h = grind arith
-joins-calm ZwjOrkhonI c h = grind arith
-joins-calm KhmerLetter c h = grind arith
+joins-calm states.Solidus c h = grind arith
+joins-calm states.SolidusAlef c h = grind arith
+joins-calm states.Lamed c h = grind arith
+joins-calm states.ZwjLamed c h = grind arith
+joins-calm states.Ya c h = grind arith
+joins-calm states.ZwjYa c h = grind arith
+joins-calm states.VowelZwjYa c h = grind arith
+joins-calm states.Tifinagh c h = grind arith
+joins-calm states.ZwjTifinagh c h = grind arith
+joins-calm states.JoinerTifinagh c h = grind arith
+joins-calm states.LisuTone c h = grind arith
+joins-calm states.OrkhonI c h = grind arith
+joins-calm states.ZwjOrkhonI c h = grind arith
+joins-calm states.KhmerLetter c h = grind arith
 
 -- what is linked alone keeps back a column
 pub calm-slack : (after : After) → is_linked after ≡ false → slack_after after ≡ 0
-calm-slack Nothing h = refl
-calm-slack LineFeed h = refl
-calm-slack EmojiModifier h = refl
-calm-slack RegionalIndicator h = refl
-calm-slack RegionalIndicators h = refl
-calm-slack Emoji h = refl
-calm-slack ZwjEmoji h = cc
-calm-slack KeycapZwjEmoji h = refl
-calm-slack IndicatorZwj h = cc
-calm-slack EvenIndicatorsZwj h = cc
-calm-slack OddIndicatorsZwj h = cc
-calm-slack TagEnd h = refl
-calm-slack TagDigit1 h = refl
-calm-slack TagDigit2 h = refl
-calm-slack TagDigit3 h = refl
-calm-slack TagLetter1 h = refl
-calm-slack TagLetter2 h = refl
-calm-slack TagLetter3 h = refl
-calm-slack TagLetter4 h = refl
-calm-slack TagLetter5 h = refl
-calm-slack TagLetter6 h = refl
-calm-slack KiratE h = refl
-calm-slack KiratAi h = refl
-calm-slack Alef h = refl
-calm-slack Solidus h = refl
-calm-slack SolidusAlef h = refl
-calm-slack Lamed h = refl
-calm-slack ZwjLamed h = refl
-calm-slack Ya h = refl
-calm-slack ZwjYa h = refl
-calm-slack VowelZwjYa h = refl
-calm-slack Tifinagh h = refl
-calm-slack ZwjTifinagh h = refl
-calm-slack JoinerTifinagh h = refl
-calm-slack LisuTone h = refl
-calm-slack OrkhonI h = refl
-calm-slack ZwjOrkhonI h = refl
-calm-slack KhmerLetter h = refl
+calm-slack states.Nothing h = refl
+calm-slack states.LineFeed h = refl
+calm-slack states.EmojiModifier h = refl
+calm-slack states.RegionalIndicator h = refl
+calm-slack states.RegionalIndicators h = refl
+calm-slack states.Emoji h = refl
+calm-slack states.ZwjEmoji h = cc
+calm-slack states.KeycapZwjEmoji h = refl
+calm-slack states.IndicatorZwj h = cc
+calm-slack states.EvenIndicatorsZwj h = cc
+calm-slack states.OddIndicatorsZwj h = cc
+calm-slack states.TagEnd h = refl
+calm-slack states.TagDigit1 h = refl
+calm-slack states.TagDigit2 h = refl
+calm-slack states.TagDigit3 h = refl
+calm-slack states.TagLetter1 h = refl
+calm-slack states.TagLetter2 h = refl
+calm-slack states.TagLetter3 h = refl
+calm-slack states.TagLetter4 h = refl
+calm-slack states.TagLetter5 h = refl
+calm-slack states.TagLetter6 h = refl
+calm-slack states.KiratE h = refl
+calm-slack states.KiratAi h = refl
+calm-slack states.Alef h = refl
+calm-slack states.Solidus h = refl
+calm-slack states.SolidusAlef h = refl
+calm-slack states.Lamed h = refl
+calm-slack states.ZwjLamed h = refl
+calm-slack states.Ya h = refl
+calm-slack states.ZwjYa h = refl
+calm-slack states.VowelZwjYa h = refl
+calm-slack states.Tifinagh h = refl
+calm-slack states.ZwjTifinagh h = refl
+calm-slack states.JoinerTifinagh h = refl
+calm-slack states.LisuTone h = refl
+calm-slack states.OrkhonI h = refl
+calm-slack states.ZwjOrkhonI h = refl
+calm-slack states.KhmerLetter h = refl
 
 pub takes-linked : (after : After) (c : ℕ) → takes_column after c ≡ true → is_linked after ≡ false
-takes-linked Nothing c h = refl
-takes-linked LineFeed c h = refl
-takes-linked EmojiModifier c h = refl
-takes-linked RegionalIndicator c h = refl
-takes-linked RegionalIndicators c h = refl
-takes-linked Emoji c h = refl
-takes-linked ZwjEmoji c h = cc
-takes-linked KeycapZwjEmoji c h = refl
-takes-linked IndicatorZwj c h = cc
-takes-linked EvenIndicatorsZwj c h = cc
-takes-linked OddIndicatorsZwj c h = cc
-takes-linked TagEnd c h = refl
-takes-linked TagDigit1 c h = refl
-takes-linked TagDigit2 c h = refl
-takes-linked TagDigit3 c h = refl
-takes-linked TagLetter1 c h = refl
-takes-linked TagLetter2 c h = refl
-takes-linked TagLetter3 c h = refl
-takes-linked TagLetter4 c h = refl
-takes-linked TagLetter5 c h = refl
-takes-linked TagLetter6 c h = refl
-takes-linked KiratE c h = refl
-takes-linked KiratAi c h = refl
-takes-linked Alef c h = refl
-takes-linked Solidus c h = refl
-takes-linked SolidusAlef c h = refl
-takes-linked Lamed c h = refl
-takes-linked ZwjLamed c h = refl
-takes-linked Ya c h = refl
-takes-linked ZwjYa c h = refl
-takes-linked VowelZwjYa c h = refl
-takes-linked Tifinagh c h = refl
-takes-linked ZwjTifinagh c h = refl
-takes-linked JoinerTifinagh c h = refl
-takes-linked LisuTone c h = refl
-takes-linked OrkhonI c h = refl
-takes-linked ZwjOrkhonI c h = refl
-takes-linked KhmerLetter c h = refl
+takes-linked states.Nothing c h = refl
+takes-linked states.LineFeed c h = refl
+takes-linked states.EmojiModifier c h = refl
+takes-linked states.RegionalIndicator c h = refl
+takes-linked states.RegionalIndicators c h = refl
+takes-linked states.Emoji c h = refl
+takes-linked states.ZwjEmoji c h = cc
+takes-linked states.KeycapZwjEmoji c h = refl
+takes-linked states.IndicatorZwj c h = cc
+takes-linked states.EvenIndicatorsZwj c h = cc
+takes-linked states.OddIndicatorsZwj c h = cc
+takes-linked states.TagEnd c h = refl
+takes-linked states.TagDigit1 c h = refl
+takes-linked states.TagDigit2 c h = refl
+takes-linked states.TagDigit3 c h = refl
+takes-linked states.TagLetter1 c h = refl
+takes-linked states.TagLetter2 c h = refl
+takes-linked states.TagLetter3 c h = refl
+takes-linked states.TagLetter4 c h = refl
+takes-linked states.TagLetter5 c h = refl
+takes-linked states.TagLetter6 c h = refl
+takes-linked states.KiratE c h = refl
+takes-linked states.KiratAi c h = refl
+takes-linked states.Alef c h = refl
+takes-linked states.Solidus c h = refl
+takes-linked states.SolidusAlef c h = refl
+takes-linked states.Lamed c h = refl
+takes-linked states.ZwjLamed c h = refl
+takes-linked states.Ya c h = refl
+takes-linked states.ZwjYa c h = refl
+takes-linked states.VowelZwjYa c h = refl
+takes-linked states.Tifinagh c h = refl
+takes-linked states.ZwjTifinagh c h = refl
+takes-linked states.JoinerTifinagh c h = refl
+takes-linked states.LisuTone c h = refl
+takes-linked states.OrkhonI c h = refl
+takes-linked states.ZwjOrkhonI c h = refl
+takes-linked states.KhmerLetter c h = refl
 
 -- ---- characters by themselves
 
@@ -255,7 +216,7 @@ pub alone-joiner : alone false 0x2D7F ≡ (1, plain)
 unfolding unicode_width
 alone-joiner = refl
 
-pub alone-vowel : alone false 0x16D68 ≡ (1, before KiratAi)
+pub alone-vowel : alone false 0x16D68 ≡ (1, before states.KiratAi)
 unfolding unicode_width
 alone-vowel = refl
 
@@ -354,7 +315,7 @@ indicator-kind c h =
     let all = Stepped-everywhere (λ x. not (in_ranges ((0x1F1E6, 0x1F1FF) ∷ []) x) || is_indicator_kind (kind x)) indicators_stepped indicators_ok c in
     grind (arith, nat_tests)
 
-indicator-of_kind : (c : ℕ) (k : Kind) → is_indicator_kind k ≡ true → of_kind false c k ≡ (1, before RegionalIndicator)
+indicator-of_kind : (c : ℕ) (k : Kind) → is_indicator_kind k ≡ true → of_kind false c k ≡ (1, before states.RegionalIndicator)
 indicator-of_kind c kinds.Zero h = cc
 indicator-of_kind c kinds.Narrow h = cc
 indicator-of_kind c kinds.Wide h = cc
@@ -368,6 +329,6 @@ indicator-of_kind c kinds.EmojiModifier h = cc
 indicator-of_kind c kinds.Emoji h = cc
 indicator-of_kind c kinds.Single h = cc
 
-pub alone-indicator : (c : ℕ) → is_indicator c ≡ true → alone false c ≡ (1, before RegionalIndicator)
+pub alone-indicator : (c : ℕ) → is_indicator c ≡ true → alone false c ≡ (1, before states.RegionalIndicator)
 unfolding alone
 alone-indicator c h = indicator-of_kind c (kind c) (indicator-kind c h)

@@ -21,6 +21,7 @@ pub mod JoinLemmas
 pub mod Joining
 pub mod LetterLemmas
 pub mod LineLaws
+pub mod Listed
 pub mod LongestLemmas
 pub mod Missed
 pub mod OwnBreaking

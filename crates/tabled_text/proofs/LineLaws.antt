@@ -1,33 +1,7 @@
 -- Lines of any characters, by bytes: what is joined, and what stands in frames.
-use Rattle.std.proofs.Common.{
-  ◌≡◌,
-  ℕ,
-  ◌+◌,
-  ◌<◌,
-  Bool,
-  true,
-  false,
-  not,
-  ◌&&◌,
-  ◌||◌,
-  ◌==◌,
-  List,
-  [],
-  ◌∷◌,
-  ◌++◌,
-  chars,
-  length,
-  map,
-  encode_utf8,
-  refl,
-  sym,
-  ap,
-  ◌∙◌,
-  arith,
-  subst,
-  All,
-  sum_by,
-}
+use Rattle.std.proofs.Common.{◌≡◌, ℕ, ◌+◌, ◌<◌, Bool, true, false, not, ◌&&◌, ◌||◌, ◌==◌, List, []}
+use Rattle.std.proofs.Common.{◌∷◌, ◌++◌, chars, length, map, encode_utf8, refl, sym, ap, ◌∙◌, arith}
+use Rattle.std.proofs.Common.{subst, All, sum_by}
 use Rattle.std.specs.List.{list_all, slice_index_or, flat_map}
 use Rattle.std.specs.Str.{IsUtf8}
 use Rattle.std.proofs.lemmas.Bool.{and_parts, and_from, or_left, or_right}

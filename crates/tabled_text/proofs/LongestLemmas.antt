@@ -1,34 +1,7 @@
 -- A cut plain line is its longest beginning that finds room.
-use Rattle.std.proofs.Common.{
-  ◌++◌,
-  length-append,
-  encode_utf8_all,
-  replicate,
-  append-nil,
-  IsUtf8,
-  ◌≡◌,
-  ℕ,
-  ◌<◌,
-  ◌≤◌,
-  true,
-  List,
-  [],
-  ◌∷◌,
-  length,
-  take,
-  refl,
-  sym,
-  ap,
-  ◌∙◌,
-  subst,
-  arith,
-  All,
-  zero,
-  suc,
-  min,
-  length-take,
-  chars,
-}
+use Rattle.std.proofs.Common.{◌++◌, length-append, encode_utf8_all, replicate, append-nil, IsUtf8}
+use Rattle.std.proofs.Common.{◌≡◌, ℕ, ◌<◌, ◌≤◌, true, List, [], ◌∷◌, length, take, refl, sym, ap}
+use Rattle.std.proofs.Common.{◌∙◌, subst, arith, All, zero, suc, min, length-take, chars}
 use Rattle.std.specs.List.{list_all}
 use Rattle.std.proofs.lemmas.List.{take-take, take-append-le}
 use Rattle.std.proofs.lemmas.List.Elements.{All-head, All-cons, All-nil}

@@ -1,6 +1,6 @@
 -- Characters that the tables of special sequences do not have.
-use Rattle.std.proofs.Common.{◌≡◌, ℕ, true, false, nat_le, ◌||◌, refl, sym, ap, arith, subst, ⊎_elim}
-use Rattle.std.proofs.lemmas.Bool.{and_parts, or_cases, leb-true, eqb-true}
+use Rattle.std.proofs.Common.{◌≡◌, ℕ, true, false, nat_le, ◌||◌, refl, ap, arith, ⊎_elim}
+use Rattle.std.proofs.lemmas.Bool.{and_parts, or_cases, leb-true}
 use Rattle.std.proofs.lemmas.Bool.Decides.{nat_tests}
 use Rattle.std.specs.Int.{is_in_range}
 use Rattle.ucd_bidi.specs.JoiningGroup.{joining_group, joining_group_eq}
@@ -11,7 +11,8 @@ use Rattle.ucd_derived.specs.DefaultIgnorableCodePointRanges.{default_ignorable_
 use Rattle.ucd_emoji.specs.Binary.{is_emoji_variation_base, is_emoji_modifier_base}
 use Rattle.ucd_emoji.specs.Ranges.{emoji_variation_base_ranges, emoji_modifier_base_ranges}
 use Rattle.unicode_width.specs.Width.{is_lam}
-use Rattle.tabled_text.specs.Plain.{is_listed, is_drawn, is_listed_or_drawn}
+use Rattle.tabled_text.specs.Plain.{is_listed_or_drawn}
+use Rattle.tabled_text.proofs.Listed.{EachRange, listed_or_drawn}
 use Rattle.tabled_text.proofs.Tables.{in_ranges-missed, misses, misses_rows, value_in-missed}
 use Rattle.tabled_text.specs.Separators.{is_keycap_base}
 
@@ -59,45 +60,20 @@ missed-letters : IsMissed 0x3A 0x7E
 unfolding emoji_variation_base_ranges emoji_modifier_base_ranges default_ignorable_code_point_ranges joining_group_rows
 missed-letters = record { variations = refl; bases = refl; ignorables = refl; joining = refl }
 
-missed-latin : IsMissed 0xC0 0xFF
+missed : EachRange IsMissed
 unfolding emoji_variation_base_ranges emoji_modifier_base_ranges default_ignorable_code_point_ranges joining_group_rows
-missed-latin = record { variations = refl; bases = refl; ignorables = refl; joining = refl }
-
-missed-cyrillic : IsMissed 0x410 0x44F
-unfolding emoji_variation_base_ranges emoji_modifier_base_ranges default_ignorable_code_point_ranges joining_group_rows
-missed-cyrillic = record { variations = refl; bases = refl; ignorables = refl; joining = refl }
-
-missed-dashes : IsMissed 0x2010 0x2017
-unfolding emoji_variation_base_ranges emoji_modifier_base_ranges default_ignorable_code_point_ranges joining_group_rows
-missed-dashes = record { variations = refl; bases = refl; ignorables = refl; joining = refl }
-
-missed-low_quotes : IsMissed 0x201A 0x201B
-unfolding emoji_variation_base_ranges emoji_modifier_base_ranges default_ignorable_code_point_ranges joining_group_rows
-missed-low_quotes = record { variations = refl; bases = refl; ignorables = refl; joining = refl }
-
-missed-dots : IsMissed 0x201E 0x2027
-unfolding emoji_variation_base_ranges emoji_modifier_base_ranges default_ignorable_code_point_ranges joining_group_rows
-missed-dots = record { variations = refl; bases = refl; ignorables = refl; joining = refl }
-
-missed-boxes : IsMissed 0x2500 0x257F
-unfolding emoji_variation_base_ranges emoji_modifier_base_ranges default_ignorable_code_point_ranges joining_group_rows
-missed-boxes = record { variations = refl; bases = refl; ignorables = refl; joining = refl }
-
-missed-blocks : IsMissed 0x2580 0x259F
-unfolding emoji_variation_base_ranges emoji_modifier_base_ranges default_ignorable_code_point_ranges joining_group_rows
-missed-blocks = record { variations = refl; bases = refl; ignorables = refl; joining = refl }
-
-missed-braille : IsMissed 0x2800 0x28FF
-unfolding emoji_variation_base_ranges emoji_modifier_base_ranges default_ignorable_code_point_ranges joining_group_rows
-missed-braille = record { variations = refl; bases = refl; ignorables = refl; joining = refl }
-
-missed-ideographs : IsMissed 0x4E00 0x9FFF
-unfolding emoji_variation_base_ranges emoji_modifier_base_ranges default_ignorable_code_point_ranges joining_group_rows
-missed-ideographs = record { variations = refl; bases = refl; ignorables = refl; joining = refl }
-
-missed-replacement : IsMissed 0xFFFD 0xFFFD
-unfolding emoji_variation_base_ranges emoji_modifier_base_ranges default_ignorable_code_point_ranges joining_group_rows
-missed-replacement = record { variations = refl; bases = refl; ignorables = refl; joining = refl }
+missed = record {
+  latin = record { variations = refl; bases = refl; ignorables = refl; joining = refl };
+  cyrillic = record { variations = refl; bases = refl; ignorables = refl; joining = refl };
+  dashes = record { variations = refl; bases = refl; ignorables = refl; joining = refl };
+  low_quotes = record { variations = refl; bases = refl; ignorables = refl; joining = refl };
+  dots = record { variations = refl; bases = refl; ignorables = refl; joining = refl };
+  boxes = record { variations = refl; bases = refl; ignorables = refl; joining = refl };
+  blocks = record { variations = refl; bases = refl; ignorables = refl; joining = refl };
+  braille = record { variations = refl; bases = refl; ignorables = refl; joining = refl };
+  ideographs = record { variations = refl; bases = refl; ignorables = refl; joining = refl };
+  replacement = record { variations = refl; bases = refl; ignorables = refl; joining = refl };
+}
 
 printable_parts : (c : ℕ) → is_in_range 0x20 0x7E c ≡ true → is_keycap_base c ≡ false
     → (is_in_range 0x20 0x22 c || (is_in_range 0x24 0x29 c || (is_in_range 0x2B 0x2F c || is_in_range 0x3A 0x7E c))) ≡ true
@@ -110,24 +86,6 @@ unmarked-printable c h k =
     (λ h₂. ⊎_elim (unmarked-missed 0x2B 0x2F missed-plus c) (unmarked-missed 0x3A 0x7E missed-letters c)
     (or_cases _ _ h₂)) (or_cases _ _ h₁)) (or_cases _ _ (printable_parts c h k))
 
-unmarked-list : (c : ℕ) → is_listed c ≡ true → is_keycap_base c ≡ false → IsUnmarked c
-unmarked-list c h k =
-    ⊎_elim (λ a. unmarked-printable c a k)
-    (λ h₁. ⊎_elim (unmarked-missed 0xC0 0xFF missed-latin c)
-    (λ h₂. ⊎_elim (unmarked-missed 0x410 0x44F missed-cyrillic c)
-    (λ h₃. ⊎_elim (unmarked-missed 0x2500 0x257F missed-boxes c)
-    (λ h₄. ⊎_elim (unmarked-missed 0x4E00 0x9FFF missed-ideographs c)
-    (λ a. unmarked-missed 0xFFFD 0xFFFD missed-replacement c (subst (λ x. is_in_range 0xFFFD 0xFFFD x ≡ true) (sym (eqb-true c 0xFFFD a)) refl))
-    (or_cases _ _ h₄)) (or_cases _ _ h₃)) (or_cases _ _ h₂))
-    (or_cases _ _ h₁)) (or_cases _ _ h)
-
-unmarked-drawn : (c : ℕ) → is_drawn c ≡ true → IsUnmarked c
-unmarked-drawn c h =
-    ⊎_elim (unmarked-missed 0x2010 0x2017 missed-dashes c)
-    (λ h₁. ⊎_elim (unmarked-missed 0x201A 0x201B missed-low_quotes c)
-    (λ h₂. ⊎_elim (unmarked-missed 0x201E 0x2027 missed-dots c)
-    (λ h₃. ⊎_elim (unmarked-missed 0x2580 0x259F missed-blocks c) (unmarked-missed 0x2800 0x28FF missed-braille c)
-    (or_cases _ _ h₃)) (or_cases _ _ h₂)) (or_cases _ _ h₁)) (or_cases _ _ h)
-
 pub unmarked-listed : (c : ℕ) → is_listed_or_drawn c ≡ true → is_keycap_base c ≡ false → IsUnmarked c
-unmarked-listed c h k = ⊎_elim (λ a. unmarked-list c a k) (unmarked-drawn c) (or_cases _ _ h)
+unmarked-listed = listed_or_drawn (λ c. is_keycap_base c ≡ false → IsUnmarked c) IsMissed
+    (λ low high m _ c h _. unmarked-missed low high m c h) missed unmarked-printable

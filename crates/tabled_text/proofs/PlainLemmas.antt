@@ -12,22 +12,13 @@ use Rattle.ucd_props.specs.Binary.{is_regional_indicator}
 use Rattle.ucd_props.specs.Ranges.{regional_indicator_ranges}
 use Rattle.ucd_bidi.specs.JoiningGroup.{joining_group}
 use Rattle.ucd_bidi.specs.JoiningGroupRows.{joining_group_rows}
-use Rattle.unicode_width.specs.Kind.{
-  kind,
-  named_rows,
-  named_kind,
-  unnamed_kind,
-  letter_kind,
-  width_kind,
-  by_width,
-  is_zero_width,
-  is_wide,
-  is_ambiguous,
-}
+use Rattle.unicode_width.specs.Kind.{kind, named_rows, named_kind, unnamed_kind, letter_kind}
+use Rattle.unicode_width.specs.Kind.{width_kind, by_width, is_zero_width, is_wide, is_ambiguous}
 use Rattle.unicode_width.specs.Width.{str_width}
 use Rattle.unicode_width.proofs.Rules.{is_simple, is_simple_kind, str_width-simple}
 use Rattle.tabled_text.specs.Plain.{is_listed, is_drawn, is_listed_or_drawn, has_plain_width, is_plain_character, is_additive}
 use Rattle.tabled_text.specs.Measure.{char_columns, columns_of, char_count, count_of}
+use Rattle.tabled_text.proofs.Listed.{EachRange, listed_or_drawn}
 use Rattle.tabled_text.proofs.Tables.{in_ranges-missed, misses, misses_rows, value_in-missed}
 
 is_simple_kind-by_width : (a b c : Bool) → is_simple_kind (by_width a b c) ≡ true
@@ -54,45 +45,20 @@ is_simple_kind-missed low high m c l u =
     let e₄ = value_in-missed NoJoiningGroup low high joining_group_rows m.joining c l u in
     rw (e₀, e₁, e₂, e₃, e₄) (is_simple_kind-by_width (is_zero_width c) (is_wide c) (is_ambiguous c))
 
-missed-latin : IsMissed 0xC0 0xFF
+missed : EachRange IsMissed
 unfolding regional_indicator_ranges emoji_modifier_ranges emoji_presentation_ranges joining_group_rows named_rows
-missed-latin = record { indicators = refl; modifiers = refl; emoji = refl; joining = refl; named = refl }
-
-missed-cyrillic : IsMissed 0x410 0x44F
-unfolding regional_indicator_ranges emoji_modifier_ranges emoji_presentation_ranges joining_group_rows named_rows
-missed-cyrillic = record { indicators = refl; modifiers = refl; emoji = refl; joining = refl; named = refl }
-
-missed-dashes : IsMissed 0x2010 0x2017
-unfolding regional_indicator_ranges emoji_modifier_ranges emoji_presentation_ranges joining_group_rows named_rows
-missed-dashes = record { indicators = refl; modifiers = refl; emoji = refl; joining = refl; named = refl }
-
-missed-low_quotes : IsMissed 0x201A 0x201B
-unfolding regional_indicator_ranges emoji_modifier_ranges emoji_presentation_ranges joining_group_rows named_rows
-missed-low_quotes = record { indicators = refl; modifiers = refl; emoji = refl; joining = refl; named = refl }
-
-missed-dots : IsMissed 0x201E 0x2027
-unfolding regional_indicator_ranges emoji_modifier_ranges emoji_presentation_ranges joining_group_rows named_rows
-missed-dots = record { indicators = refl; modifiers = refl; emoji = refl; joining = refl; named = refl }
-
-missed-boxes : IsMissed 0x2500 0x257F
-unfolding regional_indicator_ranges emoji_modifier_ranges emoji_presentation_ranges joining_group_rows named_rows
-missed-boxes = record { indicators = refl; modifiers = refl; emoji = refl; joining = refl; named = refl }
-
-missed-blocks : IsMissed 0x2580 0x259F
-unfolding regional_indicator_ranges emoji_modifier_ranges emoji_presentation_ranges joining_group_rows named_rows
-missed-blocks = record { indicators = refl; modifiers = refl; emoji = refl; joining = refl; named = refl }
-
-missed-braille : IsMissed 0x2800 0x28FF
-unfolding regional_indicator_ranges emoji_modifier_ranges emoji_presentation_ranges joining_group_rows named_rows
-missed-braille = record { indicators = refl; modifiers = refl; emoji = refl; joining = refl; named = refl }
-
-missed-ideographs : IsMissed 0x4E00 0x9FFF
-unfolding regional_indicator_ranges emoji_modifier_ranges emoji_presentation_ranges joining_group_rows named_rows
-missed-ideographs = record { indicators = refl; modifiers = refl; emoji = refl; joining = refl; named = refl }
-
-missed-replacement : IsMissed 0xFFFD 0xFFFD
-unfolding regional_indicator_ranges emoji_modifier_ranges emoji_presentation_ranges joining_group_rows named_rows
-missed-replacement = record { indicators = refl; modifiers = refl; emoji = refl; joining = refl; named = refl }
+missed = record {
+  latin = record { indicators = refl; modifiers = refl; emoji = refl; joining = refl; named = refl };
+  cyrillic = record { indicators = refl; modifiers = refl; emoji = refl; joining = refl; named = refl };
+  dashes = record { indicators = refl; modifiers = refl; emoji = refl; joining = refl; named = refl };
+  low_quotes = record { indicators = refl; modifiers = refl; emoji = refl; joining = refl; named = refl };
+  dots = record { indicators = refl; modifiers = refl; emoji = refl; joining = refl; named = refl };
+  boxes = record { indicators = refl; modifiers = refl; emoji = refl; joining = refl; named = refl };
+  blocks = record { indicators = refl; modifiers = refl; emoji = refl; joining = refl; named = refl };
+  braille = record { indicators = refl; modifiers = refl; emoji = refl; joining = refl; named = refl };
+  ideographs = record { indicators = refl; modifiers = refl; emoji = refl; joining = refl; named = refl };
+  replacement = record { indicators = refl; modifiers = refl; emoji = refl; joining = refl; named = refl };
+}
 
 is_simple-high : (low high : ℕ) → IsMissed low high → 0xA0 < low → (c : ℕ) → is_in_range low high c ≡ true → is_simple c ≡ true
 is_simple-high low high m h c e =
@@ -102,29 +68,9 @@ is_simple-high low high m h c e =
     or_right (is_in_range 0x20 0x7E c) (nat_lt 0xA0 c && is_simple_kind (kind c))
     (and_from (nat_lt 0xA0 c) (is_simple_kind (kind c)) (lt-ltb 0xA0 c (omega arith)) k)
 
-pub is_simple-list : (c : ℕ) → is_listed c ≡ true → is_simple c ≡ true
-is_simple-list c h =
-    ⊎_elim (λ a. or_left (is_in_range 0x20 0x7E c) (nat_lt 0xA0 c && is_simple_kind (kind c)) a)
-    (λ h₁. ⊎_elim (is_simple-high 0xC0 0xFF missed-latin (lit< tt) c)
-    (λ h₂. ⊎_elim (is_simple-high 0x410 0x44F missed-cyrillic (lit< tt) c)
-    (λ h₃. ⊎_elim (is_simple-high 0x2500 0x257F missed-boxes (lit< tt) c)
-    (λ h₄. ⊎_elim (is_simple-high 0x4E00 0x9FFF missed-ideographs (lit< tt) c)
-    (λ a. is_simple-high 0xFFFD 0xFFFD missed-replacement (lit< tt) c
-    (subst (λ x. is_in_range 0xFFFD 0xFFFD x ≡ true) (sym (eqb-true c 0xFFFD a)) refl))
-    (or_cases _ _ h₄)) (or_cases _ _ h₃)) (or_cases _ _ h₂))
-    (or_cases _ _ h₁)) (or_cases _ _ h)
-
-is_simple-drawn : (c : ℕ) → is_drawn c ≡ true → is_simple c ≡ true
-is_simple-drawn c h =
-    ⊎_elim (is_simple-high 0x2010 0x2017 missed-dashes (lit< tt) c)
-    (λ h₁. ⊎_elim (is_simple-high 0x201A 0x201B missed-low_quotes (lit< tt) c)
-    (λ h₂. ⊎_elim (is_simple-high 0x201E 0x2027 missed-dots (lit< tt) c)
-    (λ h₃. ⊎_elim (is_simple-high 0x2580 0x259F missed-blocks (lit< tt) c)
-    (is_simple-high 0x2800 0x28FF missed-braille (lit< tt) c)
-    (or_cases _ _ h₃)) (or_cases _ _ h₂)) (or_cases _ _ h₁)) (or_cases _ _ h)
-
 pub is_simple-listed : (c : ℕ) → is_listed_or_drawn c ≡ true → is_simple c ≡ true
-is_simple-listed c h = ⊎_elim (is_simple-list c) (is_simple-drawn c) (or_cases _ _ h)
+is_simple-listed = listed_or_drawn (λ c. is_simple c ≡ true) IsMissed is_simple-high missed
+    (λ c h. or_left (is_in_range 0x20 0x7E c) (nat_lt 0xA0 c && is_simple_kind (kind c)) h)
 
 width-simple : (a b w : Bool) → a ≡ true → b ≡ true → w ≡ (a && (w && b))
 width-simple true true true h s = refl
@@ -134,7 +80,7 @@ width-simple false b w h s = cc
 
 -- that a listed character ends no sequence needs no test
 pub is_plain-listed : (c : ℕ) → is_listed c ≡ true → has_plain_width c ≡ is_plain_character c
-is_plain-listed c h = width-simple (is_listed c) (is_simple c) (has_plain_width c) h (is_simple-list c h)
+is_plain-listed c h = width-simple (is_listed c) (is_simple c) (has_plain_width c) h (is_simple-listed c (or_left (is_listed c) (is_drawn c) h))
 
 -- nor does that of one that is drawn
 pub is_additive-listed : (c : ℕ) → is_listed_or_drawn c ≡ true → has_plain_width c ≡ is_additive c

@@ -1,29 +1,6 @@
 -- A separator adds its own columns to every reading, and leaves the plain state.
-use Rattle.std.proofs.Common.{
-  ◌≡◌,
-  ℕ,
-  ◌+◌,
-  Bool,
-  true,
-  false,
-  cond,
-  not,
-  nat_le,
-  nat_lt,
-  ◌==◌,
-  ◌&&◌,
-  ◌||◌,
-  Option,
-  Some,
-  None,
-  refl,
-  sym,
-  ap,
-  ◌∙◌,
-  arith,
-  subst,
-  ⊎_elim,
-}
+use Rattle.std.proofs.Common.{◌≡◌, ℕ, ◌+◌, Bool, true, false, cond, not, nat_le, nat_lt, ◌==◌, ◌&&◌}
+use Rattle.std.proofs.Common.{◌||◌, Option, Some, None, refl, sym, ap, ◌∙◌, arith, subst, ⊎_elim}
 use Rattle.std.proofs.lemmas.Bool.{and_parts, eqb-true, cases_Bool}
 use Rattle.std.proofs.lemmas.Bool.Decides.{nat_tests}
 use Rattle.std.proofs.Math.Bool.{and-false}
@@ -33,78 +10,15 @@ use Rattle.ucd_table.specs.Rows.{in_ranges}
 use Rattle.unicode_width.specs.declared.kind.Kind.{Kind}
 use Rattle.unicode_width.specs.declared.kind.Kind.TheVariants as kinds
 use Rattle.unicode_width.specs.declared.state.After.{After}
-use Rattle.unicode_width.specs.declared.state.After.TheVariants.{
-  Nothing,
-  LineFeed,
-  EmojiModifier,
-  RegionalIndicator,
-  RegionalIndicators,
-  Emoji,
-  ZwjEmoji,
-  KeycapZwjEmoji,
-  IndicatorZwj,
-  EvenIndicatorsZwj,
-  OddIndicatorsZwj,
-  TagEnd,
-  TagDigit1,
-  TagDigit2,
-  TagDigit3,
-  TagLetter1,
-  TagLetter2,
-  TagLetter3,
-  TagLetter4,
-  TagLetter5,
-  TagLetter6,
-  KiratE,
-  KiratAi,
-  Alef,
-  Solidus,
-  SolidusAlef,
-  Lamed,
-  ZwjLamed,
-  Ya,
-  ZwjYa,
-  VowelZwjYa,
-  Tifinagh,
-  ZwjTifinagh,
-  JoinerTifinagh,
-  LisuTone,
-  OrkhonI,
-  ZwjOrkhonI,
-  KhmerLetter,
-}
+use Rattle.unicode_width.specs.declared.state.After.TheVariants as states
 use Rattle.unicode_width.specs.declared.state.State.{State}
 use Rattle.unicode_width.specs.declared.state.Change.{Change}
 use Rattle.unicode_width.specs.Kind.{kind, is_ligature_transparent, is_text_presentation_base}
-use Rattle.unicode_width.specs.Width.{
-  before,
-  plain,
-  of_kind,
-  alone,
-  char_width,
-  before_alef,
-  joins,
-  Reading,
-  added,
-  joined_or,
-  is_emoji,
-  is_tifinagh,
-  is_indicator,
-  is_tag_letter,
-  is_tag_digit,
-  skips_marks,
-  is_quote,
-  is_plain,
-  is_kept,
-  is_line_feed,
-  is_joined_emoji,
-  single,
-  if_kept,
-  past_selectors,
-  in_context,
-  past_emoji,
-  step,
-}
+use Rattle.unicode_width.specs.Width.{before, plain, of_kind, alone, char_width, before_alef, joins}
+use Rattle.unicode_width.specs.Width.{Reading, added, joined_or, is_emoji, is_tifinagh}
+use Rattle.unicode_width.specs.Width.{is_indicator, is_tag_letter, is_tag_digit, skips_marks}
+use Rattle.unicode_width.specs.Width.{is_quote, is_plain, is_kept, is_line_feed, is_joined_emoji}
+use Rattle.unicode_width.specs.Width.{single, if_kept, past_selectors, in_context, past_emoji, step}
 use Rattle.unicode_width.proofs.Rules.{is_simple, is_simple_kind}
 use Rattle.tabled_text.specs.Measure.{char_columns}
 use Rattle.tabled_text.specs.Plain.{is_listed_or_drawn, has_plain_width, is_additive}
@@ -177,46 +91,46 @@ nothing_joined = None
 
 joins-calm : (after : After) (c : ℕ) → IsCalm c → joins false after c ≡ nothing_joined
 unfolding joins before_alef
-joins-calm Nothing c h = refl
-joins-calm LineFeed c h = refl
-joins-calm EmojiModifier c h = rw (h.unmarked.base, not_named c 0x200D h.clear refl) refl
-joins-calm RegionalIndicator c h = rw (not_indicator c h.clear) refl
-joins-calm RegionalIndicators c h = rw (not_indicator c h.clear, not_named c 0x200D h.clear refl) refl
-joins-calm Emoji c h = rw (not_named c 0x200D h.clear refl) refl
-joins-calm ZwjEmoji c h = rw
+joins-calm states.Nothing c h = refl
+joins-calm states.LineFeed c h = refl
+joins-calm states.EmojiModifier c h = rw (h.unmarked.base, not_named c 0x200D h.clear refl) refl
+joins-calm states.RegionalIndicator c h = rw (not_indicator c h.clear) refl
+joins-calm states.RegionalIndicators c h = rw (not_indicator c h.clear, not_named c 0x200D h.clear refl) refl
+joins-calm states.Emoji c h = rw (not_named c 0x200D h.clear refl) refl
+joins-calm states.ZwjEmoji c h = rw
     (not_named c 0x20E3 h.clear refl, not_indicator c h.clear, not_modifier c h.clear, not_named c 0xE007F h.clear refl, not_emoji (kind c) h.simple) refl
-joins-calm KeycapZwjEmoji c h = refl
-joins-calm IndicatorZwj c h = rw (not_indicator c h.clear) refl
-joins-calm EvenIndicatorsZwj c h = rw (not_indicator c h.clear, not_named c 0x200D h.clear refl) refl
-joins-calm OddIndicatorsZwj c h = rw (not_indicator c h.clear, not_named c 0x200D h.clear refl) refl
-joins-calm TagEnd c h = rw (not_tag_letter c h.clear, not_tag_digit c h.clear) refl
-joins-calm TagDigit1 c h = rw (not_tag_digit c h.clear) refl
-joins-calm TagDigit2 c h = rw (not_tag_digit c h.clear) refl
-joins-calm TagDigit3 c h = rw (not_named c 0x1F3F4 h.clear refl) refl
-joins-calm TagLetter1 c h = rw (not_tag_letter c h.clear, not_tag_digit c h.clear) refl
-joins-calm TagLetter2 c h = rw (not_tag_letter c h.clear, not_tag_digit c h.clear) refl
-joins-calm TagLetter3 c h = rw (not_tag_letter c h.clear, not_tag_digit c h.clear, not_named c 0x1F3F4 h.clear refl) refl
-joins-calm TagLetter4 c h = rw (not_tag_letter c h.clear, not_tag_digit c h.clear, not_named c 0x1F3F4 h.clear refl) refl
-joins-calm TagLetter5 c h = rw (not_tag_letter c h.clear, not_named c 0x1F3F4 h.clear refl) refl
-joins-calm TagLetter6 c h = rw (not_named c 0x1F3F4 h.clear refl) refl
-joins-calm KiratE c h = rw
+joins-calm states.KeycapZwjEmoji c h = refl
+joins-calm states.IndicatorZwj c h = rw (not_indicator c h.clear) refl
+joins-calm states.EvenIndicatorsZwj c h = rw (not_indicator c h.clear, not_named c 0x200D h.clear refl) refl
+joins-calm states.OddIndicatorsZwj c h = rw (not_indicator c h.clear, not_named c 0x200D h.clear refl) refl
+joins-calm states.TagEnd c h = rw (not_tag_letter c h.clear, not_tag_digit c h.clear) refl
+joins-calm states.TagDigit1 c h = rw (not_tag_digit c h.clear) refl
+joins-calm states.TagDigit2 c h = rw (not_tag_digit c h.clear) refl
+joins-calm states.TagDigit3 c h = rw (not_named c 0x1F3F4 h.clear refl) refl
+joins-calm states.TagLetter1 c h = rw (not_tag_letter c h.clear, not_tag_digit c h.clear) refl
+joins-calm states.TagLetter2 c h = rw (not_tag_letter c h.clear, not_tag_digit c h.clear) refl
+joins-calm states.TagLetter3 c h = rw (not_tag_letter c h.clear, not_tag_digit c h.clear, not_named c 0x1F3F4 h.clear refl) refl
+joins-calm states.TagLetter4 c h = rw (not_tag_letter c h.clear, not_tag_digit c h.clear, not_named c 0x1F3F4 h.clear refl) refl
+joins-calm states.TagLetter5 c h = rw (not_tag_letter c h.clear, not_named c 0x1F3F4 h.clear refl) refl
+joins-calm states.TagLetter6 c h = rw (not_named c 0x1F3F4 h.clear refl) refl
+joins-calm states.KiratE c h = rw
     (not_named c 0x16D63 h.clear refl, not_named c 0x16D67 h.clear refl, not_named c 0x16D68 h.clear refl, not_named c 0x16D69 h.clear refl) refl
-joins-calm KiratAi c h = rw (not_named c 0x16D63 h.clear refl) refl
-joins-calm Alef c h = rw (h.unmarked.lam, h.width) refl
-joins-calm Solidus c h = refl
-joins-calm SolidusAlef c h = refl
-joins-calm Lamed c h = refl
-joins-calm ZwjLamed c h = rw (not_named c 0x05D0 h.clear refl) refl
-joins-calm Ya c h = refl
-joins-calm ZwjYa c h = rw (not_named c 0x1A17 h.clear refl) refl
-joins-calm VowelZwjYa c h = rw (not_named c 0x1A15 h.clear refl) refl
-joins-calm Tifinagh c h = rw (not_named c 0x2D7F h.clear refl) refl
-joins-calm ZwjTifinagh c h = rw (not_named c 0x2D7F h.clear refl, not_tifinagh c h.clear) refl
-joins-calm JoinerTifinagh c h = rw (not_tifinagh c h.clear) refl
-joins-calm LisuTone c h = rw (not_tone c h.clear) refl
-joins-calm OrkhonI c h = refl
-joins-calm ZwjOrkhonI c h = rw (not_named c 0x10C32 h.clear refl) refl
-joins-calm KhmerLetter c h = rw (not_named c 0x17D2 h.clear refl) refl
+joins-calm states.KiratAi c h = rw (not_named c 0x16D63 h.clear refl) refl
+joins-calm states.Alef c h = rw (h.unmarked.lam, h.width) refl
+joins-calm states.Solidus c h = refl
+joins-calm states.SolidusAlef c h = refl
+joins-calm states.Lamed c h = refl
+joins-calm states.ZwjLamed c h = rw (not_named c 0x05D0 h.clear refl) refl
+joins-calm states.Ya c h = refl
+joins-calm states.ZwjYa c h = rw (not_named c 0x1A17 h.clear refl) refl
+joins-calm states.VowelZwjYa c h = rw (not_named c 0x1A15 h.clear refl) refl
+joins-calm states.Tifinagh c h = rw (not_named c 0x2D7F h.clear refl) refl
+joins-calm states.ZwjTifinagh c h = rw (not_named c 0x2D7F h.clear refl, not_tifinagh c h.clear) refl
+joins-calm states.JoinerTifinagh c h = rw (not_tifinagh c h.clear) refl
+joins-calm states.LisuTone c h = rw (not_tone c h.clear) refl
+joins-calm states.OrkhonI c h = refl
+joins-calm states.ZwjOrkhonI c h = rw (not_named c 0x10C32 h.clear refl) refl
+joins-calm states.KhmerLetter c h = rw (not_named c 0x17D2 h.clear refl) refl
 
 -- ---- one step
 
@@ -337,7 +251,7 @@ unfolding step
 step-keycap c total s h e =
     let p = keycap-printable c h in
     ap (λ b. cond (not b) (past_emoji false c total s)
-    (cond (is_emoji_variation_base c) (total + cond (is_joined_emoji s.after) 0 2, before Emoji)
+    (cond (is_emoji_variation_base c) (total + cond (is_joined_emoji s.after) 0 2, before states.Emoji)
     (past_emoji false c total (record (if_kept s) { emoji = false })))) e
     ∙ past_emoji-printable c total s p ∙ ap (λ n. (total + n, plain)) (sym (columns-printable c p))
 

@@ -1,40 +1,8 @@
 -- Plain texts that stay in some columns: what they are, and what is made of them.
-use Rattle.std.proofs.Common.{
-  le-leb,
-  ◌≡◌,
-  ℕ,
-  ◌+◌,
-  ◌<◌,
-  ◌≤◌,
-  Bool,
-  true,
-  cond,
-  ◌==◌,
-  ◌&&◌,
-  nat_le,
-  List,
-  [],
-  ◌∷◌,
-  ◌++◌,
-  chars,
-  length,
-  map,
-  refl,
-  sym,
-  ap,
-  ◌∙◌,
-  subst,
-  arith,
-  All,
-  ⊎_elim,
-  sum_by,
-  append-nil,
-  lit<,
-  encode_utf8_all,
-  replicate,
-  zero,
-  suc,
-}
+use Rattle.std.proofs.Common.{le-leb, ◌≡◌, ℕ, ◌+◌, ◌<◌, ◌≤◌, Bool, true, cond, ◌==◌, ◌&&◌, nat_le}
+use Rattle.std.proofs.Common.{List, [], ◌∷◌, ◌++◌, chars, length, map, refl, sym, ap, ◌∙◌, subst}
+use Rattle.std.proofs.Common.{arith, All, ⊎_elim, sum_by, append-nil, lit<, encode_utf8_all}
+use Rattle.std.proofs.Common.{replicate, zero, suc}
 use Rattle.std.specs.List.{join_with_byte}
 use Rattle.std.specs.Str.{IsUtf8}
 use Rattle.std.proofs.lemmas.Bool.{and_parts, and_from, cases_Bool}
@@ -53,16 +21,9 @@ use Rattle.tabled_text.proofs.CutRoom.{copies, stays-cut, stays-cut_before, stay
 use Rattle.tabled_text.proofs.PlainLines.{scalar-listed}
 use Rattle.tabled_text.proofs.PlainLemmas.{columns_of-plain}
 use Rattle.tabled_text.proofs.WordLemmas.{chars-mark, IsUtf8-mark}
-use Rattle.tabled_text.proofs.WrapRoom.{
-  stays-line,
-  Lines,
-  EachPlain,
-  EachPlain-lines,
-  stays-wrapped,
-  stays-nothing,
-  columns-stays,
-  is_additive_text-stays,
-}
+use Rattle.tabled_text.proofs.WrapRoom.{stays-line, Lines, EachPlain, EachPlain-lines}
+use Rattle.tabled_text.proofs.WrapRoom.{stays-wrapped, stays-nothing, columns-stays}
+use Rattle.tabled_text.proofs.WrapRoom.{is_additive_text-stays}
 
 -- ---- what they are
 

@@ -1,52 +1,16 @@
 -- Lines of a text's bytes, as lines of its characters.
-use Rattle.std.proofs.Common.{
-  ◌≡◌,
-  ℕ,
-  ◌+◌,
-  ◌<◌,
-  ◌≤◌,
-  Bool,
-  false,
-  eqb,
-  List,
-  [],
-  ◌∷◌,
-  ◌++◌,
-  chars,
-  length,
-  get_or,
-  take,
-  drop,
-  ap,
-  sym,
-  ◌∙◌,
-  refl,
-  subst,
-  Some,
-  arith,
-  zero,
-  suc,
-  lit<,
-}
+use Rattle.std.proofs.Common.{◌≡◌, ℕ, ◌+◌, ◌<◌, ◌≤◌, Bool, false, eqb, List, [], ◌∷◌, ◌++◌, chars}
+use Rattle.std.proofs.Common.{length, get_or, take, drop, ap, sym, ◌∙◌, refl, subst, Some, arith}
+use Rattle.std.proofs.Common.{zero, suc, lit<}
 use Rattle.std.proofs.lemmas.Bool.{eq-eqb}
 use Rattle.std.specs.Prelude.{encode_utf8_all}
 use Rattle.std.specs.Str.{NonePass, NoCharPasses, IsUtf8}
 use Rattle.std.specs.List.{slice_split, All}
 use Rattle.std.specs.Str.Pattern.{FindsChar}
-use Rattle.std.proofs.lemmas.Str.{
-  chars_past_char,
-  chars-append,
-  chars_from_encodes,
-  encode_ascii,
-  IsUtf8-append,
-  IsUtf8-take,
-  IsUtf8-drop,
-  IsUtf8-from_ascii,
-  len_utf8_ascii,
-  IsCharBoundary-before_ascii,
-  encodes-chars,
-  length-le-encodes,
-}
+use Rattle.std.proofs.lemmas.Str.{chars_past_char, chars-append, chars_from_encodes, encode_ascii}
+use Rattle.std.proofs.lemmas.Str.{IsUtf8-append, IsUtf8-take, IsUtf8-drop, IsUtf8-from_ascii}
+use Rattle.std.proofs.lemmas.Str.{len_utf8_ascii, IsCharBoundary-before_ascii, encodes-chars}
+use Rattle.std.proofs.lemmas.Str.{length-le-encodes}
 use Rattle.std.proofs.lemmas.List.Sums.{count_by-le-length}
 use Rattle.std.specs.Char.{len_utf8}
 use Rattle.std.proofs.lemmas.List.Splits.{slice_split_at, slice_split_none, length-slice_split}
@@ -105,9 +69,3 @@ pieces-found d small bs xs ys t i j h e f le len =
           (chars-append xs (d ∷ ys) u) ∙ ap (λ l. slice_split (λ c. eqb c d) (chars xs ++ l)) (chars-mark d small ys w)
           ∙ slice_split_at (λ c. eqb c d) (chars xs) d (chars ys) (All-from_NoCharPasses (λ c. eqb c d) xs u none) (eq-eqb d d refl);
     }
-
-pub length-lines_of-le : (bs : List ℕ) → IsUtf8 bs → length (lines_of (chars bs)) ≤ length bs + 1
-length-lines_of-le bs u =
-    let cs = chars bs in
-    let e : length (encode_utf8_all cs) ≡ length bs = ap length (encodes-chars bs u) in
-    omega (arith, e, length-le-encodes cs, length-slice_split (λ c. eqb c 10) cs, count_by-le-length (λ c. eqb c 10) cs)

@@ -1,30 +1,7 @@
 -- A plain text that finds room is not changed where it is wrapped.
-use Rattle.std.proofs.Common.{
-  ◌≡◌,
-  ℕ,
-  ◌+◌,
-  ◌<◌,
-  ◌≤◌,
-  Bool,
-  true,
-  false,
-  cond,
-  ◌==◌,
-  List,
-  [],
-  ◌∷◌,
-  chars,
-  encode_utf8_all,
-  map,
-  refl,
-  sym,
-  ap,
-  ◌∙◌,
-  subst,
-  arith,
-  sum_by,
-  append-nil,
-}
+use Rattle.std.proofs.Common.{◌≡◌, ℕ, ◌+◌, ◌<◌, ◌≤◌, Bool, true, false, cond, ◌==◌, List, [], ◌∷◌}
+use Rattle.std.proofs.Common.{chars, encode_utf8_all, map, refl, sym, ap, ◌∙◌, subst, arith, sum_by}
+use Rattle.std.proofs.Common.{append-nil}
 use Rattle.std.specs.Prelude.{MatchBool}
 use Rattle.std.specs.List.{list_all, join_with_byte, AllZip}
 use Rattle.std.proofs.lemmas.Bool.{le-leb, ne_eqb}

@@ -1,38 +1,7 @@
 -- Wrapped plain texts stay in their room.
-use Rattle.std.proofs.Common.{
-  ◌≡◌,
-  ℕ,
-  ◌+◌,
-  ◌-◌,
-  ◌<◌,
-  ◌≤◌,
-  Bool,
-  true,
-  false,
-  cond,
-  ◌==◌,
-  ◌&&◌,
-  ◌||◌,
-  nat_le,
-  List,
-  [],
-  ◌∷◌,
-  ◌++◌,
-  refl,
-  sym,
-  ap,
-  ◌∙◌,
-  subst,
-  arith,
-  sum_by,
-  replicate,
-  ⊎_elim,
-  map,
-  min,
-  zero,
-  suc,
-  chars,
-}
+use Rattle.std.proofs.Common.{◌≡◌, ℕ, ◌+◌, ◌-◌, ◌<◌, ◌≤◌, Bool, true, false, cond, ◌==◌, ◌&&◌, ◌||◌}
+use Rattle.std.proofs.Common.{nat_le, List, [], ◌∷◌, ◌++◌, refl, sym, ap, ◌∙◌, subst, arith, sum_by}
+use Rattle.std.proofs.Common.{replicate, ⊎_elim, map, min, zero, suc, chars}
 use Rattle.std.specs.Prelude.{MatchBool, ⊤}
 use Rattle.std.specs.List.{list_all, onto_first, AllZip}
 use Rattle.std.proofs.lemmas.List.{append_assoc, append-nil}
@@ -244,9 +213,6 @@ shown-wide n used p rest g fits s = ⊎_elim
 
 needed-fits : (n : ℕ) (p : TextUnit) → 0 < n → 0 + needed n p ≤ n
 needed-fits n p h = grind (arith, nat_tests)
-
-needed-some : (n : ℕ) (p : TextUnit) → 0 < n → n < p.width → 0 < needed n p
-needed-some n p h l = grind (arith, nat_tests)
 
 -- adding unit to unit, where what follows stays from every column on
 pub stays-append_all : (n used : ℕ) (ps : List TextUnit) (rest : List ℕ) → 0 < n → EachGood ps

@@ -1,37 +1,7 @@
 -- The bytes that one more unit adds.
-use Rattle.std.proofs.Common.{
-  ◌≡◌,
-  ℕ,
-  ◌+◌,
-  ◌-◌,
-  ◌<◌,
-  ◌≤◌,
-  Bool,
-  true,
-  false,
-  cond,
-  List,
-  [],
-  ◌∷◌,
-  ◌++◌,
-  length,
-  refl,
-  sym,
-  ap,
-  ◌∙◌,
-  subst,
-  arith,
-  map,
-  encode_utf8_all,
-  encode_utf8,
-  nat_le,
-  lit<,
-  replicate,
-  ◌==◌,
-  MatchBool,
-  ◌⊎◌,
-  ⊎_elim,
-}
+use Rattle.std.proofs.Common.{◌≡◌, ℕ, ◌+◌, ◌-◌, ◌<◌, ◌≤◌, Bool, true, false, cond, List, [], ◌∷◌}
+use Rattle.std.proofs.Common.{◌++◌, length, refl, sym, ap, ◌∙◌, subst, arith, map, encode_utf8_all}
+use Rattle.std.proofs.Common.{encode_utf8, nat_le, lit<, replicate, ◌==◌, MatchBool, ◌⊎◌, ⊎_elim}
 use Rattle.std.specs.Str.{IsUtf8, chars}
 use Rattle.std.proofs.lemmas.List.{append_assoc, append-nil, nil_from_length, replicate_more}
 use Rattle.std.proofs.lemmas.Str.{encodes-append, encodes-chars, encode_ascii, chars-nil, chars_from_encodes, IsUtf8-nil}
@@ -61,19 +31,8 @@ put_word_bytes n used width b₀ b₁ b₂ word le u e f =
     (λ l. l ++ encode_utf8_all (chars word)) (sym (encodes-begin_text (nat_le (used + width) n)))
     ∙ sym (encodes-append (begin_text n used width) (chars word)) ∙ ap encode_utf8_all (sym whole))
 
--- a unit is written, and others follow
-pub put_more : (n used : ℕ) (p : TextUnit) (pieces : List TextUnit) (b₀ b₁ out : List ℕ) → b₁ ≡ b₀ ++ encode_utf8_all (append_text n used p)
-    → b₀ ++ encode_utf8_all (append_all n used (p ∷ pieces)) ≡ out → b₁ ++ encode_utf8_all (append_all n (append_used n used p) pieces) ≡ out
-put_more n used p pieces b₀ b₁ out e h =
-    ap (λ l. l ++ encode_utf8_all (append_all n (append_used n used p) pieces)) e
-    ∙ append_assoc b₀ (encode_utf8_all (append_text n used p)) (encode_utf8_all (append_all n (append_used n used p) pieces))
-    ∙ ap (λ l. b₀ ++ l) (sym (encodes-append (append_text n used p) (append_all n (append_used n used p) pieces))) ∙ h
-
 pub append_all-one : (n used : ℕ) (p : TextUnit) → append_text n used p ≡ append_all n used (p ∷ [])
 append_all-one n used p = sym (append-nil (append_text n used p))
-
-pub append_all-none : (n used : ℕ) (pieces : List TextUnit) (out : List ℕ) → pieces ≡ [] → out ≡ out ++ encode_utf8_all (append_all n used pieces)
-append_all-none n used pieces out e = sym (ap (λ l. out ++ encode_utf8_all (append_all n used l)) e ∙ append-nil out)
 
 -- a word without a byte
 pub units_of_word-empty : (n : ℕ) (word : List ℕ) (b : Bool) → b ≡ (length word == 0) → b ≡ true → units_of_word n (chars word) ≡ []
@@ -110,15 +69,6 @@ units_of_words-more n word cs =
     let h = split_cons (λ c. c == 32) cs in
     subst (λ ws. units_of_words n (word ∷ ws) ≡ units_of_word n word ++ space ∷ units_of_words n ws) (sym h.2) refl
 
--- units are written, and others follow
-pub put_on : (n used : ℕ) (xs ys : List TextUnit) (b₀ b₁ out : List ℕ) → b₁ ≡ b₀ ++ encode_utf8_all (append_all n used xs)
-    → b₀ ++ encode_utf8_all (append_all n used (xs ++ ys)) ≡ out → b₁ ++ encode_utf8_all (append_all n (used_after n used xs) ys) ≡ out
-put_on n used xs ys b₀ b₁ out e h =
-    ap (λ l. l ++ encode_utf8_all (append_all n (used_after n used xs) ys)) e
-    ∙ append_assoc b₀ (encode_utf8_all (append_all n used xs)) (encode_utf8_all (append_all n (used_after n used xs) ys))
-    ∙ ap (λ l. b₀ ++ l) (sym (encodes-append (append_all n used xs) (append_all n (used_after n used xs) ys)) ∙ ap
-    encode_utf8_all (sym (append_all-append n used xs ys))) ∙ h
-
 pub space-is : unit_of (chars (32 ∷ [])) 1 ≡ space
 unfolding chars
 space-is = refl
@@ -127,20 +77,6 @@ space-is = refl
 encodes-feed : (b : Bool) → encode_utf8_all (cond b (10 ∷ []) []) ≡ cond b (10 ∷ []) []
 encodes-feed true = ap (λ l. l ++ []) (encode_ascii 10 (lit< tt))
 encodes-feed false = refl
-
-pub pending_more : (n : ℕ) (words begun : Bool) (line : List ℕ) (lines : List (List ℕ)) (b₀ b₁ b₂ out : List ℕ) → b₁ ≡ b₀ ++ cond begun (10 ∷ []) []
-    → b₂ ≡ b₁ ++ encode_utf8_all (append_all n 0 (units n words line)) → b₀ ++ encode_utf8_all (pending n words begun (line ∷ lines)) ≡ out
-    → b₂ ++ encode_utf8_all (pending n words true lines) ≡ out
-pending_more n words begun line lines b₀ b₁ b₂ out e f h =
-    let feed = cond begun (10 ∷ []) [] in
-    let text = append_all n 0 (units n words line) in
-    let rest = pending n words true lines in
-    let all : encode_utf8_all (feed ++ (text ++ rest)) ≡ feed ++ (encode_utf8_all text ++ encode_utf8_all rest) =
-    encodes-append feed (text ++ rest) ∙ ap (λ l. l ++ encode_utf8_all (text ++ rest)) (encodes-feed begun) ∙ ap
-    (λ l. feed ++ l) (encodes-append text rest) in
-    ap (λ l. l ++ encode_utf8_all rest) f ∙ append_assoc b₁ (encode_utf8_all text) (encode_utf8_all rest) ∙ ap
-    (λ l. l ++ (encode_utf8_all text ++ encode_utf8_all rest)) e
-    ∙ append_assoc b₀ feed (encode_utf8_all text ++ encode_utf8_all rest) ∙ ap (λ l. b₀ ++ l) (sym all) ∙ h
 
 broken : (n : ℕ) → 0 < n → Bool → List (List ℕ) → List (List (List TextUnit))
 broken n pos words lines = map (λ line. (written_fullest n (units n words line) pos).groups) lines

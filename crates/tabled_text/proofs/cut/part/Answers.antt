@@ -3,19 +3,9 @@ use Rattle.std.proofs.lemmas.Str.{IsUtf8-past_char}
 use Rattle.std.specs.Str.{IsCharBoundary}
 use Rattle.tabled_text.specs.Measure.{char_count}
 use Rattle.tabled_text.specs.Cut.{IsParted}
-use Rattle.tabled_text.proofs.CutLemmas.{
-  Walked,
-  Walked-start,
-  Walked-le,
-  Walked-feed,
-  Walked-push,
-  IsParted-wide,
-  IsParted-full,
-  IsParted-end,
-  front_taken,
-  rest_taken,
-  front_boundary,
-}
+use Rattle.tabled_text.proofs.CutLemmas.{Walked, Walked-start, Walked-le, Walked-feed, Walked-push}
+use Rattle.tabled_text.proofs.CutLemmas.{IsParted-wide, IsParted-full, IsParted-end, front_taken}
+use Rattle.tabled_text.proofs.CutLemmas.{rest_taken, front_boundary}
 use Rattle.tabled_text.proofs.cut.part.Goals as goal
 use Rattle.tabled_text.proofs.cut.part.Goals.{in-Some+then-columns-n, in_default}
 
