@@ -1,11 +1,12 @@
 -- A place that stays the named one loses or gains many at once.
-use Rattle.std.proofs.Common.{◌≡◌, ℕ, ◌+◌, ◌-◌, ◌<◌, ◌≤◌, List, slice_set, sym, ap, ◌∙◌, subst, arith, zero, suc}
+use Rattle.std.proofs.Common.{◌≡◌, ◌≢◌, ℕ, ◌+◌, ◌-◌, ◌<◌, ◌≤◌, ◌⊎◌, Bool, true, false, List, slice_set, sym, ap, ◌∙◌, subst, arith, ⊎_elim, inl, inr, zero, suc}
+use Rattle.std.proofs.lemmas.Bool.{cases_eq}
 use Rattle.std.proofs.lemmas.List.{set-set, set-get_or}
 use Rattle.tabled_priority.specs.Permitted.{at, spare, lowered}
 use Rattle.tabled_priority.specs.Laws.Permitted.{IsLowered-lowered}
-use Rattle.tabled_priority.specs.Shrunk.{IsLeftShrunk, IsRightShrunk}
-use Rattle.tabled_priority.specs.Laws.Shrunk.{IsLeftShrunk-step, IsRightShrunk-step}
-use Rattle.tabled_priority.specs.Peak.{IsLeftmost, IsRightmost}
+use Rattle.tabled_priority.specs.Shrunk.{IsBefore, IsSideShrunk}
+use Rattle.tabled_priority.specs.Laws.Shrunk.{IsSideShrunk-step}
+use Rattle.tabled_priority.specs.Peak.{IsOutermost, place_at}
 
 abbrev pub less : List ℕ → ℕ → ℕ → List ℕ
 less xs i d = slice_set xs i (at xs i - d)
@@ -33,27 +34,57 @@ lowered_at_once R N mins i step stays (suc (suc d)) xs by named fits rest =
     let q = lowered_at_once R N mins i step stays (suc d) (lowered xs i) by (stays xs named above) (omega arith) r in
     subst (R xs) (let e : by + suc d + 1 ≡ by + suc (suc d) = omega arith in e) (step xs (by + suc d) named (omega arith) q)
 
--- ---- the named places stay named while they shrink
-leftmost_stays : (mins : List ℕ) (i : ℕ) (xs : List ℕ) → IsLeftmost xs mins i → at mins i + 1 < at xs i → IsLeftmost (lowered xs i) mins i
-leftmost_stays mins i xs n h =
+-- ---- from one side
+outermost_stays : (right : Bool) (mins : List ℕ) (i : ℕ) (xs : List ℕ) → IsOutermost right xs mins i
+    → at mins i + 1 < at xs i → IsOutermost right (lowered xs i) mins i
+outermost_stays right mins i xs n h =
     let l = IsLowered-lowered xs i (at mins i) n.above in
     let here = l.here in
-    record { above = omega arith; first = λ j lt. let e = l.there j (λ q. omega arith) in let f = n.first j lt in omega arith }
+    record {
+      above = omega arith;
+      first = λ j b. let e = l.there j (not_itself right i j b) in let f = n.first j b in omega arith;
+    }
+  where
+    not_itself : (right : Bool) (i j : ℕ) → IsBefore right j i → j ≢ i
+    not_itself true i j b e = omega arith
+    not_itself false i j b e = omega arith
 
-rightmost_stays : (mins : List ℕ) (i : ℕ) (xs : List ℕ) → IsRightmost xs mins i → at mins i + 1 < at xs i → IsRightmost (lowered xs i) mins i
-rightmost_stays mins i xs n h =
-    let l = IsLowered-lowered xs i (at mins i) n.above in
-    let here = l.here in
-    record { above = omega arith; last = λ j lt. let e = l.there j (λ q. omega arith) in let f = n.last j lt in omega arith }
+pub side_at_once : (right : Bool) (mins : List ℕ) (i d : ℕ) (xs : List ℕ) (by : ℕ) (new : List ℕ)
+    → IsOutermost right xs mins i → d ≤ spare xs mins i
+    → IsSideShrunk right (less xs i d) mins by new → IsSideShrunk right xs mins (by + d) new
+side_at_once right mins i d xs by new named fits rest =
+    lowered_at_once (λ ys k. IsSideShrunk right ys mins k new) (λ ys. IsOutermost right ys mins i) mins i
+    (λ ys k n _ r. IsSideShrunk-step right ys mins i k new n r) (outermost_stays right mins i)
+    d xs by named fits rest
 
-pub left_at_once : (mins : List ℕ) (i d : ℕ) (xs : List ℕ) (by : ℕ) (new : List ℕ) → IsLeftmost xs mins i
-    → d ≤ spare xs mins i → IsLeftShrunk (less xs i d) mins by new → IsLeftShrunk xs mins (by + d) new
-left_at_once mins i d xs by new named fits rest =
-    lowered_at_once (λ ys k. IsLeftShrunk ys mins k new) (λ ys. IsLeftmost ys mins i) mins i
-    (λ ys k n _ r. IsLeftShrunk-step ys mins i k new n r) (leftmost_stays mins i) d xs by named fits rest
+pub place_at-lt : (right : Bool) (count turn : ℕ) → turn < count → place_at right count turn < count
+place_at-lt true count turn h = omega arith
+place_at-lt false count turn h = h
 
-pub right_at_once : (mins : List ℕ) (i d : ℕ) (xs : List ℕ) (by : ℕ) (new : List ℕ) → IsRightmost xs mins i
-    → d ≤ spare xs mins i → IsRightShrunk (less xs i d) mins by new → IsRightShrunk xs mins (by + d) new
-right_at_once mins i d xs by new named fits rest =
-    lowered_at_once (λ ys k. IsRightShrunk ys mins k new) (λ ys. IsRightmost ys mins i) mins i
-    (λ ys k n _ r. IsRightShrunk-step ys mins i k new n r) (rightmost_stays mins i) d xs by named fits rest
+-- j was met in the turns before this one, or is past the end
+abbrev pub IsPassed : Bool → ℕ → ℕ → ℕ → Type 0
+IsPassed true count turn j = count ≤ j + turn
+IsPassed false count turn j = j < turn
+
+-- what comes before a turn's index was met
+pub passed-before : (right : Bool) (count turn j : ℕ) → turn < count
+    → IsBefore right j (place_at right count turn) → IsPassed right count turn j
+passed-before true count turn j h b = omega arith
+passed-before false count turn j h b = omega arith
+
+-- after a turn its index was met, too
+pub passed-more : (right : Bool) (count turn j : ℕ) → turn < count → IsPassed right count (turn + 1) j
+    → (j ≡ place_at right count turn) ⊎ (IsPassed right count turn j × (j ≢ place_at right count turn))
+passed-more true count turn j h p = ⊎_elim (λ e. inl e)
+    (λ ne. inr ((let q : count ≤ j + turn = omega arith in q), ne)) (cases_eq j (count - 1 - turn))
+passed-more false count turn j h p = ⊎_elim (λ e. inl e)
+    (λ ne. inr ((let q : j < turn = omega arith in q), ne)) (cases_eq j turn)
+
+pub passed-all : (right : Bool) (count j : ℕ) → j < count → IsPassed right count count j
+passed-all true count j h = omega arith
+passed-all false count j h = h
+
+-- before the first turn only what is past the end
+pub passed-none : (right : Bool) (count j : ℕ) → IsPassed right count 0 j → count ≤ j
+passed-none true count j p = omega arith
+passed-none false count j p = absurd (omega arith)

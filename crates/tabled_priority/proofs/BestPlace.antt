@@ -1,5 +1,8 @@
 -- The best place so far.
 use Rattle.std.proofs.Common.{◌≡◌, ◌≢◌, ℕ, ◌<◌, ◌≤◌, Bool, true, List, nat_le, if◌then◌else◌}
+use Rattle.tabled_priority.specs.declared.choice.Choice.{Choice}
+use Rattle.tabled_priority.specs.declared.choice.Choice.TheVariants.{Outermost, Greatest, Least}
+use Rattle.tabled_priority.specs.Choices.{IsChosen}
 use Rattle.tabled_priority.specs.Permitted.{at}
 use Rattle.tabled_priority.specs.Shrunk.{comes_before}
 
@@ -16,3 +19,9 @@ pub record IsLeastBelow (right : Bool) (xs mins : List ℕ) (n i : ℕ) : Type 0
   pub within : i < n
   pub above : at mins i < at xs i
   pub first : (j : ℕ) → j < n → j ≢ i → at mins j < at xs j → comes_before right xs i j ≡ true
+
+-- what comes first is above its minimum
+pub IsChosen-above : (k : Choice) (xs mins : List ℕ) (i : ℕ) → IsChosen k xs mins i → at mins i < at xs i
+IsChosen-above (Outermost right) xs mins i g = g.above
+IsChosen-above (Greatest right) xs mins i g = g.above
+IsChosen-above (Least right) xs mins i g = g.above

@@ -1,58 +1,27 @@
 -- Which entries stand between their limits.
-use Rattle.std.proofs.Common.{
-  ◌≡◌,
-  ◌≢◌,
-  ℕ,
-  ◌+◌,
-  ◌-◌,
-  ◌<◌,
-  ◌≤◌,
-  Bool,
-  true,
-  false,
-  if◌then◌else◌,
-  ◌&&◌,
-  ◌||◌,
-  ◌==◌,
-  List,
-  length,
-  min,
-  sym,
-  ◌∙◌,
-  arith,
-  ⊎_elim,
-  nat_lt,
-}
+use Rattle.std.proofs.Common.{◌≡◌, ◌≢◌, ℕ, ◌+◌, ◌-◌, ◌<◌, ◌≤◌, Bool, true, false, if◌then◌else◌}
+use Rattle.std.proofs.Common.{◌&&◌, ◌||◌, ◌==◌, List, length, min, sym, ◌∙◌, arith, ⊎_elim, nat_lt}
 use Rattle.std.proofs.lemmas.Bool.Decides.{nat_tests}
 use Rattle.std.proofs.lemmas.Bool.{cases_lt, cases_eq, cases_Bool}
 use Rattle.tabled_priority.specs.Permitted.{at, taken, IsBetween, HasOneBetween, HasEvenLosses}
 use Rattle.tabled_priority.specs.Laws.Permitted.{in_range}
-use Rattle.tabled_priority.specs.Shrunk.{comes_before, is_met, start, IsLeftShrunk, IsRightShrunk, IsMinShrunk, IsRoundShrunk}
-use Rattle.tabled_priority.specs.Laws.Shrunk.{same_where_none}
+use Rattle.tabled_priority.specs.Shrunk.{comes_before, is_met, start, IsSideShrunk, IsMinShrunk, IsRoundShrunk}
+use Rattle.tabled_priority.specs.Laws.Shrunk.{same_where_none, sides}
 
-left_place : (old mins : List ℕ) (by : ℕ) (new : List ℕ) (s : IsLeftShrunk old mins by new) (i : ℕ) → IsBetween old mins new i → i ≡ s.place
-left_place old mins by new s i b =
+side_place : (right : Bool) (old mins : List ℕ) (by : ℕ) (new : List ℕ)
+    (s : IsSideShrunk right old mins by new) (i : ℕ) → IsBetween old mins new i → i ≡ s.place
+side_place right old mins by new s i b =
     let lower = b.0 in let upper = b.1 in
     ⊎_elim
-    (λ (before : i < s.place). let e = s.before i before in absurd (omega arith))
-    (λ (here : s.place ≤ i). ⊎_elim (λ (after : s.place < i). let e = s.after i after in absurd (omega arith))
-    (λ le. omega arith) (cases_lt s.place i))
-    (cases_lt i s.place)
+    (λ e. e)
+    (λ ne. ⊎_elim (λ first. let e = s.before i first in absurd (omega arith))
+    (λ after. let e = s.after i after in absurd (omega arith)) (sides right s.place i ne))
+    (cases_eq i s.place)
 
-pub left_between : (old mins : List ℕ) (by : ℕ) (new : List ℕ) → IsLeftShrunk old mins by new → HasOneBetween old mins new
-left_between old mins by new s i j a b = left_place old mins by new s i a ∙ sym (left_place old mins by new s j b)
-
-right_place : (old mins : List ℕ) (by : ℕ) (new : List ℕ) (s : IsRightShrunk old mins by new) (i : ℕ) → IsBetween old mins new i → i ≡ s.place
-right_place old mins by new s i b =
-    let lower = b.0 in let upper = b.1 in
-    ⊎_elim
-    (λ (before : i < s.place). let e = s.before i before in absurd (omega arith))
-    (λ (here : s.place ≤ i). ⊎_elim (λ (after : s.place < i). let e = s.after i after in absurd (omega arith))
-    (λ le. omega arith) (cases_lt s.place i))
-    (cases_lt i s.place)
-
-pub right_between : (old mins : List ℕ) (by : ℕ) (new : List ℕ) → IsRightShrunk old mins by new → HasOneBetween old mins new
-right_between old mins by new s i j a b = right_place old mins by new s i a ∙ sym (right_place old mins by new s j b)
+pub side_between : (right : Bool) (old mins : List ℕ) (by : ℕ) (new : List ℕ)
+    → IsSideShrunk right old mins by new → HasOneBetween old mins new
+side_between right old mins by new s i j a b =
+    side_place right old mins by new s i a ∙ sym (side_place right old mins by new s j b)
 
 one_first : (right : Bool) (x y i j : ℕ) → i ≢ j
     → (nat_lt x y || ((x == y) && (if right then nat_lt j i else nat_lt i j))) ≡ false

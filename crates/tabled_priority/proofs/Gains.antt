@@ -1,37 +1,7 @@
 -- What columns gain by their shares.
-use Rattle.std.proofs.Common.{
-  ◌≡◌,
-  ℕ,
-  ◌+◌,
-  ◌-◌,
-  ◌<◌,
-  ◌≤◌,
-  ◌^◌,
-  Bool,
-  true,
-  false,
-  cond,
-  if◌then◌else◌,
-  ◌&&◌,
-  ◌==◌,
-  List,
-  [],
-  length,
-  sum,
-  min,
-  max,
-  refl,
-  sym,
-  ap,
-  ◌∙◌,
-  subst,
-  arith,
-  ⊎_elim,
-  zero,
-  suc,
-  nat_lt,
-  nat_le,
-}
+use Rattle.std.proofs.Common.{◌≡◌, ℕ, ◌+◌, ◌-◌, ◌<◌, ◌≤◌, ◌^◌, Bool, true, false, cond}
+use Rattle.std.proofs.Common.{if◌then◌else◌, ◌&&◌, ◌==◌, List, [], length, sum, min, max, refl, sym}
+use Rattle.std.proofs.Common.{ap, ◌∙◌, subst, arith, ⊎_elim, zero, suc, nat_lt, nat_le}
 use Rattle.std.proofs.lemmas.Bool.Decides.{nat_tests}
 use Rattle.std.proofs.lemmas.Bool.{cases_lt, ne_eqb}
 use Rattle.std.proofs.lemmas.List.{get_or_past}
@@ -45,7 +15,8 @@ use Rattle.tabled_priority.specs.Sums.{sum_below, one_if}
 use Rattle.tabled_priority.specs.Laws.Sums.{sum_below-same, sum_below-plus, sum_below-zero, sum_below-term, sum-below}
 use Rattle.tabled_priority.specs.Grown.{added, IsGrownFrom, IsMinGrown, IsRoundGrown}
 use Rattle.tabled_priority.specs.Laws.Grown.{added-some, added-none, IsMinGrown-nothing}
-use Rattle.tabled_priority.specs.Schedule.{amount, total_amount, first_level, last_level, is_open, share, IsReached, IsSpan}
+use Rattle.tabled_priority.specs.Schedule.{IsReached, IsSpan, IsSpanBy, amount, first_level, is_open, last_level, share, total_amount}
+use Rattle.tabled_priority.proofs.Leveled.{one_if-le, start-zero}
 use Rattle.tabled_priority.proofs.Shares.{shares}
 
 some_term : (f : ℕ → ℕ) (n : ℕ) → 0 < sum_below f n → (i : ℕ) × (i < n) × (0 < f i)
@@ -136,15 +107,14 @@ floor_right level first last n i b c d = grind (arith, nat_tests)
 floor_left : (level last i : ℕ) → level + one_if (is_met 0 last i) ≡ ceiling true level (last + 1) i
 floor_left level last i = grind (arith, nat_tests)
 
-one_if-le : (b : Bool) → one_if b ≤ 1
-one_if-le true = omega arith
-one_if-le false = omega arith
-
-pub min_grown : (right : Bool) (old : List ℕ) (by : ℕ) (new : List ℕ) (level first last : ℕ) → level < greatest_usize
-    → IsGrownFrom old by new → first ≤ last → (right ≡ true → last + 1 ≡ length old) → (right ≡ false → first ≡ 0)
-    → ((i : ℕ) → i < length old → at new i ≡ at old i + share (first_level Heights old []) (last_level Heights old []) level first last i)
+pub min_grown : (right : Bool) (old mins : List ℕ) (by : ℕ) (new : List ℕ) (level first last : ℕ)
+    → level < greatest_usize → IsGrownFrom old by new → first < length old
+    → IsSpanBy (Heights right) (first_level (Heights right) old mins)
+    (last_level (Heights right) old mins) (length old) level first last
+    → ((i : ℕ) → i < length old → at new i ≡ at old i + share (first_level (Heights right) old mins)
+    (last_level (Heights right) old mins) level first last i)
     → IsMinGrown right old by new
-min_grown true old by new level first last l g order right left each = record {
+min_grown true old mins by new level first last l g within side each = record {
   grows = g;
   level = level;
   place = first;
@@ -152,10 +122,10 @@ min_grown true old by new level first last l g order right left each = record {
       let inside = in_range old i 0 pos in
       raised_here (at old i) (level + one_if (is_met first last i)) (at new i) pos
       (let o = one_if-le (is_met first last i) in omega arith) (each i inside)
-      ∙ ap (max (at old i)) (floor_right level first last (length old) i (right refl) order inside);
+      ∙ ap (max (at old i)) (floor_right level first last (length old) i side (omega arith) inside);
 }
-min_grown false old by new level first last l g order right left each =
-    let e : first ≡ 0 = left refl in
+min_grown false old mins by new level first last l g within side each =
+    let e : first ≡ 0 = side.0 ∙ start-zero (length old) in
     record {
       grows = g;
       level = level;
@@ -182,12 +152,12 @@ round_gain v level new b pos l e =
 open_nonzero : (v level : ℕ) → (nat_le 0 level && nat_lt level (if v == 0 then 0 else greatest_usize)) ≡ true → 0 < v
 open_nonzero v level o = grind (arith, nat_tests)
 
-pub round_grown : (kept : ℕ) (old : List ℕ) (by : ℕ) (new : List ℕ) (level first last : ℕ) → level < greatest_usize
+pub round_grown : (kept : ℕ) (old mins : List ℕ) (by : ℕ) (new : List ℕ) (level first last : ℕ) → level < greatest_usize
     → 0 < added old by → IsGrownFrom old by new → first ≡ start kept (length old)
-    → is_open (first_level Gains old []) (last_level Gains old []) level last ≡ true
-    → ((i : ℕ) → i < length old → at new i ≡ at old i + share (first_level Gains old []) (last_level Gains old []) level first last i)
+    → is_open (first_level (Gains kept) old mins) (last_level (Gains kept) old mins) level last ≡ true
+    → ((i : ℕ) → i < length old → at new i ≡ at old i + share (first_level (Gains kept) old mins) (last_level (Gains kept) old mins) level first last i)
     → IsRoundGrown kept old by new (place_after (length old) last)
-round_grown kept old by new level first last l some g e o each = record {
+round_grown kept old mins by new level first last l some g e o each = record {
   grows = g;
   rounds = level;
   last = last;

@@ -1,36 +1,11 @@
 -- What columns give, the least sizes first.
-use Rattle.std.proofs.Common.{
-  ◌≡◌,
-  ◌≢◌,
-  ℕ,
-  ◌+◌,
-  ◌-◌,
-  ◌<◌,
-  ◌≤◌,
-  Bool,
-  true,
-  false,
-  if◌then◌else◌,
-  ◌&&◌,
-  ◌||◌,
-  ◌==◌,
-  List,
-  length,
-  refl,
-  sym,
-  ap,
-  ◌∙◌,
-  subst,
-  arith,
-  ⊎_elim,
-  zero,
-  suc,
-  nat_lt,
-  nat_le,
-}
+use Rattle.std.proofs.Common.{◌≡◌, ◌≢◌, ℕ, ◌+◌, ◌-◌, ◌<◌, ◌≤◌, Bool, true, false, if◌then◌else◌}
+use Rattle.std.proofs.Common.{◌&&◌, ◌||◌, ◌==◌, List, length, refl, sym, ap, ◌∙◌, subst, arith}
+use Rattle.std.proofs.Common.{⊎_elim, zero, suc, nat_lt, nat_le}
 use Rattle.std.proofs.lemmas.Bool.Decides.{nat_tests}
 use Rattle.std.proofs.lemmas.Bool.{cases_lt, cases_eq, cases_Bool}
 use Rattle.tabled_priority.specs.Permitted.{at, spare, spare_total, taken}
+use Rattle.tabled_priority.specs.Peak.{place_at}
 use Rattle.tabled_priority.specs.Shrunk.{comes_before, IsMinShrunk}
 use Rattle.tabled_priority.specs.Spares.{IsLastGiver, given, has_size, is_up_to, spare_if, spare_up_to, spare_where, stands_beside}
 use Rattle.tabled_priority.specs.Sums.{sum_below}
@@ -130,6 +105,61 @@ sum-right t f k n h =
     let s = sum_below-same (λ i. (if (t i && nat_lt k i) then f i else 0) + (if (t i && nat_lt i (suc k)) then f i else 0))
     (λ i. if t i then f i else 0) n (λ i _. parted (t i) (f i) i k) in
     let l = sum-left t f (suc k) n (omega arith) in
+    omega arith
+
+-- what the first columns of a size give
+abbrev pub first_give : List ℕ → List ℕ → ℕ → ℕ → ℕ
+first_give values mins size n = sum_below (spare_if (has_size values size) values mins) n
+
+-- what is left of the rest after the turns so far
+abbrev pub IsLeftOver : Bool → List ℕ → List ℕ → ℕ → ℕ → ℕ → ℕ → Type 0
+IsLeftOver true values mins size rest turn left =
+    left + first_give values mins size (length values) ≡ rest + first_give values mins size (length values - turn)
+IsLeftOver false values mins size rest turn left = left + first_give values mins size turn ≡ rest
+
+pub left_over-start : (right : Bool) (values mins : List ℕ) (size rest : ℕ) → IsLeftOver right values mins size rest 0 rest
+left_over-start true values mins size rest =
+    ap (λ n. rest + first_give values mins size n) (let e : length values ≡ length values - 0 = omega arith in e)
+left_over-start false values mins size rest = omega arith
+
+-- after all turns all of them gave
+pub left_over-end : (right : Bool) (values mins : List ℕ) (size rest left : ℕ)
+    → IsLeftOver right values mins size rest (length values) left → left + first_give values mins size (length values) ≡ rest
+left_over-end true values mins size rest left h =
+    let e = ap (first_give values mins size) (let z : length values - length values ≡ 0 = omega arith in z) in omega arith
+left_over-end false values mins size rest left h = h
+
+-- what is beside the index of a turn gave all that isn't left
+pub beside : (right : Bool) (values mins : List ℕ) (size rest turn place left : ℕ) → turn < length values
+    → place ≡ place_at right (length values) turn → IsLeftOver right values mins size rest turn left
+    → spare_where (stands_beside right values size place) values mins + left ≡ rest
+beside true values mins size rest turn place left inside is r =
+    let n = length values in
+    let s = sum-right (has_size values size) (spare values mins) place n (omega arith) in
+    let k : n - turn ≡ suc place = omega arith in
+    let e = ap (first_give values mins size) k in
+    omega arith
+beside false values mins size rest turn place left inside is r =
+    let s = sum-left (has_size values size) (spare values mins) place (length values) (omega arith) in
+    let e = ap (first_give values mins size) is in
+    omega arith
+
+-- after a turn less is left, by what the column gave
+pub left_over-more : (right : Bool) (values mins : List ℕ) (size rest turn place left left' : ℕ) → turn < length values
+    → place ≡ place_at right (length values) turn → IsLeftOver right values mins size rest turn left
+    → left ≡ left' + spare_if (has_size values size) values mins place
+    → IsLeftOver right values mins size rest (turn + 1) left'
+left_over-more true values mins size rest turn place left left' inside is r took =
+    let n = length values in
+    let k : n - turn ≡ suc place = omega arith in
+    let e = ap (first_give values mins size) k in
+    let h : n - (turn + 1) ≡ place = omega arith in
+    let g = ap (first_give values mins size) h in
+    omega arith
+left_over-more false values mins size rest turn place left left' inside is r took =
+    let k : turn + 1 ≡ suc turn = omega arith in
+    let e = ap (first_give values mins size) k in
+    let g = ap (spare_if (has_size values size) values mins) is in
     omega arith
 
 -- ---- the list that is left

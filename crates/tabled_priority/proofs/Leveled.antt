@@ -1,30 +1,7 @@
--- Lists that were total_amount up to a level are those of the priorities.
-use Rattle.std.proofs.Common.{
-  ◌≡◌,
-  ℕ,
-  ◌+◌,
-  ◌-◌,
-  ◌<◌,
-  ◌≤◌,
-  Bool,
-  true,
-  false,
-  if◌then◌else◌,
-  ◌&&◌,
-  List,
-  length,
-  min,
-  max,
-  refl,
-  sym,
-  ap,
-  ◌∙◌,
-  subst,
-  arith,
-  ⊎_elim,
-  nat_lt,
-  nat_le,
-}
+-- Lists that shrank up to a level are those of the priorities.
+use Rattle.std.proofs.Common.{◌≡◌, ℕ, ◌+◌, ◌-◌, ◌<◌, ◌≤◌, Bool, true, false, if◌then◌else◌, ◌&&◌}
+use Rattle.std.proofs.Common.{List, length, min, max, refl, sym, ap, ◌∙◌, subst, arith, ⊎_elim}
+use Rattle.std.proofs.Common.{nat_lt, nat_le}
 use Rattle.std.proofs.lemmas.Bool.Decides.{nat_tests}
 use Rattle.std.proofs.lemmas.Bool.{cases_lt}
 use Rattle.std.proofs.lemmas.List.{get_or_past}
@@ -33,7 +10,7 @@ use Rattle.tabled_priority.specs.declared.schedule.Schedule.TheVariants.{Depths,
 use Rattle.tabled_priority.specs.Permitted.{at, low, spare, taken, IsTakenFrom}
 use Rattle.tabled_priority.specs.Shrunk.{ceiling, is_met, start, place_after, IsMaxShrunk, IsRoundShrunk}
 use Rattle.tabled_priority.specs.Sums.{one_if}
-use Rattle.tabled_priority.specs.Schedule.{first_level, last_level, is_open, share}
+use Rattle.tabled_priority.specs.Schedule.{IsSpanBy, first_level, last_level, is_open, share}
 
 -- ---- the greatest first
 -- a column with a share of depths stands at the ceiling, or at its limits
@@ -49,19 +26,26 @@ ceiling_left : (level last i : ℕ) → level < greatest_usize
     → greatest_usize - (level + one_if (is_met 0 last i)) ≡ ceiling false (greatest_usize - level - 1) (last + 1) i
 ceiling_left level last i a = grind (arith, nat_tests)
 
-one_if-le : (b : Bool) → one_if b ≤ 1
+pub one_if-le : (b : Bool) → one_if b ≤ 1
 one_if-le true = omega arith
 one_if-le false = omega arith
+
+-- a span from the left begins at 0
+pub start-zero : (n : ℕ) → start 0 n ≡ 0
+start-zero n = grind (arith, nat_tests)
 
 past_cut : (m c new : ℕ) → new ≡ 0 → new ≡ max (min 0 m) (min 0 c)
 past_cut m c new e = omega arith
 
 pub max_shrunk : (right : Bool) (old mins : List ℕ) (by : ℕ) (new : List ℕ) (level first last : ℕ)
-    → ((i : ℕ) → at old i ≤ greatest_usize) → ((i : ℕ) → at mins i ≤ greatest_usize) → level < greatest_usize
-    → IsTakenFrom old mins by new → first ≤ last → (right ≡ true → last + 1 ≡ length old) → (right ≡ false → first ≡ 0)
-    → ((i : ℕ) → at new i + share (first_level Depths old mins) (last_level Depths old mins) level first last i ≡ at old i)
+    → ((i : ℕ) → at old i ≤ greatest_usize) → ((i : ℕ) → at mins i ≤ greatest_usize)
+    → level < greatest_usize → IsTakenFrom old mins by new → first < length old
+    → IsSpanBy (Depths right) (first_level (Depths right) old mins) (last_level (Depths right) old mins)
+    (length old) level first last
+    → ((i : ℕ) → at new i + share (first_level (Depths right) old mins)
+    (last_level (Depths right) old mins) level first last i ≡ at old i)
     → IsMaxShrunk right old mins by new
-max_shrunk true old mins by new level first last v m l t order right left each = record {
+max_shrunk true old mins by new level first last v m l t within side each = record {
   takes = t;
   level = greatest_usize - level - 1;
   place = first;
@@ -69,7 +53,8 @@ max_shrunk true old mins by new level first last v m l t order right left each =
       (λ (inside : i < length old).
       cut_here (at mins i) (at old i) (level + one_if (is_met first last i)) (at new i) (v i) (m i)
       (let o = one_if-le (is_met first last i) in omega arith) (each i)
-      ∙ ap (λ k. max (low old mins i) (min (at old i) k)) (ceiling_right level first last (length old) i l (right refl) order inside))
+      ∙ ap (λ k. max (low old mins i) (min (at old i) k))
+      (ceiling_right level first last (length old) i l side (omega arith) inside))
       (λ (past : length old ≤ i).
       let e = get_or_past old i 0 past in
       let f = each i in
@@ -77,8 +62,8 @@ max_shrunk true old mins by new level first last v m l t order right left each =
       (past_cut (at mins i) (ceiling true (greatest_usize - level - 1) first i) (at new i) (omega arith)))
       (cases_lt i (length old));
 }
-max_shrunk false old mins by new level first last v m l t order right left each =
-    let e : first ≡ 0 = left refl in
+max_shrunk false old mins by new level first last v m l t within side each =
+    let e : first ≡ 0 = side.0 ∙ start-zero (length old) in
     record {
       takes = t;
       level = greatest_usize - level - 1;
@@ -105,8 +90,8 @@ met_last first last = grind (arith, nat_tests)
 
 pub round_shrunk : (kept : ℕ) (old mins : List ℕ) (by : ℕ) (new : List ℕ) (level first last : ℕ)
     → 0 < taken old mins by → IsTakenFrom old mins by new → first ≡ start kept (length old)
-    → is_open (first_level Rounds old mins) (last_level Rounds old mins) level last ≡ true
-    → ((i : ℕ) → at new i + share (first_level Rounds old mins) (last_level Rounds old mins) level first last i ≡ at old i)
+    → is_open (first_level (Rounds kept) old mins) (last_level (Rounds kept) old mins) level last ≡ true
+    → ((i : ℕ) → at new i + share (first_level (Rounds kept) old mins) (last_level (Rounds kept) old mins) level first last i ≡ at old i)
     → IsRoundShrunk kept old mins by new (place_after (length old) last)
 round_shrunk kept old mins by new level first last some t e o each = record {
   takes = t;

@@ -1,6 +1,7 @@
 pub mod AtOnce
 pub mod BestPlace
 pub mod Between
+pub mod ByLevel
 pub mod Gains
 pub mod Givers
 pub mod Leveled

@@ -12,16 +12,16 @@ use Rattle.tabled_priority.proofs.Ramps.{amount-more}
 
 -- the levels of a column depend on its value alone
 pub first_level-at : (kind : Schedule) (xs ys mins : List ℕ) (i : ℕ) → at xs i ≡ at ys i → first_level kind xs mins i ≡ first_level kind ys mins i
-first_level-at Depths xs ys mins i e = ap (λ x. greatest_usize - x) e
-first_level-at Rounds xs ys mins i e = refl
-first_level-at Heights xs ys mins i e = e
-first_level-at Gains xs ys mins i e = refl
+first_level-at (Depths _) xs ys mins i e = ap (λ x. greatest_usize - x) e
+first_level-at (Rounds _) xs ys mins i e = refl
+first_level-at (Heights _) xs ys mins i e = e
+first_level-at (Gains _) xs ys mins i e = refl
 
 pub last_level-at : (kind : Schedule) (xs ys mins : List ℕ) (i : ℕ) → at xs i ≡ at ys i → last_level kind xs mins i ≡ last_level kind ys mins i
-last_level-at Depths xs ys mins i e = refl
-last_level-at Rounds xs ys mins i e = ap (λ x. x - at mins i) e
-last_level-at Heights xs ys mins i e = ap (λ x. cond (x == 0) 0 greatest_usize) e
-last_level-at Gains xs ys mins i e = ap (λ x. cond (x == 0) 0 greatest_usize) e
+last_level-at (Depths _) xs ys mins i e = refl
+last_level-at (Rounds _) xs ys mins i e = ap (λ x. x - at mins i) e
+last_level-at (Heights _) xs ys mins i e = ap (λ x. cond (x == 0) 0 greatest_usize) e
+last_level-at (Gains _) xs ys mins i e = ap (λ x. cond (x == 0) 0 greatest_usize) e
 
 -- what a column was found to take is its share
 pub share-at : (kind : Schedule) (xs ys mins : List ℕ) (i from to level height first last took : ℕ) → at xs i ≡ at ys i

@@ -1,5 +1,10 @@
 -- Counts of visits.
 use Rattle.std.proofs.Common.{◌≡◌, ℕ, ◌+◌, ◌*◌, ◌≤◌, List, [], ◌∷◌, length, refl, arith, zero, suc}
+use Rattle.std.proofs.lemmas.Bool.Decides.{nat_tests}
+use Rattle.tabled_priority.specs.declared.steps.Steps.{Steps}
+use Rattle.tabled_priority.specs.Changes.{Grows, Shrinks}
+use Rattle.tabled_priority.specs.Grown.{IsGrownFrom, added}
+use Rattle.tabled_priority.specs.Permitted.{IsTakenFrom, taken}
 use Rattle.std.proofs.Math.ListN.{set}
 use Rattle.tabled_priority.specs.Visits.{changed, counted, IsBounded}
 
@@ -52,3 +57,22 @@ pub IsBounded-passes : (old new : List ℕ) (before first after : ℕ) → first
 IsBounded-passes old new before first after a b c =
     let le = changed-le old new in
     IsBounded-from old new before after (length old + (length old * (4 * length old + 1) + 6 * length old)) (omega arith) (omega arith) (omega arith)
+
+-- ---- what the five priorities ensure, from the lists and the count
+pub shrinking : (old mins : List ℕ) (by : ℕ) (new : List ℕ) (amount : ℕ) (before after : Steps)
+    → IsTakenFrom old mins by new → amount ≡ taken old mins by → IsBounded old new before.count after.count
+    → Shrinks old mins by new amount before after
+shrinking old mins by new amount before after t e b =
+    let s = t.total in
+    record { permitted = t.permitted; total = omega arith; at_most = omega arith; visits = b }
+
+pub growing : (old : List ℕ) (by : ℕ) (new : List ℕ) (amount : ℕ) (before after : Steps)
+    → IsGrownFrom old by new → amount ≡ added old by → IsBounded old new before.count after.count
+    → Grows old by new amount before after
+growing old by new amount before after g e b =
+    let s = g.total in
+    let m = added-le old by in
+    record { kept = g.kept; total = omega arith; at_most = omega arith; visits = b }
+  where
+    added-le : (old : List ℕ) (by : ℕ) → added old by ≤ by
+    added-le old by = grind (arith, nat_tests)

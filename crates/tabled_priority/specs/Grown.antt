@@ -3,7 +3,7 @@
 use Rattle.std.specs.Prelude.{◌≡◌, ◌≢◌, ℕ, ◌+◌, ◌<◌, ◌≤◌, Bool, not, List, [], length, sum, max, if◌then◌else◌, ◌==◌}
 use Rattle.tabled_priority.specs.Permitted.{at}
 use Rattle.tabled_priority.specs.Shrunk.{ceiling, start, place_after, is_met}
-use Rattle.tabled_priority.specs.Peak.{IsLeftmost, IsRightmost, IsGreatest}
+use Rattle.tabled_priority.specs.Peak.{IsOutermost, IsGreatest}
 
 -- what is added of an amount: nothing if all values are zero
 abbrev pub added : List ℕ → ℕ → ℕ
@@ -27,13 +27,9 @@ pub record IsGrownAt (P : List ℕ → ℕ → Type 0) (old : List ℕ) (by : �
   pub named : 0 < added old by → P old place
   pub others : (i : ℕ) → i ≢ place → at new i ≡ at old i
 
--- all is added to the first nonzero value
-abbrev pub IsLeftGrown : List ℕ → ℕ → List ℕ → Type 0
-IsLeftGrown = IsGrownAt (λ values. IsLeftmost values [])
-
--- all is added to the last nonzero value
-abbrev pub IsRightGrown : List ℕ → ℕ → List ℕ → Type 0
-IsRightGrown = IsGrownAt (λ values. IsRightmost values [])
+-- all is added to the first nonzero value from one side
+abbrev pub IsSideGrown : Bool → List ℕ → ℕ → List ℕ → Type 0
+IsSideGrown right = IsGrownAt (λ values. IsOutermost right values [])
 
 -- all is added to the greatest value, of equal ones by the side
 abbrev pub IsMaxGrown : Bool → List ℕ → ℕ → List ℕ → Type 0

@@ -1,3 +1,5 @@
+pub mod Changes
+pub mod Choices
 pub mod Grown
 pub mod Laws
 pub mod Least

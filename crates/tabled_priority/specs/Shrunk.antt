@@ -1,22 +1,26 @@
 -- The shrunk list of each priority, described without steps, by an index, a level or a number of
 -- rounds. The arguments of all relations are the old state (a side or a stored index), the old
 -- list, the minimums, the amount, the new list and the new state.
-use Rattle.std.specs.Prelude.{◌≡◌, ℕ, ◌+◌, ◌<◌, Bool, true, List, length, min, max, nat_lt, nat_le, if◌then◌else◌, ◌||◌, ◌&&◌, ◌==◌}
+use Rattle.std.specs.Prelude.{◌≡◌, ℕ, ◌+◌, ◌<◌, Bool, true, false, List, length, min, max, nat_lt, nat_le, if◌then◌else◌, ◌||◌, ◌&&◌, ◌==◌}
 use Rattle.tabled_priority.specs.Permitted.{at, low, spare, taken, IsTakenFrom}
 
--- from the left: low limits before an index, old values after it
-pub record IsLeftShrunk (old mins : List ℕ) (by : ℕ) (new : List ℕ) : Type 0 where
-  pub takes : IsTakenFrom old mins by new
-  pub place : ℕ
-  pub before : (i : ℕ) → i < place → at new i ≡ low old mins i
-  pub after : (i : ℕ) → place < i → at new i ≡ at old i
+-- i comes before j: on its right if `right`, else on its left
+abbrev pub IsBefore : Bool → ℕ → ℕ → Type 0
+IsBefore true i j = j < i
+IsBefore false i j = i < j
 
--- from the right: old values before an index, low limits after it
-pub record IsRightShrunk (old mins : List ℕ) (by : ℕ) (new : List ℕ) : Type 0 where
+-- from one side: low limits before an index, old values after it
+pub record IsSideShrunk (right : Bool) (old mins : List ℕ) (by : ℕ) (new : List ℕ) : Type 0 where
   pub takes : IsTakenFrom old mins by new
   pub place : ℕ
-  pub before : (i : ℕ) → i < place → at new i ≡ at old i
-  pub after : (i : ℕ) → place < i → at new i ≡ low old mins i
+  pub before : (i : ℕ) → IsBefore right i place → at new i ≡ low old mins i
+  pub after : (i : ℕ) → IsBefore right place i → at new i ≡ at old i
+
+abbrev pub IsLeftShrunk : List ℕ → List ℕ → ℕ → List ℕ → Type 0
+IsLeftShrunk = IsSideShrunk false
+
+abbrev pub IsRightShrunk : List ℕ → List ℕ → ℕ → List ℕ → Type 0
+IsRightShrunk = IsSideShrunk true
 
 -- the ceiling at an index: a level, or one more on one side of an index p; before p if `right`, so
 -- that the right gives first, else from p on

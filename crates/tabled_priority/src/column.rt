@@ -1,5 +1,5 @@
 //! Reading a column, which is counted.
-ghost use Rattle.std.specs.Prelude.{◌≡◌, ◌+◌, ◌-◌, ◌<◌, ◌^◌, length, slice_set};
+ghost use Rattle.std.specs.Prelude.{◌≡◌, ◌-◌, ◌<◌, length};
 ghost use Rattle.tabled_priority.specs.Permitted.{at};
 ghost use Rattle.tabled_priority.specs.Visits.{counted};
 
@@ -42,15 +42,4 @@ pub(crate) fn visit(mins: &[usize], values: &[usize], place: usize, steps: &mut 
         value: values[place],
         least: minimum(mins, place),
     }
-}
-
-/// Adds an amount to one column.
-pub(crate) fn add_to(values: &mut [usize], place: usize, by: usize, steps: &mut Steps)
-    requires within { place < length values.old }
-    requires room { at values.old place + by < 2 ^ 64 }
-    ensures values { values.new ≡ slice_set values.old place (at values.old place + by) }
-    ensures steps { steps.new.count ≡ counted steps.old.count 1 }
-{
-    let column = visit(&[], values, place, steps);
-    values[place] = column.value + by;
 }

@@ -8,7 +8,8 @@ use crate::column::minimum;
 /// Returns the greatest new size above its minimum, or 0 if there is none. Returns `None` if the
 /// new list isn't permitted.
 fn highest(old: &[usize], mins: &[usize], new: &[usize]) -> Option<usize>
-    ensures { MatchOption result (IsPermitted old.now mins.now new.now → ⊥) (IsHighest old.now mins.now new.now) }
+    ensures { MatchOption result (IsPermitted old.now mins.now new.now → ⊥)
+        (IsHighest old.now mins.now new.now) }
 {
     if new.len() != old.len() {
         return None;
@@ -35,7 +36,8 @@ fn highest(old: &[usize], mins: &[usize], new: &[usize]) -> Option<usize>
 /// `mins` has a minimum for each size, or is empty: then all minimums are 0. Returns `false` for
 /// other `mins`.
 pub fn is_level(old: &[usize], mins: &[usize], new: &[usize]) -> bool
-    ensures exact { IsTrue result ↔ (FitsMinimums old.now mins.now × IsLevel old.now mins.now new.now) }
+    ensures exact { IsTrue result
+        ↔ (FitsMinimums old.now mins.now × IsLevel old.now mins.now new.now) }
     ensures least { IsTrue result → HasLeastGreatest old.now mins.now new.now }
 {
     if !mins.is_empty() && mins.len() != old.len() {

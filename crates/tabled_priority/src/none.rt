@@ -1,20 +1,20 @@
 //! The priority that changes sizes in turn.
-ghost use Rattle.std.specs.Prelude.{◌≡◌, ◌+◌, ◌<◌, ◌≤◌, ◌^◌, MatchOption, [], length, sum};
+ghost use Rattle.std.specs.Prelude.{◌≡◌, ◌+◌, ◌<◌, ◌^◌, MatchOption, [], length, sum};
 ghost use Rattle.std.proofs.Common.{sym, subst};
-ghost use Rattle.tabled_priority.specs.Permitted.{FitsMinimums, HasEvenLosses, IsPermitted, lowered, raised};
+ghost use Rattle.tabled_priority.specs.Permitted.{FitsMinimums, HasEvenLosses, lowered, raised};
 ghost use Rattle.tabled_priority.specs.Peak.{NoneAbove, IsNext};
 ghost use Rattle.tabled_priority.specs.Shrunk.{IsRoundShrunk, place_after};
-ghost use Rattle.tabled_priority.specs.Laws.Round.{IsRoundShrunk-none, IsRoundShrunk-done, IsRoundShrunk-step};
-ghost use Rattle.tabled_priority.specs.Grown.{IsNoneSmaller, IsRoundGrown};
-ghost use Rattle.tabled_priority.specs.Laws.Grown.{IsRoundGrown-nothing, IsRoundGrown-none, IsRoundGrown-step};
-ghost use Rattle.tabled_priority.specs.Visits.{IsBounded};
+ghost use Rattle.tabled_priority.specs.Laws.Round.{IsRoundShrunk-none, IsRoundShrunk-done};
+ghost use Rattle.tabled_priority.specs.Laws.Round.{IsRoundShrunk-step};
+ghost use Rattle.tabled_priority.specs.Grown.{IsRoundGrown};
+ghost use Rattle.tabled_priority.specs.Laws.Grown.{IsRoundGrown-nothing, IsRoundGrown-none};
+ghost use Rattle.tabled_priority.specs.Laws.Grown.{IsRoundGrown-step};
+ghost use Rattle.tabled_priority.specs.Changes.{Grows, Shrinks};
 
+use crate::change::{change_columns, place_after};
 use crate::column::visit;
-use crate::level_changes::{lower, raise};
 use crate::peaker::{Peaker, TakesAll};
-use crate::reach::reach;
-use crate::schedule::{Schedule, total_amount};
-use crate::span::round_span;
+use crate::schedule::Schedule;
 use crate::steps::Steps;
 
 /// Chooses the next size above its minimum, round the list, and stores the index after it.
@@ -32,16 +32,9 @@ impl PriorityNone {
     }
 }
 
-/// Returns the index after this one, and 0 after the last.
-fn place_after(count: usize, place: usize) -> usize
-    requires { place < usize.MAX }
-    ensures { result ≡ place_after count place }
-{
-    if place + 1 < count { place + 1 } else { 0 }
-}
-
 impl Peaker for PriorityNone {
-    ghost peaks = { λ s values mins answer t. MatchOption answer (NoneAbove values mins × (t ≡ s))
+    ghost peaks = { λ s values mins answer t. MatchOption answer
+        (NoneAbove values mins × (t ≡ s))
         (λ i. IsNext s.kept values mins i × (t.kept ≡ place_after (length values) i)) };
 
     ghost shrinks = { λ s old mins by new t. IsRoundShrunk s.kept old mins by new t.kept };
@@ -72,60 +65,45 @@ impl Peaker for PriorityNone {
         steps: &mut Steps,
     ) -> usize
         requires { FitsMinimums values.old mins.now }
-        ensures shrinks { IsRoundShrunk self.old.kept values.old mins.now by values.new self.new.kept }
-        ensures permitted { IsPermitted values.old mins.now values.new }
+        ensures shrinks { IsRoundShrunk self.old.kept values.old mins.now by values.new
+            self.new.kept }
         ensures even { HasEvenLosses values.old mins.now values.new }
-        ensures total { sum values.new + result ≡ sum values.old }
-        ensures at_most { result ≤ by }
-        ensures steps { steps.old.count ≤ steps.new.count }
-        ensures visits { IsBounded values.old values.new steps.old.count steps.new.count }
+        ensures shrinking { Shrinks values.old mins.now by values.new result steps.old steps.new }
     {
-        let wanted = by.min(total_amount(Schedule::Rounds, mins, values, usize::MAX, steps));
-        if wanted == 0 {
-            return 0;
-        }
-        let reached = reach(Schedule::Rounds, mins, values, wanted, steps);
-        let span = round_span(Schedule::Rounds, mins, values, self.kept, reached, steps);
-        lower(Schedule::Rounds, mins, values, reached.level, span, steps);
-        self.kept = place_after(values.len(), span.last);
-        wanted
+        let change = change_columns(Schedule::Rounds(self.kept), mins, values, by, steps);
+        self.kept = change.kept;
+        change.amount
     }
 
     fn grow(&mut self, values: &mut [usize], by: usize, steps: &mut Steps) -> usize
         requires { sum values.old + by < 2 ^ 64 }
         ensures grows { IsRoundGrown self.old.kept values.old by values.new self.new.kept }
-        ensures kept { IsNoneSmaller values.old values.new }
-        ensures total { sum values.new ≡ sum values.old + result }
-        ensures at_most { result ≤ by }
-        ensures steps { steps.old.count ≤ steps.new.count }
-        ensures visits { IsBounded values.old values.new steps.old.count steps.new.count }
+        ensures growing { Grows values.old by values.new result steps.old steps.new }
     {
-        let wanted = by.min(total_amount(Schedule::Gains, &[], values, usize::MAX, steps));
-        if wanted == 0 {
-            return 0;
-        }
-        let reached = reach(Schedule::Gains, &[], values, wanted, steps);
-        let span = round_span(Schedule::Gains, &[], values, self.kept, reached, steps);
-        raise(Schedule::Gains, values, reached.level, span, steps);
-        self.kept = place_after(values.len(), span.last);
-        wanted
+        let change = change_columns(Schedule::Gains(self.kept), &[], values, by, steps);
+        self.kept = change.kept;
+        change.amount
     }
 
     ghost nothing = { λ s values mins. IsRoundShrunk-none s.kept values mins };
 
-    ghost ends = { λ s t values mins by fits named. subst
-        (λ k. IsRoundShrunk s.kept values mins by values k.kept) (sym named.1) (IsRoundShrunk-done s.kept values mins by named.0) };
+    ghost ends = { λ s t values mins by fits named.
+        subst (λ k. IsRoundShrunk s.kept values mins by values k.kept) (sym named.1)
+        (IsRoundShrunk-done s.kept values mins by named.0) };
 
-    ghost goes_on = { λ s t u values mins new by i fits above named rest. IsRoundShrunk-step s.kept values mins i by
-        new u.kept named.0 (subst (λ k. IsRoundShrunk k (lowered values i) mins by new u.kept) named.1 rest) };
+    ghost goes_on = { λ s t u values mins new by i fits above named rest.
+        IsRoundShrunk-step s.kept values mins i by new u.kept named.0
+        (subst (λ k. IsRoundShrunk k (lowered values i) mins by new u.kept) named.1 rest) };
 
     ghost grows_nothing = { λ s values. IsRoundGrown-nothing s.kept values };
 
-    ghost growing_ends = { λ s t values by named. subst
-        (λ k. IsRoundGrown s.kept values by values k.kept) (sym named.1) (IsRoundGrown-none s.kept values by named.0) };
+    ghost growing_ends = { λ s t values by named.
+        subst (λ k. IsRoundGrown s.kept values by values k.kept) (sym named.1)
+        (IsRoundGrown-none s.kept values by named.0) };
 
-    ghost growing_goes_on = { λ s t u values new by i above named rest. IsRoundGrown-step s.kept values i by new
-        u.kept named.0 (subst (λ k. IsRoundGrown k (raised values i) by new u.kept) named.1 rest) };
+    ghost growing_goes_on = { λ s t u values new by i above named rest.
+        IsRoundGrown-step s.kept values i by new u.kept named.0
+        (subst (λ k. IsRoundGrown k (raised values i) by new u.kept) named.1 rest) };
 }
 
 impl TakesAll for PriorityNone {

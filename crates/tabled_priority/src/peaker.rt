@@ -1,6 +1,8 @@
 //! The traits of priorities.
-ghost use Rattle.std.specs.Prelude.{◌≡◌, ℕ, ◌+◌, ◌≤◌, ◌<◌, ◌^◌, List, [], Option, Some, None, IfSome, sum};
-ghost use Rattle.tabled_priority.specs.Permitted.{FitsMinimums, IsAbove, IsPermitted, IsTakenFrom, lowered, raised};
+ghost use Rattle.std.specs.Prelude.{◌≡◌, ℕ, ◌+◌, ◌≤◌, ◌<◌, ◌^◌, List, [], sum};
+ghost use Rattle.std.specs.Prelude.{Option, Some, None, IfSome};
+ghost use Rattle.tabled_priority.specs.Permitted.{FitsMinimums, IsAbove, IsPermitted, IsTakenFrom};
+ghost use Rattle.tabled_priority.specs.Permitted.{lowered, raised};
 ghost use Rattle.tabled_priority.specs.Grown.{IsNoneSmaller};
 ghost use Rattle.tabled_priority.specs.Visits.{changed, counted};
 
@@ -78,26 +80,31 @@ pub trait Peaker {
     ghost nothing: { (s : Self) (values mins : List ℕ) → shrinks s values mins 0 values s };
 
     // If no index is chosen, the list may stay.
-    ghost ends: { (s t : Self) (values mins : List ℕ) (by : ℕ) → FitsMinimums values mins → peaks s values mins None t
-        → shrinks s values mins by values t };
+    ghost ends: { (s t : Self) (values mins : List ℕ) (by : ℕ) → FitsMinimums values mins
+        → peaks s values mins None t → shrinks s values mins by values t };
 
     // One is taken from the chosen size, and then the amount less one.
-    ghost goes_on: { (s t u : Self) (values mins new : List ℕ) (by place : ℕ) → FitsMinimums values mins → IsAbove values mins place
-        → peaks s values mins (Some place) t → shrinks t (lowered values place) mins by new u → shrinks s values mins (by + 1) new u };
+    ghost goes_on: { (s t u : Self) (values mins new : List ℕ) (by place : ℕ)
+        → FitsMinimums values mins → IsAbove values mins place
+        → peaks s values mins (Some place) t → shrinks t (lowered values place) mins by new u
+        → shrinks s values mins (by + 1) new u };
 
     // Adding nothing changes nothing.
     ghost grows_nothing: { (s : Self) (values : List ℕ) → grows s values 0 values s };
 
     // If no index is chosen, the list may stay.
-    ghost growing_ends: { (s t : Self) (values : List ℕ) (by : ℕ) → peaks s values [] None t → grows s values by values t };
+    ghost growing_ends: { (s t : Self) (values : List ℕ) (by : ℕ) → peaks s values [] None t
+        → grows s values by values t };
 
     // One is added to the chosen size, and then the amount less one.
-    ghost growing_goes_on: { (s t u : Self) (values new : List ℕ) (by place : ℕ) → IsAbove values [] place
-        → peaks s values [] (Some place) t → grows t (raised values place) by new u → grows s values (by + 1) new u };
+    ghost growing_goes_on: { (s t u : Self) (values new : List ℕ) (by place : ℕ)
+        → IsAbove values [] place → peaks s values [] (Some place) t
+        → grows t (raised values place) by new u → grows s values (by + 1) new u };
 }
 
 /// A priority that stops only if no size is above its minimum.
 pub trait TakesAll: Peaker {
     // The whole amount is taken, or all that there is.
-    ghost takes_all: { (s t : Self) (old mins new : List ℕ) (by : ℕ) → Self.shrinks s old mins by new t → IsTakenFrom old mins by new };
+    ghost takes_all: { (s t : Self) (old mins new : List ℕ) (by : ℕ)
+        → Self.shrinks s old mins by new t → IsTakenFrom old mins by new };
 }

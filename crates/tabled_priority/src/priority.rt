@@ -1,11 +1,8 @@
 //! The five priorities by name.
 ghost use Rattle.std.specs.Prelude.{◌≡◌};
 
-use crate::left::PriorityLeft;
-use crate::max::PriorityMax;
-use crate::min::PriorityMin;
 use crate::none::PriorityNone;
-use crate::right::PriorityRight;
+use crate::stateless::{PriorityLeft, PriorityMax, PriorityMin, PriorityRight};
 
 /// Makes priorities.
 #[derive(Debug, Clone, Copy, Default, PartialEq, Eq, PartialOrd, Ord, Hash)]

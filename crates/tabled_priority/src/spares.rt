@@ -1,19 +1,24 @@
 //! Taking from the smallest sizes first, from each as much as possible.
 ghost use Rattle.std.specs.Prelude.{◌≡◌, ℕ, ◌+◌, ◌*◌, ◌<◌, ◌≤◌, length};
-ghost use Rattle.tabled_priority.specs.Permitted.{at, spare};
+ghost use Rattle.tabled_priority.specs.Changes.{Shrinks};
+ghost use Rattle.tabled_priority.specs.Permitted.{HasOneBetween, at, spare};
+ghost use Rattle.tabled_priority.specs.Shrunk.{IsMinShrunk};
 ghost use Rattle.tabled_priority.specs.Laws.Shrunk.{before};
-ghost use Rattle.tabled_priority.specs.Spares.{IsLastGiver, given, has_size, spare_up_to, spare_where, stands_beside};
+ghost use Rattle.tabled_priority.specs.Spares.{IsLastGiver, given, has_size, spare_up_to};
+ghost use Rattle.tabled_priority.specs.Spares.{spare_where, stands_beside};
 ghost use Rattle.tabled_priority.specs.Visits.{counted};
 
+use crate::choice::place_at;
 use crate::column::visit;
+use crate::schedule::{Schedule, total_amount};
 use crate::search::{Bracket, Levels, halved};
 use crate::steps::Steps;
 
 /// Columns that give what they have above their minimums.
 #[derive(Clone, Copy)]
-pub(crate) struct Spares<'a> {
-    pub(crate) mins: &'a [usize],
-    pub(crate) values: &'a [usize],
+struct Spares<'a> {
+    mins: &'a [usize],
+    values: &'a [usize],
 }
 
 /// A level is a size: the columns up to this size give all they can.
@@ -37,10 +42,10 @@ impl Levels for Spares<'_> {
 
 /// The last column that gives, its size, and what it gives.
 #[derive(Clone, Copy)]
-pub(crate) struct Giver {
-    pub(crate) place: usize,
-    pub(crate) size: usize,
-    pub(crate) amount: usize,
+struct Giver {
+    place: usize,
+    size: usize,
+    amount: usize,
 }
 
 impl Giver {
@@ -66,9 +71,11 @@ fn find_sizes(spares: &Spares, wanted: usize, steps: &mut Steps) -> Bracket
     requires enough { wanted ≤ spare_up_to spares.now.values.now spares.now.mins.now usize.MAX }
     ensures below { spare_up_to spares.now.values.now spares.now.mins.now result.base < wanted }
     ensures enough { wanted ≤ spare_up_to spares.now.values.now spares.now.mins.now result.ceiling }
-    ensures outside { (i : ℕ) → i < length spares.now.values.now → result.base < at spares.now.values.now i → result.ceiling ≤ at spares.now.values.now i }
+    ensures outside { (i : ℕ) → i < length spares.now.values.now
+        → result.base < at spares.now.values.now i → result.ceiling ≤ at spares.now.values.now i }
     ensures fewest { steps.old.count ≤ steps.new.count }
-    ensures most { steps.new.count ≤ counted steps.old.count (length spares.now.values.now * (2 * length spares.now.values.now + 1)) }
+    ensures most { let n = length spares.now.values.now in
+        steps.new.count ≤ counted steps.old.count (n * (2 * n + 1)) }
 {
     let mut bracket = Bracket {
         base: 0,
@@ -85,20 +92,21 @@ fn find_sizes(spares: &Spares, wanted: usize, steps: &mut Steps) -> Bracket
 /// reached.
 fn find_giver(spares: &Spares, right: bool, size: usize, rest: usize, steps: &mut Steps) -> Giver
     requires some { 0 < rest }
-    requires enough { rest ≤ spare_where (has_size spares.now.values.now size) spares.now.values.now spares.now.mins.now }
+    requires enough { rest ≤ spare_where (has_size spares.now.values.now size)
+        spares.now.values.now spares.now.mins.now }
     ensures inside { result.place < length spares.now.values.now }
     ensures size { (result.size ≡ size) × (at spares.now.values.now result.place ≡ size) }
     ensures some { 0 < result.amount }
     ensures fits { result.amount ≤ spare spares.now.values.now spares.now.mins.now result.place }
-    ensures total { spare_where (stands_beside right spares.now.values.now size result.place) spares.now.values.now spares.now.mins.now
-        + result.amount ≡ rest }
+    ensures total { spare_where (stands_beside right spares.now.values.now size result.place)
+        spares.now.values.now spares.now.mins.now + result.amount ≡ rest }
     ensures fewest { steps.old.count ≤ steps.new.count }
     ensures most { steps.new.count ≤ counted steps.old.count (length spares.now.values.now) }
 {
     let count = spares.values.len();
     let mut left = rest;
     for turn in 0..count {
-        let place = if right { count - 1 - turn } else { turn };
+        let place = place_at(right, count, turn);
         let column = visit(spares.mins, spares.values, place, steps);
         let spare = column.spare();
         if column.value == size {
@@ -116,14 +124,15 @@ fn find_giver(spares: &Spares, right: bool, size: usize, rest: usize, steps: &mu
 }
 
 /// Returns the last column that gives, for a wanted amount.
-pub(crate) fn last_giver(spares: &Spares, right: bool, wanted: usize, steps: &mut Steps) -> Giver
+fn last_giver(spares: &Spares, right: bool, wanted: usize, steps: &mut Steps) -> Giver
     requires some { 0 < wanted }
     requires enough { wanted ≤ spare_up_to spares.now.values.now spares.now.mins.now usize.MAX }
-    ensures giver { IsLastGiver right spares.now.values.now spares.now.mins.now wanted result.place result.amount }
+    ensures giver { IsLastGiver right spares.now.values.now spares.now.mins.now wanted
+        result.place result.amount }
     ensures size { result.size ≡ at spares.now.values.now result.place }
     ensures fewest { steps.old.count ≤ steps.new.count }
-    ensures most { steps.new.count ≤ counted steps.old.count
-        (length spares.now.values.now * (2 * length spares.now.values.now + 1) + 2 * length spares.now.values.now) }
+    ensures most { let n = length spares.now.values.now in
+        steps.new.count ≤ counted steps.old.count (n * (2 * n + 1) + 2 * n) }
 {
     let sizes = find_sizes(spares, wanted, steps);
     let rest = wanted - spares.total(sizes.base, steps);
@@ -131,17 +140,12 @@ pub(crate) fn last_giver(spares: &Spares, right: bool, wanted: usize, steps: &mu
 }
 
 /// Takes all they can give from the columns before the last giver, and its amount from that one.
-pub(crate) fn take(
-    right: bool,
-    mins: &[usize],
-    values: &mut [usize],
-    giver: Giver,
-    steps: &mut Steps,
-)
+fn take(right: bool, mins: &[usize], values: &mut [usize], giver: Giver, steps: &mut Steps)
     requires size { giver.size ≡ at values.old giver.place }
     requires fits { giver.amount ≤ spare values.old mins.now giver.place }
     ensures same_length { length values.new ≡ length values.old }
-    ensures each { (i : ℕ) → at values.new i + given right values.old mins.now giver.place giver.amount i ≡ at values.old i }
+    ensures each { (i : ℕ) → at values.new i
+        + given right values.old mins.now giver.place giver.amount i ≡ at values.old i }
     ensures steps { steps.new.count ≡ counted steps.old.count (length values.old) }
 {
     for place in 0..values.len() {
@@ -155,4 +159,25 @@ pub(crate) fn take(
         };
         values[place] = column.value - taken;
     }
+}
+
+/// Takes an amount, or as much as it can, from the smallest sizes first.
+pub(crate) fn shrink_smallest(
+    right: bool,
+    mins: &[usize],
+    values: &mut [usize],
+    by: usize,
+    steps: &mut Steps,
+) -> usize
+    ensures shrinks { IsMinShrunk right values.old mins.now by values.new }
+    ensures between { HasOneBetween values.old mins.now values.new }
+    ensures shrinking { Shrinks values.old mins.now by values.new result steps.old steps.new }
+{
+    let wanted = by.min(total_amount(Schedule::Rounds(0), mins, values, usize::MAX, steps));
+    if wanted == 0 {
+        return 0;
+    }
+    let giver = last_giver(&Spares { mins, values }, right, wanted, steps);
+    take(right, mins, values, giver, steps);
+    wanted
 }

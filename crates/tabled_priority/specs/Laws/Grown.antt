@@ -1,44 +1,17 @@
 -- Grown lists, with one more step at the beginning.
-use Rattle.std.proofs.Common.{
-  ◌≡◌,
-  ◌≢◌,
-  ℕ,
-  ◌+◌,
-  ◌<◌,
-  ◌≤◌,
-  Bool,
-  true,
-  false,
-  cond,
-  not,
-  List,
-  [],
-  ◌∷◌,
-  length,
-  sum,
-  max,
-  refl,
-  sym,
-  ap,
-  ◌∙◌,
-  subst,
-  arith,
-  ⊎_elim,
-  suc,
-  length-set,
-  nat_lt,
-  if◌then◌else◌,
-}
+use Rattle.std.proofs.Common.{◌≡◌, ◌≢◌, ℕ, ◌+◌, ◌<◌, ◌≤◌, Bool, true, false, cond, not, List, []}
+use Rattle.std.proofs.Common.{◌∷◌, length, sum, max, refl, sym, ap, ◌∙◌, subst, arith, ⊎_elim, suc}
+use Rattle.std.proofs.Common.{length-set, nat_lt, if◌then◌else◌}
 use Rattle.std.proofs.lemmas.List.{get_or-set_same, get_or-set_other}
 use Rattle.std.proofs.lemmas.List.Sums.{sum_by-set, sum_by-cons}
 use Rattle.std.proofs.lemmas.Bool.{cases_lt, cases_eq, cases_Bool, ne_eqb, eq-eqb}
 use Rattle.std.proofs.lemmas.Bool.Decides.{nat_tests}
 use Rattle.tabled_priority.specs.Permitted.{at, raised}
 use Rattle.tabled_priority.specs.Shrunk.{ceiling, start, place_after, is_met}
-use Rattle.tabled_priority.specs.Peak.{IsLeftmost, IsRightmost, IsGreatest, IsLeast, IsNext}
-use Rattle.tabled_priority.specs.Grown.{added, IsNoneSmaller, IsGrownFrom, IsGrownAt, IsLeftGrown, IsRightGrown, IsMaxGrown, IsMinGrown, IsRoundGrown}
+use Rattle.tabled_priority.specs.Peak.{IsOutermost, IsGreatest, IsLeast, IsNext}
+use Rattle.tabled_priority.specs.Grown.{added, IsNoneSmaller, IsGrownFrom, IsGrownAt, IsSideGrown, IsMaxGrown, IsMinGrown, IsRoundGrown}
 use Rattle.tabled_priority.specs.Laws.Permitted.{in_range}
-use Rattle.tabled_priority.specs.Laws.Shrunk.{lt-sum, level-le-ceiling, at-le-sum, before, before-le}
+use Rattle.tabled_priority.specs.Laws.Shrunk.{sides, lt-sum, level-le-ceiling, at-le-sum, before, before-le}
 use Rattle.tabled_priority.specs.Laws.Round.{met_itself, start-le, start-place_after, met_all, unmet_last, met_first, met_same}
 
 pub record IsRaised (i : ℕ) (old new : List ℕ) : Type 0 where
@@ -139,26 +112,19 @@ IsGrownAt-step P xs i by new h p one s =
           (cases_lt 0 (added (raised xs i) by));
     }
 
-pub IsLeftGrown-step : (xs : List ℕ) (i by : ℕ) (new : List ℕ) → IsLeftmost xs [] i → IsLeftGrown (raised xs i) by new → IsLeftGrown xs (by + 1) new
-IsLeftGrown-step xs i by new g s =
+pub IsSideGrown-step : (right : Bool) (xs : List ℕ) (i by : ℕ) (new : List ℕ)
+    → IsOutermost right xs [] i → IsSideGrown right (raised xs i) by new
+    → IsSideGrown right xs (by + 1) new
+IsSideGrown-step right xs i by new g s =
     let h : 0 < at xs i = g.above in
     let l = IsRaised-raised xs i 0 h in
     let here = l.here in
-    IsGrownAt-step (λ v. IsLeftmost v []) xs i by new h g (λ j q. ⊎_elim
+    IsGrownAt-step (λ v. IsOutermost right v []) xs i by new h g (λ j q. ⊎_elim
     (λ e. e) (λ ne. let e = l.there j ne in ⊎_elim
-    (λ less. let a = g.first j less in let b : 0 < at (raised xs i) j = q.above in absurd (omega arith))
-    (λ ge. let a = q.first i (omega arith) in absurd (omega arith)) (cases_lt j i)) (cases_eq j i)) s
-
-pub IsRightGrown-step : (xs : List ℕ) (i by : ℕ) (new : List ℕ) → IsRightmost xs [] i
-    → IsRightGrown (raised xs i) by new → IsRightGrown xs (by + 1) new
-IsRightGrown-step xs i by new g s =
-    let h : 0 < at xs i = g.above in
-    let l = IsRaised-raised xs i 0 h in
-    let here = l.here in
-    IsGrownAt-step (λ v. IsRightmost v []) xs i by new h g (λ j q. ⊎_elim
-    (λ e. e) (λ ne. let e = l.there j ne in ⊎_elim
-    (λ more. let a = g.last j more in let b : 0 < at (raised xs i) j = q.above in absurd (omega arith))
-    (λ le. let a = q.last i (omega arith) in absurd (omega arith)) (cases_lt i j)) (cases_eq j i)) s
+    (λ first. let a = g.first j first in let b : 0 < at (raised xs i) j = q.above in
+    absurd (omega arith))
+    (λ after. let a = q.first i after in absurd (omega arith)) (sides right i j ne))
+    (cases_eq j i)) s
 
 pub IsMaxGrown-step : (right : Bool) (xs : List ℕ) (i by : ℕ) (new : List ℕ) → IsGreatest right xs [] i
     → IsMaxGrown right (raised xs i) by new → IsMaxGrown right xs (by + 1) new

@@ -1,119 +1,106 @@
 -- Shrunk lists, with one more step at the beginning.
-use Rattle.std.proofs.Common.{
-  ◌≡◌,
-  ℕ,
-  ◌+◌,
-  ◌-◌,
-  ◌<◌,
-  ◌≤◌,
-  Bool,
-  true,
-  false,
-  cond,
-  List,
-  [],
-  ◌∷◌,
-  length,
-  sum,
-  min,
-  max,
-  refl,
-  sym,
-  ap,
-  ◌∙◌,
-  subst,
-  arith,
-  ⊎_elim,
-  zero,
-  suc,
-  ◌≢◌,
-  nat_lt,
-  nat_le,
-  ◌==◌,
-  ◌||◌,
-  ◌&&◌,
-  if◌then◌else◌,
-}
+use Rattle.std.proofs.Common.{◌≡◌, ℕ, ◌+◌, ◌-◌, ◌<◌, ◌≤◌, Bool, true, false, cond, List, [], ◌∷◌}
+use Rattle.std.proofs.Common.{length, sum, min, max, refl, sym, ap, ◌∙◌, subst, arith, ⊎_elim, ◌⊎◌}
+use Rattle.std.proofs.Common.{inl, inr, zero, suc, ◌≢◌, nat_lt, nat_le, ◌==◌, ◌||◌, ◌&&◌}
+use Rattle.std.proofs.Common.{if◌then◌else◌}
 use Rattle.std.proofs.lemmas.List.Sums.{get_or-le-sum_by, sum_by-cons}
 use Rattle.std.proofs.lemmas.List.{get_or_past}
 use Rattle.std.proofs.lemmas.Bool.{cases_lt, cases_eq, lt-ltb}
 use Rattle.std.proofs.lemmas.Bool.Decides.{nat_tests}
 use Rattle.tabled_priority.specs.Permitted.{at, low, taken, IsTakenFrom, lowered}
-use Rattle.tabled_priority.specs.Shrunk.{IsLeftShrunk, IsRightShrunk, ceiling, IsMaxShrunk, comes_before, IsMinShrunk}
-use Rattle.tabled_priority.specs.Peak.{IsLeftmost, IsRightmost, IsGreatest, IsLeast}
-use Rattle.tabled_priority.specs.Laws.Permitted.{
-  IsLowered-lowered,
-  low-lowered,
-  spare_total-lowered,
-  IsTakenFrom-none,
-  IsTakenFrom-done,
-  IsTakenFrom-step,
+use Rattle.tabled_priority.specs.Shrunk.{IsBefore, IsSideShrunk, IsLeftShrunk, IsRightShrunk, ceiling, IsMaxShrunk, comes_before, IsMinShrunk}
+use Rattle.tabled_priority.specs.Peak.{IsOutermost, IsLeftmost, IsRightmost, IsGreatest, IsLeast}
+use Rattle.tabled_priority.specs.Laws.Permitted.{IsLowered-lowered, low-lowered}
+use Rattle.tabled_priority.specs.Laws.Permitted.{spare_total-lowered, IsTakenFrom-none}
+use Rattle.tabled_priority.specs.Laws.Permitted.{IsTakenFrom-done, IsTakenFrom-step}
+
+-- ---- from one side
+-- of two indices one comes before the other
+pub sides : (right : Bool) (i j : ℕ) → j ≢ i → IsBefore right j i ⊎ IsBefore right i j
+sides true i j ne = ⊎_elim (λ l. inl l) (λ le. inr (omega arith)) (cases_lt i j)
+sides false i j ne = ⊎_elim (λ l. inl l) (λ le. inr (omega arith)) (cases_lt j i)
+
+-- of two indices the one that comes later
+later : Bool → ℕ → ℕ → ℕ
+later true p i = min p i
+later false p i = max p i
+
+before_later : (right : Bool) (p i j : ℕ) → IsBefore right j (later right p i)
+    → IsBefore right j p ⊎ IsBefore right j i
+unfolding later
+before_later true p i j h = ⊎_elim (λ l. inl l) (λ past. inr (omega arith)) (cases_lt p j)
+before_later false p i j h = ⊎_elim (λ l. inl l) (λ past. inr (omega arith)) (cases_lt j p)
+
+after_later : (right : Bool) (p i j : ℕ) → IsBefore right (later right p i) j
+    → IsBefore right p j × (j ≢ i)
+unfolding later
+after_later true p i j h = (omega arith, λ e. omega arith)
+after_later false p i j h = (omega arith, λ e. omega arith)
+
+-- every entry after the last index that a side meets is as it was
+pub IsSideShrunk-none : (right : Bool) (xs mins : List ℕ) → IsSideShrunk right xs mins 0 xs
+IsSideShrunk-none true xs mins = record {
+  takes = IsTakenFrom-none xs mins;
+  place = length xs;
+  before = λ i h. let e = get_or_past xs i 0 (omega arith) in omega arith;
+  after = λ i h. refl;
 }
-
--- ---- Left
-pub IsLeftShrunk-none : (xs mins : List ℕ) → IsLeftShrunk xs mins 0 xs
-IsLeftShrunk-none xs mins = record { takes = IsTakenFrom-none xs mins; place = 0; before = λ i h. absurd (omega arith); after = λ i h. refl }
-
-pub IsLeftShrunk-done : (xs mins : List ℕ) (by : ℕ) → ((i : ℕ) → at xs i ≤ at mins i) → IsLeftShrunk xs mins by xs
-IsLeftShrunk-done xs mins by h = record {
-  takes = IsTakenFrom-done xs mins by h;
+IsSideShrunk-none false xs mins = record {
+  takes = IsTakenFrom-none xs mins;
   place = 0;
   before = λ i h. absurd (omega arith);
   after = λ i h. refl;
 }
 
-pub IsLeftShrunk-step : (xs mins : List ℕ) (i by : ℕ) (new : List ℕ) → IsLeftmost xs mins i
-    → IsLeftShrunk (lowered xs i) mins by new → IsLeftShrunk xs mins (by + 1) new
-IsLeftShrunk-step xs mins i by new g s =
+pub IsSideShrunk-done : (right : Bool) (xs mins : List ℕ) (by : ℕ)
+    → ((i : ℕ) → at xs i ≤ at mins i) → IsSideShrunk right xs mins by xs
+IsSideShrunk-done right xs mins by h = record {
+  takes = IsTakenFrom-done xs mins by h;
+  place = 0;
+  before = λ i _. let a = h i in omega arith;
+  after = λ i _. refl;
+}
+
+pub IsSideShrunk-step : (right : Bool) (xs mins : List ℕ) (i by : ℕ) (new : List ℕ)
+    → IsOutermost right xs mins i → IsSideShrunk right (lowered xs i) mins by new
+    → IsSideShrunk right xs mins (by + 1) new
+IsSideShrunk-step right xs mins i by new g s =
     let h = g.above in
-    let first = g.first in
     let l = IsLowered-lowered xs i (at mins i) h in
-    let lo = low-lowered xs mins (lowered xs i) i h l in
     let t = IsTakenFrom-step xs mins i by new h s.takes in
     record {
       takes = t;
-      place = max s.place i;
-      before = λ j lt. ⊎_elim
-          (λ in'. s.before j in' ∙ lo j)
-          (λ past. let least = t.permitted.least j in let most = t.permitted.most j in let none = first j (omega arith) in omega arith)
-          (cases_lt j s.place);
-      after = λ j lt. s.after j (omega arith) ∙ l.there j (λ e. omega arith);
+      place = later right s.place i;
+      before = λ j b. ⊎_elim
+          (λ in'. s.before j in' ∙ low-lowered xs mins (lowered xs i) i h l j)
+          (λ first. let least = t.permitted.least j in let most = t.permitted.most j in
+          let none = g.first j first in omega arith)
+          (before_later right s.place i j b);
+      after = λ j a. let b = after_later right s.place i j a in s.after j b.0 ∙ l.there j b.1;
     }
 
--- ---- Right
-pub IsRightShrunk-none : (xs mins : List ℕ) → IsRightShrunk xs mins 0 xs
-IsRightShrunk-none xs mins = record {
-  takes = IsTakenFrom-none xs mins;
-  place = length xs;
-  before = λ i h. refl;
-  after = λ i h. let e = get_or_past xs i 0 (omega arith) in omega arith;
-}
+-- of the left and the right, as a priority that is chosen at run time cites them
+pub IsLeftShrunk-none : (xs mins : List ℕ) → IsLeftShrunk xs mins 0 xs
+IsLeftShrunk-none = IsSideShrunk-none false
 
-pub IsRightShrunk-done : (xs mins : List ℕ) (by : ℕ) → ((i : ℕ) → at xs i ≤ at mins i) → IsRightShrunk xs mins by xs
-IsRightShrunk-done xs mins by h = record {
-  takes = IsTakenFrom-done xs mins by h;
-  place = 0;
-  before = λ i h. absurd (omega arith);
-  after = λ i _. let a = h i in omega arith;
-}
+pub IsLeftShrunk-done : (xs mins : List ℕ) (by : ℕ) → ((i : ℕ) → at xs i ≤ at mins i)
+    → IsLeftShrunk xs mins by xs
+IsLeftShrunk-done = IsSideShrunk-done false
+
+pub IsLeftShrunk-step : (xs mins : List ℕ) (i by : ℕ) (new : List ℕ) → IsLeftmost xs mins i
+    → IsLeftShrunk (lowered xs i) mins by new → IsLeftShrunk xs mins (by + 1) new
+IsLeftShrunk-step = IsSideShrunk-step false
+
+pub IsRightShrunk-none : (xs mins : List ℕ) → IsRightShrunk xs mins 0 xs
+IsRightShrunk-none = IsSideShrunk-none true
+
+pub IsRightShrunk-done : (xs mins : List ℕ) (by : ℕ) → ((i : ℕ) → at xs i ≤ at mins i)
+    → IsRightShrunk xs mins by xs
+IsRightShrunk-done = IsSideShrunk-done true
 
 pub IsRightShrunk-step : (xs mins : List ℕ) (i by : ℕ) (new : List ℕ) → IsRightmost xs mins i
     → IsRightShrunk (lowered xs i) mins by new → IsRightShrunk xs mins (by + 1) new
-IsRightShrunk-step xs mins i by new g s =
-    let h = g.above in
-    let last = g.last in
-    let l = IsLowered-lowered xs i (at mins i) h in
-    let lo = low-lowered xs mins (lowered xs i) i h l in
-    let t = IsTakenFrom-step xs mins i by new h s.takes in
-    record {
-      takes = t;
-      place = min s.place i;
-      before = λ j lt. s.before j (omega arith) ∙ l.there j (λ e. omega arith);
-      after = λ j lt. ⊎_elim
-          (λ in'. s.after j in' ∙ lo j)
-          (λ past. let least = t.permitted.least j in let most = t.permitted.most j in let none = last j (omega arith) in omega arith)
-          (cases_lt s.place j);
-    }
+IsRightShrunk-step = IsSideShrunk-step true
 
 -- ---- Max
 pub at-le-sum : (xs : List ℕ) (i : ℕ) → at xs i ≤ sum xs

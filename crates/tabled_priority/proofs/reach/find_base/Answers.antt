@@ -1,18 +1,17 @@
-use Rattle.std.proofs.Common.{arith, length}
-use Rattle.tabled_priority.specs.Schedule.{first_level, last_level}
+use Rattle.std.proofs.Common.{arith}
+use Rattle.tabled_priority.specs.Schedule.{columns_of, first_of, last_of}
 use Rattle.tabled_priority.proofs.Ramps.{total_amount-le, total_amount-zero}
 use Rattle.tabled_priority.proofs.reach.find_base.Goals as goal
 
 pub loop-place-init : goal.loop-place-init
 loop-place-init c =
-    let z = total_amount-zero (first_level c.args.kind c.args.values.now c.args.mins.now)
-    (last_level c.args.kind c.args.values.now c.args.mins.now) (length c.args.values.now) in
+    let ramps = c.args.ramps.now in
+    let z = total_amount-zero (first_of ramps) (last_of ramps) (columns_of ramps) in
     record {
       below = omega arith;
       enough = c.requires.enough;
       starts = λ i h. absurd (omega arith);
-      ends = λ i h. absurd
-          (omega arith);
+      ends = λ i h. absurd (omega arith);
       fewest = omega arith;
       most = omega arith;
     }
@@ -20,9 +19,9 @@ loop-place-init c =
 -- each level above the base is the ceiling, or above it, so it takes enough
 pub returns-clause-base : goal.returns-clause-base
 returns-clause-base c =
-    let from = first_level c.args.kind c.args.values.now c.args.mins.now in
-    let to = last_level c.args.kind c.args.values.now c.args.mins.now in
-    let n = length c.args.values.now in
+    let from = first_of c.args.ramps.now in
+    let to = last_of c.args.ramps.now in
+    let n = columns_of c.args.ramps.now in
     let ceiling = c.loop-place.bracket.ceiling in
     let enough = c.loop-place.invariant.enough in
     record {

@@ -1,10 +1,10 @@
-use Rattle.std.proofs.Common.{◌≡◌, ◌+◌, ◌-◌, ◌*◌, ◌/◌, ◌%◌, ◌<◌, ◌≤◌, ℕ, List, length, arith, subst, sym}
+use Rattle.std.proofs.Common.{◌≡◌, ◌+◌, ◌-◌, ◌*◌, ◌/◌, ◌%◌, ◌<◌, ◌≤◌, ℕ, List, arith, subst, sym}
 use Rattle.std.proofs.Math.Nat.{mul_comm}
 use Rattle.tabled_priority.specs.Numbers.{greatest_usize}
 use Rattle.tabled_priority.specs.declared.schedule.Schedule.{Schedule}
 use Rattle.tabled_priority.specs.declared.schedule.Schedule.TheVariants.{Depths, Rounds, Heights, Gains}
 use Rattle.tabled_priority.specs.Permitted.{at}
-use Rattle.tabled_priority.specs.Schedule.{total_amount, first_level, last_level, open_count, IsBase, IsReached}
+use Rattle.tabled_priority.specs.Schedule.{IsBase, IsReached, columns_of, first_of, last_level, last_of, open_count, total_amount}
 use Rattle.tabled_priority.proofs.Ramps.{reached, open_some, open_below}
 use Rattle.tabled_priority.proofs.reach.reach.Goals as goal
 
@@ -25,43 +25,37 @@ parted from to n wanted base count missing b o some m =
     (subst (λ k. wanted ≤ total_amount from to n base + (q + 1) * k) o (omega arith))))
 
 ends : (kind : Schedule) (values mins : List ℕ) (i : ℕ) → at values i ≤ greatest_usize → last_level kind values mins i ≤ greatest_usize
-ends Depths values mins i h = omega arith
-ends Rounds values mins i h = omega arith
-ends Heights values mins i h = grind arith
-ends Gains values mins i h = grind arith
+ends (Depths _) values mins i h = omega arith
+ends (Rounds _) values mins i h = omega arith
+ends (Heights _) values mins i h = grind arith
+ends (Gains _) values mins i h = grind arith
 
 pub nonzero_div-levels : goal.nonzero_div-levels
 nonzero_div-levels c =
-    let o = open_some (first_level c.args.kind c.args.values.now c.args.mins.now)
-    (last_level c.args.kind c.args.values.now c.args.mins.now) (length c.args.values.now) c.args.wanted
-    c.find_base-base.result greatest_usize c.find_base-base.ensures.base c.requires.enough in
+    let ramps = c.args.ramps.now in
+    let o = open_some (first_of ramps) (last_of ramps) (columns_of ramps) c.args.wanted c.find_base-base.result
+    greatest_usize c.find_base-base.ensures.base c.requires.enough in
     omega arith
 
 pub returns-clause-reached : goal.returns-clause-reached
 returns-clause-reached c =
-    let from = first_level c.args.kind c.args.values.now c.args.mins.now in
-    let to = last_level c.args.kind c.args.values.now c.args.mins.now in
-    let n = length c.args.values.now in
+    let ramps = c.args.ramps.now in
     let b = c.find_base-base.ensures.base in
     let below = b.below in
-    let o = open_some from to n c.args.wanted c.find_base-base.result greatest_usize b c.requires.enough in
-    parted from to n c.args.wanted c.find_base-base.result c.count_open-open.result (c.args.wanted - c.total_amount.result)
-    b c.count_open-open.ensures.count (omega arith) (omega arith)
+    let o = open_some (first_of ramps) (last_of ramps) (columns_of ramps) c.args.wanted c.find_base-base.result
+    greatest_usize b c.requires.enough in
+    parted (first_of ramps) (last_of ramps) (columns_of ramps) c.args.wanted c.find_base-base.result
+    c.count_open-open.result (c.args.wanted - c.total_amount.result) b c.count_open-open.ensures.count (omega arith) (omega arith)
 
 pub returns-clause-below : goal.returns-clause-below
 returns-clause-below c =
-    let from = first_level c.args.kind c.args.values.now c.args.mins.now in
-    let to = last_level c.args.kind c.args.values.now c.args.mins.now in
-    let n = length c.args.values.now in
-    let b = c.find_base-base.ensures.base in
-    let below = b.below in
-    let o = open_some from to n c.args.wanted c.find_base-base.result greatest_usize b c.requires.enough in
-    let r = parted from to n c.args.wanted c.find_base-base.result c.count_open-open.result
-    (c.args.wanted - c.total_amount.result) b c.count_open-open.ensures.count (omega arith) (omega arith) in
+    let ramps = c.args.ramps.now in
+    let r = returns-clause-reached c in
     let some = r.some in
     let enough = r.enough in
-    open_below from to n (c.find_base-base.result + (c.args.wanted - c.total_amount.result - 1) / c.count_open-open.result) greatest_usize
-    (λ i _. ends c.args.kind c.args.values.now c.args.mins.now i (let f = c.type_inv.values i in omega (arith, f))) (omega arith)
+    open_below (first_of ramps) (last_of ramps) (columns_of ramps)
+    (c.find_base-base.result + (c.args.wanted - c.total_amount.result - 1) / c.count_open-open.result) greatest_usize
+    (λ i _. ends ramps.schedule ramps.values.now ramps.mins.now i (let f = c.total_amount.ensures.values_fit i in omega (arith, f))) (omega arith)
 
 pub overflow_add-result : goal.overflow_add-result
 overflow_add-result c = let b = returns-clause-below c in omega arith

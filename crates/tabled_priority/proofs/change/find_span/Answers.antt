@@ -1,0 +1,72 @@
+use Rattle.std.proofs.Common.{◌≡◌, ◌+◌, ◌-◌, ◌<◌, ◌≤◌, ℕ, true, MatchBool, arith, inl, inr, subst, sym, ◌∙◌}
+use Rattle.std.proofs.lemmas.Bool.Decides.{nat_tests}
+use Rattle.tabled_priority.specs.Sums.{one_if}
+use Rattle.tabled_priority.specs.Laws.Sums.{sum_below-prefix}
+use Rattle.tabled_priority.specs.Laws.Round.{start-le}
+use Rattle.tabled_priority.specs.Schedule.{columns_of, first_of, is_open, last_of, start_of}
+use Rattle.tabled_priority.specs.Shrunk.{start}
+use Rattle.tabled_priority.proofs.Spans.{span_right, span_round}
+use Rattle.tabled_priority.proofs.change.find_span.Goals as goal
+use Rattle.tabled_priority.proofs.change.find_span.Goals.{then-rest-ahead, else-rest-ahead}
+
+pub returns-then-is_from_right-clause-span : goal.returns-then-is_from_right-clause-span
+returns-then-is_from_right-clause-span c =
+    let ramps = c.args.ramps.now in
+    let o = c.count_open-open.ensures.count in
+    let nth = c.nth_open-first.ensures.nth in
+    let enough = c.requires.enough in
+    span_right (first_of ramps) (last_of ramps) (columns_of ramps) c.args.reached.level
+    c.args.reached.rest c.nth_open-first.result c.nth_open-first.ensures.inside (omega arith)
+
+pub returns-then-is_from_right-clause-side : goal.returns-then-is_from_right-clause-side
+returns-then-is_from_right-clause-side c =
+    let ramps = c.args.ramps.now in
+    let n = columns_of ramps in
+    let inside = c.nth_open-first.ensures.inside in
+    subst (λ b. MatchBool b (n - 1 + 1 ≡ n) ((c.nth_open-first.result ≡ start (start_of ramps.schedule) n)
+    × (is_open (first_of ramps) (last_of ramps) c.args.reached.level (n - 1) ≡ true)))
+    (sym c.if-is_from_right.true ∙ c.is_from_right.ensures) (omega arith)
+
+start_within : (kept n : ℕ) → start kept n ≤ n
+start_within kept n = grind (arith, nat_tests)
+
+pub overflow_sub-ahead : goal.overflow_sub-ahead
+overflow_sub-ahead c =
+    let ramps = c.args.ramps.now in
+    let from = first_of ramps in
+    let to = last_of ramps in
+    let s = start_within (start_of ramps.schedule) (columns_of ramps) in
+    let within : c.start-first.result ≤ columns_of ramps = (let e = c.start-first.ensures in omega arith) in
+    let p = sum_below-prefix (λ i. one_if (is_open from to c.args.reached.level i)) c.start-first.result (columns_of ramps) within in
+    let a = c.count_open-before.ensures.count in
+    let b = c.count_open-open.ensures.count in
+    omega arith
+
+pub returns-clause-span : goal.returns-clause-span
+returns-clause-span c =
+    let ramps = c.args.ramps.now in
+    let from = first_of ramps in
+    let to = last_of ramps in
+    let n = columns_of ramps in
+    let level = c.args.reached.level in
+    let inside = c.nth_open.ensures.inside in
+    let first = c.start-first.result in
+    let s = start-le (start_of ramps.schedule) n (omega arith) in
+    let within : first < n = (let e = c.start-first.ensures in omega arith) in
+    let p = sum_below-prefix (λ i. one_if (is_open from to level i)) first n (omega arith) in
+    let a = c.count_open-before.ensures.count in
+    let b = c.count_open-open.ensures.count in
+    span_round from to n level c.args.reached.rest first c.nth_open.result c.if-rest-ahead.nth
+    within inside c.nth_open.ensures.opened c.nth_open.ensures.nth c.requires.some c.requires.enough p
+    (elim c.if-rest-ahead.branch [
+      | then-rest-ahead w ↦ inl (omega arith, omega arith)
+      | else-rest-ahead w ↦ inr (omega arith, omega arith)
+    ])
+
+pub returns-clause-side : goal.returns-clause-side
+returns-clause-side c =
+    let ramps = c.args.ramps.now in
+    let n = columns_of ramps in
+    subst (λ b. MatchBool b (c.nth_open.result + 1 ≡ n) ((c.start-first.result ≡ start (start_of ramps.schedule) n)
+    × (is_open (first_of ramps) (last_of ramps) c.args.reached.level c.nth_open.result ≡ true)))
+    (sym c.if-is_from_right.false ∙ c.is_from_right.ensures) (c.start-first.ensures, c.nth_open.ensures.opened)

@@ -1,0 +1,12 @@
+use Rattle.std.proofs.Common.{◌≡◌, MatchOption}
+use Rattle.tabled_priority.specs.Permitted.{at}
+use Rattle.tabled_priority.specs.Visits.{counted}
+use Rattle.tabled_priority.proofs.BestPlace.{NoneAboveBelow, IsGreatestBelow}
+use Rattle.tabled_priority.proofs.choice.greatest.Given as goal
+
+abbrev pub invariant-loop-place : goal.invariant-loop-place
+invariant-loop-place l = record {
+  best : MatchOption l.best (NoneAboveBelow l.values l.mins l.place × (l.most ≡ 0))
+      (λ b. IsGreatestBelow l.right l.values l.mins l.place b × (l.most ≡ at l.values b));
+  steps : l.steps.count ≡ counted l.fn.steps.count l.place;
+}

@@ -1,0 +1,11 @@
+use Rattle.std.proofs.Common.{◌≡◌, ◌<◌}
+use Rattle.tabled_priority.specs.Schedule.{open_of}
+use Rattle.tabled_priority.specs.Visits.{counted}
+use Rattle.tabled_priority.proofs.schedule.Ramps.nth_open.Given as goal
+
+abbrev pub invariant-loop-place : goal.invariant-loop-place
+invariant-loop-place l = record {
+  before : l.before ≡ open_of l.self l.place l.level;
+  fewer : l.before < l.nth;
+  steps : l.steps.count ≡ counted l.fn.steps.count l.place;
+}

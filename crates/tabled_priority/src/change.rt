@@ -1,0 +1,155 @@
+//! Changes of all columns by a schedule.
+ghost use Rattle.std.specs.Prelude.{◌≡◌, ℕ, ◌+◌, ◌*◌, ◌<◌, ◌≤◌, true, length};
+ghost use Rattle.tabled_priority.specs.Schedule.{CanChange, HasRoom, IsChanged, IsReached};
+ghost use Rattle.tabled_priority.specs.Schedule.{IsScheduled, IsSpan, IsSpanBy, amount_by};
+ghost use Rattle.tabled_priority.specs.Schedule.{columns_of, first_level, first_of, is_open};
+ghost use Rattle.tabled_priority.specs.Schedule.{last_level, last_of, open_of, share};
+ghost use Rattle.tabled_priority.specs.Permitted.{at};
+ghost use Rattle.tabled_priority.specs.Shrunk.{is_met, place_after, start};
+ghost use Rattle.tabled_priority.specs.Sums.{one_if};
+ghost use Rattle.tabled_priority.specs.Visits.{IsBounded, counted};
+
+use crate::reach::{Reached, reach};
+use crate::schedule::{Ramps, Schedule, total_amount};
+use crate::steps::Steps;
+
+/// Returns the index after this one, and 0 after the last.
+pub(crate) fn place_after(count: usize, place: usize) -> usize
+    requires { place < usize.MAX }
+    ensures { result ≡ place_after count place }
+{
+    if place + 1 < count { place + 1 } else { 0 }
+}
+
+/// The level up to which columns take their amounts, and the indices, from the first to the last
+/// round the list, whose columns take up to one level more.
+#[derive(Clone, Copy)]
+struct Span {
+    level: usize,
+    first: usize,
+    last: usize,
+}
+
+impl Span {
+    /// Returns the level at an index.
+    fn level_at(&self, place: usize) -> usize
+        requires { self.now.level < usize.MAX }
+        ensures { result ≡ self.now.level + one_if (is_met self.now.first self.now.last place) }
+    {
+        let is_met = if self.first <= self.last {
+            self.first <= place && place <= self.last
+        } else {
+            self.first <= place || place <= self.last
+        };
+        if is_met { self.level + 1 } else { self.level }
+    }
+}
+
+/// Returns the span of a schedule that has as many open columns as are missing.
+fn find_span(ramps: &Ramps, reached: Reached, steps: &mut Steps) -> Span
+    requires some { 0 < reached.rest }
+    requires enough { reached.rest ≤ open_of ramps.now (columns_of ramps.now) reached.level }
+    ensures span { IsSpan (first_of ramps.now) (last_of ramps.now) (columns_of ramps.now)
+        reached.level reached.rest result.first result.last }
+    ensures level { result.level ≡ reached.level }
+    ensures side { IsSpanBy ramps.now.schedule (first_of ramps.now) (last_of ramps.now)
+        (columns_of ramps.now) reached.level result.first result.last }
+    ensures fewest { steps.old.count ≤ steps.new.count }
+    ensures most { steps.new.count ≤ counted steps.old.count (3 * columns_of ramps.now) }
+{
+    let Reached { level, rest } = reached;
+    let count = ramps.values.len();
+    let open = ramps.count_open(count, level, steps);
+    if ramps.schedule.is_from_right() {
+        let first = ramps.nth_open(level, open - rest + 1, steps);
+        return Span {
+            level,
+            first,
+            last: count - 1,
+        };
+    }
+    let first = ramps.schedule.start(count);
+    let before = ramps.count_open(first, level, steps);
+    let ahead = open - before;
+    let nth = if rest <= ahead {
+        before + rest
+    } else {
+        rest - ahead
+    };
+    Span {
+        level,
+        first,
+        last: ramps.nth_open(level, nth, steps),
+    }
+}
+
+/// Changes each column by its amount up to the level at its index.
+fn change_to(
+    schedule: Schedule,
+    mins: &[usize],
+    values: &mut [usize],
+    span: Span,
+    steps: &mut Steps,
+)
+    requires room { span.level < usize.MAX }
+    requires fits { (i : ℕ) → i < length values.old → CanChange schedule (at values.old i)
+        (share (first_level schedule values.old mins.now) (last_level schedule values.old mins.now)
+        span.level span.first span.last i) }
+    ensures same_length { length values.new ≡ length values.old }
+    ensures each { (i : ℕ) → i < length values.old → IsChanged schedule (at values.old i)
+        (share (first_level schedule values.old mins.now) (last_level schedule values.old mins.now)
+        span.level span.first span.last i) (at values.new i) }
+    ensures steps { steps.new.count ≡ counted steps.old.count (length values.old) }
+{
+    for place in 0..values.len() {
+        let ramps = Ramps {
+            schedule,
+            mins,
+            values,
+        };
+        let ramp = ramps.visit(place, steps);
+        let share = ramp.amount(span.level_at(place));
+        values[place] = schedule.changed(ramp.value, share);
+    }
+}
+
+/// What was taken or added, and the index to store after it.
+#[derive(Clone, Copy)]
+pub(crate) struct Change {
+    pub(crate) amount: usize,
+    pub(crate) kept: usize,
+}
+
+/// Changes all columns by an amount, or as much as the schedule allows.
+pub(crate) fn change_columns(
+    schedule: Schedule,
+    mins: &[usize],
+    values: &mut [usize],
+    by: usize,
+    steps: &mut Steps,
+) -> Change
+    requires { HasRoom schedule values.old by }
+    ensures changed { IsScheduled schedule values.old mins.now by values.new result.kept }
+    ensures amount { result.amount ≡ amount_by schedule values.old mins.now by }
+    ensures visits { IsBounded values.old values.new steps.old.count steps.new.count }
+{
+    let amount = by.min(total_amount(schedule, mins, values, usize::MAX, steps));
+    if amount == 0 {
+        return Change {
+            amount,
+            kept: schedule.kept(),
+        };
+    }
+    let ramps = Ramps {
+        schedule,
+        mins,
+        values,
+    };
+    let reached = reach(&ramps, amount, steps);
+    let span = find_span(&ramps, reached, steps);
+    change_to(schedule, mins, values, span, steps);
+    Change {
+        amount,
+        kept: place_after(values.len(), span.last),
+    }
+}
