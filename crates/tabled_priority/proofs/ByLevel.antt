@@ -1,12 +1,13 @@
 -- Lists that were changed up to a level are those of the priorities.
-use Rattle.std.proofs.Common.{◌≡◌, ℕ, ◌+◌, ◌-◌, ◌<◌, ◌≤◌, Bool, true, false, List, length, min}
-use Rattle.std.proofs.Common.{refl, sym, subst, arith, ⊎_elim}
+use Rattle.std.proofs.Common.{◌≡◌, ℕ, ◌+◌, ◌-◌, ◌<◌, ◌≤◌, List, length, min}
+use Rattle.std.proofs.Common.{arith, ⊎_elim}
 use Rattle.std.proofs.lemmas.Bool.{cases_lt}
 use Rattle.std.proofs.lemmas.List.{get_or_past}
 use Rattle.tabled_priority.specs.Numbers.{greatest_usize}
 use Rattle.tabled_priority.specs.declared.schedule.Schedule.{Schedule}
 use Rattle.tabled_priority.specs.declared.schedule.Schedule.TheVariants.{Depths, Rounds, Heights, Gains}
 use Rattle.tabled_priority.specs.Permitted.{at}
+use Rattle.tabled_priority.specs.Laws.Grown.{IsMinGrown-still, IsRoundGrown-still}
 use Rattle.tabled_priority.specs.Laws.Round.{IsRoundShrunk-still}
 use Rattle.tabled_priority.specs.Laws.Shrunk.{IsMaxShrunk-still, at-le-sum}
 use Rattle.tabled_priority.specs.Schedule.{CanChange, HasRoom, IsChanged, IsReached, IsScheduled}
@@ -14,7 +15,7 @@ use Rattle.tabled_priority.specs.Schedule.{IsSpan, IsSpanBy, amount_by, first_le
 use Rattle.tabled_priority.specs.Schedule.{share, start_of, total_amount}
 use Rattle.tabled_priority.specs.Shrunk.{place_after}
 use Rattle.tabled_priority.proofs.Gains.{gains_gain, grown_by_shares, heights_gain, min_grown}
-use Rattle.tabled_priority.proofs.Gains.{min_still, round_grown, round_still, share_fits}
+use Rattle.tabled_priority.proofs.Gains.{round_grown, share_fits}
 use Rattle.tabled_priority.proofs.Gains.{wanted_added, zero_end}
 use Rattle.tabled_priority.proofs.Leveled.{max_shrunk, round_shrunk}
 use Rattle.tabled_priority.proofs.Shares.{depths_spare, depths_within, rounds_spare}
@@ -49,8 +50,8 @@ pub still_by : (k : Schedule) (old mins : List ℕ) (by : ℕ) → amount_by k o
     → IsScheduled k old mins by old (start_of k)
 still_by (Depths right) old mins by z = IsMaxShrunk-still right old mins by z
 still_by (Rounds kept) old mins by z = IsRoundShrunk-still kept old mins by z
-still_by (Heights right) old mins by z = min_still right old by z
-still_by (Gains kept) old mins by z = round_still kept old by z
+still_by (Heights right) old mins by z = IsMinGrown-still right old by z
+still_by (Gains kept) old mins by z = IsRoundGrown-still kept old by z
 
 -- the level that was reached, and the columns that take one more
 pub record IsPlanned (k : Schedule) (old mins : List ℕ) (by level rest first last : ℕ) : Type 0 where

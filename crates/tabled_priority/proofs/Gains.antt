@@ -1,6 +1,6 @@
 -- What columns gain by their shares.
 use Rattle.std.proofs.Common.{◌≡◌, ℕ, ◌+◌, ◌-◌, ◌<◌, ◌≤◌, ◌^◌, Bool, true, false, cond}
-use Rattle.std.proofs.Common.{if◌then◌else◌, ◌&&◌, ◌==◌, List, [], length, sum, min, max, refl, sym}
+use Rattle.std.proofs.Common.{if◌then◌else◌, ◌&&◌, ◌==◌, List, length, sum, min, max, refl, sym}
 use Rattle.std.proofs.Common.{ap, ◌∙◌, subst, arith, ⊎_elim, zero, suc, nat_lt, nat_le}
 use Rattle.std.proofs.lemmas.Bool.Decides.{nat_tests}
 use Rattle.std.proofs.lemmas.Bool.{cases_lt, ne_eqb}
@@ -14,7 +14,7 @@ use Rattle.tabled_priority.specs.Laws.Shrunk.{at-le-sum}
 use Rattle.tabled_priority.specs.Sums.{sum_below, one_if}
 use Rattle.tabled_priority.specs.Laws.Sums.{sum_below-same, sum_below-plus, sum_below-zero, sum_below-term, sum-below}
 use Rattle.tabled_priority.specs.Grown.{added, IsGrownFrom, IsMinGrown, IsRoundGrown}
-use Rattle.tabled_priority.specs.Laws.Grown.{added-some, added-none, IsMinGrown-nothing}
+use Rattle.tabled_priority.specs.Laws.Grown.{added-some, added-none}
 use Rattle.tabled_priority.specs.Schedule.{IsReached, IsSpan, IsSpanBy, amount, first_level, is_open, last_level, share, total_amount}
 use Rattle.tabled_priority.proofs.Leveled.{one_if-le, start-zero}
 use Rattle.tabled_priority.proofs.Shares.{shares}
@@ -74,24 +74,6 @@ grown_by_shares from to old by new level rest first last r s none len each = rec
       let d = sum-below old in
       let e = sum-below new ∙ ap (sum_below (at new)) len in
       omega arith;
-}
-
--- where nothing is added the list may stay
-pub IsGrownFrom-still : (old : List ℕ) (by : ℕ) → added old by ≡ 0 → IsGrownFrom old by old
-IsGrownFrom-still old by z = record { kept = record { same_length = refl; least = λ i. omega arith; zeros = λ i h. h }; total = omega arith }
-
-pub min_still : (right : Bool) (old : List ℕ) (by : ℕ) → added old by ≡ 0 → IsMinGrown right old by old
-min_still right old by z = let s = IsMinGrown-nothing right old in
-    record { grows = IsGrownFrom-still old by z; level = s.level; place = s.place; raised = s.raised }
-
-pub round_still : (kept : ℕ) (old : List ℕ) (by : ℕ) → added old by ≡ 0 → IsRoundGrown kept old by old kept
-round_still kept old by z = record {
-  grows = IsGrownFrom-still old by z;
-  rounds = 0;
-  last = 0;
-  stays = λ _. refl;
-  moves = λ h. absurd (omega arith);
-  gains = λ i l h. absurd (omega arith);
 }
 
 -- ---- the least first

@@ -9,7 +9,7 @@ use Rattle.tabled_priority.specs.Peak.{place_at}
 use Rattle.tabled_priority.specs.Shrunk.{comes_before, IsMinShrunk}
 use Rattle.tabled_priority.specs.Spares.{IsLastGiver, given, has_size, is_up_to, spare_if, spare_up_to, spare_where, stands_beside}
 use Rattle.tabled_priority.specs.Sums.{sum_below}
-use Rattle.tabled_priority.specs.Laws.Shrunk.{before-asym, before-irrefl, IsTakenFrom-still}
+use Rattle.tabled_priority.specs.Laws.Shrunk.{before-asym, before-irrefl}
 use Rattle.tabled_priority.specs.Laws.Sums.{sum_below-same, sum_below-le, sum_below-plus, sum_below-zero, sum_below-less, sum-below}
 
 -- ---- columns up to a size
@@ -246,13 +246,3 @@ min_shrunk_by right old mins by new place amount g len each =
           omega arith)
           (cases_Bool (comes_before right old i place));
     }
-
--- where nothing is taken the list may stay
-pub IsMinShrunk-still : (right : Bool) (xs mins : List ℕ) (by : ℕ) → taken xs mins by ≡ 0 → IsMinShrunk right xs mins by xs
-IsMinShrunk-still right xs mins by h = record {
-  takes = IsTakenFrom-still xs mins by h;
-  place = 0;
-  above = λ some. absurd (omega arith);
-  before = λ i some. absurd (omega arith);
-  after = λ i some. absurd (omega arith);
-}

@@ -61,13 +61,6 @@ one_open b e = ap one_if e
 pub open-count : (from to : ℕ → ℕ) (level l : ℕ) → is_open from to level l ≡ true → open_count from to (suc l) level ≡ open_count from to l level + 1
 open-count from to level l e = let o = one_open (is_open from to level l) e in omega arith
 
-pub span_left : (from to : ℕ → ℕ) (n level rest last : ℕ) → last < n → is_open from to level last ≡ true
-    → open_count from to last level + 1 ≡ rest → IsSpan from to n level rest 0 last
-span_left from to n level rest last inside o nth =
-    let c = count_straight (is_open from to level) n 0 last (omega arith) inside in
-    let e = open-count from to level last o in
-    record { first_in = omega arith; last_in = inside; count = omega arith }
-
 pub span_right : (from to : ℕ → ℕ) (n level rest first : ℕ) → first < n → open_count from to first level + rest
     ≡ open_count from to n level → IsSpan from to n level rest first (n - 1)
 span_right from to n level rest first inside nth =

@@ -49,8 +49,9 @@ IsNoneSmaller-raised old xs i h k =
       zeros = λ j z. let e = k.zeros j z in l.there j (λ q. let p : 0 < at xs j = subst (λ x. 0 < at xs x) (sym q) h in omega arith) ∙ e;
     }
 
-pub IsGrownFrom-nothing : (xs : List ℕ) → IsGrownFrom xs 0 xs
-IsGrownFrom-nothing xs = record { kept = IsNoneSmaller-self xs; total = grind (arith, nat_tests) }
+-- nothing is added of nothing, and where all values are zero
+pub added-nothing : (xs : List ℕ) → added xs 0 ≡ 0
+added-nothing xs = grind (arith, nat_tests)
 
 pub added-none : (xs : List ℕ) (by : ℕ) → ((i : ℕ) → at xs i ≤ 0) → added xs by ≡ 0
 added-none xs by h = ap (λ b. cond b 0 by) (eq-eqb (sum xs) 0 (zero_sum xs h))
@@ -59,8 +60,9 @@ added-none xs by h = ap (λ b. cond b 0 by) (eq-eqb (sum xs) 0 (zero_sum xs h))
     zero_sum [] h = refl
     zero_sum (x ∷ xs) h = let a = h 0 in let r = zero_sum xs (λ i. h (suc i)) in omega (arith, sum_by-cons (λ (z : ℕ). z) x xs)
 
-pub IsGrownFrom-none : (xs : List ℕ) (by : ℕ) → ((i : ℕ) → at xs i ≤ 0) → IsGrownFrom xs by xs
-IsGrownFrom-none xs by h = record { kept = IsNoneSmaller-self xs; total = let e = added-none xs by h in omega arith }
+-- then the list may stay
+pub IsGrownFrom-still : (xs : List ℕ) (by : ℕ) → added xs by ≡ 0 → IsGrownFrom xs by xs
+IsGrownFrom-still xs by z = record { kept = IsNoneSmaller-self xs; total = omega arith }
 
 pub IsGrownFrom-step : (xs : List ℕ) (i by : ℕ) (new : List ℕ) → 0 < at xs i → IsGrownFrom (raised xs i) by new → IsGrownFrom xs (by + 1) new
 IsGrownFrom-step xs i by new h t =
@@ -82,19 +84,11 @@ same_grown old by new t z i = ⊎_elim
     (λ ge. let m = t.kept.least i in omega arith) (cases_lt (at old i) (at new i))
 
 -- ---- all is added at one index
-pub IsGrownAt-nothing : (P : List ℕ → ℕ → Type 0) (xs : List ℕ) → IsGrownAt P xs 0 xs
-IsGrownAt-nothing P xs = record {
-  grows = IsGrownFrom-nothing xs;
+pub IsGrownAt-still : (P : List ℕ → ℕ → Type 0) (xs : List ℕ) (by : ℕ) → added xs by ≡ 0 → IsGrownAt P xs by xs
+IsGrownAt-still P xs by z = record {
+  grows = IsGrownFrom-still xs by z;
   place = 0;
-  named = λ h. let e = (IsGrownFrom-nothing xs).total in absurd (omega arith);
-  others = λ i _. refl;
-}
-
-pub IsGrownAt-none : (P : List ℕ → ℕ → Type 0) (xs : List ℕ) (by : ℕ) → ((i : ℕ) → at xs i ≤ 0) → IsGrownAt P xs by xs
-IsGrownAt-none P xs by h = record {
-  grows = IsGrownFrom-none xs by h;
-  place = 0;
-  named = λ p. let e = added-none xs by h in absurd (omega arith);
+  named = λ some. absurd (omega arith);
   others = λ i _. refl;
 }
 
@@ -137,16 +131,13 @@ IsMaxGrown-step right xs i by new g s =
     let a = g.most j (omega arith) in let c = q.most i (omega arith) in absurd (omega arith)) (cases_eq j i)) s
 
 -- ---- Min
-pub IsMinGrown-nothing : (right : Bool) (xs : List ℕ) → IsMinGrown right xs 0 xs
-IsMinGrown-nothing right xs = record {
-  grows = IsGrownFrom-nothing xs;
+pub IsMinGrown-still : (right : Bool) (xs : List ℕ) (by : ℕ) → added xs by ≡ 0 → IsMinGrown right xs by xs
+IsMinGrown-still right xs by z = record {
+  grows = IsGrownFrom-still xs by z;
   level = 0;
   place = 0;
   raised = λ i h. let b = level-le-ceiling (not right) 0 0 i in omega (arith, b.1);
 }
-
-pub IsMinGrown-none : (right : Bool) (xs : List ℕ) (by : ℕ) → ((i : ℕ) → at xs i ≤ 0) → IsMinGrown right xs by xs
-IsMinGrown-none right xs by h = record { grows = IsGrownFrom-none xs by h; level = 0; place = 0; raised = λ i p. let a = h i in absurd (omega arith) }
 
 floor-here : (right : Bool) (height i j : ℕ) → (ceiling (not right) height (cond right i (i + 1)) i ≡ height + 1)
     × (ceiling (not right) height (cond right i (i + 1)) j ≤ height + 1)
@@ -215,27 +206,21 @@ IsMinGrown-step right xs i by new g s =
     (cases_lt height (ceiling (not right) s.level s.place i))
 
 -- ---- round the list
-pub IsRoundGrown-nothing : (kept : ℕ) (xs : List ℕ) → IsRoundGrown kept xs 0 xs kept
-IsRoundGrown-nothing kept xs = record {
-  grows = IsGrownFrom-nothing xs;
+pub IsRoundGrown-still : (kept : ℕ) (xs : List ℕ) (by : ℕ) → added xs by ≡ 0 → IsRoundGrown kept xs by xs kept
+IsRoundGrown-still kept xs by z = record {
+  grows = IsGrownFrom-still xs by z;
   rounds = 0;
   last = 0;
   stays = λ _. refl;
-  moves = λ h. let e = (IsGrownFrom-nothing xs).total in absurd (omega arith);
-  gains = λ i l h. let e = (IsGrownFrom-nothing xs).total in absurd (omega arith);
+  moves = λ some. absurd (omega arith);
+  gains = λ i l some. absurd (omega arith);
 }
 
+pub IsRoundGrown-nothing : (kept : ℕ) (xs : List ℕ) → IsRoundGrown kept xs 0 xs kept
+IsRoundGrown-nothing kept xs = IsRoundGrown-still kept xs 0 (added-nothing xs)
+
 pub IsRoundGrown-none : (kept : ℕ) (xs : List ℕ) (by : ℕ) → ((i : ℕ) → at xs i ≤ 0) → IsRoundGrown kept xs by xs kept
-IsRoundGrown-none kept xs by h =
-    let e = added-none xs by h in
-    record {
-      grows = IsGrownFrom-none xs by h;
-      rounds = 0;
-      last = 0;
-      stays = λ _. refl;
-      moves = λ z. absurd (omega arith);
-      gains = λ i l z. absurd (omega arith);
-    }
+IsRoundGrown-none kept xs by h = IsRoundGrown-still kept xs by (added-none xs by h)
 
 pub IsRoundGrown-step : (kept : ℕ) (xs : List ℕ) (i by : ℕ) (new : List ℕ) (kept' : ℕ) → IsNext kept xs [] i
     → IsRoundGrown (place_after (length xs) i) (raised xs i) by new kept' → IsRoundGrown kept xs (by + 1) new kept'

@@ -5,7 +5,7 @@ use Rattle.std.proofs.lemmas.List.Sums.{sum_by-set}
 use Rattle.std.proofs.lemmas.Bool.{cases_lt, cases_eq}
 use Rattle.tabled_priority.specs.Laws.Sums.{sum_below-less, sum_below-zero}
 use Rattle.tabled_priority.specs.Sums.{sum_below}
-use Rattle.tabled_priority.specs.Permitted.{at, low, lowered, spare, spare_total, IsPermitted, IsTakenFrom}
+use Rattle.tabled_priority.specs.Permitted.{at, low, lowered, spare, spare_total, taken, IsPermitted, IsTakenFrom}
 
 pub in_range : (xs : List ℕ) (i k : ℕ) → k < at xs i → i < length xs
 in_range xs i k h = ⊎_elim (λ l. l) (λ past. let e = get_or_past xs i 0 past in absurd (omega arith)) (cases_lt i (length xs))
@@ -45,20 +45,26 @@ le-lowered i old new l j = ⊎_elim
     (λ ne. let e = l.there j ne in omega arith) (cases_eq j i)
 
 -- ---- what is taken
-pub IsTakenFrom-none : (xs mins : List ℕ) → IsTakenFrom xs mins 0 xs
-IsTakenFrom-none xs mins = record {
+-- if nothing is taken, the list may stay
+pub IsTakenFrom-still : (xs mins : List ℕ) (by : ℕ) → taken xs mins by ≡ 0 → IsTakenFrom xs mins by xs
+IsTakenFrom-still xs mins by z = record {
   permitted = record { same_length = refl; least = λ i. omega arith; most = λ i. omega arith };
   total = omega arith;
 }
 
-spare_total-none : (xs mins : List ℕ) → ((i : ℕ) → at xs i ≤ at mins i) → spare_total xs mins ≡ 0
-spare_total-none xs mins h = sum_below-zero (spare xs mins) (length xs) (λ i _. let a = h i in omega arith)
+-- nothing is taken of nothing, and where no value is above its minimum
+pub taken-nothing : (xs mins : List ℕ) → taken xs mins 0 ≡ 0
+taken-nothing xs mins = omega arith
+
+pub taken-none : (xs mins : List ℕ) (by : ℕ) → ((i : ℕ) → at xs i ≤ at mins i) → taken xs mins by ≡ 0
+taken-none xs mins by h =
+    let e = sum_below-zero (spare xs mins) (length xs) (λ i _. let a = h i in omega arith) in omega arith
+
+pub IsTakenFrom-none : (xs mins : List ℕ) → IsTakenFrom xs mins 0 xs
+IsTakenFrom-none xs mins = IsTakenFrom-still xs mins 0 (taken-nothing xs mins)
 
 pub IsTakenFrom-done : (xs mins : List ℕ) (by : ℕ) → ((i : ℕ) → at xs i ≤ at mins i) → IsTakenFrom xs mins by xs
-IsTakenFrom-done xs mins by h = record {
-  permitted = record { same_length = refl; least = λ i. omega arith; most = λ i. omega arith };
-  total = let e = spare_total-none xs mins h in omega arith;
-}
+IsTakenFrom-done xs mins by h = IsTakenFrom-still xs mins by (taken-none xs mins by h)
 
 pub IsTakenFrom-step : (xs mins : List ℕ) (i by : ℕ) (new : List ℕ) → at mins i < at xs i
     → IsTakenFrom (lowered xs i) mins by new → IsTakenFrom xs mins (by + 1) new

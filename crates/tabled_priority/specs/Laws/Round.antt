@@ -6,8 +6,9 @@ use Rattle.std.proofs.lemmas.Bool.Decides.{nat_tests}
 use Rattle.tabled_priority.specs.Permitted.{at, spare, taken, lowered}
 use Rattle.tabled_priority.specs.Shrunk.{start, place_after, is_met, IsRoundShrunk}
 use Rattle.tabled_priority.specs.Peak.{IsNext}
-use Rattle.tabled_priority.specs.Laws.Permitted.{IsLowered-lowered, in_range, IsTakenFrom-none, IsTakenFrom-done, IsTakenFrom-step}
-use Rattle.tabled_priority.specs.Laws.Shrunk.{IsTakenFrom-still, same_where_none, taken-step}
+use Rattle.tabled_priority.specs.Laws.Permitted.{IsLowered-lowered, in_range, IsTakenFrom-still}
+use Rattle.tabled_priority.specs.Laws.Permitted.{IsTakenFrom-step, taken-none, taken-nothing}
+use Rattle.tabled_priority.specs.Laws.Shrunk.{same_where_none, taken-step}
 
 -- ---- indices round a list of n
 pub met_itself : (s i : ℕ) → is_met s i i ≡ true
@@ -35,42 +36,23 @@ pub met_same : (n s i e j : ℕ) → s < n → i < n → e < n → j < n → is_
     → is_met (place_after n i) e j ≡ is_met s e j
 met_same n s i e j a b c d h k = grind (arith, nat_tests)
 
-pub IsRoundShrunk-none : (kept : ℕ) (xs mins : List ℕ) → IsRoundShrunk kept xs mins 0 xs kept
-IsRoundShrunk-none kept xs mins = record {
-  takes = IsTakenFrom-none xs mins;
-  rounds = 0;
-  last = 0;
-  stays = λ _. refl;
-  moves = λ h. absurd (omega arith);
-  reached = λ h. absurd (omega arith);
-  losses = λ i l h. absurd (omega arith);
-}
-
-pub IsRoundShrunk-done : (kept : ℕ) (xs mins : List ℕ) (by : ℕ) → ((i : ℕ) → at xs i ≤ at mins i) → IsRoundShrunk kept xs mins by xs kept
-IsRoundShrunk-done kept xs mins by h =
-    let t = IsTakenFrom-done xs mins by h in
-    let e = t.total in
-    record {
-      takes = t;
-      rounds = 0;
-      last = 0;
-      stays = λ _. refl;
-      moves = λ z. absurd (omega arith);
-      reached = λ z. absurd (omega arith);
-      losses = λ i l z. absurd (omega arith);
-    }
-
 -- if nothing is taken, the list may stay
 pub IsRoundShrunk-still : (kept : ℕ) (xs mins : List ℕ) (by : ℕ) → taken xs mins by ≡ 0 → IsRoundShrunk kept xs mins by xs kept
-IsRoundShrunk-still kept xs mins by h = record {
-  takes = IsTakenFrom-still xs mins by h;
+IsRoundShrunk-still kept xs mins by z = record {
+  takes = IsTakenFrom-still xs mins by z;
   rounds = 0;
   last = 0;
   stays = λ _. refl;
-  moves = λ z. absurd (omega arith);
-  reached = λ z. absurd (omega arith);
-  losses = λ i l z. absurd (omega arith);
+  moves = λ some. absurd (omega arith);
+  reached = λ some. absurd (omega arith);
+  losses = λ i l some. absurd (omega arith);
 }
+
+pub IsRoundShrunk-none : (kept : ℕ) (xs mins : List ℕ) → IsRoundShrunk kept xs mins 0 xs kept
+IsRoundShrunk-none kept xs mins = IsRoundShrunk-still kept xs mins 0 (taken-nothing xs mins)
+
+pub IsRoundShrunk-done : (kept : ℕ) (xs mins : List ℕ) (by : ℕ) → ((i : ℕ) → at xs i ≤ at mins i) → IsRoundShrunk kept xs mins by xs kept
+IsRoundShrunk-done kept xs mins by h = IsRoundShrunk-still kept xs mins by (taken-none xs mins by h)
 
 -- the loss of a value that has nothing to lose
 nothing_lost : (xs mins new : List ℕ) (j k : ℕ) → at new j ≡ at xs j → at xs j ≤ at mins j → at new j + min (spare xs mins j) k ≡ at xs j

@@ -10,9 +10,9 @@ use Rattle.std.proofs.lemmas.Bool.Decides.{nat_tests}
 use Rattle.tabled_priority.specs.Permitted.{at, low, taken, IsTakenFrom, lowered}
 use Rattle.tabled_priority.specs.Shrunk.{IsBefore, IsSideShrunk, IsLeftShrunk, IsRightShrunk, ceiling, IsMaxShrunk, comes_before, IsMinShrunk}
 use Rattle.tabled_priority.specs.Peak.{IsOutermost, IsLeftmost, IsRightmost, IsGreatest, IsLeast}
-use Rattle.tabled_priority.specs.Laws.Permitted.{IsLowered-lowered, low-lowered}
-use Rattle.tabled_priority.specs.Laws.Permitted.{spare_total-lowered, IsTakenFrom-none}
-use Rattle.tabled_priority.specs.Laws.Permitted.{IsTakenFrom-done, IsTakenFrom-step}
+use Rattle.tabled_priority.specs.Laws.Permitted.{IsLowered-lowered, low-lowered, spare_total-lowered}
+use Rattle.tabled_priority.specs.Laws.Permitted.{IsTakenFrom-still, IsTakenFrom-step}
+use Rattle.tabled_priority.specs.Laws.Permitted.{taken-none, taken-nothing}
 
 -- ---- from one side
 -- of two indices one comes before the other
@@ -37,28 +37,19 @@ unfolding later
 after_later true p i j h = (omega arith, λ e. omega arith)
 after_later false p i j h = (omega arith, λ e. omega arith)
 
--- every entry after the last index that a side meets is as it was
-pub IsSideShrunk-none : (right : Bool) (xs mins : List ℕ) → IsSideShrunk right xs mins 0 xs
-IsSideShrunk-none true xs mins = record {
-  takes = IsTakenFrom-none xs mins;
+pub IsSideShrunk-still : (right : Bool) (xs mins : List ℕ) (by : ℕ) → taken xs mins by ≡ 0
+    → IsSideShrunk right xs mins by xs
+IsSideShrunk-still true xs mins by z = record {
+  takes = IsTakenFrom-still xs mins by z;
   place = length xs;
   before = λ i h. let e = get_or_past xs i 0 (omega arith) in omega arith;
   after = λ i h. refl;
 }
-IsSideShrunk-none false xs mins = record {
-  takes = IsTakenFrom-none xs mins;
+IsSideShrunk-still false xs mins by z = record {
+  takes = IsTakenFrom-still xs mins by z;
   place = 0;
   before = λ i h. absurd (omega arith);
   after = λ i h. refl;
-}
-
-pub IsSideShrunk-done : (right : Bool) (xs mins : List ℕ) (by : ℕ)
-    → ((i : ℕ) → at xs i ≤ at mins i) → IsSideShrunk right xs mins by xs
-IsSideShrunk-done right xs mins by h = record {
-  takes = IsTakenFrom-done xs mins by h;
-  place = 0;
-  before = λ i _. let a = h i in omega arith;
-  after = λ i _. refl;
 }
 
 pub IsSideShrunk-step : (right : Bool) (xs mins : List ℕ) (i by : ℕ) (new : List ℕ)
@@ -81,22 +72,22 @@ IsSideShrunk-step right xs mins i by new g s =
 
 -- of the left and the right, as a priority that is chosen at run time cites them
 pub IsLeftShrunk-none : (xs mins : List ℕ) → IsLeftShrunk xs mins 0 xs
-IsLeftShrunk-none = IsSideShrunk-none false
+IsLeftShrunk-none xs mins = IsSideShrunk-still false xs mins 0 (taken-nothing xs mins)
 
 pub IsLeftShrunk-done : (xs mins : List ℕ) (by : ℕ) → ((i : ℕ) → at xs i ≤ at mins i)
     → IsLeftShrunk xs mins by xs
-IsLeftShrunk-done = IsSideShrunk-done false
+IsLeftShrunk-done xs mins by h = IsSideShrunk-still false xs mins by (taken-none xs mins by h)
 
 pub IsLeftShrunk-step : (xs mins : List ℕ) (i by : ℕ) (new : List ℕ) → IsLeftmost xs mins i
     → IsLeftShrunk (lowered xs i) mins by new → IsLeftShrunk xs mins (by + 1) new
 IsLeftShrunk-step = IsSideShrunk-step false
 
 pub IsRightShrunk-none : (xs mins : List ℕ) → IsRightShrunk xs mins 0 xs
-IsRightShrunk-none = IsSideShrunk-none true
+IsRightShrunk-none xs mins = IsSideShrunk-still true xs mins 0 (taken-nothing xs mins)
 
 pub IsRightShrunk-done : (xs mins : List ℕ) (by : ℕ) → ((i : ℕ) → at xs i ≤ at mins i)
     → IsRightShrunk xs mins by xs
-IsRightShrunk-done = IsSideShrunk-done true
+IsRightShrunk-done xs mins by h = IsSideShrunk-still true xs mins by (taken-none xs mins by h)
 
 pub IsRightShrunk-step : (xs mins : List ℕ) (i by : ℕ) (new : List ℕ) → IsRightmost xs mins i
     → IsRightShrunk (lowered xs i) mins by new → IsRightShrunk xs mins (by + 1) new
@@ -110,29 +101,19 @@ pub level-le-ceiling : (right : Bool) (level p i : ℕ) → (level ≤ ceiling r
 level-le-ceiling true level p i = grind (arith, nat_tests)
 level-le-ceiling false level p i = grind (arith, nat_tests)
 
-pub IsMaxShrunk-none : (right : Bool) (xs mins : List ℕ) → IsMaxShrunk right xs mins 0 xs
-IsMaxShrunk-none right xs mins = record {
-  takes = IsTakenFrom-none xs mins;
+pub IsMaxShrunk-still : (right : Bool) (xs mins : List ℕ) (by : ℕ) → taken xs mins by ≡ 0 → IsMaxShrunk right xs mins by xs
+IsMaxShrunk-still right xs mins by z = record {
+  takes = IsTakenFrom-still xs mins by z;
   level = sum xs;
   place = 0;
   cut = λ i. let a = at-le-sum xs i in let b = level-le-ceiling right (sum xs) 0 i in omega arith;
 }
 
+pub IsMaxShrunk-none : (right : Bool) (xs mins : List ℕ) → IsMaxShrunk right xs mins 0 xs
+IsMaxShrunk-none right xs mins = IsMaxShrunk-still right xs mins 0 (taken-nothing xs mins)
+
 pub IsMaxShrunk-done : (right : Bool) (xs mins : List ℕ) (by : ℕ) → ((i : ℕ) → at xs i ≤ at mins i) → IsMaxShrunk right xs mins by xs
-IsMaxShrunk-done right xs mins by h = record {
-  takes = IsTakenFrom-done xs mins by h;
-  level = 0;
-  place = 0;
-  cut = λ i. let a = h i in omega arith;
-}
-
--- if nothing is taken, the list may stay
-pub IsTakenFrom-still : (xs mins : List ℕ) (by : ℕ) → taken xs mins by ≡ 0 → IsTakenFrom xs mins by xs
-IsTakenFrom-still xs mins by h = record { permitted = (IsTakenFrom-none xs mins).permitted; total = omega arith }
-
-pub IsMaxShrunk-still : (right : Bool) (xs mins : List ℕ) (by : ℕ) → taken xs mins by ≡ 0 → IsMaxShrunk right xs mins by xs
-IsMaxShrunk-still right xs mins by h = let s = IsMaxShrunk-none right xs mins in
-    record { takes = IsTakenFrom-still xs mins by h; level = s.level; place = s.place; cut = s.cut }
+IsMaxShrunk-done right xs mins by h = IsMaxShrunk-still right xs mins by (taken-none xs mins by h)
 
 -- the ceilings after one is taken from i, at the height of i
 ceiling-here : (right : Bool) (height i j : ℕ) → 0 < height → (ceiling right (height - 1) (cond right i (i + 1)) i + 1 ≡ height)
@@ -248,23 +229,20 @@ before-lt right x y i j h = ap (λ b. b || ((x == y) && (if right then nat_lt j 
 pub before-irrefl : (right : Bool) (x i : ℕ) → before right x x i i ≡ true → ⊥
 before-irrefl right x i h = before-asym right x x i i h h
 
-pub IsMinShrunk-none : (right : Bool) (xs mins : List ℕ) → IsMinShrunk right xs mins 0 xs
-IsMinShrunk-none right xs mins = record {
-  takes = IsTakenFrom-none xs mins;
+pub IsMinShrunk-still : (right : Bool) (xs mins : List ℕ) (by : ℕ) → taken xs mins by ≡ 0 → IsMinShrunk right xs mins by xs
+IsMinShrunk-still right xs mins by z = record {
+  takes = IsTakenFrom-still xs mins by z;
   place = 0;
-  above = λ h. absurd (omega arith);
-  before = λ i h. absurd (omega arith);
-  after = λ i h. absurd (omega arith);
+  above = λ some. absurd (omega arith);
+  before = λ i some. absurd (omega arith);
+  after = λ i some. absurd (omega arith);
 }
 
+pub IsMinShrunk-none : (right : Bool) (xs mins : List ℕ) → IsMinShrunk right xs mins 0 xs
+IsMinShrunk-none right xs mins = IsMinShrunk-still right xs mins 0 (taken-nothing xs mins)
+
 pub IsMinShrunk-done : (right : Bool) (xs mins : List ℕ) (by : ℕ) → ((i : ℕ) → at xs i ≤ at mins i) → IsMinShrunk right xs mins by xs
-IsMinShrunk-done right xs mins by h = record {
-  takes = IsTakenFrom-done xs mins by h;
-  place = 0;
-  above = λ z. let e = (IsTakenFrom-done xs mins by h).total in absurd (omega arith);
-  before = λ i z a. let b = h i in absurd (omega arith);
-  after = λ i z a. let b = h i in absurd (omega arith);
-}
+IsMinShrunk-done right xs mins by h = IsMinShrunk-still right xs mins by (taken-none xs mins by h)
 
 pub IsMinShrunk-step : (right : Bool) (xs mins : List ℕ) (i by : ℕ) (new : List ℕ) → IsLeast right xs mins i
     → IsMinShrunk right (lowered xs i) mins by new → IsMinShrunk right xs mins (by + 1) new

@@ -1,4 +1,4 @@
-use Rattle.std.proofs.Common.{◌≡◌, ◌<◌, length, arith, ap, subst, sym, ◌∙◌}
+use Rattle.std.proofs.Common.{◌≡◌, length, arith, ap, subst, sym, ◌∙◌}
 use Rattle.tabled_priority.specs.Permitted.{at}
 use Rattle.tabled_priority.specs.Schedule.{CanChange, IsChanged, IsReached, IsScheduled, amount_by, first_level, last_level, share}
 use Rattle.tabled_priority.specs.Shrunk.{place_after}

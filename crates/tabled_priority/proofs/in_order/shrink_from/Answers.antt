@@ -4,7 +4,8 @@ use Rattle.std.proofs.lemmas.List.{get_or_past}
 use Rattle.tabled_priority.specs.Permitted.{at}
 use Rattle.tabled_priority.specs.Peak.{place_at}
 use Rattle.tabled_priority.specs.Shrunk.{IsBefore, IsSideShrunk}
-use Rattle.tabled_priority.specs.Laws.Shrunk.{IsSideShrunk-none, IsSideShrunk-done}
+use Rattle.tabled_priority.specs.Laws.Permitted.{taken-none}
+use Rattle.tabled_priority.specs.Laws.Shrunk.{IsSideShrunk-still}
 use Rattle.tabled_priority.proofs.AtOnce.{IsPassed, less, side_at_once, passed-none, passed-more, passed-before, passed-all, place_at-lt}
 use Rattle.tabled_priority.proofs.Underway.{Underway, Underway-start, Underway-take, at-less, at-less_other}
 use Rattle.tabled_priority.proofs.Between.{side_between}
@@ -69,14 +70,14 @@ returns-clause-shrinks c =
     let xs = c.loop-turn.values in
     let u = c.loop-turn.invariant.underway in
     let len : length xs ≡ length c.args.values.now = u.permitted.same_length in
-    u.onward xs (⊎_elim
-    (λ some. IsSideShrunk-done right xs mins c.loop-turn.left (λ j. ⊎_elim
+    u.onward xs (IsSideShrunk-still right xs mins c.loop-turn.left (⊎_elim
+    (λ some. taken-none xs mins c.loop-turn.left (λ j. ⊎_elim
     (λ inside. c.loop-turn.invariant.passed some j (subst (λ k. IsPassed right (length c.args.values.now) k j)
     (let e : length c.args.values.now ≡ c.loop-turn.turn = omega arith in e)
     (passed-all right (length c.args.values.now) j (omega arith))))
     (λ past. let e = get_or_past xs j 0 past in omega arith) (cases_lt j (length xs))))
-    (λ none. subst (λ k. IsSideShrunk right xs mins k xs) (let e : 0 ≡ c.loop-turn.left = omega arith in e) (IsSideShrunk-none right xs mins))
-    (cases_lt 0 c.loop-turn.left))
+    (λ none. omega arith)
+    (cases_lt 0 c.loop-turn.left)))
 
 pub returns-clause-between : goal.returns-clause-between
 returns-clause-between c = side_between c.args.right c.args.values.now c.args.mins.now c.args.by

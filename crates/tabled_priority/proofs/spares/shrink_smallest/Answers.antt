@@ -1,4 +1,5 @@
-use Rattle.std.proofs.Common.{◌≡◌, ◌≤◌, ℕ, List, length, min, arith, ap, subst, sym, ◌∙◌}
+use Rattle.std.proofs.Common.{◌≡◌, ◌≤◌, ℕ, List, length, min, arith, subst, sym, ◌∙◌}
+use Rattle.tabled_priority.specs.Laws.Shrunk.{IsMinShrunk-still}
 use Rattle.tabled_priority.specs.Numbers.{greatest_usize}
 use Rattle.tabled_priority.specs.Permitted.{at, taken}
 use Rattle.tabled_priority.specs.declared.schedule.Schedule.TheVariants.{Rounds}
@@ -6,7 +7,7 @@ use Rattle.tabled_priority.specs.Schedule.{first_level, last_level, total_amount
 use Rattle.tabled_priority.specs.Spares.{IsLastGiver}
 use Rattle.tabled_priority.proofs.Shares.{rounds_spare, wanted_taken}
 use Rattle.tabled_priority.proofs.Between.{min_between}
-use Rattle.tabled_priority.proofs.Givers.{IsMinShrunk-still, min_shrunk_by, spare_up_to-all}
+use Rattle.tabled_priority.proofs.Givers.{min_shrunk_by, spare_up_to-all}
 use Rattle.tabled_priority.proofs.Visiting.{IsBounded-whole, IsBounded-passes, shrinking}
 use Rattle.tabled_priority.proofs.spares.shrink_smallest.Goals as goal
 

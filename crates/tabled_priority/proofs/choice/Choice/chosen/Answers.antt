@@ -1,6 +1,5 @@
 use Rattle.std.proofs.Common.{ℕ, ◌<◌, List, Option, Some, None, MatchOption, IfSome, length, subst, sym}
 use Rattle.tabled_priority.specs.declared.choice.Choice.{Choice}
-use Rattle.tabled_priority.specs.declared.choice.Choice.TheVariants.{Outermost, Greatest, Least}
 use Rattle.tabled_priority.specs.Choices.{IsChosen}
 use Rattle.tabled_priority.specs.Laws.Permitted.{in_range}
 use Rattle.tabled_priority.specs.Peak.{NoneAbove}

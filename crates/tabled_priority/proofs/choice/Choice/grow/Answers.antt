@@ -1,13 +1,12 @@
-use Rattle.std.proofs.Common.{◌≡◌, ℕ, ◌+◌, ◌<◌, ◌≤◌, List, [], slice_set, arith, sym, subst, ◌∙◌, ⊎_elim, length-set}
+use Rattle.std.proofs.Common.{ℕ, ◌+◌, ◌<◌, ◌≤◌, List, [], slice_set, arith, sym, subst, ◌∙◌, ⊎_elim, length-set}
 use Rattle.std.proofs.lemmas.Bool.{cases_eq}
 use Rattle.std.proofs.lemmas.List.{get_or-set_same, get_or-set_other}
 use Rattle.std.proofs.lemmas.List.Sums.{sum_by-set}
 use Rattle.tabled_priority.specs.Permitted.{at}
 use Rattle.tabled_priority.specs.Choices.{IsChosen}
 use Rattle.tabled_priority.specs.Grown.{IsGrownAt}
-use Rattle.tabled_priority.specs.Laws.Grown.{IsGrownAt-none, IsGrownFrom-none, added-none, added-some}
+use Rattle.tabled_priority.specs.Laws.Grown.{IsGrownAt-still, IsGrownFrom-still, added-none, added-some}
 use Rattle.tabled_priority.specs.Laws.Permitted.{in_range}
-use Rattle.tabled_priority.specs.Laws.Shrunk.{at-le-sum}
 use Rattle.tabled_priority.proofs.BestPlace.{IsChosen-above}
 use Rattle.tabled_priority.proofs.Visiting.{IsBounded-same, IsBounded-one, growing}
 use Rattle.tabled_priority.proofs.choice.Choice.grow.Goals as goal
@@ -36,13 +35,14 @@ grown_at P xs i by pos named =
 
 pub returns-in_default-clause-grows : goal.returns-in_default-clause-grows
 returns-in_default-clause-grows c =
-    IsGrownAt-none (λ v. IsChosen c.args.self v []) c.args.values.now c.args.by c.in_default.ensures.answer
+    IsGrownAt-still (λ v. IsChosen c.args.self v []) c.args.values.now c.args.by
+    (added-none c.args.values.now c.args.by c.in_default.ensures.answer)
 
 pub returns-in_default-clause-growing : goal.returns-in_default-clause-growing
 returns-in_default-clause-growing c =
     let xs = c.args.values.now in
     let none = c.in_default.ensures.answer in
-    growing xs c.args.by xs 0 c.args.steps.now c.chosen.new.steps (IsGrownFrom-none xs c.args.by none)
+    growing xs c.args.by xs 0 c.args.steps.now c.chosen.new.steps (IsGrownFrom-still xs c.args.by (added-none xs c.args.by none))
     (sym (added-none xs c.args.by none))
     (IsBounded-same xs c.args.steps.now.count c.chosen.new.steps.count c.in_default.ensures.fewest c.in_default.ensures.most)
 
