@@ -1,9 +1,11 @@
 //! How sizes change while a level rises.
-ghost use Rattle.std.specs.Prelude.{◌≡◌, ℕ, ◌+◌, ◌-◌, ◌<◌, ◌≤◌, nat_le, nat_lt, ◌&&◌, length, min, true};
+ghost use Rattle.std.specs.Prelude.{◌≡◌, ℕ, ◌+◌, ◌-◌, ◌<◌, ◌≤◌, nat_le, nat_lt, ◌&&◌, length, min};
+ghost use Rattle.std.specs.Prelude.{true};
 ghost use Rattle.tabled_priority.specs.Permitted.{at};
 ghost use Rattle.tabled_priority.specs.Schedule.{CanChange, IsChanged, columns_of, first_of};
 ghost use Rattle.tabled_priority.specs.Schedule.{is_from_right, is_open, last_of, open_of};
-ghost use Rattle.tabled_priority.specs.Schedule.{first_level, last_level, start_of, total_amount, total_of};
+ghost use Rattle.tabled_priority.specs.Schedule.{first_level, last_level, start_of, total_amount};
+ghost use Rattle.tabled_priority.specs.Schedule.{total_of};
 ghost use Rattle.tabled_priority.specs.Shrunk.{start};
 ghost use Rattle.tabled_priority.specs.Visits.{counted};
 
