@@ -11,7 +11,7 @@ use Rattle.std.proofs.lemmas.List.Sums.{sum_by_push}
 use Rattle.std.proofs.lemmas.Str.{IsUtf8-nil, chars-nil, chars-append, IsUtf8-append, chars_past_char, chars-encodes, IsUtf8-encode, scalars-chars, IsCharBoundary-at_seam}
 use Rattle.std.proofs.lemmas.Bool.{and_parts, ne_eqb, cases_lt}
 use Rattle.tabled_text.specs.Measure.{lines_of, count_of, char_count}
-use Rattle.tabled_text.specs.Cut.{last_of, last_line, IsReached, IsLongestReached, missing_columns, following, IsParted, IsCut, IsSplit, NeedsFill}
+use Rattle.tabled_text.specs.Cut.{last_of, last_line, IsReached, IsLongestReached, missing_columns, following, IsParted, IsCut, IsSplit}
 use Rattle.std.specs.Char.{IsScalar}
 use lib.Utf8.{scalar, scalars}
 

@@ -1,5 +1,5 @@
 -- The listed characters end no special sequence, by the tables of `unicode_width`, so that their columns add up.
-use Rattle.std.proofs.Common.{◌≡◌, ℕ, ◌≤◌, ◌<◌, Bool, true, false, nat_le, ◌&&◌, ◌||◌, nat_lt, List, [], ◌∷◌, Option, None, refl, sym, arith, subst, ⊎_elim, lit<, sum_by, max, ◌==◌}
+use Rattle.std.proofs.Common.{◌≡◌, ℕ, ◌≤◌, ◌<◌, Bool, true, false, nat_le, ◌&&◌, ◌||◌, nat_lt, List, [], ◌∷◌, Option, None, refl, arith, ⊎_elim, sum_by, max, ◌==◌}
 use Rattle.std.specs.List.{list_all}
 use Rattle.std.proofs.lemmas.Bool.{and_parts, or_cases, or_left, or_right, and_from, leb-true, lt-ltb, eqb-true}
 use Rattle.std.proofs.lemmas.List.Sums.{sum_by-cons}
