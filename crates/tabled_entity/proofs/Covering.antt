@@ -120,7 +120,7 @@ module _ {T : Type 0} where
         | false ↦ refl
       ]
 
-  none-before : (entity : Entity) (value : T) (earlier : List (Entity × T))
+  pub none-before : (entity : Entity) (value : T) (earlier : List (Entity × T))
       → last_for Global ((entity, value) ∷ earlier) ≡ None → last_for Global earlier ≡ None
   none-before Global value earlier h = cc
   none-before (Row r) value earlier h = h

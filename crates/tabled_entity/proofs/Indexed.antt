@@ -1,12 +1,20 @@
 -- What a map of changes finds by its places is the latest setting that covers a cell.
-use Rattle.std.proofs.Common.{cond, [], ◌∷◌, suc, refl, arith, ◌≡◌, ℕ, ◌-◌, ◌<◌, List, length, reverse, Option, Some, None, IfSome, ap, sym, ◌∙◌, subst, get_or}
+use Rattle.std.proofs.Common.{cond, false, is_some, [], ◌∷◌, zero, suc, refl, arith, ◌≡◌, ℕ, ◌-◌, ◌<◌, List, length, reverse, Option, Some, None, ap, sym, ◌∙◌, subst, get_or}
 use Rattle.std.proofs.lemmas.List.{length-reverse, reverse-reverse, get_or-reverse}
+use Rattle.std.proofs.lemmas.Bool.{both_ways}
+use Rattle.std.proofs.lemmas.Option.{slice_get-get_or}
+use Rattle.std.specs.Option.{option_map, unwrap_or}
 use Rattle.tabled_base.specs.declared.position.Entity.{Entity}
 use Rattle.tabled_base.specs.declared.position.Entity.TheVariants.{Global, Row, Column, Cell}
 use Rattle.tabled_entity.specs.declared.change_index.ChangeIndex.{ChangeIndex}
 use Rattle.tabled_entity.specs.Changes.{first_covering, if_unparted}
-use Rattle.tabled_entity.specs.ChangeIndex.{IsIndexed, IsReindexed, found, last_for, later, latest, same}
-use Rattle.tabled_entity.proofs.Covering.{IsBelow, latest_place, below-latest_place, said_at, said_at-latest}
+use Rattle.tabled_entity.specs.ChangeIndex.{AreParts, IsIndexed, IsPart, IsReindexed, found, last_for, later, latest, same}
+use Rattle.tabled_entity.specs.RowValues.{value_of}
+use Rattle.tabled_entity.proofs.Covering.{IsBelow, latest_place, below-latest_place, none-before, said_at, said_at-latest}
+
+item-reversed : {X : Type 0} (items : List X) (i : ℕ) (d : X) → i < length (reverse items) → get_or items i d
+    ≡ get_or (reverse items) (length (reverse items) - 1 - i) d
+item-reversed items i d h = ap (λ xs. get_or xs i d) (sym (reverse-reverse items)) ∙ get_or-reverse (reverse items) i d h
 
 module _ {T : Type 0} where
   pub indexed-latest : (places : ChangeIndex) (parts : List (Entity × T)) (row column : ℕ) → IsIndexed places parts
@@ -16,18 +24,31 @@ module _ {T : Type 0} where
       ∙ (ap (λ b. later (last_for (Row row) parts) (later b (found places (Cell row column)))) (p.found (Column column))
       ∙ ap (λ d. later (last_for (Row row) parts) (later (last_for (Column column) parts) d)) (p.found (Cell row column)))
 
-  pub placed-below : (parts : List (Entity × T)) (row column i : ℕ) → Some i ≡ latest_place parts row column → i < length parts
-  placed-below parts row column i e = subst (IsBelow (length parts)) (sym e) (below-latest_place parts row column)
-
-  pub latest-below : (parts : List (Entity × T)) (row column : ℕ) (place : Option ℕ) → place ≡ latest_place parts row column
-      → IfSome place (λ i. i < length parts)
-  latest-below parts row column None e = tt
-  latest-below parts row column (Some i) e = placed-below parts row column i e
-
-  pub said_at-placed : (whole : T) (places : ChangeIndex) (parts : List (Entity × T)) (row column : ℕ) (o : Option ℕ)
+  said_at-placed : (whole : T) (places : ChangeIndex) (parts : List (Entity × T)) (row column : ℕ) (o : Option ℕ)
       → IsIndexed places parts → o ≡ latest_place parts row column → said_at whole parts o ≡ first_covering whole parts row column
   said_at-placed whole places parts row column o p e =
       ap (said_at whole parts) e ∙ said_at-latest whole parts row column (sym (p.found Global))
+
+  -- the value of a change, by its index from the earliest
+  value_of-said : (whole : T) (items : List (Entity × T)) (o : Option ℕ) → IsBelow (length (reverse items)) o
+      → value_of whole items o ≡ said_at whole (reverse items) o
+  value_of-said whole items None h = refl
+  value_of-said whole items (Some i) h =
+      let none : Entity × T = (Global, whole) in
+      let below : i < length (reverse items) = h in
+      let within : i < length items = subst (λ (n : ℕ). i < n) (length-reverse items) below in
+      ap (λ o. unwrap_or (option_map (λ change. change.1) o) whole) (slice_get-get_or items i none within)
+      ∙ ap (λ change. change.1) (item-reversed items i none below)
+
+  -- the value of the latest change for a cell is the latest that covers it
+  pub value_of-latest : (whole : T) (places : ChangeIndex) (items : List (Entity × T)) (row column : ℕ) (o : Option ℕ)
+      → IsIndexed places (reverse items) → o ≡ latest (found places) row column
+      → value_of whole items o ≡ first_covering whole (reverse items) row column
+  value_of-latest whole places items row column o p e =
+      let parts = reverse items in
+      let placed : o ≡ latest_place parts row column = e ∙ indexed-latest places parts row column p in
+      value_of-said whole items o (subst (IsBelow (length parts)) (sym placed) (below-latest_place parts row column))
+      ∙ said_at-placed whole places parts row column o p placed
 
   -- rows whose cells have the same latest places have the same settings
   pub alike-found : (whole : T) (places : ChangeIndex) (parts : List (Entity × T)) (row other column : ℕ) → IsIndexed places parts
@@ -47,9 +68,29 @@ indexed-more old new items entity value place indexed placed is =
           ∙ ap (cond (same entity other) (Some (length (reverse items)))) (indexed.found other);
     }
 
-pub item-reversed : {X : Type 0} (items : List X) (i : ℕ) (d : X) → i < length (reverse items) → get_or items i d
-    ≡ get_or (reverse items) (length (reverse items) - 1 - i) d
-item-reversed items i d h = ap (λ xs. get_or xs i d) (sym (reverse-reverse items)) ∙ get_or-reverse (reverse items) i d h
+some-none : (n : ℕ) → Some n ≡ None → ⊥
+some-none n h = both_ways false refl (ap is_some (sym h))
+
+first-part : {T : Type 0} (entity : Entity) (value : T) (earlier : List (Entity × T)) → AreParts ((entity, value) ∷ earlier) → IsPart entity
+first-part Global value earlier h = absurd (some-none (length earlier) h)
+first-part (Row r) value earlier h = tt
+first-part (Column c) value earlier h = tt
+first-part (Cell r c) value earlier h = tt
+
+part-at : {T : Type 0} (parts : List (Entity × T)) (i : ℕ) (d : Entity × T) → AreParts parts → i < length parts → IsPart (get_or parts i d).0
+part-at [] i d h below = absurd (omega arith)
+part-at (part ∷ earlier) zero d h below = first-part part.0 part.1 earlier h
+part-at (part ∷ earlier) (suc i) d h below =
+    let later : suc i < suc (length earlier) = below in part-at earlier i d (none-before part.0 part.1 earlier h) (omega arith)
+
+-- each item is for a part
+pub item-part : {T : Type 0} (items : List (Entity × T)) (i : ℕ) (d : Entity × T) → AreParts (reverse items) → i < length items
+    → IsPart (get_or items i d).0
+item-part items i d h below =
+    let e = length-reverse items in
+    let within : i < length (reverse items) = omega (arith, e, below) in
+    subst (λ (p : Entity × _). IsPart p.0) (sym (item-reversed items i d within))
+    (part-at (reverse items) (length (reverse items) - 1 - i) d h (omega (arith, within)))
 
 -- where nothing was set for a part, each cell has what the whole table has
 pub nothing_set : {T : Type 0} (whole : T) (items : List (Entity × T)) (row column : ℕ) → length items ≡ 0 → whole

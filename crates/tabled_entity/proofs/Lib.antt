@@ -1,5 +1,3 @@
 pub mod Covering
 pub mod Indexed
-pub mod SameCells
-pub mod Knowing
-pub mod Walking
+pub mod Runs

@@ -1,9 +1,8 @@
 -- The index of the latest change for each entity in the list of changes.
 use Rattle.std.specs.Prelude.{ℕ, ◌≡◌, ◌==◌, ◌&&◌, if◌then◌else◌, Bool, true, false, List, [], ◌∷◌, length, Option, Some, None, max}
-use Rattle.std.specs.Ordering.{nat_cmp, ordering_then}
-use Rattle.std.specs.BTreeMap.{get}
 use Rattle.tabled_base.specs.declared.position.Entity.{Entity}
 use Rattle.tabled_base.specs.declared.position.Entity.TheVariants.{Global, Row, Column, Cell}
+use Rattle.tabled_entity.specs.RunMap.{cell_in, value_in}
 use Rattle.tabled_entity.specs.declared.change_index.ChangeIndex.{ChangeIndex}
 
 abbrev pub same : Entity → Entity → Bool
@@ -33,12 +32,16 @@ abbrev pub last_for : {T : Type 0} → Entity → List (Entity × T) → Option 
 last_for entity [] = None
 last_for entity (part ∷ earlier) = if same part.0 entity then Some (length earlier) else last_for entity earlier
 
+-- each change is for a part
+abbrev pub AreParts : {T : Type 0} → List (Entity × T) → Type 0
+AreParts parts = last_for Global parts ≡ None
+
 -- the index that is stored for an entity. None is stored for the entire table
 abbrev pub found : ChangeIndex → Entity → Option ℕ
 found places Global = None
-found places (Row r) = get nat_cmp places.rows r
-found places (Column c) = get nat_cmp places.columns c
-found places (Cell r c) = get (λ p q. ordering_then (nat_cmp p.0 q.0) (nat_cmp p.1 q.1)) places.cells (r, c)
+found places (Row r) = value_in places.rows r
+found places (Column c) = value_in places.columns c
+found places (Cell r c) = cell_in places.cells r c
 
 -- the later of two changes, by their indices
 abbrev pub later : Option ℕ → Option ℕ → Option ℕ

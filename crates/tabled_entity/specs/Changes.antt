@@ -46,12 +46,3 @@ module _ {T : Type 0} where
   -- one value for the entire table
   abbrev pub for_all : T → Changes T
   for_all value = record { whole = value; parts = [] }
-
--- the settings of a table, and one of its rows
-pub record ChangesAndRow (T : Type 0) : Type 0 where
-  pub changes : Changes T
-  pub row : ℕ
-
--- the latest value that covers the cell in a column of that row
-abbrev pub value_at : {T : Type 0} → ChangesAndRow T → ℕ → T
-value_at set column = setting_at set.changes set.row column

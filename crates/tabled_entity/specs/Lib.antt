@@ -1,7 +1,5 @@
-pub mod UpcomingCells
 pub mod Changes
 pub mod ChangeIndex
-pub mod DenseRowRun
-pub mod RowChangeIndex
-pub mod DenseRun
-pub mod KnownValues
+pub mod RowChanges
+pub mod RowValues
+pub mod RunMap

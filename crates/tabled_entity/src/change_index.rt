@@ -1,5 +1,5 @@
 //! `ChangeIndex`, which finds the latest change for each part of a table in the list of changes.
-ghost use Rattle.std.specs.Prelude.{◌≡◌, ℕ, IfOk, IfSome, OnErr, OnOk, true};
+ghost use Rattle.std.specs.Prelude.{◌≡◌, ℕ, OnErr, OnOk, true};
 ghost use Rattle.tabled_base.specs.declared.position.Entity.TheVariants.{Cell, Column, Row};
 ghost use Rattle.tabled_entity.specs.ChangeIndex.{
   HasNone,
@@ -7,34 +7,22 @@ ghost use Rattle.tabled_entity.specs.ChangeIndex.{
   IsReindexed,
   SamePlaces,
   found,
-  later,
   latest,
 };
-ghost use Rattle.tabled_entity.specs.RowChangeIndex.{latest_at};
+ghost use Rattle.tabled_entity.specs.RowChanges.{latest_at};
 
-use crate::row_change_index::RowChangeIndex;
+use crate::row_changes::RowChanges;
+use crate::run_map::RunMap;
 use std::alloc::{AllocError, Global};
-use std::collections::BTreeMap;
 use tabled_base::Entity;
 
 /// For rows, columns and cells, the index of the latest change in the list of changes.
 #[derive(Debug, Drop)]
 pub(crate) struct ChangeIndex {
-    rows: BTreeMap<usize, usize>,
-    columns: BTreeMap<usize, usize>,
-    cells: BTreeMap<(usize, usize), usize>,
-}
-
-/// Returns the later of two changes, by their indices.
-#[inline(always)]
-pub(crate) fn later(a: Option<usize>, b: Option<usize>) -> Option<usize>
-    ensures { result ≡ later a b }
-{
-    match (a, b) {
-        (Some(i), Some(j)) => Some(i.max(j)),
-        (Some(i), None) => Some(i),
-        (None, other) => other,
-    }
+    rows: RunMap<usize>,
+    columns: RunMap<usize>,
+    // By row, then by column.
+    cells: RunMap<RunMap<usize>>,
 }
 
 impl ChangeIndex {
@@ -43,21 +31,10 @@ impl ChangeIndex {
         ensures { HasNone result }
     {
         ChangeIndex {
-            rows: BTreeMap::new(alloc),
-            columns: BTreeMap::new(alloc),
-            cells: BTreeMap::new(alloc),
+            rows: RunMap::new(alloc),
+            columns: RunMap::new(alloc),
+            cells: RunMap::new(alloc),
         }
-    }
-
-    /// Copies all entries. Fails if an allocation fails.
-    pub fn clone(&self) -> Result<ChangeIndex, AllocError>
-        ensures { IfOk result (λ copy. SamePlaces self.now copy) }
-    {
-        Ok(ChangeIndex {
-            rows: self.rows.clone()?,
-            columns: self.columns.clone()?,
-            cells: self.cells.clone()?,
-        })
     }
 
     /// Removes all entries.
@@ -73,24 +50,21 @@ impl ChangeIndex {
         ensures ok { OnOk result (IsReindexed self.old self.new (Row row) place) }
         ensures err { OnErr result (SamePlaces self.old self.new) }
     {
-        self.rows.insert(row, place)?;
-        Ok(())
+        self.rows.insert(row, place)
     }
 
     fn insert_column(&mut self, column: usize, place: usize) -> Result<(), AllocError>
         ensures ok { OnOk result (IsReindexed self.old self.new (Column column) place) }
         ensures err { OnErr result (SamePlaces self.old self.new) }
     {
-        self.columns.insert(column, place)?;
-        Ok(())
+        self.columns.insert(column, place)
     }
 
     fn insert_cell(&mut self, row: usize, column: usize, place: usize) -> Result<(), AllocError>
         ensures ok { OnOk result (IsReindexed self.old self.new (Cell row column) place) }
         ensures err { OnErr result (SamePlaces self.old self.new) }
     {
-        self.cells.insert((row, column), place)?;
-        Ok(())
+        self.cells.insert_cell(row, column, place)
     }
 
     /// Stores the index of the latest change for an entity other than the entire table. If an
@@ -108,50 +82,42 @@ impl ChangeIndex {
         }
     }
 
-    /// Returns the index of the latest change that covers a cell.
-    pub fn latest(&self, row: usize, column: usize) -> Option<usize>
-        ensures { result ≡ latest (found self.now) row column }
-    {
-        let of_row = self.rows.get(&row).copied();
-        let of_column = self.columns.get(&column).copied();
-        let of_cell = self.cells.get(&(row, column)).copied();
-        later(of_row, later(of_column, of_cell))
-    }
-
-    /// Returns the latest changes that cover the cells of a row, to be read from left to right.
-    pub fn in_row(&self, row: usize) -> RowChangeIndex<'_>
+    /// Returns the latest changes that cover the cells of a row.
+    #[inline(always)]
+    pub fn in_row(&self, row: usize) -> RowChanges<'_>
         ensures { (column : ℕ) → latest_at result column ≡ latest (found self.now) row column }
     {
-        let of_row = self.rows.get(&row).copied();
-        RowChangeIndex::new(row, of_row, &self.columns, &self.cells)
+        RowChanges {
+            row: self.rows.get(row).copied(),
+            columns: &self.columns,
+            cells: self.cells.get(row),
+        }
+    }
+
+    /// Whether there is no entry for a row, nor for one of its cells.
+    #[inline(always)]
+    fn is_plain(&self, row: usize) -> bool
+        ensures { result ≡ true → (column : ℕ)
+            → latest (found self.now) row column ≡ found self.now (Column column) }
+    {
+        self.rows.get(row).is_none() && self.cells.get(row).is_none()
     }
 
     /// Whether two rows are known to have the same latest change in each column: there is no entry
-    /// for either row, nor for any cell.
+    /// for either row, nor for their cells.
     pub fn are_alike(&self, row: usize, other: usize) -> bool
-        ensures { result ≡ true → (column : ℕ) → latest (found self.now) row column ≡ latest (found self.now) other column }
+        ensures { result ≡ true → (column : ℕ)
+            → latest (found self.now) row column ≡ latest (found self.now) other column }
     {
-        self.cells.is_empty() && self.rows.get(&row).is_none() && self.rows.get(&other).is_none()
+        self.is_plain(row) && self.is_plain(other)
     }
 
     /// Whether all rows are known to have the same latest change in each column: there is no entry
     /// for any row or cell.
     pub fn are_all_alike(&self) -> bool
-        ensures { result ≡ true → (row other column : ℕ) → latest (found self.now) row column ≡ latest (found self.now) other column }
+        ensures { result ≡ true → (row other column : ℕ)
+            → latest (found self.now) row column ≡ latest (found self.now) other column }
     {
         self.cells.is_empty() && self.rows.is_empty()
-    }
-
-    /// Returns the latest change for all cells of a row, or `None` if there is an entry for a
-    /// column or a cell.
-    #[inline]
-    pub fn of_row(&self, row: usize) -> Option<Option<usize>>
-        ensures { IfSome result (λ place. (column : ℕ) → latest (found self.now) row column ≡ place) }
-    {
-        if self.columns.is_empty() && self.cells.is_empty() {
-            Some(self.rows.get(&row).copied())
-        } else {
-            None
-        }
     }
 }

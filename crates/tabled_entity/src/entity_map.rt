@@ -1,14 +1,10 @@
 //! `EntityMap`, one setting of a table.
-ghost use Rattle.std.specs.Prelude.{◌≡◌, ◌<◌, ℕ, IfOk, IfSome, IsOk, OnErr, OnOk, length, reverse, true};
+ghost use Rattle.std.specs.Prelude.{◌≡◌, ℕ, IfOk, IfSome, IsOk, OnErr, OnOk, reverse, true};
 ghost use Rattle.tabled_entity.specs.Changes.{for_all, setting_at, shared, with_change};
-ghost use Rattle.tabled_entity.specs.ChangeIndex.{IsPart, IsWhole, last_for, latest};
-ghost use Rattle.tabled_entity.specs.DenseRun.{AreListed, IsKnown};
-ghost use Rattle.tabled_entity.specs.KnownValues.{known_value};
+ghost use Rattle.tabled_entity.specs.ChangeIndex.{AreParts, IsIndexed, IsPart, IsWhole};
+ghost use Rattle.tabled_entity.specs.RowValues.{value_at};
 
 use crate::change_index::ChangeIndex;
-use crate::dense_row_run::DenseRowRun;
-use crate::dense_run::{DenseRun, Distinct};
-use crate::known_values::KnownValues;
 use crate::row_values::RowValues;
 use std::alloc::{AllocError, Global};
 use std::marker::Model;
@@ -17,8 +13,8 @@ use tabled_base::Entity;
 /// One setting of a table, made for all of it, for rows, for columns and for cells. The last one
 /// that covers a cell wins.
 ///
-/// `get` finds the value of a cell by three lookups. `in_row` iterates over the values of a row,
-/// and finds those of a dense run by index.
+/// Values that were set for one row, column or cell after another are found by index, and all
+/// others in a B-tree.
 #[derive(Debug)]
 pub struct EntityMap<T> {
     // The value of the entire table.
@@ -27,23 +23,18 @@ pub struct EntityMap<T> {
     changes: Vec<(Entity, T)>,
     // The index in `changes` of the latest change for each part.
     places: ChangeIndex,
-    // Values that were set for one cell or column after another.
-    dense_run: DenseRun<T>,
-    // Values that were set for one row after another.
-    rows: DenseRowRun<T>,
 }
 
-/// Makes the dense run of a list of changes. If an allocation fails, the run knows fewer values.
-fn dense_run_of<T: Copy + Distinct>(alloc: Global, changes: &[(Entity, T)]) -> DenseRun<T>
-    ensures listed { AreListed result }
-    ensures known { (whole : T) → IsKnown whole (reverse changes.now) result }
+/// Makes the index of a list of changes. Fails if an allocation fails.
+fn index_of<T: Copy>(alloc: Global, changes: &[(Entity, T)]) -> Result<ChangeIndex, AllocError>
+    requires { AreParts (reverse changes.now) }
+    ensures { IfOk result (λ places. IsIndexed places (reverse changes.now)) }
 {
-    let mut dense_run = DenseRun::new(alloc);
+    let mut places = ChangeIndex::new(alloc);
     'places: for place in 0..changes.len() {
-        let change = changes[place];
-        dense_run.insert(change.0, change.1);
+        places.insert(changes[place].0, place)?;
     }
-    dense_run
+    Ok(places)
 }
 
 /// A map is dropped by one call, so that its owner needn't prove the drop of each field.
@@ -53,8 +44,6 @@ impl<T: Drop> Drop for EntityMap<T> {
             whole: _,
             changes: _,
             places: _,
-            dense_run: _,
-            rows: _,
         } = self;
     }
 }
@@ -63,16 +52,12 @@ impl<T> Model for EntityMap<T> {
     ghost use Rattle.std.specs.Prelude.{reverse};
     ghost use Rattle.tabled_entity.specs.Changes.{Changes};
     ghost use Rattle.tabled_entity.specs.ChangeIndex.{IsIndexed};
-    ghost use Rattle.tabled_entity.specs.DenseRowRun.{AreKnownRows};
-    ghost use Rattle.tabled_entity.specs.DenseRun.{AreListed, IsKnown};
 
     ghost Value = { Changes T };
 
     ghost view = { λ m. record { whole = m.whole; parts = reverse m.changes.items } };
 
-    ghost invariant = { λ m. IsIndexed m.places (reverse m.changes.items)
-        × (AreListed m.dense_run × IsKnown m.whole (reverse m.changes.items) m.dense_run)
-        × AreKnownRows m.whole (reverse m.changes.items) m.rows };
+    ghost invariant = { λ m. IsIndexed m.places (reverse m.changes.items) };
 }
 
 impl<T: Copy> EntityMap<T> {
@@ -84,8 +69,6 @@ impl<T: Copy> EntityMap<T> {
             whole: value,
             changes: Vec::new(alloc),
             places: ChangeIndex::new(alloc),
-            dense_run: DenseRun::new(alloc),
-            rows: DenseRowRun::new(alloc),
         }
     }
 
@@ -96,8 +79,6 @@ impl<T: Copy> EntityMap<T> {
         self.whole = value;
         self.changes.clear();
         self.places.clear();
-        self.dense_run.clear();
-        self.rows.clear();
     }
 
     /// Returns the allocator of the map.
@@ -119,7 +100,7 @@ impl<T: Copy> EntityMap<T> {
     }
 
     /// Whether two rows are known to have the same value in each column: nothing was set for either
-    /// row, nor for any cell.
+    /// row, nor for one of their cells.
     #[inline]
     pub fn are_alike(&self, row: usize, other: usize) -> bool
         ensures { result ≡ true → (column : ℕ) → setting_at self.now row column ≡ setting_at self.now other column }
@@ -138,24 +119,24 @@ impl<T: Copy> EntityMap<T> {
         self.places.are_all_alike()
     }
 
-    /// Returns the value of the change at an index of `changes`, or of the entire table for `None`.
+    /// Returns the values of a row's cells.
     #[inline]
-    pub(crate) fn value_at_change(&self, place: Option<usize>) -> &T
-        requires { IfSome place (λ i. i < length self.now.parts) }
-        ensures { (row column : ℕ) → place ≡ latest (λ entity. last_for entity self.now.parts) row column
-            → result.now ≡ setting_at self.now row column }
+    pub fn in_row(&self, row: usize) -> RowValues<'_, T>
+        ensures { (column : ℕ) → value_at result column ≡ setting_at self.now row column }
     {
-        match place {
-            Some(place) => &self.changes[place].1,
-            None => &self.whole,
+        if self.changes.is_empty() {
+            return RowValues::Uniform(&self.whole);
         }
+        RowValues::new(&self.whole, &self.changes, self.places.in_row(row))
     }
 
-    /// Looks up the value of a cell among the changes.
-    fn found(&self, row: usize, column: usize) -> &T
-        ensures { result.now ≡ setting_at self.now row column }
+    /// Returns the value of all cells of a row, if they are known to be equal: nothing was set for
+    /// a column, nor for a cell of the row.
+    #[inline]
+    pub fn row_value(&self, row: usize) -> Option<&T>
+        ensures { IfSome result (λ value. (column : ℕ) → value.now ≡ setting_at self.now row column) }
     {
-        self.value_at_change(self.places.latest(row, column))
+        self.in_row(row).shared()
     }
 
     /// Returns the value of a cell.
@@ -163,74 +144,18 @@ impl<T: Copy> EntityMap<T> {
     pub fn get(&self, row: usize, column: usize) -> T
         ensures { result ≡ setting_at self.now row column }
     {
-        if self.changes.is_empty() {
-            return self.whole;
-        }
-        *self.found(row, column)
+        *self.in_row(row).at(column)
     }
 
-    /// Returns the value of all cells of a row, if they are known to be equal.
-    #[inline]
-    pub fn row_value(&self, row: usize) -> Option<&T>
-        ensures { IfSome result (λ value. (column : ℕ) → value.now ≡ setting_at self.now row column) }
-    {
-        if self.changes.is_empty() {
-            return Some(&self.whole);
-        }
-        if let Some(value) = self.rows.value(row) {
-            return Some(value);
-        }
-        let place = self.places.of_row(row)?;
-        Some(self.value_at_change(place))
-    }
-
-    /// Returns the values of a row's first `columns` cells, if they are known to be equal or a
-    /// dense run has them all.
-    #[inline(always)]
-    pub fn known_values(&self, row: usize, columns: usize) -> Option<KnownValues<'_, T>>
-        ensures { IfSome result (λ values. (column : ℕ) → column < columns
-            → known_value values column ≡ setting_at self.now row column) }
-    {
-        if let Some(value) = self.row_value(row) {
-            return Some(KnownValues::alike(value));
-        }
-        let dense_run = self.dense_run.row(row)?;
-        if dense_run.len() < columns {
-            return None;
-        }
-        Some(KnownValues::each(dense_run, &self.whole))
-    }
-
-    /// Returns the values of a row's cells. Read from left to right, each takes one step and no
-    /// lookup among the cells.
-    pub fn in_row(&self, row: usize) -> RowValues<'_, T>
-        ensures { result ≡ record { changes = self.now; row = row } }
-    {
-        if let Some(value) = self.row_value(row) {
-            return RowValues::new(self, row, value, None, None);
-        }
-        let places = self.places.in_row(row);
-        RowValues::new(
-            self,
-            row,
-            &self.whole,
-            Some(places),
-            self.dense_run.row(row),
-        )
-    }
-}
-
-impl<T: Copy + Distinct> EntityMap<T> {
     /// Returns a copy. Fails if an allocation fails.
     pub fn clone(&self) -> Result<EntityMap<T>, AllocError>
         ensures { IfOk result (λ copy. copy ≡ self.now) }
     {
+        let alloc = *self.changes.allocator();
         Ok(EntityMap {
             whole: self.whole,
-            changes: Vec::from_slice(*self.changes.allocator(), &self.changes)?,
-            places: self.places.clone()?,
-            dense_run: dense_run_of(*self.changes.allocator(), &self.changes),
-            rows: self.rows.clone()?,
+            changes: Vec::from_slice(alloc, &self.changes)?,
+            places: index_of(alloc, &self.changes)?,
         })
     }
 
@@ -244,8 +169,6 @@ impl<T: Copy + Distinct> EntityMap<T> {
         self.changes.try_reserve(1)?;
         self.places.insert(entity, place)?;
         self.changes.push((entity, value))?;
-        self.dense_run.insert(entity, value);
-        self.rows.insert(entity, value);
         Ok(())
     }
 

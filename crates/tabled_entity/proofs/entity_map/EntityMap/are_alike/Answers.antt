@@ -14,5 +14,5 @@ pub returns : goal.returns
 returns g c = λ yes column.
     let inside = c.self.inside in
     sym (ap (λ v. setting_at v c.args.row column) c.self.view_is)
-    ∙ (alike-found inside.whole inside.places (reverse inside.changes.items) c.args.row c.args.other column c.self.invariant.0
+    ∙ (alike-found inside.whole inside.places (reverse inside.changes.items) c.args.row c.args.other column c.self.invariant
     (c.are_alike.ensures yes column) ∙ ap (λ v. setting_at v c.args.other column) c.self.view_is)

@@ -1,0 +1,19 @@
+-- The values of a row's cells.
+use Rattle.std.specs.Prelude.{ℕ, List, Option, slice_get, unwrap_or}
+use Rattle.std.specs.Option.{option_and_then, option_map}
+use Rattle.tabled_base.specs.declared.position.Entity.{Entity}
+use Rattle.tabled_entity.specs.RowChanges.{latest_at}
+use Rattle.tabled_entity.specs.declared.row_values.RowValues.{RowValues}
+use Rattle.tabled_entity.specs.declared.row_values.RowValues.TheVariants.{Set, Uniform}
+
+module _ {T : Type 0} where
+  -- the value of the change at an index, or else that of the entire table
+  abbrev pub value_of : T → List (Entity × T) → Option ℕ → T
+  value_of whole changes place =
+      unwrap_or (option_map (λ change. change.1) (option_and_then (slice_get changes) place)) whole
+
+  -- the value of the cell in a column
+  abbrev pub value_at : RowValues T → ℕ → T
+  value_at (Uniform value) column = value.now
+  value_at (Set values) column =
+      value_of values.whole.now values.changes.now (latest_at values.latest column)

@@ -1,0 +1,46 @@
+-- A map from numbers, with a dense run of those that were inserted one after another.
+use Rattle.std.specs.Prelude.{ℕ, ◌≡◌, ◌==◌, ◌&&◌, ◌-◌, if◌then◌else◌, Option, Some, None, nat_lt, slice_get}
+use Rattle.std.specs.BTreeMap.{get}
+use Rattle.std.specs.Option.{option_and_then, option_or}
+use Rattle.std.specs.Ordering.{nat_cmp}
+use Rattle.tabled_entity.specs.declared.run_map.RunMap.{RunMap}
+
+module _ {V : Type 0} where
+  -- the value of a number in the run
+  abbrev pub in_run : RunMap V → ℕ → Option V
+  in_run map number =
+      if nat_lt number map.first then None else slice_get map.run.items (number - map.first)
+
+  -- the value of a number among the others
+  abbrev pub in_others : RunMap V → ℕ → Option V
+  in_others map number = get nat_cmp map.others number
+
+  -- the value of a number
+  abbrev pub value_in : RunMap V → ℕ → Option V
+  value_in map number = option_or (in_run map number) (in_others map number)
+
+  -- no number has a value
+  pub record HasNoValue (map : RunMap V) : Type 0 where
+    pub at : (number : ℕ) → value_in map number ≡ None
+
+  -- each number has the same value
+  pub record SameValues (old new : RunMap V) : Type 0 where
+    pub at : (number : ℕ) → value_in new number ≡ value_in old number
+
+  -- one number has a new value
+  pub record HoldsValue (old new : RunMap V) (number : ℕ) (value : V) : Type 0 where
+    pub at : (other : ℕ)
+        → value_in new other ≡ (if number == other then Some value else value_in old other)
+
+-- the value of the cell in a row and a column
+abbrev pub cell_in : RunMap (RunMap ℕ) → ℕ → ℕ → Option ℕ
+cell_in rows row column = option_and_then (λ cells. value_in cells column) (value_in rows row)
+
+-- each cell has the same value
+pub record SameCells (old new : RunMap (RunMap ℕ)) : Type 0 where
+  pub at : (row column : ℕ) → cell_in new row column ≡ cell_in old row column
+
+-- one cell has a new value
+pub record HoldsCell (old new : RunMap (RunMap ℕ)) (row column value : ℕ) : Type 0 where
+  pub at : (r c : ℕ)
+      → cell_in new r c ≡ (if row == r && column == c then Some value else cell_in old r c)

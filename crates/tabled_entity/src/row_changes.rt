@@ -1,0 +1,57 @@
+//! `RowChanges`, the latest changes that cover the cells of a row.
+ghost use Rattle.std.specs.Prelude.{◌≡◌, ℕ, IfSome};
+ghost use Rattle.tabled_entity.specs.ChangeIndex.{later};
+ghost use Rattle.tabled_entity.specs.RowChanges.{latest_at};
+
+use crate::run_map::RunMap;
+
+/// The latest changes that cover the cells of a row, by their indices in the list of changes.
+#[derive(Clone, Copy)]
+pub(crate) struct RowChanges<'a> {
+    /// The change for the row.
+    pub row: Option<usize>,
+    /// The changes for columns.
+    pub columns: &'a RunMap<usize>,
+    /// The changes for the row's cells, by column.
+    pub cells: Option<&'a RunMap<usize>>,
+}
+
+/// Returns the later of two changes, by their indices.
+#[inline(always)]
+fn later(a: Option<usize>, b: Option<usize>) -> Option<usize>
+    ensures { result ≡ later a b }
+{
+    match (a, b) {
+        (Some(i), Some(j)) => Some(i.max(j)),
+        (Some(i), None) => Some(i),
+        (None, other) => other,
+    }
+}
+
+impl<'a> RowChanges<'a> {
+    /// Returns the latest change for all cells of the row, or `None` if there is a change for a
+    /// column or for a cell of the row.
+    #[inline(always)]
+    pub fn shared(&self) -> Option<Option<usize>>
+        ensures { IfSome result (λ place. (column : ℕ) → latest_at self.now column ≡ place) }
+    {
+        if self.cells.is_none() && self.columns.is_empty() {
+            Some(self.row)
+        } else {
+            None
+        }
+    }
+
+    /// Returns the latest change that covers the cell in a column.
+    #[inline(always)]
+    pub fn at(&self, column: usize) -> Option<usize>
+        ensures { result ≡ latest_at self.now column }
+    {
+        let of_column = self.columns.get(column).copied();
+        let of_cell = match self.cells {
+            Some(cells) => cells.get(column).copied(),
+            None => None,
+        };
+        later(self.row, later(of_column, of_cell))
+    }
+}

@@ -1,0 +1,188 @@
+//! `RunMap`, a map from numbers.
+ghost use Rattle.std.specs.Prelude.{◌≡◌, ◌+◌, ◌<◌, ◌≤◌, IfNone, IfSome, None, OnErr, OnOk, length, true};
+ghost use Rattle.std.specs.Option.{option_copied};
+ghost use Rattle.tabled_entity.specs.RunMap.{HasNoValue, HoldsCell, HoldsValue, SameCells, SameValues, in_others, in_run, value_in};
+
+use std::alloc::{AllocError, Global};
+use std::collections::BTreeMap;
+
+/// A map from numbers. Numbers that were inserted one after another are a dense run, found by
+/// index, and all others are in a B-tree. The run wins where both have a number.
+#[derive(Debug, Drop)]
+pub(crate) struct RunMap<V> {
+    // The first number of the run.
+    first: usize,
+    run: Vec<V>,
+    others: BTreeMap<usize, V>,
+}
+
+impl<V: Drop> RunMap<V> {
+    /// Makes a map without values.
+    pub fn new(alloc: Global) -> RunMap<V>
+        ensures { HasNoValue result }
+    {
+        RunMap {
+            first: 0,
+            run: Vec::new(alloc),
+            others: BTreeMap::new(alloc),
+        }
+    }
+
+    /// Removes all values.
+    pub fn clear(&mut self)
+        ensures { HasNoValue self.new }
+    {
+        self.run.clear();
+        self.others.clear();
+    }
+
+    /// Whether there are no values.
+    #[inline(always)]
+    pub fn is_empty(&self) -> bool
+        ensures { result ≡ true → HasNoValue self.now }
+    {
+        self.run.is_empty() && self.others.is_empty()
+    }
+
+    /// Returns the value of a number in the run.
+    #[inline(always)]
+    fn in_run(&self, number: usize) -> Option<&V>
+        ensures { option_copied result ≡ in_run self.now number }
+    {
+        if number < self.first {
+            return None;
+        }
+        self.run.get(number - self.first)
+    }
+
+    /// Returns the value of a number among the others.
+    #[inline(always)]
+    fn in_others(&self, number: usize) -> Option<&V>
+        ensures { option_copied result ≡ in_others self.now number }
+    {
+        if self.others.is_empty() {
+            return None;
+        }
+        self.others.get(&number)
+    }
+
+    /// Returns the value of a number.
+    #[inline(always)]
+    pub fn get(&self, number: usize) -> Option<&V>
+        ensures { option_copied result ≡ value_in self.now number }
+    {
+        match self.in_run(number) {
+            Some(value) => Some(value),
+            None => self.in_others(number),
+        }
+    }
+
+    /// Returns the index in the run for a number, if it is in the run or the next one.
+    #[inline(always)]
+    fn index_of(&self, number: usize) -> Option<usize>
+        ensures some { IfSome result (λ index. (index ≤ length self.now.run.items)
+            × (number ≡ self.now.first + index)) }
+        ensures none { IfNone result (in_run self.now number ≡ None) }
+    {
+        if number < self.first || number - self.first > self.run.len() {
+            None
+        } else {
+            Some(number - self.first)
+        }
+    }
+
+    /// Stores a value in the run.
+    fn insert_in_run(&mut self, index: usize, value: V) -> Result<(), AllocError>
+        requires { index ≤ length self.old.run.items }
+        ensures ok { OnOk result (HoldsValue self.old self.new (self.old.first + index) value) }
+        ensures err { OnErr result (SameValues self.old self.new) }
+    {
+        if index == self.run.len() {
+            self.run.push(value)?;
+        } else {
+            self.run[index] = value;
+        }
+        Ok(())
+    }
+
+    /// Stores a value among the others.
+    fn insert_in_others(&mut self, number: usize, value: V) -> Result<(), AllocError>
+        requires { in_run self.old number ≡ None }
+        ensures ok { OnOk result (HoldsValue self.old self.new number value) }
+        ensures err { OnErr result (SameValues self.old self.new) }
+    {
+        self.others.insert(number, value)?;
+        Ok(())
+    }
+
+    /// Stores the value of a number. If an allocation fails, no value changes.
+    pub fn insert(&mut self, number: usize, value: V) -> Result<(), AllocError>
+        ensures ok { OnOk result (HoldsValue self.old self.new number value) }
+        ensures err { OnErr result (SameValues self.old self.new) }
+    {
+        if self.run.is_empty() {
+            self.first = number;
+        }
+        match self.index_of(number) {
+            Some(index) => self.insert_in_run(index, value),
+            None => self.insert_in_others(number, value),
+        }
+    }
+}
+
+/// A map from rows and columns.
+impl RunMap<RunMap<usize>> {
+    /// Stores the value of a cell in a row that has no values.
+    fn insert_row(&mut self, row: usize, column: usize, value: usize) -> Result<(), AllocError>
+        requires { value_in self.old row ≡ None }
+        ensures ok { OnOk result (HoldsCell self.old self.new row column value) }
+        ensures err { OnErr result (SameCells self.old self.new) }
+    {
+        let mut cells = RunMap::new(*self.run.allocator());
+        cells.insert(column, value)?;
+        self.insert(row, cells)
+    }
+
+    /// Stores the value of a cell in a row that isn't in the run.
+    fn insert_in_other_row(
+        &mut self,
+        row: usize,
+        column: usize,
+        value: usize,
+    ) -> Result<(), AllocError>
+        requires { in_run self.old row ≡ None }
+        ensures ok { OnOk result (HoldsCell self.old self.new row column value) }
+        ensures err { OnErr result (SameCells self.old self.new) }
+    {
+        match self.others.get_mut(&row) {
+            Some(cells) => cells.insert(column, value),
+            None => self.insert_row(row, column, value),
+        }
+    }
+
+    /// Stores the value of a cell in a row of the run.
+    fn insert_in_run_row(
+        &mut self,
+        index: usize,
+        column: usize,
+        value: usize,
+    ) -> Result<(), AllocError>
+        requires { index < length self.old.run.items }
+        ensures ok { OnOk result
+            (HoldsCell self.old self.new (self.old.first + index) column value) }
+        ensures err { OnErr result (SameCells self.old self.new) }
+    {
+        self.run[index].insert(column, value)
+    }
+
+    /// Stores the value of a cell. If an allocation fails, no value changes.
+    pub fn insert_cell(&mut self, row: usize, column: usize, value: usize) -> Result<(), AllocError>
+        ensures ok { OnOk result (HoldsCell self.old self.new row column value) }
+        ensures err { OnErr result (SameCells self.old self.new) }
+    {
+        match self.index_of(row) {
+            Some(index) if index < self.run.len() => self.insert_in_run_row(index, column, value),
+            _ => self.insert_in_other_row(row, column, value),
+        }
+    }
+}
