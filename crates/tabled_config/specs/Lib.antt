@@ -8,4 +8,3 @@ pub mod RowStyles
 pub mod Settings
 pub mod Spanned
 pub mod Styles
-pub mod KnownSides

@@ -8,7 +8,7 @@ use Rattle.tabled_config.specs.declared.spanned.CellStyle.{CellStyle}
 use Rattle.tabled_config.specs.declared.spanned.row_styles.RowStyles.{RowStyles}
 use Rattle.tabled_config.specs.declared.spanned.row_styles.RowStyles.TheVariants.{Alike, Listed, Set}
 use Rattle.tabled_config.specs.declared.spanned.row_styles.SetStyles.{SetStyles}
-use Rattle.tabled_entity.specs.Changes.{value_at}
+use Rattle.tabled_entity.specs.RowValues.{value_at}
 
 -- no indent on one side
 abbrev pub no_indent : Indent
@@ -40,10 +40,6 @@ style_in (Alike style) column = style
 style_in (Listed styles) column = slice_index_or styles.now column plain_style
 style_in (Set styles) column = set_style styles column
 
--- the style of each column is unchanged
-pub record SameStyles (old new : RowStyles) : Type 0 where
-  pub at : (column : ℕ) → style_in new column ≡ style_in old column
-
--- `told` gives the style of each column
-pub record DescribesStyles (styles : RowStyles) (told : ℕ → CellStyle) : Type 0 where
-  pub at : (column : ℕ) → style_in styles column ≡ told column
+-- the style of each column is that of `style`
+pub record DescribesStyles (styles : RowStyles) (style : ℕ → CellStyle) : Type 0 where
+  pub at : (column : ℕ) → style_in styles column ≡ style column

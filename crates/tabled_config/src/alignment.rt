@@ -1,7 +1,5 @@
 //! Alignment of text in its cell.
 
-use tabled_entity::Distinct;
-
 /// Where text is placed within its content width.
 #[derive(Clone, Copy, Debug, PartialEq, Eq, PartialOrd, Ord, Hash)]
 pub enum AlignmentHorizontal {
@@ -22,16 +20,4 @@ pub enum AlignmentVertical {
     Center,
     /// At the bottom.
     Bottom,
-}
-
-impl Distinct for AlignmentHorizontal {
-    fn is_same(&self, other: &AlignmentHorizontal) -> bool {
-        *self == *other
-    }
-}
-
-impl Distinct for AlignmentVertical {
-    fn is_same(&self, other: &AlignmentVertical) -> bool {
-        *self == *other
-    }
 }

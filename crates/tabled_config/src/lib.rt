@@ -19,7 +19,7 @@
 //! - `compact`, `compact_multiline`: one setting for all cells, of one line or of several.
 //! - `spanned`: settings for the whole table, rows, columns and cells (`SpannedConfig`).
 //!   - `spanned::alike`: whether cells or rows share their settings.
-//!   - `spanned::row_styles`, `spanned::known_sides`: the styles of a row's cells.
+//!   - `spanned::row_styles`: the styles of a row's cells.
 //! - `colored`: the configuration of a `Table`.
 //! - `options`: configurations and styles as table options.
 #![tactic(auto)]
@@ -47,5 +47,5 @@ pub use compact_multiline::CompactMultilineConfig;
 pub use formatting::Formatting;
 pub use frame::{Frame, VerticalLine};
 pub use sides::{Indent, Sides};
-pub use spanned::{CellStyle, KnownSides, RowStyles, SetStyles, SpannedConfig};
+pub use spanned::{CellStyle, RowStyles, SetStyles, SpannedConfig};
 pub use style::Style;

@@ -1,7 +1,5 @@
 //! One value for each of four sides (`Sides`), and a run of one character (`Indent`).
-ghost use Rattle.std.specs.Prelude.{◌≡◌, true};
-
-use tabled_entity::Distinct;
+ghost use Rattle.std.specs.Prelude.{◌≡◌};
 
 /// A run of one character: columns at the left and right, lines at the top and bottom.
 #[derive(Clone, Copy, Debug, PartialEq, Eq, PartialOrd, Ord, Hash)]
@@ -68,11 +66,5 @@ impl<T: Copy> Sides<T> {
         ensures { result ≡ record { left = value; right = value; top = value; bottom = value } }
     {
         Sides::new(value, value, value, value)
-    }
-}
-
-impl Distinct for Sides<Indent> {
-    fn is_same(&self, other: &Sides<Indent>) -> bool {
-        *self == *other
     }
 }

@@ -5,7 +5,6 @@ ghost use Rattle.tabled_entity.specs.Changes.{setting_at, with_change};
 ghost use Rattle.tabled_config.specs.Lines.{line_set, with_line};
 
 mod alike;
-mod known_sides;
 mod row_styles;
 
 use crate::alignment::{AlignmentHorizontal, AlignmentVertical};
@@ -16,7 +15,6 @@ use crate::frame::Frame;
 use crate::lines::HorizontalLines;
 use crate::sides::{Indent, Sides};
 use crate::style::Style;
-pub use known_sides::KnownSides;
 pub use row_styles::{RowStyles, SetStyles};
 use std::alloc::Global;
 use tabled_base::{Entity, Position, TableError};

@@ -8,7 +8,7 @@ use crate::sides::{Indent, Sides};
 
 impl SpannedConfig {
     /// Whether two rows are known to have the same styles, column by column: no style was set for
-    /// either row, nor for any cell.
+    /// either row, nor for one of their cells.
     #[tactic(auto, unfolding(crate::specs::Settings::style_at))]
     pub fn are_alike(&self, row: usize, other: usize) -> bool
         ensures { result ≡ true → (column : ℕ) → style_at self.now row column ≡ style_at self.now other column }
@@ -32,7 +32,7 @@ impl SpannedConfig {
     }
 
     /// Whether two rows are known to have the same paddings, column by column: no padding was set
-    /// for either row, nor for any cell.
+    /// for either row, nor for one of their cells.
     #[inline]
     #[tactic(auto, unfolding(crate::specs::Settings::style_at))]
     pub fn are_padded_alike(&self, row: usize, other: usize) -> bool

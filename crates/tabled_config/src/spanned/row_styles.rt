@@ -1,7 +1,7 @@
-//! The styles of a row's cells, from left to right (`RowStyles`).
+//! The styles of a row's cells (`RowStyles`).
 ghost use Rattle.std.specs.Prelude.{◌≡◌, ℕ, IfSome};
-ghost use Rattle.tabled_entity.specs.Changes.{value_at};
-ghost use Rattle.tabled_config.specs.RowStyles.{SameStyles, DescribesStyles, plain_style, set_style, style_in};
+ghost use Rattle.tabled_entity.specs.RowValues.{value_at};
+ghost use Rattle.tabled_config.specs.RowStyles.{DescribesStyles, plain_style, set_style, style_in};
 ghost use Rattle.tabled_config.specs.Settings.{style_at};
 
 use super::{CellStyle, SpannedConfig};
@@ -9,8 +9,7 @@ use crate::alignment::{AlignmentHorizontal, AlignmentVertical};
 use crate::sides::{Indent, Sides};
 use tabled_entity::RowValues;
 
-/// The styles set for a row's cells. Reading the columns from left to right needs no lookup among
-/// the cells.
+/// The styles that were set for a row's cells.
 #[derive(Drop)]
 pub struct SetStyles<'a> {
     padding: RowValues<'a, Sides<Indent>>,
@@ -44,18 +43,8 @@ fn plain_style() -> CellStyle
 
 impl<'a> SetStyles<'a> {
     #[inline(always)]
-    fn beside(&mut self, column: usize) -> (Sides<Indent>, AlignmentHorizontal)
-        ensures padding { result.0 ≡ (set_style self.old column).padding }
-        ensures horizontal { result.1 ≡ (set_style self.old column).horizontal }
-        ensures same { self.new ≡ self.old }
-    {
-        (*self.padding.at(column), *self.horizontal.at(column))
-    }
-
-    #[inline(always)]
-    fn at(&mut self, column: usize) -> CellStyle
-        ensures style { result ≡ set_style self.old column }
-        ensures same { self.new ≡ self.old }
+    fn at(&self, column: usize) -> CellStyle
+        ensures { result ≡ set_style self.now column }
     {
         CellStyle {
             padding: *self.padding.at(column),
@@ -70,9 +59,8 @@ impl<'a> RowStyles<'a> {
     /// Returns the style of a column. Columns after a list have no padding and are at the left and
     /// the top.
     #[inline(always)]
-    pub fn at(&mut self, column: usize) -> CellStyle
-        ensures style { result ≡ style_in self.old column }
-        ensures same { SameStyles self.old self.new }
+    pub fn at(&self, column: usize) -> CellStyle
+        ensures { result ≡ style_in self.now column }
     {
         match self {
             RowStyles::Alike(style) => *style,
@@ -84,55 +72,28 @@ impl<'a> RowStyles<'a> {
         }
     }
 
-    /// Returns the padding and the horizontal alignment of a column, which is all that a row of one
-    /// line needs.
+    /// Returns the padding and horizontal alignment of a column. `None` after the end of a list.
     #[inline(always)]
-    pub fn beside(&mut self, column: usize) -> (Sides<Indent>, AlignmentHorizontal)
-        ensures padding { result.0 ≡ (style_in self.old column).padding }
-        ensures horizontal { result.1 ≡ (style_in self.old column).horizontal }
-        ensures same { SameStyles self.old self.new }
+    pub fn sides(&self, column: usize) -> Option<(&Sides<Indent>, AlignmentHorizontal)>
+        ensures padding { IfSome result (λ sides. sides.0.now ≡ (style_in self.now column).padding) }
+        ensures horizontal { IfSome result (λ sides. sides.1 ≡ (style_in self.now column).horizontal) }
     {
         match self {
-            RowStyles::Alike(style) => (style.padding, style.horizontal),
-            RowStyles::Listed(styles) => match styles.get(column) {
-                Some(style) => (style.padding, style.horizontal),
-                None => (plain_style().padding, plain_style().horizontal),
-            },
-            RowStyles::Set(styles) => styles.beside(column),
-        }
-    }
-
-    /// Returns the padding of all columns, if it is known to be the same.
-    pub fn shared_padding(&self) -> Option<Sides<Indent>>
-        ensures { IfSome result (λ padding. (column : ℕ) → (style_in self.now column).padding ≡ padding) }
-    {
-        match self {
-            RowStyles::Alike(style) => Some(style.padding),
-            RowStyles::Listed(_) => None,
-            RowStyles::Set(styles) => styles.padding.shared(),
-        }
-    }
-
-    /// Returns the horizontal alignment of a column.
-    #[inline(always)]
-    pub fn horizontal(&mut self, column: usize) -> AlignmentHorizontal
-        ensures horizontal { result ≡ (style_in self.old column).horizontal }
-        ensures same { SameStyles self.old self.new }
-    {
-        match self {
-            RowStyles::Alike(style) => style.horizontal,
-            RowStyles::Listed(styles) => match styles.get(column) {
-                Some(style) => style.horizontal,
-                None => plain_style().horizontal,
-            },
-            RowStyles::Set(styles) => *styles.horizontal.at(column),
+            RowStyles::Alike(style) => Some((&style.padding, style.horizontal)),
+            RowStyles::Listed(styles) => {
+                let style = styles.get(column)?;
+                Some((&style.padding, style.horizontal))
+            }
+            RowStyles::Set(styles) => {
+                Some((styles.padding.at(column), *styles.horizontal.at(column)))
+            }
         }
     }
 }
 
 impl SpannedConfig {
     /// Returns the style shared by all cells of a row. `None` only if a style was set for a column
-    /// or a cell.
+    /// or for a cell of the row.
     #[tactic(auto, unfolding(crate::specs::Settings::style_at))]
     pub fn row_style(&self, row: usize) -> Option<CellStyle>
         ensures { IfSome result (λ style. (column : ℕ) → style_at self.now row column ≡ style) }
@@ -145,7 +106,7 @@ impl SpannedConfig {
         })
     }
 
-    /// Returns the styles of a row's cells, to be read from left to right.
+    /// Returns the styles of a row's cells.
     #[tactic(auto, unfolding(crate::specs::Settings::style_at))]
     pub fn styles_in(&self, row: usize) -> RowStyles<'_>
         ensures { DescribesStyles result (style_at self.now row) }
@@ -162,7 +123,8 @@ impl SpannedConfig {
     }
 
     /// Returns the padding shared by all cells of a row. `None` only if padding was set for a
-    /// column or a cell.
+    /// column or for a cell of the row.
+    #[inline(always)]
     #[tactic(auto, unfolding(crate::specs::Settings::style_at))]
     pub fn row_padding(&self, row: usize) -> Option<Sides<Indent>>
         ensures { IfSome result (λ padding. (column : ℕ) → (style_at self.now row column).padding ≡ padding) }
@@ -170,7 +132,21 @@ impl SpannedConfig {
         Some(*self.padding.row_value(row)?)
     }
 
-    /// Returns the paddings of a row's cells, to be read from left to right.
+    /// Returns the padding and horizontal alignment shared by all cells of a row. `None` only if
+    /// one of them was set for a column or for a cell of the row.
+    #[inline(always)]
+    #[tactic(auto, unfolding(crate::specs::Settings::style_at))]
+    pub fn row_sides(&self, row: usize) -> Option<(&Sides<Indent>, AlignmentHorizontal)>
+        ensures padding { IfSome result (λ sides. (column : ℕ) → sides.0.now ≡ (style_at self.now row column).padding) }
+        ensures horizontal { IfSome result (λ sides. (column : ℕ) → sides.1 ≡ (style_at self.now row column).horizontal) }
+    {
+        let padding = self.padding.row_value(row)?;
+        let horizontal = self.alignment_horizontal.row_value(row)?;
+        Some((padding, *horizontal))
+    }
+
+    /// Returns the paddings of a row's cells.
+    #[inline(always)]
     #[tactic(auto, unfolding(crate::specs::Settings::style_at))]
     pub fn paddings_in(&self, row: usize) -> RowValues<'_, Sides<Indent>>
         ensures { (column : ℕ) → value_at result column ≡ (style_at self.now row column).padding }
