@@ -2,14 +2,13 @@
 ghost use Rattle.std.specs.Prelude.{◌≡◌, ℕ, IfNone, IfSome, map, true};
 ghost use Rattle.std.specs.List.{range_with_len, slice_index_or};
 ghost use Rattle.tabled_config.specs.Settings.{style_at};
-ghost use Rattle.tabled_entity.specs.Changes.{value_at};
-ghost use Rattle.tabled_entity.specs.KnownValues.{known_value};
+ghost use Rattle.tabled_entity.specs.RowValues.{value_at};
 ghost use Rattle.tabled_size.specs.Added.{IsListed, KnowsAdded, PassesRange, added_at, added_by, nothing};
 
 use std::alloc::Global;
 use tabled_base::Position;
 use tabled_config::{Indent, Sides, SpannedConfig};
-use tabled_entity::{KnownValues, RowValues};
+use tabled_entity::RowValues;
 
 /// Padding is listed for at most this number of columns.
 const MOST_COLUMNS: usize = 65_536;
@@ -21,7 +20,7 @@ pub(crate) struct Extent {
     pub(crate) lines: usize,
 }
 
-/// Looks up what padding adds in each column of a row, from left to right.
+/// Looks up what padding adds in each column of a row.
 pub(crate) trait RowPadding {
     ghost use Rattle.tabled_size.specs.declared.added.Extent.{Extent};
 
@@ -29,10 +28,9 @@ pub(crate) trait RowPadding {
     ghost known: { Self → ℕ → Extent };
 
     /// Returns what padding adds in a column, or `None` if it exceeds `usize::MAX`.
-    fn at(&mut self, column: usize) -> Option<Extent>
-        ensures some { IfSome result (λ extent. extent ≡ known self.old column) }
-        ensures none { IfNone result (PassesRange (known self.old column)) }
-        ensures same { (column : ℕ) → known self.new column ≡ known self.old column };
+    fn at(&self, column: usize) -> Option<Extent>
+        ensures some { IfSome result (λ extent. extent ≡ known self.now column) }
+        ensures none { IfNone result (PassesRange (known self.now column)) };
 }
 
 /// What padding adds, as a list with one entry for each column, and 0 after its end.
@@ -81,20 +79,12 @@ fn shared_added(config: &SpannedConfig) -> Option<Extent>
 
 /// Returns what padding adds to every cell of a row, if that is known to be the same and at most
 /// `usize::MAX`.
-fn row_added(config: &SpannedConfig, row: usize) -> Option<Extent>
+#[inline(always)]
+pub(crate) fn row_added(config: &SpannedConfig, row: usize) -> Option<Extent>
     ensures { IfSome result (λ extent. (column : ℕ) → extent ≡ added_at config.now row column) }
 {
     let padding = config.row_padding(row)?;
     added_by(padding)
-}
-
-/// Returns what these paddings add, if they are known to be the same and add at most `usize::MAX`.
-#[inline(always)]
-pub(crate) fn known_row_added(paddings: &KnownValues<'_, Sides<Indent>>) -> Option<Extent>
-    ensures { IfSome result (λ extent. (column : ℕ) → extent ≡ added_by (known_value paddings.now column)) }
-{
-    let padding = paddings.shared()?;
-    added_by(*padding)
 }
 
 /// Lists what padding adds in the first `columns` columns of a row. `None` if a sum exceeds
@@ -120,7 +110,7 @@ impl RowPadding for Extent {
     ghost known = { λ extent column. extent };
 
     #[inline(always)]
-    fn at(&mut self, _column: usize) -> Option<Extent> {
+    fn at(&self, _column: usize) -> Option<Extent> {
         Some(*self)
     }
 }
@@ -129,7 +119,7 @@ impl<'a> RowPadding for Listed<'a> {
     ghost known = { λ listed column. slice_index_or listed.0.now column nothing };
 
     #[inline(always)]
-    fn at(&mut self, column: usize) -> Option<Extent> {
+    fn at(&self, column: usize) -> Option<Extent> {
         match self.0.get(column) {
             Some(extent) => Some(*extent),
             None => Some(Extent {
@@ -140,22 +130,12 @@ impl<'a> RowPadding for Listed<'a> {
     }
 }
 
-/// Known paddings, found by index.
-impl<'a> RowPadding for KnownValues<'a, Sides<Indent>> {
-    ghost known = { λ paddings column. added_by (known_value paddings column) };
-
-    #[inline(always)]
-    fn at(&mut self, column: usize) -> Option<Extent> {
-        added_by(*KnownValues::at(self, column))
-    }
-}
-
 /// Paddings looked up in the configuration.
 impl<'a> RowPadding for RowValues<'a, Sides<Indent>> {
     ghost known = { λ paddings column. added_by (value_at paddings column) };
 
     #[inline(always)]
-    fn at(&mut self, column: usize) -> Option<Extent> {
+    fn at(&self, column: usize) -> Option<Extent> {
         added_by(*RowValues::at(self, column))
     }
 }
@@ -173,7 +153,7 @@ impl ListedRow {
 
 impl KnownAdded {
     /// Computes what padding adds in a table with `rows` rows and `columns` columns. It is listed
-    /// only if there are at most `MOST_COLUMNS` columns and no padding was set for a cell. If an
+    /// only if there are at most `MOST_COLUMNS` columns and padding was set for a column. If an
     /// allocation fails, nothing is listed, and each row looks up its paddings.
     pub(crate) fn new(
         alloc: Global,
@@ -186,7 +166,7 @@ impl KnownAdded {
         if let Some(extent) = shared_added(config) {
             return KnownAdded::Alike(extent);
         }
-        // If padding was set only for rows, each row looks up its own.
+        // If padding was set only for rows and cells, each row looks up its own.
         if rows < 2 || columns > MOST_COLUMNS || row_added(config, rows).is_some() {
             return KnownAdded::Unlike(None);
         }

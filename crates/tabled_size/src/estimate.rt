@@ -3,15 +3,13 @@ ghost use Rattle.std.specs.Prelude.{◌≡◌, ◌⊎◌, ◌+◌, ◌<◌, ◌�
 ghost use Rattle.tabled_base.specs.Cells.{IsInside, columns};
 ghost use Rattle.tabled_base.specs.declared.error.TableError.TheVariants.{Memory, Range};
 ghost use Rattle.tabled_config.specs.Settings.{style_at};
-ghost use Rattle.tabled_entity.specs.KnownValues.{known_value};
 ghost use Rattle.tabled_size.specs.Added.{KnowsAdded, DescribesAdded, added_at};
 ghost use Rattle.tabled_size.specs.Estimates.{IsTooHigh, IsTooWide, estimated_heights, estimated_widths, needed_height, needed_width, raised, row_height};
 
-use crate::added::{Extent, KnownAdded, Listed, RowPadding, known_row_added};
+use crate::added::{Extent, KnownAdded, Listed, RowPadding, row_added};
 use std::alloc::Global;
 use tabled_base::{PeekableRecords, Position, TableError};
 use tabled_config::{Indent, Sides, SpannedConfig};
-use tabled_entity::KnownValues;
 
 /// Returns the width that a cell needs, or `None` if it exceeds `usize::MAX`.
 pub(crate) fn needed_width<R: PeekableRecords>(
@@ -78,7 +76,7 @@ fn raise_widths<R: PeekableRecords>(
     ensures ok { IfOk result (λ _. widths.new ≡ raised widths.old (R.cells records.now) config.now row) }
     ensures err { IfErr result (λ e. (e ≡ Range) × IsTooWide (R.cells records.now) config.now) }
 {
-    let mut paddings = config.paddings_in(row);
+    let paddings = config.paddings_in(row);
     'columns: for column in 0..records.count_columns() {
         let at = Position { row, column };
         let Some(width) = padded_width(records, config, at, *paddings.at(column)) else {
@@ -118,7 +116,7 @@ pub(crate) fn row_height<R: PeekableRecords>(
         (λ n. n ≡ row_height (R.cells records.now) config.now row) }
 {
     let mut most: usize = 0;
-    let mut paddings = config.paddings_in(row);
+    let paddings = config.paddings_in(row);
     'columns: for column in 0..records.count_columns() {
         let at = Position { row, column };
         let height = padded_height(records, config, at, *paddings.at(column))?;
@@ -180,7 +178,7 @@ fn measure_row<R: PeekableRecords, A: RowPadding + Drop>(
     config: &SpannedConfig,
     row: usize,
     widths: &mut [usize],
-    mut added: A,
+    added: A,
 ) -> Option<usize>
     requires row_in { row < length (R.cells records.now) }
     requires columns { length widths.old ≡ columns (R.cells records.now) }
@@ -199,47 +197,8 @@ fn measure_row<R: PeekableRecords, A: RowPadding + Drop>(
     Some(most)
 }
 
-/// Measures a row as `measure_row` does, with known paddings.
-#[inline]
-fn measure_known_paddings<R: PeekableRecords>(
-    records: &R,
-    config: &SpannedConfig,
-    row: usize,
-    widths: &mut [usize],
-    paddings: KnownValues<'_, Sides<Indent>>,
-) -> Option<usize>
-    requires row_in { row < length (R.cells records.now) }
-    requires columns { length widths.old ≡ columns (R.cells records.now) }
-    requires known { (column : ℕ) → column < columns (R.cells records.now)
-        → known_value paddings column ≡ (style_at config.now row column).padding }
-    ensures widths { IfSome result (λ _. widths.new ≡ raised widths.old (R.cells records.now) config.now row) }
-    ensures lines { IfSome result (λ n. n ≡ row_height (R.cells records.now) config.now row) }
-    ensures none { IfNone result (IsTooWide (R.cells records.now) config.now ⊎ IsTooHigh (R.cells records.now) config.now) }
-{
-    match known_row_added(&paddings) {
-        Some(extent) => measure_row(records, config, row, widths, extent),
-        None => measure_row(records, config, row, widths, paddings),
-    }
-}
-
-/// Measures a row as `measure_row` does, and looks up its paddings.
-#[inline(never)]
-fn measure_set_paddings<R: PeekableRecords>(
-    records: &R,
-    config: &SpannedConfig,
-    row: usize,
-    widths: &mut [usize],
-) -> Option<usize>
-    requires row_in { row < length (R.cells records.now) }
-    requires columns { length widths.old ≡ columns (R.cells records.now) }
-    ensures widths { IfSome result (λ _. widths.new ≡ raised widths.old (R.cells records.now) config.now row) }
-    ensures lines { IfSome result (λ n. n ≡ row_height (R.cells records.now) config.now row) }
-    ensures none { IfNone result (IsTooWide (R.cells records.now) config.now ⊎ IsTooHigh (R.cells records.now) config.now) }
-{
-    measure_row(records, config, row, widths, config.paddings_in(row))
-}
-
-/// Measures a row as `measure_row` does. What padding adds is known, or else looked up.
+/// Measures a row as `measure_row` does, with what padding adds: known for several rows, the same
+/// in the row, or looked up.
 #[inline]
 fn measure_known<R: PeekableRecords>(
     records: &R,
@@ -266,9 +225,9 @@ fn measure_known<R: PeekableRecords>(
                 Listed(listed.extents.as_slice()),
             )
         }
-        _ => match config.told_paddings(row, records.count_columns()) {
-            Some(paddings) => measure_known_paddings(records, config, row, widths, paddings),
-            None => measure_set_paddings(records, config, row, widths),
+        _ => match row_added(config, row) {
+            Some(extent) => measure_row(records, config, row, widths, extent),
+            None => measure_row(records, config, row, widths, config.paddings_in(row)),
         },
     }
 }

@@ -14,7 +14,6 @@ columns-preserved g c =
     let f = needed_height cells c.args.config.now c.args.row in
     let e = greatest_more f c.columns.column in
     record {
-      known = record { at = λ k inside. c.at.ensures.same k ∙ c.columns.invariant.known.at k inside };
       raised = raised-more c.args.widths.now c.columns.widths (needed_width cells c.args.config.now c.args.row) c.columns.column c.max.result
           (omega (arith, c.columns-test.true, c.requires.columns, c.columns.auto.widths, c.count_columns-column-end.ensures.columns)) c.columns.invariant.raised
           (c.columns.invariant.rest c.columns.column (omega arith)) (c.max.ensures ∙ ap (max (get_or c.columns.widths c.columns.column 0)) c.in_ok-needs.ensures.width);
@@ -39,11 +38,11 @@ returns-clause-lines g c =
 
 pub needed-requires-clause-added : goal.needed-requires-clause-added
 needed-requires-clause-added g c =
-    c.in_ok-extent.ensures.some ∙ c.columns.invariant.known.at c.columns.column (omega (arith, c.columns-test.true, c.count_columns-column-end.ensures.columns))
+    c.in_ok-extent.ensures.some ∙ c.requires.known.at c.columns.column (omega (arith, c.columns-test.true, c.count_columns-column-end.ensures.columns))
 
 pub returns-in_err-extent-clause-none : goal.returns-in_err-extent-clause-none
 returns-in_err-extent-clause-none g c =
     if_none c.from_residual.result
     (added_passes (g.R.ExactRecords.cells c.args.records.now) c.args.config.now c.args.row c.columns.column _
-    (c.columns.invariant.known.at c.columns.column (omega (arith, c.columns-test.true, c.count_columns-column-end.ensures.columns)))
+    (c.requires.known.at c.columns.column (omega (arith, c.columns-test.true, c.count_columns-column-end.ensures.columns)))
     c.requires.row_in (omega (arith, c.count_columns-column-end.ensures.columns)) c.in_err-extent.ensures.none)

@@ -1,14 +1,11 @@
 use Rattle.std.proofs.Common.{◌≡◌, ℕ, ◌<◌, ◌≤◌, max}
 use Rattle.std.specs.List.{slice_index}
-use Rattle.tabled_base.specs.Cells.{columns}
-use Rattle.tabled_size.specs.Added.{DescribesAdded}
 use Rattle.tabled_size.specs.Estimates.{needed_height, needed_width}
 use Rattle.tabled_size.proofs.Greatest.{greatest_below}
 use Rattle.tabled_size.proofs.estimate.measure_row.Given as goal
 
 abbrev pub invariant-columns : goal.invariant-columns
 invariant-columns g l = record {
-  known : DescribesAdded (g.A.RowPadding.known l.added) l.config l.row (columns (g.R.ExactRecords.cells l.records));
   raised : (c : ℕ) → c < l.column → slice_index l.widths c
       ≡ max (slice_index l.fn.widths c) (needed_width (g.R.ExactRecords.cells l.records) l.config l.row c);
   rest : (c : ℕ) → l.column ≤ c → slice_index l.widths c ≡ slice_index l.fn.widths c;

@@ -2,7 +2,6 @@ use Rattle.std.proofs.Common.{◌∙◌, ap, max, arith, get_or}
 use Rattle.std.specs.List.{slice_index}
 use Rattle.std.proofs.lemmas.List.FromFn.{fill_by_all}
 use Rattle.tabled_base.specs.Cells.{columns}
-use Rattle.tabled_entity.specs.Changes.{value_at}
 use Rattle.tabled_size.specs.Estimates.{needed_width}
 use Rattle.tabled_size.proofs.Raising.{raised-more, rest-more}
 use Rattle.tabled_size.proofs.estimate.raise_widths.Goals as goal
@@ -11,7 +10,6 @@ pub columns-preserved : goal.columns-preserved
 columns-preserved g c =
     let cells = g.R.ExactRecords.cells c.args.records.now in
     record {
-      paddings = λ k. ap (λ p. value_at p k) c.at.ensures.same ∙ c.columns.invariant.paddings k;
       raised = raised-more c.args.widths.now c.columns.widths (needed_width cells c.args.config.now c.args.row) c.columns.column c.max.result
           (omega (arith, c.columns-test.true, c.requires.columns, c.columns.auto.widths, c.count_columns-column-end.ensures.columns)) c.columns.invariant.raised
           (c.columns.invariant.rest c.columns.column (omega arith)) (c.max.ensures ∙ ap (max (get_or c.columns.widths c.columns.column 0)) c.in-Some.ensures);

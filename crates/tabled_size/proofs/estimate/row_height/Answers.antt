@@ -1,5 +1,4 @@
 use Rattle.std.proofs.Common.{◌≡◌, ◌∙◌, ap, arith}
-use Rattle.tabled_entity.specs.Changes.{value_at}
 use Rattle.tabled_size.specs.Estimates.{needed_height, row_height}
 use Rattle.tabled_size.proofs.Greatest.{greatest_below, greatest_more}
 use Rattle.tabled_base.specs.Cells.{columns}
@@ -9,10 +8,7 @@ pub columns-preserved : goal.columns-preserved
 columns-preserved g c =
     let f = needed_height (g.R.ExactRecords.cells c.args.records.now) c.args.config.now c.args.row in
     let e = greatest_more f c.columns.column in
-    record {
-      paddings = λ k. ap (λ p. value_at p k) c.at.ensures.same ∙ c.columns.invariant.paddings k;
-      most = omega (arith, e, c.columns.invariant.most, c.max-most.ensures, c.in_ok-height.ensures);
-    }
+    omega (arith, e, c.columns.invariant, c.max-most.ensures, c.in_ok-height.ensures)
 
 pub returns : goal.returns
 unfolding row_height
@@ -20,4 +16,4 @@ returns g c =
     let cells = g.R.ExactRecords.cells c.args.records.now in
     let f = needed_height cells c.args.config.now c.args.row in
     let e : c.columns.column ≡ columns cells = omega (arith, c.count_columns-column-end.ensures.columns) in
-    c.columns.invariant.most ∙ ap (greatest_below f) e
+    c.columns.invariant ∙ ap (greatest_below f) e
