@@ -51,10 +51,6 @@ pub record IsUniform (style : CellStyle) (uniform : UniformPlacement) : Type 0 w
   pub spaced : IsSpaced style.padding
   pub uniform_is : uniform ≡ uniform_of style
 
--- a style allows a placement, and this is it except for the alignment
-abbrev pub IsPadded : CellStyle → UniformPlacement → Type 0
-IsPadded style uniform = IsUniform style (record uniform { horizontal = style.horizontal })
-
 -- a column of a row that `describes` is true of
 pub record IsDescribedColumn (describes : RowSheet → Type 0) (column : ℕ) : Type 0 where
   pub row : RowSheet

@@ -67,14 +67,6 @@ impl UniformPlacement {
         UniformPlacement::of(&style.padding, style.horizontal)
     }
 
-    /// Returns this placement with another alignment.
-    #[inline(always)]
-    pub fn aligned(self, horizontal: AlignmentHorizontal) -> UniformPlacement
-        ensures { result ≡ record self { horizontal = horizontal } }
-    {
-        UniformPlacement { horizontal, ..self }
-    }
-
     /// Returns the placement in a column of `width` columns; `None` if the padding doesn't fit.
     #[inline(always)]
     pub fn placement(self, width: usize) -> Option<Placement>

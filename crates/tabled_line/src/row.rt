@@ -2,7 +2,6 @@
 ghost use Rattle.std.specs.Prelude.{◌≡◌, ◌<◌, ◌≤◌, ℕ, IfSome, []};
 ghost use Rattle.std.specs.List.{flat_map, range_with_len, slice_index_or};
 ghost use Rattle.tabled_config.specs.RowStyles.{style_in};
-ghost use Rattle.tabled_config.specs.KnownSides.{DescribesSides};
 ghost use Rattle.tabled_line.specs.Placements.{ArePlacements, IsUniform};
 ghost use Rattle.tabled_line.specs.Cursors.{AreCursors};
 ghost use Rattle.tabled_line.specs.Row.{RowSheet, cell_block, cell_piece, row_line};
@@ -14,11 +13,11 @@ use crate::content::Content;
 use crate::cursors::{Cursor, cursor_at, keep_cursor};
 use crate::edges::{write_bar, write_left_edge, write_right_edge};
 use crate::placement::{CellPlacement, UniformPlacement};
-use crate::row_placements::{CachedPlacements, KnownPlacements, StyledPlacements};
+use crate::row_placements::CachedPlacements;
 use crate::spaced::write_spaced_cells;
 use crate::text_sink::TextSink;
 use tabled_base::TableError;
-use tabled_config::{CellStyle, Frame, KnownSides, RowStyles};
+use tabled_config::{CellStyle, Frame, RowStyles};
 
 /// A row of cells to print: the cells, and the frame around and between them.
 pub trait Row<'a> {
@@ -47,12 +46,7 @@ pub trait Row<'a> {
         ensures { IfSome result (λ uniform. (column : ℕ) → column < (sheet self.now).columns.count
             → IsUniform ((sheet self.now).style column) uniform) };
 
-    /// Returns the padding and horizontal alignment of each text, if they can be looked up by
-    /// column. Returning `None` is always safe.
-    fn sides(&self) -> Option<KnownSides<'_>>
-        ensures { IfSome result (λ sides. DescribesSides sides (sheet self.now).columns.count (sheet self.now).style) };
-
-    /// Returns the styles of the cells, to be read from left to right.
+    /// Returns the styles of the cells.
     fn styles(&self) -> RowStyles<'_>
         ensures { (column : ℕ) → column < (sheet self.now).columns.count
             → style_in result column ≡ (sheet self.now).style column };
@@ -156,7 +150,7 @@ fn write_block_cells<'a, R: Row<'a>, S: TextSink>(
         (flat_map (cell_piece (R.sheet row.now) index) (range_with_len 0 (R.sheet row.now).columns.count)) }
     ensures cursors { AreCursors (R.sheet row.now).text cursors.new }
 {
-    let mut styles = row.styles();
+    let styles = row.styles();
     'cells: for column in 0..row.count_drawn() {
         let line = CellLine {
             column,
@@ -180,11 +174,11 @@ fn write_styled_cells<'a, R: Row<'a>, S: TextSink>(
     ensures { Writes (S.sent sink.old) result (S.sent sink.new)
         (flat_map (cell_piece (R.sheet row.now) 0) (range_with_len 0 (R.sheet row.now).columns.count)) }
 {
-    write_spaced_cells(sink, row, StyledPlacements::new(row.styles()), separator)
+    write_spaced_cells(sink, row, row.styles(), separator)
 }
 
-/// Writes the cells of a row of one line, with the first of these that is known: cached placements,
-/// one placement, paddings and alignments, styles.
+/// Writes the cells of a row of one line: by cached placements, by one placement for all texts, or
+/// with the style of each looked up.
 fn write_spaced_row<'a, R: Row<'a>, S: TextSink>(
     sink: &mut S,
     row: &R,
@@ -201,10 +195,7 @@ fn write_spaced_row<'a, R: Row<'a>, S: TextSink>(
     if let Some(uniform) = row.uniform() {
         return write_spaced_cells(sink, row, uniform, separator);
     }
-    match row.sides() {
-        Some(sides) => write_spaced_cells(sink, row, KnownPlacements::new(sides), separator),
-        None => write_styled_cells(sink, row, separator),
-    }
+    write_styled_cells(sink, row, separator)
 }
 
 /// Writes the cells of a line. Those of a row of one line mostly need no blocks.

@@ -1,16 +1,13 @@
 //! The placements of the texts in a row of one line, from what is known of the row.
 ghost use Rattle.std.specs.Prelude.{◌≡◌, ◌+◌, ◌<◌, ℕ, IfSome, Some, length, slice_get};
-ghost use Rattle.tabled_config.specs.RowStyles.{style_in};
-ghost use Rattle.tabled_config.specs.KnownSides.{DescribesSides};
-ghost use Rattle.tabled_config.specs.declared.spanned.CellStyle.{CellStyle};
-ghost use Rattle.tabled_line.specs.Placements.{IsPlaceable, IsPadded, placement_of};
+ghost use Rattle.tabled_line.specs.Placements.{IsPlaceable, placement_of};
 ghost use Rattle.tabled_line.specs.Row.{RowSheet};
 ghost use Rattle.tabled_line.specs.PlacedText.{IsPlacedText};
 
 use crate::block::before_text;
 use crate::placement::{CellPlacement, Placement, UniformPlacement};
 use crate::row::Row;
-use tabled_config::{AlignmentHorizontal, CellStyle, KnownSides, RowStyles};
+use tabled_config::{CellStyle, RowStyles};
 
 /// The first line of a text, with the spaces around it in its cell.
 #[derive(Clone, Copy)]
@@ -27,7 +24,7 @@ pub struct PlacedText<'a> {
     pub behind: usize,
 }
 
-/// A source of the placements in a row of one line, to be read from left to right.
+/// A source of the placements in a row of one line.
 pub trait RowPlacements {
     ghost use Rattle.tabled_line.specs.Placements.{IsDescribedColumn};
     ghost use Rattle.tabled_line.specs.Offsets.{offset_from};
@@ -38,11 +35,10 @@ pub trait RowPlacements {
 
     /// Returns the placement of the text in a column of `width` columns. `None` if side padding
     /// isn't spaces, there is top padding, or the padding doesn't fit.
-    fn at(&mut self, column: usize, width: usize) -> Option<Placement>
-        requires { IsDescribedColumn (describes self.old) column }
-        ensures placement { (row : RowSheet) → describes self.old row → column < row.columns.count → width ≡ row.columns.width column
-            → IfSome result (λ placement. (placement ≡ placement_of (row.style column) width) × IsPlaceable (row.style column) width) }
-        ensures same { (row : RowSheet) → describes self.old row → describes self.new row };
+    fn at(&self, column: usize, width: usize) -> Option<Placement>
+        requires { IsDescribedColumn (describes self.now) column }
+        ensures { (row : RowSheet) → describes self.now row → column < row.columns.count → width ≡ row.columns.width column
+            → IfSome result (λ placement. (placement ≡ placement_of (row.style column) width) × IsPlaceable (row.style column) width) };
 
     /// Returns the offset of the first column after the left padding, in bytes after the left edge
     /// of a blank row, if this is cached.
@@ -52,10 +48,9 @@ pub trait RowPlacements {
             → IfSome result (λ place. place ≡ offset_from 0 row.columns column + (row.style column).padding.left.size) };
 
     /// Returns the style of a column, if this source knows it.
-    fn style(&mut self, column: usize) -> Option<CellStyle>
-        ensures style { (row : RowSheet) → describes self.old row → column < row.columns.count
-            → IfSome result (λ style. style ≡ row.style column) }
-        ensures same { (row : RowSheet) → describes self.old row → describes self.new row };
+    fn style(&self, column: usize) -> Option<CellStyle>
+        ensures { (row : RowSheet) → describes self.now row → column < row.columns.count
+            → IfSome result (λ style. style ≡ row.style column) };
 }
 
 /// Placements that are cached for rows with the same settings.
@@ -79,7 +74,7 @@ impl<'a> RowPlacements for CachedPlacements<'a> {
     ghost describes = { λ kept row. ArePlacements row.style row.columns kept.0.now };
 
     #[inline(always)]
-    fn at(&mut self, column: usize, _width: usize) -> Option<Placement> {
+    fn at(&self, column: usize, _width: usize) -> Option<Placement> {
         Some(self.cell(column).placement)
     }
 
@@ -88,7 +83,7 @@ impl<'a> RowPlacements for CachedPlacements<'a> {
         Some(self.cell(column).place)
     }
 
-    fn style(&mut self, _column: usize) -> Option<CellStyle> {
+    fn style(&self, _column: usize) -> Option<CellStyle> {
         None
     }
 }
@@ -101,7 +96,7 @@ impl RowPlacements for UniformPlacement {
     ghost describes = { λ uniform row. (column : ℕ) → column < row.columns.count → IsUniform (row.style column) uniform };
 
     #[inline(always)]
-    fn at(&mut self, _column: usize, width: usize) -> Option<Placement> {
+    fn at(&self, _column: usize, width: usize) -> Option<Placement> {
         self.placement(width)
     }
 
@@ -109,124 +104,32 @@ impl RowPlacements for UniformPlacement {
         None
     }
 
-    fn style(&mut self, _column: usize) -> Option<CellStyle> {
-        None
-    }
-}
-
-/// Placements from the known padding and alignment of each text.
-#[derive(Drop)]
-pub struct KnownPlacements<'a> {
-    sides: KnownSides<'a>,
-    // The placement, except for the alignment, if all texts have the same padding.
-    alike: Option<UniformPlacement>,
-}
-
-/// Returns the placement of all texts, except for the alignment, if all have the same padding and
-/// it allows one.
-#[inline(always)]
-fn known_uniform(sides: &KnownSides<'_>) -> Option<UniformPlacement>
-    ensures { (columns : ℕ) (style : ℕ → CellStyle) → DescribesSides sides.now columns style
-        → IfSome result (λ uniform. (column : ℕ) → column < columns → IsPadded (style column) uniform) }
-{
-    let padding = sides.shared_padding()?;
-    UniformPlacement::of(padding, AlignmentHorizontal::Left)
-}
-
-impl<'a> KnownPlacements<'a> {
-    /// Returns the placements for these paddings and alignments.
-    #[inline(always)]
-    pub fn new(sides: KnownSides<'a>) -> KnownPlacements<'a>
-        ensures sides { result.sides ≡ sides.entry }
-        ensures alike { (columns : ℕ) (style : ℕ → CellStyle) → DescribesSides sides.entry columns style
-            → IfSome result.alike (λ uniform. (column : ℕ) → column < columns → IsPadded (style column) uniform) }
-    {
-        let alike = known_uniform(&sides);
-        KnownPlacements { sides, alike }
-    }
-}
-
-impl<'a> RowPlacements for KnownPlacements<'a> {
-    ghost use Rattle.std.specs.Prelude.{◌<◌, ℕ, IfSome};
-    ghost use Rattle.tabled_config.specs.KnownSides.{DescribesSides};
-    ghost use Rattle.tabled_line.specs.Placements.{IsPadded};
-
-    ghost describes = { λ placements row. DescribesSides placements.sides row.columns.count row.style
-        × IfSome placements.alike (λ uniform. (column : ℕ) → column < row.columns.count → IsPadded (row.style column) uniform) };
-
-    #[inline(always)]
-    fn at(&mut self, column: usize, width: usize) -> Option<Placement> {
-        let horizontal = self.sides.horizontal(column);
-        match self.alike {
-            Some(uniform) => uniform.aligned(horizontal).placement(width),
-            None => UniformPlacement::of(self.sides.padding(column), horizontal)?.placement(width),
-        }
-    }
-
-    #[inline(always)]
-    fn content_offset(&self, _column: usize) -> Option<usize> {
-        None
-    }
-
-    fn style(&mut self, _column: usize) -> Option<CellStyle> {
+    fn style(&self, _column: usize) -> Option<CellStyle> {
         None
     }
 }
 
 /// Placements from the style of each text.
-#[derive(Drop)]
-pub struct StyledPlacements<'a> {
-    styles: RowStyles<'a>,
-    // The placement, except for the alignment, if all texts have the same padding.
-    alike: Option<UniformPlacement>,
-}
-
-/// Returns the placement of all texts, except for the alignment, if all are known to have the same
-/// padding and it allows one.
-fn shared_uniform(styles: &RowStyles<'_>) -> Option<UniformPlacement>
-    ensures { IfSome result (λ uniform. (column : ℕ) → IsPadded (style_in styles.now column) uniform) }
-{
-    let padding = styles.shared_padding()?;
-    UniformPlacement::of(&padding, AlignmentHorizontal::Left)
-}
-
-impl<'a> StyledPlacements<'a> {
-    /// Returns the placements for these styles.
-    #[inline(always)]
-    pub fn new(styles: RowStyles<'a>) -> StyledPlacements<'a>
-        ensures styles { result.styles ≡ styles.entry }
-        ensures alike { IfSome result.alike (λ uniform. (column : ℕ) → IsPadded (style_in styles.entry column) uniform) }
-    {
-        let alike = shared_uniform(&styles);
-        StyledPlacements { styles, alike }
-    }
-}
-
-impl<'a> RowPlacements for StyledPlacements<'a> {
-    ghost use Rattle.std.specs.Prelude.{◌≡◌, ◌<◌, ℕ, IfSome};
+impl<'a> RowPlacements for RowStyles<'a> {
+    ghost use Rattle.std.specs.Prelude.{◌≡◌, ◌<◌, ℕ};
     ghost use Rattle.tabled_config.specs.RowStyles.{style_in};
-    ghost use Rattle.tabled_line.specs.Placements.{IsPadded};
 
-    ghost describes = { λ placements row. ((column : ℕ) → column < row.columns.count → style_in placements.styles column ≡ row.style column)
-        × IfSome placements.alike (λ uniform. (column : ℕ) → IsPadded (style_in placements.styles column) uniform) };
+    ghost describes = { λ styles row. (column : ℕ) → column < row.columns.count
+        → style_in styles column ≡ row.style column };
 
     #[inline(always)]
-    fn at(&mut self, column: usize, width: usize) -> Option<Placement> {
-        if let Some(uniform) = self.alike {
-            return uniform
-                .aligned(self.styles.horizontal(column))
-                .placement(width);
-        }
-        let (padding, horizontal) = self.styles.beside(column);
-        UniformPlacement::of(&padding, horizontal)?.placement(width)
+    fn at(&self, column: usize, width: usize) -> Option<Placement> {
+        let (padding, horizontal) = self.sides(column)?;
+        UniformPlacement::of(padding, horizontal)?.placement(width)
     }
 
+    #[inline(always)]
     fn content_offset(&self, _column: usize) -> Option<usize> {
         None
     }
 
-    fn style(&mut self, column: usize) -> Option<CellStyle> {
-        Some(self.styles.at(column))
+    fn style(&self, column: usize) -> Option<CellStyle> {
+        Some(RowStyles::at(self, column))
     }
 }
 
@@ -235,16 +138,15 @@ impl<'a> RowPlacements for StyledPlacements<'a> {
 #[inline(always)]
 pub fn place<'c, R: Row<'c>, A: RowPlacements>(
     row: &R,
-    placements: &mut A,
+    placements: &A,
     column: usize,
     width: usize,
 ) -> Option<PlacedText<'c>>
-    requires describes { A.describes placements.old (R.sheet row.now) }
+    requires describes { A.describes placements.now (R.sheet row.now) }
     requires inside { column < (R.sheet row.now).columns.count }
     requires width { width ≡ (R.sheet row.now).columns.width column }
     requires height { (R.sheet row.now).height ≡ 1 }
-    ensures placed { IfSome result (IsPlacedText (R.sheet row.now) column) }
-    ensures describes { A.describes placements.new (R.sheet row.now) }
+    ensures { IfSome result (IsPlacedText (R.sheet row.now) column) }
 {
     let placement = placements.at(column, width)?;
     let content = row.content(column);
@@ -267,13 +169,12 @@ pub fn place<'c, R: Row<'c>, A: RowPlacements>(
 /// Returns the style of a column, from `placements` or else from the row.
 pub(crate) fn style_of<'c, R: Row<'c>, A: RowPlacements>(
     row: &R,
-    placements: &mut A,
+    placements: &A,
     column: usize,
 ) -> CellStyle
-    requires describes { A.describes placements.old (R.sheet row.now) }
+    requires describes { A.describes placements.now (R.sheet row.now) }
     requires inside { column < (R.sheet row.now).columns.count }
-    ensures style { result ≡ (R.sheet row.now).style column }
-    ensures describes { A.describes placements.new (R.sheet row.now) }
+    ensures { result ≡ (R.sheet row.now).style column }
 {
     match placements.style(column) {
         Some(style) => style,

@@ -50,16 +50,16 @@ fn write_separator<S: TextSink>(
 fn write_next_text<'a, R: Row<'a>, S: TextSink, A: RowPlacements>(
     sink: &mut S,
     row: &R,
-    placements: &mut A,
+    placements: &A,
     line: &SpacedLine<'_>,
     column: usize,
 ) -> Result<usize, TableError>
     requires inside { column < (R.sheet row.now).columns.count }
     requires height { (R.sheet row.now).height ≡ 1 }
     requires bar { line.now.separator.bar ≡ (R.sheet row.now).columns.frame.inner }
-    requires describes { A.describes placements.old (R.sheet row.now) }
-    ensures printed { WritesBut (S.sent sink.old) result (S.sent sink.new) (fill 32 line.now.behind ++ cell_piece (R.sheet row.now) 0 column) }
-    ensures describes { A.describes placements.new (R.sheet row.now) }
+    requires describes { A.describes placements.now (R.sheet row.now) }
+    ensures { WritesBut (S.sent sink.old) result (S.sent sink.new)
+        (fill 32 line.now.behind ++ cell_piece (R.sheet row.now) 0 column) }
 {
     match place(row, placements, column, row.width(column)) {
         Some(placed) => {
@@ -84,7 +84,7 @@ fn write_next_text<'a, R: Row<'a>, S: TextSink, A: RowPlacements>(
 pub(crate) fn write_spaced_cells<'a, R: Row<'a>, S: TextSink, A: RowPlacements + Drop>(
     sink: &mut S,
     row: &R,
-    mut placements: A,
+    placements: A,
     separator: SeparatorText<'_>,
 ) -> Result<(), TableError>
     requires height { (R.sheet row.now).height ≡ 1 }
@@ -96,7 +96,7 @@ pub(crate) fn write_spaced_cells<'a, R: Row<'a>, S: TextSink, A: RowPlacements +
     let mut behind = 0;
     'cells: for column in 0..row.count_drawn() {
         let line = SpacedLine { separator, behind };
-        behind = write_next_text(sink, row, &mut placements, &line, column)?;
+        behind = write_next_text(sink, row, &placements, &line, column)?;
     }
     write_spaces(sink, behind)
 }

@@ -6,9 +6,7 @@ ghost use Rattle.tabled_line.specs.Fill.{fill};
 ghost use Rattle.tabled_line.specs.Row.{row_line};
 
 use crate::row::Row;
-use crate::row_placements::{
-    CachedPlacements, KnownPlacements, PlacedText, RowPlacements, StyledPlacements, place,
-};
+use crate::row_placements::{CachedPlacements, PlacedText, RowPlacements, place};
 use crate::slots::{Slot, first_offset};
 
 /// Copies a text over the bytes from `place` on.
@@ -66,7 +64,7 @@ fn fill_placed_texts<'a, R: Row<'a>, A: RowPlacements + Drop>(
     line: &mut [u8],
     slots: &[Slot],
     row: &R,
-    mut placements: A,
+    placements: A,
 ) -> bool
     requires height { (R.sheet row.now).height ≡ 1 }
     requires blank { line.old ≡ blank_row (R.sheet row.now).columns }
@@ -77,7 +75,7 @@ fn fill_placed_texts<'a, R: Row<'a>, A: RowPlacements + Drop>(
 {
     let first = first_offset(slots);
     'texts: for column in 0..slots.len() {
-        let Some(placed) = place(row, &mut placements, column, slots[column].width) else {
+        let Some(placed) = place(row, &placements, column, slots[column].width) else {
             return false;
         };
         let start = text_offset(&placements, slots[column], first, column, &placed);
@@ -98,12 +96,11 @@ fn fill_styled_texts<'a, R: Row<'a>>(line: &mut [u8], slots: &[Slot], row: &R) -
     ensures laid { result ≡ true → line.new ≡ row_line (R.sheet row.now) 0 }
     ensures utf8 { IsUtf8 line.old → IsUtf8 line.new }
 {
-    fill_placed_texts(line, slots, row, StyledPlacements::new(row.styles()))
+    fill_placed_texts(line, slots, row, row.styles())
 }
 
-/// Copies the texts of a row into a blank row, with the first of these that is known: cached
-/// placements, one placement, paddings and alignments, styles. Returns whether all texts could be
-/// copied.
+/// Copies the texts of a row into a blank row: by cached placements, by one placement for all
+/// texts, or with the style of each looked up. Returns whether all texts could be copied.
 pub(crate) fn fill_texts<'a, R: Row<'a>>(line: &mut [u8], slots: &[Slot], row: &R) -> bool
     requires height { (R.sheet row.now).height ≡ 1 }
     requires blank { line.old ≡ blank_row (R.sheet row.now).columns }
@@ -117,8 +114,5 @@ pub(crate) fn fill_texts<'a, R: Row<'a>>(line: &mut [u8], slots: &[Slot], row: &
     if let Some(uniform) = row.uniform() {
         return fill_placed_texts(line, slots, row, uniform);
     }
-    match row.sides() {
-        Some(sides) => fill_placed_texts(line, slots, row, KnownPlacements::new(sides)),
-        None => fill_styled_texts(line, slots, row),
-    }
+    fill_styled_texts(line, slots, row)
 }

@@ -1,4 +1,4 @@
-use Rattle.std.proofs.Common.{◌<◌, ◌∙◌, arith, sym}
+use Rattle.std.proofs.Common.{◌<◌, arith, sym}
 use Rattle.tabled_line.proofs.Sending.{stopped, further, sends-along}
 use Rattle.tabled_line.specs.Row.{cell_piece}
 use Rattle.tabled_line.proofs.Each.{each-first, each-more, each-rest}
@@ -18,7 +18,6 @@ cells-preserved g c =
       printed = further c.cells.invariant.printed c.in_ok-write_cell.ensures.printed
           (each-more (cell_piece (g.R.Row.sheet c.args.row.now) c.args.index) _);
       cursors = c.in_ok-write_cell.ensures.cursors;
-      styles = λ k within. c.at.ensures.same.at k ∙ c.cells.invariant.styles k within;
     }
 
 pub returns-clause-printed : goal.returns-clause-printed

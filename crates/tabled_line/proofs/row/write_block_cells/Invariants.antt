@@ -1,6 +1,4 @@
-use Rattle.std.proofs.Common.{◌≡◌, ◌<◌, ℕ}
 use Rattle.std.specs.List.{flat_map, range_with_len}
-use Rattle.tabled_config.specs.RowStyles.{style_in}
 use Rattle.tabled_line.specs.Cursors.{AreCursors}
 use Rattle.tabled_line.specs.Row.{cell_piece}
 use Rattle.tabled_line.specs.Sent.{Sends}
@@ -12,5 +10,4 @@ invariant-cells g l =
       printed : Sends (g.S.TextSink.sent l.initial.sink) (g.S.TextSink.sent l.sink)
           (flat_map (cell_piece (g.R.Row.sheet l.row) l.index) (range_with_len 0 l.column));
       cursors : AreCursors (g.R.Row.sheet l.row).text l.cursors;
-      styles : (c : ℕ) → c < (g.R.Row.sheet l.row).columns.count → style_in l.styles c ≡ (g.R.Row.sheet l.row).style c;
     }

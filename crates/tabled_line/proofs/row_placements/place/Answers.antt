@@ -5,12 +5,12 @@ use Rattle.tabled_line.specs.Fill.{fill}
 use Rattle.tabled_line.proofs.Spacing.{before-within, first-spaced, free_of, left_of, right_of}
 use Rattle.tabled_line.proofs.row_placements.place.Goals as goal
 
-pub returns-clause-placed : goal.returns-clause-placed
-returns-clause-placed g c =
+pub returns : goal.returns
+returns g c =
     let rs = g.R.Row.sheet c.args.row.now in
     let style = rs.style c.args.column in
     let width = rs.columns.width c.args.column in
-    let placement = c.in_ok-placement.ensures.placement rs c.requires.describes c.requires.inside c.requires.width in
+    let placement = c.in_ok-placement.ensures rs c.requires.describes c.requires.inside c.requires.width in
     let text = c.first_line-columns.result.0.now in
     let line = first_line (rs.text c.args.column) in
     let same : text ≡ line = c.first_line-columns.ensures.line ∙ ap first_line c.content-content.ensures in

@@ -5,8 +5,5 @@ use Rattle.tabled_line.proofs.spaced.write_spaced_cells.Given as goal
 
 abbrev pub invariant-cells : goal.invariant-cells
 invariant-cells g l =
-    record {
-      printed : SendsBut (g.S.TextSink.sent l.initial.sink) (g.S.TextSink.sent l.sink) l.behind
-          (flat_map (cell_piece (g.R.Row.sheet l.row) 0) (range_with_len 0 l.column));
-      describes : g.A.RowPlacements.describes l.placements (g.R.Row.sheet l.row);
-    }
+    SendsBut (g.S.TextSink.sent l.initial.sink) (g.S.TextSink.sent l.sink) l.behind
+    (flat_map (cell_piece (g.R.Row.sheet l.row) 0) (range_with_len 0 l.column))

@@ -9,7 +9,6 @@ pub texts-init : goal.texts-init
 texts-init g c =
     record {
       laid = none-laid (g.R.Row.sheet c.args.row.now) _ c.requires.blank;
-      describes = c.requires.describes;
       utf8 = λ u. u;
     }
 
@@ -18,7 +17,7 @@ place-requires g c = λ κs.
     let rs = g.R.Row.sheet c.args.row.now in
     let within : c.texts.column < rs.columns.count = omega (arith, c.texts-test.true, slots-count rs.columns c.args.slots.now c.requires.slots) in
     let slot = slot-is rs.columns c.args.slots.now c.texts.column c.requires.slots within in
-    ((refl, tt), (c.texts.invariant.describes, (within, (ap (λ s. s.width) slot, c.requires.height))))
+    ((refl, tt), (c.requires.describes, (within, (ap (λ s. s.width) slot, c.requires.height))))
 
 pub text_offset-start-requires : goal.text_offset-start-requires
 text_offset-start-requires g c =
@@ -27,11 +26,11 @@ text_offset-start-requires g c =
     let listed = slot-is rs.columns c.args.slots.now c.texts.column c.requires.slots within in
     let first = c.first_offset-first.ensures rs.columns c.requires.slots (omega (arith, within)) in
     let long = stands-long _ (slot-stands c.texts.invariant.laid within) in
-    let known = c.in-Some.ensures.placed in
+    let known = c.in-Some.ensures in
     record {
       text = record {
         row = rs;
-        known = c.in-Some.ensures.describes;
+        known = c.requires.describes;
         inside = within;
         listed = listed;
         first_is = first;
@@ -46,7 +45,7 @@ fill_text-requires g c =
     let within : c.texts.column < rs.columns.count = omega (arith, c.texts-test.true, slots-count rs.columns c.args.slots.now c.requires.slots) in
     let slot = slot-is rs.columns c.args.slots.now c.texts.column c.requires.slots within in
     let placed = c.in-Some.placed in
-    stands-inside placed.before placed.columns placed.behind _ _ c.in-Some.ensures.placed.whole
+    stands-inside placed.before placed.columns placed.behind _ _ c.in-Some.ensures.whole
     (c.text_offset-start.ensures ∙ ap (λ s. s.place + placed.before) slot) (slot-stands c.texts.invariant.laid within)
 
 pub texts-preserved : goal.texts-preserved
@@ -57,7 +56,7 @@ texts-preserved g c =
     let slot = slot-is rs.columns c.args.slots.now column c.requires.slots within in
     let begun = c.texts.invariant.laid in
     let placed = c.in-Some.placed in
-    let known = c.in-Some.ensures.placed in
+    let known = c.in-Some.ensures in
     let text = fill 32 placed.before ++ (placed.text.now ++ fill 32 placed.behind) in
     let back = blank_from rs.columns (column + 1) (rs.columns.count - column - 1) in
     let done = c.if-not-fill_text.false in
@@ -70,7 +69,6 @@ texts-preserved g c =
     omega (arith, slot-begins begun, laid-length placed.before placed.behind placed.text.now, c.fill_text.ensures.size done, known.whole) in
     record {
       laid = laid-to rs column _ (laid-more text _ _ _ known.line begun.laid within laid stops refl);
-      describes = c.in-Some.ensures.describes;
       utf8 = λ u. c.fill_text.ensures.utf8 (c.texts.invariant.utf8 u);
     }
 

@@ -7,5 +7,4 @@ invariant-texts g l =
     record {
       laid : IsLaidTo (g.R.Row.sheet l.row) l.line l.column;
       utf8 : IsUtf8 l.fn.line → IsUtf8 l.line;
-      describes : g.A.RowPlacements.describes l.placements (g.R.Row.sheet l.row);
     }

@@ -6,8 +6,8 @@ use Rattle.tabled_line.proofs.row_placements.CachedPlacementsRowPlacements.at.Go
 pub cell-requires : goal.cell-requires
 cell-requires c = known-within c.requires.known c.requires.inside
 
-pub returns-clause-placement : goal.returns-clause-placement
-returns-clause-placement c = λ row placements within width.
+pub returns : goal.returns
+returns c = λ row placements within width.
     let column = c.args.column in (
       ap (λ a. a.placement) (cell-known placements within c.cell.ensures) ∙ ap (placement_of (row.style column)) (sym width),
       subst (IsPlaceable (row.style column)) (sym width) (placements.placeable column within),
