@@ -4,7 +4,6 @@ ghost use Rattle.std.specs.List.{slice_index};
 ghost use Rattle.tabled_base.specs.Cells.{columns};
 ghost use Rattle.tabled_base.specs.declared.error.TableError.TheVariants.{ShortHeights, ShortWidths};
 ghost use Rattle.tabled_config.specs.Settings.{style_at};
-ghost use Rattle.tabled_entity.specs.KnownValues.{known_value};
 ghost use Rattle.tabled_line.specs.Placements.{ArePlacements, IsPlaceable, placement_of};
 ghost use Rattle.tabled_size.specs.Reached.{reached};
 ghost use Rattle.tabled_size.specs.Effective.{effective};
@@ -17,7 +16,6 @@ ghost use Rattle.tabled_grid.specs.Printed.{IsInRange, IsRefused};
 use crate::grid::Grid;
 use tabled_base::{PeekableRecords, Position, TableError};
 use tabled_config::{Indent, Sides, SpannedConfig};
-use tabled_entity::KnownValues;
 use tabled_line::{CellPlacement, Placement};
 use tabled_size::{
     CompleteDimension, Dimension, check_heights, check_widths, filled_height, filled_width,
@@ -79,30 +77,7 @@ fn narrow_by_placements<R: PeekableRecords, D: Dimension>(
     None
 }
 
-/// Returns the first column of a row that is too narrow for its cell, by known paddings.
-fn narrow_by_known<R: PeekableRecords, D: Dimension>(
-    grid: &Grid<'_, R, D>,
-    row: usize,
-    paddings: KnownValues<'_, Sides<Indent>>,
-) -> Option<usize>
-    requires sized { columns grid.now.cells ≤ length grid.now.widths }
-    requires row_in { row < length grid.now.cells }
-    requires told { (column : ℕ) → column < columns grid.now.cells
-        → known_value paddings column ≡ (style_at grid.now.config row column).padding }
-    ensures none { IfNone result ((c : ℕ) → c < columns grid.now.cells
-        → IsHeld grid.now row c) }
-    ensures some { IfSome result (IsNarrowIn grid.now row) }
-{
-    'columns: for column in 0..grid.count_columns() {
-        if !is_held(grid, row, column, *paddings.at(column)) {
-            return Some(column);
-        }
-    }
-    None
-}
-
 /// Returns the first column of a row that is too narrow for its cell, with each padding looked up.
-#[inline(never)]
 fn narrow_by_lookup<R: PeekableRecords, D: Dimension>(
     grid: &Grid<'_, R, D>,
     row: usize,
@@ -113,7 +88,7 @@ fn narrow_by_lookup<R: PeekableRecords, D: Dimension>(
         → IsHeld grid.now row c) }
     ensures some { IfSome result (IsNarrowIn grid.now row) }
 {
-    let mut paddings = grid.config.paddings_in(row);
+    let paddings = grid.config.paddings_in(row);
     'columns: for column in 0..grid.count_columns() {
         if !is_held(grid, row, column, *paddings.at(column)) {
             return Some(column);
@@ -130,11 +105,8 @@ fn narrow_in<R: PeekableRecords, D: Dimension>(grid: &Grid<'_, R, D>, row: usize
         → IsHeld grid.now row c) }
     ensures some { IfSome result (IsNarrowIn grid.now row) }
 {
-    if let Some(placements) = grid.placements(row) {
-        return narrow_by_placements(grid, row, placements);
-    }
-    match grid.config.told_paddings(row, grid.count_columns()) {
-        Some(paddings) => narrow_by_known(grid, row, paddings),
+    match grid.placements(row) {
+        Some(placements) => narrow_by_placements(grid, row, placements),
         None => narrow_by_lookup(grid, row),
     }
 }

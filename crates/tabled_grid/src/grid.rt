@@ -5,7 +5,6 @@ ghost use Rattle.tabled_base.specs.Cells.{IsInside, cell_at, columns};
 ghost use Rattle.tabled_config.specs.Frame.{if_any, inner_line};
 ghost use Rattle.tabled_config.specs.RowStyles.{style_in};
 ghost use Rattle.tabled_config.specs.Settings.{frame, rule_at, style_at};
-ghost use Rattle.tabled_config.specs.KnownSides.{DescribesSides};
 ghost use Rattle.tabled_grid.specs.ColumnStyles.{AreStyles};
 ghost use Rattle.tabled_grid.specs.Grid.{sheet_by};
 ghost use Rattle.tabled_grid.specs.Picture.{columns_of};
@@ -18,7 +17,7 @@ use crate::column_styles::ColumnStyles;
 use std::alloc::Global;
 use std::marker::Model;
 use tabled_base::{PeekableRecords, Position};
-use tabled_config::{CellStyle, Frame, HorizontalLine, KnownSides, RowStyles, SpannedConfig};
+use tabled_config::{CellStyle, Frame, HorizontalLine, RowStyles, SpannedConfig};
 use tabled_line::{CellBlock, CellPlacement, ColumnSeparator, Content, UniformPlacement};
 use tabled_size::Dimension;
 
@@ -79,7 +78,7 @@ impl<'a, R: PeekableRecords, D: Dimension> Grid<'a, R, D> {
         let between = config.borders.line_at(2, 1);
         let uniform = uniform_of_table(config);
         let rows = records.count_rows();
-        // Without settings for columns or cells, each row has one style that is looked up directly.
+        // Without settings for columns, most rows have one style that is looked up directly.
         let by_column = match config.row_style(rows) {
             Some(_) => None,
             None => ColumnStyles::if_kept(memory, config, dimension, rows, records.count_columns()),
@@ -112,7 +111,7 @@ impl<'a, R: PeekableRecords, D: Dimension> Grid<'a, R, D> {
     }
 
     /// Returns the placement that all texts of a row share, if no padding or horizontal alignment
-    /// was set for columns or cells.
+    /// was set for a column or for a cell of the row.
     #[inline(always)]
     fn uniform_of_row(&self, row: usize) -> Option<UniformPlacement>
         ensures { IfSome result (λ uniform. (column : ℕ) → IsUniform (style_at self.now.config row column) uniform) }
@@ -132,16 +131,7 @@ impl<'a, R: PeekableRecords, D: Dimension> Grid<'a, R, D> {
         }
     }
 
-    /// Returns the padding and horizontal alignment of each text of a row, if they can be looked up
-    /// by column.
-    #[inline(always)]
-    pub fn sides(&self, row: usize) -> Option<KnownSides<'_>>
-        ensures { IfSome result (λ sides. DescribesSides sides (columns self.now.cells) (style_at self.now.config row)) }
-    {
-        self.config.told_sides(row, self.count_columns())
-    }
-
-    /// Returns the styles of a row's cells, to be read from left to right.
+    /// Returns the styles of a row's cells.
     pub fn styles(&self, row: usize) -> RowStyles<'_>
         ensures { (column : ℕ) → column < columns self.now.cells
             → style_in result column ≡ style_at self.now.config row column }

@@ -5,7 +5,7 @@ ghost use Rattle.tabled_size.specs.Holds.{IsSized};
 
 use crate::grid::Grid;
 use tabled_base::{PeekableRecords, Position};
-use tabled_config::{CellStyle, Frame, KnownSides, RowStyles};
+use tabled_config::{CellStyle, Frame, RowStyles};
 use tabled_line::{
     CellBlock, CellPlacement, ColumnSeparator, Content, Row, TableColumns, UniformPlacement,
 };
@@ -68,11 +68,6 @@ impl<'a, R: PeekableRecords, D: Dimension> Row<'a> for GridRow<'a, R, D> {
     #[inline(always)]
     fn uniform(&self) -> Option<UniformPlacement> {
         self.grid.uniform(self.row)
-    }
-
-    #[inline(always)]
-    fn sides(&self) -> Option<KnownSides<'_>> {
-        self.grid.sides(self.row)
     }
 
     fn styles(&self) -> RowStyles<'_> {

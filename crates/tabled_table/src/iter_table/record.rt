@@ -10,7 +10,7 @@ use crate::iter_table::layout::Layout;
 use std::alloc::Global;
 use std::borrow::CowStr;
 use tabled_base::{CellText, TableError, Text};
-use tabled_config::{CellStyle, Frame, KnownSides, RowStyles};
+use tabled_config::{CellStyle, Frame, RowStyles};
 use tabled_line::{CellBlock, CellPlacement, ColumnSeparator, Content, Row, UniformPlacement};
 use tabled_text::cut_str;
 
@@ -47,10 +47,6 @@ impl<'a> Row<'a> for CutRow<'a> {
 
     fn uniform(&self) -> Option<UniformPlacement> {
         self.layout.uniform
-    }
-
-    fn sides(&self) -> Option<KnownSides<'_>> {
-        None
     }
 
     fn styles(&self) -> RowStyles<'_> {
