@@ -67,7 +67,7 @@ impl Narrowing {
 
     /// Returns the option that wraps.
     fn wrap(self, keep_words: bool) -> Wrap<usize, OrderPriority>
-        ensures plan { Wrapped result.width result.transform.keep_words result.priority.order
+        ensures plan { Wrapped result.size result.transform.keep_words result.priority.order
             ≡ Wrapped self.target keep_words self.order }
         ensures start { result.priority.round.kept ≡ 0 }
     {
@@ -78,7 +78,7 @@ impl Narrowing {
 
     /// Returns the option that truncates.
     fn truncate(self) -> Truncate<'static, usize, OrderPriority>
-        ensures plan { Shortened result.width result.priority.order ≡ Shortened self.target self.order }
+        ensures plan { Shortened result.size result.priority.order ≡ Shortened self.target self.order }
         ensures start { result.priority.round.kept ≡ 0 }
         ensures suffix { result.transform.suffix.now ≡ [] }
         ensures limit { result.transform.limit ≡ Cut }

@@ -8,8 +8,8 @@ use Rattle.tabled_config.specs.declared.spanned.SpannedConfig.{SpannedConfig}
 use Rattle.tabled_priority.specs.Permitted.{at}
 use Rattle.tabled_size.specs.Sheet.{Sheet}
 use Rattle.tabled_set.specs.CellChanges.{AreChanged, AreChangedBefore, NeedsMemory, NeedsMemoryIn, if_taken, in_room}
-use Rattle.tabled_set.specs.declared.walk_order.WalkOrder.{WalkOrder}
-use Rattle.tabled_set.specs.declared.cell_filter.CellFilter.{CellFilter}
+use Rattle.tabled_set.specs.declared.walk.WalkOrder.{WalkOrder}
+use Rattle.tabled_set.specs.declared.changing.CellFilter.{CellFilter}
 use Rattle.tabled_set.specs.ColumnChanges.{for_width, is_permitted, needs_for_width}
 use Rattle.tabled_set.specs.Minimums.{minimums, side_padding}
 use Rattle.tabled_set.specs.Narrowed.{for_content_size, needs_for_content_size}

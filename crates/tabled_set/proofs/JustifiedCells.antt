@@ -8,7 +8,7 @@ use Rattle.tabled_set.specs.CellChanges.{ChangesEntity, if_taken, is_taken, trun
 use Rattle.tabled_set.specs.Justified.{IsJustified}
 use Rattle.tabled_set.specs.TextLines.{filling}
 use Rattle.tabled_set.specs.declared.suffix.SuffixLimit.TheVariants.{Cut}
-use Rattle.tabled_set.specs.declared.cell_filter.CellFilter.TheVariants.{NotAsWide}
+use Rattle.tabled_set.specs.declared.changing.CellFilter.TheVariants.{NotAsWide}
 use Rattle.tabled_text.specs.Measure.{text_columns}
 
 -- a text of just the columns of its content size stays

@@ -15,7 +15,6 @@ pub mod PaddedTotals
 pub mod Picking
 pub mod PromisedSizes
 pub mod Promises
-pub mod Staying
 pub mod Stopping
 pub mod SuffixLemmas
 pub mod TruncatedTexts

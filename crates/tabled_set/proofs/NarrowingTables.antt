@@ -9,7 +9,7 @@ use Rattle.tabled_base.specs.declared.error.TableError.{TableError}
 use Rattle.tabled_base.specs.declared.error.TableError.TheVariants.{Memory, Range}
 use Rattle.tabled_config.specs.declared.spanned.SpannedConfig.{SpannedConfig}
 use Rattle.tabled_size.specs.Estimates.{IsTooWide, estimated_heights, estimated_widths}
-use Rattle.tabled_size.specs.FilledIn.{HasNoEstimate, IsFilledIn}
+use Rattle.tabled_size.specs.FilledIn.{IsFilledIn}
 use Rattle.tabled_priority.specs.Permitted.{FitsMinimums, IsPermitted}
 use Rattle.tabled_size.specs.Sheet.{Sheet, is_empty}
 use Rattle.tabled_size.specs.Effective.{effective, effective_sizes}
@@ -18,11 +18,11 @@ use Rattle.tabled_size.specs.Totals.{filled_width, total_width}
 use Rattle.tabled_size.specs.declared.complete_dimension.CompleteDimension.{CompleteDimension}
 use Rattle.tabled_size.proofs.Totalling.{heights_length, widths_length}
 use Rattle.tabled_set.specs.CellChanges.{AreChanged, AreChangedBefore, if_taken}
-use Rattle.tabled_set.specs.declared.walk_order.WalkOrder.TheVariants.{ByColumn}
-use Rattle.tabled_set.specs.declared.cell_filter.CellFilter.{CellFilter}
+use Rattle.tabled_set.specs.declared.walk.WalkOrder.TheVariants.{ByColumn}
+use Rattle.tabled_set.specs.declared.changing.CellFilter.{CellFilter}
 use Rattle.tabled_set.specs.ColumnChanges.{for_width, needs_for_width}
 use Rattle.tabled_set.specs.Minimums.{emptied, minimums}
-use Rattle.tabled_set.specs.Narrowed.{IsNarrowed, Narrows, StopsNarrowing, WiderOutOfRange}
+use Rattle.tabled_set.specs.Narrowed.{IsNarrowed, Narrows, NarrowingOutOfRange, StopsNarrowing, WiderOutOfRange}
 use Rattle.tabled_set.specs.Shrinking.{IsFound, IsShrunkBy}
 use Rattle.tabled_set.proofs.ChangingCells.{match-false, match-true}
 use Rattle.tabled_set.proofs.ChangingColumns.{content_sizes-before, content_sizes-made}
@@ -143,7 +143,7 @@ if-err P (Ok x) e h p = absurd h
 if-err P (Err d) e h p = subst P (sym h) p
 
 -- a total that passes the range is that of the sizes before they were filled in
-pub passes-before : (n : ℕ) (cells : List (List (List ℕ))) (config : SpannedConfig) (old mid : CompleteDimension) (e : TableError) → IsFilledIn old cells config mid → (e ≡ Memory) ⊎ ((e ≡ Range) × WiderOutOfRange n cells config mid) → (e ≡ Memory) ⊎ ((e ≡ Range) × (HasNoEstimate old cells config ⊎ WiderOutOfRange n cells config old))
-passes-before n cells config old mid e filled cause =
+pub passes-before : (O : Type 0) (n : ℕ) (cells : List (List (List ℕ))) (config : SpannedConfig) (old mid : CompleteDimension) (e : TableError) → is_empty cells ≡ false → IsFilledIn old cells config mid → (e ≡ Memory) ⊎ ((e ≡ Range) × WiderOutOfRange n cells config mid) → (e ≡ Memory) ⊎ ((e ≡ Range) × NarrowingOutOfRange O n cells config old)
+passes-before O n cells config old mid e some filled cause =
     let P : Sheet → Type 0 = λ t. (2 ^ 64 ≤ total_width t) ⊎ ((n < total_width t) × IsTooWide (emptied cells) config) in
-    ⊎_elim (λ m. inl m) (λ h. inr (h.0, inr (subst P (effective-filled cells config old mid filled) h.1))) cause
+    ⊎_elim (λ m. inl m) (λ h. inr (h.0, (some, inr (inr (subst P (effective-filled cells config old mid filled) h.1))))) cause

@@ -28,8 +28,7 @@ use Rattle.tabled_set.specs.Truncated.{IsTruncated}
 use Rattle.tabled_set.specs.declared.suffix.SuffixLimit.{SuffixLimit}
 use Rattle.tabled_set.proofs.Bare.{longest_lines, longest_truncated}
 use Rattle.tabled_set.proofs.ExactTotals.{FindsRoom, IsNarrowed-wider, KeepsPlain, changed_for_room, exact_total, leveled}
-use Rattle.tabled_set.proofs.Staying.{StaysWithin-truncated}
-use Rattle.tabled_set.proofs.TruncatedTexts.{fits-if_wider}
+use Rattle.tabled_set.proofs.TruncatedTexts.{StaysWithin-truncated, fits-if_wider}
 
 -- ---- changed texts stay in their content sizes
 FindsRoom-wrapping : (words : Bool) → FindsRoom (wrapping words)

@@ -3,7 +3,7 @@ use Rattle.std.proofs.Common.{◌≡◌, ℕ, Bool, List, Result, Ok, Err, IfErr
 use Rattle.tabled_base.specs.declared.error.TableError.{TableError}
 use Rattle.tabled_base.specs.declared.error.TableError.TheVariants.{Memory, Range}
 use Rattle.tabled_set.specs.CellChanges.{AreChangedBefore, StopsChanging}
-use Rattle.tabled_set.specs.declared.walk_order.WalkOrder.{WalkOrder}
+use Rattle.tabled_set.specs.declared.walk.WalkOrder.{WalkOrder}
 use Rattle.tabled_set.specs.Filling.{StopsFilling}
 use Rattle.tabled_size.specs.declared.complete_dimension.CompleteDimension.{CompleteDimension}
 
@@ -17,27 +17,23 @@ stops-before order chosen needs change old new (Err e) h only = inr (only, h)
 pub stops-measuring : (e cause : TableError) (sizes : CompleteDimension) → e ≡ cause → cause ≡ Range → StopsFilling e sizes sizes
 stops-measuring e cause sizes is range = record { lacking = λ m. cc; same = refl }
 
--- what a failure of a table with a row and a column leaves, whatever the error is
-pub stops-filled : {T : Type 0} (F : Type 0) (P : TableError → Type 0) (Q : Type 0) (r : Result T TableError) → IfErr r (λ e. F) → IfErr r P → Q → IfErr r (λ e. F × P e × Q)
-stops-filled F P Q (Ok x) f h q = tt
-stops-filled F P Q (Err e) f h q = (f, h, q)
-
-pub if-refused : {T : Type 0} (F : Type 0) (r : Result T TableError) → F → IfErr r (λ e. F)
-if-refused F (Ok x) f = tt
-if-refused F (Err e) f = f
-
 -- what else holds, whatever the error is
 pub stops-with : {T : Type 0} (P : TableError → Type 0) (Q : Type 0) (r : Result T TableError) → IfErr r P → Q → IfErr r (λ e. P e × Q)
 stops-with P Q (Ok x) h q = tt
 stops-with P Q (Err e) h q = (h, q)
 
+-- the same of a table with a row and a column
+pub stops-filled : {T : Type 0} (F : Type 0) (P : TableError → Type 0) (Q : Type 0) (r : Result T TableError) → IfErr r (λ e. F × P e) → Q → IfErr r (λ e. F × P e × Q)
+stops-filled F P Q (Ok x) h q = tt
+stops-filled F P Q (Err e) h q = (h.0, h.1, q)
+
 -- all as it was
-pub stops-heightening : {T : Type 0} (F Q R K : Type 0) (r : Result T TableError) → IfErr r (λ e. F) → Q → R → OnErr r K → IfErr r (λ e. F × (Q × (R × K)))
+pub stops-heightening : {T : Type 0} (F Q R K : Type 0) (r : Result T TableError) → OnErr r F → Q → R → OnErr r K → IfErr r (λ e. F × (Q × (R × K)))
 stops-heightening F Q R K (Ok x) f q w k = tt
 stops-heightening F Q R K (Err e) f q w k = (f, (q, (w, k)))
 
 -- the sizes as they were
-pub stops-limiting : {T : Type 0} (F : Type 0) (P : TableError → Type 0) (Q K : Type 0) (r : Result T TableError) → IfErr r (λ e. F) → IfErr r P → Q → OnErr r K
+pub stops-limiting : {T : Type 0} (F : Type 0) (P : TableError → Type 0) (Q K : Type 0) (r : Result T TableError) → OnErr r F → IfErr r P → Q → OnErr r K
     → IfErr r (λ e. F × P e × (Q × K))
 stops-limiting F P Q K (Ok x) f p q k = tt
 stops-limiting F P Q K (Err e) f p q k = (f, p, (q, k))

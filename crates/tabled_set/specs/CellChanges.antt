@@ -8,11 +8,11 @@ use Rattle.tabled_entity.specs.Changes.{covers}
 use Rattle.tabled_text.specs.Measure.{lines_of, text_columns}
 use Rattle.tabled_text.specs.Wrapping.{IsWrapped}
 use Rattle.tabled_set.specs.Truncated.{IsTruncated}
-use Rattle.tabled_set.specs.declared.walk_order.WalkOrder.{WalkOrder}
-use Rattle.tabled_set.specs.declared.walk_order.WalkOrder.TheVariants.{ByColumn, ByRow}
+use Rattle.tabled_set.specs.declared.walk.WalkOrder.{WalkOrder}
+use Rattle.tabled_set.specs.declared.walk.WalkOrder.TheVariants.{ByColumn, ByRow}
 use Rattle.tabled_set.specs.declared.suffix.SuffixLimit.{SuffixLimit}
-use Rattle.tabled_set.specs.declared.cell_filter.CellFilter.{CellFilter}
-use Rattle.tabled_set.specs.declared.cell_filter.CellFilter.TheVariants.{Every, Higher, Lower, Narrower, NotAsWide, Wider}
+use Rattle.tabled_set.specs.declared.changing.CellFilter.{CellFilter}
+use Rattle.tabled_set.specs.declared.changing.CellFilter.TheVariants.{Every, Higher, Lower, Narrower, NotAsWide, Wider}
 
 -- ---- one text
 

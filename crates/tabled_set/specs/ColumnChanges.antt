@@ -1,7 +1,7 @@
 -- Cells that are changed to fit the widths of their columns.
 use Rattle.std.specs.Prelude.{◌≡◌, ℕ, ◌-◌, Bool, List, ◌&&◌, MatchBool, length, nat_le, nat_lt, true}
 use Rattle.tabled_set.specs.CellChanges.{NeedsMemory}
-use Rattle.tabled_set.specs.declared.cell_filter.CellFilter.{CellFilter}
+use Rattle.tabled_set.specs.declared.changing.CellFilter.{CellFilter}
 use Rattle.tabled_config.specs.declared.spanned.SpannedConfig.{SpannedConfig}
 use Rattle.tabled_priority.specs.Permitted.{at}
 use Rattle.tabled_set.specs.Minimums.{side_padding}

@@ -36,3 +36,9 @@ picked_in_row pick extent cells row =
 abbrev pub picked_of_rows : Pick → Pick → TextMeasure → List (List (List ℕ)) → ℕ
 picked_of_rows across within extent cells =
     picked across (map (picked_in_row within extent cells) (range_with_len 0 (length cells)))
+
+-- the minimum of a table's cells: the maximum over the rows of their narrowest cells, or the
+-- minimum over the rows of their tallest
+abbrev pub min_of : TextMeasure → List (List (List ℕ)) → ℕ
+min_of Columns cells = picked_of_rows Greatest Least Columns cells
+min_of Lines cells = picked_of_rows Least Greatest Lines cells

@@ -3,7 +3,7 @@ use Rattle.std.specs.Prelude.{ℕ, List, [], false}
 use Rattle.tabled_set.specs.CellChanges.{if_taken, truncating}
 use Rattle.tabled_set.specs.TextLines.{filling}
 use Rattle.tabled_set.specs.declared.suffix.SuffixLimit.TheVariants.{Cut}
-use Rattle.tabled_set.specs.declared.cell_filter.CellFilter.TheVariants.{Narrower, Wider}
+use Rattle.tabled_set.specs.declared.changing.CellFilter.TheVariants.{Narrower, Wider}
 
 -- a narrower text is filled up with spaces, and then what is too wide is cut
 pub record IsJustified (content_size : ℕ) (before after : List ℕ) : Type 0 where

@@ -7,7 +7,6 @@ pub mod Filling
 pub mod Growing
 pub mod HeightFrame
 pub mod InPlace
-pub mod InTurn
 pub mod Increased
 pub mod Justified
 pub mod Limited

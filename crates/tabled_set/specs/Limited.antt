@@ -10,8 +10,8 @@ use Rattle.tabled_size.specs.Stored.{heights_of, widths_of}
 use Rattle.tabled_size.specs.Totals.{total_height}
 use Rattle.tabled_size.specs.declared.complete_dimension.CompleteDimension.{CompleteDimension}
 use Rattle.tabled_set.specs.CellChanges.{AreChanged, AreChangedBefore, NeedsMemory, if_taken, never_in_place}
-use Rattle.tabled_set.specs.declared.walk_order.WalkOrder.TheVariants.{ByRow}
-use Rattle.tabled_set.specs.declared.cell_filter.CellFilter.TheVariants.{Higher}
+use Rattle.tabled_set.specs.declared.walk.WalkOrder.TheVariants.{ByRow}
+use Rattle.tabled_set.specs.declared.changing.CellFilter.TheVariants.{Higher}
 use Rattle.tabled_set.specs.TextLines.{limiting}
 use Rattle.tabled_set.specs.Shrinking.{IsShrunkBy}
 

@@ -12,8 +12,8 @@ use Rattle.tabled_size.specs.Stored.{heights_of, widths_of}
 use Rattle.tabled_size.specs.Totals.{total_width}
 use Rattle.tabled_size.specs.declared.complete_dimension.CompleteDimension.{CompleteDimension}
 use Rattle.tabled_set.specs.CellChanges.{AreChanged, AreChangedBefore, if_taken}
-use Rattle.tabled_set.specs.declared.walk_order.WalkOrder.TheVariants.{ByColumn}
-use Rattle.tabled_set.specs.declared.cell_filter.CellFilter.{CellFilter}
+use Rattle.tabled_set.specs.declared.walk.WalkOrder.TheVariants.{ByColumn}
+use Rattle.tabled_set.specs.declared.changing.CellFilter.{CellFilter}
 use Rattle.tabled_set.specs.ColumnChanges.{for_width, needs_for_width}
 use Rattle.tabled_set.specs.Filling.{StopsFilling}
 use Rattle.tabled_set.specs.Minimums.{emptied, minimums}

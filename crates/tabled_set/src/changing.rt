@@ -1,19 +1,77 @@
-//! Changes the text of one cell, in place if possible.
-ghost use Rattle.std.specs.Prelude.{◌≡◌, ℕ, true, IfErr, IfNone, IfOk, IfSome, List, OnErr, OnOk, string_bytes};
+//! Changes the text of one cell: for which cells, to which content size, in place if possible.
+ghost use Rattle.std.specs.Prelude.{◌≡◌, ℕ, Option, Some, true, IfErr, IfNone, IfOk, IfSome, List, OnErr, OnOk, string_bytes};
 ghost use Rattle.std.specs.Str.{IsCharBoundary};
 ghost use Rattle.tabled_base.specs.Cells.{IsInside, cell_at};
 ghost use Rattle.tabled_base.specs.ShortOr.{FitsBehind};
 ghost use Rattle.tabled_base.specs.declared.error.TableError.TheVariants.{Memory};
 ghost use Rattle.tabled_base.specs.declared.position.Entity.TheVariants.{Cell};
 ghost use Rattle.tabled_entity.specs.Changes.{covers};
-ghost use Rattle.tabled_set.specs.CellChanges.{AreChanged};
+ghost use Rattle.tabled_set.specs.CellChanges.{is_taken, AreChanged};
 ghost use Rattle.tabled_set.specs.InPlace.{ended_text};
 ghost use Rattle.tabled_set.specs.Walking.{IsCutInPlace, leaves, needs};
+ghost use Rattle.tabled_set.specs.declared.changing.CellFilter.{CellFilter};
 
-use crate::cell_filter::CellFilter;
-use crate::content_sizes::ContentSizes;
 use std::alloc::Global;
 use tabled_base::{PeekableRecords, Position, RecordsMut, TableError};
+
+/// Which cells are changed, by the size of their text and their content size.
+#[derive(Clone, Copy, Debug)]
+pub enum CellFilter {
+    /// All cells.
+    Every,
+    /// Cells with more columns than the content size.
+    Wider,
+    /// Cells with fewer columns than the content size.
+    Narrower,
+    /// Cells with more or fewer columns than the content size.
+    NotAsWide,
+    /// Cells with more lines than the content size.
+    Higher,
+    /// Cells with fewer lines than the content size.
+    Lower,
+}
+
+impl CellFilter {
+    /// Whether a cell passes the filter.
+    pub(crate) fn takes<R: PeekableRecords>(
+        self,
+        records: &R,
+        at: Position,
+        content_size: usize,
+    ) -> bool
+        requires { IsInside (R.cells records.now) at.row at.column }
+        ensures { result
+            ≡ is_taken self content_size (cell_at (R.cells records.now) at.row at.column) }
+    {
+        match self {
+            CellFilter::Every => true,
+            CellFilter::Wider => content_size < records.get_width(at),
+            CellFilter::Narrower => records.get_width(at) < content_size,
+            CellFilter::NotAsWide => records.get_width(at) != content_size,
+            CellFilter::Higher => content_size < records.count_lines(at),
+            CellFilter::Lower => records.count_lines(at) < content_size,
+        }
+    }
+}
+
+/// The content size of each cell, in columns or lines.
+pub trait ContentSizes {
+    // The content size at a row and a column. A cell without one doesn't change.
+    ghost content_size_at: { Self → ℕ → ℕ → Option ℕ };
+
+    /// Returns the content size of a cell, or `None` if the cell doesn't change.
+    fn content_size(&self, at: Position) -> Option<usize>
+        ensures { result ≡ content_size_at self.now at.row at.column };
+}
+
+/// The same content size for all cells.
+impl ContentSizes for usize {
+    ghost content_size_at = { λ n row column. Some n };
+
+    fn content_size(&self, _at: Position) -> Option<usize> {
+        Some(*self)
+    }
+}
 
 /// What a text becomes if it is cut in place: its first `bytes` bytes, and then `ending`.
 #[derive(Clone, Copy, Debug)]
@@ -33,7 +91,8 @@ pub trait TextTransform {
     /// Returns what the text becomes if it is cut in place, or `None` if the transform has to
     /// allocate.
     fn beginning(&self, text: &str, content_size: usize) -> Option<Beginning<'_>>
-        ensures made { IfSome result (λ kept. makes self.now content_size text.now (ended_text kept text.now)) }
+        ensures made { IfSome result (λ kept.
+            makes self.now content_size text.now (ended_text kept text.now)) }
         ensures boundary { IfSome result (λ kept. IsCharBoundary text.now kept.bytes) }
         ensures fits { IfSome result (λ kept. FitsBehind kept.bytes kept.ending.now) }
         ensures some { IfSome result (λ _. shortens self.now content_size text.now) }
@@ -46,8 +105,28 @@ pub trait TextTransform {
         text: &str,
         content_size: usize,
     ) -> Result<String, TableError>
-        ensures made { IfOk result (λ answer. makes self.now content_size text.now (string_bytes answer)) }
+        ensures made { IfOk result (λ answer.
+            makes self.now content_size text.now (string_bytes answer)) }
         ensures only { IfErr result (λ e. e ≡ Memory) };
+}
+
+/// The transform of an option: the direction that it measures, and the cells that it is for.
+pub trait OptionTransform: TextTransform {
+    /// `Width` or `Height`.
+    type Direction;
+
+    ghost cell_filter: { CellFilter };
+
+    // Holds for the transform of a new option.
+    ghost is_new: { Self → Type 0 };
+
+    /// Returns the filter for cells that have too few columns or lines, or too many.
+    fn filter() -> CellFilter
+        ensures { result ≡ cell_filter };
+
+    /// Returns the transform of a new option.
+    fn new() -> Self
+        ensures { is_new result };
 }
 
 /// A change of cells: the transform, which cells it is for, and their content sizes.
@@ -62,7 +141,9 @@ impl<'a, T: TextTransform, M: ContentSizes> Change<'a, T, M> {
     /// Whether a cell doesn't change, or is cut in place.
     pub(crate) fn is_cut_in_place<R: PeekableRecords>(&self, records: &R, at: Position) -> bool
         requires { IsInside (R.cells records.now) at.row at.column }
-        ensures { result ≡ true → IsCutInPlace self.now.cell_filter (T.shortens self.now.transform.now) (M.content_size_at self.now.content_sizes.now)
+        ensures { let by = self.now in result ≡ true
+            → IsCutInPlace by.cell_filter (T.shortens by.transform.now)
+            (M.content_size_at by.content_sizes.now)
             at.row at.column (cell_at (R.cells records.now) at.row at.column) }
     {
         match self.content_sizes.content_size(at) {
@@ -84,12 +165,14 @@ impl<'a, T: TextTransform, M: ContentSizes> Change<'a, T, M> {
         at: Position,
     ) -> Result<(), TableError>
         requires { IsInside (R.cells records.old) at.row at.column }
-        ensures ok { OnOk result (AreChanged (covers (Cell at.row at.column))
-            (leaves self.now.cell_filter (T.makes self.now.transform.now) (M.content_size_at self.now.content_sizes.now))
+        ensures ok { let by = self.now in OnOk result (AreChanged (covers (Cell at.row at.column))
+            (leaves by.cell_filter (T.makes by.transform.now)
+            (M.content_size_at by.content_sizes.now))
             (R.cells records.old) (R.cells records.new)) }
         ensures err { OnErr result (R.cells records.new ≡ R.cells records.old) }
-        ensures needed { OnErr result (needs self.now.cell_filter (T.shortens self.now.transform.now)
-            (M.content_size_at self.now.content_sizes.now) at.row at.column
+        ensures needed { let by = self.now in OnErr result (
+            needs by.cell_filter (T.shortens by.transform.now)
+            (M.content_size_at by.content_sizes.now) at.row at.column
             (cell_at (R.cells records.old) at.row at.column)) }
         ensures only { IfErr result (λ e. e ≡ Memory) }
     {
@@ -111,10 +194,12 @@ fn set_changed<T: TextTransform, R: RecordsMut>(
     content_size: usize,
 ) -> Result<(), TableError>
     requires { IsInside (R.cells records.old) at.row at.column }
-    ensures ok { OnOk result (AreChanged (covers (Cell at.row at.column)) (λ row column. T.makes transform.now content_size)
+    ensures ok { OnOk result (AreChanged (covers (Cell at.row at.column))
+        (λ row column. T.makes transform.now content_size)
         (R.cells records.old) (R.cells records.new)) }
     ensures err { OnErr result (R.cells records.new ≡ R.cells records.old) }
-    ensures longer { OnErr result (T.shortens transform.now content_size (cell_at (R.cells records.old) at.row at.column) → ⊥) }
+    ensures longer { OnErr result (T.shortens transform.now content_size
+        (cell_at (R.cells records.old) at.row at.column) → ⊥) }
     ensures only { IfErr result (λ e. e ≡ Memory) }
 {
     let _columns = records.count_columns();

@@ -1,14 +1,17 @@
-//! Finds the maximum or minimum size of a table's cells.
+//! The measurements `Max` and `Min`, the size of a table's largest or smallest cells.
 ghost use Rattle.std.specs.Prelude.{◌≡◌, ◌+◌, ◌<◌, ℕ, length, map};
 ghost use Rattle.std.specs.List.{range_with_len};
 ghost use Rattle.tabled_base.specs.Cells.{IsInside, cell_at};
-ghost use Rattle.tabled_set.specs.Extremes.{extent_of, picked, picked_in_row, picked_of_rows};
+ghost use Rattle.tabled_set.specs.Extremes.{extent_of, min_of, picked, picked_in_row, picked_of_rows};
+ghost use Rattle.tabled_set.specs.declared.extremes.Pick.TheVariants.{Greatest};
 
-use tabled_base::{PeekableRecords, Position};
+use crate::measurement::{Direction, Measurement};
+use tabled_base::{PeekableRecords, Position, TableError};
+use tabled_config::SpannedConfig;
 
 /// What is measured of a text: its columns or its lines.
 #[derive(Clone, Copy)]
-pub(crate) enum TextMeasure {
+pub enum TextMeasure {
     Columns,
     Lines,
 }
@@ -68,7 +71,7 @@ fn picked_in_row<R: PeekableRecords>(
 }
 
 /// Returns the maximum or minimum over the rows of what `picked_in_row` finds, 0 without rows.
-pub(crate) fn picked_of_rows<R: PeekableRecords>(
+fn picked_of_rows<R: PeekableRecords>(
     across: Pick,
     within: Pick,
     extent: TextMeasure,
@@ -81,4 +84,45 @@ pub(crate) fn picked_of_rows<R: PeekableRecords>(
         best = across.with(row, best, picked_in_row(within, extent, records, row));
     }
     best
+}
+
+/// Measures the largest cell: as a width, the columns of the widest cell; as a height, the lines of
+/// the tallest. Padding doesn't count. A table without cells measures 0. Never fails.
+#[derive(Debug, Drop)]
+pub struct Max;
+
+/// Measures a minimum of the cells. As a width, it is the maximum over the rows of each row's
+/// narrowest cell. As a height, it is the minimum over the rows of each row's tallest cell.
+///
+/// Padding doesn't count. A table without cells measures 0. Never fails.
+#[derive(Debug, Drop)]
+pub struct Min;
+
+impl<A: Direction> Measurement<A> for Max {
+    ghost measures = { λ s cells config. picked_of_rows Greatest Greatest A.COUNTED cells };
+
+    fn measure<R: PeekableRecords>(
+        &self,
+        records: &R,
+        _cfg: &SpannedConfig,
+    ) -> Result<usize, TableError> {
+        let most = Pick::Greatest;
+        Ok(picked_of_rows(most, most, A::COUNTED, records))
+    }
+}
+
+impl<A: Direction> Measurement<A> for Min {
+    ghost measures = { λ s cells config. min_of A.COUNTED cells };
+
+    fn measure<R: PeekableRecords>(
+        &self,
+        records: &R,
+        _cfg: &SpannedConfig,
+    ) -> Result<usize, TableError> {
+        let (most, least) = (Pick::Greatest, Pick::Least);
+        match A::COUNTED {
+            TextMeasure::Columns => Ok(picked_of_rows(most, least, TextMeasure::Columns, records)),
+            TextMeasure::Lines => Ok(picked_of_rows(least, most, TextMeasure::Lines, records)),
+        }
+    }
 }

@@ -3,15 +3,18 @@ ghost use Rattle.std.specs.Prelude.{◌≡◌};
 ghost use Rattle.tabled_base.specs.declared.position.Entity.TheVariants.{Global};
 ghost use Rattle.tabled_set.specs.CellChanges.{ChangesEntity, StopsEntity, never_in_place};
 ghost use Rattle.tabled_set.specs.Justified.{IsJustified};
-ghost use Rattle.tabled_set.specs.declared.cell_filter.CellFilter.TheVariants.{NotAsWide};
+ghost use Rattle.tabled_set.specs.declared.changing.CellFilter.TheVariants.{NotAsWide};
 
-use crate::cell_filter::CellFilter;
-use crate::justifying::Justifying;
-use crate::max_min::{Max, Min};
-use crate::measured::change_measured;
+use crate::changing::{Beginning, CellFilter, OptionTransform, TextTransform};
+use crate::extremes::{Max, Min};
 use crate::measurement::{Measurement, Width};
+use crate::min_width::Filling;
+use crate::resize::change_measured;
+use crate::truncate::Truncating;
+use std::alloc::Global;
 use tabled_base::{Entity, RecordsMut, TableError, TableOption};
 use tabled_config::ColoredConfig;
+use tabled_text::text_width;
 
 /// Gives all cells of a table the same width: fills up the lines of narrower cells with spaces, and
 /// cuts wider ones.
@@ -45,11 +48,59 @@ impl Justify<Min> {
     }
 }
 
+/// Fills up the lines of a text that is too narrow with spaces, and then cuts what is too wide.
+#[derive(Clone, Copy, Debug)]
+struct Justifying;
+
+impl TextTransform for Justifying {
+    ghost makes = { λ s. IsJustified };
+
+    ghost shortens = { λ s. never_in_place };
+
+    fn beginning(&self, _text: &str, _content_size: usize) -> Option<Beginning<'_>> {
+        None
+    }
+
+    fn changed_text(
+        &self,
+        alloc: Global,
+        text: &str,
+        content_size: usize,
+    ) -> Result<String, TableError> {
+        let filled = if text_width(text) < content_size {
+            Filling::new().changed_text(alloc, text, content_size)?
+        } else {
+            String::from_str(alloc, text)?
+        };
+        if text_width(&filled) <= content_size {
+            return Ok(filled);
+        }
+        Truncating::new().changed_text(alloc, &filled, content_size)
+    }
+}
+
+impl OptionTransform for Justifying {
+    type Direction = Width;
+
+    ghost cell_filter = { NotAsWide };
+
+    ghost is_new = { λ s. Unit {0} };
+
+    fn filter() -> CellFilter {
+        CellFilter::NotAsWide
+    }
+
+    fn new() -> Justifying {
+        Justifying
+    }
+}
+
 /// Measures the width once. Fails with `Range` if the measurement does, before any change, or with
 /// `Memory` at a cell. The cells before that, row by row, have changed.
 impl<W: Measurement<Width> + Drop, R: RecordsMut, D> TableOption<R, ColoredConfig, D>
     for Justify<W> {
-    ghost changes = { λ s r c d r' c' d'. ChangesEntity IsJustified (W.measures s.width (R.cells r) c.config) Global
+    ghost changes = { λ s r c d r' c' d'.
+        ChangesEntity IsJustified (W.measures s.width (R.cells r) c.config) Global
         (R.cells r) (R.cells r') × ((c' ≡ c) × (d' ≡ d)) };
 
     ghost refuses = { λ s e r c d r' c' d'. StopsEntity NotAsWide never_in_place IsJustified
@@ -64,14 +115,7 @@ impl<W: Measurement<Width> + Drop, R: RecordsMut, D> TableOption<R, ColoredConfi
         cfg: &mut ColoredConfig,
         _dims: &mut D,
     ) -> Result<(), TableError> {
-        change_measured::<Width, _, _, _>(
-            &self.width,
-            &Justifying,
-            CellFilter::NotAsWide,
-            records,
-            cfg,
-            Entity::Global,
-        )
+        change_measured(&Justifying, &self.width, records, cfg, Entity::Global)
     }
 
     fn hint_change(&self) -> Option<Entity> {

@@ -18,16 +18,18 @@ ghost use Rattle.tabled_text.specs.Room.{StaysWithin};
 ///   widths, each at least 1, that is the longest beginning that fits.
 /// - With `multiline` and without a suffix, that holds for each such line of the text.
 pub fn truncated_texts()
-    ensures fits { (content_size : ℕ) (suffix : List ℕ) (limit : SuffixLimit) (multiline : Bool) (text answer : List ℕ)
+    ensures fits { (n : ℕ) (suffix : List ℕ) (limit : SuffixLimit) (multiline : Bool)
+        (text answer : List ℕ)
         → IsAdditive suffix → IsAdditiveLimit limit
-        → IsTruncated content_size suffix limit multiline text answer → FitsIn content_size answer }
-    ensures content_size { (content_size : ℕ) (suffix : List ℕ) (limit : SuffixLimit) (multiline : Bool) (text answer : List ℕ)
+        → IsTruncated n suffix limit multiline text answer → FitsIn n answer }
+    ensures content_size { (n : ℕ) (suffix : List ℕ) (limit : SuffixLimit) (multiline : Bool)
+        (text answer : List ℕ)
         → IsAdditive suffix → IsAdditiveLimit limit → IsAdditive text
-        → IsTruncated content_size suffix limit multiline text answer → StaysWithin content_size answer }
-    ensures cut { (content_size : ℕ) (limit : SuffixLimit) (text answer : List ℕ)
-        → IsTruncated content_size [] limit false text answer → IsCut content_size text answer }
-    ensures longest { (content_size : ℕ) (limit : SuffixLimit) (line answer : List ℕ) → IsExactLine line
-        → IsTruncated content_size [] limit false line answer → IsLongestCut content_size line answer }
-    ensures lines { (content_size : ℕ) (limit : SuffixLimit) (text answer : List ℕ)
-        → IsTruncated content_size [] limit true text answer → HasLongestLines content_size text answer }
+        → IsTruncated n suffix limit multiline text answer → StaysWithin n answer }
+    ensures cut { (n : ℕ) (limit : SuffixLimit) (text answer : List ℕ)
+        → IsTruncated n [] limit false text answer → IsCut n text answer }
+    ensures longest { (n : ℕ) (limit : SuffixLimit) (line answer : List ℕ) → IsExactLine line
+        → IsTruncated n [] limit false line answer → IsLongestCut n line answer }
+    ensures lines { (n : ℕ) (limit : SuffixLimit) (text answer : List ℕ)
+        → IsTruncated n [] limit true text answer → HasLongestLines n text answer }
 {}

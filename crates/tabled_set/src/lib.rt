@@ -4,83 +4,56 @@
 //! Measurements:
 //! - `measurement`: the trait `Measurement`, and the directions `Width` and `Height`, which create
 //!   options
-//! - `max_min`: `Max` and `Min`; `extremes` finds the maximum or minimum for them
+//! - `extremes`: `Max` and `Min`
 //! - `percent`: `Percent`
 //!
 //! Options:
-//! - `wrap`, `truncate`, `min_width`, `justify`: `Wrap`, `Truncate`, `MinWidth` and `Justify`
-//! - `height_option`: `CellHeightIncrease`, `CellHeightLimit`, `TableHeightIncrease` and
-//!   `TableHeightLimit`, as cell options
-//! - `height_increase`, `height_limit`: the same options, for a whole table
+//! - `resize`: `Resize`, the type of the options that change widths and heights
+//! - `wrap`, `truncate`, `min_width`: `Wrap`, `Truncate` and `MinWidth`
+//! - `height_increase`, `height_limit`: `CellHeightIncrease`, `CellHeightLimit`,
+//!   `TableHeightIncrease` and `TableHeightLimit`
+//! - `justify`: `Justify`
 //! - `size_list`: `WidthList` and `HeightList`
 //! - `margin`, `padding`: `Margin` and `Padding`; `sides` makes their indents
 //!
-//! Changing one text:
-//! - `changing`: the trait `TextTransform`, and the change of one cell
-//! - `wrapping`, `truncating`, `filling`, `justifying`, `line_counts`: the transforms
+//! Changing cells:
+//! - `changing`: the traits `TextTransform` and `OptionTransform`, whose transforms are in the
+//!   files of their options; which cells are changed, and the change of one
 //! - `suffix`: `SuffixLimit`, and the suffix that is written for a content size
 //! - `laws`: facts about truncated texts
+//! - `walk`: changes the cells of an entity, row by row or column by column
 //!
-//! Changing the cells of an entity:
-//! - `cell_filter`: which cells are changed
-//! - `content_sizes`: the content size of each cell
-//! - `walk_order`: row by row or column by column
-//! - `walk`: changes the cells of an entity
-//! - `measured`: changes them for one measured content size
-//!
-//! Changing whole tables:
-//! - `priority_lists`: shrinks or grows a list of sizes by a priority
-//! - `totals`: the total width or height for a list of sizes
-//! - `minimums`: the widths of columns with empty cells
-//! - `shrinking`, `columns`, `narrowing`: narrow a table, and change its cells to fit
-//! - `increasing`: grows columns or rows
-//! - `rows`, `limiting`: limit the height of a table, and its cells to fit
+//! Changing tables:
+//! - `sizes`: the total of a list of sizes, and lists that a priority has shrunk or grown
+//! - `narrowing`: narrows a table, and changes its cells to fit
 #![tactic(auto)]
 
-mod cell_filter;
 mod changing;
-mod columns;
-mod content_sizes;
 mod extremes;
-mod filling;
 mod height_increase;
 mod height_limit;
-mod height_option;
-mod increasing;
 mod justify;
-mod justifying;
 pub mod laws;
-mod limiting;
-mod line_counts;
 mod margin;
-mod max_min;
-mod measured;
 mod measurement;
 mod min_width;
-mod minimums;
 mod narrowing;
 mod padding;
 mod percent;
-mod priority_lists;
-mod rows;
-mod shrinking;
+mod resize;
 mod sides;
 mod size_list;
+mod sizes;
 mod suffix;
-mod totals;
 mod truncate;
-mod truncating;
 mod walk;
-mod walk_order;
 mod wrap;
-mod wrapping;
 
-pub use height_option::{
-    CellHeightIncrease, CellHeightLimit, TableHeightIncrease, TableHeightLimit,
-};
+pub use extremes::{Max, Min};
+pub use height_increase::{CellHeightIncrease, TableHeightIncrease};
+pub use height_limit::{CellHeightLimit, TableHeightLimit};
 pub use justify::Justify;
 pub use margin::Margin;
-pub use max_min::{Max, Min};
 pub use measurement::{Height, Measurement, Width};
 pub use min_width::MinWidth;
 pub use padding::{Padding, PaddingExpand};

@@ -87,7 +87,8 @@ impl<R, D> TableOption<R, CompactConfig, D> for Margin {
 }
 
 impl<R, D> TableOption<R, CompactMultilineConfig, D> for Margin {
-    ghost changes = { λ s r c d. Becomes (record c { config = record c.config { margin = s.indent } }) r d };
+    ghost changes = { λ s r c d.
+        Becomes (record c { config = record c.config { margin = s.indent } }) r d };
 
     fn change(
         self,

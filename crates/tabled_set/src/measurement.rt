@@ -4,9 +4,13 @@ ghost use Rattle.std.specs.Iterator.{IsFiniteIterable};
 ghost use Rattle.tabled_base.specs.Given.{Given};
 ghost use Rattle.tabled_base.specs.declared.error.TableError.TheVariants.{Memory, Range};
 ghost use Rattle.tabled_config.specs.declared.spanned.SpannedConfig.{SpannedConfig};
+ghost use Rattle.tabled_set.specs.declared.extremes.TextMeasure.{TextMeasure};
+ghost use Rattle.tabled_set.specs.declared.extremes.TextMeasure.TheVariants.{Columns, Lines};
 ghost use Rattle.tabled_set.specs.declared.suffix.SuffixLimit.TheVariants.{Cut};
 
-use crate::height_option::{CellHeightIncrease, CellHeightLimit};
+use crate::extremes::TextMeasure;
+use crate::height_increase::CellHeightIncrease;
+use crate::height_limit::CellHeightLimit;
 use crate::justify::Justify;
 use crate::min_width::MinWidth;
 use crate::size_list::{HeightList, WidthList};
@@ -26,6 +30,26 @@ pub struct Width;
 #[derive(Debug, Drop)]
 pub struct Height;
 
+/// `Width` or `Height`.
+pub trait Direction {
+    ghost COUNTED: { TextMeasure };
+
+    /// What is counted of a text.
+    const COUNTED: TextMeasure;
+}
+
+impl Direction for Width {
+    ghost COUNTED = { Columns };
+
+    const COUNTED: TextMeasure = TextMeasure::Columns;
+}
+
+impl Direction for Height {
+    ghost COUNTED = { Lines };
+
+    const COUNTED: TextMeasure = TextMeasure::Lines;
+}
+
 /// A number that an option reads from the table that it changes: terminal columns if `A` is
 /// `Width`, lines if it is `Height`.
 pub trait Measurement<A> {
@@ -44,7 +68,8 @@ pub trait Measurement<A> {
     ) -> Result<usize, TableError>
         ensures ok { IfOk result (λ n. n ≡ measures self.now (R.cells records.now) cfg.now) }
         ensures fits { OnOk result (out_of_range self.now (R.cells records.now) cfg.now → ⊥) }
-        ensures err { IfErr result (λ e. (e ≡ Range) × out_of_range self.now (R.cells records.now) cfg.now) };
+        ensures err { IfErr result (λ e.
+            (e ≡ Range) × out_of_range self.now (R.cells records.now) cfg.now) };
 }
 
 /// Measures a fixed number, the same for every table.
@@ -63,7 +88,7 @@ impl<A> Measurement<A> for usize {
 impl Width {
     /// Creates an option that wraps to `width` columns, as `Wrap::new` does.
     pub fn wrap<W: Measurement<Width>>(width: W) -> Wrap<W>
-        ensures width { result.width ≡ width }
+        ensures size { result.size ≡ width }
         ensures keep_words { result.transform.keep_words ≡ false }
         ensures priority { result.priority.kept ≡ 0 }
     {
@@ -72,7 +97,7 @@ impl Width {
 
     /// Creates an option that truncates to `width` columns, as `Truncate::new` does.
     pub fn truncate<W: Measurement<Width>>(width: W) -> Truncate<'static, W>
-        ensures width { result.width ≡ width }
+        ensures size { result.size ≡ width }
         ensures suffix { result.transform.suffix.now ≡ [] }
         ensures limit { result.transform.limit ≡ Cut }
         ensures multiline { result.transform.multiline ≡ false }
@@ -83,7 +108,7 @@ impl Width {
 
     /// Creates an option that widens to `width` columns, as `MinWidth::new` does.
     pub fn increase<W: Measurement<Width>>(width: W) -> MinWidth<W>
-        ensures width { result.width ≡ width }
+        ensures size { result.size ≡ width }
         ensures fill { result.transform.fill ≡ 32 }
         ensures priority { result.priority.kept ≡ 0 }
     {
@@ -104,8 +129,10 @@ impl Width {
         widths: I,
     ) -> Result<WidthList, TableError>
     where
-        requires { IsFiniteIterable I.into_iter_gives I.IntoIter.can_next I.IntoIter.remaining widths }
-        ensures ok { IfOk result (λ answer. Given I.into_iter_gives I.IntoIter.next_gives widths answer.list.items) }
+        requires { IsFiniteIterable I.into_iter_gives
+            I.IntoIter.can_next I.IntoIter.remaining widths }
+        ensures ok { IfOk result (λ answer.
+            Given I.into_iter_gives I.IntoIter.next_gives widths answer.list.items) }
         ensures only { IfErr result (λ e. e ≡ Memory) }
     {
         WidthList::from_iter(alloc, widths)
@@ -115,14 +142,16 @@ impl Width {
 impl Height {
     /// Creates an option that grows cells to `height` lines, as `CellHeightIncrease::new` does.
     pub fn increase<W: Measurement<Height>>(height: W) -> CellHeightIncrease<W>
-        ensures { result.height ≡ height }
+        ensures size { result.size ≡ height }
+        ensures priority { result.priority.kept ≡ 0 }
     {
         CellHeightIncrease::new(height)
     }
 
     /// Creates an option that limits cells to `height` lines, as `CellHeightLimit::new` does.
     pub fn limit<W: Measurement<Height>>(height: W) -> CellHeightLimit<W>
-        ensures { result.height ≡ height }
+        ensures size { result.size ≡ height }
+        ensures priority { result.priority.kept ≡ 0 }
     {
         CellHeightLimit::new(height)
     }
@@ -134,8 +163,10 @@ impl Height {
         heights: I,
     ) -> Result<HeightList, TableError>
     where
-        requires { IsFiniteIterable I.into_iter_gives I.IntoIter.can_next I.IntoIter.remaining heights }
-        ensures ok { IfOk result (λ answer. Given I.into_iter_gives I.IntoIter.next_gives heights answer.list.items) }
+        requires { IsFiniteIterable I.into_iter_gives
+            I.IntoIter.can_next I.IntoIter.remaining heights }
+        ensures ok { IfOk result (λ answer.
+            Given I.into_iter_gives I.IntoIter.next_gives heights answer.list.items) }
         ensures only { IfErr result (λ e. e ≡ Memory) }
     {
         HeightList::from_iter(alloc, heights)

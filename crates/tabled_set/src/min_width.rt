@@ -1,48 +1,82 @@
 //! The option `MinWidth`, which widens cells and tables.
-ghost use Rattle.std.specs.Prelude.{◌≡◌, None, false};
-ghost use Rattle.tabled_set.specs.CellChanges.{ChangesEntity, StopsEntity, if_taken, never_in_place};
+ghost use Rattle.std.specs.Prelude.{◌≡◌, ◌⊎◌, IfErr, None, OnOk, false};
+ghost use Rattle.tabled_base.specs.declared.error.TableError.TheVariants.{Memory, Range};
+ghost use Rattle.tabled_set.specs.CellChanges.{never_in_place};
 ghost use Rattle.tabled_set.specs.Increased.{IncreasesWidth, StopsIncreasing, WidthOutOfRange};
 ghost use Rattle.tabled_set.specs.Promised.{WidensAsPromised};
 ghost use Rattle.tabled_set.specs.TextLines.{filling};
-ghost use Rattle.tabled_set.specs.declared.cell_filter.CellFilter.TheVariants.{Narrower};
+ghost use Rattle.tabled_set.specs.declared.changing.CellFilter.TheVariants.{Narrower};
 ghost use Rattle.tabled_size.specs.Cleared.{AreCleared};
-ghost use Rattle.tabled_size.specs.Sheet.{is_empty};
 ghost use Rattle.tabled_size.specs.Effective.{effective};
+ghost use Rattle.tabled_size.specs.Sheet.{is_empty};
 ghost use Rattle.tabled_size.specs.declared.complete_dimension.CompleteDimension.{CompleteDimension};
 
-use crate::cell_filter::CellFilter;
-use crate::filling::Filling;
-use crate::increasing::increase_width;
-use crate::measured::change_measured;
+use crate::changing::{Beginning, CellFilter, OptionTransform, TextTransform};
 use crate::measurement::{Measurement, Width};
-use tabled_base::{CellOption, Entity, PeekableRecords, RecordsMut, TableError, TableOption};
-use tabled_config::ColoredConfig;
-use tabled_size::{CompleteDimension, Peaker, PriorityNone, is_empty};
+use crate::narrowing::stored_widths;
+use crate::resize::Resize;
+use crate::sizes::{first_sizes, grown, padded_width};
+use std::alloc::Global;
+use tabled_base::{Entity, PeekableRecords, TableError, TableOption};
+use tabled_config::{ColoredConfig, SpannedConfig};
+use tabled_size::{CompleteDimension, Estimate, Peaker, PriorityNone, is_empty};
+use tabled_text::{line_width, lines, push_copies};
 
-/// Widens cells that are narrower than `width`, by filling up their lines. As a table option it
-/// widens the columns of a table to a total of `width`, and changes no text.
+/// Widens cells that are narrower than the measured width, by filling up their lines. As a table
+/// option it widens the columns of a table to a total of that width, and changes no text. A new one
+/// fills up lines with spaces.
+pub type MinWidth<W = usize, P = PriorityNone> = Resize<Filling, W, P>;
+
+/// Fills up each line of a text to the content size, in columns.
 #[derive(Clone, Copy, Debug, PartialEq, Eq, PartialOrd, Ord)]
-pub struct MinWidth<W = usize, P = PriorityNone> {
-    width: W,
-    transform: Filling,
-    priority: P,
+pub struct Filling {
+    /// The character to append. It counts as one column, whatever its width.
+    pub fill: char,
 }
 
-impl<W> MinWidth<W> {
-    /// Creates an option that widens to `width` columns. It fills up lines with spaces, and grows
-    /// the columns of a table in turn.
-    pub fn new(width: W) -> MinWidth<W>
-    where
-        W: Measurement<Width>,
-        ensures width { result.width ≡ width }
-        ensures fill { result.transform.fill ≡ 32 }
-        ensures priority { result.priority.kept ≡ 0 }
-    {
-        MinWidth {
-            width,
-            transform: Filling { fill: ' ' },
-            priority: PriorityNone::new(),
+impl TextTransform for Filling {
+    ghost makes = { λ s. filling s.fill };
+
+    ghost shortens = { λ s. never_in_place };
+
+    fn beginning(&self, _text: &str, _content_size: usize) -> Option<Beginning<'_>> {
+        None
+    }
+
+    fn changed_text(
+        &self,
+        alloc: Global,
+        text: &str,
+        content_size: usize,
+    ) -> Result<String, TableError> {
+        let mut answer = String::new(alloc);
+        let mut begun = false;
+        for line in lines(text) {
+            if begun {
+                answer.push('\n')?;
+            }
+            begun = true;
+            answer.push_str(line)?;
+            let wanting = content_size.saturating_sub(line_width(line));
+            push_copies(&mut answer, self.fill, wanting)?;
         }
+        Ok(answer)
+    }
+}
+
+impl OptionTransform for Filling {
+    type Direction = Width;
+
+    ghost cell_filter = { Narrower };
+
+    ghost is_new = { λ s. s.fill ≡ 32 };
+
+    fn filter() -> CellFilter {
+        CellFilter::Narrower
+    }
+
+    fn new() -> Filling {
+        Filling { fill: ' ' }
     }
 }
 
@@ -51,57 +85,50 @@ impl<W, P> MinWidth<W, P> {
     pub fn fill_with(self, c: char) -> MinWidth<W, P>
         ensures { result ≡ record self { transform = record { fill = c } } }
     {
-        MinWidth {
+        Resize {
             transform: Filling { fill: c },
             ..self
         }
     }
 }
 
-impl<W, P: Drop> MinWidth<W, P> {
-    /// Sets the order in which the columns of a table grow.
-    pub fn priority<Q: Peaker>(self, priority: Q) -> MinWidth<W, Q>
-        ensures { result ≡ record { width = self.width; transform = self.transform; priority = priority } }
-    {
-        MinWidth {
-            width: self.width,
-            transform: self.transform,
-            priority,
-        }
+/// Widens a table to a total of at least the measured width. Missing sizes are estimated first, and
+/// are stored even if an error follows.
+///
+/// Fails with `Memory` only if sizes are missing or the table is too narrow. Fails with `Range` if
+/// the measurement does, or if an estimate or the total overflows `usize`.
+fn increase_width<W: Measurement<Width> + Drop, P: Peaker + Drop, R: PeekableRecords>(
+    option: MinWidth<W, P>,
+    records: &R,
+    config: &SpannedConfig,
+    sizes: &mut CompleteDimension,
+) -> Result<(), TableError>
+    ensures ok { OnOk result (IncreasesWidth P.grows option.priority
+        (W.measures option.size (R.cells records.now) config.now)
+        (R.cells records.now) config.now sizes.old sizes.new) }
+    ensures err { IfErr result (λ e. (is_empty (R.cells records.now) ≡ false)
+        × StopsIncreasing (W.measures option.size (R.cells records.now) config.now) e
+        (R.cells records.now) config.now sizes.old sizes.new) }
+    ensures only { IfErr result (λ e. (e ≡ Memory) ⊎ ((e ≡ Range)
+        × WidthOutOfRange (W.out_of_range option.size (R.cells records.now) config.now)
+        (R.cells records.now) config.now sizes.old)) }
+{
+    if is_empty(records) {
+        return Ok(());
     }
-}
-
-/// Fills up each line of the entity's cells that are narrower than the measured width to it. No
-/// other cell changes. Fails with `Range` if the measurement does, before any change, or with
-/// `Memory` at a cell. The cells before that, row by row, have changed.
-impl<W: Measurement<Width>, P, R: RecordsMut> CellOption<R, ColoredConfig> for MinWidth<W, P> {
-    ghost changes = { λ s r c e r' c'. ChangesEntity (if_taken Narrower (filling s.transform.fill))
-        (W.measures s.width (R.cells r) c.config) e (R.cells r) (R.cells r') × (c' ≡ c) };
-
-    ghost refuses = { λ s f r c e r' c'. StopsEntity Narrower never_in_place (filling s.transform.fill)
-        (W.measures s.width (R.cells r) c.config) e f (R.cells r) (R.cells r') × (c' ≡ c) };
-
-    ghost out_of_range = { λ s r c e. W.out_of_range s.width (R.cells r) c.config };
-
-    fn change(
-        &self,
-        records: &mut R,
-        cfg: &mut ColoredConfig,
-        entity: Entity,
-    ) -> Result<(), TableError> {
-        change_measured::<Width, _, _, _>(
-            &self.width,
-            &self.transform,
-            CellFilter::Narrower,
-            records,
-            cfg,
-            entity,
-        )
+    let n = option.size.measure(records, config)?;
+    sizes.estimate(records, config)?;
+    let columns = records.count_columns();
+    let widths = first_sizes(stored_widths(sizes), columns);
+    let Some(total) = padded_width(config, columns, widths) else {
+        return Err(TableError::Range);
+    };
+    if n <= total {
+        return Ok(());
     }
-
-    fn hint_change(&self) -> Option<Entity> {
-        Some(Entity::Global)
-    }
+    let widths = grown(sizes.allocator(), option.priority, widths, n - total)?;
+    sizes.set_widths(widths);
+    Ok(())
 }
 
 /// Widens a table that is narrower than the measured width to it: its columns grow by the
@@ -115,19 +142,20 @@ impl<W: Measurement<Width> + Drop, P: Peaker + Drop, R: PeekableRecords> TableOp
     CompleteDimension,
 > for MinWidth<W, P> {
     ghost changes = { λ s r c d r' c' d'. IncreasesWidth P.grows s.priority
-        (W.measures s.width (R.cells r) c.config) (R.cells r) c.config d d' × ((r' ≡ r) × (c' ≡ c)) };
+        (W.measures s.size (R.cells r) c.config) (R.cells r) c.config d d'
+        × ((r' ≡ r) × (c' ≡ c)) };
 
     // Only a table with cells fails. Its sizes are then unchanged, or the missing ones filled in.
     ghost refuses = { λ s e r c d r' c' d'. (is_empty (R.cells r) ≡ false)
-        × StopsIncreasing (W.measures s.width (R.cells r) c.config) e (R.cells r) c.config d d'
+        × StopsIncreasing (W.measures s.size (R.cells r) c.config) e (R.cells r) c.config d d'
         × ((r' ≡ r) × (c' ≡ c)) };
 
     ghost out_of_range = { λ s r c d.
-        WidthOutOfRange (W.out_of_range s.width (R.cells r) c.config) (R.cells r) c.config d };
+        WidthOutOfRange (W.out_of_range s.size (R.cells r) c.config) (R.cells r) c.config d };
 
     // About the sizes that are left after those of the hint are cleared.
     ghost promises = { λ s r c d r' c' d'. (left : CompleteDimension) → AreCleared None d' left
-        → WidensAsPromised P.grows s.priority (W.measures s.width (R.cells r) c.config)
+        → WidensAsPromised P.grows s.priority (W.measures s.size (R.cells r) c.config)
         (effective (R.cells r) c.config d) (effective (R.cells r') c'.config left) };
 
     ghost hint = { λ s. None };
@@ -138,12 +166,7 @@ impl<W: Measurement<Width> + Drop, P: Peaker + Drop, R: PeekableRecords> TableOp
         cfg: &mut ColoredConfig,
         dims: &mut CompleteDimension,
     ) -> Result<(), TableError> {
-        if is_empty(records) {
-            return Ok(());
-        }
-        let config = cfg.as_ref();
-        let n = self.width.measure(records, config)?;
-        increase_width(self.priority, records, config, dims, n)
+        increase_width(self, records, cfg.as_ref(), dims)
     }
 
     fn hint_change(&self) -> Option<Entity> {

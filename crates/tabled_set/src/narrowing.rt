@@ -1,50 +1,257 @@
-//! Narrows a table to a total width.
-ghost use Rattle.std.specs.Prelude.{◌≡◌, ◌⊎◌, IfErr, OnOk, false};
+//! Narrows a table to a total width, and changes its cells to fit.
+ghost use Rattle.std.specs.List.{slice_index};
+ghost use Rattle.std.specs.Prelude.{◌≡◌, ◌⊎◌, IfErr, IfOk, take, ◌<◌, ◌≤◌, ◌^◌, MatchOption, OnErr, Some, false, is_some, length, true, None, if◌then◌else◌, ◌-◌, OnOk};
+ghost use Rattle.tabled_base.specs.Cells.{IsRectangular};
 ghost use Rattle.tabled_base.specs.declared.error.TableError.TheVariants.{Memory, Range};
-ghost use Rattle.tabled_set.specs.CellChanges.{if_taken};
-ghost use Rattle.tabled_set.specs.Narrowed.{Narrows, StopsNarrowing, WiderOutOfRange};
-ghost use Rattle.tabled_size.specs.FilledIn.{HasNoEstimate};
+ghost use Rattle.tabled_priority.specs.Permitted.{FitsMinimums, at};
+ghost use Rattle.tabled_set.specs.CellChanges.{AreChanged, AreChangedBefore, if_taken};
+ghost use Rattle.tabled_set.specs.ColumnChanges.{for_width, is_permitted, needs_for_width};
+ghost use Rattle.tabled_set.specs.Minimums.{emptied, minimums, side_padding};
+ghost use Rattle.tabled_set.specs.Narrowed.{WiderOutOfRange, Narrows, NarrowingOutOfRange, StopsNarrowing};
+ghost use Rattle.tabled_set.specs.Shrinking.{IsFound, IsShrunkBy};
+ghost use Rattle.tabled_set.specs.declared.walk.WalkOrder.TheVariants.{ByColumn};
+ghost use Rattle.tabled_size.specs.Effective.{effective};
+ghost use Rattle.tabled_size.specs.Estimates.{IsTooWide};
 ghost use Rattle.tabled_size.specs.Sheet.{is_empty};
+ghost use Rattle.tabled_size.specs.Stored.{widths_of};
+ghost use Rattle.tabled_size.specs.Totals.{filled_width, total_width};
 
-use crate::cell_filter::CellFilter;
-use crate::changing::TextTransform;
-use crate::columns::change_columns;
-use crate::shrinking::narrowed_widths;
-use tabled_base::{RecordsMut, TableError};
+use crate::changing::{CellFilter, Change, ContentSizes, TextTransform};
+use crate::measurement::{Measurement, Width};
+use crate::resize::Resize;
+use crate::sizes::{first_sizes, padded_width, shrunk};
+use crate::walk::{WalkOrder, change_cells};
+use std::alloc::Global;
+use tabled_base::{Entity, ExactRecords, PeekableRecords, Position, RecordsMut, TableError};
 use tabled_config::SpannedConfig;
-use tabled_size::{CompleteDimension, Estimate, Peaker};
+use tabled_size::{
+    CompleteDimension, Dimension, Estimate, Peaker, Steps, estimate_widths, filled_width, is_empty,
+};
+use tabled_text::{count_lines, text_width};
 
-/// Narrows a table with cells to a total of n columns. Missing sizes are estimated first, and are
-/// stored even if an error follows.
-///
-/// Fails with `Memory` only if sizes are missing or the table is wider than n. Fails with `Range`
-/// if an estimate or the total overflows `usize`, or if the side padding of a cell does in a table
-/// wider than n.
-pub fn narrow_table<T: TextTransform, P: Peaker + Drop, R: RecordsMut>(
+/// A view of records with all cells empty.
+#[derive(Drop)]
+struct EmptiedRecords<'a, R> {
+    records: &'a R,
+}
+
+impl<'a, R: ExactRecords> ExactRecords for EmptiedRecords<'a, R> {
+    ghost cells = { λ r. emptied (R.cells r.records.now) };
+
+    fn count_rows(&self) -> usize {
+        self.records.count_rows()
+    }
+
+    fn count_columns(&self) -> usize {
+        self.records.count_columns()
+    }
+}
+
+impl<'a, R: ExactRecords> PeekableRecords for EmptiedRecords<'a, R> {
+    fn get_text(&self, _at: Position) -> &str {
+        ""
+    }
+
+    fn get_width(&self, at: Position) -> usize {
+        text_width(self.get_text(at))
+    }
+
+    fn count_lines(&self, at: Position) -> usize {
+        count_lines(self.get_text(at))
+    }
+}
+
+/// Returns the minimum widths of the first `columns` columns. Fails with `Memory`, or with `Range`
+/// if the side padding of a cell overflows `usize`.
+pub(crate) fn minimum_widths<R: ExactRecords>(
+    alloc: Global,
+    records: &R,
+    config: &SpannedConfig,
+    columns: usize,
+) -> Result<Vec<usize>, TableError>
+    ensures ok { IfOk result (λ mins.
+        mins.items ≡ take columns (minimums (R.cells records.now) config.now)) }
+    ensures err { IfErr result (λ e. (e ≡ Memory)
+        ⊎ ((e ≡ Range) × IsTooWide (emptied (R.cells records.now)) config.now)) }
+{
+    let mut mins = estimate_widths(alloc, &EmptiedRecords { records }, config)?;
+    mins.truncate(columns);
+    Ok(mins)
+}
+
+/// Returns the widths, which must be stored.
+pub(crate) fn stored_widths(sizes: &CompleteDimension) -> &[usize]
+    requires { is_some (widths_of sizes.now) ≡ true }
+    ensures { widths_of sizes.now ≡ Some result.now }
+{
+    match sizes.get_widths() {
+        None => unreachable!(),
+        Some(widths) => widths,
+    }
+}
+
+/// Returns the widths to which the columns of a table shrink, with their minimums, or `None` if the
+/// total is at most n. The table has cells, and its widths are stored. Fails only if the table is
+/// wider than n: with `Memory`, or with `Range` if the total or the side padding of a cell
+/// overflows `usize`.
+pub(crate) fn narrowed_widths<P: Peaker + Drop, R: ExactRecords>(
+    priority: P,
+    records: &R,
+    config: &SpannedConfig,
+    sizes: &CompleteDimension,
+    n: usize,
+) -> Result<Option<ColumnWidths>, TableError>
+    requires filled { is_empty (R.cells records.now) ≡ false }
+    requires stored { is_some (widths_of sizes.now) ≡ true }
+    ensures ok { let t = effective (R.cells records.now) config.now sizes.now in
+        IfOk result (λ answer. MatchOption answer (total_width t ≤ n)
+        (λ found. IsFound P.shrinks priority n t found.widths.items found.mins.items)) }
+    ensures wider { OnErr result
+        (n < total_width (effective (R.cells records.now) config.now sizes.now)) }
+    ensures err { IfErr result (λ e. (e ≡ Memory)
+        ⊎ ((e ≡ Range) × WiderOutOfRange n (R.cells records.now) config.now sizes.now)) }
+{
+    let columns = records.count_columns();
+    let widths = first_sizes(stored_widths(sizes), columns);
+    let Some(total) = padded_width(config, columns, widths) else {
+        return Err(TableError::Range);
+    };
+    if total <= n {
+        return Ok(None);
+    }
+    let alloc = sizes.allocator();
+    let mins = minimum_widths(alloc, records, config, widths.len())?;
+    let widths = shrunk(alloc, priority, widths, &mins, total - n)?;
+    Ok(Some(ColumnWidths { widths, mins }))
+}
+
+/// Returns what the side padding of a cell leaves of a width, at least 0.
+fn content_width_beside(config: &SpannedConfig, at: Position, width: usize) -> usize
+    ensures { result ≡ width - side_padding config.now at.row at.column }
+{
+    let padding = config.get_padding(at);
+    width
+        .saturating_sub(padding.left.size)
+        .saturating_sub(padding.right.size)
+}
+
+/// The widths of a table's columns, from the left, and their minimums.
+#[derive(Drop)]
+pub(crate) struct ColumnWidths {
+    pub(crate) widths: Vec<usize>,
+    pub(crate) mins: Vec<usize>,
+}
+
+impl ColumnWidths {
+    /// Returns the width of a column, or `None` if it has none or is below its minimum.
+    fn permitted_width(&self, column: usize) -> Option<usize>
+        ensures { result ≡ (if is_permitted self.now.widths.items self.now.mins.items column
+            then Some (at self.now.widths.items column) else None) }
+    {
+        let width = *self.widths.get(column)?;
+        let least = self.mins.get(column).copied().unwrap_or(0);
+        if width < least { None } else { Some(width) }
+    }
+}
+
+/// The content width of each cell: its column's width less its own padding. Cells of a column below
+/// its minimum have none.
+#[derive(Drop)]
+struct ColumnContentWidths<'a> {
+    config: &'a SpannedConfig,
+    sizes: &'a ColumnWidths,
+}
+
+impl<'a> ContentSizes for ColumnContentWidths<'a> {
+    ghost content_size_at = { λ s row column.
+        if is_permitted s.sizes.now.widths.items s.sizes.now.mins.items column
+        then Some (at s.sizes.now.widths.items column - side_padding s.config.now row column)
+        else None };
+
+    fn content_size(&self, at: Position) -> Option<usize> {
+        match self.sizes.permitted_width(at.column) {
+            None => None,
+            Some(width) => Some(content_width_beside(self.config, at, width)),
+        }
+    }
+}
+
+/// Changes the cells of each column that has a width, unless that is below its minimum, column by
+/// column from the top. Fails only with `Memory`.
+pub(crate) fn change_columns<T: TextTransform, R: RecordsMut>(
     transform: &T,
     cell_filter: CellFilter,
-    priority: P,
+    records: &mut R,
+    config: &SpannedConfig,
+    sizes: &ColumnWidths,
+) -> Result<(), TableError>
+    ensures ok { OnOk result (AreChanged (λ r c. true)
+        (for_width (if_taken cell_filter (T.makes transform.now)) config.now
+        sizes.now.widths.items sizes.now.mins.items)
+        (R.cells records.old) (R.cells records.new)) }
+    ensures err { OnErr result (AreChangedBefore ByColumn (λ r c. true)
+        (needs_for_width cell_filter (T.shortens transform.now) config.now
+        sizes.now.widths.items sizes.now.mins.items)
+        (for_width (if_taken cell_filter (T.makes transform.now)) config.now
+        sizes.now.widths.items sizes.now.mins.items)
+        (R.cells records.old) (R.cells records.new)) }
+    ensures only { IfErr result (λ e. e ≡ Memory) }
+{
+    let content_sizes = &ColumnContentWidths { config, sizes };
+    change_cells(
+        &Change {
+            transform,
+            cell_filter,
+            content_sizes,
+        },
+        records,
+        WalkOrder::ByColumn,
+        Entity::Global,
+    )
+}
+
+/// Narrows a table to a total of the measured width. Missing sizes are estimated first, and are
+/// stored even if an error follows.
+///
+/// Fails with `Memory` only if sizes are missing or the table is too wide. Fails with `Range` if
+/// the measurement does, if an estimate or the total overflows `usize`, or if the side padding of a
+/// cell does in a table that is too wide.
+pub(crate) fn narrow_table<
+    T: TextTransform + Drop,
+    W: Measurement<Width> + Drop,
+    P: Peaker + Drop,
+    R: RecordsMut,
+>(
+    option: Resize<T, W, P>,
+    cell_filter: CellFilter,
     records: &mut R,
     config: &SpannedConfig,
     sizes: &mut CompleteDimension,
-    n: usize,
 ) -> Result<(), TableError>
-    requires { is_empty (R.cells records.old) ≡ false }
-    ensures ok { OnOk result (Narrows P.shrinks priority (if_taken cell_filter (T.makes transform.now)) n
+    ensures rectangular { IsRectangular (R.cells records.old) }
+    ensures ok { OnOk result (Narrows P.shrinks option.priority
+        (if_taken cell_filter (T.makes option.transform))
+        (W.measures option.size (R.cells records.old) config.now)
         (R.cells records.old) config.now sizes.old (R.cells records.new) sizes.new) }
-    ensures err { IfErr result (λ e. StopsNarrowing P.shrinks priority cell_filter
-        (T.shortens transform.now) (T.makes transform.now) n e
+    ensures err { IfErr result (λ e. (is_empty (R.cells records.old) ≡ false)
+        × StopsNarrowing P.shrinks option.priority
+        cell_filter (T.shortens option.transform) (T.makes option.transform)
+        (W.measures option.size (R.cells records.old) config.now) e
         (R.cells records.old) config.now sizes.old (R.cells records.new) sizes.new) }
     ensures only { IfErr result (λ e. (e ≡ Memory) ⊎ ((e ≡ Range)
-        × (HasNoEstimate sizes.old (R.cells records.old) config.now
-        ⊎ WiderOutOfRange n (R.cells records.old) config.now sizes.old))) }
+        × NarrowingOutOfRange (W.out_of_range option.size (R.cells records.old) config.now)
+        (W.measures option.size (R.cells records.old) config.now)
+        (R.cells records.old) config.now sizes.old)) }
 {
+    if is_empty(records) {
+        return Ok(());
+    }
+    let n = option.size.measure(records, config)?;
     sizes.estimate(records, config)?;
-    let alloc = records.allocator();
-    let Some(found) = narrowed_widths(alloc, priority, records, config, sizes, n)? else {
+    let Some(found) = narrowed_widths(option.priority, records, config, sizes, n)? else {
         return Ok(());
     };
-    change_columns(transform, cell_filter, records, config, &found)?;
+    change_columns(&option.transform, cell_filter, records, config, &found)?;
     sizes.set_widths(found.widths);
     sizes.clear_height();
     Ok(())

@@ -103,7 +103,8 @@ impl<R> CellOption<R, ColoredConfig> for Padding {
 }
 
 impl<R, D> TableOption<R, ColoredConfig, D> for Padding {
-    ghost changes = { λ s r c d. Becomes (colored (record c.config { padding = for_all s.indent })) r d };
+    ghost changes = { λ s r c d.
+        Becomes (colored (record c.config { padding = for_all s.indent })) r d };
 
     fn change(
         self,
@@ -138,7 +139,8 @@ impl<R, D> TableOption<R, CompactConfig, D> for Padding {
 }
 
 impl<R, D> TableOption<R, CompactMultilineConfig, D> for Padding {
-    ghost changes = { λ s r c d. Becomes (record c { config = record c.config { padding = s.indent } }) r d };
+    ghost changes = { λ s r c d.
+        Becomes (record c { config = record c.config { padding = s.indent } }) r d };
 
     fn change(
         self,

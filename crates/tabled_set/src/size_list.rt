@@ -1,12 +1,12 @@
 //! The options `WidthList` and `HeightList`, which store given sizes.
-ghost use Rattle.std.specs.Prelude.{◌≡◌, IfErr, IfOk, None, length};
+ghost use Rattle.std.specs.Prelude.{◌≡◌, IfErr, IfOk, None};
 ghost use Rattle.std.specs.Iterator.{IsFiniteIterable};
-ghost use Rattle.tabled_base.specs.Cells.{columns};
 ghost use Rattle.tabled_base.specs.Given.{Given};
 ghost use Rattle.tabled_base.specs.declared.error.TableError.TheVariants.{Memory};
-ghost use Rattle.tabled_set.specs.Lists.{StoresHeights, StoresWidths};
+ghost use Rattle.tabled_set.specs.Lists.{StoresSizes};
 
-use crate::measurement::{Height, Width};
+use crate::extremes::TextMeasure;
+use crate::measurement::{Direction, Height, Width};
 use std::alloc::Global;
 use std::marker::PhantomData;
 use tabled_base::{Entity, ExactRecords, TableError, TableOption};
@@ -43,8 +43,10 @@ impl<A> SizeList<A> {
         sizes: I,
     ) -> Result<SizeList<A>, TableError>
     where
-        requires { IsFiniteIterable I.into_iter_gives I.IntoIter.can_next I.IntoIter.remaining sizes }
-        ensures ok { IfOk result (λ answer. Given I.into_iter_gives I.IntoIter.next_gives sizes answer.list.items) }
+        requires { IsFiniteIterable I.into_iter_gives
+            I.IntoIter.can_next I.IntoIter.remaining sizes }
+        ensures ok { IfOk result (λ answer.
+            Given I.into_iter_gives I.IntoIter.next_gives sizes answer.list.items) }
         ensures only { IfErr result (λ e. e ≡ Memory) }
     {
         let mut list = Vec::new(alloc);
@@ -63,8 +65,9 @@ impl<A> From<Vec<usize>> for SizeList<A> {
     }
 }
 
-impl<R: ExactRecords, C> TableOption<R, C, CompleteDimension> for SizeList<Width> {
-    ghost changes = { λ s r c d r' c' d'. (r' ≡ r) × ((c' ≡ c) × StoresWidths s.list.items (columns (R.cells r)) d d') };
+impl<A: Direction + Drop, R: ExactRecords, C> TableOption<R, C, CompleteDimension> for SizeList<A> {
+    ghost changes = { λ s r c d r' c' d'. (r' ≡ r)
+        × ((c' ≡ c) × StoresSizes A.COUNTED s.list.items (R.cells r) d d') };
 
     ghost hint = { λ s. None };
 
@@ -74,33 +77,18 @@ impl<R: ExactRecords, C> TableOption<R, C, CompleteDimension> for SizeList<Width
         _cfg: &mut C,
         dims: &mut CompleteDimension,
     ) -> Result<(), TableError> {
-        if self.list.len() < records.count_columns() {
-            return Ok(());
+        match A::COUNTED {
+            TextMeasure::Columns => {
+                if self.list.len() >= records.count_columns() {
+                    dims.set_widths(self.list);
+                }
+            }
+            TextMeasure::Lines => {
+                if self.list.len() >= records.count_rows() {
+                    dims.set_heights(self.list);
+                }
+            }
         }
-        dims.set_widths(self.list);
-        Ok(())
-    }
-
-    fn hint_change(&self) -> Option<Entity> {
-        None
-    }
-}
-
-impl<R: ExactRecords, C> TableOption<R, C, CompleteDimension> for SizeList<Height> {
-    ghost changes = { λ s r c d r' c' d'. (r' ≡ r) × ((c' ≡ c) × StoresHeights s.list.items (length (R.cells r)) d d') };
-
-    ghost hint = { λ s. None };
-
-    fn change(
-        self,
-        records: &mut R,
-        _cfg: &mut C,
-        dims: &mut CompleteDimension,
-    ) -> Result<(), TableError> {
-        if self.list.len() < records.count_rows() {
-            return Ok(());
-        }
-        dims.set_heights(self.list);
         Ok(())
     }
 

@@ -22,22 +22,15 @@ pub enum SuffixLimit {
 
 /// The suffix that is written for a content size, and the columns that it leaves to the text.
 #[derive(Drop)]
-pub(crate) struct UsedSuffix<'a> {
-    pub text: CowStr<'a, Global>,
-    pub left: usize,
-}
-
-/// A `UsedSuffix` that borrows its text.
-#[derive(Clone, Copy)]
-pub(crate) struct BorrowedSuffix<'a> {
-    pub text: &'a str,
+pub(crate) struct UsedSuffix<T> {
+    pub text: T,
     pub left: usize,
 }
 
 /// Returns the columns that a suffix leaves of a content size, or `None` if it leaves none.
 fn columns_beside(suffix: &str, content_size: usize) -> Option<usize>
-    ensures { result
-        ≡ (if nat_lt (suffix_columns suffix.now) content_size then Some (content_size - suffix_columns suffix.now) else None) }
+    ensures { let own = suffix_columns suffix.now in
+        result ≡ (if nat_lt own content_size then Some (content_size - own) else None) }
 {
     // Each line takes one column more than its own, for its line feed. The last line has no line
     // feed, hence the `+ 1`.
@@ -54,8 +47,9 @@ fn borrowed_limited(
     suffix: &str,
     limit: SuffixLimit,
     content_size: usize,
-) -> Option<BorrowedSuffix<'_>>
-    ensures used { IfSome result (λ lent. IsLimited content_size suffix.now limit lent.text.now lent.left) }
+) -> Option<UsedSuffix<&str>>
+    ensures used { IfSome result (λ lent.
+        IsLimited content_size suffix.now limit lent.text.now lent.left) }
     ensures some { IfSome result (λ _. IsMadeFor content_size suffix.now limit → ⊥) }
     ensures none { IfNone result (IsMadeFor content_size suffix.now limit) }
 {
@@ -63,9 +57,9 @@ fn borrowed_limited(
         SuffixLimit::Cut => {
             let bytes = cut_length(suffix, content_size)?;
             let (text, _) = suffix.split_at(bytes);
-            Some(BorrowedSuffix { text, left: 0 })
+            Some(UsedSuffix { text, left: 0 })
         }
-        SuffixLimit::Ignore => Some(BorrowedSuffix {
+        SuffixLimit::Ignore => Some(UsedSuffix {
             text: "",
             left: content_size,
         }),
@@ -78,39 +72,22 @@ pub(crate) fn borrowed_suffix(
     suffix: &str,
     limit: SuffixLimit,
     content_size: usize,
-) -> Option<BorrowedSuffix<'_>>
-    ensures used { IfSome result (λ lent. IsUsed content_size suffix.now limit lent.text.now lent.left) }
+) -> Option<UsedSuffix<&str>>
+    ensures used { IfSome result (λ lent.
+        IsUsed content_size suffix.now limit lent.text.now lent.left) }
     ensures some { IfSome result (λ _. IsMade content_size suffix.now limit → ⊥) }
     ensures none { IfNone result (IsMade content_size suffix.now limit) }
 {
     if content_size == 0 || suffix.is_empty() {
-        return Some(BorrowedSuffix {
+        return Some(UsedSuffix {
             text: "",
             left: content_size,
         });
     }
     match columns_beside(suffix, content_size) {
-        Some(left) => Some(BorrowedSuffix { text: suffix, left }),
+        Some(left) => Some(UsedSuffix { text: suffix, left }),
         None => borrowed_limited(suffix, limit, content_size),
     }
-}
-
-/// Allocates the suffix to write for `content_size` columns, if it can't be borrowed.
-fn made_suffix(
-    alloc: Global,
-    suffix: &str,
-    limit: SuffixLimit,
-    content_size: usize,
-) -> Result<UsedSuffix<'_>, AllocError>
-    requires { IsMade content_size suffix.now limit }
-    ensures { IfOk result (λ used. IsUsed content_size suffix.now limit (cow_str_bytes used.text) used.left) }
-{
-    let text = match limit {
-        SuffixLimit::Cut => cut_str(alloc, suffix, content_size)?,
-        SuffixLimit::Ignore => unreachable!(),
-        SuffixLimit::Replace(c) => CowStr::Owned(copies(alloc, c, content_size)?),
-    };
-    Ok(UsedSuffix { text, left: 0 })
 }
 
 /// Returns the suffix to write for `content_size` columns, borrowed if possible.
@@ -119,14 +96,18 @@ pub(crate) fn used_suffix(
     suffix: &str,
     limit: SuffixLimit,
     content_size: usize,
-) -> Result<UsedSuffix<'_>, AllocError>
-    ensures { IfOk result (λ used. IsUsed content_size suffix.now limit (cow_str_bytes used.text) used.left) }
+) -> Result<UsedSuffix<CowStr<'_, Global>>, AllocError>
+    ensures { IfOk result (λ used.
+        IsUsed content_size suffix.now limit (cow_str_bytes used.text) used.left) }
 {
-    match borrowed_suffix(suffix, limit, content_size) {
-        Some(BorrowedSuffix { text, left }) => Ok(UsedSuffix {
-            text: CowStr::Borrowed(text),
-            left,
-        }),
-        None => made_suffix(alloc, suffix, limit, content_size),
+    if let Some(UsedSuffix { text, left }) = borrowed_suffix(suffix, limit, content_size) {
+        let text = CowStr::Borrowed(text);
+        return Ok(UsedSuffix { text, left });
     }
+    let text = match limit {
+        SuffixLimit::Cut => cut_str(alloc, suffix, content_size)?,
+        SuffixLimit::Ignore => unreachable!(),
+        SuffixLimit::Replace(c) => CowStr::Owned(copies(alloc, c, content_size)?),
+    };
+    Ok(UsedSuffix { text, left: 0 })
 }

@@ -1,73 +1,175 @@
 //! The option `Truncate`, which truncates cells and narrows tables.
-ghost use Rattle.std.specs.Cow.{IsOwnedStr, cow_str_bytes};
-ghost use Rattle.std.specs.Prelude.{◌≡◌, IfErr, IfOk, OnErr, [], false, string_bytes, None};
+ghost use Rattle.std.specs.Cow.{cow_str_bytes, IsOwnedStr};
+ghost use Rattle.std.specs.Prelude.{◌≡◌, ◌≢◌, [], IfNone, IfOk, IfSome, OnOk, false, string_bytes, IfErr, None, OnErr};
 ghost use Rattle.tabled_base.specs.declared.error.TableError.TheVariants.{Memory};
-ghost use Rattle.tabled_set.specs.CellChanges.{ChangesEntity, StopsEntity, if_wider, truncating};
-ghost use Rattle.tabled_set.specs.InPlace.{truncating_in_place};
+ghost use Rattle.tabled_set.specs.CellChanges.{truncating, if_wider};
+ghost use Rattle.tabled_set.specs.InPlace.{IsLeftAt, truncating_in_place};
 ghost use Rattle.tabled_set.specs.Narrowed.{Narrows, NarrowingOutOfRange, StopsNarrowing};
 ghost use Rattle.tabled_set.specs.Promised.{TruncatesAsPromised};
-ghost use Rattle.tabled_set.specs.Truncated.{IsTruncated};
+ghost use Rattle.tabled_set.specs.Truncated.{AddsEnded, HasEndedLines, IsTruncated};
+ghost use Rattle.tabled_set.specs.declared.changing.CellFilter.TheVariants.{Wider};
 ghost use Rattle.tabled_set.specs.declared.suffix.SuffixLimit.TheVariants.{Cut};
-ghost use Rattle.tabled_set.specs.declared.cell_filter.CellFilter.TheVariants.{Wider};
 ghost use Rattle.tabled_size.specs.Cleared.{AreCleared};
-ghost use Rattle.tabled_size.specs.Sheet.{is_empty};
 ghost use Rattle.tabled_size.specs.Effective.{effective};
+ghost use Rattle.tabled_size.specs.Sheet.{is_empty};
 ghost use Rattle.tabled_size.specs.declared.complete_dimension.CompleteDimension.{CompleteDimension};
-ghost use Rattle.tabled_text.specs.Cut.{IsCut, NeedsFill};
+ghost use Rattle.tabled_text.specs.Cut.{NeedsFill, IsCut};
 
-use crate::cell_filter::CellFilter;
-use crate::changing::TextTransform;
-use crate::measured::change_measured;
+use crate::changing::{Beginning, CellFilter, OptionTransform, TextTransform};
 use crate::measurement::{Measurement, Width};
 use crate::narrowing::narrow_table;
-use crate::suffix::SuffixLimit;
-use crate::truncating::Truncating;
-use std::alloc::Global;
+use crate::resize::Resize;
+use crate::suffix::{SuffixLimit, UsedSuffix, borrowed_suffix, used_suffix};
+use std::alloc::{AllocError, Global};
 use std::borrow::CowStr;
-use tabled_base::{CellOption, Entity, RecordsMut, TableError, TableOption};
+use tabled_base::{Entity, RecordsMut, SHORT_TEXT, TableError, TableOption};
 use tabled_config::ColoredConfig;
-use tabled_size::{CompleteDimension, Peaker, PriorityNone, is_empty};
-use tabled_text::cut_str;
+use tabled_size::{CompleteDimension, Peaker, PriorityNone};
+use tabled_text::{count_lines, cut_length, cut_str, lines};
 
-/// Truncates cells that are wider than `width`: cuts the text, and appends a suffix. As a table
-/// option it narrows a table to a total of `width` columns, and truncates its cells to fit.
-#[derive(Clone, Debug, Drop, PartialEq, Eq, PartialOrd, Ord)]
-pub struct Truncate<'a, W = usize, P = PriorityNone> {
-    width: W,
-    transform: Truncating<'a>,
-    priority: P,
+/// Cuts a text to the columns that the suffix leaves of the content size, and appends the suffix.
+/// If the suffix leaves none, the limit says what is written. For 0 columns every line is empty.
+#[derive(Clone, Copy, Debug, PartialEq, Eq, PartialOrd, Ord)]
+pub struct Truncating<'a> {
+    /// The suffix, which ends each truncated text.
+    pub suffix: &'a str,
+    /// What happens to a suffix that is as wide as the content size, or wider.
+    pub limit: SuffixLimit,
+    /// Whether each line is truncated on its own, and ends with the suffix.
+    pub multiline: bool,
 }
 
-impl<W> Truncate<'static, W> {
-    /// Creates an option that truncates to `width` columns. It has no suffix, cuts a text as a
-    /// whole, and shrinks the columns of a table in turn.
-    pub fn new(width: W) -> Truncate<'static, W>
-    where
-        W: Measurement<Width>,
-        ensures width { result.width ≡ width }
-        ensures suffix { result.transform.suffix.now ≡ [] }
-        ensures limit { result.transform.limit ≡ Cut }
-        ensures multiline { result.transform.multiline ≡ false }
-        ensures priority { result.priority.kept ≡ 0 }
+impl<'a> TextTransform for Truncating<'a> {
+    ghost makes = { λ s. truncating s.suffix.now s.limit s.multiline };
+
+    ghost shortens = { λ s. truncating_in_place s.suffix.now s.limit s.multiline };
+
+    fn beginning(&self, text: &str, content_size: usize) -> Option<Beginning<'_>> {
+        if self.multiline && count_lines(text) > 1 {
+            return None;
+        }
+        let used = borrowed_suffix(self.suffix, self.limit, content_size)?;
+        let bytes = length_left(text, used.left)?;
+        if used.text.len() > SHORT_TEXT.saturating_sub(bytes) {
+            return None;
+        }
+        Some(Beginning {
+            bytes,
+            ending: used.text,
+        })
+    }
+
+    fn changed_text(
+        &self,
+        alloc: Global,
+        text: &str,
+        content_size: usize,
+    ) -> Result<String, TableError> {
+        let used = used_suffix(alloc, self.suffix, self.limit, content_size)?;
+        if self.multiline {
+            return Ok(ended_lines(alloc, text, &used)?);
+        }
+        let mut answer = String::new(alloc);
+        push_ended(&mut answer, text, &used)?;
+        Ok(answer)
+    }
+}
+
+impl<'a> OptionTransform for Truncating<'a> {
+    type Direction = Width;
+
+    ghost cell_filter = { Wider };
+
+    ghost is_new = { λ s. (s.suffix.now ≡ []) × (s.limit ≡ Cut) × (s.multiline ≡ false) };
+
+    fn filter() -> CellFilter
+        ensures { result ≡ Wider }
     {
-        Truncate {
-            width,
-            transform: Truncating {
-                suffix: "",
-                limit: SuffixLimit::Cut,
-                multiline: false,
-            },
-            priority: PriorityNone::new(),
+        CellFilter::Wider
+    }
+
+    fn new() -> Truncating<'a>
+        ensures { (result.suffix.now ≡ []) × (result.limit ≡ Cut) × (result.multiline ≡ false) }
+    {
+        Truncating {
+            suffix: "",
+            limit: SuffixLimit::Cut,
+            multiline: false,
         }
     }
 }
 
+/// Returns the length in bytes of a text cut to some columns, or `None` if it has to be filled with
+/// U+FFFD.
+fn length_left(text: &str, columns: usize) -> Option<usize>
+    ensures some { IfSome result (λ bytes. IsLeftAt columns text.now bytes) }
+    ensures none { IfNone result ((columns ≢ 0) × NeedsFill columns text.now) }
+{
+    if columns == 0 {
+        Some(0)
+    } else {
+        cut_length(text, columns)
+    }
+}
+
+/// Appends a text, cut to the columns left, and the suffix.
+fn push_ended(
+    answer: &mut String,
+    text: &str,
+    used: &UsedSuffix<CowStr<'_, Global>>,
+) -> Result<(), AllocError>
+    ensures { OnOk result (AddsEnded used.now.left (cow_str_bytes used.now.text) text.now
+        (string_bytes answer.old) (string_bytes answer.new)) }
+{
+    if used.left == 0 {
+        answer.push_str(&used.text)?;
+        return Ok(());
+    }
+    let front = cut_str(*answer.allocator(), text, used.left)?;
+    answer.push_str(&front)?;
+    answer.push_str(&used.text)?;
+    Ok(())
+}
+
+/// Returns the lines of a text, each cut to the columns left, with the suffix.
+fn ended_lines(
+    alloc: Global,
+    text: &str,
+    used: &UsedSuffix<CowStr<'_, Global>>,
+) -> Result<String, AllocError>
+    ensures { IfOk result (λ answer. HasEndedLines used.now.left (cow_str_bytes used.now.text)
+        text.now (string_bytes answer)) }
+{
+    let mut answer = String::new(alloc);
+    let mut begun = false;
+    for line in lines(text) {
+        if begun {
+            answer.push('\n')?;
+        }
+        begun = true;
+        push_ended(&mut answer, line, used)?;
+    }
+    Ok(answer)
+}
+
+/// Truncates cells that are wider than the measured width: cuts the text, and appends a suffix. As
+/// a table option it narrows a table to a total of that width, and truncates its cells to fit. A
+/// new one has no suffix, and cuts a text as a whole.
+///
+/// A text is cut in place, without an allocation, if all of these hold:
+/// - `multiline` is off, or the text has one line.
+/// - Neither the text nor the suffix needs U+FFFD, and the suffix isn't replaced.
+/// - It ends without a suffix, or takes at most 16 bytes with it.
+pub type Truncate<'a, W = usize, P = PriorityNone> = Resize<Truncating<'a>, W, P>;
+
 impl<'a, W, P> Truncate<'a, W, P> {
     /// Sets the suffix, which ends each truncated text.
     pub fn suffix(self, suffix: &'a str) -> Truncate<'a, W, P>
-        ensures { result ≡ record self.entry { transform = record self.entry.transform { suffix = suffix.entry } } }
+        ensures { result ≡ record self.entry {
+          transform = record self.entry.transform { suffix = suffix.entry };
+        } }
     {
-        Truncate {
+        Resize {
             transform: Truncating {
                 suffix,
                 ..self.transform
@@ -78,9 +180,11 @@ impl<'a, W, P> Truncate<'a, W, P> {
 
     /// Sets what happens to a suffix that is as wide as the content width, or wider.
     pub fn suffix_limit(self, limit: SuffixLimit) -> Truncate<'a, W, P>
-        ensures { result ≡ record self.entry { transform = record self.entry.transform { limit = limit } } }
+        ensures { result ≡ record self.entry {
+          transform = record self.entry.transform { limit = limit };
+        } }
     {
-        Truncate {
+        Resize {
             transform: Truncating {
                 limit,
                 ..self.transform
@@ -92,9 +196,11 @@ impl<'a, W, P> Truncate<'a, W, P> {
     /// Sets whether each line of a text is truncated on its own. Each line then ends with the
     /// suffix, even a short one.
     pub fn multiline(self, on: bool) -> Truncate<'a, W, P>
-        ensures { result ≡ record self.entry { transform = record self.entry.transform { multiline = on } } }
+        ensures { result ≡ record self.entry {
+          transform = record self.entry.transform { multiline = on };
+        } }
     {
-        Truncate {
+        Resize {
             transform: Truncating {
                 multiline: on,
                 ..self.transform
@@ -114,29 +220,12 @@ impl<'a, W, P> Truncate<'a, W, P> {
         text: &str,
         content_size: usize,
     ) -> Result<String, TableError>
-        ensures truncated { IfOk result (λ answer.
-            IsTruncated content_size self.now.transform.suffix.now self.now.transform.limit self.now.transform.multiline text.now (string_bytes answer)) }
+        ensures truncated { let by = self.now.transform in IfOk result (λ answer.
+            IsTruncated content_size by.suffix.now by.limit by.multiline
+            text.now (string_bytes answer)) }
         ensures only { IfErr result (λ e. e ≡ Memory) }
     {
         self.transform.changed_text(alloc, text, content_size)
-    }
-}
-
-impl<'a, W, P: Drop> Truncate<'a, W, P> {
-    /// Sets the order in which the columns of a table shrink.
-    pub fn priority<Q: Peaker>(self, priority: Q) -> Truncate<'a, W, Q>
-        ensures { result
-            ≡ record {
-              width = self.entry.width;
-              transform = self.entry.transform;
-              priority = priority;
-            } }
-    {
-        Truncate {
-            width: self.width,
-            transform: self.transform,
-            priority,
-        }
     }
 }
 
@@ -158,47 +247,6 @@ impl Truncate<'static, (), ()> {
     }
 }
 
-/// Truncates the entity's cells that are wider than the measured width to it. No other cell
-/// changes. Fails with `Range` if the measurement does, before any change, or with `Memory` at a
-/// cell that can't be cut in place. The cells before that, row by row, have changed.
-///
-/// A text is cut in place, without an allocation, if all of these hold:
-/// - `multiline` is off, or the text has one line.
-/// - Neither the text nor the suffix needs U+FFFD, and the suffix isn't replaced.
-/// - It ends without a suffix, or takes at most 16 bytes with it.
-impl<'a, W: Measurement<Width>, P, R: RecordsMut> CellOption<R, ColoredConfig>
-    for Truncate<'a, W, P> {
-    ghost changes = { λ s r c e r' c'. ChangesEntity (if_wider (truncating s.transform.suffix.now s.transform.limit s.transform.multiline))
-        (W.measures s.width (R.cells r) c.config) e (R.cells r) (R.cells r') × (c' ≡ c) };
-
-    ghost refuses = { λ s f r c e r' c'. StopsEntity Wider
-        (truncating_in_place s.transform.suffix.now s.transform.limit s.transform.multiline)
-        (truncating s.transform.suffix.now s.transform.limit s.transform.multiline)
-        (W.measures s.width (R.cells r) c.config) e f (R.cells r) (R.cells r') × (c' ≡ c) };
-
-    ghost out_of_range = { λ s r c e. W.out_of_range s.width (R.cells r) c.config };
-
-    fn change(
-        &self,
-        records: &mut R,
-        cfg: &mut ColoredConfig,
-        entity: Entity,
-    ) -> Result<(), TableError> {
-        change_measured::<Width, _, _, _>(
-            &self.width,
-            &self.transform,
-            CellFilter::Wider,
-            records,
-            cfg,
-            entity,
-        )
-    }
-
-    fn hint_change(&self) -> Option<Entity> {
-        Some(Entity::Global)
-    }
-}
-
 /// Narrows a table that is wider than the measured width to it. Columns shrink by the excess, and
 /// each cell that is wider than its column's new width less its own padding is truncated to that.
 /// Cells of a column that ends up below its minimum, its width with empty cells, don't change.
@@ -211,25 +259,28 @@ impl<'a, W: Measurement<Width> + Drop, P: Peaker + Drop, R: RecordsMut> TableOpt
     ColoredConfig,
     CompleteDimension,
 > for Truncate<'a, W, P> {
-    ghost changes = { λ s r c d r' c' d'.
-        Narrows P.shrinks s.priority (if_wider (truncating s.transform.suffix.now s.transform.limit s.transform.multiline))
-        (W.measures s.width (R.cells r) c.config) (R.cells r) c.config d (R.cells r') d' × (c' ≡ c) };
-
-    // Only a table with cells fails. Its sizes are then unchanged, or the missing ones filled in.
-    ghost refuses = { λ s e r c d r' c' d'. (is_empty (R.cells r) ≡ false)
-        × StopsNarrowing P.shrinks s.priority Wider
-        (truncating_in_place s.transform.suffix.now s.transform.limit s.transform.multiline)
-        (truncating s.transform.suffix.now s.transform.limit s.transform.multiline)
-        (W.measures s.width (R.cells r) c.config) e (R.cells r) c.config d (R.cells r') d'
+    ghost changes = { λ s r c d r' c' d'. let by = s.transform in
+        Narrows P.shrinks s.priority (if_wider (truncating by.suffix.now by.limit by.multiline))
+        (W.measures s.size (R.cells r) c.config) (R.cells r) c.config d (R.cells r') d'
         × (c' ≡ c) };
 
-    ghost out_of_range = { λ s r c d. NarrowingOutOfRange (W.out_of_range s.width (R.cells r) c.config)
-        (W.measures s.width (R.cells r) c.config) (R.cells r) c.config d };
+    // Only a table with cells fails. Its sizes are then unchanged, or the missing ones filled in.
+    ghost refuses = { λ s e r c d r' c' d'. let by = s.transform in (is_empty (R.cells r) ≡ false)
+        × StopsNarrowing P.shrinks s.priority
+        Wider (truncating_in_place by.suffix.now by.limit by.multiline)
+        (truncating by.suffix.now by.limit by.multiline)
+        (W.measures s.size (R.cells r) c.config) e (R.cells r) c.config d (R.cells r') d'
+        × (c' ≡ c) };
+
+    ghost out_of_range = { λ s r c d.
+        NarrowingOutOfRange (W.out_of_range s.size (R.cells r) c.config)
+        (W.measures s.size (R.cells r) c.config) (R.cells r) c.config d };
 
     // About the sizes that are left after those of the hint are cleared.
-    ghost promises = { λ s r c d r' c' d'. (left : CompleteDimension) → AreCleared None d' left
-        → TruncatesAsPromised P.shrinks s.priority s.transform.suffix.now s.transform.limit s.transform.multiline
-        (W.measures s.width (R.cells r) c.config)
+    ghost promises = { λ s r c d r' c' d'. let by = s.transform in
+        (left : CompleteDimension) → AreCleared None d' left
+        → TruncatesAsPromised P.shrinks s.priority by.suffix.now by.limit by.multiline
+        (W.measures s.size (R.cells r) c.config)
         (effective (R.cells r) c.config d) (effective (R.cells r') c'.config left) };
 
     ghost hint = { λ s. None };
@@ -240,21 +291,7 @@ impl<'a, W: Measurement<Width> + Drop, P: Peaker + Drop, R: RecordsMut> TableOpt
         cfg: &mut ColoredConfig,
         dims: &mut CompleteDimension,
     ) -> Result<(), TableError> {
-        if is_empty(records) {
-            return Ok(());
-        }
-        let transform = self.transform;
-        let config = cfg.as_ref();
-        let n = self.width.measure(records, config)?;
-        narrow_table(
-            &transform,
-            CellFilter::Wider,
-            self.priority,
-            records,
-            config,
-            dims,
-            n,
-        )
+        narrow_table(self, CellFilter::Wider, records, cfg.as_ref(), dims)
     }
 
     fn hint_change(&self) -> Option<Entity> {

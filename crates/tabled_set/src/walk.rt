@@ -3,14 +3,40 @@ ghost use Rattle.std.specs.Prelude.{◌≡◌, ◌≤◌, ◌<◌, ◌==◌, ◌
 ghost use Rattle.tabled_base.specs.Cells.{IsInside, columns};
 ghost use Rattle.tabled_base.specs.declared.error.TableError.TheVariants.{Memory};
 ghost use Rattle.tabled_entity.specs.Changes.{covers};
-ghost use Rattle.tabled_set.specs.CellChanges.{AreChanged, AreChangedBefore, line_of, place_of};
+ghost use Rattle.tabled_set.specs.CellChanges.{line_of, place_of, AreChanged, AreChangedBefore};
 ghost use Rattle.tabled_set.specs.Walking.{AreCutInPlace, is_within, leaves, lines_in, needs, on_line, places_in};
-ghost use Rattle.tabled_set.specs.declared.walk_order.WalkOrder.TheVariants.{ByRow};
+ghost use Rattle.tabled_set.specs.declared.walk.WalkOrder.TheVariants.{ByRow};
 
-use crate::changing::{Change, TextTransform};
-use crate::content_sizes::ContentSizes;
-use crate::walk_order::WalkOrder;
+use crate::changing::{Change, ContentSizes, TextTransform};
 use tabled_base::{Entity, ExactRecords, Position, RecordsMut, TableError};
+
+/// The order in which cells are changed. It decides which of them have changed after an error.
+#[derive(Clone, Copy, Debug)]
+pub enum WalkOrder {
+    /// Row by row, each from the left.
+    ByRow,
+    /// Column by column, each from the top.
+    ByColumn,
+}
+
+impl WalkOrder {
+    /// Returns the position of the cell at index `place` of a line, which is a row or a column.
+    pub(crate) fn cell(self, line: usize, place: usize) -> Position
+        ensures line { line_of self result.row result.column ≡ line }
+        ensures place { place_of self result.row result.column ≡ place }
+    {
+        match self {
+            WalkOrder::ByRow => Position {
+                row: line,
+                column: place,
+            },
+            WalkOrder::ByColumn => Position {
+                row: place,
+                column: line,
+            },
+        }
+    }
+}
 
 /// Adjacent rows or columns: the first, and the one after the last.
 #[derive(Clone, Copy)]
@@ -65,7 +91,8 @@ fn bands_of(entity: Entity, rows: usize, columns: usize) -> (Band, Band)
 /// is a row or a column.
 fn lines_of_entity<R: ExactRecords>(entity: Entity, order: WalkOrder, records: &R) -> (Band, Band)
     ensures cells { (r c : ℕ) → IsInside (R.cells records.now) r c
-        → covers entity r c ≡ (is_within result.0 (line_of order r c) && is_within result.1 (place_of order r c)) }
+        → covers entity r c
+        ≡ (is_within result.0 (line_of order r c) && is_within result.1 (place_of order r c)) }
     ensures lines { result.0.end ≤ lines_in order (R.cells records.now) }
     ensures places { result.1.end ≤ places_in order (R.cells records.now) }
 {
@@ -86,12 +113,13 @@ fn change_line<T: TextTransform, M: ContentSizes, R: RecordsMut>(
 ) -> Result<(), TableError>
     requires line_in { line < lines_in order (R.cells records.old) }
     requires places_in { band.end ≤ places_in order (R.cells records.old) }
-    ensures ok { OnOk result (AreChanged (on_line order line band)
-        (leaves by.now.cell_filter (T.makes by.now.transform.now) (M.content_size_at by.now.content_sizes.now))
+    ensures ok { let it = by.now in OnOk result (AreChanged (on_line order line band)
+        (leaves it.cell_filter (T.makes it.transform.now) (M.content_size_at it.content_sizes.now))
         (R.cells records.old) (R.cells records.new)) }
-    ensures err { OnErr result (AreChangedBefore order (on_line order line band)
-        (needs by.now.cell_filter (T.shortens by.now.transform.now) (M.content_size_at by.now.content_sizes.now))
-        (leaves by.now.cell_filter (T.makes by.now.transform.now) (M.content_size_at by.now.content_sizes.now))
+    ensures err { let it = by.now in OnErr result (AreChangedBefore order (on_line order line band)
+        (needs it.cell_filter (T.shortens it.transform.now)
+        (M.content_size_at it.content_sizes.now))
+        (leaves it.cell_filter (T.makes it.transform.now) (M.content_size_at it.content_sizes.now))
         (R.cells records.old) (R.cells records.new)) }
     ensures only { IfErr result (λ e. e ≡ Memory) }
 {
@@ -108,12 +136,13 @@ fn walk_cells<T: TextTransform, M: ContentSizes, R: RecordsMut>(
     order: WalkOrder,
     entity: Entity,
 ) -> Result<(), TableError>
-    ensures ok { OnOk result (AreChanged (covers entity)
-        (leaves by.now.cell_filter (T.makes by.now.transform.now) (M.content_size_at by.now.content_sizes.now))
+    ensures ok { let it = by.now in OnOk result (AreChanged (covers entity)
+        (leaves it.cell_filter (T.makes it.transform.now) (M.content_size_at it.content_sizes.now))
         (R.cells records.old) (R.cells records.new)) }
-    ensures err { OnErr result (AreChangedBefore order (covers entity)
-        (needs by.now.cell_filter (T.shortens by.now.transform.now) (M.content_size_at by.now.content_sizes.now))
-        (leaves by.now.cell_filter (T.makes by.now.transform.now) (M.content_size_at by.now.content_sizes.now))
+    ensures err { let it = by.now in OnErr result (AreChangedBefore order (covers entity)
+        (needs it.cell_filter (T.shortens it.transform.now)
+        (M.content_size_at it.content_sizes.now))
+        (leaves it.cell_filter (T.makes it.transform.now) (M.content_size_at it.content_sizes.now))
         (R.cells records.old) (R.cells records.new)) }
     ensures only { IfErr result (λ e. e ≡ Memory) }
 {
@@ -133,8 +162,9 @@ fn are_cut_in_place_in<T: TextTransform, M: ContentSizes, R: RecordsMut>(
 ) -> bool
     requires row_in { row < length (R.cells records.now) }
     requires columns_in { band.end ≤ columns (R.cells records.now) }
-    ensures { result ≡ true → AreCutInPlace (on_line ByRow row band) by.now.cell_filter (T.shortens by.now.transform.now)
-        (M.content_size_at by.now.content_sizes.now) (R.cells records.now) }
+    ensures { let it = by.now in result ≡ true → AreCutInPlace (on_line ByRow row band)
+        it.cell_filter (T.shortens it.transform.now)
+        (M.content_size_at it.content_sizes.now) (R.cells records.now) }
 {
     'columns: for column in band.first..band.end {
         if !by.is_cut_in_place(records, Position { row, column }) {
@@ -150,8 +180,9 @@ fn are_cut_in_place<T: TextTransform, M: ContentSizes, R: RecordsMut>(
     records: &R,
     entity: Entity,
 ) -> bool
-    ensures { result ≡ true → AreCutInPlace (covers entity) by.now.cell_filter (T.shortens by.now.transform.now)
-        (M.content_size_at by.now.content_sizes.now) (R.cells records.now) }
+    ensures { let it = by.now in result ≡ true → AreCutInPlace (covers entity)
+        it.cell_filter (T.shortens it.transform.now)
+        (M.content_size_at it.content_sizes.now) (R.cells records.now) }
 {
     let (rows, columns) = bands_of(entity, records.count_rows(), records.count_columns());
     'rows: for row in rows.first..rows.end {
@@ -173,12 +204,13 @@ pub fn change_cells<T: TextTransform, M: ContentSizes, R: RecordsMut>(
     order: WalkOrder,
     entity: Entity,
 ) -> Result<(), TableError>
-    ensures ok { OnOk result (AreChanged (covers entity)
-        (leaves by.now.cell_filter (T.makes by.now.transform.now) (M.content_size_at by.now.content_sizes.now))
+    ensures ok { let it = by.now in OnOk result (AreChanged (covers entity)
+        (leaves it.cell_filter (T.makes it.transform.now) (M.content_size_at it.content_sizes.now))
         (R.cells records.old) (R.cells records.new)) }
-    ensures err { OnErr result (AreChangedBefore order (covers entity)
-        (needs by.now.cell_filter (T.shortens by.now.transform.now) (M.content_size_at by.now.content_sizes.now))
-        (leaves by.now.cell_filter (T.makes by.now.transform.now) (M.content_size_at by.now.content_sizes.now))
+    ensures err { let it = by.now in OnErr result (AreChangedBefore order (covers entity)
+        (needs it.cell_filter (T.shortens it.transform.now)
+        (M.content_size_at it.content_sizes.now))
+        (leaves it.cell_filter (T.makes it.transform.now) (M.content_size_at it.content_sizes.now))
         (R.cells records.old) (R.cells records.new)) }
     ensures only { IfErr result (λ e. e ≡ Memory) }
 {

@@ -1,53 +1,71 @@
 //! The option `Wrap`, which wraps cells and narrows tables.
-ghost use Rattle.std.specs.Prelude.{◌≡◌, ◌<◌, IfErr, IfOk, OnErr, false, length, string_bytes, Some};
+ghost use Rattle.std.specs.Prelude.{◌≡◌, ◌<◌, IfErr, IfOk, OnErr, Some, false, length, string_bytes};
 ghost use Rattle.tabled_base.specs.declared.error.TableError.TheVariants.{Memory};
 ghost use Rattle.tabled_base.specs.declared.position.Entity.TheVariants.{Row};
-ghost use Rattle.tabled_set.specs.CellChanges.{ChangesEntity, StopsEntity, if_wider, never_in_place, wrapping};
+ghost use Rattle.tabled_set.specs.CellChanges.{never_in_place, wrapping};
 ghost use Rattle.tabled_set.specs.Narrowed.{Narrows, NarrowingOutOfRange, StopsNarrowing};
 ghost use Rattle.tabled_set.specs.Promised.{WrapsAsPromised};
-ghost use Rattle.tabled_set.specs.declared.cell_filter.CellFilter.TheVariants.{Wider, Every};
+ghost use Rattle.tabled_set.specs.declared.changing.CellFilter.TheVariants.{Every, Wider};
 ghost use Rattle.tabled_size.specs.Cleared.{AreCleared};
-ghost use Rattle.tabled_size.specs.Sheet.{is_empty};
 ghost use Rattle.tabled_size.specs.Effective.{effective};
+ghost use Rattle.tabled_size.specs.Sheet.{is_empty};
 ghost use Rattle.tabled_size.specs.declared.complete_dimension.CompleteDimension.{CompleteDimension};
 ghost use Rattle.tabled_text.specs.Breaking.{EachUnitFits, HasFewestLines, IsLeastBreaking};
 ghost use Rattle.tabled_text.specs.Wrapping.{IsWrapped};
 
-use crate::cell_filter::CellFilter;
-use crate::measured::change_measured;
+use crate::changing::{Beginning, CellFilter, OptionTransform, TextTransform};
 use crate::measurement::{Measurement, Width};
 use crate::narrowing::narrow_table;
-use crate::wrapping::Wrapping;
+use crate::resize::Resize;
 use std::alloc::Global;
-use tabled_base::{CellOption, Entity, RecordsMut, TableError, TableOption};
+use tabled_base::{Entity, RecordsMut, TableError, TableOption};
 use tabled_config::ColoredConfig;
-use tabled_size::{CompleteDimension, Peaker, PriorityNone, is_empty};
+use tabled_size::{CompleteDimension, Peaker, PriorityNone};
 use tabled_text::wrap_text;
 
-/// Wraps cells that are wider than `width` into more lines. As a table option it narrows a table to
-/// a total of `width` columns, and wraps its cells to fit.
-#[derive(Clone, Debug, Drop)]
-pub struct Wrap<W = usize, P = PriorityNone> {
-    width: W,
-    transform: Wrapping,
-    priority: P,
+/// Wraps cells that are wider than the measured width into more lines. As a table option it narrows
+/// a table to a total of that width, and wraps its cells to fit. A new one breaks words.
+pub type Wrap<W = usize, P = PriorityNone> = Resize<Wrapping, W, P>;
+
+/// Wraps a text to lines of at most the content size, in columns.
+#[derive(Clone, Copy, Debug, PartialEq, Eq, PartialOrd, Ord)]
+pub struct Wrapping {
+    /// Whether words that fit on a line of their own are kept whole.
+    pub keep_words: bool,
 }
 
-impl<W> Wrap<W> {
-    /// Creates an option that wraps to `width` columns. It breaks words, and shrinks the columns of
-    /// a table in turn.
-    pub fn new(width: W) -> Wrap<W>
-    where
-        W: Measurement<Width>,
-        ensures width { result.width ≡ width }
-        ensures keep_words { result.transform.keep_words ≡ false }
-        ensures priority { result.priority.kept ≡ 0 }
-    {
-        Wrap {
-            width,
-            transform: Wrapping { keep_words: false },
-            priority: PriorityNone::new(),
-        }
+impl TextTransform for Wrapping {
+    ghost makes = { λ s. wrapping s.keep_words };
+
+    ghost shortens = { λ s. never_in_place };
+
+    fn beginning(&self, _text: &str, _content_size: usize) -> Option<Beginning<'_>> {
+        None
+    }
+
+    fn changed_text(
+        &self,
+        alloc: Global,
+        text: &str,
+        content_size: usize,
+    ) -> Result<String, TableError> {
+        Ok(wrap_text(alloc, text, content_size, self.keep_words)?)
+    }
+}
+
+impl OptionTransform for Wrapping {
+    type Direction = Width;
+
+    ghost cell_filter = { Wider };
+
+    ghost is_new = { λ s. s.keep_words ≡ false };
+
+    fn filter() -> CellFilter {
+        CellFilter::Wider
+    }
+
+    fn new() -> Wrapping {
+        Wrapping { keep_words: false }
     }
 }
 
@@ -56,22 +74,9 @@ impl<W, P> Wrap<W, P> {
     pub fn keep_words(self, on: bool) -> Wrap<W, P>
         ensures { result ≡ record self { transform = record { keep_words = on } } }
     {
-        Wrap {
+        Resize {
             transform: Wrapping { keep_words: on },
             ..self
-        }
-    }
-}
-
-impl<W, P: Drop> Wrap<W, P> {
-    /// Sets the order in which the columns of a table shrink.
-    pub fn priority<Q: Peaker>(self, priority: Q) -> Wrap<W, Q>
-        ensures { result ≡ record { width = self.width; transform = self.transform; priority = priority } }
-    {
-        Wrap {
-            width: self.width,
-            transform: self.transform,
-            priority,
         }
     }
 }
@@ -88,48 +93,16 @@ impl Wrap<(), ()> {
         width: usize,
         keep_words: bool,
     ) -> Result<String, TableError>
-        ensures wrapped { IfOk result (λ answer. IsWrapped width keep_words text.now (string_bytes answer)) }
-        ensures fewest { IfOk result (λ answer. HasFewestLines width keep_words text.now (string_bytes answer)) }
-        ensures least { 0 < width → EachUnitFits width keep_words text.now
-            → IfOk result (λ answer. IsLeastBreaking width keep_words text.now (string_bytes answer)) }
+        ensures wrapped { IfOk result (λ answer.
+            IsWrapped width keep_words text.now (string_bytes answer)) }
+        ensures fewest { IfOk result (λ answer.
+            HasFewestLines width keep_words text.now (string_bytes answer)) }
+        ensures least { 0 < width → EachUnitFits width keep_words text.now → IfOk result (λ answer.
+            IsLeastBreaking width keep_words text.now (string_bytes answer)) }
         ensures memory { OnErr result ((0 < width) × (0 < length text.now)) }
         ensures only { IfErr result (λ e. e ≡ Memory) }
     {
         Ok(wrap_text(alloc, text, width, keep_words)?)
-    }
-}
-
-/// Wraps the entity's cells that are wider than the measured width to it. No other cell changes.
-/// Fails with `Range` if the measurement does, before any change, or with `Memory` at a cell. The
-/// cells before that, row by row, have changed.
-impl<W: Measurement<Width>, P, R: RecordsMut> CellOption<R, ColoredConfig> for Wrap<W, P> {
-    ghost changes = { λ s r c e r' c'. ChangesEntity (if_wider (wrapping s.transform.keep_words))
-        (W.measures s.width (R.cells r) c.config) e (R.cells r) (R.cells r') × (c' ≡ c) };
-
-    ghost refuses = { λ s f r c e r' c'. StopsEntity
-        Wider never_in_place (wrapping s.transform.keep_words)
-        (W.measures s.width (R.cells r) c.config) e f (R.cells r) (R.cells r') × (c' ≡ c) };
-
-    ghost out_of_range = { λ s r c e. W.out_of_range s.width (R.cells r) c.config };
-
-    fn change(
-        &self,
-        records: &mut R,
-        cfg: &mut ColoredConfig,
-        entity: Entity,
-    ) -> Result<(), TableError> {
-        change_measured::<Width, _, _, _>(
-            &self.width,
-            &self.transform,
-            CellFilter::Wider,
-            records,
-            cfg,
-            entity,
-        )
-    }
-
-    fn hint_change(&self) -> Option<Entity> {
-        Some(Entity::Global)
     }
 }
 
@@ -144,21 +117,27 @@ impl<W: Measurement<Width> + Drop, P: Peaker + Drop, R: RecordsMut> TableOption<
     ColoredConfig,
     CompleteDimension,
 > for Wrap<W, P> {
-    ghost changes = { λ s r c d r' c' d'. Narrows P.shrinks s.priority (wrapping s.transform.keep_words)
-        (W.measures s.width (R.cells r) c.config) (R.cells r) c.config d (R.cells r') d' × (c' ≡ c) };
+    ghost changes = { λ s r c d r' c' d'.
+        Narrows P.shrinks s.priority (wrapping s.transform.keep_words)
+        (W.measures s.size (R.cells r) c.config) (R.cells r) c.config d (R.cells r') d'
+        × (c' ≡ c) };
 
     // Only a table with cells fails. Its sizes are then unchanged, or the missing ones filled in.
     ghost refuses = { λ s e r c d r' c' d'. (is_empty (R.cells r) ≡ false)
-        × StopsNarrowing P.shrinks s.priority Every never_in_place (wrapping s.transform.keep_words)
-        (W.measures s.width (R.cells r) c.config) e (R.cells r) c.config d (R.cells r') d'
+        × StopsNarrowing P.shrinks s.priority
+        Every never_in_place (wrapping s.transform.keep_words)
+        (W.measures s.size (R.cells r) c.config) e (R.cells r) c.config d (R.cells r') d'
         × (c' ≡ c) };
 
-    ghost out_of_range = { λ s r c d. NarrowingOutOfRange (W.out_of_range s.width (R.cells r) c.config)
-        (W.measures s.width (R.cells r) c.config) (R.cells r) c.config d };
+    ghost out_of_range = { λ s r c d.
+        NarrowingOutOfRange (W.out_of_range s.size (R.cells r) c.config)
+        (W.measures s.size (R.cells r) c.config) (R.cells r) c.config d };
 
     // About the sizes that are left after those of the hint are cleared.
-    ghost promises = { λ s r c d r' c' d'. (left : CompleteDimension) → AreCleared (Some (Row 0)) d' left
-        → WrapsAsPromised P.shrinks s.priority s.transform.keep_words (W.measures s.width (R.cells r) c.config)
+    ghost promises = { λ s r c d r' c' d'.
+        (left : CompleteDimension) → AreCleared (Some (Row 0)) d' left
+        → WrapsAsPromised P.shrinks s.priority s.transform.keep_words
+        (W.measures s.size (R.cells r) c.config)
         (effective (R.cells r) c.config d) (effective (R.cells r') c'.config left) };
 
     ghost hint = { λ s. Some (Row 0) };
@@ -169,21 +148,7 @@ impl<W: Measurement<Width> + Drop, P: Peaker + Drop, R: RecordsMut> TableOption<
         cfg: &mut ColoredConfig,
         dims: &mut CompleteDimension,
     ) -> Result<(), TableError> {
-        if is_empty(records) {
-            return Ok(());
-        }
-        let transform = self.transform;
-        let config = cfg.as_ref();
-        let n = self.width.measure(records, config)?;
-        narrow_table(
-            &transform,
-            CellFilter::Every,
-            self.priority,
-            records,
-            config,
-            dims,
-            n,
-        )
+        narrow_table(self, CellFilter::Every, records, cfg.as_ref(), dims)
     }
 
     fn hint_change(&self) -> Option<Entity> {

@@ -1,6 +1,5 @@
 use Rattle.tabled_set.proofs.Bare.{IsCut-truncated, longest_lines, longest_truncated}
-use Rattle.tabled_set.proofs.Staying.{StaysWithin-truncated}
-use Rattle.tabled_set.proofs.TruncatedTexts.{fits-truncated}
+use Rattle.tabled_set.proofs.TruncatedTexts.{StaysWithin-truncated, fits-truncated}
 use Rattle.tabled_set.proofs.laws.truncated_texts.Goals as goal
 
 pub returns : goal.returns

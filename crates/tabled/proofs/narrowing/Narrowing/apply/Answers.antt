@@ -44,13 +44,13 @@ returns-in_ok-change-in-Wrap-clause-made g c =
     let config = c.args.config.now.config in
     let same : c.change.new.cfg.config ≡ config = ap (λ (d : ColoredConfig). d.config) c.in_ok-change-in-Wrap.ensures.ok.1 in
     let cleared : AreCleared (Some (Row 0)) left last = record { widths = c.clear_height.ensures.widths; heights = c.clear_height.ensures.heights } in
-    let promise = subst (λ d. WrapsAsPromised Shrinks w.priority w.transform.keep_words w.width (effective cells config none) (effective after d last)) same
+    let promise = subst (λ d. WrapsAsPromised Shrinks w.priority w.transform.keep_words w.size (effective cells config none) (effective after d last)) same
     (c.in_ok-change-in-Wrap.ensures.promised last cleared) in
-    let made = wrapped w.priority c.wrap.ensures.start w.width cells after config none left last c.new-sizes.ensures.widths c.new-sizes.ensures.heights
+    let made = wrapped w.priority c.wrap.ensures.start w.size cells after config none left last c.new-sizes.ensures.widths c.new-sizes.ensures.heights
     c.requires.rectangular c.requires.texts w.transform.keep_words c.in_ok-change-in-Wrap.ensures.ok.0 cleared promise in
     let plan = c.wrap.ensures.plan ∙ sym (ap (λ (f : Fit). plan_of (record c.args.self { fit = f })) c.in-Wrap.is) in
     subst (λ (p : Plan). IsMade p (estimated cells config) (effective after c.change.new.cfg.config last)) plan
-    (subst (λ (d : SpannedConfig). IsMade (Wrapped w.width w.transform.keep_words w.priority.order) (estimated cells config) (effective after d last)) (sym same) made)
+    (subst (λ (d : SpannedConfig). IsMade (Wrapped w.size w.transform.keep_words w.priority.order) (estimated cells config) (effective after d last)) (sym same) made)
 
 pub returns-in_ok-change-in-Truncate-clause-made : goal.returns-in_ok-change-in-Truncate-clause-made
 returns-in_ok-change-in-Truncate-clause-made g c =
@@ -63,21 +63,21 @@ returns-in_ok-change-in-Truncate-clause-made g c =
     let config = c.args.config.now.config in
     let same : c.change-in-Truncate.new.cfg.config ≡ config = ap (λ (d : ColoredConfig). d.config) c.in_ok-change-in-Truncate.ensures.ok.1 in
     let cleared : AreCleared None last last = record { widths = refl; heights = refl } in
-    let narrows : Narrows Shrinks w.priority (if_wider (truncating [] Cut false)) w.width cells config none after last =
-    subst (λ m. Narrows Shrinks w.priority (if_wider (truncating [] Cut m)) w.width cells config none after last) is.multiline
-    (subst (λ l. Narrows Shrinks w.priority (if_wider (truncating [] l w.transform.multiline)) w.width cells config none after last) is.limit
-    (subst (λ x. Narrows Shrinks w.priority (if_wider (truncating x w.transform.limit w.transform.multiline)) w.width cells config none after last) is.suffix
+    let narrows : Narrows Shrinks w.priority (if_wider (truncating [] Cut false)) w.size cells config none after last =
+    subst (λ m. Narrows Shrinks w.priority (if_wider (truncating [] Cut m)) w.size cells config none after last) is.multiline
+    (subst (λ l. Narrows Shrinks w.priority (if_wider (truncating [] l w.transform.multiline)) w.size cells config none after last) is.limit
+    (subst (λ x. Narrows Shrinks w.priority (if_wider (truncating x w.transform.limit w.transform.multiline)) w.size cells config none after last) is.suffix
     c.in_ok-change-in-Truncate.ensures.ok.0)) in
     let old = effective cells config none in
     let t = effective after config last in
-    let promise : TruncatesAsPromised Shrinks w.priority [] Cut false w.width old t =
-    subst (λ m. TruncatesAsPromised Shrinks w.priority [] Cut m w.width old t) is.multiline
-    (subst (λ l. TruncatesAsPromised Shrinks w.priority [] l w.transform.multiline w.width old t) is.limit
-    (subst (λ x. TruncatesAsPromised Shrinks w.priority x w.transform.limit w.transform.multiline w.width old t) is.suffix
-    (subst (λ d. TruncatesAsPromised Shrinks w.priority w.transform.suffix.now w.transform.limit w.transform.multiline w.width old (effective after d last)) same
+    let promise : TruncatesAsPromised Shrinks w.priority [] Cut false w.size old t =
+    subst (λ m. TruncatesAsPromised Shrinks w.priority [] Cut m w.size old t) is.multiline
+    (subst (λ l. TruncatesAsPromised Shrinks w.priority [] l w.transform.multiline w.size old t) is.limit
+    (subst (λ x. TruncatesAsPromised Shrinks w.priority x w.transform.limit w.transform.multiline w.size old t) is.suffix
+    (subst (λ d. TruncatesAsPromised Shrinks w.priority w.transform.suffix.now w.transform.limit w.transform.multiline w.size old (effective after d last)) same
     (c.in_ok-change-in-Truncate.ensures.promised last cleared)))) in
-    let made = truncated w.priority is.start w.width cells after config none last last c.new-sizes.ensures.widths c.new-sizes.ensures.heights
+    let made = truncated w.priority is.start w.size cells after config none last last c.new-sizes.ensures.widths c.new-sizes.ensures.heights
     c.requires.rectangular c.requires.texts narrows cleared promise in
     let plan = is.plan ∙ sym (ap (λ (f : Fit). plan_of (record c.args.self { fit = f })) c.in-Truncate.is) in
     subst (λ (p : Plan). IsMade p (estimated cells config) (effective after c.change-in-Truncate.new.cfg.config last)) plan
-    (subst (λ (d : SpannedConfig). IsMade (Shortened w.width w.priority.order) (estimated cells config) (effective after d last)) (sym same) made)
+    (subst (λ (d : SpannedConfig). IsMade (Shortened w.size w.priority.order) (estimated cells config) (effective after d last)) (sym same) made)

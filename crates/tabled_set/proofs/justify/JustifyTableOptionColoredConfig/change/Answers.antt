@@ -2,7 +2,7 @@ use Rattle.std.proofs.Common.{◌≡◌, refl}
 use Rattle.tabled_base.specs.declared.position.Entity.TheVariants.{Global}
 use Rattle.tabled_set.specs.CellChanges.{StopsEntity, never_in_place}
 use Rattle.tabled_set.specs.Justified.{IsJustified}
-use Rattle.tabled_set.specs.declared.cell_filter.CellFilter.TheVariants.{NotAsWide}
+use Rattle.tabled_set.specs.declared.changing.CellFilter.TheVariants.{NotAsWide}
 use Rattle.tabled_set.proofs.Stopping.{stops-with}
 use Rattle.tabled_set.proofs.justify.JustifyTableOptionColoredConfig.change.Goals as goal
 

@@ -1,12 +1,13 @@
-use Rattle.std.proofs.Common.{◌≡◌, ℕ, IfErr, false, inl, refl, rules, subst}
-use Rattle.std.proofs.lemmas.Result.{err_from_is_err_and, on_ok_weaker}
+use Rattle.std.proofs.Common.{◌≡◌, IfErr, false, refl, rules, subst}
+use Rattle.std.proofs.lemmas.Result.{on_ok_weaker}
+use Rattle.tabled_base.specs.declared.error.TableError.{TableError}
 use Rattle.tabled_config.specs.declared.spanned.SpannedConfig.{SpannedConfig}
 use Rattle.tabled_set.specs.CellChanges.{never_in_place, wrapping}
-use Rattle.tabled_set.specs.declared.cell_filter.CellFilter.TheVariants.{Every}
-use Rattle.tabled_size.specs.Sheet.{is_empty}
 use Rattle.tabled_set.specs.Narrowed.{Narrows, StopsNarrowing}
+use Rattle.tabled_set.specs.declared.changing.CellFilter.TheVariants.{Every}
+use Rattle.tabled_size.specs.Sheet.{is_empty}
 use Rattle.tabled_set.proofs.Promises.{wraps}
-use Rattle.tabled_set.proofs.Stopping.{if-refused, stops-filled, stops-measuring}
+use Rattle.tabled_set.proofs.Stopping.{stops-filled}
 use Rattle.tabled_set.proofs.wrap.WrapTableOptionColoredConfigCompleteDimension.change.Goals as goal
 
 pub returns-clause-promised : goal.returns-clause-promised
@@ -14,31 +15,20 @@ returns-clause-promised g c =
     let s = c.args.self in
     let cells = g.R.ExactRecords.cells c.args.records.now in
     let config = c.args.cfg.now.config in
-    let n = g.W.Measurement.measures s.width cells config in
+    let n = g.W.Measurement.measures s.size cells config in
     let new = g.R.ExactRecords.cells c.narrow_table.new.records in
     let stored = c.narrow_table.new.sizes in
     on_ok_weaker {P = Narrows g.P.Peaker.shrinks s.priority (wrapping s.transform.keep_words) n cells config c.args.dims.now new stored} c.narrow_table.result
-    (λ h left. wraps g.P.Peaker.shrinks s.priority n cells config c.args.dims.now new stored left c.is_empty.ensures.rectangular s.transform.keep_words h)
+    (λ h left. wraps g.P.Peaker.shrinks s.priority n cells config c.args.dims.now new stored left c.narrow_table.ensures.rectangular s.transform.keep_words h)
     (search rules)
 
 pub returns-clause-err : goal.returns-clause-err
 returns-clause-err g c =
     let s = c.args.self in
-    let change = wrapping s.transform.keep_words in
     let cells = g.R.ExactRecords.cells c.args.records.now in
-    let sizes = c.args.dims.now in
-    let new = g.R.ExactRecords.cells c.narrow_table.new.records in
-    let stored = c.narrow_table.new.sizes in
-    let error = c.narrow_table.result in
-    let same = c.args.cfg.now ≡ c.args.cfg.now in
+    let stops = λ (config : SpannedConfig) (e : TableError). StopsNarrowing g.P.Peaker.shrinks s.priority Every never_in_place (wrapping s.transform.keep_words)
+    (g.W.Measurement.measures s.size cells config) e cells config c.args.dims.now (g.R.ExactRecords.cells c.narrow_table.new.records) c.narrow_table.new.sizes in
     let filled = is_empty cells ≡ false in
-    let some : is_empty cells ≡ false = search rules in
-    subst (λ (config : SpannedConfig). IfErr error (λ e. filled × StopsNarrowing g.P.Peaker.shrinks s.priority Every never_in_place change (g.W.Measurement.measures s.width cells config) e cells config sizes new stored × same)) c.as_ref-config.ensures
-    (subst (λ (k : ℕ). IfErr error (λ e. filled × StopsNarrowing g.P.Peaker.shrinks s.priority Every never_in_place change k e cells c.as_ref-config.result.now sizes new stored × same)) c.in_ok-n.ensures.ok
-    (stops-filled filled (λ e. StopsNarrowing g.P.Peaker.shrinks s.priority Every never_in_place change c.in_ok-n.n e cells c.as_ref-config.result.now sizes new stored) same error (if-refused filled error some) c.narrow_table.ensures.err refl))
-
-pub returns-in_err-n-clause-err : goal.returns-in_err-n-clause-err
-returns-in_err-n-clause-err g c =
-    let p = err_from_is_err_and c.from_residual.result c.from_residual.ensures.1 in
-    let some : is_empty (g.R.ExactRecords.cells c.args.records.now) ≡ false = search rules in
-    rw p.1 (some, inl (refl, stops-measuring p.0 _ c.args.dims.now p.2 c.in_err-n.ensures.err.0), refl)
+    let same = c.args.cfg.now ≡ c.args.cfg.now in
+    subst (λ (config : SpannedConfig). IfErr c.narrow_table.result (λ e. filled × stops config e × same)) c.as_ref.ensures
+    (stops-filled filled (stops c.as_ref.result.now) same c.narrow_table.result c.narrow_table.ensures.err refl)

@@ -1,0 +1,10 @@
+use Rattle.std.proofs.Common.{◌≡◌, ◌++◌, map, string_bytes}
+use Rattle.tabled_text.specs.Lines.{lines_left}
+use Rattle.tabled_set.specs.TextLines.{filled, filled_line}
+use Rattle.tabled_set.proofs.JoinedLines.{appended}
+use Rattle.tabled_set.proofs.min_width.FillingTextTransform.changed_text.Given as goal
+
+-- with the lines that are left, filled up, the answer is whole
+abbrev pub invariant-loop-line : goal.invariant-loop-line
+invariant-loop-line l =
+    string_bytes l.answer ++ appended l.begun (map (filled_line l.self.fill l.content_size) (lines_left l.line-iterator)) ≡ filled l.self.fill l.content_size l.text
