@@ -65,9 +65,7 @@ impl<A: Tabled, B: Tabled, C: Tabled> Tabled for (A, B, C) {
     ghost names = { A.names ++ (B.names ++ C.names) };
 
     fn length() -> usize {
-        A::length()
-            .saturating_add(B::length())
-            .saturating_add(C::length())
+        <(A, (B, C)) as Tabled>::length()
     }
 
     fn fields(&self, alloc: Global) -> Result<Vec<CowStr<'_>>, TableError> {
@@ -76,8 +74,7 @@ impl<A: Tabled, B: Tabled, C: Tabled> Tabled for (A, B, C) {
     }
 
     fn headers(alloc: Global) -> Result<Vec<CowStr<'static>>, TableError> {
-        let rest = joined(B::headers(alloc)?, C::headers(alloc)?)?;
-        joined(A::headers(alloc)?, rest)
+        <(A, (B, C)) as Tabled>::headers(alloc)
     }
 
     fn push_cells(&self, row: &mut Vec<Text<String>>) -> Result<(), TableError> {
@@ -95,10 +92,7 @@ impl<A: Tabled, B: Tabled, C: Tabled, D: Tabled> Tabled for (A, B, C, D) {
     ghost names = { A.names ++ (B.names ++ (C.names ++ D.names)) };
 
     fn length() -> usize {
-        A::length()
-            .saturating_add(B::length())
-            .saturating_add(C::length())
-            .saturating_add(D::length())
+        <(A, (B, (C, D))) as Tabled>::length()
     }
 
     fn fields(&self, alloc: Global) -> Result<Vec<CowStr<'_>>, TableError> {
@@ -108,9 +102,7 @@ impl<A: Tabled, B: Tabled, C: Tabled, D: Tabled> Tabled for (A, B, C, D) {
     }
 
     fn headers(alloc: Global) -> Result<Vec<CowStr<'static>>, TableError> {
-        let rest = joined(C::headers(alloc)?, D::headers(alloc)?)?;
-        let rest = joined(B::headers(alloc)?, rest)?;
-        joined(A::headers(alloc)?, rest)
+        <(A, (B, (C, D))) as Tabled>::headers(alloc)
     }
 
     fn push_cells(&self, row: &mut Vec<Text<String>>) -> Result<(), TableError> {
@@ -129,11 +121,7 @@ impl<A: Tabled, B: Tabled, C: Tabled, D: Tabled, E: Tabled> Tabled for (A, B, C,
     ghost names = { A.names ++ (B.names ++ (C.names ++ (D.names ++ E.names))) };
 
     fn length() -> usize {
-        A::length()
-            .saturating_add(B::length())
-            .saturating_add(C::length())
-            .saturating_add(D::length())
-            .saturating_add(E::length())
+        <(A, (B, (C, (D, E)))) as Tabled>::length()
     }
 
     fn fields(&self, alloc: Global) -> Result<Vec<CowStr<'_>>, TableError> {
@@ -144,10 +132,7 @@ impl<A: Tabled, B: Tabled, C: Tabled, D: Tabled, E: Tabled> Tabled for (A, B, C,
     }
 
     fn headers(alloc: Global) -> Result<Vec<CowStr<'static>>, TableError> {
-        let rest = joined(D::headers(alloc)?, E::headers(alloc)?)?;
-        let rest = joined(C::headers(alloc)?, rest)?;
-        let rest = joined(B::headers(alloc)?, rest)?;
-        joined(A::headers(alloc)?, rest)
+        <(A, (B, (C, (D, E)))) as Tabled>::headers(alloc)
     }
 
     fn push_cells(&self, row: &mut Vec<Text<String>>) -> Result<(), TableError> {
@@ -169,12 +154,7 @@ impl<A: Tabled, B: Tabled, C: Tabled, D: Tabled, E: Tabled, F: Tabled> Tabled
     ghost names = { A.names ++ (B.names ++ (C.names ++ (D.names ++ (E.names ++ F.names)))) };
 
     fn length() -> usize {
-        A::length()
-            .saturating_add(B::length())
-            .saturating_add(C::length())
-            .saturating_add(D::length())
-            .saturating_add(E::length())
-            .saturating_add(F::length())
+        <(A, (B, (C, (D, (E, F))))) as Tabled>::length()
     }
 
     fn fields(&self, alloc: Global) -> Result<Vec<CowStr<'_>>, TableError> {
@@ -186,11 +166,7 @@ impl<A: Tabled, B: Tabled, C: Tabled, D: Tabled, E: Tabled, F: Tabled> Tabled
     }
 
     fn headers(alloc: Global) -> Result<Vec<CowStr<'static>>, TableError> {
-        let rest = joined(E::headers(alloc)?, F::headers(alloc)?)?;
-        let rest = joined(D::headers(alloc)?, rest)?;
-        let rest = joined(C::headers(alloc)?, rest)?;
-        let rest = joined(B::headers(alloc)?, rest)?;
-        joined(A::headers(alloc)?, rest)
+        <(A, (B, (C, (D, (E, F))))) as Tabled>::headers(alloc)
     }
 
     fn push_cells(&self, row: &mut Vec<Text<String>>) -> Result<(), TableError> {
