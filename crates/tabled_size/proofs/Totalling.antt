@@ -1,17 +1,16 @@
 -- The totals of the sizes that stand.
-use Rattle.std.proofs.Common.{◌≡◌, ℕ, ◌⊎◌, ⊎_elim, List, length, Option, Some, None, Result, Ok, Err, is_some, sym, ap, subst, ◌∙◌, arith}
+use Rattle.std.proofs.Common.{◌≡◌, ℕ, ◌≤◌, ◌^◌, ◌⊎◌, ⊎_elim, List, length, Option, Some, None, Result, Ok, Err, is_some, sym, ap, subst, ◌∙◌, arith}
 use Rattle.std.specs.Result.{IsErrAnd}
 use Rattle.std.proofs.lemmas.List.FromFn.{length-map-range_with_len}
 use Rattle.tabled_base.specs.Cells.{columns}
 use Rattle.tabled_base.specs.declared.error.TableError.{TableError}
 use Rattle.tabled_base.specs.declared.error.TableError.TheVariants.{Memory, Range}
 use Rattle.tabled_config.specs.declared.spanned.SpannedConfig.{SpannedConfig}
-use Rattle.tabled_size.specs.Estimates.{IsTooHigh, IsTooWide, column_width, estimated_heights, estimated_widths, row_height}
+use Rattle.tabled_size.specs.Estimates.{column_width, estimated_heights, estimated_widths, row_height}
 use Rattle.tabled_size.specs.Reached.{reached}
 use Rattle.tabled_size.specs.Entries.{stored_at}
 use Rattle.tabled_size.specs.Effective.{effective_sizes}
-use Rattle.tabled_size.specs.EffectiveTotals.{AnswersHeight, AnswersWidth}
-use Rattle.tabled_size.proofs.Passing.{too_high_passes, too_wide_passes}
+use Rattle.tabled_size.specs.EffectiveTotals.{AnswersTotal}
 use Rattle.tabled_size.proofs.Reaching.{reached_filled, reached_effective}
 
 -- one size a column, and one a row
@@ -35,32 +34,19 @@ pub reached_stands : (stored : Option (List ℕ)) (sizes estimates : List ℕ) (
 reached_stands stored sizes estimates count n s e =
     ap (reached (stored_at stored)) e ∙ reached_effective stored estimates count (ap is_some s)
 
--- the answer by one list is that by an equal one
-pub width_moved : (config : SpannedConfig) (m n : ℕ) (old new : List ℕ) (r : Result ℕ TableError) → m ≡ n → old ≡ new
-    → AnswersWidth config m old r → AnswersWidth config n new r
-width_moved config m n old new r e f h = subst (λ k. AnswersWidth config k new r) e (subst (λ sizes. AnswersWidth config m sizes r) f h)
+module _ (short : TableError) (total : ℕ → List ℕ → ℕ) where
+  -- the answer by one list is that by an equal one
+  pub total_moved : (m n : ℕ) (old new : List ℕ) (r : Result ℕ TableError) → m ≡ n → old ≡ new
+      → AnswersTotal short total m old r → AnswersTotal short total n new r
+  total_moved m n old new r e f h =
+      subst (λ k. AnswersTotal short total k new r) e (subst (λ sizes. AnswersTotal short total m sizes r) f h)
 
-pub height_moved : (config : SpannedConfig) (m n : ℕ) (old new : List ℕ) (r : Result ℕ TableError) → m ≡ n → old ≡ new
-    → AnswersHeight config m old r → AnswersHeight config n new r
-height_moved config m n old new r e f h = subst (λ k. AnswersHeight config k new r) e (subst (λ sizes. AnswersHeight config m sizes r) f h)
-
--- widths that can't be estimated
-pub width_refused : (cells : List (List (List ℕ))) (config : SpannedConfig) (r : Result ℕ TableError) (e : TableError)
-    → (e ≡ Memory) ⊎ ((e ≡ Range) × IsTooWide cells config) → IsErrAnd r (λ d. d ≡ e)
-    → AnswersWidth config (columns cells) (estimated_widths cells config) r
-width_refused cells config (Ok n) e cause h = absurd h
-width_refused cells config (Err d) e cause h =
-    let P : TableError → Type 0 = λ k. AnswersWidth config (columns cells) (estimated_widths cells config) (Err k) in
-    subst P (sym h)
-    (⊎_elim (λ m. subst P (sym m) tt)
-    (λ x. subst P (sym x.0) (omega (arith, widths_length cells config), too_wide_passes cells config x.1)) cause)
-
-pub height_refused : (cells : List (List (List ℕ))) (config : SpannedConfig) (r : Result ℕ TableError)
-    (e : TableError) → (e ≡ Memory) ⊎ ((e ≡ Range) × IsTooHigh cells config) → IsErrAnd r (λ d. d ≡ e)
-    → AnswersHeight config (length cells) (estimated_heights cells config) r
-height_refused cells config (Ok n) e cause h = absurd h
-height_refused cells config (Err d) e cause h =
-    let P : TableError → Type 0 = λ k. AnswersHeight config (length cells) (estimated_heights cells config) (Err k) in
-    subst P (sym h)
-    (⊎_elim (λ m. subst P (sym m) tt)
-    (λ x. subst P (sym x.0) (omega (arith, heights_length cells config), too_high_passes cells config x.1)) cause)
+  -- sizes that can't be estimated
+  pub total_refused : (TooGreat : Type 0) (count : ℕ) (sizes : List ℕ) (r : Result ℕ TableError) (e : TableError)
+      → length sizes ≡ count → (TooGreat → 2 ^ 64 ≤ total count sizes) → (e ≡ Memory) ⊎ ((e ≡ Range) × TooGreat)
+      → IsErrAnd r (λ d. d ≡ e) → AnswersTotal short total count sizes r
+  total_refused TooGreat count sizes (Ok n) e long passes cause h = absurd h
+  total_refused TooGreat count sizes (Err d) e long passes cause h =
+      let P : TableError → Type 0 = λ k. AnswersTotal short total count sizes (Err k) in
+      subst P (sym h)
+      (⊎_elim (λ m. subst P (sym m) tt) (λ x. subst P (sym x.0) (omega (arith, long), passes x.1)) cause)

@@ -6,19 +6,16 @@ use Rattle.tabled_base.specs.declared.error.TableError.TheVariants.{Memory, Shor
 use Rattle.tabled_config.specs.declared.spanned.SpannedConfig.{SpannedConfig}
 use Rattle.tabled_size.specs.Totals.{filled_height, filled_width}
 
--- for a table with rows and columns: the total width, or an error. `Memory` is possible at any
--- time; `ShortWidths` if a width is missing; `Range` if the sum exceeds `usize::MAX`.
-abbrev pub AnswersWidth : SpannedConfig → ℕ → List ℕ → Result ℕ TableError → Type 0
-AnswersWidth config count widths (Ok n) = (count ≤ length widths) × (n ≡ filled_width config count widths)
-AnswersWidth config count widths (Err Memory) = ⊤
-AnswersWidth config count widths (Err ShortWidths) = length widths < count
-AnswersWidth config count widths (Err Range) = (count ≤ length widths) × (2 ^ 64 ≤ filled_width config count widths)
-AnswersWidth config count widths (Err _) = ⊥
+-- for a table with rows and columns: the total of its sizes, or an error. `Memory` is possible at any
+-- time; `short` if a size is missing; `Range` if the total exceeds `usize::MAX`.
+abbrev pub AnswersTotal : TableError → (ℕ → List ℕ → ℕ) → ℕ → List ℕ → Result ℕ TableError → Type 0
+AnswersTotal short total count sizes (Ok n) = (count ≤ length sizes) × (n ≡ total count sizes)
+AnswersTotal short total count sizes (Err Memory) = ⊤
+AnswersTotal short total count sizes (Err Range) = (count ≤ length sizes) × (2 ^ 64 ≤ total count sizes)
+AnswersTotal short total count sizes (Err e) = (e ≡ short) × (length sizes < count)
 
--- the total height, or an error, likewise
+abbrev pub AnswersWidth : SpannedConfig → ℕ → List ℕ → Result ℕ TableError → Type 0
+AnswersWidth config = AnswersTotal ShortWidths (filled_width config)
+
 abbrev pub AnswersHeight : SpannedConfig → ℕ → List ℕ → Result ℕ TableError → Type 0
-AnswersHeight config count heights (Ok n) = (count ≤ length heights) × (n ≡ filled_height config count heights)
-AnswersHeight config count heights (Err Memory) = ⊤
-AnswersHeight config count heights (Err ShortHeights) = length heights < count
-AnswersHeight config count heights (Err Range) = (count ≤ length heights) × (2 ^ 64 ≤ filled_height config count heights)
-AnswersHeight config count heights (Err _) = ⊥
+AnswersHeight config = AnswersTotal ShortHeights (filled_height config)

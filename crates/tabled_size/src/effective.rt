@@ -29,8 +29,9 @@ pub fn is_empty<R: ExactRecords>(records: &R) -> bool
 /// Returns how many of the first columns to check. Each other one has the width of one of these.
 fn count_asked<D: Dimension>(sizes: &D, columns: usize) -> usize
     ensures within { result ≤ columns }
-    ensures rest { (column : ℕ) → result ≤ column → column < columns
-        → (asked : ℕ) × (asked < result) × (D.width_at sizes.now column ≡ D.width_at sizes.now asked) }
+    ensures rest { let width = D.width_at sizes.now in
+        (column : ℕ) → result ≤ column → column < columns
+        → (asked : ℕ) × (asked < result) × (width column ≡ width asked) }
 {
     match sizes.alike_from() {
         Some(from) if from < columns => from + 1,
@@ -74,14 +75,12 @@ fn reached_width<D: Dimension>(
     columns: usize,
     sizes: &D,
 ) -> Result<usize, TableError>
-    ensures answers { AnswersWidth config.now columns (reached (D.width_at sizes.now) columns) result }
+    ensures answers { let widths = reached (D.width_at sizes.now) columns in
+        AnswersWidth config.now columns widths result }
     ensures only { IfErr result (λ e. (e ≡ ShortWidths) ⊎ (e ≡ Range)) }
 {
     check_widths(sizes, columns)?;
-    match filled_width(config, columns, sizes) {
-        Some(total) => Ok(total),
-        None => Err(TableError::Range),
-    }
+    filled_width(config, columns, sizes).ok_or(TableError::Range)
 }
 
 /// Returns the total height for given sizes. Errors: `ShortHeights`, `Range`.
@@ -90,14 +89,12 @@ fn reached_height<D: Dimension>(
     rows: usize,
     sizes: &D,
 ) -> Result<usize, TableError>
-    ensures answers { AnswersHeight config.now rows (reached (D.height_at sizes.now) rows) result }
+    ensures answers { let heights = reached (D.height_at sizes.now) rows in
+        AnswersHeight config.now rows heights result }
     ensures only { IfErr result (λ e. (e ≡ ShortHeights) ⊎ (e ≡ Range)) }
 {
     check_heights(sizes, rows)?;
-    match filled_height(config, rows, sizes) {
-        Some(total) => Ok(total),
-        None => Err(TableError::Range),
-    }
+    filled_height(config, rows, sizes).ok_or(TableError::Range)
 }
 
 /// Returns the total width for estimated widths.
@@ -144,7 +141,8 @@ pub fn total_width<R: PeekableRecords>(
 ) -> Result<usize, TableError>
     ensures empty { is_empty (R.cells records.now) ≡ true → result ≡ Ok 0 }
     ensures filled { is_empty (R.cells records.now) ≡ false → AnswersWidth config.now
-        (columns (R.cells records.now)) (effective (R.cells records.now) config.now stored.now).widths result }
+        (columns (R.cells records.now))
+        (effective (R.cells records.now) config.now stored.now).widths result }
     ensures memory { IfErr result (λ e. e ≡ Memory → widths_of stored.now ≡ None) }
     ensures rectangular { IsRectangular (R.cells records.now) }
 {
@@ -171,7 +169,8 @@ pub fn total_height<R: PeekableRecords>(
 ) -> Result<usize, TableError>
     ensures empty { is_empty (R.cells records.now) ≡ true → result ≡ Ok 0 }
     ensures filled { is_empty (R.cells records.now) ≡ false → AnswersHeight config.now
-        (length (R.cells records.now)) (effective (R.cells records.now) config.now stored.now).heights result }
+        (length (R.cells records.now))
+        (effective (R.cells records.now) config.now stored.now).heights result }
     ensures memory { IfErr result (λ e. e ≡ Memory → heights_of stored.now ≡ None) }
     ensures rectangular { IsRectangular (R.cells records.now) }
 {

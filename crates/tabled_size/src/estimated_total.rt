@@ -36,7 +36,8 @@ fn column_width<R: PeekableRecords>(
 fn sum_columns<R: PeekableRecords>(records: &R, config: &SpannedConfig) -> Option<usize>
     ensures { let widths = estimated_widths (R.cells records.now) config.now in
         let sum = sum_below (slice_index widths) (columns (R.cells records.now)) in
-        MatchOption result (IsTooWide (R.cells records.now) config.now ⊎ (2 ^ 64 ≤ sum)) (λ n. n ≡ sum) }
+        MatchOption result (IsTooWide (R.cells records.now) config.now ⊎ (2 ^ 64 ≤ sum))
+        (λ n. n ≡ sum) }
 {
     let mut total: usize = 0;
     'columns: for column in 0..records.count_columns() {
@@ -75,7 +76,8 @@ fn estimated_part<R: PeekableRecords>(
     requires { row < length (R.cells records.now) }
     ensures { let part = part_height config.now (length (R.cells records.now))
         (estimated_heights (R.cells records.now) config.now) row in
-        MatchOption result (IsTooHigh (R.cells records.now) config.now ⊎ (2 ^ 64 ≤ part)) (λ n. n ≡ part) }
+        MatchOption result (IsTooHigh (R.cells records.now) config.now ⊎ (2 ^ 64 ≤ part))
+        (λ n. n ≡ part) }
 {
     let line = one_if(config.rule_at(records.count_rows(), row).is_some());
     line.checked_add(row_height(records, config, row)?)
@@ -88,7 +90,8 @@ fn sum_parts<R: PeekableRecords>(records: &R, config: &SpannedConfig) -> Option<
     ensures { let part = part_height config.now (length (R.cells records.now))
         (estimated_heights (R.cells records.now) config.now) in
         let sum = sum_below part (length (R.cells records.now)) in
-        MatchOption result (IsTooHigh (R.cells records.now) config.now ⊎ (2 ^ 64 ≤ sum)) (λ n. n ≡ sum) }
+        MatchOption result (IsTooHigh (R.cells records.now) config.now ⊎ (2 ^ 64 ≤ sum))
+        (λ n. n ≡ sum) }
 {
     let mut total: usize = 0;
     'rows: for row in 0..records.count_rows() {

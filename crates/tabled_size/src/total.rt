@@ -69,7 +69,8 @@ pub fn filled_width<D: Dimension>(
     sizes: &D,
 ) -> Option<usize>
     requires { columns ≤ length (reached (D.width_at sizes.now) columns) }
-    ensures { let whole = filled_width config.now columns (reached (D.width_at sizes.now) columns) in
+    ensures { let widths = reached (D.width_at sizes.now) columns in
+        let whole = filled_width config.now columns widths in
         MatchOption result (2 ^ 64 ≤ whole) (λ n. n ≡ whole) }
 {
     framed_width(config, columns, sum_widths(sizes, columns)?)

@@ -2,14 +2,16 @@ use Rattle.std.proofs.Common.{◌∙◌, ℕ, List, Option, ap, length, option_m
 use Rattle.tabled_size.specs.Estimates.{estimated_heights}
 use Rattle.tabled_size.specs.Effective.{effective_sizes}
 use Rattle.tabled_size.specs.Stored.{heights_of}
-use Rattle.tabled_size.proofs.Totalling.{reached_stands, height_moved}
+use Rattle.tabled_base.specs.declared.error.TableError.TheVariants.{ShortHeights}
+use Rattle.tabled_size.specs.Totals.{filled_height}
+use Rattle.tabled_size.proofs.Totalling.{reached_stands, total_moved}
 use Rattle.tabled_size.proofs.effective.total_height.Goals as goal
 
 pub returns-in-Some-clause-filled : goal.returns-in-Some-clause-filled
 returns-in-Some-clause-filled g c =
     let cells = g.R.ExactRecords.cells c.args.records.now in
     let stored = sym c.get_heights.ensures ∙ ap (option_map (λ s. s.now)) c.in-Some.is in
-    λ h. height_moved c.args.config.now _ (length cells) _ _ _ c.count_rows.ensures
+    λ h. total_moved ShortHeights (filled_height c.args.config.now) _ (length cells) _ _ _ c.count_rows.ensures
     (reached_stands (heights_of c.args.stored.now) c.in-Some.field-0.now (estimated_heights cells c.args.config.now)
     (length cells) c.count_rows.result stored c.count_rows.ensures)
     c.reached_height.ensures.answers
@@ -19,4 +21,4 @@ returns-in-None-clause-filled g c =
     let cells = g.R.ExactRecords.cells c.args.records.now in
     let stands : Option (List ℕ) → List ℕ = λ o. effective_sizes o (estimated_heights cells c.args.config.now) (length cells) in
     let stored = ap (option_map (λ s. s.now)) (sym c.in-None.is) ∙ c.get_heights.ensures in
-    λ h. height_moved c.args.config.now (length cells) (length cells) _ _ _ refl (ap stands stored) c.estimated_height.ensures
+    λ h. total_moved ShortHeights (filled_height c.args.config.now) (length cells) (length cells) _ _ _ refl (ap stands stored) c.estimated_height.ensures
