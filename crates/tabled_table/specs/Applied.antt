@@ -32,16 +32,18 @@ pub record IsRefusedBy (refuses : Cells → ColoredConfig → CompleteDimension 
   pub refused : refuses old.records old.config old.dimension new.records new.config sizes
   pub cleared : AreNone new.dimension
 
+-- a change of cells and configuration at an entity, from old to new
+abbrev pub CellChange : Type 1
+CellChange = Cells → ColoredConfig → Entity → Cells → ColoredConfig → Type 0
+
 -- a cell option's changes to some entities, one after another
-abbrev pub ChangesEach : (Cells → ColoredConfig → Entity → Cells → ColoredConfig → Type 0) → List Entity → Cells
-    → ColoredConfig → Cells → ColoredConfig → Type 0
+abbrev pub ChangesEach : CellChange → List Entity → Cells → ColoredConfig → Cells → ColoredConfig → Type 0
 ChangesEach changes [] cells config cells' config' = (cells' ≡ cells) × (config' ≡ config)
 ChangesEach changes (entity ∷ entities) cells config cells' config' =
     (between : Cells) × (between_config : ColoredConfig) × changes cells config entity between between_config
     × ChangesEach changes entities between between_config cells' config'
 
 -- the changes to each entity in order; then the sizes that the hint names are cleared
-pub record IsModified (changes : Cells → ColoredConfig → Entity → Cells → ColoredConfig → Type 0)
-    (entities : List Entity) (hint : Option Entity) (old new : Table) : Type 0 where
+pub record IsModified (changes : CellChange) (entities : List Entity) (hint : Option Entity) (old new : Table) : Type 0 where
   pub changed : ChangesEach changes entities old.records old.config new.records new.config
   pub cleared : AreCleared hint old.dimension new.dimension

@@ -4,14 +4,14 @@ use Rattle.tabled_base.specs.declared.error.TableError.{TableError}
 use Rattle.tabled_base.specs.declared.error.TableError.TheVariants.{Memory, Range}
 use Rattle.tabled_base.specs.declared.position.Entity.{Entity}
 use Rattle.tabled_config.specs.declared.colored.ColoredConfig.{ColoredConfig}
-use Rattle.tabled_table.specs.Applied.{AreNone, Cells, ChangesEach}
+use Rattle.tabled_table.specs.Applied.{AreNone, CellChange, Cells, ChangesEach}
 use Rattle.tabled_table.specs.declared.table.Table.{Table}
 
 -- the option changes the first entities and fails at the next one; `Range` comes only if a sum or
 -- product exceeds the greatest `usize` there
-pub record IsStopped (changes : Cells → ColoredConfig → Entity → Cells → ColoredConfig → Type 0)
-    (refuses : TableError → Cells → ColoredConfig → Entity → Cells → ColoredConfig → Type 0) (out_of_range : Cells → ColoredConfig → Entity → Type 0)
-    (entities : List Entity) (error : TableError) (cells : Cells) (config : ColoredConfig) (cells' : Cells) (config' : ColoredConfig) : Type 0 where
+pub record IsStopped (changes : CellChange) (refuses : TableError → CellChange)
+    (out_of_range : Cells → ColoredConfig → Entity → Type 0) (entities : List Entity) (error : TableError)
+    (cells : Cells) (config : ColoredConfig) (cells' : Cells) (config' : ColoredConfig) : Type 0 where
   pub count : ℕ
   pub entity : Entity
   pub next : slice_get entities count ≡ Some entity
@@ -25,31 +25,21 @@ pub record IsStopped (changes : Cells → ColoredConfig → Entity → Cells →
 abbrev pub kept_config : List Entity → ColoredConfig → Option ColoredConfig
 kept_config entities config = if nat_lt 1 (length entities) then Some config else None
 
--- the option fails at an entity: those before it stay changed, and the configuration is the copy,
--- or what the option leaves if there is no copy
-abbrev pub StopsAtPart : (Cells → ColoredConfig → Entity → Cells → ColoredConfig → Type 0)
-    → (TableError → Cells → ColoredConfig → Entity → Cells → ColoredConfig → Type 0)
-    → (Cells → ColoredConfig → Entity → Type 0) → List Entity → Option ColoredConfig → TableError
-    → Cells → ColoredConfig → Cells → ColoredConfig → Type 0
-StopsAtPart changes refuses out_of_range entities kept error cells config cells' config' =
-    (last : ColoredConfig)
-    × IsStopped changes refuses out_of_range entities error cells config cells' last
-    × (config' ≡ unwrap_or kept last)
-
 -- what a failed modification of some entities leaves: either an allocation failed, for their list
 -- or the copy of the configuration, and then there is an entity and nothing changed; or the option
--- failed at one of them
-abbrev pub IsPutBack : (Cells → ColoredConfig → Entity → Cells → ColoredConfig → Type 0)
-    → (TableError → Cells → ColoredConfig → Entity → Cells → ColoredConfig → Type 0)
-    → (Cells → ColoredConfig → Entity → Type 0) → List Entity → TableError → Cells → ColoredConfig → Cells → ColoredConfig → Type 0
+-- failed at an entity: those before it stay changed, and the configuration is the copy, or what the
+-- option leaves if there is no copy
+abbrev pub IsPutBack : CellChange → (TableError → CellChange) → (Cells → ColoredConfig → Entity → Type 0)
+    → List Entity → TableError → Cells → ColoredConfig → Cells → ColoredConfig → Type 0
 IsPutBack changes refuses out_of_range entities error cells config cells' config' =
     ((error ≡ Memory) × ((0 < length entities) × ((cells' ≡ cells) × (config' ≡ config))))
-    ⊎ StopsAtPart changes refuses out_of_range entities (kept_config entities config) error
-    cells config cells' config'
+    ⊎ ((last : ColoredConfig)
+    × IsStopped changes refuses out_of_range entities error cells config cells' last
+    × (config' ≡ unwrap_or (kept_config entities config) last))
 
 -- what a failed modification leaves of a table, which then has no sizes stored
-pub record IsModifyingRefused (changes : Cells → ColoredConfig → Entity → Cells → ColoredConfig → Type 0)
-    (refuses : TableError → Cells → ColoredConfig → Entity → Cells → ColoredConfig → Type 0) (out_of_range : Cells → ColoredConfig → Entity → Type 0)
-    (entities : List Entity) (error : TableError) (old new : Table) : Type 0 where
+pub record IsModifyingRefused (changes : CellChange) (refuses : TableError → CellChange)
+    (out_of_range : Cells → ColoredConfig → Entity → Type 0) (entities : List Entity) (error : TableError)
+    (old new : Table) : Type 0 where
   pub parts : IsPutBack changes refuses out_of_range entities error old.records old.config new.records new.config
   pub cleared : AreNone new.dimension

@@ -5,7 +5,8 @@ ghost use Rattle.tabled_base.specs.Cells.{columns};
 ghost use Rattle.tabled_base.specs.declared.error.TableError.TheVariants.{Memory, Range};
 ghost use Rattle.tabled_table.specs.Applied.{ChangesEach, IsApplied, IsModified, IsRefusedBy};
 ghost use Rattle.tabled_table.specs.TableSheet.{cells_of};
-ghost use Rattle.tabled_table.specs.Stopped.{IsModifyingRefused, IsPutBack, IsStopped, StopsAtPart, kept_config};
+ghost use Rattle.tabled_table.specs.Stopped.{IsModifyingRefused, IsPutBack, IsStopped};
+ghost use Rattle.tabled_table.specs.Stopped.{kept_config};
 ghost use Rattle.tabled_table.specs.declared.table.Table.{Table};
 
 use crate::table::Table;
@@ -27,7 +28,8 @@ impl Table {
         option: O,
     ) -> Result<(), TableError>
         ensures ok { OnOk result (IsApplied (O.changes option) (O.hint option) self.old self.new) }
-        ensures promised { OnOk result (IsApplied (O.promises option) (O.hint option) self.old self.new) }
+        ensures promised { OnOk result
+            (IsApplied (O.promises option) (O.hint option) self.old self.new) }
         ensures err { IfErr result (λ e. IsRefusedBy (O.refuses option e) self.old self.new) }
         ensures only { IfErr result (λ e. (e ≡ Memory) ⊎ (e ≡ Range)) }
         ensures range { IfErr result (λ e. e ≡ Range
@@ -57,8 +59,10 @@ impl Table {
         ensures* rests { sem 𝓛 (RestsIfErr the_row self.entry (λ table. table.ghost_name) result
             (λ last. IfErr result (λ e. IsRefusedBy (O.refuses option e) self.old last))) }
         ensures same_reference { IfOk result (λ table. table.ghost_name ≡ self.entry.ghost_name) }
-        ensures ok { IfOk result (λ table. IsApplied (O.changes option) (O.hint option) self.old table.now) }
-        ensures promised { IfOk result (λ table. IsApplied (O.promises option) (O.hint option) self.old table.now) }
+        ensures ok { IfOk result
+            (λ table. IsApplied (O.changes option) (O.hint option) self.old table.now) }
+        ensures promised { IfOk result
+            (λ table. IsApplied (O.promises option) (O.hint option) self.old table.now) }
         ensures only { IfErr result (λ e. (e ≡ Memory) ⊎ (e ≡ Range)) }
         ensures range { IfErr result (λ e. e ≡ Range
             → O.out_of_range option self.old.records self.old.config self.old.dimension) }
@@ -185,35 +189,8 @@ fn find_parts<T: Object<VecRecords<Text<String>>>>(
     Ok(Parts { entities, before })
 }
 
-/// Applies an option to some parts in order. If it fails at one, the parts before it stay changed,
-/// and the configuration is restored if there is a copy. Each error is the option's at a part.
-fn change_parts<O: CellOption<VecRecords<Text<String>>, ColoredConfig>>(
-    records: &mut VecRecords<Text<String>>,
-    config: &mut ColoredConfig,
-    parts: Parts,
-    option: &O,
-) -> Result<(), TableError>
-    ensures ok { OnOk result (ChangesEach (O.changes option.now) parts.entities.items
-        records.old config.old records.new config.new) }
-    ensures err { IfErr result (λ e. StopsAtPart
-        (O.changes option.now) (O.refuses option.now) (O.out_of_range option.now)
-        parts.entities.items parts.before e records.old config.old records.new config.new) }
-    ensures only { IfErr result (λ e. (e ≡ Memory) ⊎ (e ≡ Range)) }
-{
-    let Parts { entities, before } = parts;
-    match change_each(records, config, entities.as_slice(), option) {
-        Ok(()) => Ok(()),
-        Err(e) => match before {
-            Some(before) => {
-                *config = before;
-                Err(e)
-            }
-            None => Err(e),
-        },
-    }
-}
-
-/// Applies an option to each part that a target names.
+/// Applies an option to each part that a target names, in order. If it fails at one, the parts
+/// before it stay changed, and the configuration is restored if there is a copy.
 fn change_target<
     T: Object<VecRecords<Text<String>>>,
     O: CellOption<VecRecords<Text<String>>, ColoredConfig>,
@@ -226,13 +203,23 @@ fn change_target<
     ensures ok { OnOk result (ChangesEach (O.changes option.now)
         (T.picks target.now (length records.old) (columns records.old))
         records.old config.old records.new config.new) }
-    ensures err { IfErr result (λ e. IsPutBack (O.changes option.now) (O.refuses option.now) (O.out_of_range option.now)
+    ensures err { IfErr result (λ e. IsPutBack
+        (O.changes option.now) (O.refuses option.now) (O.out_of_range option.now)
         (T.picks target.now (length records.old) (columns records.old))
         e records.old config.old records.new config.new) }
     ensures only { IfErr result (λ e. (e ≡ Memory) ⊎ (e ≡ Range)) }
 {
-    let parts = find_parts(records, config, target)?;
-    change_parts(records, config, parts, option)
+    let Parts { entities, before } = find_parts(records, config, target)?;
+    match change_each(records, config, entities.as_slice(), option) {
+        Ok(()) => Ok(()),
+        Err(e) => match before {
+            Some(before) => {
+                *config = before;
+                Err(e)
+            }
+            None => Err(e),
+        },
+    }
 }
 
 /// Applies an option to some parts in order, up to the first at which it fails.
@@ -244,7 +231,8 @@ fn change_each<O: CellOption<VecRecords<Text<String>>, ColoredConfig>>(
 ) -> Result<(), TableError>
     ensures ok { OnOk result (ChangesEach (O.changes option.now) entities.now
         records.old config.old records.new config.new) }
-    ensures err { IfErr result (λ e. IsStopped (O.changes option.now) (O.refuses option.now) (O.out_of_range option.now)
+    ensures err { IfErr result (λ e. IsStopped
+        (O.changes option.now) (O.refuses option.now) (O.out_of_range option.now)
         entities.now e records.old config.old records.new config.new) }
     ensures only { IfErr result (λ e. (e ≡ Memory) ⊎ (e ≡ Range)) }
 {

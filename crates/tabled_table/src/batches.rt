@@ -45,7 +45,8 @@ impl LayoutIterator {
     #[tactic(auto, using(crate::proofs::Progressions::done_left, crate::proofs::Progressions::empty_left))]
     fn is_done(&self) -> bool
         ensures done { IsTrue result → batches_left self.now ≡ [] }
-        ensures goes { IsFalse result → (0 < self.now.batch) × (self.now.from + self.now.offset < self.now.to)
+        ensures goes { IsFalse result → (0 < self.now.batch)
+            × (self.now.from + self.now.offset < self.now.to)
             × (self.now.to < 2 ^ 64) }
     {
         self.batch == 0 || self.to <= self.from.saturating_add(self.offset)

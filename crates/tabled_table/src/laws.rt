@@ -19,7 +19,8 @@ ghost use Rattle.tabled_size.specs.TextCells.{AreTexts};
 ghost use Rattle.tabled_table.specs.declared.iter_table.settings.StreamSettings.{StreamSettings};
 ghost use Rattle.tabled_table.specs.Stream.GoesOn.{GoesOn};
 ghost use Rattle.tabled_table.specs.Stream.LikeTable.{IsLikeTable};
-ghost use Rattle.tabled_table.specs.Stream.Streamed.{IsCutRow, IsStreamed, column_count, limited, sniffed};
+ghost use Rattle.tabled_table.specs.Stream.Streamed.{IsCutRow, IsStreamed, column_count, limited};
+ghost use Rattle.tabled_table.specs.Stream.Streamed.{sniffed};
 
 /// A new table has the sizes that its cells need, and these hold the cells. Its settings separate
 /// the cells, so each line is exactly the total width, whatever the cells contain. Its borders,
@@ -42,9 +43,12 @@ pub fn new_tables()
 /// - the numbers of columns and rows and the sizes aren't set.
 #[tactic(auto, using(tabled_text::proofs::ExactLines::plain_exact, crate::proofs::Stream::SameSheet::like_table))]
 pub fn streams_like_tables()
-    ensures sheet { (settings : StreamSettings) (config : CompactConfig) (rows : List (List (List ℕ))) (t : Sheet) → IsLikeTable settings rows
-        → IsStreamed settings config (sniffed settings rows) (limited settings.rows rows) t → t ≡ estimated rows (spanned_of_compact config) }
-    ensures plain { (text : List ℕ) → IsAdditive text → length (lines_of text) ≡ 1 → IsExactLine text }
+    ensures sheet { (settings : StreamSettings) (config : CompactConfig)
+        (rows : List (List (List ℕ))) (t : Sheet) → IsLikeTable settings rows
+        → IsStreamed settings config (sniffed settings rows) (limited settings.rows rows) t
+        → t ≡ estimated rows (spanned_of_compact config) }
+    ensures plain { (text : List ℕ) → IsAdditive text → length (lines_of text) ≡ 1
+        → IsExactLine text }
 {}
 
 /// Every text can be cut to any number of columns, and every row of texts to any content widths.
@@ -58,7 +62,8 @@ pub fn texts_can_be_cut()
 /// streamed table of all rows, and the lines above the later rows are a beginning of its text.
 /// There must be a row and a column, since a table without one has no text.
 pub fn streams_go_on()
-    ensures { (settings : StreamSettings) (config : CompactConfig) (ahead_rows shown rest : List (List (List ℕ))) (t : Sheet)
+    ensures { (settings : StreamSettings) (config : CompactConfig)
+        (ahead_rows shown rest : List (List (List ℕ))) (t : Sheet)
         → IsStreamed settings config ahead_rows shown t → AreTexts rest
         → 0 < column_count settings ahead_rows → 0 < length (shown ++ rest)
         → GoesOn settings config ahead_rows shown rest t }
@@ -68,10 +73,13 @@ pub fn streams_go_on()
 /// source's cells are, and the columns hold the cells. So each line of its picture is exactly the
 /// total width if the settings separate the cells, by `tabled_grid::laws::pictures`.
 pub fn streams_hold()
-    ensures rectangular { (settings : StreamSettings) (config : CompactConfig) (ahead_rows rows : List (List (List ℕ))) (t : Sheet)
+    ensures rectangular { (settings : StreamSettings) (config : CompactConfig)
+        (ahead_rows rows : List (List (List ℕ))) (t : Sheet)
         → IsStreamed settings config ahead_rows rows t → IsRectangular t.cells }
-    ensures texts { (settings : StreamSettings) (config : CompactConfig) (ahead_rows rows : List (List (List ℕ))) (t : Sheet)
+    ensures texts { (settings : StreamSettings) (config : CompactConfig)
+        (ahead_rows rows : List (List (List ℕ))) (t : Sheet)
         → IsStreamed settings config ahead_rows rows t → AreTexts t.cells }
-    ensures holds { (settings : StreamSettings) (config : CompactConfig) (ahead_rows rows : List (List (List ℕ))) (t : Sheet)
+    ensures holds { (settings : StreamSettings) (config : CompactConfig)
+        (ahead_rows rows : List (List (List ℕ))) (t : Sheet)
         → IsStreamed settings config ahead_rows rows t → Holds t }
 {}

@@ -11,19 +11,13 @@
 //! An `IterTable` is printed row by row while a source gives its rows. It stores only the rows that
 //! are read ahead to measure the columns. Each later row is read when it is printed. Each cell is
 //! cut to its column:
-//! - `iter_table`: the table, and the settings of a new one
-//! - `iter_table/settings`: how many rows are read ahead and shown, and the sizes that are set
-//! - `iter_table/applying`: options
-//! - `iter_table/collecting`: tables of rows that are collected first
-//! - `iter_table/printing`: printing to a sink, a writer or a string
-//! - `iter_table/whole`: an entire stream, from its source to its last line
-//! - `iter_table/take`: how many rows are read before the first byte, and how many are shown
+//! - `iter_table`: the table, its options, and printing it to a sink, a writer or a string
+//! - `iter_table/settings`: how many rows are read and shown, and the sizes that are set
+//! - `iter_table/printing`: an entire stream, from its source to its last line, and its layout
 //! - `iter_table/sniff`: measures of the rows that are read ahead
-//! - `iter_table/layout`, `iter_table/lay_out`: the layout of a stream, and how it is computed
-//! - `iter_table/total`: the total width of a stream
-//! - `iter_table/columns`: the columns that the lines of a stream are printed over
-//! - `iter_table/record`: a row, cut to its columns
-//! - `iter_table/stream`: a stream while it is printed
+//! - `iter_table/layout`: the columns of a stream, what is around its cells, and its total width
+//! - `iter_table/row`: the columns that lines are printed over, and a row that is cut to them
+//! - `iter_table/stream`: a stream while its lines are printed
 //!
 //! `laws`: facts about tables and streamed tables.
 #![tactic(auto)]

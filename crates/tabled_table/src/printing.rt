@@ -1,9 +1,11 @@
 //! Prints a table with a minimum width and an alignment, and implements `Display`.
-ghost use Rattle.std.specs.Prelude.{◌≡◌, ◌⊎◌, ◌||◌, ◌+◌, ◌<◌, ◌^◌, IfErr, IfOk, None, Some, false, is_some, length, max, nat_lt};
+ghost use Rattle.std.specs.Prelude.{◌≡◌, ◌⊎◌, ◌||◌, ◌+◌, ◌<◌, ◌^◌, IfErr, IfOk, None, Some, false};
+ghost use Rattle.std.specs.Prelude.{is_some, length, max, nat_lt};
 ghost use Rattle.tabled_text.specs.FramedLines.{IsSeparatorColumn};
 ghost use Rattle.tabled_text.specs.Plain.{IsAdditiveColumn};
 ghost use Rattle.tabled_base.specs.Cells.{columns};
-ghost use Rattle.tabled_base.specs.declared.error.TableError.TheVariants.{Memory, Range, ShortWidths};
+ghost use Rattle.tabled_base.specs.declared.error.TableError.TheVariants.{Memory, Range};
+ghost use Rattle.tabled_base.specs.declared.error.TableError.TheVariants.{ShortWidths};
 ghost use Rattle.tabled_size.specs.Holds.{Holds};
 ghost use Rattle.tabled_size.specs.PlainCells.{AreAdditive};
 ghost use Rattle.tabled_size.specs.Sheet.{is_empty};
@@ -16,7 +18,8 @@ ghost use Rattle.tabled_grid.specs.ApartSheet.{IsApartConfig};
 ghost use Rattle.tabled_grid.specs.Picture.{picture};
 ghost use Rattle.tabled_grid.specs.PlainSheet.{IsPlainConfig};
 ghost use Rattle.tabled_grid.specs.Printed.{Prints};
-ghost use Rattle.tabled_table.specs.PrintedWith.{asked, left_part, missing_columns, shown, shown_config, shown_fill, takes_memory, widened};
+ghost use Rattle.tabled_table.specs.PrintedWith.{asked, left_part, missing_columns, shown};
+ghost use Rattle.tabled_table.specs.PrintedWith.{shown_config, shown_fill, takes_memory, widened};
 ghost use Rattle.tabled_table.specs.TableSheet.{cells_of, sheet};
 
 use crate::table::Table;
@@ -76,7 +79,8 @@ fn shown_config(
     fill: char,
     missing: usize,
 ) -> Result<SpannedConfig, TableError>
-    requires { 0 < missing → config.now.margin.left.size + config.now.margin.right.size + missing < 2 ^ 64 }
+    requires { 0 < missing
+        → config.now.margin.left.size + config.now.margin.right.size + missing < 2 ^ 64 }
     ensures ok { IfOk result (λ shown. shown ≡ shown_config config.now align fill missing) }
     ensures only { IfErr result (λ e. e ≡ Memory) }
 {
@@ -100,7 +104,8 @@ impl Table {
         ensures room { IfOk result (λ n. 0 < n → self.now.config.config.margin.left.size
             + self.now.config.config.margin.right.size + n < 2 ^ 64) }
         ensures err { IfErr result (λ e. ((e ≡ Memory) × (widths_of self.now.dimension ≡ None))
-            ⊎ ((e ≡ ShortWidths) × (length (sheet self.now).widths < columns (cells_of self.now)))) }
+            ⊎ ((e ≡ ShortWidths)
+            × (length (sheet self.now).widths < columns (cells_of self.now)))) }
     {
         let Some(width) = width else {
             return Ok(0);
@@ -129,16 +134,24 @@ impl Table {
         align: Option<AlignmentHorizontal>,
         fill: char,
     ) -> Result<(), TableError>
-        ensures printed { Prints (takes_memory self.now width align) (shown self.now width align fill)
+        ensures printed { Prints (takes_memory self.now width align)
+            (shown self.now width align fill)
             (S.sent sink.old) result (S.sent sink.new) }
         ensures total { is_empty (cells_of self.now) ≡ false
-            → total_width (shown self.now width align fill) ≡ max (asked width) (total_width (sheet self.now)) }
-        ensures texts { IsApartConfig (sheet self.now).config (length (cells_of self.now)) (columns (cells_of self.now))
-            → AreTexts (cells_of self.now) → Holds (sheet self.now) → IsSeparatorColumn (shown_fill fill)
-            → EachLineTakes (total_width (shown self.now width align fill)) (picture (shown self.now width align fill)) }
-        ensures columns { IsPlainConfig (sheet self.now).config (length (cells_of self.now)) (columns (cells_of self.now))
-            → AreAdditive (cells_of self.now) → Holds (sheet self.now) → IsAdditiveColumn (shown_fill fill)
-            → EachLineTakes (total_width (shown self.now width align fill)) (picture (shown self.now width align fill)) }
+            → total_width (shown self.now width align fill)
+            ≡ max (asked width) (total_width (sheet self.now)) }
+        ensures texts { IsApartConfig (sheet self.now).config (length (cells_of self.now))
+            (columns (cells_of self.now))
+            → AreTexts (cells_of self.now) → Holds (sheet self.now)
+            → IsSeparatorColumn (shown_fill fill)
+            → EachLineTakes (total_width (shown self.now width align fill))
+            (picture (shown self.now width align fill)) }
+        ensures columns { IsPlainConfig (sheet self.now).config (length (cells_of self.now))
+            (columns (cells_of self.now))
+            → AreAdditive (cells_of self.now) → Holds (sheet self.now)
+            → IsAdditiveColumn (shown_fill fill)
+            → EachLineTakes (total_width (shown self.now width align fill))
+            (picture (shown self.now width align fill)) }
     {
         if is_empty(&self.records) {
             return Ok(());

@@ -1,5 +1,6 @@
 //! `Table`: cells with settings and sizes.
-ghost use Rattle.std.specs.Prelude.{◌≡◌, ◌↔◌, ◌⊎◌, ◌≤◌, ◌^◌, [], ℕ, List, IfErr, IfOk, IsTrue, None, Ok, OnOk, false, length, not, string_bytes, true};
+ghost use Rattle.std.specs.Prelude.{◌≡◌, ◌↔◌, ◌⊎◌, ◌≤◌, ◌^◌, [], ℕ, List, IfErr, IfOk, IsTrue};
+ghost use Rattle.std.specs.Prelude.{None, Ok, OnOk, false, length, not, string_bytes, true};
 ghost use Rattle.std.specs.Borrow.{Lends, sem};
 ghost use Rattle.tabled_base.specs.contracts.text.Text.{the_row as text_row};
 ghost use Rattle.tabled_base.specs.contracts.vec_records.VecRecords.{the_row as records_row};
@@ -110,8 +111,10 @@ impl Table {
     pub fn clone(&self) -> Result<Table, TableError>
         ensures records { IfOk result (λ table. table.records ≡ self.now.records) }
         ensures config { IfOk result (λ table. table.config ≡ self.now.config) }
-        ensures widths { IfOk result (λ table. widths_of table.dimension ≡ widths_of self.now.dimension) }
-        ensures heights { IfOk result (λ table. heights_of table.dimension ≡ heights_of self.now.dimension) }
+        ensures widths { IfOk result (λ table. widths_of table.dimension
+            ≡ widths_of self.now.dimension) }
+        ensures heights { IfOk result (λ table. heights_of table.dimension
+            ≡ heights_of self.now.dimension) }
         ensures only { IfErr result (λ e. e ≡ Memory) }
     {
         Ok(Table {
@@ -223,8 +226,8 @@ impl Table {
     /// separators of one column. Then each printed line is exactly `total_width` columns wide, even
     /// where cells touch, if the widths hold the cells, as estimated widths do.
     pub fn is_plain(&self) -> bool
-        ensures { IsTrue result ↔ (IsPlainConfig (sheet self.now).config (length (cells_of self.now))
-            (columns (cells_of self.now)) × ArePlain (cells_of self.now)) }
+        ensures { IsTrue result ↔ (IsPlainConfig (sheet self.now).config
+            (length (cells_of self.now)) (columns (cells_of self.now)) × ArePlain (cells_of self.now)) }
     {
         let config = self.config.as_ref();
         is_plain_config(config, self.count_rows(), self.count_columns())
@@ -242,10 +245,12 @@ impl Table {
         ensures filled { is_empty (cells_of self.now) ≡ false → AnswersWidth (sheet self.now).config
             (columns (cells_of self.now)) (sheet self.now).widths result }
         ensures memory { IfErr result (λ e. e ≡ Memory → widths_of self.now.dimension ≡ None) }
-        ensures texts { IsApartConfig (sheet self.now).config (length (cells_of self.now)) (columns (cells_of self.now))
+        ensures texts { IsApartConfig (sheet self.now).config (length (cells_of self.now))
+            (columns (cells_of self.now))
             → AreTexts (cells_of self.now) → Holds (sheet self.now)
             → EachLineTakes (total_width (sheet self.now)) (picture (sheet self.now)) }
-        ensures columns { IsPlainConfig (sheet self.now).config (length (cells_of self.now)) (columns (cells_of self.now))
+        ensures columns { IsPlainConfig (sheet self.now).config (length (cells_of self.now))
+            (columns (cells_of self.now))
             → AreAdditive (cells_of self.now) → Holds (sheet self.now)
             → EachLineTakes (total_width (sheet self.now)) (picture (sheet self.now)) }
     {
@@ -260,7 +265,8 @@ impl Table {
     #[tactic(auto, using(crate::proofs::Sheets::sheet_lines))]
     pub fn total_height(&self) -> Result<usize, TableError>
         ensures empty { is_empty (cells_of self.now) ≡ true → result ≡ Ok 0 }
-        ensures filled { is_empty (cells_of self.now) ≡ false → AnswersHeight (sheet self.now).config
+        ensures filled { is_empty (cells_of self.now) ≡ false
+            → AnswersHeight (sheet self.now).config
             (length (cells_of self.now)) (sheet self.now).heights result }
         ensures memory { IfErr result (λ e. e ≡ Memory → heights_of self.now.dimension ≡ None) }
         ensures lines { length (picture (sheet self.now)) ≡ total_height (sheet self.now) }
@@ -280,7 +286,8 @@ impl Table {
     /// If widths or heights aren't stored, printing allocates and can fail with `Memory` before the
     /// first byte. Every later error is the sink's, and then a beginning of the table was written.
     pub fn write_to<S: TextSink>(&self, sink: &mut S) -> Result<(), TableError>
-        ensures { Prints (not (is_stored self.now.dimension)) (sheet self.now) (S.sent sink.old) result (S.sent sink.new) }
+        ensures { Prints (not (is_stored self.now.dimension)) (sheet self.now)
+            (S.sent sink.old) result (S.sent sink.new) }
     {
         print_standing(sink, &self.records, self.config.as_ref(), &self.dimension)
     }

@@ -6,7 +6,7 @@ use Rattle.tabled_config.specs.declared.compact.CompactConfig.{CompactConfig}
 use Rattle.tabled_line.specs.Sent.{Sent}
 use Rattle.tabled_table.specs.declared.iter_table.layout.Layout.{Layout}
 use Rattle.tabled_table.specs.declared.iter_table.settings.StreamSettings.{StreamSettings}
-use Rattle.tabled_table.specs.Stream.Progress.{EndsSheet, FinishesMore, Halts, HaltsMore, HaltsWithin, HasPut, HasPutMore, IsLimited, IsPermitted}
+use Rattle.tabled_table.specs.Stream.Progress.{EndsSheet, FinishesBehind, Halts, HaltsMore, HaltsWithin, HasPut, HasPutMore, IsLimited, IsPermitted}
 use Rattle.tabled_table.specs.Stream.Streams.{stream_total}
 
 pub err-and : {R E : Type 0} (r : Result R E) (e : E) (Q : E → Type 0) → IsErrAnd r (λ d. d ≡ e) → Q e → IsErrAnd r Q
@@ -18,24 +18,25 @@ pub halts-top : {settings : StreamSettings} {config : CompactConfig} {ahead_rows
     → HaltsWithin settings config ahead_rows [] start count e new → Halts settings config ahead_rows [] start count e new
 halts-top h = record { shown = []; rest = []; parts = refl; halts = inr (refl, h) }
 
+-- further rows are printed
 module _ {R : Type 0} {layout : Layout} {first begun : Bool} {old new : Sent} (limit : Option ℕ) (lines total : ℕ) (whole : Bool)
-    (more : List (List (List ℕ))) (r : Result R TableError) where
+    (more : List (List (List ℕ))) (r : Result R TableError) (going : limit ≡ Some 0 → ⊥) where
   pub finishes-halting : (e : TableError) → IsErrAnd r (λ d. d ≡ e) → HaltsMore lines more layout first old begun e new
-      → FinishesMore limit lines total whole more layout first old begun r new
+      → FinishesBehind limit lines total whole more layout first old begun r new
   finishes-halting e i halts settings config ahead_rows shown start a l s w t p =
-      inr (err-and r e (λ d. Halts settings config ahead_rows (shown ++ more) start layout.count d new) i (halts settings config ahead_rows shown start a l p))
+      inr (err-and r e (λ d. Halts settings config ahead_rows (shown ++ more) start layout.count d new) i (halts settings config ahead_rows shown start (a going) l p))
 
   pub finishes-ending : {first' begun' : Bool} {mid : Sent} → IsLimited limit (length more) whole
       → HasPutMore lines more layout first old begun first' mid begun'
       → ((settings : StreamSettings) (config : CompactConfig) (ahead_rows shown : List (List (List ℕ))) (start : Sent) → 0 < length shown → 0 < layout.count
       → total ≡ stream_total settings config ahead_rows → HasPut settings config ahead_rows shown start layout first' mid begun'
       → EndsSheet settings config ahead_rows shown start r new)
-      → FinishesMore limit lines total whole more layout first old begun r new
+      → FinishesBehind limit lines total whole more layout first old begun r new
   finishes-ending lim so_far ends settings config ahead_rows shown start a l s w t p =
       inl (
         lim,
         ends settings config ahead_rows (shown ++ more) start (omega (arith, length-append shown more)) w t
-            (so_far settings config ahead_rows shown start a l p),
+            (so_far settings config ahead_rows shown start (a going) l p),
       )
 
 pub limited-permitted : (limit : Option ℕ) (count : ℕ) (whole : Bool) → IsLimited limit count whole → IsPermitted limit count

@@ -5,7 +5,7 @@ use Rattle.tabled_config.specs.declared.compact.CompactConfig.{CompactConfig}
 use Rattle.tabled_line.specs.Sent.{Sent}
 use Rattle.tabled_table.specs.declared.iter_table.layout.Layout.{Layout}
 use Rattle.tabled_table.specs.declared.iter_table.settings.StreamSettings.{StreamSettings}
-use Rattle.tabled_table.specs.Stream.Progress.{AreFurther, EndsSheet, FinishesBehind, FinishesMore, HasPut, IsLimited, IsPermitted, left_of}
+use Rattle.tabled_table.specs.Stream.Progress.{AreFurther, EndsSheet, FinishesBehind, HasPut, IsLimited, IsPermitted, left_of}
 use Rattle.tabled_records.specs.Reading.{Reads, ReadsTo}
 use Rattle.tabled_table.specs.Stream.Reading.{ReadsOn}
 use Rattle.tabled_table.specs.Stream.Streams.{stream_total}
@@ -61,8 +61,3 @@ module _ {R : Type 0} {layout : Layout} {first begun : Bool} {old new : Sent} {l
   behind-ending all h ends settings config ahead_rows shown start a l s w t p =
       let E : List (List (List ℕ)) → Type 0 = λ rows. EndsSheet settings config ahead_rows rows start r new in
       inl (none-limited left all h, subst E (sym (append-nil shown)) (ends settings config ahead_rows shown start s w t p))
-
-  -- further rows follow
-  pub behind-more : (whole : Bool) (more : List (List (List ℕ))) → (left ≡ Some 0 → ⊥) → FinishesMore left lines total whole more layout first old begun r new
-      → FinishesBehind left lines total whole more layout first old begun r new
-  behind-more whole more going f settings config ahead_rows shown start a l s w t p = f settings config ahead_rows shown start (a going) l s w t p

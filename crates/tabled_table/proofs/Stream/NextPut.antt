@@ -1,5 +1,6 @@
 -- The next row of a stream is printed, or refused.
 use Rattle.std.proofs.Common.{◌≡◌, ◌⊎◌, ℕ, ◌+◌, ◌<◌, ◌≤◌, ◌^◌, Bool, false, List, [], ◌∷◌, ◌++◌, length, Result, Ok, Err, OnOk, refl, sym, ◌∙◌, ap, subst, arith, append-nil, inl, inr, ⊎_elim}
+use Rattle.std.specs.Result.{IsErrAnd}
 use Rattle.tabled_base.specs.declared.error.TableError.{TableError}
 use Rattle.tabled_base.specs.declared.error.TableError.TheVariants.{Memory, Range}
 use Rattle.tabled_config.specs.declared.compact.CompactConfig.{CompactConfig}
@@ -70,3 +71,8 @@ next-high (Err d) layout first begun old lines row high e settings config ahead_
     let is : d ≡ Range = cc in
     let k = padded-is row lines p h in
     halts-before row d old p refl (inl (is, subst (λ n. 2 ^ 64 ≤ n) k high))
+
+pub next-refused : {R : Type 0} (r : Result R TableError) (e : TableError) (layout : Layout) (first begun : Bool) (old : Sent) (lines : ℕ) (row : List (List ℕ))
+    → IsErrAnd r (λ d. d ≡ e) → e ≡ Memory → PutsNext lines row layout first old begun r first old begun
+next-refused (Ok x) e layout first begun old lines row i m settings config ahead_rows shown start p h = absurd i
+next-refused (Err d) e layout first begun old lines row i m settings config ahead_rows shown start p h = halts-before row d old p refl (inr (i ∙ m))

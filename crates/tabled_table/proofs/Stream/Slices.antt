@@ -20,24 +20,34 @@ module _ {T : Type 0} (text : T → List ℕ) (rows : List (Vec T Global)) where
   fewer-texts n =
       first-texts (min n (length rows)) ∙ ap (λ m. take (min n m) (texts_of text rows)) (sym texts-long) ∙ take-min n (texts_of text rows)
 
-  -- those that are read ahead
-  pub sniffed-texts : (settings : StreamSettings) (n : ℕ) (slice : List (Vec T Global)) → n ≡ min (ahead settings) (length rows) → slice ≡ take n rows
-      → texts_of text slice ≡ sniffed settings (texts_of text rows)
-  sniffed-texts settings n slice e s = ap (texts_of text) (s ∙ ap (λ m. take m rows) e) ∙ fewer-texts (ahead settings)
+-- the first rows of a slice that is known to hold these
+module _ {T : Type 0} (text : T → List ℕ) {rows slice : List (Vec T Global)} (value : slice ≡ rows) where
+  ahead-of : (settings : StreamSettings) (n a : ℕ) → n ≡ min a (length slice) → a ≡ ahead settings → n ≡ min (ahead settings) (length rows)
+  ahead-of settings n a e f = e ∙ ap (λ m. min m (length slice)) f ∙ ap (λ s. min (ahead settings) (length s)) value
 
-  pub sniffed-long : (settings : StreamSettings) (n : ℕ) → n ≡ min (ahead settings) (length rows) → length (sniffed settings (texts_of text rows)) ≡ n
-  sniffed-long settings n e = omega (arith, length-take (ahead settings) (texts_of text rows), texts-long)
+  -- those that are read ahead
+  pub sniffed-texts : (settings : StreamSettings) (n a : ℕ) → n ≡ min a (length slice) → a ≡ ahead settings
+      → texts_of text (take n slice) ≡ sniffed settings (texts_of text rows)
+  sniffed-texts settings n a e f =
+      ap (texts_of text) (ap (take n) value ∙ ap (λ m. take m rows) (ahead-of settings n a e f)) ∙ fewer-texts text rows (ahead settings)
+
+  pub sniffed-long : (settings : StreamSettings) (n a : ℕ) → n ≡ min a (length slice) → a ≡ ahead settings
+      → length (sniffed settings (texts_of text rows)) ≡ n
+  sniffed-long settings n a e f =
+      let first = ahead-of settings n a e f in omega (arith, length-take (ahead settings) (texts_of text rows), texts-long text rows)
 
   -- those that are shown
-  pub shown-texts : (limit : Option ℕ) (n : ℕ) (slice : List (Vec T Global)) → MatchOption limit (n ≡ length rows) (λ m. n ≡ min m (length rows))
-      → slice ≡ take n rows → texts_of text slice ≡ limited limit (texts_of text rows)
-  shown-texts None n slice e s = ap (texts_of text) (s ∙ take_all n rows (omega arith))
-  shown-texts (Some m) n slice e s = ap (texts_of text) (s ∙ ap (λ k. take k rows) e) ∙ fewer-texts m
+  pub shown-texts : (limit : Option ℕ) (n : ℕ) → MatchOption limit (n ≡ length slice) (λ m. n ≡ min m (length slice))
+      → texts_of text (take n slice) ≡ limited limit (texts_of text rows)
+  shown-texts None n e = ap (texts_of text) (take_all n slice (omega (arith, e)) ∙ value)
+  shown-texts (Some m) n e =
+      ap (texts_of text) (ap (take n) value ∙ ap (λ k. take k rows) (e ∙ ap (λ s. min m (length s)) value)) ∙ fewer-texts text rows m
 
-  pub shown-long : (limit : Option ℕ) (n : ℕ) → MatchOption limit (n ≡ length rows) (λ m. n ≡ min m (length rows))
+  pub shown-long : (limit : Option ℕ) (n : ℕ) → MatchOption limit (n ≡ length slice) (λ m. n ≡ min m (length slice))
       → length (limited limit (texts_of text rows)) ≡ n
-  shown-long None n e = texts-long ∙ sym e
-  shown-long (Some m) n e = omega (arith, length-take m (texts_of text rows), texts-long)
+  shown-long None n e = texts-long text rows ∙ sym (e ∙ ap length value)
+  shown-long (Some m) n e =
+      let k = e ∙ ap (λ s. min m (length s)) value in omega (arith, length-take m (texts_of text rows), texts-long text rows)
 
 -- texts of rows that were given as lists, and of those that stand in vectors
 pub given-texts : {T : Type 0} (text : T → List ℕ) (rows : List (Vec T Global)) → map (map text) (map (λ row. row.items) rows) ≡ texts_of text rows

@@ -1,10 +1,15 @@
 -- What is read of a source, told of the iterator that it makes.
-use Rattle.std.proofs.Common.{Bool, true, List}
+use Rattle.std.proofs.Common.{ℕ, Bool, true, List, Result, map, refl}
 use Rattle.std.specs.declared.option.Option.{Option}
 use Rattle.std.specs.Iterator.{Count}
 use Rattle.tabled_base.specs.Laws.{whole_rows}
 use Rattle.tabled_base.specs.RowsGiven.{RowsBegin, RowsEnd, RowsGiven}
+use Rattle.tabled_base.specs.declared.error.TableError.{TableError}
+use Rattle.tabled_config.specs.declared.compact.CompactConfig.{CompactConfig}
+use Rattle.tabled_line.specs.Sent.{Sent}
 use Rattle.tabled_records.specs.Reading.{MayGive, ReadsTo}
+use Rattle.tabled_table.specs.declared.iter_table.settings.StreamSettings.{StreamSettings}
+use Rattle.tabled_table.specs.Stream.Streams.{ArePermitted, Came, PrintsStream, Streams}
 
 module _ {V S W T : Type 0} {rows_become : V → S → Type 0} {can_row : S → Type 0} {row_steps : S → Option W → S → Type 0} {rows_left : S → Count}
     {cells_become : W → T → Type 0} {can_cell : T → Type 0} {cells_left : T → Count} where
@@ -29,3 +34,15 @@ module _ {V S W T A : Type 0} {rows_become : V → S → Type 0} {row_steps : S 
   pub gives-of : {rows : V} {it to : S} {cells : List (List A)} → rows_become rows it
       → ReadsTo row_steps cells_become cell_steps it cells true to → RowsGiven rows_become row_steps cells_become cell_steps rows cells
   gives-of made r = whole_rows (begins-of made r)
+
+-- what is printed of a source, by the cells that are read of it first
+pub prints-stream : {T A : Type 0} {settings : StreamSettings} {config : CompactConfig} {begins : List (List A) → Bool → Type 0} {text : A → List ℕ}
+    {old new : Sent} {r : Result T TableError} (cells : List (List A)) (whole : Bool) → begins cells whole → ArePermitted settings (map (map text) cells)
+    → Streams settings config (map (map text) cells) whole old r new → PrintsStream settings config (Came begins text) old r new
+prints-stream {text = text} cells whole begun permitted streams = record {
+  rows = map (map text) cells;
+  whole = whole;
+  came = (cells, begun, refl);
+  permitted = permitted;
+  streams = streams;
+}

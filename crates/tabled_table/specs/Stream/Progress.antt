@@ -133,18 +133,9 @@ pub record EndsSheet {R : Type 0} (settings : StreamSettings) (config : CompactC
   pub in_reach : IsInReach settings config ahead_rows shown sheet
   pub writes : WritesBelow (text_above sheet (column_count settings ahead_rows) (length shown)) start result now (table_text sheet)
 
--- what printing further rows, as many as may be shown, and the end of the table leaves: all is
--- written, or the sink failed in the end of the table, or printing stopped before
-abbrev pub FinishesMore : {R : Type 0} → Option ℕ → ℕ → ℕ → Bool → List (List (List ℕ)) → Layout → Bool → Sent → Bool → Result R TableError → Sent → Type 0
-FinishesMore limit lines total whole more layout first old begun result new =
-    (settings : StreamSettings) (config : CompactConfig) (ahead_rows shown : List (List (List ℕ))) (start : Sent)
-    → length ahead_rows ≤ length shown → lines ≡ unwrap_or settings.height 1 → 0 < length shown → 0 < layout.count
-    → total ≡ stream_total settings config ahead_rows → HasPut settings config ahead_rows shown start layout first old begun
-    → (IsLimited limit (length more) whole × EndsSheet settings config ahead_rows (shown ++ more) start result new)
-    ⊎ IsErrAnd result (λ e. Halts settings config ahead_rows (shown ++ more) start layout.count e new)
-
--- what is left, as in `FinishesMore`, after the rows that were read first; if further rows may be
--- shown, those that are read ahead are written
+-- what printing what follows the rows that were read first leaves: as many further rows as may be
+-- shown and the end of the table are written, or the sink failed in the end of the table, or
+-- printing stopped before. If further rows may be shown, those that are read ahead are written
 abbrev pub FinishesBehind : {R : Type 0} → Option ℕ → ℕ → ℕ → Bool → List (List (List ℕ)) → Layout → Bool → Sent → Bool → Result R TableError → Sent → Type 0
 FinishesBehind left lines total whole more layout first old begun result new =
     (settings : StreamSettings) (config : CompactConfig) (ahead_rows shown : List (List (List ℕ))) (start : Sent)

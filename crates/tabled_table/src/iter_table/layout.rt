@@ -1,7 +1,9 @@
-//! The layout of a stream: its columns, and the lines and padding around its cells.
-ghost use Rattle.std.specs.Prelude.{◌≡◌, ◌+◌, ◌<◌, ◌≤◌, ◌^◌, false, if◌then◌else◌, IfSome, MatchOption};
+//! The layout of a stream: its columns, the lines and padding around its cells, its total width.
+ghost use Rattle.std.specs.Prelude.{◌≡◌, ◌+◌, ◌*◌, ◌<◌, ◌≤◌, ◌^◌, IfSome, MatchOption, false};
+ghost use Rattle.std.specs.Prelude.{if◌then◌else◌};
 ghost use Rattle.std.proofs.Props.{props};
 ghost use Rattle.tabled_line.specs.Placements.{IsUniform};
+ghost use Rattle.tabled_priority.specs.Sums.{one_if, sum_below};
 
 use tabled_config::{CellStyle, Frame, HorizontalLine};
 use tabled_line::{ColumnSeparator, UniformPlacement};
@@ -35,8 +37,29 @@ pub(crate) struct Layout {
     ghost uniform_is: { IfSome uniform (IsUniform style) } by { Prim.hlevel props },
 }
 
+/// 1 for a line that is there, else 0.
+fn one_if(there: bool) -> usize
+    ensures { result ≡ one_if there }
+{
+    if there { 1 } else { 0 }
+}
+
+/// Returns `sum + times * (first + second)`; `None` if it exceeds `usize::MAX`.
+#[tactic(auto, using(crate::proofs::Stream::Widths::at_least))]
+fn add_times(sum: usize, times: usize, first: usize, second: usize) -> Option<usize>
+    ensures { let whole = sum + times * (first + second) in
+        MatchOption result (2 ^ 64 ≤ whole) (λ n. n ≡ whole) }
+{
+    if times == 0 {
+        return Some(sum);
+    }
+    let each = first.checked_add(second)?;
+    sum.checked_add(times.checked_mul(each)?)
+}
+
 impl Layout {
-    ghost use Rattle.tabled_table.specs.Stream.Row.{content_at, TakesNoMore};
+    ghost use Rattle.tabled_table.specs.Stream.Row.{TakesNoMore, content_at, layout_total};
+    ghost use Rattle.tabled_table.specs.Stream.Row.{width_at};
 
     /// Returns the content width of a column.
     pub fn content_width(&self, column: usize) -> usize
@@ -72,12 +95,57 @@ impl Layout {
     /// Returns the height of a row with this many lines for text, padding included. `None` if it
     /// exceeds `usize::MAX`.
     pub fn padded_height(&self, lines: usize) -> Option<usize>
-        ensures { let height = lines + (self.now.style.padding.top.size + self.now.style.padding.bottom.size) in
+        ensures { let padding = self.now.style.padding in
+            let height = lines + (padding.top.size + padding.bottom.size) in
             MatchOption result (2 ^ 64 ≤ height) (λ n. (n ≡ height) × (height < 2 ^ 64)) }
     {
         let padding = self.style.padding;
         lines
             .checked_add(padding.top.size)?
             .checked_add(padding.bottom.size)
+    }
+
+    /// Returns the sum of the first `known` widths; `None` if it exceeds `usize::MAX`.
+    #[tactic(auto, using(tabled_priority::proofs::Sums::sum_step))]
+    fn known_widths(&self, known: usize) -> Option<usize>
+        ensures { let whole = sum_below (width_at self.now) known in
+            MatchOption result (2 ^ 64 ≤ whole) (λ n. n ≡ whole) }
+    {
+        let mut sum: usize = 0;
+        'columns: for column in 0..known {
+            let width = self.content_width(column).checked_add(self.side)?;
+            sum = sum.checked_add(width)?;
+        }
+        Some(sum)
+    }
+
+    /// Returns the sum of all widths; `None` if it exceeds `usize::MAX`. The equal widths at the
+    /// end are multiplied.
+    fn sum_widths(&self) -> Option<usize>
+        ensures { let whole = sum_below (width_at self.now) self.now.count in
+            MatchOption result (2 ^ 64 ≤ whole) (λ n. n ≡ whole) }
+    {
+        let known = self.count.min(self.contents.len());
+        let sum = self.known_widths(known)?;
+        add_times(sum, self.count - known, self.rest, self.side)
+    }
+
+    /// Returns the total width: all widths, the vertical lines and the side margins. `None` if it
+    /// exceeds `usize::MAX`.
+    #[tactic(auto, unfolding(crate::specs::Stream::Row::layout_total))]
+    pub fn total_width(&self) -> Option<usize>
+        ensures { MatchOption result (2 ^ 64 ≤ layout_total self.now)
+            (λ n. (n ≡ layout_total self.now) × (layout_total self.now < 2 ^ 64)) }
+    {
+        let frame = self.frame;
+        let left = frame
+            .margin
+            .left
+            .size
+            .checked_add(one_if(frame.left.there))?;
+        let right = one_if(frame.right.there).checked_add(frame.margin.right.size)?;
+        let bars = self.count.saturating_sub(1) * one_if(frame.inner.there);
+        let inside = self.sum_widths()?.checked_add(bars)?;
+        left.checked_add(inside.checked_add(right)?)
     }
 }

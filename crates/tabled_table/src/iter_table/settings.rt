@@ -1,6 +1,8 @@
-//! The settings of a stream.
-ghost use Rattle.std.specs.Prelude.{◌≡◌, max, min, unwrap_or};
+//! The settings of a stream: how many rows are read and shown, and the sizes that are set.
+ghost use Rattle.std.specs.Prelude.{◌≡◌, ◌≢◌, ◌-◌, ◌<◌, ◌≤◌, ◌⊎◌, MatchOption, None, Some};
+ghost use Rattle.std.specs.Prelude.{false, min, true, unwrap_or};
 ghost use Rattle.tabled_table.specs.Stream.Streamed.{ahead};
+ghost use Rattle.tabled_table.specs.Stream.Progress.{left_of};
 
 /// How many rows a stream reads ahead and prints, and which sizes are set.
 #[derive(Clone, Copy, Debug, PartialEq, Eq, PartialOrd, Ord, Hash)]
@@ -26,5 +28,71 @@ pub(crate) fn ahead(settings: &StreamSettings) -> usize
         0
     } else {
         settings.sniff
+    }
+}
+
+/// Returns the limit that is left after one more row.
+pub(crate) fn one_fewer(left: Option<usize>) -> Option<usize>
+    ensures { MatchOption left (result ≡ None) (λ n. result ≡ Some (n - 1)) }
+{
+    match left {
+        Some(n) => Some(n.saturating_sub(1)),
+        None => None,
+    }
+}
+
+/// Whether no further row may be printed.
+pub(crate) fn is_none_left(left: Option<usize>) -> bool
+    ensures going { result ≡ false → left ≢ Some 0 }
+    ensures reached { result ≡ true → left ≡ Some 0 }
+{
+    matches!(left, Some(0))
+}
+
+/// Whether a row may be shown if none is read ahead: there is a column, and rows may be printed.
+fn shows_unread(settings: &StreamSettings) -> bool
+    ensures shown { result ≡ true
+        → (0 < unwrap_or settings.now.columns 0) × (settings.now.rows ≢ Some 0) }
+    ensures none { result ≡ false
+        → (unwrap_or settings.now.columns 0 ≡ 0) ⊎ (settings.now.rows ≡ Some 0) }
+{
+    settings.columns.unwrap_or(0) > 0 && !is_none_left(settings.rows)
+}
+
+/// Returns how many rows are read before the first byte: those that are read ahead, or else the
+/// first if it may be shown.
+pub(crate) fn first_rows(settings: &StreamSettings) -> usize
+    ensures ahead { ahead settings.now ≤ result }
+    ensures needed { (result ≡ ahead settings.now)
+        ⊎ ((ahead settings.now ≡ 0) × (result ≡ 1)
+        × (0 < unwrap_or settings.now.columns 0) × (settings.now.rows ≢ Some 0)) }
+    ensures none { result ≡ 0
+        → (unwrap_or settings.now.columns 0 ≡ 0) ⊎ (settings.now.rows ≡ Some 0) }
+{
+    let ahead = ahead(settings);
+    if ahead == 0 && shows_unread(settings) {
+        1
+    } else {
+        ahead
+    }
+}
+
+/// Returns how many of `count` rows are shown.
+pub(crate) fn up_to(limit: Option<usize>, count: usize) -> usize
+    ensures { MatchOption limit (result ≡ count) (λ n. result ≡ min n count) }
+{
+    match limit {
+        Some(limit) => limit.min(count),
+        None => count,
+    }
+}
+
+/// Returns how many more rows may be shown after `count`; `None` if there is no limit.
+pub(crate) fn fewer(limit: Option<usize>, count: usize) -> Option<usize>
+    ensures { result ≡ left_of limit count }
+{
+    match limit {
+        Some(limit) => Some(limit.saturating_sub(count)),
+        None => None,
     }
 }

@@ -1,5 +1,6 @@
 //! Measures the rows that are read ahead.
-ghost use Rattle.std.specs.Prelude.{◌≡◌, ◌+◌, ◌<◌, ◌≤◌, ◌≢◌, ◌||◌, ℕ, [], IfErr, IfOk, OnErr, OnOk, if◌then◌else◌, is_some, length, map, max, nat_lt, not, unwrap_or};
+ghost use Rattle.std.specs.Prelude.{◌≡◌, ◌<◌, ◌≤◌, ◌≢◌, ◌||◌, ℕ, [], IfErr, IfOk, OnOk, length};
+ghost use Rattle.std.specs.Prelude.{if◌then◌else◌, is_some, map, max, not, unwrap_or};
 ghost use Rattle.std.specs.List.{slice_index, slice_index_or};
 ghost use Rattle.tabled_base.specs.Cells.{longest, texts_of};
 ghost use Rattle.tabled_base.specs.declared.error.TableError.TheVariants.{Memory};
@@ -25,8 +26,10 @@ pub(crate) fn longest_row<C: CellText>(rows: &[Vec<C>]) -> usize
 /// `contents`, or the next.
 fn raise(contents: &mut Vec<usize>, column: usize, columns: usize) -> Result<(), TableError>
     requires { column ≤ length contents.old.items }
-    ensures at { OnOk result (slice_index contents.new.items column ≡ max (slice_index contents.old.items column) columns) }
-    ensures others { OnOk result ((other : ℕ) → other ≢ column → slice_index contents.new.items other ≡ slice_index contents.old.items other) }
+    ensures at { OnOk result (slice_index contents.new.items column
+        ≡ max (slice_index contents.old.items column) columns) }
+    ensures others { OnOk result ((other : ℕ) → other ≢ column
+        → slice_index contents.new.items other ≡ slice_index contents.old.items other) }
     ensures longer { OnOk result (column < length contents.new.items) }
     ensures only { IfErr result (λ e. e ≡ Memory) }
 {
@@ -44,8 +47,10 @@ fn widen<C: CellText>(
     cells: &[C],
     count: usize,
 ) -> Result<(), TableError>
-    ensures ok { OnOk result ((column : ℕ) → column < count → slice_index contents.new.items column
-        ≡ max (slice_index contents.old.items column) (text_columns (slice_index_or (map C.text cells.now) column []))) }
+    ensures ok { OnOk result ((column : ℕ) → column < count
+        → slice_index contents.new.items column
+        ≡ max (slice_index contents.old.items column)
+        (text_columns (slice_index_or (map C.text cells.now) column []))) }
     ensures only { IfErr result (λ e. e ≡ Memory) }
 {
     let known = count.min(cells.len());
@@ -61,7 +66,8 @@ pub(crate) fn widest_cells<C: CellText>(
     rows: &[Vec<C>],
     count: usize,
 ) -> Result<Vec<usize>, TableError>
-    ensures ok { IfOk result (λ contents. (column : ℕ) → column < count → slice_index contents.items column
+    ensures ok { IfOk result (λ contents. (column : ℕ) → column < count
+        → slice_index contents.items column
         ≡ widest (texts_of C.text rows.now) column) }
     ensures only { IfErr result (λ e. e ≡ Memory) }
 {
@@ -92,7 +98,8 @@ pub(crate) fn content_height<C: CellText>(
     cells: &[C],
 ) -> usize
     ensures { result ≡ unwrap_or settings.now.height
-        (if is_some settings.now.width || not ahead then 1 else tallest count (map C.text cells.now)) }
+        (if is_some settings.now.width || not ahead then 1
+        else tallest count (map C.text cells.now)) }
 {
     match settings.height {
         Some(height) => height,

@@ -1,5 +1,6 @@
 //! Prints a stream, from its first line to its last.
-ghost use Rattle.std.specs.Prelude.{◌≡◌, ◌<◌, ◌^◌, ◌++◌, Bool, ℕ, List, [], IfErr, IfOk, MatchResult, OnOk, false, true, length, map, take, unwrap_or};
+ghost use Rattle.std.specs.Prelude.{◌≡◌, ◌<◌, ◌^◌, ◌++◌, [], ℕ, Bool, IfErr, IfOk, List};
+ghost use Rattle.std.specs.Prelude.{MatchResult, OnOk, false, length, map, take, true, unwrap_or};
 ghost use Rattle.std.proofs.Props.{props};
 ghost use Rattle.tabled_base.specs.Cells.{texts_of};
 ghost use Rattle.tabled_config.specs.declared.compact.CompactConfig.{CompactConfig};
@@ -7,17 +8,18 @@ ghost use Rattle.tabled_line.specs.LineCache.{IsCacheOf};
 ghost use Rattle.tabled_line.specs.Sent.{Sent};
 ghost use Rattle.tabled_records.specs.Reading.{MayGive, Reads, ReadsTo};
 ghost use Rattle.tabled_table.specs.declared.iter_table.settings.StreamSettings.{StreamSettings};
-ghost use Rattle.tabled_table.specs.Stream.Progress.{AreFirst, AreFurther, EndsSheet, FinishesBehind, FinishesMore, Halts, HaltsMore, HaltsWithin, HasPut, HasPutMore, IsLaidOut, IsLimited, IsPermitted, PutsNext, left_of};
+ghost use Rattle.tabled_table.specs.Stream.Progress.{AreFirst, AreFurther, EndsSheet};
+ghost use Rattle.tabled_table.specs.Stream.Progress.{FinishesBehind, Halts, HaltsMore, HaltsWithin};
+ghost use Rattle.tabled_table.specs.Stream.Progress.{HasPut, HasPutMore, IsLaidOut, IsLimited};
+ghost use Rattle.tabled_table.specs.Stream.Progress.{IsPermitted, PutsNext, left_of};
 ghost use Rattle.tabled_table.specs.Stream.Reading.{ReadsOn};
-ghost use Rattle.tabled_table.specs.Stream.Row.{Puts, PutsCut, layout_columns, rule_of};
+ghost use Rattle.tabled_table.specs.Stream.Row.{PutsCut, layout_columns, rule_of};
 ghost use Rattle.tabled_table.specs.Stream.Streamed.{limited, sniffed};
 ghost use Rattle.tabled_table.specs.Stream.Streams.{Streams, stream_total};
 
-use crate::iter_table::columns::StreamColumns;
-use crate::iter_table::record::{CutRow, cut_cells};
-use crate::iter_table::settings::ahead;
+use crate::iter_table::row::{CutRow, StreamColumns, cut_cells};
+use crate::iter_table::settings::{ahead, fewer, is_none_left, one_fewer, up_to};
 use crate::iter_table::sniff::content_height;
-use crate::iter_table::take::{fewer, is_none_left, one_fewer, up_to};
 use std::alloc::Global;
 use std::borrow::CowStr;
 use tabled_base::{CellText, TableError, Text};
@@ -106,27 +108,9 @@ impl<'a> Stream<'a> {
         self.write_cut_row(sink, height, cells, &mut cursors)
     }
 
-    /// Cuts a row to its columns, and writes it below its horizontal line. Fails with `Memory`
-    /// before its first byte, and with the sink's errors.
-    fn write_stream_row<C: CellText, S: TextSink>(
-        &mut self,
-        sink: &mut S,
-        height: usize,
-        cells: &[C],
-    ) -> Result<(), TableError>
-        ensures printed { Puts self.old.lines.columns.layout.now
-            (rule_of self.old.lines.columns.layout.now self.old.first) height
-            (map C.text cells.now) (S.sent sink.old) self.old.lines.begun result
-            (S.sent sink.new) self.new.lines.begun }
-        ensures same { self.new.lines.columns ≡ self.old.lines.columns }
-        ensures first { OnOk result (self.new.first ≡ false) }
-    {
-        let cut = cut_cells(self.alloc, self.lines.columns.layout, cells)?;
-        self.write_cut_cells(sink, height, cut.as_slice())
-    }
-
-    /// Writes the next row, with `lines` lines for text. Before its first byte it fails with
-    /// `Range` if its height exceeds `usize::MAX`, and with `Memory`.
+    /// Cuts the next row to its columns, and writes it with `lines` lines for text, below its
+    /// horizontal line. Before its first byte it fails with `Range` if its height exceeds
+    /// `usize::MAX`, and with `Memory`.
     fn write_next_record<C: CellText, S: TextSink>(
         &mut self,
         sink: &mut S,
@@ -138,10 +122,12 @@ impl<'a> Stream<'a> {
             self.new.first (S.sent sink.new) self.new.lines.begun }
         ensures same { self.new.lines.columns ≡ self.old.lines.columns }
     {
-        match self.lines.columns.layout.padded_height(lines) {
-            Some(height) => self.write_stream_row(sink, height, cells),
-            None => Err(TableError::Range),
-        }
+        let layout = self.lines.columns.layout;
+        let Some(height) = layout.padded_height(lines) else {
+            return Err(TableError::Range);
+        };
+        let cut = cut_cells(self.alloc, layout, cells)?;
+        self.write_cut_cells(sink, height, cut.as_slice())
     }
 
     /// Writes the top margin.
@@ -216,34 +202,6 @@ impl<'a> Stream<'a> {
         Ok(())
     }
 
-    /// Writes the top margin and the first rows, of which the first `ahead` were read ahead.
-    fn write_first_lines<C: CellText, S: TextSink>(
-        &mut self,
-        sink: &mut S,
-        ahead: usize,
-        rows: &[Vec<C>],
-    ) -> Result<(), TableError>
-        requires begun { self.old.lines.begun ≡ false }
-        requires first { self.old.first ≡ true }
-        ensures printed { (config : CompactConfig) (ahead_rows : List (List (List ℕ)))
-            → length ahead_rows ≡ ahead
-            → IsLaidOut self.old.lines.columns.settings.now config ahead_rows
-            self.old.lines.columns.layout.now
-            → self.old.lines.columns.total ≡ stream_total self.old.lines.columns.settings.now
-            config ahead_rows
-            → MatchResult result
-            (λ _. HasPut self.old.lines.columns.settings.now config ahead_rows
-            (texts_of C.text rows.now) (S.sent sink.old) self.old.lines.columns.layout.now
-            self.new.first (S.sent sink.new) self.new.lines.begun)
-            (λ e. (count : ℕ) × Halts self.old.lines.columns.settings.now config ahead_rows
-            (take count (texts_of C.text rows.now)) (S.sent sink.old)
-            self.old.lines.columns.layout.now.count e (S.sent sink.new)) }
-        ensures same { self.new.lines.columns ≡ self.old.lines.columns }
-    {
-        self.write_top(sink)?;
-        self.write_first_rows(sink, ahead, rows)
-    }
-
     /// Reads and writes further rows, at most `limit`. Each is read once the lines above it are
     /// written. Returns whether the source has no more rows.
     fn write_other_rows<
@@ -287,32 +245,6 @@ impl<'a> Stream<'a> {
         }
     }
 
-    /// Reads and writes further rows, at most `limit`, and then writes what is below the last row.
-    fn write_other_lines<
-        I: Iterator<Item = W>,
-        W: IntoIterator<Item = C>,
-        C: CellText + Drop,
-        S: TextSink,
-    >(
-        &mut self,
-        sink: &mut S,
-        rows: &mut I,
-        limit: Option<usize>,
-        lines: usize,
-    ) -> Result<(), TableError>
-        requires { MayGive I.can_next I.next_gives I.remaining
-            W.into_iter_gives W.IntoIter.can_next W.IntoIter.remaining rows.old }
-        ensures printed { (more : List (List C)) × (whole : Bool) × IsPermitted limit (length more)
-            × ReadsTo I.next_gives W.into_iter_gives W.IntoIter.next_gives rows.old more whole
-            rows.new
-            × FinishesMore limit lines self.old.lines.columns.total whole (map (map C.text) more)
-            self.old.lines.columns.layout.now self.old.first (S.sent sink.old)
-            self.old.lines.begun result (S.sent sink.new) }
-    {
-        self.write_other_rows(sink, rows, limit, lines)?;
-        self.write_bottom(sink)
-    }
-
     /// Writes what follows the rows that were read first: further rows, unless there are none, and
     /// what is below the last row.
     fn write_after_first<
@@ -343,7 +275,8 @@ impl<'a> Stream<'a> {
             return self.write_bottom(sink);
         }
         let lines = settings.height.unwrap_or(1);
-        self.write_other_lines(sink, rows, left, lines)
+        self.write_other_rows(sink, rows, left, lines)?;
+        self.write_bottom(sink)
     }
 
     /// Writes the entire table: of the rows that were read first those that are shown, and what
@@ -385,7 +318,8 @@ impl<'a> Stream<'a> {
         let kept = taken.rows.as_slice();
         let ahead = ahead(settings).min(kept.len());
         let shown = &kept[..up_to(settings.rows, kept.len())];
-        self.write_first_lines(sink, ahead, shown)?;
+        self.write_top(sink)?;
+        self.write_first_rows(sink, ahead, shown)?;
         self.write_after_first(sink, rows, taken)
     }
 }

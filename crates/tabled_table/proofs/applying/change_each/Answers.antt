@@ -3,11 +3,11 @@ use Rattle.std.proofs.lemmas.List.{take_more}
 use Rattle.tabled_base.specs.declared.position.Entity.{Entity}
 use Rattle.tabled_base.specs.declared.position.Entity.TheVariants.{Global}
 use Rattle.tabled_config.specs.declared.colored.ColoredConfig.{ColoredConfig}
-use Rattle.tabled_table.specs.Applied.{Cells, ChangesEach}
+use Rattle.tabled_table.specs.Applied.{CellChange, Cells, ChangesEach}
 use Rattle.tabled_table.proofs.applying.change_each.Goals as goal
 
 -- one entity more
-each_more : (changes : Cells → ColoredConfig → Entity → Cells → ColoredConfig → Type 0) (es : List Entity)
+each_more : (changes : CellChange) (es : List Entity)
     (e : Entity) (a : Cells) (b : ColoredConfig) (c : Cells) (d : ColoredConfig) (m : Cells) (n : ColoredConfig)
     → ChangesEach changes es a b c d → changes c d e m n → ChangesEach changes (es ++ e ∷ []) a b m n
 each_more changes [] e a b c d m n h k =

@@ -3,32 +3,53 @@ use Rattle.std.proofs.lemmas.List.{length-map}
 use Rattle.tabled_base.specs.Cells.{texts_of}
 use Rattle.tabled_table.specs.Stream.Progress.{left_of}
 use Rattle.tabled_table.specs.Stream.Streamed.{ahead, limited, sniffed}
+use Rattle.tabled_table.proofs.Stream.Endings.{halts-top}
 use Rattle.tabled_table.proofs.Stream.Finished.{put-finished, put-halted}
 use Rattle.tabled_table.proofs.Stream.FirstRows.{sniffed-shown}
 use Rattle.tabled_table.proofs.Stream.Going.{none-further, reads-no-more}
 use Rattle.tabled_table.proofs.Stream.Slices.{shown-texts, sniffed-long, texts-long}
 use Rattle.tabled_table.proofs.iter_table.stream.Stream.write_all.Goals as goal
 
-pub returns-in_err-write_first_lines : goal.returns-in_err-write_first_lines
-returns-in_err-write_first_lines g c =
+pub returns-in_err-write_top : goal.returns-in_err-write_top
+returns-in_err-write_top g c =
     let settings = c.args.self.now.lines.columns.settings.now in
     let taken = c.args.taken.now in
     let text = g.C.CellText.text in
     let items = taken.rows.items in
     let kept = texts_of text items in
     let value = c.as_slice-kept.ensures.value in
-    let first = c.min-ahead.ensures ∙ ap (λ n. min n (length c.as_slice-kept.result.now)) c.ahead.ensures
-    ∙ ap (λ rows. min (ahead settings) (length rows)) value in
-    let shown = shown-texts text items settings.rows c.up_to.result (take c.up_to.result c.as_slice-kept.result.now) (rw value at c.up_to.ensures)
-    (ap (take c.up_to.result) value) in (
+    let shown = shown-texts text value settings.rows c.up_to.result c.up_to.ensures in (
       [],
       taken.whole,
       none-further settings.rows (length items) taken.whole,
       reads-no-more (map (λ row. row.items) items) taken.whole c.args.rows.now,
       λ config laid total.
-          put-halted c.requires.kept laid c.requires.some total c.requires.in_range c.from_residual.result c.in_err-write_first_lines.field-0.0
+          put-halted c.requires.kept laid c.requires.some total c.requires.in_range c.from_residual.result c.in_err-write_top.field-0.0
           (texts_of text (take c.up_to.result c.as_slice-kept.result.now)) shown c.from_residual.ensures.1
-          (c.in_err-write_first_lines.ensures.printed config (sniffed settings kept) (sniffed-long text items settings c.min-ahead.result first) laid total),
+          (0, halts-top (c.in_err-write_top.ensures.printed settings config (sniffed settings kept) laid total)),
+    )
+
+pub returns-in_err-write_first_rows : goal.returns-in_err-write_first_rows
+returns-in_err-write_first_rows g c =
+    let settings = c.args.self.now.lines.columns.settings.now in
+    let taken = c.args.taken.now in
+    let text = g.C.CellText.text in
+    let items = taken.rows.items in
+    let kept = texts_of text items in
+    let value = c.as_slice-kept.ensures.value in
+    let long = sniffed-long text value settings c.min-ahead.result c.ahead.result c.min-ahead.ensures c.ahead.ensures in
+    let shown = shown-texts text value settings.rows c.up_to.result c.up_to.ensures in
+    let stops = rw c.in_ok-write_top.ensures.same at c.in_err-write_first_rows.ensures.printed in (
+      [],
+      taken.whole,
+      none-further settings.rows (length items) taken.whole,
+      reads-no-more (map (λ row. row.items) items) taken.whole c.args.rows.now,
+      λ config laid total.
+          put-halted c.requires.kept laid c.requires.some total c.requires.in_range c.from_residual-in_err-write_first_rows.result
+          c.in_err-write_first_rows.field-0.0
+          (texts_of text (take c.up_to.result c.as_slice-kept.result.now)) shown c.from_residual-in_err-write_first_rows.ensures.1
+          (stops config (sniffed settings kept) (g.S.TextSink.sent c.args.sink.now) long
+          (c.in_ok-write_top.ensures.printed settings config (sniffed settings kept) laid total)),
     )
 
 pub returns : goal.returns
@@ -39,21 +60,21 @@ returns g c =
     let items = taken.rows.items in
     let kept = texts_of text items in
     let value = c.as_slice-kept.ensures.value in
-    let first = c.min-ahead.ensures ∙ ap (λ n. min n (length c.as_slice-kept.result.now)) c.ahead.ensures
-    ∙ ap (λ rows. min (ahead settings) (length rows)) value in
-    let shown = shown-texts text items settings.rows c.up_to.result (take c.up_to.result c.as_slice-kept.result.now) (rw value at c.up_to.ensures)
-    (ap (take c.up_to.result) value) in
-    let b = rw c.in_ok-write_first_lines.ensures.same at c.write_after_first.ensures in
-    let long = texts-long text items in (
+    let long = sniffed-long text value settings c.min-ahead.result c.ahead.result c.min-ahead.ensures c.ahead.ensures in
+    let shown = shown-texts text value settings.rows c.up_to.result c.up_to.ensures in
+    let b = rw (c.in_ok-write_first_rows.ensures.same, c.in_ok-write_top.ensures.same) at c.write_after_first.ensures in
+    let puts = rw c.in_ok-write_top.ensures.same at c.in_ok-write_first_rows.ensures.printed in
+    let many = texts-long text items in (
       b.0,
       b.1,
       b.2,
       b.3,
       λ config laid total.
-          let put = c.in_ok-write_first_lines.ensures.printed config (sniffed settings kept) (sniffed-long text items settings c.min-ahead.result first) laid total in
+          let put = puts config (sniffed settings kept) (g.S.TextSink.sent c.args.sink.now) long
+          (c.in_ok-write_top.ensures.printed settings config (sniffed settings kept) laid total) in
           put-finished c.requires.kept laid c.requires.some total c.requires.in_range c.write_after_first.result (map (map text) b.0) b.1 (length items) (length b.0)
-          (sym long) (sym (length-map b.0 (map text))) b.2
+          (sym many) (sym (length-map b.0 (map text))) b.2
           (b.4 settings config (sniffed settings kept) (limited settings.rows kept) (g.S.TextSink.sent c.args.sink.now)
-          (λ going. sniffed-shown settings kept (λ e. going (ap (left_of settings.rows) (sym long) ∙ e))) refl c.requires.filled c.requires.some total
+          (λ going. sniffed-shown settings kept (λ e. going (ap (left_of settings.rows) (sym many) ∙ e))) refl c.requires.filled c.requires.some total
           (rw shown at put)),
     )

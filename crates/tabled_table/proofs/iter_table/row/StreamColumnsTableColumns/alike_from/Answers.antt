@@ -1,0 +1,13 @@
+use Rattle.std.proofs.Common.{◌≡◌, ℕ, ◌+◌, ◌≤◌, length, ap, sym, ◌∙◌, arith}
+use Rattle.tabled_table.specs.Stream.Row.{width_at}
+use Rattle.tabled_table.proofs.Stream.Widths.{listed, past-list}
+use Rattle.tabled_table.proofs.iter_table.row.StreamColumnsTableColumns.alike_from.Goals as goal
+
+pub returns : goal.returns
+returns c column l m =
+    let layout = c.args.self.now.layout.now in
+    let n = c.len.result in
+    let past : (k : ℕ) → length layout.contents.items ≤ k → width_at layout k ≡ layout.rest + layout.side =
+    λ k h. ap (λ w. w + layout.side) (past-list layout.contents.items k layout.rest h) in
+    listed (width_at layout) layout.count column m ∙ past column (omega (arith, l, c.len.ensures))
+    ∙ sym (listed (width_at layout) layout.count n (omega (arith, l, m)) ∙ past n (omega (arith, c.len.ensures)))
