@@ -2,8 +2,10 @@
 ghost use Rattle.std.specs.Prelude.{◌<◌};
 ghost use Rattle.tabled_text.specs.Cut.{NeedsFill};
 ghost use Rattle.tabled_c.specs.Answers.{Answers};
-ghost use Rattle.tabled_c.specs.Printed.{IsCutText, IsMeasured, IsTable, IsTableCause, IsTextCause, IsWrappedText};
+ghost use Rattle.tabled_c.specs.Printed.{IsCutText, IsMeasured, IsTable, IsTableCause, IsTextCause};
+ghost use Rattle.tabled_c.specs.Printed.{IsWrappedText};
 
+use crate::arguments::PlanNumbers;
 use crate::room::put;
 use crate::tables::table_of;
 use crate::texts::{columns_of, cut_text, wrapped_text};
@@ -27,10 +29,16 @@ pub extern "C" fn fanlightnard_print(
     columns: usize,
     room: &mut [u8],
 ) -> isize
-    ensures { Answers (IsTable text.now style.now kind order columns) (IsTableCause text.now style.now kind order columns)
+    ensures { Answers (IsTable text.now style.now kind order columns)
+        (IsTableCause text.now style.now kind order columns)
         room.old result room.new }
 {
-    match table_of(alloc, text, style, kind, order, columns) {
+    let numbers = PlanNumbers {
+        kind,
+        order,
+        columns,
+    };
+    match table_of(alloc, text, style, numbers) {
         Ok(table) => put(table.as_str(), room),
         Err(refusal) => refusal.code(),
     }
@@ -53,7 +61,8 @@ pub extern "C" fn fanlightnard_cut(
     columns: usize,
     room: &mut [u8],
 ) -> isize
-    ensures { Answers (IsCutText columns text.now) (IsTextCause text.now (NeedsFill columns text.now)) room.old result room.new }
+    ensures { Answers (IsCutText columns text.now)
+        (IsTextCause text.now (NeedsFill columns text.now)) room.old result room.new }
 {
     match cut_text(alloc, text, columns) {
         Ok(cut) => put(cut.as_str(), room),
@@ -71,7 +80,8 @@ pub extern "C" fn fanlightnard_wrap(
     words: bool,
     room: &mut [u8],
 ) -> isize
-    ensures { Answers (IsWrappedText columns words text.now) (IsTextCause text.now (0 < columns)) room.old result room.new }
+    ensures { Answers (IsWrappedText columns words text.now)
+        (IsTextCause text.now (0 < columns)) room.old result room.new }
 {
     match wrapped_text(alloc, text, columns, words) {
         Ok(wrapped) => put(wrapped.as_str(), room),

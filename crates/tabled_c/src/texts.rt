@@ -49,7 +49,8 @@ pub(crate) fn wrapped_text(
     columns: usize,
     words: bool,
 ) -> Result<String, ErrorCode>
-    ensures wrapped { IfOk result (λ wrapped. IsWrappedText columns words text.now (string_bytes wrapped)) }
+    ensures wrapped { IfOk result (λ wrapped. IsWrappedText columns words text.now
+        (string_bytes wrapped)) }
     ensures cause { IfErr result (IsTextCause text.now (0 < columns)) }
 {
     let Ok(text) = from_utf8(text) else {
