@@ -1,10 +1,12 @@
 //! The arguments of the program, and the plan they make.
-ghost use Rattle.std.specs.Prelude.{◌≡◌, ◌↔◌, ◌∷◌, ℕ, IfSome, List, [], map, IfNone, MatchOption, Some, string_bytes};
+ghost use Rattle.std.specs.Prelude.{◌≡◌, ◌↔◌, ◌∷◌, ℕ, IfSome, List, [], map, IfNone, MatchOption};
+ghost use Rattle.std.specs.Prelude.{Some, string_bytes};
 ghost use Rattle.tabled.specs.declared.plan.Plan.{Plan};
 ghost use Rattle.tabled.specs.declared.plan.Order.{Order};
 ghost use Rattle.tabled.specs.declared.arguments.Argument.{Argument};
 ghost use Rattle.tabled.specs.Noted.{Adds, Notes, NotesName, NotesWords};
-ghost use Rattle.tabled.specs.Arguments.{Begins, GoTogether, HasValues, IsNumber, IsOnce, Makes, Spells, SpellsPlan, name_of, order_word};
+ghost use Rattle.tabled.specs.Arguments.{Begins, GoTogether, HasValues, IsNumber, IsOnce, Makes};
+ghost use Rattle.tabled.specs.Arguments.{Spells, SpellsPlan, name_of, order_word};
 
 use crate::plan::{Order, Plan};
 
@@ -75,7 +77,8 @@ fn valued_argument(name: &str, value: &str) -> Option<Argument>
 /// Returns the first setting, and the arguments after it.
 fn first_argument(words: &[String]) -> Option<(Argument, &[String])>
     ensures { MatchOption result
-        ((setting : Argument) (rest : List (List ℕ)) → ¬ Begins (map string_bytes words.now) setting rest)
+        ((setting : Argument) (rest : List (List ℕ))
+        → ¬ Begins (map string_bytes words.now) setting rest)
         (λ first. Begins (map string_bytes words.now) first.0 (map string_bytes first.1.now)) }
 {
     let (name, rest) = words.split_first()?;
@@ -92,7 +95,8 @@ fn first_argument(words: &[String]) -> Option<(Argument, &[String])>
 impl Arguments {
     /// Adds a setting, unless one of that name is there.
     fn with(self, setting: Argument) -> Option<Arguments>
-        ensures { MatchOption result (NotesName self setting) (λ settings. Adds self setting settings) }
+        ensures { MatchOption result (NotesName self setting)
+            (λ settings. Adds self setting settings) }
     {
         match setting {
             Argument::Wrap(target) if self.wrap.is_none() => Some(Arguments {
@@ -121,7 +125,8 @@ impl Arguments {
 
     /// Returns the plan of the settings, if they go together.
     fn plan(self) -> Option<Plan>
-        ensures { (plan : Plan) → (result ≡ Some plan) ↔ (GoTogether (Notes self) × Makes (Notes self) plan) }
+        ensures { (plan : Plan)
+            → (result ≡ Some plan) ↔ (GoTogether (Notes self) × Makes (Notes self) plan) }
     {
         let order = self.order.unwrap_or(Order::Round);
         match (self.wrap, self.cut) {
@@ -146,7 +151,8 @@ impl Arguments {
 /// Returns the settings of all arguments; `None` if one is wrong or given twice.
 fn arguments_of(words: &[String]) -> Option<Arguments>
     ensures { MatchOption result
-        ((settings : List Argument) → Spells (map string_bytes words.now) settings → ¬ IsOnce settings)
+        ((settings : List Argument) → Spells (map string_bytes words.now) settings
+        → ¬ IsOnce settings)
         (NotesWords (map string_bytes words.now)) }
 {
     let mut settings = Arguments::default();
@@ -166,7 +172,8 @@ fn arguments_of(words: &[String]) -> Option<Arguments>
 /// `--words` needs `--wrap`, `--priority` needs `--wrap` or `--cut`, and `--stream` excludes both.
 /// The default priority is `none`.
 pub(crate) fn plan_of(words: &[String]) -> Option<Plan>
-    ensures plan { (plan : Plan) → (result ≡ Some plan) ↔ SpellsPlan (map string_bytes words.now) plan }
+    ensures plan { (plan : Plan)
+        → (result ≡ Some plan) ↔ SpellsPlan (map string_bytes words.now) plan }
     ensures spelled { IfSome result (SpellsPlan (map string_bytes words.now)) }
     ensures none { IfNone result ((plan : Plan) → ¬ SpellsPlan (map string_bytes words.now) plan) }
 {

@@ -37,7 +37,8 @@ impl<'a, W: Write> BlockSink<'a, W> {
     /// Counts a failure, and returns its error.
     fn fail(&mut self) -> TableError
         ensures error { result ≡ Writer }
-        ensures sent { (block_sent (block W.contents self.new)).bytes ≡ (block_sent (block W.contents self.old)).bytes }
+        ensures sent { (block_sent (block W.contents self.new)).bytes
+            ≡ (block_sent (block W.contents self.old)).bytes }
         ensures rose { Rose self.old.failures self.new.failures }
         ensures advanced { Advances (block W.contents self.old) (block W.contents self.new) }
     {
@@ -111,7 +112,8 @@ impl<'a, W: Write> BlockSink<'a, W> {
 
     /// Writes all buffered bytes, and flushes the writer.
     pub fn finish(&mut self) -> Result<(), TableError>
-        ensures written { Writes (block_sent (block W.contents self.old)) result (block_sent (block W.contents self.new)) [] }
+        ensures written { Writes (block_sent (block W.contents self.old)) result
+            (block_sent (block W.contents self.new)) [] }
         ensures advanced { Advances (block W.contents self.old) (block W.contents self.new) }
         ensures emptied { OnOk result (waiting self.new.held.now ≡ []) }
         ensures only { IfErr result (λ e. e ≡ Writer) }
@@ -131,7 +133,8 @@ pub(crate) trait SinkOverWriter {
 
     /// Adds a text as a `TextSink` does. The writer stays the same, and keeps its contents.
     fn add_text(&mut self, text: &str) -> Result<(), TableError>
-        ensures written { Writes (block_sent (block self.old)) result (block_sent (block self.new)) text.now }
+        ensures written { Writes (block_sent (block self.old)) result
+            (block_sent (block self.new)) text.now }
         ensures advanced { Advances (block self.old) (block self.new) };
 }
 

@@ -39,7 +39,8 @@ fn read_all<I: Read>(alloc: Global, input: &mut I) -> Result<Vec<u8>, Fault>
 
 /// Reads all bytes, and fails unless they are UTF-8.
 pub(crate) fn read_text<I: Read>(alloc: Global, input: &mut I) -> Result<String, Fault>
-    ensures text { IfOk result (λ text. HasRead (I.remaining input.old) (I.remaining input.new) (string_bytes text)) }
+    ensures text { IfOk result (λ text. HasRead (I.remaining input.old) (I.remaining input.new)
+        (string_bytes text)) }
     ensures failed { IfErr result (λ fault. (fault ≡ Input) ⊎ (fault ≡ Memory)) }
 {
     let bytes = read_all(alloc, input)?;

@@ -9,7 +9,7 @@
 //!
 //! Each module below has an example, which the programs `docs_tour` and `docs_gallery` run.
 //!
-//! - `rendering.rt`: `render`; `plan.rt`: its plans; `streaming.rt`: streamed tables.
+//! - `rendering.rt`: `render`; `plan.rt`: its plans.
 //! - `narrowing.rt`, `order_priority.rt`: narrowed tables.
 //! - `program.rt`: `run`; `arguments.rt`, `input.rt`, `fault.rt`: its arguments, input, failures.
 //! - `block_sink.rt`, `block_buffer.rt`: output in blocks.
@@ -25,7 +25,6 @@ mod order_priority;
 mod plan;
 mod program;
 mod rendering;
-mod streaming;
 
 pub use plan::{Order, Plan};
 pub use program::run;

@@ -44,7 +44,8 @@ pub(crate) struct Narrowing {
 impl Narrowing {
     /// Returns how a plan narrows a table; `None` if it doesn't.
     pub fn of(plan: Plan) -> Option<Narrowing>
-        ensures { MatchOption result (measured plan ≡ Buffered) (λ how. plan_of how ≡ measured plan) }
+        ensures { MatchOption result (measured plan ≡ Buffered)
+            (λ how. plan_of how ≡ measured plan) }
     {
         match plan {
             Plan::Buffered | Plan::Streamed => None,
@@ -78,7 +79,8 @@ impl Narrowing {
 
     /// Returns the option that truncates.
     fn truncate(self) -> Truncate<'static, usize, OrderPriority>
-        ensures plan { Shortened result.size result.priority.order ≡ Shortened self.target self.order }
+        ensures plan { Shortened result.size result.priority.order
+            ≡ Shortened self.target self.order }
         ensures start { result.priority.round.kept ≡ 0 }
         ensures suffix { result.transform.suffix.now ≡ [] }
         ensures limit { result.transform.limit ≡ Cut }
@@ -96,7 +98,8 @@ impl Narrowing {
     ) -> Result<CompleteDimension, TableError>
         requires texts { AreTexts (R.cells records.old) }
         requires rectangular { IsRectangular (R.cells records.old) }
-        ensures made { IfOk result (λ sizes. IsMade (plan_of self) (estimated (R.cells records.old) config.old.config)
+        ensures made { IfOk result (λ sizes. IsMade (plan_of self)
+            (estimated (R.cells records.old) config.old.config)
             (effective (R.cells records.new) config.new.config sizes)) }
         ensures only { IfErr result (λ e. (e ≡ Memory) ⊎ (e ≡ Range)) }
         ensures range { IfErr result (λ e. e ≡ Range → (is_empty (R.cells records.old) ≡ false)

@@ -1,5 +1,6 @@
 //! The command-line program over any reader and writers.
-ghost use Rattle.std.specs.Prelude.{◌≡◌, ◌≤◌, ◌↔◌, ◌⊎◌, IfErr, IfSome, IsErrOf, OnOk, map, string_bytes};
+ghost use Rattle.std.specs.Prelude.{◌≡◌, ◌≤◌, ◌↔◌, ◌⊎◌, IfErr, IfSome, IsErrOf, OnOk, map};
+ghost use Rattle.std.specs.Prelude.{string_bytes};
 ghost use Rattle.tabled.specs.declared.fault.Fault.{Fault};
 ghost use Rattle.tabled.specs.declared.fault.Fault.TheVariants.{Usage};
 ghost use Rattle.tabled.specs.declared.plan.Plan.{Plan};
@@ -49,7 +50,8 @@ fn print_blocked<S: SinkOverWriter, B: WriterStart>(
     requires held { IfSome (S.block sink).contents (λ held. held ≡ B.held) }
     ensures put { PutsOutput plan (string_bytes text.now) (block_sent (S.block sink)).bytes result.0
         (block_sent (S.block result.1)).bytes }
-    ensures advanced { IfSome (S.block sink).contents (λ _. Advances (S.block sink) (S.block result.1)) }
+    ensures advanced { IfSome (S.block sink).contents
+        (λ _. Advances (S.block sink) (S.block result.1)) }
 {
     let mut since: BytesSince<S, B> = BytesSince {
         sink,
@@ -66,7 +68,8 @@ fn print_through<O: Write>(
     plan: Plan,
     out: &mut O,
 ) -> Result<(), TableError>
-    ensures { PutsOutput plan (string_bytes text.now) (O.contents out.old) result (O.contents out.new) }
+    ensures { PutsOutput plan (string_bytes text.now) (O.contents out.old) result
+        (O.contents out.new) }
 {
     let mut held = BlockBuffer::new(alloc)?;
     let sink = BlockSink::new(out, &mut held);
@@ -88,13 +91,16 @@ fn attempt<I: Read, O: Write>(
     input: &mut I,
     out: &mut O,
 ) -> Result<(), Fault>
-    ensures usage { IsErrOf result Fault.Usage ↔ ((plan : Plan) → ¬ SpellsPlan (map string_bytes words.now) plan) }
+    ensures usage { IsErrOf result Fault.Usage
+        ↔ ((plan : Plan) → ¬ SpellsPlan (map string_bytes words.now) plan) }
     ensures unread { ((plan : Plan) → ¬ SpellsPlan (map string_bytes words.now) plan)
         → (input.new ≡ input.old) × (out.new ≡ out.old) }
     ensures printed { OnOk result ((plan : Plan) × SpellsPlan (map string_bytes words.now) plan
-        × HasPrinted plan (I.remaining input.old) (I.remaining input.new) (O.contents out.old) (O.contents out.new)) }
+        × HasPrinted plan (I.remaining input.old) (I.remaining input.new) (O.contents out.old)
+        (O.contents out.new)) }
     ensures failed { IfErr result (λ fault. (fault ≡ Fault.Usage)
-        ⊎ HasFailed O.contents (map string_bytes words.now) (I.remaining input.old) (I.remaining input.new) out.old out.new fault) }
+        ⊎ HasFailed O.contents (map string_bytes words.now) (I.remaining input.old)
+        (I.remaining input.new) out.old out.new fault) }
 {
     let Some(plan) = plan_of(words) else {
         return Err(Fault::Usage);
@@ -176,9 +182,11 @@ pub fn run<I: Read, O: Write, E: Write>(
     ensures usage { result ≡ 2 ↔ ((plan : Plan) → ¬ SpellsPlan (map string_bytes words.now) plan) }
     ensures unread { result ≡ 2 → (input.new ≡ input.old) × (out.new ≡ out.old) }
     ensures printed { result ≡ 0 → (plan : Plan) × SpellsPlan (map string_bytes words.now) plan
-        × HasPrinted plan (I.remaining input.old) (I.remaining input.new) (O.contents out.old) (O.contents out.new) }
+        × HasPrinted plan (I.remaining input.old) (I.remaining input.new) (O.contents out.old)
+        (O.contents out.new) }
     ensures failed { result ≡ 1 → (fault : Fault)
-        × HasFailed O.contents (map string_bytes words.now) (I.remaining input.old) (I.remaining input.new) out.old out.new fault
+        × HasFailed O.contents (map string_bytes words.now) (I.remaining input.old)
+        (I.remaining input.new) out.old out.new fault
         × Begins (E.contents err.old) (E.contents err.new) (line_of (word_of fault)) }
     ensures silent { result ≡ 0 → err.new ≡ err.old }
     ensures shown { result ≡ 2 → Begins (E.contents err.old) (E.contents err.new) (line_of usage) }

@@ -15,27 +15,19 @@ ghost use Rattle.tabled.specs.Rendered.{IsRendered, IsRenderedOf};
 
 use crate::narrowing::{Narrowing, print_narrowed};
 use crate::plan::Plan;
-use crate::streaming::print_streamed;
 use std::alloc::Global;
-use tabled_base::{PeekableRecords, TableError, TableOption};
+use tabled_base::{CellText, ExactRecords, PeekableRecords, TableError, TableOption, VecRecords};
 use tabled_config::{ColoredConfig, Style};
 use tabled_grid::{TextSink, print_estimated};
 use tabled_records::{lend_cells, text_rows};
-use tabled_table::new_config;
-
-/// The settings of a new table.
-fn new_settings(alloc: Global) -> ColoredConfig
-    ensures { result.config ≡ new_config }
-{
-    ColoredConfig::new(new_config(alloc))
-}
+use tabled_table::{IterTable, new_config};
 
 /// The settings of a new table in a style.
 fn styled_settings(alloc: Global, style: Style) -> Result<ColoredConfig, TableError>
     ensures ok { IfOk result (λ settings. settings.config ≡ with_style new_config style) }
     ensures only { IfErr result (λ e. e ≡ Memory) }
 {
-    let mut config = new_settings(alloc);
+    let mut config = ColoredConfig::new(new_config(alloc));
     TableOption::change(style, &mut (), &mut config, &mut ())?;
     Ok(config)
 }
@@ -50,12 +42,30 @@ fn print_measured<R: PeekableRecords, S: TextSink>(
 ) -> Result<(), TableError>
     requires texts { AreTexts (R.cells rows.now) }
     requires rectangular { IsRectangular (R.cells rows.now) }
-    ensures { IsRenderedOf (measured plan) (estimated (R.cells rows.now) config.config) (S.sent sink.old) result (S.sent sink.new) }
+    ensures { IsRenderedOf (measured plan) (estimated (R.cells rows.now) config.config)
+        (S.sent sink.old) result (S.sent sink.new) }
 {
     let Some(how) = Narrowing::of(plan) else {
         return print_estimated(alloc, sink, rows, config.as_ref());
     };
     print_narrowed(alloc, sink, &mut lend_cells(alloc, rows)?, config, how)
+}
+
+/// Prints records as an `IterTable` that reads all rows ahead.
+fn print_streamed<T: CellText, S: TextSink>(
+    alloc: Global,
+    sink: &mut S,
+    records: &VecRecords<T>,
+) -> Result<(), TableError>
+    requires filled { is_empty records.now ≡ false }
+    requires texts { AreTexts records.now }
+    requires lines { All (All (λ cell. length (lines_of cell) ≡ 1)) records.now }
+    requires rectangular { IsRectangular records.now }
+    ensures { IsRendered Plan.Streamed records.now (S.sent sink.old) result (S.sent sink.new) }
+{
+    let mut table = IterTable::new(records.as_rows());
+    let whole = *table.sniff(records.count_rows());
+    whole.fmt(alloc, sink)
 }
 
 /// Prints the table of some records under a plan. Each cell is a single line.
@@ -73,7 +83,10 @@ fn print_records<R: PeekableRecords, S: TextSink>(
 {
     match plan {
         Plan::Streamed => print_streamed(alloc, sink, &lend_cells(alloc, rows)?),
-        _ => print_measured(alloc, rows, new_settings(alloc), plan, sink),
+        _ => {
+            let config = ColoredConfig::new(new_config(alloc));
+            print_measured(alloc, rows, config, plan, sink)
+        }
     }
 }
 
@@ -94,7 +107,8 @@ pub fn render<S: TextSink>(
     plan: Plan,
     sink: &mut S,
 ) -> Result<(), TableError>
-    ensures rendered { IsRendered plan (text_rows text.now) (S.sent sink.old) result (S.sent sink.new) }
+    ensures rendered { IsRendered plan (text_rows text.now) (S.sent sink.old) result
+        (S.sent sink.new) }
     ensures only { IfErr result (λ e. (e ≡ Memory) ⊎ ((e ≡ Range) ⊎ (e ≡ Writer))) }
 {
     if text.is_empty() {
@@ -116,7 +130,8 @@ pub fn render_styled<S: TextSink>(
     plan: Plan,
     sink: &mut S,
 ) -> Result<(), TableError>
-    ensures rendered { IsRenderedOf (measured plan) (estimated (text_rows text.now) (with_style new_config style))
+    ensures rendered { IsRenderedOf (measured plan) (estimated (text_rows text.now)
+        (with_style new_config style))
         (S.sent sink.old) result (S.sent sink.new) }
     ensures only { IfErr result (λ e. (e ≡ Memory) ⊎ ((e ≡ Range) ⊎ (e ≡ Writer))) }
 {

@@ -1,4 +1,4 @@
-use Rattle.std.proofs.Common.{subst, sym}
+use Rattle.std.proofs.Common.{◌∙◌, subst, sym}
 use Rattle.tabled_config.specs.declared.spanned.SpannedConfig.{SpannedConfig}
 use Rattle.tabled_size.specs.Sheet.{estimated}
 use Rattle.tabled_size.specs.TextCells.{AreTexts}
@@ -20,4 +20,4 @@ returns-in_default g c =
     let same = measured_same c.args.plan c.in_default.not-Streamed in
     rendered_new c.args.plan cells old c.print_measured.result new
     (subst (λ (p : Plan). IsRenderedOf p (estimated cells new_config) old c.print_measured.result new) same
-    (subst (λ (d : SpannedConfig). IsRenderedOf (measured c.args.plan) (estimated cells d) old c.print_measured.result new) c.new_settings.ensures c.print_measured.ensures))
+    (subst (λ (d : SpannedConfig). IsRenderedOf (measured c.args.plan) (estimated cells d) old c.print_measured.result new) (c.new-config.ensures ∙ c.new_config.ensures) c.print_measured.ensures))

@@ -6,7 +6,7 @@ use Rattle.tabled_table.specs.declared.iter_table.settings.StreamSettings.{Strea
 use Rattle.tabled_table.specs.declared.iter_table.IterTable.{IterTable}
 use Rattle.tabled_records.proofs.LentBegin.{lent_rows_begin}
 use Rattle.tabled.proofs.StreamedTables.{all_ahead, streamed_by}
-use Rattle.tabled.proofs.streaming.print_streamed.Goals as goal
+use Rattle.tabled.proofs.rendering.print_streamed.Goals as goal
 
 pub returns : goal.returns
 returns g c =
