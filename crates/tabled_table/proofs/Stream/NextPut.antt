@@ -64,14 +64,6 @@ next-put (Err d) layout first first' begun begun' old new height lines row (inr 
       halts = inr (refl, put-stopped p q (e ∙ padded-is row lines p h) b);
     }
 
-pub next-high : {R : Type 0} (r : Result R TableError) (layout : Layout) (first begun : Bool) (old : Sent) (lines : ℕ) (row : List (List ℕ))
-    → 2 ^ 64 ≤ padded layout lines → r ≡ Err Range → PutsNext lines row layout first old begun r first old begun
-next-high (Ok x) layout first begun old lines row high e settings config ahead_rows shown start p h = absurd (cc)
-next-high (Err d) layout first begun old lines row high e settings config ahead_rows shown start p h =
-    let is : d ≡ Range = cc in
-    let k = padded-is row lines p h in
-    halts-before row d old p refl (inl (is, subst (λ n. 2 ^ 64 ≤ n) k high))
-
 pub next-refused : {R : Type 0} (r : Result R TableError) (e : TableError) (layout : Layout) (first begun : Bool) (old : Sent) (lines : ℕ) (row : List (List ℕ))
     → IsErrAnd r (λ d. d ≡ e) → e ≡ Memory → PutsNext lines row layout first old begun r first old begun
 next-refused (Ok x) e layout first begun old lines row i m settings config ahead_rows shown start p h = absurd i

@@ -1,9 +1,8 @@
 -- What is read of a source, told of the iterator that it makes.
-use Rattle.std.proofs.Common.{ℕ, Bool, true, List, Result, map, refl}
+use Rattle.std.proofs.Common.{ℕ, Bool, List, Result, map, refl}
 use Rattle.std.specs.declared.option.Option.{Option}
 use Rattle.std.specs.Iterator.{Count}
-use Rattle.tabled_base.specs.Laws.{whole_rows}
-use Rattle.tabled_base.specs.RowsGiven.{RowsBegin, RowsEnd, RowsGiven}
+use Rattle.tabled_base.specs.RowsGiven.{RowsBegin, RowsEnd}
 use Rattle.tabled_base.specs.declared.error.TableError.{TableError}
 use Rattle.tabled_config.specs.declared.compact.CompactConfig.{CompactConfig}
 use Rattle.tabled_line.specs.Sent.{Sent}
@@ -30,10 +29,6 @@ module _ {V S W T A : Type 0} {rows_become : V → S → Type 0} {row_steps : S 
     each = r.reads.each;
     ended = λ e. (to, r.ended e);
   }
-
-  pub gives-of : {rows : V} {it to : S} {cells : List (List A)} → rows_become rows it
-      → ReadsTo row_steps cells_become cell_steps it cells true to → RowsGiven rows_become row_steps cells_become cell_steps rows cells
-  gives-of made r = whole_rows (begins-of made r)
 
 -- what is printed of a source, by the cells that are read of it first
 pub prints-stream : {T A : Type 0} {settings : StreamSettings} {config : CompactConfig} {begins : List (List A) → Bool → Type 0} {text : A → List ℕ}

@@ -1,8 +1,8 @@
-use Rattle.std.proofs.Common.{◌∙◌, [], length, map, take, min, refl, sym, ap}
+use Rattle.std.proofs.Common.{◌∙◌, [], length, map, take, refl, sym, ap}
 use Rattle.std.proofs.lemmas.List.{length-map}
 use Rattle.tabled_base.specs.Cells.{texts_of}
 use Rattle.tabled_table.specs.Stream.Progress.{left_of}
-use Rattle.tabled_table.specs.Stream.Streamed.{ahead, limited, sniffed}
+use Rattle.tabled_table.specs.Stream.Streamed.{limited, sniffed}
 use Rattle.tabled_table.proofs.Stream.Endings.{halts-top}
 use Rattle.tabled_table.proofs.Stream.Finished.{put-finished, put-halted}
 use Rattle.tabled_table.proofs.Stream.FirstRows.{sniffed-shown}
