@@ -19,9 +19,11 @@ pub mod Owners
 pub mod Padded
 pub mod BlockLines
 pub mod PlainBlocks
+pub mod Listed
 pub mod Plains
 pub mod PoolBlocks
 pub mod PoolLemmas
+pub mod Runs
 pub mod Steps
 pub mod StraightPools
 pub mod Sums

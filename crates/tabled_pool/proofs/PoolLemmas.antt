@@ -1,5 +1,5 @@
 -- Pool tables as plans.
-use Rattle.std.proofs.Common.{◌≡◌, ℕ, List, true, refl, ap, ◌∙◌}
+use Rattle.std.proofs.Common.{◌≡◌, ℕ, List, true, refl, ap, sym, ◌∙◌, arith}
 use Rattle.std.specs.List.{join_with_byte}
 use Rattle.tabled_config.specs.declared.borders.Borders.{Borders}
 use Rattle.tabled_config.specs.declared.sides.Indent.{Indent}
@@ -7,6 +7,8 @@ use Rattle.tabled_config.specs.declared.sides.Sides.{Sides}
 use Rattle.tabled_config.specs.declared.spanned.CellStyle.{CellStyle}
 use Rattle.tabled_pool.specs.Boxes.{Part}
 use Rattle.tabled_pool.specs.Margins.{with_margin}
+use Rattle.tabled_pool.specs.Tiling.{AreTiles, covering, within}
+use Rattle.tabled_pool.proofs.Framing.{tree_framed_tiles}
 use Rattle.tabled_pool.specs.Colours.{LineMarks, Mark, line_marks_of, marks_of}
 use Rattle.tabled_pool.specs.Plan.{DrawingPlan}
 use Rattle.tabled_pool.specs.Inherited.{inherited_block, has_zero_width}
@@ -16,6 +18,8 @@ use Rattle.tabled_pool.specs.Drawn.{drawn}
 use Rattle.tabled_pool.specs.Pool.{
   HasColumns,
   borders_of,
+  frame_of,
+  frame_place,
   framed_height,
   framed_width,
   spacing_of,
@@ -69,3 +73,14 @@ pub plan_is : (t : PoolTable) (ps : List Part) (w h : ℕ) (b : Borders ℕ) (s 
     → record { parts = ps; width = w; height = h; borders = b; style = s; padding_marks = pm; line_marks = lm } ≡ plan t
 unfolding plan
 plan_is t ps w h b s pm lm e1 e2 e3 e4 e5 e6 e7 = rw (e1, e2, e3, e4, e5, e6, e7) refl
+
+-- the parts of a plan tile its rectangle
+pub plan_tiles : (t : PoolTable) (ps : List Part) (w h : ℕ) → ps ≡ (plan t).parts → w ≡ framed_width t → h ≡ framed_height t
+    → AreTiles ps (record { x = 0; y = 0; width = w; height = h })
+unfolding plan
+plan_tiles t ps w h e f g =
+    let base : AreTiles (plan t).parts (frame_place t) =
+    tree_framed_tiles (spacing_of t) t.value (frame_of (borders_of t)) (frame_place t) (omega arith) (omega arith) in
+    λ px py. ap (λ qs. covering qs px py) e ∙ base px py
+    ∙ ap (λ v. within (record { x = 0; y = 0; width = v; height = framed_height t }) px py) (sym f)
+    ∙ ap (λ v. within (record { x = 0; y = 0; width = w; height = v }) px py) (sym g)

@@ -1,6 +1,6 @@
 -- The lines of a drawing. At each position a line of a text's block starts, or one border character
 -- is written with its colour.
-use Rattle.std.specs.Prelude.{ℕ, ◌+◌, ◌-◌, ◌==◌, if◌then◌else◌, ◌&&◌, ◌||◌, List, [], map, Option, Some, None, unwrap_or, encode_utf8}
+use Rattle.std.specs.Prelude.{ℕ, ◌+◌, ◌-◌, ◌==◌, if◌then◌else◌, Bool, ◌&&◌, ◌||◌, List, [], map, Option, Some, None, unwrap_or, encode_utf8}
 use Rattle.std.specs.List.{range_with_len, flat_map}
 use Rattle.tabled_pool.specs.declared.pieces.Rectangle.{Rectangle}
 use Rattle.tabled_pool.specs.declared.pieces.Kind.{Kind}
@@ -21,6 +21,11 @@ abbrev pub main_of : DrawingPlan → Kind → Rectangle → Option ℕ
 main_of t Leaf r = None
 main_of t Bar r = if has_right t.borders && (r.x + r.width == t.width) then t.borders.right else t.borders.left
 main_of t Rule r = if has_bottom t.borders && (r.y + r.height == t.height) then t.borders.bottom else t.borders.top
+
+-- the character of a border with an arm to each side where a border is
+abbrev pub armed_char : DrawingPlan → Kind → Rectangle → Bool → Bool → Bool → Bool → ℕ
+armed_char t k r left right up down =
+    unwrap_or (if (left || right) && (up || down) then junction t.borders left right up down else main_of t k r) 32
 
 -- a position with a border at its left or right and one above or below is a junction, with an arm
 -- to each such side

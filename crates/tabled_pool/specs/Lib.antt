@@ -25,6 +25,7 @@ pub mod PlainTree
 pub mod Plan
 pub mod Plans
 pub mod Pool
+pub mod Runs
 pub mod Shown
 pub mod Texts
 pub mod Tiled

@@ -1,8 +1,7 @@
--- The parts near a line, which alone determine what is drawn on it.
+-- The parts near a line, which alone can colour its borders.
 use Rattle.std.specs.Prelude.{ℕ, ◌+◌, leb, ◌&&◌, if◌then◌else◌, Bool, List, [], ◌∷◌}
 use Rattle.tabled_pool.specs.declared.pieces.Rectangle.{Rectangle}
 use Rattle.tabled_pool.specs.Boxes.{Part}
-use Rattle.tabled_pool.specs.Plan.{DrawingPlan}
 
 -- whether a rectangle reaches line `y`, the line above it or the line below it
 abbrev pub is_near : ℕ → Rectangle → Bool
@@ -11,6 +10,3 @@ is_near y r = leb r.y (y + 1) && leb y (r.y + r.height)
 abbrev pub near_parts : ℕ → List Part → List Part
 near_parts y [] = []
 near_parts y (p ∷ ps) = if is_near y p.place then p ∷ near_parts y ps else near_parts y ps
-
-abbrev pub near_plan : ℕ → DrawingPlan → DrawingPlan
-near_plan y t = record t { parts = near_parts y t.parts }

@@ -24,7 +24,6 @@ use crate::kinds::is_line_kind;
 use crate::line_characters::{ends_at, has_bottom, has_top};
 use crate::marks::{LineColors, Marks, alone, begun, ended, used_after};
 use crate::pieces::{Piece, Rectangle};
-use crate::uncolored::are_uncolored_lines;
 use tabled_config::ANSIStr;
 
 /// Where a position is relative to a range of columns or lines.
@@ -193,16 +192,13 @@ fn around_piece(drawing: &Drawing<'_, '_>, piece: &Piece<'_>, x: usize, y: usize
     around_text(drawing, piece.place, x, y)
 }
 
-/// The marks around a position: those of the first text that draws it.
-pub(crate) fn around_at(drawing: &Drawing<'_, '_>, x: usize, y: usize) -> Marks
+/// The marks around a position: those of the first of some pieces that draws it.
+pub(crate) fn around_at(drawing: &Drawing<'_, '_>, near: &[Piece<'_>], x: usize, y: usize) -> Marks
     requires across { x < 2 ^ 64 - 1 }
     requires down { y < 2 ^ 64 - 1 }
-    ensures { around_of result ≡ around_at (plan_of drawing.now) (map shown drawing.now.pieces.now) x y }
+    ensures { around_of result ≡ around_at (plan_of drawing.now) (map shown near.now) x y }
 {
-    if are_uncolored_lines(&drawing.colors) {
-        return Marks::none();
-    }
-    for piece in drawing.pieces {
+    for piece in near {
         if let Some(marks) = around_piece(drawing, piece, x, y) {
             return marks;
         }

@@ -1,24 +1,23 @@
-//! Writes one line of a drawing, position by position.
-ghost use Rattle.std.specs.Prelude.{◌≡◌, ◌^◌, ◌<◌, ◌+◌, ◌-◌, map, [], ◌∷◌, ◌++◌, encode_utf8};
-ghost use Rattle.std.specs.List.{flat_map, range_with_len, join_with_byte};
+//! Writes one line of a drawing, run by run.
+ghost use Rattle.std.specs.Prelude.{◌≡◌, ◌<◌, ◌≤◌, ◌+◌, map, true, ◌++◌, encode_utf8};
+ghost use Rattle.std.specs.List.{flat_map, range_with_len};
 ghost use Rattle.tabled_line.specs.Sent.{Sent, Writes};
-ghost use Rattle.tabled_line.specs.Leading.{WritesLines};
-ghost use Rattle.tabled_line.specs.Plain.{EachLineTakes};
+ghost use Rattle.tabled_pool.specs.declared.pieces.Kind.TheVariants.{Leaf};
+ghost use Rattle.tabled_pool.specs.Kinds.{is_line_kind};
+ghost use Rattle.tabled_pool.specs.Around.{around_at};
 ghost use Rattle.tabled_pool.specs.Marks.{within_marks};
-ghost use Rattle.tabled_pool.specs.Leaf.{leaf_line};
 ghost use Rattle.tabled_pool.specs.Plans.{around_of, plan_of};
-ghost use Rattle.tabled_pool.specs.Drawn.{border_char, border_text, place_text, drawn_line, drawn};
-ghost use Rattle.tabled_pool.specs.Tiled.{Tiled};
+ghost use Rattle.tabled_pool.specs.Shown.{shown};
+ghost use Rattle.tabled_pool.specs.Drawn.{drawn_line, part_text, place_text};
+ghost use Rattle.tabled_pool.specs.Runs.{IsRun};
 
 use crate::block::draw_block_line;
 use crate::color_marks::around_at;
-use crate::drawing::Drawing;
-use crate::find::find;
-use crate::line_characters::border_char;
+use crate::line::{Line, Run};
 use crate::marks::Marks;
-use crate::pieces::{Kind, Rectangle};
+use crate::pieces::{Kind, Piece};
 use tabled_base::TableError;
-use tabled_line::{CellBlock, Content, TextSink, write_char};
+use tabled_line::{CellBlock, Content, TextSink, write_char, write_fill};
 
 /// Writes a character between its marks.
 fn draw_marked<S: TextSink>(sink: &mut S, marks: Marks, c: char) -> Result<(), TableError>
@@ -37,70 +36,101 @@ fn draw_opened<S: TextSink>(sink: &mut S, marks: Marks, c: char) -> Result<(), T
     sink.write_text(marks.behind)
 }
 
-/// Writes a border character with its colour.
-#[tactic(auto, unfolding(crate::specs::Drawn::border_text))]
-fn draw_border<S: TextSink>(
-    sink: &mut S,
-    drawing: &Drawing<'_, '_>,
-    kind: Kind,
-    place: Rectangle,
-    x: usize,
-    y: usize,
-) -> Result<(), TableError>
-    requires across { x < 2 ^ 64 - 1 }
-    requires down { y < 2 ^ 64 - 1 }
-    ensures { Writes (S.sent sink.old) result (S.sent sink.new) (border_text (plan_of drawing.now) kind place x y) }
+/// The marks around a position.
+fn marks_at(line: &Line<'_, '_, '_, '_>, x: usize) -> Marks
+    requires { x < line.now.drawing.now.width }
+    ensures { around_of result ≡ around_at (plan_of line.now.drawing.now)
+        (map shown line.now.drawing.now.pieces.now) x line.now.y }
 {
-    let marks = around_at(drawing, x, y);
-    draw_marked(sink, marks, border_char(drawing, kind, place, x, y))
+    if line.sweep.listed {
+        return around_at(line.drawing, line.sweep.near.as_slice(), x, line.y);
+    }
+    around_at(line.drawing, line.drawing.pieces, x, line.y)
 }
 
-/// Writes what starts at a position: a line of a text's block, or one border character.
-#[tactic(auto, unfolding(crate::specs::Drawn::place_text, crate::specs::Leaf::leaf_line))]
-fn draw_place<S: TextSink>(
+/// Writes copies of a border character, each with its colour.
+fn draw_border<S: TextSink>(
     sink: &mut S,
-    drawing: &Drawing<'_, '_>,
-    y: usize,
+    line: &Line<'_, '_, '_, '_>,
+    run: &Run<'_, '_>,
     x: usize,
 ) -> Result<(), TableError>
-    requires across { x < 2 ^ 64 - 1 }
-    requires down { y < 2 ^ 64 - 1 }
-    ensures { Writes (S.sent sink.old) result (S.sent sink.new) (place_text (plan_of drawing.now) y x) }
+    requires kind { is_line_kind run.now.piece.now.kind ≡ true }
+    requires run { IsRun (plan_of line.now.drawing.now) x line.now.y run.now.count run.now.c
+        (shown run.now.piece.now) }
+    ensures { Writes (S.sent sink.old) result (S.sent sink.new)
+        (flat_map (place_text (plan_of line.now.drawing.now) line.now.y)
+        (range_with_len x run.now.count)) }
 {
-    let Some(piece) = find(drawing.pieces, x, y) else {
-        return Ok(());
-    };
+    if line.is_uncolored() {
+        return write_fill(sink, run.c, run.count);
+    }
+    'places: for at in 0..run.count {
+        draw_marked(sink, marks_at(line, x + at), run.c)?;
+    }
+    Ok(())
+}
+
+/// Writes the line of a text's block that starts at a column.
+#[tactic(auto, unfolding(crate::specs::Leaf::leaf_line))]
+fn draw_text<S: TextSink>(
+    sink: &mut S,
+    line: &Line<'_, '_, '_, '_>,
+    piece: &Piece<'_>,
+    x: usize,
+) -> Result<(), TableError>
+    requires top { piece.now.place.y ≤ line.now.y }
+    requires bottom { line.now.y < piece.now.place.y + piece.now.place.height }
+    ensures { Writes (S.sent sink.old) result (S.sent sink.new)
+        (part_text (plan_of line.now.drawing.now) Leaf (shown piece.now) x line.now.y) }
+{
     let place = piece.place;
-    match piece.kind {
-        Kind::Leaf => {
-            if place.x != x {
-                return Ok(());
-            }
-            let cell = CellBlock {
-                style: drawing.style,
-                width: place.width,
-                height: place.height,
-                content: Content::new(piece.text),
-            };
-            draw_block_line(sink, &cell, &drawing.padding_colors, y - place.y)
-        }
-        Kind::Bar => draw_border(sink, drawing, Kind::Bar, place, x, y),
-        Kind::Rule => draw_border(sink, drawing, Kind::Rule, place, x, y),
+    if place.x != x {
+        return Ok(());
+    }
+    let cell = CellBlock {
+        style: line.drawing.style,
+        width: place.width,
+        height: place.height,
+        content: Content::new(piece.text),
+    };
+    draw_block_line(sink, &cell, &line.drawing.padding_colors, line.y - place.y)
+}
+
+/// Writes a run.
+fn draw_run<S: TextSink>(
+    sink: &mut S,
+    line: &Line<'_, '_, '_, '_>,
+    run: &Run<'_, '_>,
+    x: usize,
+) -> Result<(), TableError>
+    requires { IsRun (plan_of line.now.drawing.now) x line.now.y run.now.count run.now.c
+        (shown run.now.piece.now) }
+    ensures { Writes (S.sent sink.old) result (S.sent sink.new)
+        (flat_map (place_text (plan_of line.now.drawing.now) line.now.y)
+        (range_with_len x run.now.count)) }
+{
+    match run.piece.kind {
+        Kind::Leaf => draw_text(sink, line, run.piece, x),
+        Kind::Bar => draw_border(sink, line, run, x),
+        Kind::Rule => draw_border(sink, line, run, x),
     }
 }
 
-/// Writes line `y` of a drawing.
+/// Writes a line of a drawing.
 #[tactic(auto, unfolding(crate::specs::Drawn::drawn_line))]
 pub(crate) fn draw_line<S: TextSink>(
     sink: &mut S,
-    drawing: &Drawing<'_, '_>,
-    y: usize,
+    line: &Line<'_, '_, '_, '_>,
 ) -> Result<(), TableError>
-    requires down { y < 2 ^ 64 - 1 }
-    ensures { Writes (S.sent sink.old) result (S.sent sink.new) (drawn_line (plan_of drawing.now) y) }
+    ensures { Writes (S.sent sink.old) result (S.sent sink.new)
+        (drawn_line (plan_of line.now.drawing.now) line.now.y) }
 {
-    'places: for x in 0..drawing.width {
-        draw_place(sink, drawing, y, x)?;
+    let mut x = 0;
+    'runs: while x < line.drawing.width {
+        let run = line.run_at(x);
+        draw_run(sink, line, &run, x)?;
+        x += run.count;
     }
     Ok(())
 }

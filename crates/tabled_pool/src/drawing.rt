@@ -1,4 +1,7 @@
 //! `Drawing`: placed pieces, and the settings that they are drawn with.
+ghost use Rattle.std.specs.Prelude.{◌<◌, ◌^◌, map};
+ghost use Rattle.tabled_pool.specs.Shown.{shown};
+ghost use Rattle.tabled_pool.specs.Tiling.{AreTiles};
 
 use crate::pieces::Piece;
 use std::alloc::Global;
@@ -17,4 +20,8 @@ pub struct Drawing<'d, 'a> {
     pub colors: Borders<ANSIStr<'static>>,
     /// The allocator for lists of pieces and for drawn lines.
     pub alloc: Global,
+    ghost wide: { width < 2 ^ 64 },
+    ghost tall: { height < 2 ^ 64 },
+    /// Each position is in exactly one piece.
+    ghost tiles: { AreTiles (map shown pieces.now) (record { x = 0; y = 0; width = width; height = height }) },
 }

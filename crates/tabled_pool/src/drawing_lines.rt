@@ -10,65 +10,37 @@ ghost use Rattle.tabled_pool.specs.Drawn.{drawn, drawn_line};
 
 use crate::draw::draw_line;
 use crate::drawing::Drawing;
+use crate::line::Line;
 use crate::margins::{ColoredMargin, draw_margin};
-use crate::near::gather;
-use crate::pieces::Piece;
+use crate::sweep::Sweep;
 use tabled_base::TableError;
 use tabled_line::{TextSink, write_break};
 
 /// Writes a line of a drawing, between the side margins.
 fn draw_inner_line<S: TextSink>(
     sink: &mut S,
-    drawing: &Drawing<'_, '_>,
     margin: &ColoredMargin,
-    y: usize,
+    line: &Line<'_, '_, '_, '_>,
 ) -> Result<(), TableError>
-    requires down { y < 2 ^ 64 - 1 }
-    ensures { Writes (S.sent sink.old) result (S.sent sink.new)
-        (within_margin margin.now.indent (marks_of margin.now.colors) (drawn_line (plan_of drawing.now) y)) }
+    ensures { Writes (S.sent sink.old) result (S.sent sink.new) (within_margin margin.now.indent (marks_of margin.now.colors)
+        (drawn_line (plan_of line.now.drawing.now) line.now.y)) }
 {
     margin.write_left_margin(sink)?;
-    draw_line(sink, drawing, y)?;
+    draw_line(sink, line)?;
     margin.write_right_margin(sink)
 }
 
 fn draw_next_line<S: TextSink>(
     sink: &mut S,
     begun: &mut bool,
-    drawing: &Drawing<'_, '_>,
     margin: &ColoredMargin,
-    y: usize,
+    line: &Line<'_, '_, '_, '_>,
 ) -> Result<(), TableError>
-    requires down { y < 2 ^ 64 - 1 }
     ensures { WritesLines (S.sent sink.old) begun.old result (S.sent sink.new) begun.new
-        (within_margin margin.now.indent (marks_of margin.now.colors) (drawn_line (plan_of drawing.now) y) ∷ []) }
+        (within_margin margin.now.indent (marks_of margin.now.colors) (drawn_line (plan_of line.now.drawing.now) line.now.y) ∷ []) }
 {
     write_break(sink, begun)?;
-    draw_inner_line(sink, drawing, margin, y)
-}
-
-/// Writes a line of a drawing, between the side margins. It uses a list of the pieces near the
-/// line, or all pieces if there is no memory for the list.
-fn draw_near_line<'a, S: TextSink>(
-    sink: &mut S,
-    begun: &mut bool,
-    drawing: &Drawing<'_, 'a>,
-    margin: &ColoredMargin,
-    near: &mut Vec<Piece<'a>>,
-    y: usize,
-) -> Result<(), TableError>
-    requires down { y < 2 ^ 64 - 1 }
-    ensures { WritesLines (S.sent sink.old) begun.old result (S.sent sink.new) begun.new
-        (within_margin margin.now.indent (marks_of margin.now.colors) (drawn_line (plan_of drawing.now) y) ∷ []) }
-{
-    if !gather(near, drawing.pieces, y) {
-        return draw_next_line(sink, begun, drawing, margin, y);
-    }
-    let close = Drawing {
-        pieces: near.as_slice(),
-        ..*drawing
-    };
-    draw_next_line(sink, begun, &close, margin, y)
+    draw_inner_line(sink, margin, line)
 }
 
 /// Writes the lines of a drawing, between the side margins.
@@ -82,9 +54,15 @@ fn draw_inner_lines<S: TextSink>(
         (map (λ y. within_margin margin.now.indent (marks_of margin.now.colors) (drawn_line (plan_of drawing.now) y))
         (range_with_len 0 drawing.now.height)) }
 {
-    let mut near = Vec::new(drawing.alloc);
+    let mut sweep = Sweep::new(drawing);
     'lines: for y in 0..drawing.height {
-        draw_near_line(sink, begun, drawing, margin, &mut near, y)?;
+        sweep.advance(drawing, y);
+        let line = Line {
+            drawing,
+            sweep: &sweep,
+            y,
+        };
+        draw_next_line(sink, begun, margin, &line)?;
     }
     Ok(())
 }

@@ -2,7 +2,7 @@
 //!
 //! A box is a text with its padding, a row of boxes or a column of boxes. Boxes fill the rectangle
 //! that they are given: each position in it belongs to exactly one text or border. A tree is drawn
-//! position by position. Only a tree with a *zero-width* text, which is given no columns, is drawn
+//! line by line. Only a tree with a *zero-width* text, which is given no columns, is drawn
 //! box by box, and its boxes are joined.
 //!
 //! The table:
@@ -30,11 +30,13 @@
 //! - `drawing`: `Drawing`, the pieces and their settings
 //! - `kinds`: which pieces are borders
 //!
-//! Drawing position by position:
+//! Drawing line by line:
 //! - `find`: the piece at a position
-//! - `near`: the pieces near a line
+//! - `sweep`: where to look for it first
+//! - `line`: the runs of a line: columns of one text, or of equal border characters
 //! - `line_characters`: the characters of borders
-//! - `color_marks`: the marks around these characters
+//! - `near`: the pieces that may colour a line
+//! - `color_marks`: the marks around border characters
 //! - `draw`: one line of a drawing
 //! - `drawing_lines`: all lines of a drawing, with the margin
 //!
@@ -67,6 +69,7 @@ mod inherited;
 mod inherited_text;
 mod inheriting;
 mod kinds;
+mod line;
 mod line_characters;
 mod making;
 mod margins;
@@ -77,6 +80,7 @@ mod places;
 mod plain;
 mod pool_table;
 mod sizes;
+mod sweep;
 mod taking;
 mod tree;
 mod uncolored;

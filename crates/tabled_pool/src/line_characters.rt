@@ -5,12 +5,9 @@ ghost use Rattle.tabled_pool.specs.Shown.{shown};
 ghost use Rattle.tabled_pool.specs.Kinds.{is_line_kind};
 ghost use Rattle.tabled_pool.specs.Plans.{plan_of};
 ghost use Rattle.tabled_pool.specs.Frames.{has_bottom, has_top};
-ghost use Rattle.tabled_pool.specs.Owner.{is_line, is_border, is_border_before, is_border_above};
-ghost use Rattle.tabled_pool.specs.Drawn.{main_of, border_char};
+ghost use Rattle.tabled_pool.specs.Drawn.{armed_char, main_of};
 
 use crate::drawing::Drawing;
-use crate::find::find;
-use crate::kinds::is_line_kind;
 use crate::pieces::{Kind, Piece, Rectangle};
 use tabled_config::Borders;
 
@@ -32,34 +29,6 @@ pub(crate) fn has_bottom(borders: &Borders<char>) -> bool
         || borders.bottom_left.is_some()
         || borders.bottom_intersection.is_some()
         || borders.bottom_right.is_some()
-}
-
-/// Whether a position is on a border.
-fn is_border(pieces: &[Piece<'_>], x: usize, y: usize) -> bool
-    ensures { result ≡ is_border (map shown pieces.now) x y }
-{
-    match find(pieces, x, y) {
-        Some(piece) => is_line_kind(piece.kind),
-        None => false,
-    }
-}
-
-fn is_border_before(pieces: &[Piece<'_>], x: usize, y: usize) -> bool
-    ensures { result ≡ is_border_before (map shown pieces.now) x y }
-{
-    if x == 0 {
-        return false;
-    }
-    is_border(pieces, x - 1, y)
-}
-
-fn is_border_above(pieces: &[Piece<'_>], x: usize, y: usize) -> bool
-    ensures { result ≡ is_border_above (map shown pieces.now) x y }
-{
-    if y == 0 {
-        return false;
-    }
-    is_border(pieces, x, y - 1)
 }
 
 /// Whether `size` columns or lines from `start` on end at `whole`.
@@ -93,27 +62,29 @@ fn main_of(drawing: &Drawing<'_, '_>, kind: Kind, place: Rectangle) -> Option<ch
     }
 }
 
-#[tactic(auto, unfolding(crate::specs::Drawn::border_char))]
-pub(crate) fn border_char(
-    drawing: &Drawing<'_, '_>,
-    kind: Kind,
-    place: Rectangle,
-    x: usize,
-    y: usize,
-) -> char
-    requires across { x < 2 ^ 64 - 1 }
-    requires down { y < 2 ^ 64 - 1 }
-    ensures { result ≡ border_char (plan_of drawing.now) kind place x y }
+/// Which neighbours of a position are borders.
+#[derive(Clone, Copy)]
+pub(crate) struct Arms {
+    pub left: bool,
+    pub right: bool,
+    pub up: bool,
+    pub down: bool,
+}
+
+/// The character of a border where these arms meet.
+pub(crate) fn border_char(drawing: &Drawing<'_, '_>, piece: &Piece<'_>, arms: Arms) -> char
+    ensures { result ≡ armed_char (plan_of drawing.now) piece.now.kind piece.now.place arms.left arms.right arms.up arms.down }
 {
-    let pieces = drawing.pieces;
-    let left = is_border_before(pieces, x, y);
-    let right = is_border(pieces, x + 1, y);
-    let up = is_border_above(pieces, x, y);
-    let down = is_border(pieces, x, y + 1);
+    let Arms {
+        left,
+        right,
+        up,
+        down,
+    } = arms;
     let found = if (left || right) && (up || down) {
         drawing.borders.junction(left, right, up, down)
     } else {
-        main_of(drawing, kind, place)
+        main_of(drawing, piece.kind, piece.place)
     };
     found.unwrap_or(' ')
 }

@@ -1,9 +1,13 @@
-//! The pieces near a line, which alone determine what is drawn on it.
-ghost use Rattle.std.specs.Prelude.{◌≡◌, ◌^◌, ◌<◌, ◌-◌, true, map};
+//! The pieces near a line, which alone can colour its borders.
+ghost use Rattle.std.specs.Prelude.{◌≡◌, ℕ, ◌^◌, ◌<◌, ◌-◌, true, map};
+ghost use Rattle.tabled_pool.specs.Around.{around_at};
+ghost use Rattle.tabled_pool.specs.Plans.{plan_of};
 ghost use Rattle.tabled_pool.specs.Shown.{shown};
 ghost use Rattle.tabled_pool.specs.Near.{is_near, near_parts};
 
+use crate::drawing::Drawing;
 use crate::pieces::{Piece, Rectangle};
+use crate::uncolored::are_uncolored_lines;
 
 /// Whether a rectangle reaches line `y`, the line above it or the line below it.
 fn is_near(place: Rectangle, y: usize) -> bool
@@ -14,7 +18,7 @@ fn is_near(place: Rectangle, y: usize) -> bool
 }
 
 /// Lists the pieces near line `y`. Returns `false` if an allocation fails.
-pub(crate) fn gather<'a>(near: &mut Vec<Piece<'a>>, pieces: &[Piece<'a>], y: usize) -> bool
+fn gather<'a>(near: &mut Vec<Piece<'a>>, pieces: &[Piece<'a>], y: usize) -> bool
     requires { y < 2 ^ 64 - 1 }
     ensures { result ≡ true → map shown near.new.items ≡ near_parts y (map shown pieces.now) }
 {
@@ -25,4 +29,23 @@ pub(crate) fn gather<'a>(near: &mut Vec<Piece<'a>>, pieces: &[Piece<'a>], y: usi
         }
     }
     true
+}
+
+/// Lists pieces that colour the borders of line `y` as all do: none if no border is coloured, else
+/// those near the line. Returns `false` if an allocation fails.
+pub(crate) fn list_coloring<'a>(
+    near: &mut Vec<Piece<'a>>,
+    drawing: &Drawing<'_, 'a>,
+    y: usize,
+) -> bool
+    requires { y < drawing.now.height }
+    ensures { result ≡ true → (x : ℕ)
+        → around_at (plan_of drawing.now) (map shown near.new.items) x y
+        ≡ around_at (plan_of drawing.now) (map shown drawing.now.pieces.now) x y }
+{
+    if are_uncolored_lines(&drawing.colors) {
+        near.clear();
+        return true;
+    }
+    gather(near, drawing.pieces, y)
 }

@@ -362,9 +362,10 @@ impl PoolTable {
     /// left, and a text of no columns draws none. Boxes pass on to the next ones where borders
     /// meet. A table that is one empty line has no margin.
     ///
-    /// Recurses at each level of the value (see `PoolTable`). Each line takes a pass over all texts
-    /// and borders, and each of its columns takes passes over those near the line, or over all if
-    /// there is no memory to list these.
+    /// Recurses at each level of the value (see `PoolTable`). Drawing takes a time that grows with
+    /// the printed text. If borders are coloured, each line also takes a pass over all texts and
+    /// borders, and each of its border characters one over those near the line. Without memory to
+    /// find texts and borders by their columns, each run of a line takes passes over all of them.
     pub fn write_to<S: TextSink>(&self, sink: &mut S) -> Result<(), TableError>
         ensures printed { WritesPool self.now (S.sent sink.old) result (S.sent sink.new) }
         ensures padded { IsPadded self.now → HasColumns self.now }

@@ -6,13 +6,13 @@ use Rattle.tabled_pool.specs.Plans.{plan_of}
 use Rattle.tabled_pool.specs.Drawn.{drawn_line}
 use Rattle.tabled_pool.proofs.drawing_lines.draw_inner_lines.Goals as goal
 
-pub returns-in_err-draw_near_line : goal.returns-in_err-draw_near_line
-returns-in_err-draw_near_line g c =
-    lines-stopped _ _ _ _ _ c.lines.invariant c.in_err-draw_near_line.ensures c.from_residual.ensures.1
+pub returns-in_err-draw_next_line : goal.returns-in_err-draw_next_line
+returns-in_err-draw_next_line g c =
+    lines-stopped _ _ _ _ _ c.lines.invariant c.in_err-draw_next_line.ensures c.from_residual.ensures.1
     (map-rest (λ y. within_margin c.args.margin.now.indent (marks_of c.args.margin.now.colors)
     (drawn_line (plan_of c.args.drawing.now) y)) _ _ c.lines-test.true)
 
 pub lines-preserved : goal.lines-preserved
 lines-preserved g c =
-    lines-further c.lines.invariant c.in_ok-draw_near_line.ensures
+    lines-further c.lines.invariant c.in_ok-draw_next_line.ensures
     (map-more (λ y. within_margin c.args.margin.now.indent (marks_of c.args.margin.now.colors) (drawn_line (plan_of c.args.drawing.now) y)) _)

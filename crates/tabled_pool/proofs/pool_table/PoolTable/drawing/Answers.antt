@@ -1,9 +1,16 @@
-use Rattle.std.proofs.Common.{ap}
+use Rattle.std.proofs.Common.{ap, arith}
 use Rattle.tabled_pool.specs.Colours.{line_marks_of, marks_of}
-use Rattle.tabled_pool.proofs.PoolLemmas.{plan_is}
+use Rattle.tabled_pool.proofs.PoolLemmas.{plan_is, plan_tiles}
 use Rattle.tabled_pool.proofs.pool_table.PoolTable.drawing.Goals as goal
 
 pub returns : goal.returns
 returns c =
     plan_is c.args.self.now _ _ _ _ _ _ _ c.requires.places c.requires.width c.requires.height
     c.get_borders.ensures c.style_of.ensures (ap marks_of c.get_padding_color.ensures) (ap line_marks_of c.get_borders_color.ensures)
+
+pub invariant_of-result : goal.invariant_of-result
+invariant_of-result c = record {
+  wide = omega arith;
+  tall = omega arith;
+  tiles = plan_tiles c.args.self.now _ _ _ c.requires.places c.requires.width c.requires.height;
+}

@@ -1,0 +1,54 @@
+-- Owners of positions in parts that tile a rectangle.
+use Rattle.std.proofs.Common.{◌≡◌, ℕ, zero, suc, ◌+◌, ◌-◌, ◌<◌, ◌≤◌, true, false, List, [], ◌∷◌, Option, Some, None, slice_get, get_or, length, map, refl, sym, ap, ◌∙◌, subst, arith, ⊎_elim, ◌⊎◌, inl, inr}
+use Rattle.std.specs.Option.{option_map}
+use Rattle.std.proofs.lemmas.Bool.Decides.{nat_tests}
+use Rattle.std.proofs.lemmas.Option.{slice_get-map, slice_get_read}
+use Rattle.tabled_pool.specs.declared.pieces.Rectangle.{Rectangle}
+use Rattle.tabled_pool.specs.declared.pieces.Piece.{Piece}
+use Rattle.tabled_pool.specs.Boxes.{Part}
+use Rattle.tabled_pool.specs.Shown.{shown}
+use Rattle.tabled_pool.specs.Tiling.{within, covering, AreTiles}
+use Rattle.tabled_pool.specs.Owner.{contains, owner}
+use Rattle.tabled_pool.proofs.Owners.{inside-within, within-inside, within-le, owner-here, owner-behind, owner-inside, counted, is-1}
+
+-- a place that no part covers has no owner
+pub owner-none : (ps : List Part) (x y : ℕ) → covering ps x y ≡ 0 → owner ps x y ≡ None
+owner-none [] x y h = refl
+owner-none (p ∷ ps) x y h = owner-behind p ps x y (λ w. omega arith) ∙ owner-none ps x y (omega arith)
+
+-- nothing is outside of the rectangle
+pub outside : (ps : List Part) (r : Rectangle) (x y : ℕ) → AreTiles ps r → (r.x + r.width ≤ x) ⊎ (r.y + r.height ≤ y) → owner ps x y ≡ None
+outside ps r x y d h = owner-none ps x y (⊎_elim
+    (λ w. absurd (let i = within-inside r x y w in ⊎_elim (λ a. omega (arith, i.right)) (λ a. omega (arith, i.bottom)) h))
+    (λ w. omega (arith, d x y, within-le r x y))
+    (is-1 (within r x y)))
+
+item-counts : (ps : List Part) (k x y : ℕ) (p : Part) → slice_get ps k ≡ Some p → within p.place x y ≡ 1 → 1 ≤ covering ps x y
+item-counts [] k x y p h w = cc
+item-counts (q ∷ ps) zero x y p h w =
+    let e : q ≡ p = cc in
+    let f : within q.place x y ≡ 1 = subst (λ z. within z.place x y ≡ 1) (sym e) w in omega arith
+item-counts (q ∷ ps) (suc k) x y p h w = let f = item-counts ps k x y p h w in omega (arith, f)
+
+-- where a place is covered once, a part of the list that contains it is its owner
+item-owns : (ps : List Part) (k x y : ℕ) (p : Part) → slice_get ps k ≡ Some p → within p.place x y ≡ 1 → covering ps x y ≤ 1
+    → owner ps x y ≡ Some p
+item-owns [] k x y p h w c = cc
+item-owns (q ∷ ps) zero x y p h w c =
+    let e : q ≡ p = cc in
+    owner-here q ps x y (subst (λ z. within z.place x y ≡ 1) (sym e) w) ∙ ap (λ z. Some z) e
+item-owns (q ∷ ps) (suc k) x y p h w c =
+    let one = item-counts ps k x y p h w in
+    owner-behind q ps x y (λ z. omega (arith, one)) ∙ item-owns ps k x y p h w (omega arith)
+
+pub piece_owns : (ps : List Part) (r : Rectangle) (k x y : ℕ) (p : Part) → AreTiles ps r → slice_get ps k ≡ Some p
+    → contains p.place x y ≡ true → owner ps x y ≡ Some p
+piece_owns ps r k x y p d h c =
+    item-owns ps k x y p h (grind (arith, nat_tests)) (omega (arith, d x y, within-le r x y))
+
+-- a listed piece that contains a position is its owner
+pub listed_owns : (ps : List Piece) (r : Rectangle) (k x y : ℕ) (p : Piece) → AreTiles (map shown ps) r → k < length ps → p ≡ get_or ps k p
+    → contains p.place x y ≡ true → Some (shown p) ≡ owner (map shown ps) x y
+listed_owns ps r k x y p d h e c =
+    sym (piece_owns (map shown ps) r k x y (shown p) d
+    (slice_get-map shown ps k ∙ ap (option_map shown) (slice_get_read ps (length ps) k p refl h e)) c)

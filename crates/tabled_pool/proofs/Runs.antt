@@ -1,0 +1,229 @@
+-- Runs of columns of a line: of one part, with the same parts above and below.
+use Rattle.std.proofs.Common.{◌≡◌, ℕ, zero, suc, ◌+◌, ◌-◌, ◌<◌, ◌≤◌, ltb, Bool, true, false, cond, ◌||◌, List, [], ◌∷◌, ◌++◌, Option, Some, None, refl, sym, ap, ◌∙◌, subst, arith, ⊎_elim, ◌⊎◌, inl, inr, encode_utf8, append-nil}
+use Rattle.std.specs.List.{flat_map, range_with_len}
+use Rattle.std.proofs.lemmas.Bool.Decides.{nat_tests}
+use Rattle.std.proofs.lemmas.List.Concat.{flat_map-append}
+use Rattle.tabled_line.specs.Fill.{fill}
+use Rattle.tabled_pool.specs.declared.pieces.Rectangle.{Rectangle}
+use Rattle.tabled_pool.specs.declared.pieces.Kind.{Kind}
+use Rattle.tabled_pool.specs.declared.pieces.Kind.TheVariants.{Leaf, Bar, Rule}
+use Rattle.tabled_pool.specs.Boxes.{Part}
+use Rattle.tabled_pool.specs.Tiling.{AreTiles}
+use Rattle.tabled_pool.specs.Kinds.{is_line_kind}
+use Rattle.tabled_pool.specs.Owner.{owner, is_border, is_border_above, is_border_before, is_line}
+use Rattle.tabled_pool.specs.Plan.{DrawingPlan}
+use Rattle.tabled_pool.specs.Whole.{whole}
+use Rattle.tabled_pool.specs.Marks.{nothing_around, within_marks}
+use Rattle.tabled_pool.specs.Around.{around_at}
+use Rattle.tabled_pool.specs.Drawn.{armed_char, border_char, border_text, owned_text, part_text, place_text}
+use Rattle.tabled_pool.specs.Runs.{IsRun}
+use Rattle.tabled_pool.proofs.Owners.{Inside, inside-within, within-inside, within-le, owner-inside, counted}
+use Rattle.tabled_pool.proofs.Listed.{outside}
+use Rattle.tabled_pool.proofs.UpcomingCells.{leaf-goes, owned, unique}
+
+le-or : (a b : ℕ) → (a ≤ b) ⊎ (b < a)
+le-or a b = grind arith
+
+-- the columns of the owner of a place
+pub record Owns (t : DrawingPlan) (x y : ℕ) (p : Part) : Type 0 where
+  pub from : p.place.x ≤ x
+  pub to : x < p.place.x + p.place.width
+  pub fits : p.place.x + p.place.width ≤ t.width
+  pub top : p.place.y ≤ y
+  pub bottom : y < p.place.y + p.place.height
+  pub more : (v : ℕ) → x ≤ v → v < p.place.x + p.place.width → owner t.parts v y ≡ Some p
+
+same-owner : (t : DrawingPlan) (x y v : ℕ) (p : Part) → AreTiles t.parts (whole t) → owner t.parts x y ≡ Some p → p.place.x ≤ v
+    → v < p.place.x + p.place.width → owner t.parts v y ≡ Some p
+same-owner t x y v p d o a b =
+    let i = within-inside p.place x y (owner-inside t.parts x y p o) in
+    unique t d x y v y p o (inside-within p.place v y (record { left = a; right = b; top = i.top; bottom = i.bottom }))
+
+pub owns : (t : DrawingPlan) (x y : ℕ) (p : Part) → AreTiles t.parts (whole t) → owner t.parts x y ≡ Some p → Owns t x y p
+owns t x y p d o =
+    let i = within-inside p.place x y (owner-inside t.parts x y p o) in
+    let v = p.place.x + p.place.width - 1 in
+    let w = inside-within p.place v y (record { left = omega (arith, i.left, i.right); right = omega (arith, i.left, i.right); top = i.top; bottom = i.bottom }) in
+    let c = counted t.parts x y v y p o w in
+    let e = within-inside (whole t) v y (omega (arith, c, d v y, within-le (whole t) v y)) in
+    record {
+      from = i.left;
+      to = i.right;
+      fits = omega (arith, e.right);
+      top = i.top;
+      bottom = i.bottom;
+      more = λ k a b. same-owner t x y k p d o (omega (arith, i.left)) b;
+    }
+
+-- whether a border is there stays the same along the owner
+pub along : (t : DrawingPlan) (x y : ℕ) (p : Part) → Owns t x y p → (v : ℕ) → x ≤ v → v < p.place.x + p.place.width
+    → is_border t.parts v y ≡ is_line_kind p.kind
+along t x y p o v a b = ap is_line (o.more v a b)
+
+-- a line of no owners is outside
+pub nothing : (t : DrawingPlan) (x y : ℕ) → AreTiles t.parts (whole t) → x < t.width → owner t.parts x y ≡ None → (v : ℕ) → is_border t.parts v y ≡ false
+nothing t x y d h o v =
+    ap is_line (outside t.parts (whole t) v y d (inr (⊎_elim
+    (λ a. omega arith)
+    (λ a. absurd (let p = owned t d x y h a in cc (p.1, o)))
+    (le-or t.height y))))
+
+-- ---- the characters of a run
+
+pub record Arms (t : DrawingPlan) (p : Part) (x y end : ℕ) (left behind up down : Bool) : Type 0 where
+  pub some : x < end
+  pub own : (v : ℕ) → x ≤ v → v < end → owner t.parts v y ≡ Some p
+  pub above : (v : ℕ) → x ≤ v → v < end → is_border_above t.parts v y ≡ up
+  pub below : (v : ℕ) → x ≤ v → v < end → is_border t.parts v (y + 1) ≡ down
+  pub before : is_border_before t.parts x y ≡ left
+  pub after : is_border t.parts end y ≡ behind
+
+-- where a run may end
+pub record Ends (x end last : ℕ) (left behind right : Bool) : Type 0 where
+  pub some : x < last
+  pub within : last ≤ end
+  pub begun : (left ≡ true) ⊎ (last ≡ x + 1)
+  pub ended : (last < end) ⊎ ((behind ≡ true) ⊎ (last ≡ x + 1))
+  pub more : last < end → right ≡ true
+  pub all : end ≤ last → right ≡ behind
+
+inner : (t : DrawingPlan) (p : Part) (x y end : ℕ) (left behind up down : Bool) → Arms t p x y end left behind up down → is_line_kind p.kind ≡ true
+    → (v : ℕ) → x ≤ v → v < end → is_border t.parts v y ≡ true
+inner t p x y end left behind up down a k v l m = ap is_line (a.own v l m) ∙ k
+
+left-arm : (t : DrawingPlan) (p : Part) (x y end last : ℕ) (left behind up down right : Bool) → Arms t p x y end left behind up down
+    → Ends x end last left behind right → is_line_kind p.kind ≡ true → (v : ℕ) → x ≤ v → v < last → is_border_before t.parts v y ≡ left
+left-arm t p x y end last left behind up down right a e k zero l m =
+    let z : x ≡ zero = omega arith in ap (λ u. is_border_before t.parts u y) (sym z) ∙ a.before
+left-arm t p x y end last left behind up down right a e k (suc n) l m = ⊎_elim
+    (λ h.
+    inner t p x y end left behind up down a k n h (omega (arith, e.within))
+    ∙ sym (⊎_elim (λ b. b) (λ b. absurd (omega (arith, b))) e.begun))
+    (λ h. let z : suc n ≡ x = omega arith in ap (λ u. is_border_before t.parts u y) z ∙ a.before)
+    (le-or x n)
+
+right-arm : (t : DrawingPlan) (p : Part) (x y end last : ℕ) (left behind up down right : Bool) → Arms t p x y end left behind up down
+    → Ends x end last left behind right → is_line_kind p.kind ≡ true → (v : ℕ) → x ≤ v → v < last → is_border t.parts (v + 1) y ≡ right
+right-arm t p x y end last left behind up down right a e k v l m = ⊎_elim
+    (λ h.
+    let z : v + 1 ≡ end = omega (arith, e.within) in
+    ap (λ u. is_border t.parts u y) z ∙ a.after ∙ sym (e.all (omega arith)))
+    (λ h.
+    inner t p x y end left behind up down a k (v + 1) (omega arith) h
+    ∙ sym (⊎_elim
+    (λ b. e.more b)
+    (λ b. ⊎_elim
+    (λ c. ⊎_elim (λ f. e.all f ∙ c) (λ f. e.more f) (le-or end last))
+    (λ c. e.more (omega (arith, c)))
+    b)
+    e.ended))
+    (le-or end (v + 1))
+
+pub run_chars : (t : DrawingPlan) (p : Part) (x y end last : ℕ) (left behind up down right : Bool) → Arms t p x y end left behind up down
+    → Ends x end last left behind right → is_line_kind p.kind ≡ true → (v : ℕ) → x ≤ v → v < last
+    → border_char t p.kind p.place v y ≡ armed_char t p.kind p.place left right up down
+unfolding border_char
+run_chars t p x y end last left behind up down right a e k v l m =
+    rw (
+      left-arm t p x y end last left behind up down right a e k v l m,
+      right-arm t p x y end last left behind up down right a e k v l m,
+      a.above v l (omega (arith, e.within)),
+      a.below v l (omega (arith, e.within)),
+    ) refl
+
+-- ---- the text of a run
+
+-- equal texts of one character, one after another
+pub copies : (f : ℕ → List ℕ) (c x n : ℕ) → ((v : ℕ) → x ≤ v → v < x + n → f v ≡ encode_utf8 c) → flat_map f (range_with_len x n) ≡ fill c n
+copies f c x zero h = refl
+copies f c x (suc n) h =
+    rw (h x (omega arith) (omega arith), copies f c (x + 1) n (λ v a b. h v (omega arith) (omega arith))) refl
+
+nothing_from : (f : ℕ → List ℕ) (x n : ℕ) → ((v : ℕ) → x ≤ v → v < x + n → f v ≡ []) → flat_map f (range_with_len x n) ≡ []
+nothing_from f x zero h = refl
+nothing_from f x (suc n) h =
+    rw (h x (omega arith) (omega arith), nothing_from f (x + 1) n (λ v a b. h v (omega arith) (omega arith))) refl
+
+-- a text, and nothing after it
+pub first_only : (f : ℕ → List ℕ) (x n : ℕ) → 0 < n → ((v : ℕ) → x < v → v < x + n → f v ≡ []) → flat_map f (range_with_len x n) ≡ f x
+first_only f x zero l h = absurd (omega arith)
+first_only f x (suc n) l h = rw (nothing_from f (x + 1) n (λ v a b. h v (omega arith) (omega arith)), append-nil (f x)) refl
+
+part-border : (t : DrawingPlan) (k : Kind) (p : Part) (x y : ℕ) → is_line_kind k ≡ true → part_text t k p x y ≡ border_text t k p.place x y
+part-border t Leaf p x y h = cc
+part-border t Bar p x y h = refl
+part-border t Rule p x y h = refl
+
+border-marked : (t : DrawingPlan) (k : Kind) (r : Rectangle) (x y c : ℕ) → border_char t k r x y ≡ c
+    → border_text t k r x y ≡ within_marks (around_at t t.parts x y) (encode_utf8 c)
+unfolding border_text
+border-marked t k r x y c e = ap (λ d. within_marks (around_at t t.parts x y) (encode_utf8 d)) e
+
+place-owned : (t : DrawingPlan) (x y : ℕ) (p : Part) → owner t.parts x y ≡ Some p → place_text t y x ≡ part_text t p.kind p x y
+unfolding place_text
+place-owned t x y p o = ap (λ z. owned_text t z x y) o
+
+-- a place of a run of a border
+pub run_place : (t : DrawingPlan) (x y n c : ℕ) (p : Part) → IsRun t x y n c p → is_line_kind p.kind ≡ true → (v : ℕ) → x ≤ v → v < x + n
+    → place_text t y v ≡ within_marks (around_at t t.parts v y) (encode_utf8 c)
+run_place t x y n c p r k v a b =
+    place-owned t v y p (r.owned v a b) ∙ part-border t p.kind p v y k ∙ border-marked t p.kind p.place v y c (r.alike k v a b)
+
+-- a run of a border that nothing colours
+pub run_copies : (t : DrawingPlan) (x y n c : ℕ) (p : Part) → IsRun t x y n c p → is_line_kind p.kind ≡ true
+    → ((v : ℕ) → nothing_around ≡ around_at t t.parts v y) → flat_map (place_text t y) (range_with_len x n) ≡ fill c n
+run_copies t x y n c p r k h =
+    copies (place_text t y) c x n (λ v a b.
+    run_place t x y n c p r k v a b ∙ ap (λ z. within_marks z (encode_utf8 c)) (sym (h v)) ∙ append-nil (encode_utf8 c))
+
+-- a run of a text
+pub run_text : (t : DrawingPlan) (x y n c : ℕ) (p : Part) → IsRun t x y n c p → p.kind ≡ Leaf
+    → flat_map (place_text t y) (range_with_len x n) ≡ part_text t Leaf p x y
+run_text t x y n c p r k =
+    let i = within-inside p.place x y (owner-inside t.parts x y p (r.owned x (omega arith) (omega (arith, r.some)))) in
+    first_only (place_text t y) x n r.some (λ v a b.
+    place-owned t v y p (r.owned v (omega arith) b) ∙ ap (λ z. part_text t z p v y) k ∙ leaf-goes t p v y (omega (arith, i.left)))
+    ∙ place-owned t x y p (r.owned x (omega arith) (omega (arith, r.some))) ∙ ap (λ z. part_text t z p x y) k
+
+pub run_inside : (t : DrawingPlan) (x y n c : ℕ) (p : Part) → IsRun t x y n c p → Inside p.place x y
+run_inside t x y n c p r =
+    within-inside p.place x y (owner-inside t.parts x y p (r.owned x (omega arith) (omega (arith, r.some))))
+
+range-append : (a m k : ℕ) → range_with_len a (m + k) ≡ range_with_len a m ++ range_with_len (a + m) k
+range-append a zero k = let e : zero + k ≡ k = omega arith in let f : a + zero ≡ a = omega arith in rw (e, f) refl
+range-append a (suc m) k =
+    let e : suc m + k ≡ suc (m + k) = omega arith in
+    let f : a + suc m ≡ a + 1 + m = omega arith in
+    rw (e, f) (ap (λ u. a ∷ u) (range-append (a + 1) m k))
+
+-- n more places
+pub places_more : (f : ℕ → List ℕ) (x n : ℕ) → flat_map f (range_with_len 0 (x + n)) ≡ flat_map f (range_with_len 0 x) ++ flat_map f (range_with_len x n)
+places_more f x n =
+    let e : 0 + x ≡ x = omega arith in
+    ap (flat_map f) (range-append 0 x n) ∙ flat_map-append f (range_with_len 0 x) (range_with_len (0 + x) n)
+    ∙ ap (λ u. flat_map f (range_with_len 0 x) ++ flat_map f (range_with_len u n)) e
+
+-- the places of a line: those before x, n more, and the rest
+pub places_rest : (f : ℕ → List ℕ) (x n w : ℕ) → x + n ≤ w → flat_map f (range_with_len 0 w)
+    ≡ flat_map f (range_with_len 0 x) ++ (flat_map f (range_with_len x n) ++ flat_map f (range_with_len (x + n) (w - x - n)))
+places_rest f x n w h =
+    let e : w ≡ x + (n + (w - x - n)) = omega arith in
+    ap (λ u. flat_map f (range_with_len 0 u)) e ∙ places_more f x (n + (w - x - n))
+    ∙ ap (λ u. flat_map f (range_with_len 0 x) ++ u) (ap (flat_map f) (range-append x n (w - x - n))
+    ∙ flat_map-append f (range_with_len x n) (range_with_len (x + n) (w - x - n)))
+
+-- one more place, with the text s
+pub places_next : (f : ℕ → List ℕ) (x n : ℕ) (s : List ℕ) → f (x + n) ≡ s
+    → flat_map f (range_with_len x (n + 1)) ≡ flat_map f (range_with_len x n) ++ s
+places_next f x n s e =
+    ap (flat_map f) (range-append x n 1) ∙ flat_map-append f (range_with_len x n) (range_with_len (x + n) 1)
+    ∙ ap (λ u. flat_map f (range_with_len x n) ++ u) (append-nil (f (x + n)) ∙ e)
+
+-- the places of a run: those before, one with the text s, and the rest
+pub run_rest : (f : ℕ → List ℕ) (x i n : ℕ) (s : List ℕ) → i < n → f (x + i) ≡ s → flat_map f (range_with_len x n)
+    ≡ flat_map f (range_with_len x i) ++ (s ++ flat_map f (range_with_len (x + i + 1) (n - i - 1)))
+run_rest f x i n s h d =
+    let e : n ≡ i + suc (n - i - 1) = omega arith in
+    ap (λ u. flat_map f (range_with_len x u)) e ∙ ap (flat_map f) (range-append x i (suc (n - i - 1)))
+    ∙ flat_map-append f (range_with_len x i) (range_with_len (x + i) (suc (n - i - 1)))
+    ∙ ap (λ u. flat_map f (range_with_len x i) ++ (u ++ flat_map f (range_with_len (x + i + 1) (n - i - 1)))) d

@@ -1,0 +1,34 @@
+use Rattle.tabled_pool.specs.Drawn.{place_text}
+use Rattle.tabled_pool.specs.Plans.{plan_of}
+use Rattle.tabled_pool.specs.Shown.{shown}
+use Rattle.tabled_line.proofs.Sending.{stopped, further}
+use Rattle.std.proofs.Common.{◌+◌, ap, sym, ◌∙◌, arith, encode_utf8}
+use Rattle.tabled_pool.specs.Marks.{within_marks}
+use Rattle.tabled_pool.proofs.Runs.{places_next, run_copies, run_place, run_rest}
+use Rattle.tabled_pool.proofs.draw.draw_border.Goals as goal
+
+pub returns-then-is_uncolored : goal.returns-then-is_uncolored
+returns-then-is_uncolored g c =
+    let l = c.args.line.now in
+    let r = c.args.run.now in
+    rw (run_copies (plan_of l.drawing.now) c.args.x l.y r.count r.c (shown r.piece.now) c.requires.run c.requires.kind
+    (c.is_uncolored.ensures c.if-is_uncolored.true)) c.write_fill.ensures
+
+pub returns-in_err-draw_marked : goal.returns-in_err-draw_marked
+returns-in_err-draw_marked g c =
+    let l = c.args.line.now in
+    let r = c.args.run.now in
+    let t = plan_of l.drawing.now in
+    let here = run_place t c.args.x l.y r.count r.c (shown r.piece.now) c.requires.run c.requires.kind (c.args.x + c.places.at)
+    (omega arith) (omega (arith, c.places-test.true)) ∙ ap (λ z. within_marks z (encode_utf8 r.c)) (sym c.marks_at.ensures) in
+    stopped _ _ _ c.places.invariant c.in_err-draw_marked.ensures c.from_residual.ensures.1
+    (run_rest (place_text t l.y) c.args.x c.places.at r.count _ c.places-test.true here)
+
+pub places-preserved : goal.places-preserved
+places-preserved g c =
+    let l = c.args.line.now in
+    let r = c.args.run.now in
+    let t = plan_of l.drawing.now in
+    let here = run_place t c.args.x l.y r.count r.c (shown r.piece.now) c.requires.run c.requires.kind (c.args.x + c.places.at)
+    (omega arith) (omega (arith, c.places-test.true)) ∙ ap (λ z. within_marks z (encode_utf8 r.c)) (sym c.marks_at.ensures) in
+    further c.places.invariant c.in_ok-draw_marked.ensures (places_next (place_text t l.y) c.args.x c.places.at _ here)

@@ -1,0 +1,188 @@
+//! `Line`: one line of a drawing, in runs of equal border characters.
+ghost use Rattle.std.specs.Prelude.{◌≡◌, ◌⊎◌, ◌<◌, ◌≤◌, ◌+◌, ℕ, map, true, Some};
+ghost use Rattle.tabled_pool.specs.Shown.{shown};
+ghost use Rattle.tabled_pool.specs.Kinds.{is_line_kind};
+ghost use Rattle.tabled_pool.specs.Plans.{plan_of};
+ghost use Rattle.tabled_pool.specs.Marks.{nothing_around};
+ghost use Rattle.tabled_pool.specs.Around.{around_at};
+ghost use Rattle.tabled_pool.specs.Owner.{is_border, is_border_above, is_border_before, owner};
+ghost use Rattle.tabled_pool.specs.Runs.{IsRun};
+
+use crate::drawing::Drawing;
+use crate::find::piece_at;
+use crate::kinds::is_line_kind;
+use crate::line_characters::{Arms, border_char};
+use crate::pieces::Piece;
+use crate::sweep::Sweep;
+
+/// A line of a drawing.
+#[derive(Clone, Copy)]
+pub(crate) struct Line<'l, 's, 'd, 'a> {
+    pub drawing: &'l Drawing<'d, 'a>,
+    pub sweep: &'s Sweep<'a>,
+    pub y: usize,
+    ghost inside: { y < drawing.now.height },
+    ghost colors: { sweep.now.listed ≡ true → (x : ℕ)
+        → around_at (plan_of drawing.now) (map shown sweep.now.near.items) x y
+        ≡ around_at (plan_of drawing.now) (map shown drawing.now.pieces.now) x y },
+}
+
+/// Columns of a line that belong to one piece and, if that is a border, have the same character.
+#[derive(Clone, Copy)]
+pub(crate) struct Run<'d, 'a> {
+    pub piece: &'d Piece<'a>,
+    /// The character of a border.
+    pub c: char,
+    /// The number of columns.
+    pub count: usize,
+}
+
+/// Whether there are borders at a column and those after it, and where that ends.
+#[derive(Clone, Copy)]
+struct Stretch {
+    border: bool,
+    end: usize,
+}
+
+/// The stretch at a position.
+fn stretch_at(drawing: &Drawing<'_, '_>, line: &[usize], x: usize, y: usize) -> Stretch
+    requires { x < drawing.now.width }
+    ensures some { x < result.end }
+    ensures same { (v : ℕ) → x ≤ v → v < result.end
+        → is_border (plan_of drawing.now).parts v y ≡ result.border }
+{
+    match piece_at(drawing, line, x, y) {
+        Some(piece) => {
+            let end = piece.place.x + piece.place.width;
+            Stretch {
+                border: is_line_kind(piece.kind),
+                end,
+            }
+        }
+        None => Stretch {
+            border: false,
+            end: drawing.width,
+        },
+    }
+}
+
+/// The end of the columns from `x` to `end` at which a border has the same arms to its sides, where
+/// there is one before column `x` if `left`, and one at `end` if `behind`.
+fn run_end(x: usize, end: usize, left: bool, behind: bool) -> usize
+    requires { x < end }
+    ensures some { x < result }
+    ensures within { result ≤ end }
+    ensures begun { (left ≡ true) ⊎ (result ≡ x + 1) }
+    ensures ended { (result < end) ⊎ ((behind ≡ true) ⊎ (result ≡ x + 1)) }
+{
+    if !left {
+        return x + 1;
+    }
+    if behind || end == x + 1 {
+        return end;
+    }
+    end - 1
+}
+
+/// Whether a border follows the column before `last`, where those up to `end` are borders.
+fn is_followed(last: usize, end: usize, behind: bool) -> bool
+    ensures more { last < end → result ≡ true }
+    ensures all { end ≤ last → result ≡ behind }
+{
+    last < end || behind
+}
+
+impl<'l, 's, 'd, 'a> Line<'l, 's, 'd, 'a> {
+    /// Whether nothing colours its borders.
+    pub(crate) fn is_uncolored(&self) -> bool
+        ensures { result ≡ true → (x : ℕ) → nothing_around
+            ≡ around_at (plan_of self.now.drawing.now) (map shown self.now.drawing.now.pieces.now) x
+            self.now.y }
+    {
+        self.sweep.listed && self.sweep.near.is_empty()
+    }
+
+    /// The stretch above column `x`.
+    fn above(&self, x: usize) -> Stretch
+        requires { x < self.now.drawing.now.width }
+        ensures some { x < result.end }
+        ensures same { (v : ℕ) → x ≤ v → v < result.end
+            → is_border_above (plan_of self.now.drawing.now).parts v self.now.y ≡ result.border }
+    {
+        if self.y == 0 {
+            return Stretch {
+                border: false,
+                end: self.drawing.width,
+            };
+        }
+        stretch_at(self.drawing, self.sweep.above.as_slice(), x, self.y - 1)
+    }
+
+    /// Whether a border is at column `x`.
+    fn is_border(&self, x: usize) -> bool
+        ensures { result ≡ is_border (plan_of self.now.drawing.now).parts x self.now.y }
+    {
+        match piece_at(self.drawing, self.sweep.here.as_slice(), x, self.y) {
+            Some(piece) => is_line_kind(piece.kind),
+            None => false,
+        }
+    }
+
+    fn is_border_before(&self, x: usize) -> bool
+        ensures { result ≡ is_border_before (plan_of self.now.drawing.now).parts x self.now.y }
+    {
+        x > 0 && self.is_border(x - 1)
+    }
+
+    /// The run of a border from column `x` on: as long as the same pieces are above and below, and
+    /// borders are on both sides.
+    fn border_run(&self, piece: &'d Piece<'a>, x: usize) -> Run<'d, 'a>
+        requires kind { is_line_kind piece.now.kind ≡ true }
+        requires here { owner (plan_of self.now.drawing.now).parts x self.now.y
+            ≡ Some (shown piece.now) }
+        ensures { IsRun (plan_of self.now.drawing.now) x self.now.y result.count result.c
+            (shown result.piece.now) }
+    {
+        let below = self.sweep.below.as_slice();
+        let up = self.above(x);
+        let down = stretch_at(self.drawing, below, x, self.y + 1);
+        let own = piece.place.x + piece.place.width;
+        let end = own.min(up.end).min(down.end);
+        let left = self.is_border_before(x);
+        let behind = self.is_border(end);
+        let last = run_end(x, end, left, behind);
+        let right = is_followed(last, end, behind);
+        let arms = Arms {
+            left,
+            right,
+            up: up.border,
+            down: down.border,
+        };
+        let c = border_char(self.drawing, piece, arms);
+        Run {
+            piece,
+            c,
+            count: last - x,
+        }
+    }
+
+    /// The run from column `x` on.
+    pub(crate) fn run_at(&self, x: usize) -> Run<'d, 'a>
+        requires { x < self.now.drawing.now.width }
+        ensures { IsRun (plan_of self.now.drawing.now) x self.now.y result.count result.c
+            (shown result.piece.now) }
+    {
+        let Some(piece) = piece_at(self.drawing, self.sweep.here.as_slice(), x, self.y) else {
+            unreachable!()
+        };
+        if is_line_kind(piece.kind) {
+            return self.border_run(piece, x);
+        }
+        let end = piece.place.x + piece.place.width;
+        Run {
+            piece,
+            c: ' ',
+            count: end - x,
+        }
+    }
+}
