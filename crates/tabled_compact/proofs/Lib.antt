@@ -1,12 +1,9 @@
 pub mod Alike
 pub mod FittingLemmas
-pub mod Going
-pub mod Parts
 pub mod Printings
 pub mod Putting
 pub mod RowLines
 pub mod RowPieces
 pub mod SoFar
-pub mod Tables
 pub mod ToWriters
 pub mod Windows

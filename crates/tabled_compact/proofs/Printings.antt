@@ -1,24 +1,24 @@
 -- Compact tables that are printed, or refused before the first byte.
-use Rattle.std.proofs.Common.{◌≡◌, ◌⊎◌, ℕ, ◌+◌, ◌≤◌, ◌==◌, if◌then◌else◌, Bool, true, false, List, [], length, Option, Some, IfSome, MatchResult, Result, Ok, Err, refl, sym, ◌∙◌, ap, subst, inl, inr, ⊎_elim, arith}
-use Rattle.std.specs.List.{join_with_byte}
+use Rattle.std.proofs.Common.{◌≡◌, ◌⊎◌, ℕ, ◌+◌, ◌≤◌, ◌==◌, if◌then◌else◌, Bool, true, false, List, [], ◌∷◌, ◌++◌, length, Option, Some, IfSome, MatchResult, OnErr, Result, Ok, Err, refl, sym, ◌∙◌, ap, subst, inl, inr, ⊎_elim, arith}
+use Rattle.std.specs.Result.{IsErrAnd}
 use Rattle.std.proofs.lemmas.Bool.Decides.{nat_tests}
 use Rattle.tabled_base.specs.declared.error.TableError.{TableError}
+use Rattle.tabled_line.specs.Leading.{WritesLines}
 use Rattle.tabled_line.specs.Sent.{Sent, Sends, Stops, Writes}
+use Rattle.tabled_line.proofs.Leading.{lines-finished, lines-text}
 use Rattle.tabled_line.proofs.Sending.{sends-along, sends-none}
 use Rattle.tabled_compact.specs.CompactCells.{CompactSheet}
-use Rattle.tabled_compact.specs.CompactLines.{compact_lines, compact_text, rows_text}
+use Rattle.tabled_compact.specs.CompactLines.{compact_lines, compact_text, rows_lines, rows_text, tail_lines}
 use Rattle.tabled_compact.specs.Printed.{IsPrintable, IsPrinted, IsRefused, PrintsCompact}
-use Rattle.tabled_compact.specs.RowsPut.{PutsTable}
-use Rattle.tabled_compact.specs.Shown.{AreWanted, IsSpent, has_rows, in_window, shown, spanned, wanted}
+use Rattle.tabled_compact.specs.RowsPut.{PutsRows}
+use Rattle.tabled_compact.specs.Shown.{AreEnough, AreWanted, IsSpent, has_rows, in_window, shown, spanned, wanted}
 use Rattle.tabled_compact.specs.declared.window.Window.{Window}
+use Rattle.tabled_compact.proofs.RowLines.{begun-rows}
 use Rattle.tabled_compact.proofs.Windows.{spent-none, window-none, window-one, window-wanted}
 
-no-text : (t : CompactSheet) (rows : List (List (List ℕ))) → rows ≡ [] → compact_text t rows ≡ []
-unfolding compact_lines
-no-text t rows e = ap (compact_text t) e
-
 nothing-sent : (t : CompactSheet) (rows : List (List (List ℕ))) (a : Sent) → rows ≡ [] → Sends a a (compact_text t rows)
-nothing-sent t rows a e = sends-along a a [] (compact_text t rows) (sends-none a) (sym (no-text t rows e))
+unfolding compact_lines
+nothing-sent t rows a e = sends-along a a [] (compact_text t rows) (sends-none a) (sym (ap (compact_text t) e))
 
 either : {A : Type 0} (b : Bool) (x y : A) → y ≡ x → (if b then x else y) ≡ x
 either true x y e = refl
@@ -50,84 +50,109 @@ prints-nothing t w comes a came h =
 has-columns : (n : ℕ) → (n ≡ 0 → ⊥) → (n == 0) ≡ false
 has-columns n h = grind (arith, nat_tests)
 
--- where there is a column, the rows in the window are shown, and those that it spans wanted
-all-shown : {A : Type 0} (n : ℕ) (w : Window) (rows : List A) → (n ≡ 0 → ⊥) → shown n w rows ≡ in_window w rows
-all-shown n w rows h = rw (has-columns n h) refl
+lines-split : (t : CompactSheet) (rows : List (List (List ℕ))) → compact_lines t rows ≡ rows_lines t rows ++ (if has_rows rows then tail_lines t else [])
+unfolding compact_lines rows_lines
+lines-split t [] = refl
+lines-split t (row ∷ rows) = refl
 
-all-wanted : (n : ℕ) (w : Window) → (n ≡ 0 → ⊥) → wanted n w ≡ spanned w.skip w.limit
-all-wanted n w h = rw (has-columns n h) refl
+on-err-as : {T : Type 0} (r : Result T TableError) (P Q : Type 0) → (P → Q) → OnErr r P → OnErr r Q
+on-err-as (Ok x) P Q f h = tt
+on-err-as (Err e) P Q f h = f h
 
--- the table was put
-pub prints-table : {T : Type 0} (t : CompactSheet) (w : Window) (comes : List (List (List ℕ)) → Bool → Type 0) (a b : Sent) (r : Result T TableError)
-    (rows : List (List (List ℕ))) (whole : Bool) → PutsTable t w a r b rows whole → (t.count ≡ 0 → ⊥) → IsPrintable t → comes rows whole
-    → PrintsCompact t w comes a r b
-prints-table t w comes a b (Ok x) rows whole put some fine came =
-    let e = all-shown t.count w rows some in
-    let o = all-wanted t.count w some in
-    let P : Option ℕ → Type 0 = λ k. IfSome k (λ most. length rows ≤ most) in
-    let Q : Option ℕ → Type 0 = λ k. (whole ≡ true) ⊎ (k ≡ Some (length rows)) in
-    record {
-      rows = rows;
-      whole = whole;
-      came = came;
-      taken = subst P (sym o) put.taken;
-      enough = subst Q (sym o) put.enough;
-      printable = inr fine;
-      sends = sends-along a b (compact_text t (in_window w rows)) (compact_text t (shown t.count w rows)) put.text (ap (compact_text t) (sym e));
-    }
-prints-table t w comes a b (Err d) rows whole put some fine came =
-    let e = all-shown t.count w rows some in
-    let o = all-wanted t.count w some in
-    let P : Option ℕ → Type 0 = λ k. IfSome k (λ most. length rows ≤ most) in
-    let Q : Option ℕ → Type 0 = λ k. (whole ≡ true) ⊎ (k ≡ Some (length rows)) in
-    let R : List (List (List ℕ)) → Type 0 = λ rs. Stops a d b (rows_text t rs) in
-    let S : List (List (List ℕ)) → Type 0 = λ rs. Stops a d b (compact_text t rs) in
-    record {
-      rows = rows;
-      whole = whole;
-      came = came;
-      taken = subst P (sym o) put.taken;
-      filled = ap has_rows e ∙ put.filled;
-      ends = inr (record {
-        printable = fine;
-        stops = ⊎_elim (λ s. inl (subst R (sym e) s)) (λ s. inr (subst Q (sym o) s.0, subst S (sym e) s.1)) put.text;
-      });
-    }
+-- a table with a column
+module _ (t : CompactSheet) (w : Window) (comes : List (List (List ℕ)) → Bool → Type 0) (old : Sent) (some : t.count ≡ 0 → ⊥)
+    (rows : List (List (List ℕ))) (whole : Bool) (came : comes rows whole) where
+  -- the rows in the window are shown, and those that it spans wanted
+  all-shown : shown t.count w rows ≡ in_window w rows
+  all-shown = rw (has-columns t.count some) refl
 
--- the table can't be printed
-pub prints-refused : {T : Type 0} (t : CompactSheet) (w : Window) (comes : List (List (List ℕ)) → Bool → Type 0) (a : Sent) (error : TableError)
-    (r : Result T TableError) (rows : List (List (List ℕ))) (whole : Bool)
-    → MatchResult r (λ _. (length rows ≤ w.skip) × (whole ≡ true)) (λ e. (length rows ≡ w.skip + 1) × (e ≡ error))
-    → (t.count ≡ 0 → ⊥) → (IsSpent w → ⊥) → IsRefused t error → comes rows whole → comes rows false → PrintsCompact t w comes a r a
-prints-refused t w comes a error (Ok x) rows whole found some still cause came begun =
-    let e = all-shown t.count w rows some in
-    let o = all-wanted t.count w some in
-    let P : Option ℕ → Type 0 = λ k. IfSome k (λ most. length rows ≤ most) in
-    let none = e ∙ window-none w rows found.0 in
-    let few = found.0 in
-    record {
-      rows = rows;
-      whole = whole;
-      came = came;
-      taken = subst P (sym o) (window-wanted w (length rows) still (omega (arith, few)));
-      enough = inl found.1;
-      printable = inl none;
-      sends = nothing-sent t (shown t.count w rows) a none;
-    }
-prints-refused t w comes a error (Err d) rows whole found some still cause came begun =
-    let e = all-shown t.count w rows some in
-    let o = all-wanted t.count w some in
-    let P : Option ℕ → Type 0 = λ k. IfSome k (λ most. length rows ≤ most) in
-    let R : TableError → Type 0 = λ k. IsRefused t k in
-    let first = found.0 in
-    record {
-      rows = rows;
-      whole = false;
-      came = begun;
-      taken = subst P (sym o) (window-wanted w (length rows) still (omega (arith, first)));
-      filled = ap has_rows e ∙ window-one w rows still found.0;
-      ends = inl (record { first = found.0; cause = subst R (sym found.1) cause; same = refl });
-    }
+  all-wanted : wanted t.count w ≡ spanned w.skip w.limit
+  all-wanted = rw (has-columns t.count some) refl
+
+  are-wanted : IfSome (spanned w.skip w.limit) (λ most. length rows ≤ most) → AreWanted t.count w rows
+  are-wanted h = let P : Option ℕ → Type 0 = λ k. IfSome k (λ most. length rows ≤ most) in subst P (sym all-wanted) h
+
+  are-enough : (whole ≡ true) ⊎ (spanned w.skip w.limit ≡ Some (length rows)) → AreEnough t.count w rows whole
+  are-enough h = let P : Option ℕ → Type 0 = λ k. (whole ≡ true) ⊎ (k ≡ Some (length rows)) in subst P (sym all-wanted) h
+
+  -- the sink refused in the rows
+  pub prints-stopped : {T U : Type 0} (r : Result T TableError) (e : TableError) (new : Sent) (b : Bool) → IsPrintable t
+      → PutsRows {T = U} t w old (Err e) new b rows whole → IsErrAnd r (λ d. d ≡ e) → PrintsCompact t w comes old r new
+  prints-stopped (Ok x) e new b fine put i = absurd i
+  prints-stopped {U = U} (Err d) e new b fine put i =
+      let P : TableError → List (List (List ℕ)) → Type 0 = λ k rs. Stops old k new (rows_text t rs) in
+      let text = lines-text {T = U} old new b (Err e) (rows_lines t (in_window w rows)) put.lines in
+      record {
+        rows = rows;
+        whole = whole;
+        came = came;
+        taken = are-wanted put.taken;
+        filled = ap has_rows all-shown ∙ put.filled;
+        ends = inr (record { printable = fine; stops = inl (subst (P d) (sym all-shown) (subst (λ k. P k (in_window w rows)) (sym i) text)) });
+      }
+
+  ended : {T : Type 0} (r : Result T TableError) (new : Sent) → IsPrintable t → IfSome (spanned w.skip w.limit) (λ most. length rows ≤ most)
+      → (whole ≡ true) ⊎ (spanned w.skip w.limit ≡ Some (length rows)) → OnErr r (has_rows (in_window w rows) ≡ true)
+      → Writes old r new (compact_text t (in_window w rows)) → PrintsCompact t w comes old r new
+  ended (Ok x) new fine taken enough filled text = record {
+    rows = rows;
+    whole = whole;
+    came = came;
+    taken = are-wanted taken;
+    enough = are-enough enough;
+    printable = inr fine;
+    sends = sends-along old new _ _ text (ap (compact_text t) (sym all-shown));
+  }
+  ended (Err d) new fine taken enough filled text =
+      let P : List (List (List ℕ)) → Type 0 = λ rs. Stops old d new (compact_text t rs) in
+      record {
+        rows = rows;
+        whole = whole;
+        came = came;
+        taken = are-wanted taken;
+        filled = ap has_rows all-shown ∙ filled;
+        ends = inr (record { printable = fine; stops = inr (are-enough enough, subst P (sym all-shown) text) });
+      }
+
+  -- the rows were put, and then what stands below them
+  pub prints-ended : {T U : Type 0} (r : Result T TableError) (x : U) (mid : Sent) (m : Bool) (new : Sent) (n : Bool) → IsPrintable t
+      → PutsRows {T = U} t w old (Ok x) mid m rows whole → WritesLines mid m r new n (if m then tail_lines t else [])
+      → OnErr r (m ≡ true) → PrintsCompact t w comes old r new
+  prints-ended r x mid m new n fine put ends failed =
+      let shown = in_window w rows in
+      let any : m ≡ has_rows shown = put.lines.after ∙ begun-rows t shown in
+      ended r new fine put.taken put.enough (on-err-as r _ _ (λ h. sym any ∙ h) failed)
+      (lines-text old new n r (compact_lines t shown)
+      (lines-finished new n (if m then tail_lines t else []) (compact_lines t shown) r put.lines ends
+      (lines-split t shown ∙ ap (λ b. rows_lines t shown ++ (if b then tail_lines t else [])) (sym any))))
+
+  -- the table can't be printed
+  pub prints-refused : {T : Type 0} (error : TableError) (r : Result T TableError)
+      → MatchResult r (λ _. (length rows ≤ w.skip) × (whole ≡ true)) (λ e. (length rows ≡ w.skip + 1) × (e ≡ error))
+      → (IsSpent w → ⊥) → IsRefused t error → PrintsCompact t w comes old r old
+  prints-refused error (Ok x) found still cause =
+      let none = all-shown ∙ window-none w rows found.0 in
+      let few = found.0 in
+      record {
+        rows = rows;
+        whole = whole;
+        came = came;
+        taken = are-wanted (window-wanted w (length rows) still (omega (arith, few)));
+        enough = inl found.1;
+        printable = inl none;
+        sends = nothing-sent t (shown t.count w rows) old none;
+      }
+  prints-refused error (Err d) found still cause =
+      let R : TableError → Type 0 = λ k. IsRefused t k in
+      let first = found.0 in
+      record {
+        rows = rows;
+        whole = whole;
+        came = came;
+        taken = are-wanted (window-wanted w (length rows) still (omega (arith, first)));
+        filled = ap has_rows all-shown ∙ window-one w rows still found.0;
+        ends = inl (record { first = found.0; cause = subst R (sym found.1) cause; same = refl });
+      }
 
 -- what is said of rows that come in one way, and so in another
 pub prints-as : {T : Type 0} (t : CompactSheet) (w : Window) (comes comes' : List (List (List ℕ)) → Bool → Type 0) (a b : Sent) (r : Result T TableError)

@@ -3,8 +3,9 @@ use Rattle.std.proofs.Common.{◌≡◌, ℕ, zero, suc, ◌==◌, if◌then◌e
 use Rattle.std.specs.List.{flat_map}
 use Rattle.std.proofs.lemmas.Bool.Decides.{nat_tests}
 use Rattle.std.proofs.lemmas.List.Concat.{flat_map-append}
-use Rattle.tabled_compact.specs.CompactCells.{CompactSheet}
-use Rattle.tabled_compact.specs.CompactLines.{row_part, rows_lines}
+use Rattle.tabled_line.specs.Leading.{begun_after}
+use Rattle.tabled_compact.specs.CompactCells.{CompactSheet, compact_row}
+use Rattle.tabled_compact.specs.CompactLines.{above, row_part, rows_lines}
 use Rattle.tabled_compact.specs.Shown.{has_rows}
 
 pub not-zero : (k : ℕ) → (suc k == 0) ≡ false
@@ -25,9 +26,16 @@ pub rows_lines-more : (t : CompactSheet) (rows : List (List (List ℕ))) (row : 
 rows_lines-more t rows row zero = one-more t rows row
 rows_lines-more t rows row (suc k) = rw (not-zero k) (ap (rows_lines t) (append-nil rows) ∙ sym (append-nil (rows_lines t rows)))
 
-pub has_rows-more : {A : Type 0} (rows : List A) (row : A) (k : ℕ)
-    → has_rows (rows ++ (if k == 0 then row ∷ [] else [])) ≡ (if k == 0 then true else has_rows rows)
-has_rows-more [] row zero = refl
-has_rows-more [] row (suc k) = rw (not-zero k) refl
-has_rows-more (x ∷ rows) row zero = refl
-has_rows-more (x ∷ rows) row (suc k) = rw (not-zero k) refl
+pub has_rows-more : {A : Type 0} (rows : List A) (row : A) → has_rows (rows ++ row ∷ []) ≡ true
+has_rows-more [] row = refl
+has_rows-more (x ∷ rows) row = refl
+
+-- a line was written if a row is shown
+pub begun-rows : (t : CompactSheet) (rows : List (List (List ℕ))) → begun_after false (rows_lines t rows) ≡ has_rows rows
+unfolding rows_lines row_part
+begun-rows t [] = refl
+begun-rows t (row ∷ rows) = some (above t false) (compact_row t row) (flat_map (row_part t true) rows)
+  where
+    some : (ls : List (List ℕ)) (l : List ℕ) (more : List (List ℕ)) → begun_after false ((ls ++ l ∷ []) ++ more) ≡ true
+    some [] l more = refl
+    some (k ∷ ls) l more = refl

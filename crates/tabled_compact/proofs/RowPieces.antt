@@ -1,25 +1,24 @@
 -- The columns of a row, where its cells come one by one.
-use Rattle.std.proofs.Common.{◌≡◌, ℕ, zero, suc, ◌+◌, ◌-◌, ◌<◌, ◌≤◌, min, nat_lt, true, false, if◌then◌else◌, List, [], ◌∷◌, ◌++◌, length, map, slice_index_or, refl, sym, ◌∙◌, ap, append-nil, append_assoc, arith, ⊎_elim}
+use Rattle.std.proofs.Common.{◌≡◌, ℕ, zero, suc, ◌+◌, ◌-◌, ◌<◌, ◌≤◌, Bool, min, nat_lt, true, false, if◌then◌else◌, List, [], ◌∷◌, ◌++◌, length, map, slice_index_or, Result, Ok, Err, IfOk, OnOk, refl, subst, sym, ◌∙◌, ap, append-nil, append_assoc, arith, ⊎_elim}
 use Rattle.std.specs.List.{flat_map, range_with_len, slice_index}
+use Rattle.std.specs.Result.{IsErrAnd}
 use Rattle.std.proofs.lemmas.Bool.{cases_lt}
 use Rattle.std.proofs.lemmas.Bool.Decides.{nat_tests}
 use Rattle.std.proofs.lemmas.List.{get_or_append_left, length-append, length-map, map-append}
-use Rattle.std.proofs.lemmas.List.Concat.{flat_map-append}
-use Rattle.tabled_compact.specs.CompactCells.{CompactSheet, columns_of, compact_cell, compact_piece, compact_row, pieces, row_end, row_start}
+use Rattle.tabled_compact.specs.CompactCells.{CompactSheet, columns_of, compact_cell, compact_piece, compact_row, pieces, row_front}
+use Rattle.tabled_compact.specs.CompactLines.{above, part_front, row_part}
 use Rattle.tabled_config.specs.declared.alignment.AlignmentHorizontal.{AlignmentHorizontal}
 use Rattle.tabled_config.specs.declared.alignment.AlignmentHorizontal.TheVariants as horizontal
 use Rattle.tabled_config.specs.Frame.{has_bar}
 use Rattle.tabled_line.specs.Block.{before_text}
 use Rattle.tabled_line.specs.Fill.{fill}
-use Rattle.tabled_line.specs.Row.{left_edge, right_edge}
-use Rattle.tabled_line.proofs.Each.{each-more}
-
-range-append : (a m k : ℕ) → range_with_len a (m + k) ≡ range_with_len a m ++ range_with_len (a + m) k
-range-append a zero k = let e : zero + k ≡ k = omega arith in let f : a + zero ≡ a = omega arith in rw (e, f) refl
-range-append a (suc m) k =
-    let e : suc m + k ≡ suc (m + k) = omega arith in
-    let f : a + suc m ≡ a + 1 + m = omega arith in
-    rw (e, f) (ap (λ u. a ∷ u) (range-append (a + 1) m k))
+use Rattle.tabled_base.specs.declared.error.TableError.{TableError}
+use Rattle.tabled_line.specs.Leading.{WritesLines, begun_after, lines_after}
+use Rattle.tabled_line.specs.Row.{right_edge}
+use Rattle.tabled_line.specs.Sent.{Sent, Stops, Writes}
+use Rattle.tabled_line.proofs.Each.{each-first, each-more, each-rest}
+use Rattle.tabled_line.proofs.Leading.{lines_after-append}
+use Rattle.tabled_line.proofs.Sending.{finished, stopped-first}
 
 at-end : (row : List (List ℕ)) (text : List ℕ) → slice_index_or (row ++ text ∷ []) (length row) [] ≡ text
 at-end [] text = refl
@@ -31,8 +30,7 @@ behind (x ∷ row) zero h = absurd (omega arith)
 behind (x ∷ row) (suc i) h = behind row i (omega arith)
 
 -- cells that come later don't change the columns before them
-pieces-before : (t : CompactSheet) (row more : List (List ℕ)) (n : ℕ) → n ≤ length row
-    → pieces t (row ++ more) (range_with_len 0 n) ≡ pieces t row (range_with_len 0 n)
+pieces-before : (t : CompactSheet) (row more : List (List ℕ)) (n : ℕ) → n ≤ length row → pieces t (row ++ more) n ≡ pieces t row n
 pieces-before t row more zero h = refl
 pieces-before t row more (suc n) h =
     let f : ℕ → List ℕ = λ i. compact_piece t i (slice_index_or (row ++ more) i []) in
@@ -40,31 +38,22 @@ pieces-before t row more (suc n) h =
     let e : suc n ≡ n + 1 = omega arith in
     let same : f n ≡ g n = ap (compact_piece t n) (get_or_append_left row more [] n (omega arith)) in
     ap (λ k. flat_map f (range_with_len 0 k)) e ∙ each-more f n
-    ∙ ap (λ u. u ++ f n) (pieces-before t row more n (omega arith)) ∙ ap (λ u. flat_map g (range_with_len 0 n) ++ u) same
+    ∙ ap (λ u. u ++ f n) (pieces-before t row more n (omega arith)) ∙ ap (λ u. pieces t row n ++ u) same
     ∙ sym (each-more g n) ∙ ap (λ k. flat_map g (range_with_len 0 k)) (sym e)
-
--- columns behind the cells of a row are empty
-pieces-behind : (t : CompactSheet) (row : List (List ℕ)) (a n : ℕ) → length row ≤ a
-    → pieces t row (range_with_len a n) ≡ pieces t [] (range_with_len a n)
-pieces-behind t row a zero h = refl
-pieces-behind t row a (suc n) h =
-    ap (λ u. compact_piece t a u ++ pieces t row (range_with_len (a + 1) n)) (behind row a h)
-    ∙ ap (λ u. compact_piece t a [] ++ u) (pieces-behind t row (a + 1) n (omega arith))
 
 -- a cell that came and has a column
 one-more : (t : CompactSheet) (row : List (List ℕ)) (text : List ℕ)
-    → pieces t (row ++ text ∷ []) (range_with_len 0 (length row + 1)) ≡ pieces t row (range_with_len 0 (length row)) ++ compact_piece t (length row) text
+    → pieces t (row ++ text ∷ []) (length row + 1) ≡ pieces t row (length row) ++ compact_piece t (length row) text
 one-more t row text =
     let f : ℕ → List ℕ = λ i. compact_piece t i (slice_index_or (row ++ text ∷ []) i []) in
     each-more f (length row)
     ∙ ap (λ u. u ++ f (length row)) (pieces-before t row (text ∷ []) (length row) (omega arith))
-    ∙ ap (λ u. pieces t row (range_with_len 0 (length row)) ++ compact_piece t (length row) u) (at-end row text)
+    ∙ ap (λ u. pieces t row (length row) ++ compact_piece t (length row) u) (at-end row text)
 
 -- a cell that came: it stands in the next column, if there is one
-pub pieces-more : (t : CompactSheet) (row : List (List ℕ)) (text : List ℕ) (n : ℕ)
-    → pieces t (row ++ text ∷ []) (range_with_len 0 (min (length row + 1) n))
-    ≡ pieces t row (range_with_len 0 (min (length row) n))
-    ++ (if nat_lt (min (length row) n) n then compact_piece t (min (length row) n) text else [])
+pieces-more : (t : CompactSheet) (row : List (List ℕ)) (text : List ℕ) (n : ℕ)
+    → pieces t (row ++ text ∷ []) (min (length row + 1) n)
+    ≡ pieces t row (min (length row) n) ++ (if nat_lt (min (length row) n) n then compact_piece t (min (length row) n) text else [])
 pieces-more t row text n =
     ⊎_elim
     (λ (l : length row < n).
@@ -76,93 +65,80 @@ pieces-more t row text n =
     let e : min (length row + 1) n ≡ n = omega arith in
     let f : min (length row) n ≡ n = omega arith in
     let b : nat_lt n n ≡ false = grind (arith, nat_tests) in
-    rw (e, f, b) (pieces-before t row (text ∷ []) n l ∙ sym (append-nil (pieces t row (range_with_len 0 n)))))
+    rw (e, f, b) (pieces-before t row (text ∷ []) n l ∙ sym (append-nil (pieces t row n))))
     (cases_lt (length row) n)
 
--- all columns: those of the cells that came, and those that are missing
-pub pieces-whole : (t : CompactSheet) (row : List (List ℕ)) (n k : ℕ) → k ≡ min (length row) n
-    → pieces t row (range_with_len 0 n) ≡ pieces t row (range_with_len 0 k) ++ pieces t [] (range_with_len k (n - k))
-pieces-whole t row n k h =
-    let f : ℕ → List ℕ = λ i. compact_piece t i (slice_index_or row i []) in
-    let e : n ≡ k + (n - k) = omega arith in
-    let z : 0 + k ≡ k = omega arith in
-    let whole : flat_map f (range_with_len 0 n) ≡ flat_map f (range_with_len 0 k) ++ flat_map f (range_with_len k (n - k)) =
-    ap (λ m. flat_map f (range_with_len 0 m)) e ∙ ap (flat_map f) (range-append 0 k (n - k))
-    ∙ flat_map-append f (range_with_len 0 k) (range_with_len (0 + k) (n - k))
-    ∙ ap (λ m. flat_map f (range_with_len 0 k) ++ flat_map f (range_with_len m (n - k))) z in
-    ⊎_elim
-    (λ (l : length row < n).
-    let long : length row ≤ k = omega arith in
-    whole ∙ ap (λ u. flat_map f (range_with_len 0 k) ++ u) (pieces-behind t row k (n - k) long))
-    (λ (l : n ≤ length row).
-    let none : n - k ≡ 0 = omega arith in
-    whole ∙ ap (λ m. flat_map f (range_with_len 0 k) ++ flat_map f (range_with_len k m)) none
-    ∙ sym (ap (λ m. flat_map f (range_with_len 0 k) ++ pieces t [] (range_with_len k m)) none))
-    (cases_lt (length row) n)
-
--- missing columns, one by one
-pub missing-more : (t : CompactSheet) (a n : ℕ) → pieces t [] (range_with_len a (n + 1)) ≡ pieces t [] (range_with_len a n) ++ compact_piece t (a + n) []
-missing-more t a n =
-    let f : ℕ → List ℕ = λ i. compact_piece t i [] in
-    ap (flat_map f) (range-append a n 1) ∙ flat_map-append f (range_with_len a n) ((a + n) ∷ [])
-    ∙ ap (λ u. flat_map f (range_with_len a n) ++ u) (append-nil (f (a + n)))
-
-pub missing-rest : (t : CompactSheet) (a i n : ℕ) → i < n
-    → pieces t [] (range_with_len a n)
-    ≡ pieces t [] (range_with_len a i) ++ (compact_piece t (a + i) [] ++ pieces t [] (range_with_len (a + i + 1) (n - i - 1)))
-missing-rest t a i n h =
-    let f : ℕ → List ℕ = λ j. compact_piece t j [] in
-    let e : n ≡ i + suc (n - i - 1) = omega arith in
-    ap (λ m. flat_map f (range_with_len a m)) e ∙ ap (flat_map f) (range-append a i (suc (n - i - 1)))
-    ∙ flat_map-append f (range_with_len a i) ((a + i) ∷ range_with_len (a + i + 1) (n - i - 1))
-
-none-missing : (t : CompactSheet) (a n : ℕ) → ((k : ℕ) → a ≤ k → k < a + n → compact_piece t k [] ≡ []) → pieces t [] (range_with_len a n) ≡ []
-none-missing t a zero h = refl
-none-missing t a (suc n) h =
-    ap (λ u. u ++ pieces t [] (range_with_len (a + 1) n)) (h a (omega arith) (omega arith))
-    ∙ none-missing t (a + 1) n (λ k l m. h k (omega arith) (omega arith))
-
--- the first of them, where nothing stands in the others
-pub missing-first : (t : CompactSheet) (a i n : ℕ) → i ≤ n → ((k : ℕ) → a + i ≤ k → k < a + n → compact_piece t k [] ≡ [])
-    → pieces t [] (range_with_len a n) ≡ pieces t [] (range_with_len a i)
-missing-first t a i n h none =
-    let f : ℕ → List ℕ = λ j. compact_piece t j [] in
-    let e : n ≡ i + (n - i) = omega arith in
-    ap (λ m. flat_map f (range_with_len a m)) e ∙ ap (flat_map f) (range-append a i (n - i))
-    ∙ flat_map-append f (range_with_len a i) (range_with_len (a + i) (n - i))
-    ∙ ap (λ u. flat_map f (range_with_len a i) ++ u) (none-missing t (a + i) (n - i) (λ k l m. none k (omega arith) (omega arith)))
-    ∙ append-nil (flat_map f (range_with_len a i))
-
--- a row: what stands before its cells, the columns of those that came, and what stands behind them
-pub row-split : (t : CompactSheet) (row : List (List ℕ)) (n : ℕ) → n ≡ min (length row) t.count
-    → compact_row t row ≡ (row_start t ++ pieces t row (range_with_len 0 n)) ++ row_end t n
-unfolding compact_row row_start row_end
-row-split t row n h =
-    let f = (columns_of t).frame in
-    let start = left_edge f f.left.main in
-    let came = pieces t row (range_with_len 0 n) in
-    let missing = pieces t [] (range_with_len n (t.count - n)) in
-    let edge = right_edge f f.right.main in
-    ap (λ u. start ++ (u ++ edge)) (pieces-whole t row t.count n h)
-    ∙ ap (λ u. start ++ u) (append_assoc came missing edge)
-    ∙ sym (append_assoc start came (missing ++ edge))
-
--- the same of cells whose texts are known
-pub given-more : {A : Type 0} (t : CompactSheet) (text : A → List ℕ) (cells : List A) (cell : A) (k : ℕ) → k ≡ min (length cells) t.count
-    → pieces t (map text (cells ++ cell ∷ [])) (range_with_len 0 (min (length (cells ++ cell ∷ [])) t.count))
-    ≡ pieces t (map text cells) (range_with_len 0 (min (length cells) t.count))
-    ++ (if nat_lt k t.count then compact_piece t k (text cell) else [])
-given-more t text cells cell k h =
+-- the columns of the cells so far, where one more came
+given-more : {A : Type 0} (t : CompactSheet) (text : A → List ℕ) (cells : List A) (cell : A)
+    → pieces t (map text (cells ++ cell ∷ [])) (min (length (cells ++ cell ∷ [])) t.count)
+    ≡ pieces t (map text cells) (min (length cells) t.count)
+    ++ (if nat_lt (min (length cells) t.count) t.count then compact_piece t (min (length cells) t.count) (text cell) else [])
+given-more t text cells cell =
     let row = map text cells in
     let long : length (cells ++ cell ∷ []) ≡ length row + 1 = length-append cells (cell ∷ []) ∙ ap (λ n. n + 1) (sym (length-map cells text)) in
-    let short : min (length row) t.count ≡ k = ap (λ n. min n t.count) (length-map cells text) ∙ sym h in
-    let count : min (length cells) t.count ≡ k = sym h in
-    let more = pieces-more t row (text cell) t.count in
-    ap (λ u. pieces t u (range_with_len 0 (min (length (cells ++ cell ∷ [])) t.count))) (map-append text cells (cell ∷ []))
-    ∙ ap (λ n. pieces t (row ++ text cell ∷ []) (range_with_len 0 (min n t.count))) long
-    ∙ more
-    ∙ ap (λ n. pieces t row (range_with_len 0 n) ++ (if nat_lt n t.count then compact_piece t n (text cell) else [])) short
-    ∙ sym (ap (λ n. pieces t row (range_with_len 0 n) ++ (if nat_lt k t.count then compact_piece t k (text cell) else [])) count)
+    let short : min (length row) t.count ≡ min (length cells) t.count = ap (λ n. min n t.count) (length-map cells text) in
+    ap (λ u. pieces t u (min (length (cells ++ cell ∷ [])) t.count)) (map-append text cells (cell ∷ []))
+    ∙ ap (λ n. pieces t (row ++ text cell ∷ []) (min n t.count)) long
+    ∙ pieces-more t row (text cell) t.count
+    ∙ ap (λ n. pieces t row n ++ (if nat_lt n t.count then compact_piece t n (text cell) else [])) short
+
+-- the beginning of a row, and a longer one
+longer : (t : CompactSheet) (b : Bool) (row row' : List (List ℕ)) (n n' : ℕ) (next : List ℕ) → pieces t row' n' ≡ pieces t row n ++ next
+    → part_front t b row' n' ≡ part_front t b row n ++ next
+unfolding part_front row_front
+longer t b row row' n n' next e = rw e (simp append_assoc)
+
+-- one column more
+pub front-more : (t : CompactSheet) (b : Bool) (row : List (List ℕ)) (n : ℕ)
+    → part_front t b row (n + 1) ≡ part_front t b row n ++ compact_piece t n (slice_index_or row n [])
+front-more t b row n = longer t b row row n (n + 1) _ (each-more (λ i. compact_piece t i (slice_index_or row i [])) n)
+
+-- one column more, for which no cell came
+pub front-missing : (t : CompactSheet) (b : Bool) (row : List (List ℕ)) (from n : ℕ) → from ≡ min (length row) t.count → from ≤ n → n < t.count
+    → part_front t b row (n + 1) ≡ part_front t b row n ++ compact_piece t n []
+front-missing t b row from n e l m =
+    front-more t b row n ∙ ap (λ u. part_front t b row n ++ compact_piece t n u) (behind row n (omega arith))
+
+-- one cell more
+pub front-given : {A : Type 0} (t : CompactSheet) (b : Bool) (text : A → List ℕ) (cells : List A) (cell : A)
+    → part_front t b (map text (cells ++ cell ∷ [])) (min (length (cells ++ cell ∷ [])) t.count)
+    ≡ part_front t b (map text cells) (min (length cells) t.count)
+    ++ (if nat_lt (min (length cells) t.count) t.count then compact_piece t (min (length cells) t.count) (text cell) else [])
+front-given t b text cells cell = longer t b _ _ _ _ _ (given-more t text cells cell)
+
+-- all columns, where nothing stands in those from a column on
+pub front-drawn : (t : CompactSheet) (b : Bool) (row : List (List ℕ)) (from n : ℕ) → from ≡ min (length row) t.count → from ≤ n → n ≤ t.count
+    → ((k : ℕ) → n ≤ k → k < t.count → compact_piece t k [] ≡ []) → part_front t b row t.count ≡ part_front t b row n
+front-drawn t b row from n e l m none =
+    let f : ℕ → List ℕ = λ i. compact_piece t i (slice_index_or row i []) in
+    let same : pieces t row t.count ≡ pieces t row n =
+    each-first f n t.count m (λ k p q. ap (compact_piece t k) (behind row k (omega arith)) ∙ none k p q) in
+    longer t b row row n t.count [] (same ∙ sym (append-nil (pieces t row n))) ∙ append-nil (part_front t b row n)
+
+-- the text of a row with the lines above it: its beginning with all columns, and the right edge
+pub front-whole : (t : CompactSheet) (b : Bool) (row : List (List ℕ))
+    → lines_after b (row_part t b row) ≡ part_front t b row t.count ++ (let f = (columns_of t).frame in right_edge f f.right.main)
+unfolding row_part part_front compact_row
+front-whole t b row = lines_after-append b (above t b) (compact_row t row ∷ []) ∙ simp (append_assoc, append-nil)
+
+-- what follows its beginning
+pub front-rest : (t : CompactSheet) (b : Bool) (row : List (List ℕ)) (n : ℕ) → n ≤ t.count
+    → (rest : List ℕ) × (lines_after b (row_part t b row) ≡ part_front t b row n ++ rest)
+front-rest t b row n h =
+    let f = (columns_of t).frame in
+    let edge = right_edge f f.right.main in
+    let g : ℕ → List ℕ = λ i. compact_piece t i (slice_index_or row i []) in
+    ⊎_elim
+    (λ (l : n < t.count).
+    let more = g n ++ flat_map g (range_with_len (n + 1) (t.count - n - 1)) in (
+      more ++ edge,
+      front-whole t b row ∙ ap (λ u. u ++ edge) (longer t b row row n t.count more (each-rest g n t.count l))
+          ∙ append_assoc (part_front t b row n) more edge,
+    ))
+    (λ (l : t.count ≤ n).
+    let e : t.count ≡ n = omega arith in
+    (edge, front-whole t b row ∙ ap (λ k. part_front t b row k ++ edge) e))
+    (cases_lt n t.count)
 
 no-space : (alignment : AlignmentHorizontal) (c : ℕ) → fill 32 (before_text alignment 0) ++ (fill 32 (0 - before_text alignment 0) ++ fill c 0) ≡ []
 no-space horizontal.Left c = refl
@@ -181,3 +157,57 @@ pub empty-piece : (t : CompactSheet) (k : ℕ) → t.config.padding.left.size �
 unfolding compact_piece compact_cell
 empty-piece t k left right width bar =
     rw (bar, left, right, width) (no-spaces t.config.alignment_horizontal t.config.padding.right.fill _ (omega arith))
+
+-- ---- the row with the lines above it
+
+begun-part : (t : CompactSheet) (b : Bool) (row : List (List ℕ)) → begun_after b (row_part t b row) ≡ true
+unfolding row_part
+begun-part t b row = last (above t b)
+  where
+    last : (ls : List (List ℕ)) → begun_after b (ls ++ compact_row t row ∷ []) ≡ true
+    last [] = refl
+    last (l ∷ ls) = refl
+
+-- the sink refused in its beginning
+pub part-stopped : {T : Type 0} (t : CompactSheet) (b : Bool) (row : List (List ℕ)) (n : ℕ) (a c : Sent) (m : Bool) (r : Result T TableError) (e : TableError)
+    → n ≤ t.count → Stops a e c (part_front t b row n) → IsErrAnd r (λ d. d ≡ e) → WritesLines a b r c m (row_part t b row)
+part-stopped t b row n a c m (Ok x) e l s i = absurd i
+part-stopped t b row n a c m (Err d) e l s i =
+    let rest = front-rest t b row n l in
+    record { stops = stopped-first {T = Unit {0}} (Err d) e rest.0 s i rest.1 }
+
+-- its text was put
+pub part-put : {T : Type 0} (t : CompactSheet) (b : Bool) (row : List (List ℕ)) (a c : Sent) (m : Bool) (r : Result T TableError)
+    → Writes a r c (lines_after b (row_part t b row)) → m ≡ true → WritesLines a b r c m (row_part t b row)
+part-put t b row a c m (Ok x) p e = record { sends = p; after = e ∙ sym (begun-part t b row) }
+part-put t b row a c m (Err d) p e = record { stops = p }
+
+-- the next cell was put
+pub given-step : {A : Type 0} (t : CompactSheet) (b : Bool) (text : A → List ℕ) (cells : List A) (cell : A) (a s s' : Sent) (r r' : Result ℕ TableError)
+    (k : ℕ) → r ≡ Ok k → k ≡ min (length cells) t.count
+    → Writes a r s (part_front t b (map text cells) (min (length cells) t.count))
+    → Writes s r' s' (if nat_lt k t.count then compact_piece t k (text cell) else [])
+    → Writes a r' s' (part_front t b (map text (cells ++ cell ∷ [])) (min (length (cells ++ cell ∷ [])) t.count))
+given-step t b text cells cell a s s' (Ok n) r' k e known put next =
+    let P : ℕ → Type 0 = λ m. Writes s r' s' (if nat_lt m t.count then compact_piece t m (text cell) else []) in
+    finished s' _ _ r' put (subst P known next) (front-given t b text cells cell)
+given-step t b text cells cell a s s' (Err d) r' k e known put next = absurd (cc)
+
+-- the sink refused before it
+pub given-skip : {A : Type 0} (t : CompactSheet) (b : Bool) (text : A → List ℕ) (cells : List A) (cell : A) (a s : Sent) (r : Result ℕ TableError)
+    (e : TableError) → r ≡ Err e → Writes a r s (part_front t b (map text cells) (min (length cells) t.count))
+    → Writes {T = ℕ} a (Err e) s (part_front t b (map text (cells ++ cell ∷ [])) (min (length (cells ++ cell ∷ [])) t.count))
+given-skip t b text cells cell a s (Ok n) e h put = absurd (cc)
+given-skip t b text cells cell a s (Err d) e h put =
+    let same : e ≡ d = cc in stopped-first {T = ℕ} (Err e) d _ put same (front-given t b text cells cell)
+
+-- and the column after it
+pub next-step : (r : Result ℕ TableError) (k len more count : ℕ) → k ≡ min len count → more ≡ len + 1 → IfOk r (λ n. n ≡ min (k + 1) count)
+    → IfOk r (λ n. n ≡ min more count)
+next-step (Ok n) k len more count e m h = omega arith
+next-step (Err d) k len more count e m h = tt
+
+pub begun-step : (r r' : Result ℕ TableError) (k : ℕ) (P : Type 0) → r ≡ Ok k → OnOk r P → OnOk r' P
+begun-step (Ok n) (Ok m) k P e h = h
+begun-step (Ok n) (Err f) k P e h = tt
+begun-step (Err d) r' k P e h = absurd (cc)

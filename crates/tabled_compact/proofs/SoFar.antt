@@ -1,10 +1,11 @@
 -- What is known of the rows that came of a source so far.
-use Rattle.std.proofs.Common.{◌≡◌, ℕ, List, [], ◌∷◌, ◌++◌, Option, None, Bool, false, true, suc, length, map, refl, sym, ap, ◌∙◌, subst}
+use Rattle.std.proofs.Common.{◌≡◌, ℕ, List, [], ◌∷◌, ◌++◌, Option, None, Bool, true, map, refl, sym, subst}
 use Rattle.std.specs.Iterator.{Yields}
 use Rattle.std.specs.List.{AllZip}
 use Rattle.std.proofs.lemmas.List.{map-append}
 use Rattle.tabled_base.specs.Given.{Given}
 use Rattle.tabled_base.specs.RowsGiven.{RowsBegin}
+use Rattle.tabled_compact.specs.Shown.{Came}
 
 -- the cells of the lists so far, whose texts have a property
 pub record SoFar {W T A : Type 0} (becomes : W → T → Type 0) (steps : T → Option A → T → Type 0) (text : A → List ℕ)
@@ -37,48 +38,22 @@ pub rows-begin : {V S W T A : Type 0} (rows_become : V → S → Type 0) (row_st
     (steps : T → Option A → T → Type 0) (text : A → List ℕ) (Q : List (List (List ℕ)) → Bool → Type 0) (rows : V) (lists : List W) (it : S)
     → rows_become rows it → (reached : S) → Yields row_steps it lists reached → (whole : Bool)
     → (whole ≡ true → (last : S) × row_steps reached None last) → SoFar becomes steps text (λ rs. Q rs whole) lists
-    → (cells : List (List A)) × (w : Bool) × RowsBegin rows_become row_steps becomes steps rows cells w × Q (map (map text) cells) w
+    → (read : List (List (List ℕ))) × (w : Bool) × Came (RowsBegin rows_become row_steps becomes steps rows) text read w × Q read w
 rows-begin rows_become row_steps becomes steps text Q rows lists it made reached yielded whole ended so_far = (
-  so_far.cells,
+  map (map text) so_far.cells,
   whole,
-  record {
-    lists = lists;
-    iterator = it;
-    made = made;
-    reached = reached;
-    yielded = yielded;
-    each = so_far.each;
-    ended = ended;
-  },
+  (
+    so_far.cells,
+    record {
+      lists = lists;
+      iterator = it;
+      made = made;
+      reached = reached;
+      yielded = yielded;
+      each = so_far.each;
+      ended = ended;
+    },
+    refl,
+  ),
   so_far.holds,
 )
-
--- the cells of the lists so far
-abbrev pub AllCame : {W T A : Type 0} → (W → T → Type 0) → (T → Option A → T → Type 0) → List W → Type 0
-AllCame {A = A} becomes steps lists = (cells : List (List A)) × AllZip (Given becomes steps) lists cells
-
-pub all_came-more : {W T A : Type 0} (becomes : W → T → Type 0) (steps : T → Option A → T → Type 0) (lists : List W) (list : W)
-    (items : List A) → AllCame becomes steps lists → Given becomes steps list items → AllCame becomes steps (lists ++ list ∷ [])
-all_came-more becomes steps lists list items came given =
-    (came.0 ++ items ∷ [], all_zip-more (Given becomes steps) lists came.0 list items came.1 given)
-
-pub all_came-length : {W T A : Type 0} (becomes : W → T → Type 0) (steps : T → Option A → T → Type 0) (lists : List W) (cells : List (List A))
-    → AllZip (Given becomes steps) lists cells → length cells ≡ length lists
-all_came-length becomes steps [] [] h = refl
-all_came-length becomes steps [] (x ∷ cells) h = absurd h
-all_came-length becomes steps (l ∷ lists) [] h = absurd h
-all_came-length becomes steps (l ∷ lists) (x ∷ cells) h = ap suc (all_came-length becomes steps lists cells h.1)
-
--- rows that came first, whether or not they are all
-pub some-begin : {V S W T A : Type 0} (rows_become : V → S → Type 0) (row_steps : S → Option W → S → Type 0) (becomes : W → T → Type 0)
-    (steps : T → Option A → T → Type 0) (rows : V) (cells : List (List A)) (whole : Bool)
-    → RowsBegin rows_become row_steps becomes steps rows cells whole → RowsBegin rows_become row_steps becomes steps rows cells false
-some-begin rows_become row_steps becomes steps rows cells whole b = record {
-  lists = b.lists;
-  iterator = b.iterator;
-  made = b.made;
-  reached = b.reached;
-  yielded = b.yielded;
-  each = b.each;
-  ended = λ e. let no : false ≡ true = e in absurd (cc);
-}

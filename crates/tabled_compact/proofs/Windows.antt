@@ -1,5 +1,5 @@
 -- The rows in a window, where they come one by one.
-use Rattle.std.proofs.Common.{◌≡◌, ℕ, zero, suc, ◌+◌, ◌-◌, ◌<◌, ◌≤◌, ◌==◌, if◌then◌else◌, List, [], ◌∷◌, ◌++◌, length, drop, take, Option, Some, None, IfSome, true, refl, sym, ◌∙◌, ap, append-nil, arith, subst}
+use Rattle.std.proofs.Common.{◌≡◌, ℕ, zero, suc, ◌+◌, ◌-◌, ◌<◌, ◌≤◌, ◌==◌, if◌then◌else◌, List, [], ◌∷◌, ◌++◌, length, drop, take, Option, Some, None, IfSome, true, refl, sym, ◌∙◌, ap, append-nil, arith}
 use Rattle.std.proofs.lemmas.List.{length-append}
 use Rattle.tabled_compact.proofs.RowLines.{not-zero}
 use Rattle.tabled_compact.specs.declared.window.Window.{Window}

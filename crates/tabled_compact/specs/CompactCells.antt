@@ -1,12 +1,12 @@
 -- The cells and the rows of a compact table.
-use Rattle.std.specs.Prelude.{ℕ, ◌-◌, List, [], ◌++◌, Option, if◌then◌else◌, nat_lt, slice_index_or}
+use Rattle.std.specs.Prelude.{ℕ, ◌-◌, List, [], ◌++◌, Option, slice_index_or}
 use Rattle.std.specs.List.{flat_map, range_with_len, slice_index}
 use Rattle.tabled_text.specs.Measure.{text_columns}
 use Rattle.tabled_config.specs.Frame.{frame_of, has_bar}
 use Rattle.tabled_config.specs.declared.compact.CompactConfig.{CompactConfig}
 use Rattle.tabled_size.specs.Reached.{reached}
 use Rattle.tabled_line.specs.Block.{before_text}
-use Rattle.tabled_line.specs.Fill.{fill, indent}
+use Rattle.tabled_line.specs.Fill.{padded_text}
 use Rattle.tabled_line.specs.Row.{ColumnSheet, left_edge, piece, right_edge}
 
 -- the sheet of a compact table: its configuration, its number of columns, and their widths, as far
@@ -19,45 +19,46 @@ pub record CompactSheet : Type 0 where
 -- the sheet with this configuration and `count` columns, with the widths that a dimension has for
 -- them
 abbrev pub sheet_by : CompactConfig → (ℕ → Option ℕ) → ℕ → CompactSheet
-sheet_by config width_at count = record { config = config; count = count; widths = reached width_at count }
+sheet_by config width_at count =
+    record { config = config; count = count; widths = reached width_at count }
 
 -- the columns of a sheet, with their frame
 abbrev pub columns_of : CompactSheet → ColumnSheet
-columns_of t = record { count = t.count; width = slice_index t.widths; frame = frame_of t.config.borders t.config.margin }
+columns_of t = record {
+  count = t.count;
+  width = slice_index t.widths;
+  frame = frame_of t.config.borders t.config.margin;
+}
 
 -- the columns of its content width that a text leaves free; 0 if it is wider
 abbrev pub free_columns : CompactConfig → ℕ → List ℕ → ℕ
-free_columns config width text = width - config.padding.left.size - config.padding.right.size - text_columns text
+free_columns config width text =
+    width - config.padding.left.size - config.padding.right.size - text_columns text
 
 -- a cell: left padding, spaces by alignment, the whole text, spaces, right padding
 unfoldable pub compact_cell : CompactConfig → ℕ → List ℕ → List ℕ
 compact_cell config width text =
     let free = free_columns config width text in
     let before = before_text config.alignment_horizontal free in
-    indent config.padding.left
-    ++ (fill 32 before ++ (text ++ (fill 32 (free - before) ++ indent config.padding.right)))
+    padded_text config.padding before text (free - before)
 
 -- the vertical line before a column, and a text in the column
 unfoldable pub compact_piece : CompactSheet → ℕ → List ℕ → List ℕ
 compact_piece t column text =
     let f = (columns_of t).frame in
-    piece (has_bar f column) f.inner.main ++ compact_cell t.config (slice_index t.widths column) text
+    piece (has_bar f column) f.inner.main
+    ++ compact_cell t.config (slice_index t.widths column) text
 
--- some columns of a row; a missing cell is empty
-abbrev pub pieces : CompactSheet → List (List ℕ) → List ℕ → List ℕ
-pieces t row columns = flat_map (λ column. compact_piece t column (slice_index_or row column [])) columns
+-- the first columns of a row; a missing cell is empty
+abbrev pub pieces : CompactSheet → List (List ℕ) → ℕ → List ℕ
+pieces t row n =
+    flat_map (λ column. compact_piece t column (slice_index_or row column [])) (range_with_len 0 n)
 
--- the left edge of a row, before its first cell
-unfoldable pub row_start : CompactSheet → List ℕ
-row_start t = left_edge (columns_of t).frame (columns_of t).frame.left.main
-
--- what follows some first cells of a row: those that it lacks, and the right edge
-unfoldable pub row_end : CompactSheet → ℕ → List ℕ
-row_end t from =
-    pieces t [] (range_with_len from (t.count - from)) ++ right_edge (columns_of t).frame (columns_of t).frame.right.main
+-- the beginning of the line of a row: its left edge, and its first columns
+unfoldable pub row_front : CompactSheet → List (List ℕ) → ℕ → List ℕ
+row_front t row n = let f = (columns_of t).frame in left_edge f f.left.main ++ pieces t row n
 
 -- the line of a row: its cells between the edges; cells after the last column are ignored
 unfoldable pub compact_row : CompactSheet → List (List ℕ) → List ℕ
 compact_row t row =
-    let f = (columns_of t).frame in
-    left_edge f f.left.main ++ (pieces t row (range_with_len 0 t.count) ++ right_edge f f.right.main)
+    let f = (columns_of t).frame in row_front t row t.count ++ right_edge f f.right.main

@@ -7,8 +7,9 @@ use Rattle.tabled_config.specs.declared.sides.Indent.{Indent}
 use Rattle.tabled_config.specs.Frame.{bottom_line, if_any, top_line}
 use Rattle.tabled_line.specs.Apart.{line_total}
 use Rattle.tabled_line.specs.Fill.{fill}
+use Rattle.tabled_line.specs.Leading.{begun_after, break, lines_after}
 use Rattle.tabled_line.specs.Row.{rule_if}
-use Rattle.tabled_compact.specs.CompactCells.{CompactSheet, columns_of, compact_row}
+use Rattle.tabled_compact.specs.CompactCells.{CompactSheet, columns_of, compact_row, row_front}
 
 -- the total width: all widths, the vertical lines and the side margins
 abbrev pub compact_width : CompactSheet → ℕ
@@ -18,8 +19,11 @@ compact_width t = line_total (columns_of t)
 -- are the characters of the left and right vertical lines
 abbrev pub separator : Borders ℕ → Option HorizontalLine
 separator b =
-    if is_some b.horizontal || (is_some b.left_intersection || (is_some b.right_intersection || is_some b.intersection))
-    then Some (record { main = b.horizontal; left = b.left; intersection = b.intersection; right = b.right }) else None
+    let line : HorizontalLine =
+    record { main = b.horizontal; left = b.left; intersection = b.intersection; right = b.right } in
+    if is_some b.horizontal
+    || (is_some b.left_intersection || (is_some b.right_intersection || is_some b.intersection))
+    then Some line else None
 
 -- the lines of a margin, each as wide as the table
 abbrev pub margin_lines : CompactSheet → Indent → List (List ℕ)
@@ -27,11 +31,14 @@ margin_lines t side = replicate side.size (fill side.fill (compact_width t))
 
 -- the lines above the first row: the margin and the top line
 unfoldable pub head_lines : CompactSheet → List (List ℕ)
-head_lines t = margin_lines t t.config.margin.top ++ rule_if (columns_of t) (if_any (top_line t.config.borders))
+head_lines t =
+    margin_lines t t.config.margin.top ++ rule_if (columns_of t) (if_any (top_line t.config.borders))
 
 -- the lines below the last row: the bottom line and the margin
 unfoldable pub tail_lines : CompactSheet → List (List ℕ)
-tail_lines t = rule_if (columns_of t) (if_any (bottom_line t.config.borders)) ++ margin_lines t t.config.margin.bottom
+tail_lines t =
+    rule_if (columns_of t) (if_any (bottom_line t.config.borders))
+    ++ margin_lines t t.config.margin.bottom
 
 -- the lines above a row: the head for the first, else a separator
 unfoldable pub above : CompactSheet → Bool → List (List ℕ)
@@ -41,6 +48,12 @@ above t true = rule_if (columns_of t) (separator t.config.borders)
 -- a row with the lines above it; `follows` if it is after another row
 unfoldable pub row_part : CompactSheet → Bool → List (List ℕ) → List (List ℕ)
 row_part t follows row = above t follows ++ (compact_row t row ∷ [])
+
+-- the beginning of the text of these lines, up to a column of the row
+unfoldable pub part_front : CompactSheet → Bool → List (List ℕ) → ℕ → List ℕ
+part_front t follows row n =
+    let lines = above t follows in
+    lines_after follows lines ++ (break (begun_after follows lines) ++ row_front t row n)
 
 -- the rows, with the lines above each
 unfoldable pub rows_lines : CompactSheet → List (List (List ℕ)) → List (List ℕ)

@@ -5,7 +5,7 @@ use Rattle.tabled_text.specs.Measure.{greatest, text_columns}
 use Rattle.tabled_priority.specs.Numbers.{greatest_usize}
 use Rattle.tabled_size.specs.declared.const_dimension.ConstDimension.{ConstDimension}
 use Rattle.tabled_size.specs.declared.const_dimension.ConstSize.TheVariants.{List as Listed, Value}
-use Rattle.tabled_compact.specs.NewTable.{IsNewConfig}
+use Rattle.tabled_line.specs.NewConfig.{IsNewConfig}
 use Rattle.tabled_compact.specs.declared.table.CompactTable.{CompactTable}
 
 -- the width of the widest cell in a column, without padding; 0 if there is no row

@@ -1,15 +1,21 @@
-//! The columns of a compact table.
-ghost use Rattle.std.specs.Prelude.{◌≡◌, ◌<◌, ◌≤◌, ◌^◌, IfOk, IfErr, OnOk, length};
+//! The columns of a compact table, and the cells in them.
+ghost use Rattle.std.specs.Prelude.{◌≡◌, ◌<◌, ◌≤◌, ◌+◌, ℕ, Bool, List, [], if◌then◌else◌, length, min, nat_lt, IfOk, IfErr, OnOk};
 ghost use Rattle.std.specs.List.{slice_index};
 ghost use Rattle.tabled_base.specs.declared.error.TableError.TheVariants.{ShortWidths};
 ghost use Rattle.tabled_config.specs.Frame.{frame_of};
+ghost use Rattle.tabled_line.specs.Leading.{lines_after};
+ghost use Rattle.tabled_line.specs.Sent.{Sends, Sent, Writes};
 ghost use Rattle.tabled_size.specs.Reached.{reached};
-ghost use Rattle.tabled_compact.specs.CompactCells.{CompactSheet, columns_of, sheet_by};
+ghost use Rattle.tabled_compact.specs.CompactCells.{CompactSheet, columns_of, compact_piece, free_columns, sheet_by};
+ghost use Rattle.tabled_compact.specs.CompactLines.{part_front, row_part};
 
 use std::marker::Model;
-use tabled_base::TableError;
+use tabled_base::{CellText, TableError};
 use tabled_config::{CompactConfig, Frame};
-use tabled_line::TableColumns;
+use tabled_line::{
+    TableColumns, TextSink, before_text, count_drawn, write_bar, write_padded_text,
+    write_right_edge,
+};
 use tabled_size::{Dimension, check_widths};
 
 /// The columns of a compact table, all of which have a width. In contracts it is a `CompactSheet`.
@@ -38,9 +44,11 @@ impl<'a, D: Dimension> CompactColumns<'a, D> {
         dimension: &'a D,
         count: usize,
     ) -> Result<CompactColumns<'a, D>, TableError>
-        ensures ok { IfOk result (λ columns. columns ≡ sheet_by config.now (D.width_at dimension.now) count) }
+        ensures ok { IfOk result (λ columns.
+            columns ≡ sheet_by config.now (D.width_at dimension.now) count) }
         ensures sized { OnOk result (count ≤ length (reached (D.width_at dimension.now) count)) }
-        ensures err { IfErr result (λ e. (e ≡ ShortWidths) × (length (reached (D.width_at dimension.now) count) < count)) }
+        ensures err { IfErr result (λ e. (e ≡ ShortWidths)
+            × (length (reached (D.width_at dimension.now) count) < count)) }
     {
         check_widths(dimension, count)?;
         Ok(CompactColumns {
@@ -52,10 +60,97 @@ impl<'a, D: Dimension> CompactColumns<'a, D> {
     }
 
     /// Returns the configuration.
-    pub fn config(&self) -> &CompactConfig
+    pub fn config(&self) -> &'a CompactConfig
         ensures { result.now ≡ self.now.config }
     {
         self.config
+    }
+
+    /// Returns how many columns of its content width a text leaves free; 0 if it is wider.
+    fn free_columns<T: CellText>(&self, column: usize, cell: &T) -> usize
+        requires { column < self.now.count }
+        ensures { result ≡ free_columns self.now.config (slice_index self.now.widths column)
+            (T.text cell.now) }
+    {
+        let padding = self.config().get_padding();
+        self.width(column)
+            .saturating_sub(padding.left.size)
+            .saturating_sub(padding.right.size)
+            .saturating_sub(cell.width())
+    }
+
+    /// Writes the vertical line before a column, and a text with its padding, aligned in the
+    /// content width. A wider text is written whole, without spaces for alignment.
+    fn write_cell<T: CellText, S: TextSink>(
+        &self,
+        sink: &mut S,
+        column: usize,
+        cell: &T,
+    ) -> Result<(), TableError>
+        requires { column < self.now.count }
+        ensures { Writes (S.sent sink.old) result (S.sent sink.new)
+            (compact_piece self.now column (T.text cell.now)) }
+    {
+        let frame = self.frame();
+        write_bar(sink, frame.has_bar(column), frame.inner.main)?;
+        let config = self.config();
+        let free = self.free_columns(column, cell);
+        let before = before_text(config.get_alignment_horizontal(), free);
+        let behind = free.saturating_sub(before);
+        write_padded_text(sink, config.get_padding(), before, cell.text(), behind)
+    }
+
+    /// Writes the next cell, and returns the column after it. A cell after the last column is
+    /// ignored.
+    pub fn write_next_cell<T: CellText, S: TextSink>(
+        &self,
+        sink: &mut S,
+        column: usize,
+        cell: &T,
+    ) -> Result<usize, TableError>
+        requires { column ≤ self.now.count }
+        ensures put { Writes (S.sent sink.old) result (S.sent sink.new)
+            (if nat_lt column self.now.count then compact_piece self.now column (T.text cell.now)
+            else []) }
+        ensures next { IfOk result (λ n. n ≡ min (column + 1) self.now.count) }
+    {
+        if column == self.count_columns() {
+            return Ok(column);
+        }
+        self.write_cell(sink, column, cell)?;
+        Ok(column + 1)
+    }
+
+    /// Returns the number of first columns in which a row draws something. An empty cell in any
+    /// later column takes nothing.
+    fn count_drawn_cells(&self) -> usize
+        ensures within { result ≤ self.now.count }
+        ensures rest { (column : ℕ) → result ≤ column → column < self.now.count
+            → compact_piece self.now column [] ≡ [] }
+    {
+        let padding = self.config().get_padding();
+        if padding.left.size == 0 && padding.right.size == 0 {
+            count_drawn(self)
+        } else {
+            self.count_columns()
+        }
+    }
+
+    /// Writes the rest of a row that has no cell from a column on: empty cells, and the right edge.
+    pub fn end_row<S: TextSink>(&self, sink: &mut S, from: usize) -> Result<(), TableError>
+        requires { from ≤ self.now.count }
+        ensures { (start : Sent) (begun : Bool) (row : List (List ℕ))
+            → from ≡ min (length row) self.now.count
+            → Sends start (S.sent sink.old) (part_front self.now begun row from)
+            → Writes start result (S.sent sink.new)
+            (lines_after begun (row_part self.now begun row)) }
+    {
+        let end = self.count_drawn_cells().max(from);
+        'columns: for column in from..end {
+            self.write_cell(sink, column, &"")?;
+        }
+        let frame = self.frame();
+        write_right_edge(sink, frame, frame.right.main)
     }
 }
 

@@ -1,15 +1,14 @@
 //! Prints a compact table, and checks its columns before the first byte.
-ghost use Rattle.std.specs.Prelude.{◌≡◌, ◌≤◌, ◌<◌, ◌+◌, ◌^◌, Bool, List, [], map, length, true, false, MatchBool, MatchResult};
+ghost use Rattle.std.specs.Prelude.{◌≡◌, ◌≤◌, ◌+◌, ℕ, Bool, List, [], length, true, false, IfErr, IfOk, MatchResult, OnOk};
 ghost use Rattle.tabled_base.specs.RowsGiven.{RowsBegin, RowsEnd};
 ghost use Rattle.tabled_line.specs.Sent.{Sent};
-ghost use Rattle.tabled_compact.specs.CompactCells.{CompactSheet, sheet_by};
+ghost use Rattle.tabled_compact.specs.Shown.{Came};
+ghost use Rattle.tabled_compact.specs.CompactCells.{sheet_by};
 ghost use Rattle.tabled_compact.specs.CompactLines.{compact_width};
-ghost use Rattle.tabled_compact.specs.Printed.{IsRefused, PrintsCompact};
-ghost use Rattle.tabled_compact.specs.Shown.{Came, IsSpent};
+ghost use Rattle.tabled_compact.specs.Printed.{IsPrintable, IsRefused, PrintsCompact};
 
 use crate::columns::CompactColumns;
-use crate::lines::walk;
-use crate::rows::RowPrinter;
+use crate::rows::{RowPrinter, walk};
 use crate::total::line_total;
 use crate::window::Window;
 use tabled_base::{CellText, IntoRecords, TableError};
@@ -17,89 +16,59 @@ use tabled_config::CompactConfig;
 use tabled_line::TextSink;
 use tabled_size::Dimension;
 
-/// Whether there is a row after those that are skipped. No further row is read.
-fn has_row<R, C>(rows: R, skip: usize) -> bool
-where
-    R: IntoIterator<Item = C>,
-    C: IntoIterator,
-    C::Item: Drop,
-    requires { RowsEnd R.into_iter_gives R.IntoIter.can_next R.IntoIter.next_gives R.IntoIter.remaining
-        C.into_iter_gives C.IntoIter.can_next C.IntoIter.remaining rows }
-    ensures { (cells : List (List C.Item)) × (whole : Bool)
-        × RowsBegin R.into_iter_gives R.IntoIter.next_gives C.into_iter_gives C.IntoIter.next_gives rows cells whole
-        × MatchBool result (length cells ≡ skip + 1) ((length cells ≤ skip) × (whole ≡ true)) }
-{
-    let mut left = skip;
-    'rows: for row in rows {
-        walk(row);
-        if left == 0 {
-            return true;
-        }
-        left -= 1;
-    }
-    false
-}
-
 /// Makes the iterator of a source and reads no row.
 fn pass_over<R, C>(rows: R)
 where
     R: IntoIterator<Item = C>,
     C: IntoIterator,
-    ensures { RowsBegin R.into_iter_gives R.IntoIter.next_gives C.into_iter_gives C.IntoIter.next_gives rows [] false }
+    ensures { RowsBegin R.into_iter_gives R.IntoIter.next_gives C.into_iter_gives
+        C.IntoIter.next_gives rows [] false }
 {
     let _rows = rows.into_iter();
 }
 
-/// Returns the error, unless no row is shown: then nothing is printed.
+/// Fails with `error` if there is a row after those that are skipped; no further row is read then.
 fn refuse<R, C>(rows: R, skip: usize, error: TableError) -> Result<(), TableError>
 where
     R: IntoIterator<Item = C>,
     C: IntoIterator,
-    C::Item: Drop,
-    requires { RowsEnd R.into_iter_gives R.IntoIter.can_next R.IntoIter.next_gives R.IntoIter.remaining
-        C.into_iter_gives C.IntoIter.can_next C.IntoIter.remaining rows }
-    ensures { (cells : List (List C.Item)) × (whole : Bool)
-        × RowsBegin R.into_iter_gives R.IntoIter.next_gives C.into_iter_gives C.IntoIter.next_gives rows cells whole
-        × MatchResult result (λ _. (length cells ≤ skip) × (whole ≡ true)) (λ e. (length cells ≡ skip + 1) × (e ≡ error)) }
+    C::Item: CellText + Drop,
+    requires { RowsEnd R.into_iter_gives R.IntoIter.can_next R.IntoIter.next_gives
+        R.IntoIter.remaining C.into_iter_gives C.IntoIter.can_next C.IntoIter.remaining rows }
+    ensures { (read : List (List (List ℕ))) × (whole : Bool)
+        × Came (RowsBegin R.into_iter_gives R.IntoIter.next_gives C.into_iter_gives
+        C.IntoIter.next_gives rows) C.Item.text read whole
+        × MatchResult result (λ _. (length read ≤ skip) × (whole ≡ true))
+        (λ e. (length read ≡ skip + 1) × (e ≡ error)) }
 {
-    if has_row(rows, skip) {
-        Err(error)
-    } else {
-        Ok(())
+    let mut left = skip;
+    'rows: for row in rows {
+        walk(row);
+        if left == 0 {
+            return Err(error);
+        }
+        left -= 1;
     }
+    Ok(())
 }
 
-/// Prints the rows in a window over `columns` columns. No row is read if there is no column or the
-/// window shows none.
-fn print_rows<R, C, D: Dimension, S: TextSink>(
-    sink: &mut S,
-    rows: R,
-    config: &CompactConfig,
-    dimension: &D,
-    columns: usize,
-    window: Window,
-) -> Result<(), TableError>
-where
-    R: IntoIterator<Item = C>,
-    C: IntoIterator,
-    C::Item: CellText + Drop,
-    requires { RowsEnd R.into_iter_gives R.IntoIter.can_next R.IntoIter.next_gives R.IntoIter.remaining
-        C.into_iter_gives C.IntoIter.can_next C.IntoIter.remaining rows }
-    ensures { PrintsCompact (sheet_by config.now (D.width_at dimension.now) columns) window
-        (Came (RowsBegin R.into_iter_gives R.IntoIter.next_gives C.into_iter_gives C.IntoIter.next_gives rows) C.Item.text)
-        (S.sent sink.old) result (S.sent sink.new) }
+/// Returns the columns of a table, and its total width. Fails with `ShortWidths` if the dimension
+/// lacks the width of a column, and otherwise with `Range` if the total width exceeds `usize::MAX`.
+fn checked_columns<'a, D: Dimension>(
+    config: &'a CompactConfig,
+    dimension: &'a D,
+    count: usize,
+) -> Result<(CompactColumns<'a, D>, usize), TableError>
+    ensures ok { let t = sheet_by config.now (D.width_at dimension.now) count in
+        IfOk result (λ x. (x.0 ≡ t) × (x.1 ≡ compact_width t)) }
+    ensures printable { OnOk result
+        (IsPrintable (sheet_by config.now (D.width_at dimension.now) count)) }
+    ensures err { IfErr result (IsRefused (sheet_by config.now (D.width_at dimension.now) count)) }
 {
-    if columns == 0 || window.is_spent() {
-        pass_over(rows);
-        return Ok(());
-    }
-    let table = match CompactColumns::new(config, dimension, columns) {
-        Ok(table) => table,
-        Err(error) => return refuse(rows, window.skip, error),
-    };
-    match line_total(&table) {
-        Some(whole) => RowPrinter::new(table, whole, window).print_table(sink, rows),
-        None => refuse(rows, window.skip, TableError::Range),
+    let columns = CompactColumns::new(config, dimension, count)?;
+    match line_total(&columns) {
+        Some(total) => Ok((columns, total)),
+        None => Err(TableError::Range),
     }
 }
 
@@ -130,12 +99,16 @@ where
     ensures { PrintsCompact (sheet_by config.now (D.width_at dimension.now) columns) window
         (Came (I.begins records) I.Cell.text) (S.sent sink.old) result (S.sent sink.new) }
 {
-    print_rows(
-        sink,
-        records.iter_rows(),
-        config,
-        dimension,
-        columns,
-        window,
-    )
+    let rows = records.iter_rows();
+    if columns == 0 || window.is_spent() {
+        pass_over(rows);
+        return Ok(());
+    }
+    match checked_columns(config, dimension, columns) {
+        Ok((table, total)) => {
+            let mut printer = RowPrinter::new(table, total);
+            printer.print_table(sink, rows, window)
+        }
+        Err(error) => refuse(rows, window.skip, error),
+    }
 }

@@ -1,146 +1,258 @@
 //! Prints the rows of a source, one by one.
-ghost use Rattle.std.specs.Prelude.{◌≡◌, ◌==◌, ◌<◌, ◌⊎◌, Bool, List, [], ◌∷◌, map, true, false, length, if◌then◌else◌, OnErr, MatchBool};
+ghost use Rattle.std.specs.Prelude.{◌≡◌, ◌==◌, ℕ, Bool, List, [], map, min, length, true, false, if◌then◌else◌, IfOk, OnErr, OnOk};
 ghost use Rattle.std.specs.Iterator.{IsFiniteIterable};
+ghost use Rattle.std.proofs.Props.{props};
 ghost use Rattle.tabled_base.specs.Given.{Given};
 ghost use Rattle.tabled_base.specs.RowsGiven.{RowsBegin, RowsEnd};
 ghost use Rattle.tabled_line.specs.Leading.{WritesLines};
-ghost use Rattle.tabled_line.specs.Sent.{Sent};
-ghost use Rattle.tabled_compact.specs.CompactLines.{compact_width, row_part, tail_lines};
-ghost use Rattle.tabled_compact.specs.RowsPut.{PutsRows, PutsTable};
-ghost use Rattle.tabled_compact.specs.Shown.{IsSpent, window_after};
+ghost use Rattle.tabled_line.specs.LineCache.{IsCacheOf};
+ghost use Rattle.tabled_line.specs.Sent.{Sent, Writes};
+ghost use Rattle.tabled_compact.specs.CompactCells.{columns_of};
+ghost use Rattle.tabled_compact.specs.CompactLines.{above, compact_width, part_front, row_part, separator, tail_lines};
+ghost use Rattle.tabled_compact.specs.Printed.{IsPrintable, PrintsCompact};
+ghost use Rattle.tabled_compact.specs.RowsPut.{PutsRows};
+ghost use Rattle.tabled_compact.specs.Shown.{Came, IsSpent, window_after};
 
 use crate::columns::CompactColumns;
-use crate::lines::{walk, write_row_part, write_tail};
 use crate::window::Window;
 use tabled_base::{CellText, TableError};
-use tabled_line::TextSink;
+use tabled_config::{Borders, HorizontalLine};
+use tabled_line::{LinePrinter, TableColumns, TextSink, write_left_edge};
 use tabled_size::Dimension;
 
-/// The rows of a compact table while they are printed.
+/// Returns the horizontal line between two rows, if there is one. Its ends are the characters of
+/// the left and right vertical lines.
+fn separator(borders: &Borders<char>) -> Option<HorizontalLine>
+    ensures { result ≡ separator borders.now }
+{
+    let there = borders.horizontal.is_some()
+        || borders.left_intersection.is_some()
+        || borders.right_intersection.is_some()
+        || borders.intersection.is_some();
+    there.then_some(HorizontalLine {
+        main: borders.horizontal,
+        left: borders.left,
+        intersection: borders.intersection,
+        right: borders.right,
+    })
+}
+
+/// Reads the cells of a row that isn't shown.
+pub(crate) fn walk<C: IntoIterator>(cells: C)
+where
+    C::Item: Drop,
+    requires { IsFiniteIterable C.into_iter_gives C.IntoIter.can_next C.IntoIter.remaining cells }
+    ensures { (items : List C.Item) × Given C.into_iter_gives C.IntoIter.next_gives cells items }
+{
+    'cells: for _cell in cells {}
+}
+
+/// A compact table while its rows are printed.
 #[derive(Drop)]
 pub(crate) struct RowPrinter<'a, D: Dimension> {
-    columns: CompactColumns<'a, D>,
+    lines: LinePrinter<CompactColumns<'a, D>>,
     /// The total width in columns.
-    whole: usize,
-    /// The window over the rows that are still to be read.
-    window: Window,
-    /// Whether a line was written before.
-    begun: bool,
-    /// Whether a row was shown.
-    any: bool,
-    ghost total: { whole ≡ compact_width columns },
+    total: usize,
+    ghost whole: { total ≡ compact_width lines.columns },
+    ghost kept: { IsCacheOf (columns_of lines.columns) lines.kept } by { Prim.hlevel props },
 }
 
 impl<'a, D: Dimension> RowPrinter<'a, D> {
-    /// Returns a printer that has read no row yet.
-    pub fn new(columns: CompactColumns<'a, D>, whole: usize, window: Window) -> RowPrinter<'a, D>
-        requires { whole ≡ compact_width columns }
-        ensures columns { result.columns ≡ columns.entry }
-        ensures window { result.window ≡ window }
-        ensures begun { result.begun ≡ false }
-        ensures any { result.any ≡ false }
+    /// Returns a printer that has printed no row yet.
+    pub fn new(columns: CompactColumns<'a, D>, total: usize) -> RowPrinter<'a, D>
+        requires { total ≡ compact_width columns }
+        ensures columns { result.lines.columns ≡ columns.entry }
+        ensures begun { result.lines.begun ≡ false }
     {
         RowPrinter {
-            columns,
-            whole,
-            window,
-            begun: false,
-            any: false,
+            lines: LinePrinter::new(columns, None),
+            total,
         }
     }
 
-    /// Skips or prints the next row. It is read to its end, even if the sink fails.
-    fn print_next_row<C: IntoIterator, S: TextSink>(
+    /// Writes what is above a row: the top margin and the top line, or the line between two rows.
+    fn write_above<S: TextSink>(&mut self, sink: &mut S) -> Result<(), TableError>
+        ensures printed { WritesLines (S.sent sink.old) self.old.lines.begun result
+            (S.sent sink.new) self.new.lines.begun
+            (above self.old.lines.columns self.old.lines.begun) }
+        ensures same { self.new.lines.columns ≡ self.old.lines.columns }
+    {
+        let config = self.lines.columns.config();
+        if self.lines.has_begun() {
+            return self.lines.write_rule(sink, separator(config.get_borders()));
+        }
+        self.lines
+            .write_margin(sink, config.get_margin().top, self.total)?;
+        self.lines
+            .write_rule(sink, config.get_borders().line_at(1, 0))
+    }
+
+    /// Writes what is above a row, and the left edge of its line. Returns the first column.
+    fn begin_row<S: TextSink>(&mut self, sink: &mut S) -> Result<usize, TableError>
+        ensures put { Writes (S.sent sink.old) result (S.sent sink.new)
+            (part_front self.old.lines.columns self.old.lines.begun [] 0) }
+        ensures first { IfOk result (λ column. column ≡ 0) }
+        ensures begun { OnOk result (self.new.lines.begun ≡ true) }
+        ensures same { self.new.lines.columns ≡ self.old.lines.columns }
+    {
+        self.write_above(sink)?;
+        self.lines.begin_line(sink)?;
+        let frame = self.lines.columns.frame();
+        write_left_edge(sink, frame, frame.left.main)?;
+        Ok(0)
+    }
+
+    /// Writes a row up to the cells that it has, and returns the column after them. The cells are
+    /// read to their end, even if the sink fails.
+    fn write_cells<C: IntoIterator, S: TextSink>(
+        &mut self,
+        sink: &mut S,
+        cells: C,
+    ) -> Result<usize, TableError>
+    where
+        C::Item: CellText + Drop,
+        requires { IsFiniteIterable C.into_iter_gives C.IntoIter.can_next C.IntoIter.remaining
+            cells }
+        ensures put { (items : List C.Item)
+            × Given C.into_iter_gives C.IntoIter.next_gives cells items
+            × IfOk result (λ n. n ≡ min (length items) self.old.lines.columns.count)
+            × Writes (S.sent sink.old) result (S.sent sink.new)
+            (part_front self.old.lines.columns self.old.lines.begun (map C.Item.text items)
+            (min (length items) self.old.lines.columns.count)) }
+        ensures begun { OnOk result (self.new.lines.begun ≡ true) }
+        ensures same { self.new.lines.columns ≡ self.old.lines.columns }
+    {
+        let mut next = self.begin_row(sink);
+        'cells: for cell in cells {
+            next = match next {
+                Ok(column) => self.lines.columns.write_next_cell(sink, column, &cell),
+                Err(error) => Err(error),
+            };
+        }
+        next
+    }
+
+    /// Writes a row with what is above it. The cells are read to their end, even if the sink fails.
+    fn write_row<C: IntoIterator, S: TextSink>(
         &mut self,
         sink: &mut S,
         cells: C,
     ) -> Result<(), TableError>
     where
         C::Item: CellText + Drop,
-        requires { IsFiniteIterable C.into_iter_gives C.IntoIter.can_next C.IntoIter.remaining cells }
-        ensures put { (items : List C.Item) × Given C.into_iter_gives C.IntoIter.next_gives cells items
-            × WritesLines (S.sent sink.old) self.old.begun result (S.sent sink.new) self.new.begun
-            (if self.old.window.skip == 0 then row_part self.old.columns self.old.any (map C.Item.text items) else []) }
-        ensures left { self.new.window ≡ window_after self.old.window 1 }
-        ensures any { self.new.any ≡ (if self.old.window.skip == 0 then true else self.old.any) }
-        ensures refused { OnErr result (self.new.any ≡ true) }
-        ensures same { self.new.columns ≡ self.old.columns }
+        requires { IsFiniteIterable C.into_iter_gives C.IntoIter.can_next C.IntoIter.remaining
+            cells }
+        ensures put { (items : List C.Item)
+            × Given C.into_iter_gives C.IntoIter.next_gives cells items
+            × WritesLines (S.sent sink.old) self.old.lines.begun result (S.sent sink.new)
+            self.new.lines.begun
+            (row_part self.old.lines.columns self.old.lines.begun (map C.Item.text items)) }
+        ensures same { self.new.lines.columns ≡ self.old.lines.columns }
     {
-        let follows = self.any;
-        if self.window.take_row() {
-            self.any = true;
-            write_row_part(
-                sink,
-                &mut self.begun,
-                &self.columns,
-                self.whole,
-                follows,
-                cells,
-            )
+        let column = self.write_cells(sink, cells)?;
+        self.lines.columns.end_row(sink, column)
+    }
+
+    /// Skips or prints the next row. It is read to its end, even if the sink fails.
+    fn print_next_row<C: IntoIterator, S: TextSink>(
+        &mut self,
+        sink: &mut S,
+        window: &mut Window,
+        cells: C,
+    ) -> Result<(), TableError>
+    where
+        C::Item: CellText + Drop,
+        requires { IsFiniteIterable C.into_iter_gives C.IntoIter.can_next C.IntoIter.remaining
+            cells }
+        ensures put { (items : List C.Item)
+            × Given C.into_iter_gives C.IntoIter.next_gives cells items
+            × WritesLines (S.sent sink.old) self.old.lines.begun result (S.sent sink.new)
+            self.new.lines.begun (if window.old.skip == 0 then
+            row_part self.old.lines.columns self.old.lines.begun (map C.Item.text items) else []) }
+        ensures left { window.new ≡ window_after window.old 1 }
+        ensures failed { OnErr result ((window.old.skip == 0) ≡ true) }
+        ensures same { self.new.lines.columns ≡ self.old.lines.columns }
+    {
+        if window.take_row() {
+            self.write_row(sink, cells)
         } else {
             walk(cells);
             Ok(())
         }
     }
 
-    /// Prints all rows in the window, which shows at least one. No row past it is read.
-    pub fn print_wanted_rows<R, C, S: TextSink>(
+    /// Prints all rows in a window, which shows at least one. No row past it is read.
+    fn print_wanted_rows<R, C, S: TextSink>(
         &mut self,
         sink: &mut S,
         rows: R,
+        window: Window,
     ) -> Result<(), TableError>
     where
         R: IntoIterator<Item = C>,
         C: IntoIterator,
         C::Item: CellText + Drop,
-        requires ends { RowsEnd R.into_iter_gives R.IntoIter.can_next R.IntoIter.next_gives R.IntoIter.remaining
-            C.into_iter_gives C.IntoIter.can_next C.IntoIter.remaining rows }
-        requires wanted { IsSpent self.old.window → ⊥ }
-        requires first { self.old.any ≡ false }
-        ensures put { (cells : List (List C.Item)) × (whole : Bool)
-            × RowsBegin R.into_iter_gives R.IntoIter.next_gives C.into_iter_gives C.IntoIter.next_gives rows cells whole
-            × PutsRows self.old.columns self.old.window (S.sent sink.old) self.old.begun result (S.sent sink.new)
-            self.new.begun self.new.any (map (map C.Item.text) cells) whole }
-        ensures same { self.new.columns ≡ self.old.columns }
+        requires ends { RowsEnd R.into_iter_gives R.IntoIter.can_next R.IntoIter.next_gives
+            R.IntoIter.remaining C.into_iter_gives C.IntoIter.can_next C.IntoIter.remaining rows }
+        requires wanted { IsSpent window → ⊥ }
+        requires begun { self.old.lines.begun ≡ false }
+        ensures put { (read : List (List (List ℕ))) × (whole : Bool)
+            × Came (RowsBegin R.into_iter_gives R.IntoIter.next_gives C.into_iter_gives
+            C.IntoIter.next_gives rows) C.Item.text read whole
+            × PutsRows self.old.lines.columns window (S.sent sink.old) result (S.sent sink.new)
+            self.new.lines.begun read whole }
+        ensures same { self.new.lines.columns ≡ self.old.lines.columns }
     {
+        let mut left = window;
         'rows: for row in rows {
-            self.print_next_row(sink, row)?;
-            if self.window.is_spent() {
+            self.print_next_row(sink, &mut left, row)?;
+            if left.is_spent() {
                 return Ok(());
             }
         }
         Ok(())
     }
 
-    /// Prints what is below the rows, if one was shown.
-    fn print_end<S: TextSink>(&mut self, sink: &mut S) -> Result<(), TableError>
-        ensures put { WritesLines (S.sent sink.old) self.old.begun result (S.sent sink.new) self.new.begun
-            (if self.old.any then tail_lines self.old.columns else []) }
-        ensures refused { OnErr result (self.old.any ≡ true) }
+    /// Writes what is below the rows, if one was printed: the bottom line and the bottom margin.
+    fn write_tail<S: TextSink>(&mut self, sink: &mut S) -> Result<(), TableError>
+        ensures printed { WritesLines (S.sent sink.old) self.old.lines.begun result
+            (S.sent sink.new) self.new.lines.begun
+            (if self.old.lines.begun then tail_lines self.old.lines.columns else []) }
+        ensures failed { OnErr result (self.old.lines.begun ≡ true) }
     {
-        if self.any {
-            write_tail(sink, &mut self.begun, &self.columns, self.whole)
-        } else {
-            Ok(())
+        if !self.lines.has_begun() {
+            return Ok(());
         }
+        let config = self.lines.columns.config();
+        self.lines
+            .write_rule(sink, config.get_borders().line_at(1, 1))?;
+        self.lines
+            .write_margin(sink, config.get_margin().bottom, self.total)
     }
 
-    /// Prints the entire table, and nothing if no row is shown.
-    pub fn print_table<R, C, S: TextSink>(mut self, sink: &mut S, rows: R) -> Result<(), TableError>
+    /// Prints the table of the rows in a window, which shows at least one if there is one. Prints
+    /// nothing if there is none.
+    pub fn print_table<R, C, S: TextSink>(
+        &mut self,
+        sink: &mut S,
+        rows: R,
+        window: Window,
+    ) -> Result<(), TableError>
     where
         R: IntoIterator<Item = C>,
         C: IntoIterator,
         C::Item: CellText + Drop,
-        requires ends { RowsEnd R.into_iter_gives R.IntoIter.can_next R.IntoIter.next_gives R.IntoIter.remaining
-            C.into_iter_gives C.IntoIter.can_next C.IntoIter.remaining rows }
-        requires wanted { IsSpent self.window → ⊥ }
-        requires first { self.any ≡ false }
-        requires alone { self.begun ≡ false }
-        ensures { (cells : List (List C.Item)) × (whole : Bool)
-            × RowsBegin R.into_iter_gives R.IntoIter.next_gives C.into_iter_gives C.IntoIter.next_gives rows cells whole
-            × PutsTable self.entry.columns self.entry.window (S.sent sink.old) result (S.sent sink.new) (map (map C.Item.text) cells) whole }
+        requires ends { RowsEnd R.into_iter_gives R.IntoIter.can_next R.IntoIter.next_gives
+            R.IntoIter.remaining C.into_iter_gives C.IntoIter.can_next C.IntoIter.remaining rows }
+        requires wanted { IsSpent window → ⊥ }
+        requires begun { self.old.lines.begun ≡ false }
+        requires columns { self.old.lines.columns.count ≡ 0 → ⊥ }
+        requires printable { IsPrintable self.old.lines.columns }
+        ensures { PrintsCompact self.old.lines.columns window
+            (Came (RowsBegin R.into_iter_gives R.IntoIter.next_gives C.into_iter_gives
+            C.IntoIter.next_gives rows) C.Item.text) (S.sent sink.old) result (S.sent sink.new) }
     {
-        self.print_wanted_rows(sink, rows)?;
-        self.print_end(sink)
+        self.print_wanted_rows(sink, rows, window)?;
+        self.write_tail(sink)
     }
 }

@@ -1,15 +1,29 @@
-//! `CompactTable` and its settings.
-ghost use Rattle.std.specs.Prelude.{◌≡◌, Some, None};
+//! `CompactTable`: its settings, its options, and printing it.
+ghost use Rattle.std.specs.Prelude.{◌≡◌, ◌⊎◌, Some, None, [], string_bytes, IfErr, IfOk, true};
 ghost use Rattle.std.specs.Borrow.{Lends, sem};
+ghost use Rattle.tabled_base.specs.declared.error.TableError.TheVariants.{Memory, Range};
+ghost use Rattle.tabled_config.specs.declared.compact.CompactConfig.{CompactConfig};
+ghost use Rattle.tabled_line.specs.NewConfig.{IsNewConfig};
+ghost use Rattle.tabled_line.specs.Sent.{Sent};
+ghost use Rattle.tabled_compact.specs.Applied.{no_records};
+ghost use Rattle.tabled_compact.specs.Shown.{Came};
+ghost use Rattle.tabled_records.specs.declared.empty.EmptyRecords.{EmptyRecords};
 ghost use Rattle.tabled_size.specs.declared.const_dimension.ConstSize.TheVariants.{Value};
+ghost use Rattle.tabled_compact.specs.CompactCells.{sheet_by};
 ghost use Rattle.tabled_compact.specs.Fitting.{IsTableOf};
-ghost use Rattle.tabled_compact.specs.NewTable.{IsNewConfig};
+ghost use Rattle.tabled_compact.specs.Printed.{BuildsCompact, IsEnded, IsPrinted, PrintsCompact};
 
 use crate::fitting::CellRows;
+use crate::print::print_compact;
 use crate::sizes::{SetHeight, SetWidth};
-use tabled_base::IntoRecords;
-use tabled_config::{AlignmentHorizontal, CompactConfig, Indent, Sides, Style};
-use tabled_size::{ConstDimension, ConstSize};
+use crate::window::Window;
+use std::alloc::Global;
+use std::io::Write;
+use tabled_base::{CellText, IntoRecords, TableError, TableOption};
+use tabled_config::CompactConfig;
+use tabled_line::{TextSink, WriterSink, new_compact_config};
+use tabled_records::EmptyRecords;
+use tabled_size::{ConstDimension, ConstSize, Dimension};
 
 /// A table that is printed while its rows are read. No row is stored, and printing allocates
 /// nothing.
@@ -25,22 +39,6 @@ pub struct CompactTable<I, D> {
     pub(crate) columns: usize,
     pub(crate) limit: Option<usize>,
     pub(crate) skip: usize,
-}
-
-/// Returns the configuration of a new table: ASCII borders, one column of padding on the left and
-/// right, and text at the left.
-fn new_config() -> CompactConfig
-    ensures { IsNewConfig result }
-{
-    CompactConfig::new()
-        .set_padding(Sides::new(
-            Indent::spaced(1),
-            Indent::spaced(1),
-            Indent::zero(),
-            Indent::zero(),
-        ))
-        .set_alignment_horizontal(AlignmentHorizontal::Left)
-        .set_borders(Style::ascii().get_borders())
 }
 
 impl<I> CompactTable<I, ConstDimension<0, 0>> {
@@ -130,7 +128,7 @@ impl<I, D> CompactTable<I, D> {
     {
         CompactTable {
             records,
-            config: new_config(),
+            config: new_compact_config(),
             dimension,
             columns: 0,
             limit: None,
@@ -177,7 +175,8 @@ impl<I, D> CompactTable<I, D> {
 
     /// Returns the configuration by mutable reference.
     pub fn get_config_mut(&mut self) -> &mut CompactConfig
-        ensures* lends { sem 𝓛 (Lends (the_row I.row D.row) config_row self.entry result (λ config. record self.old { config = config })) }
+        ensures* lends { sem 𝓛 (Lends (the_row I.row D.row) config_row self.entry result
+            (λ config. record self.old { config = config })) }
         ensures value { result.now ≡ self.old.config }
     {
         &mut self.config
@@ -195,11 +194,143 @@ impl<A: CellRows<COLUMNS, ROWS>, const COLUMNS: usize, const ROWS: usize> From<A
         let widths = rows.fitting_widths();
         CompactTable {
             records: rows,
-            config: new_config(),
+            config: new_compact_config(),
             dimension: ConstDimension::new(ConstSize::List(widths), ConstSize::Value(1)),
             columns: COLUMNS,
             limit: Some(ROWS),
             skip: 0,
+        }
+    }
+}
+
+impl<I: Drop, D: Drop> CompactTable<I, D> {
+    /// Applies an option to the configuration and the dimension, and returns the table. The rows
+    /// stay, and so do the settings of `columns`, `rows` and `skip`. The option sees records
+    /// without rows.
+    ///
+    /// Fails with `Memory`, and with `Range` if a sum or product of the option exceeds
+    /// `usize::MAX`. An error drops the table.
+    pub fn with<O: TableOption<EmptyRecords, CompactConfig, D>>(
+        self,
+        option: O,
+    ) -> Result<Self, TableError>
+        ensures ok { IfOk result (λ table. (after : EmptyRecords)
+            × O.changes option no_records self.config self.dimension
+            after table.config table.dimension) }
+        ensures promised { IfOk result (λ table. (after : EmptyRecords)
+            × O.promises option no_records self.config self.dimension
+            after table.config table.dimension) }
+        ensures same { IfOk result (λ table.
+            table ≡ record self { config = table.config; dimension = table.dimension }) }
+        ensures err { IfErr result (λ e.
+            (after : EmptyRecords) × (config : CompactConfig) × (sizes : D)
+            × O.refuses option e no_records self.config self.dimension after config sizes) }
+        ensures only { IfErr result (λ e. (e ≡ Memory) ⊎ (e ≡ Range)) }
+        ensures range { IfErr result (λ e. e ≡ Range
+            → O.out_of_range option no_records self.config self.dimension) }
+    {
+        let CompactTable {
+            records,
+            mut config,
+            mut dimension,
+            columns,
+            limit,
+            skip,
+        } = self;
+        let mut none = EmptyRecords {
+            rows: 0,
+            columns: 0,
+        };
+        option.change(&mut none, &mut config, &mut dimension)?;
+        Ok(CompactTable {
+            records,
+            config,
+            dimension,
+            columns,
+            limit,
+            skip,
+        })
+    }
+}
+
+impl<I: IntoRecords, D: Dimension + Drop> CompactTable<I, D>
+where
+    I::Cell: CellText + Drop,
+{
+    /// Prints the table to a sink, its lines joined by line feeds. Prints nothing if no row is
+    /// shown or there is no column. Only the sink allocates. No row past the limit is read.
+    ///
+    /// These errors come before the first byte, and are checked in this order:
+    /// - `ShortWidths`: the dimension lacks the width of a column.
+    /// - `Range`: the total width exceeds `usize::MAX`.
+    ///
+    /// Every later error is the sink's.
+    pub fn fmt<S: TextSink>(self, sink: &mut S) -> Result<(), TableError>
+        requires { I.ends self.records }
+        ensures { PrintsCompact (sheet_by self.config (D.width_at self.dimension) self.columns)
+            (record { skip = self.skip; limit = self.limit })
+            (Came (I.begins self.records) I.Cell.text)
+            (S.sent sink.old) result (S.sent sink.new) }
+    {
+        let CompactTable {
+            records,
+            config,
+            dimension,
+            columns,
+            limit,
+            skip,
+        } = self;
+        print_compact(
+            sink,
+            records,
+            &config,
+            &dimension,
+            columns,
+            Window { skip, limit },
+        )
+    }
+
+    /// Prints the table to a writer, as `fmt` does to a sink. The writer isn't flushed, and nothing
+    /// is allocated.
+    ///
+    /// On `Ok` the writer took exactly the text of the table. On `ShortWidths` and `Range` it took
+    /// nothing. `Writer`: a write failed or took no byte, before all of the text was written.
+    /// Nothing is written after that.
+    pub fn build<W: Write>(self, writer: &mut W) -> Result<(), TableError>
+        requires { I.ends self.records }
+        ensures { BuildsCompact (sheet_by self.config (D.width_at self.dimension) self.columns)
+            (record { skip = self.skip; limit = self.limit })
+            (Came (I.begins self.records) I.Cell.text)
+            (W.contents writer.old) result (W.contents writer.new) }
+    {
+        let mut sink = WriterSink::new(writer);
+        let result = self.fmt(&mut sink);
+        let WriterSink { writer, .. } = sink;
+        // Lets the proof refer to the contents of the writer here.
+        let _ = &*writer;
+        result
+    }
+
+    /// Returns the text of the table. Fails as `fmt` does; writing to the string fails only with
+    /// `Memory`.
+    pub fn to_string(self, alloc: Global) -> Result<String, TableError>
+        requires { I.ends self.records }
+        ensures ok { IfOk result (λ text.
+            IsPrinted (sheet_by self.config (D.width_at self.dimension) self.columns)
+            (record { skip = self.skip; limit = self.limit })
+            (Came (I.begins self.records) I.Cell.text)
+            (record { bytes = Some []; failures = 0; grows = true })
+            (record { bytes = Some (string_bytes text); failures = 0; grows = true })) }
+        ensures err { IfErr result (λ e. (new : Sent)
+            × IsEnded (sheet_by self.config (D.width_at self.dimension) self.columns)
+            (record { skip = self.skip; limit = self.limit })
+            (Came (I.begins self.records) I.Cell.text)
+            (record { bytes = Some []; failures = 0; grows = true }) e new × (new.failures ≡ 0)) }
+    {
+        let mut text = String::new(alloc);
+        match self.fmt(&mut text) {
+            Ok(()) => Ok(text),
+            Err(error) => Err(error),
         }
     }
 }

@@ -28,7 +28,8 @@ fn known_widths<C: TableColumns>(columns: &C, known: usize) -> Option<usize>
 
 /// Returns `sum + times * each`; `None` if it exceeds `usize::MAX`.
 fn add_times(sum: usize, times: usize, each: usize) -> Option<usize>
-    ensures { let whole = sum + times * each in MatchOption result (2 ^ 64 ≤ whole) (λ n. n ≡ whole) }
+    ensures { let whole = sum + times * each in
+        MatchOption result (2 ^ 64 ≤ whole) (λ n. n ≡ whole) }
 {
     sum.checked_add(times.checked_mul(each)?)
 }
@@ -40,8 +41,8 @@ fn add_alike<C: TableColumns>(columns: &C, sum: usize, from: usize) -> Option<us
     requires summed { sum ≡ sum_below (C.sheet columns.now).width from }
     requires alike { (column : ℕ) → from ≤ column → column < (C.sheet columns.now).count
         → (C.sheet columns.now).width column ≡ (C.sheet columns.now).width from }
-    ensures { let sheet = C.sheet columns.now in
-        MatchOption result (2 ^ 64 ≤ sum_below sheet.width sheet.count) (λ n. n ≡ sum_below sheet.width sheet.count) }
+    ensures { let sheet = C.sheet columns.now in let sum = sum_below sheet.width sheet.count in
+        MatchOption result (2 ^ 64 ≤ sum) (λ n. n ≡ sum) }
 {
     let times = columns.count_columns() - from;
     if times == 0 {
@@ -53,8 +54,8 @@ fn add_alike<C: TableColumns>(columns: &C, sum: usize, from: usize) -> Option<us
 /// Returns the sum of all widths; `None` if it exceeds `usize::MAX`. The equal widths at the end
 /// are multiplied.
 fn sum_widths<C: TableColumns>(columns: &C) -> Option<usize>
-    ensures { let sheet = C.sheet columns.now in
-        MatchOption result (2 ^ 64 ≤ sum_below sheet.width sheet.count) (λ n. n ≡ sum_below sheet.width sheet.count) }
+    ensures { let sheet = C.sheet columns.now in let sum = sum_below sheet.width sheet.count in
+        MatchOption result (2 ^ 64 ≤ sum) (λ n. n ≡ sum) }
 {
     let known = columns.alike_from().min(columns.count_columns());
     let sum = known_widths(columns, known)?;

@@ -8,6 +8,7 @@ pub mod ColumnSeparator
 pub mod LineCache
 pub mod BlankRow
 pub mod Leading
+pub mod NewConfig
 pub mod PlacedText
 pub mod Offsets
 pub mod Plain

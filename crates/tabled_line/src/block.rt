@@ -8,13 +8,13 @@ ghost use Rattle.tabled_line.specs.Sent.{Sent, Writes};
 
 use crate::content::Content;
 use crate::cursors::Cursor;
-use crate::pieces::{write_fill, write_left_padding, write_right_padding};
+use crate::pieces::{write_fill, write_padded_text};
 use crate::text_sink::TextSink;
 use tabled_base::TableError;
 use tabled_config::{AlignmentHorizontal, AlignmentVertical, CellStyle};
 
 /// Returns how many of the free columns come before the text.
-pub(crate) fn before_text(alignment: AlignmentHorizontal, free: usize) -> usize
+pub fn before_text(alignment: AlignmentHorizontal, free: usize) -> usize
     ensures { result ≡ before_text alignment free }
 {
     // Two selects instead of a three-way branch, since alignments may differ from cell to cell.
@@ -100,15 +100,13 @@ impl<'a> CellBlock<'a> {
             .inner_width()
             .saturating_sub(before)
             .saturating_sub(columns);
-        write_left_padding(sink, self.style.padding.left, before)?;
-        sink.write_text(line)?;
-        write_right_padding(sink, behind, self.style.padding.right)
+        write_padded_text(sink, &self.style.padding, before, line, behind)
     }
 
     /// Returns how many lines the alignment adds above the text.
     pub fn lines_above(&self) -> usize
-        ensures value { result ≡ above_text self.now.style.vertical (free_lines self.now.style self.now.height
-            self.now.content.text.now) }
+        ensures value { result ≡ above_text self.now.style.vertical
+            (free_lines self.now.style self.now.height self.now.content.text.now) }
         ensures within { result ≤ self.now.height - self.now.style.padding.top.size }
     {
         let padding = self.style.padding;
@@ -139,7 +137,8 @@ impl<'a> CellBlock<'a> {
         requires index { index < self.now.height }
         requires stands { IsCursor self.now.content.text.now cursor.old }
         ensures printed { Writes (S.sent sink.old) result (S.sent sink.new)
-            (slice_index_or (block self.now.style self.now.width self.now.height self.now.content.text.now) index []) }
+            (slice_index_or (block self.now.style self.now.width self.now.height
+            self.now.content.text.now) index []) }
         ensures stands { IsCursor self.now.content.text.now cursor.new }
     {
         let above = self.fill_above();

@@ -18,6 +18,7 @@
 //! - `line_feed`: the line feed between two lines.
 //! - `margin`: the lines of a top or bottom margin.
 //! - `columns`: the columns of a table, and the horizontal lines over them.
+//! - `new_config`: the settings of a new table that is printed while its rows are read.
 //!
 //! The text of a cell:
 //! - `content`: a text with its measures.
@@ -58,6 +59,7 @@ mod line_feed;
 mod lines;
 mod margin;
 mod memory;
+mod new_config;
 mod offsets;
 mod pieces;
 mod placement;
@@ -70,18 +72,18 @@ mod template_texts;
 mod text_sink;
 mod writer_sink;
 
-pub use block::CellBlock;
+pub use block::{CellBlock, before_text};
 pub use column_separator::ColumnSeparator;
-pub use columns::{TableColumns, count_drawn, write_rule_line};
+pub use columns::{TableColumns, count_drawn};
 pub use content::Content;
 pub use cursors::{Cursor, FEW_CURSORS, MANY_CURSORS};
 pub use edges::{write_bar, write_left_edge, write_right_edge};
 pub use io_sink::IoSink;
 pub use line_feed::write_break;
 pub use lines::LinePrinter;
-pub use margin::write_margin;
+pub use new_config::new_compact_config;
 pub use offsets::{bar_length, next_offset};
-pub use pieces::{write_char, write_fill, write_indent};
+pub use pieces::{write_char, write_fill, write_indent, write_padded_text};
 pub use placement::{CellPlacement, Placement, UniformPlacement};
 pub use row::Row;
 pub use text_sink::TextSink;

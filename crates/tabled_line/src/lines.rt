@@ -1,8 +1,8 @@
 //! Writes rows, horizontal lines and margins below each other, with line feeds between them.
-ghost use Rattle.std.specs.Prelude.{◌≡◌, ◌<◌, false, [], ◌∷◌, replicate};
+ghost use Rattle.std.specs.Prelude.{◌≡◌, ◌<◌, true, false, [], ◌∷◌, replicate};
 ghost use Rattle.tabled_line.specs.Fill.{fill};
 ghost use Rattle.tabled_line.specs.LineCache.{IsCacheOf};
-ghost use Rattle.tabled_line.specs.Leading.{WritesLines};
+ghost use Rattle.tabled_line.specs.Leading.{WritesLines, break};
 ghost use Rattle.tabled_line.specs.Cursors.{AreCursors};
 ghost use Rattle.tabled_line.specs.Row.{ColumnSheet, RowSheet, row_line, row_lines, rule_if};
 ghost use Rattle.tabled_line.specs.Sent.{Sent, Writes};
@@ -95,6 +95,24 @@ impl<C: TableColumns> LinePrinter<C> {
         }
     }
 
+    /// Whether a line was written.
+    pub fn has_begun(&self) -> bool
+        ensures { result ≡ self.now.begun }
+    {
+        self.begun
+    }
+
+    /// Begins a line that the caller writes: writes the line feed before it, if it isn't the first.
+    pub fn begin_line<S: TextSink>(&mut self, sink: &mut S) -> Result<(), TableError>
+        requires kept { IsCacheOf (C.sheet self.old.columns) self.old.kept }
+        ensures printed { Writes (S.sent sink.old) result (S.sent sink.new) (break self.old.begun) }
+        ensures begun { self.new.begun ≡ true }
+        ensures same { self.new.columns ≡ self.old.columns }
+        ensures kept { IsCacheOf (C.sheet self.new.columns) self.new.kept }
+    {
+        write_break(sink, &mut self.begun)
+    }
+
     /// Writes the lines of a margin, each with `width` fill characters.
     pub fn write_margin<S: TextSink>(
         &mut self,
@@ -103,8 +121,8 @@ impl<C: TableColumns> LinePrinter<C> {
         width: usize,
     ) -> Result<(), TableError>
         requires kept { IsCacheOf (C.sheet self.old.columns) self.old.kept }
-        ensures printed { WritesLines (S.sent sink.old) self.old.begun result (S.sent sink.new) self.new.begun
-            (replicate side.size (fill side.fill width)) }
+        ensures printed { WritesLines (S.sent sink.old) self.old.begun result (S.sent sink.new)
+            self.new.begun (replicate side.size (fill side.fill width)) }
         ensures same { self.new.columns ≡ self.old.columns }
         ensures kept { IsCacheOf (C.sheet self.new.columns) self.new.kept }
     {
@@ -119,8 +137,8 @@ impl<C: TableColumns> LinePrinter<C> {
         rule: Option<HorizontalLine>,
     ) -> Result<(), TableError>
         requires kept { IsCacheOf (C.sheet self.old.columns) self.old.kept }
-        ensures printed { WritesLines (S.sent sink.old) self.old.begun result (S.sent sink.new) self.new.begun
-            (rule_if (C.sheet self.old.columns) rule) }
+        ensures printed { WritesLines (S.sent sink.old) self.old.begun result (S.sent sink.new)
+            self.new.begun (rule_if (C.sheet self.old.columns) rule) }
         ensures same { self.new.columns ≡ self.old.columns }
         ensures kept { IsCacheOf (C.sheet self.new.columns) self.new.kept }
     {
@@ -146,8 +164,8 @@ impl<C: TableColumns> LinePrinter<C> {
     ) -> Result<(), TableError>
         requires kept { IsCacheOf (C.sheet self.old.columns) self.old.kept }
         requires over { (R.sheet row.now).columns ≡ C.sheet self.old.columns }
-        ensures printed { WritesLines (S.sent sink.old) self.old.begun result (S.sent sink.new) self.new.begun
-            (row_lines (R.sheet row.now)) }
+        ensures printed { WritesLines (S.sent sink.old) self.old.begun result (S.sent sink.new)
+            self.new.begun (row_lines (R.sheet row.now)) }
         ensures same { self.new.columns ≡ self.old.columns }
         ensures kept { IsCacheOf (C.sheet self.new.columns) self.new.kept }
     {

@@ -1,11 +1,11 @@
 //! Writes runs of one character.
 ghost use Rattle.std.specs.Prelude.{◌≡◌, ◌≤◌, ◌++◌, encode_utf8};
-ghost use Rattle.tabled_line.specs.Fill.{fill, indent};
+ghost use Rattle.tabled_line.specs.Fill.{fill, indent, padded_text};
 ghost use Rattle.tabled_line.specs.Sent.{Sent, Writes};
 
 use crate::text_sink::TextSink;
 use tabled_base::TableError;
-use tabled_config::Indent;
+use tabled_config::{Indent, Sides};
 
 const SPACES: &str = "                                                                ";
 
@@ -52,7 +52,7 @@ pub(crate) fn write_spaces<S: TextSink>(sink: &mut S, count: usize) -> Result<()
 }
 
 /// Writes a padding and then `spaces` spaces, in one run if the padding is spaces too.
-pub(crate) fn write_left_padding<S: TextSink>(
+fn write_left_padding<S: TextSink>(
     sink: &mut S,
     side: Indent,
     spaces: usize,
@@ -69,7 +69,7 @@ pub(crate) fn write_left_padding<S: TextSink>(
 }
 
 /// Writes `spaces` spaces and then a padding, in one run if the padding is spaces too.
-pub(crate) fn write_right_padding<S: TextSink>(
+fn write_right_padding<S: TextSink>(
     sink: &mut S,
     spaces: usize,
     side: Indent,
@@ -83,6 +83,22 @@ pub(crate) fn write_right_padding<S: TextSink>(
     }
     write_spaces(sink, spaces)?;
     write_indent(sink, side)
+}
+
+/// Writes a text between the side paddings, with `before` and `behind` spaces around it.
+pub fn write_padded_text<S: TextSink>(
+    sink: &mut S,
+    padding: &Sides<Indent>,
+    before: usize,
+    text: &str,
+    behind: usize,
+) -> Result<(), TableError>
+    ensures { Writes (S.sent sink.old) result (S.sent sink.new)
+        (padded_text padding.now before text.now behind) }
+{
+    write_left_padding(sink, padding.left, before)?;
+    sink.write_text(text)?;
+    write_right_padding(sink, behind, padding.right)
 }
 
 /// Writes `count` dashes, 64 at a time.

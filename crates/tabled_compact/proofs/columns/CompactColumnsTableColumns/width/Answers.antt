@@ -1,7 +1,6 @@
-use Rattle.std.proofs.Common.{◌≡◌, ◌<◌, ◌≤◌, length, subst, sym, arith}
+use Rattle.std.proofs.Common.{◌≡◌, ◌<◌, subst, sym, arith}
 use Rattle.std.specs.List.{slice_index}
 use Rattle.tabled_compact.specs.CompactCells.{CompactSheet}
-use Rattle.tabled_size.specs.Reached.{reached}
 use Rattle.tabled_size.proofs.Reaching.{reached_size, reached_there}
 use Rattle.tabled_compact.proofs.columns.CompactColumnsTableColumns.width.Goals as goal
 

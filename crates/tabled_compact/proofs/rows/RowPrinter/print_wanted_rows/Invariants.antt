@@ -1,4 +1,4 @@
-use Rattle.std.proofs.Common.{◌≡◌, List, ℕ}
+use Rattle.std.proofs.Common.{◌≡◌}
 use Rattle.tabled_compact.specs.Shown.{IsSpent}
 use Rattle.tabled_compact.proofs.SoFar.{SoFar}
 use Rattle.tabled_compact.proofs.Putting.{HavePut}
@@ -8,9 +8,9 @@ abbrev pub invariant-rows : goal.invariant-rows
 invariant-rows g l =
     record {
       so_far : SoFar g.C.IntoIterator.into_iter_gives g.C.IntoIter.Iterator.next_gives g.C.Item.CellText.text
-          (HavePut l.initial.self.columns l.initial.self.window (g.S.TextSink.sent l.initial.sink) l.initial.self.begun
-          (g.S.TextSink.sent l.sink) l.self.begun l.self.any l.self.window)
+          (HavePut l.initial.self.lines.columns l.fn.window (g.S.TextSink.sent l.initial.sink)
+          (g.S.TextSink.sent l.sink) l.self.lines.begun l.left)
           l.yielded;
-      left : IsSpent l.self.window → ⊥;
-      same : l.self.columns ≡ l.initial.self.columns;
+      left : IsSpent l.left → ⊥;
+      same : l.self.lines.columns ≡ l.initial.self.lines.columns;
     }

@@ -1,0 +1,10 @@
+use Rattle.std.proofs.Common.{◌≡◌, ℕ, Bool, List, length, min}
+use Rattle.tabled_line.specs.Sent.{Sends, Sent}
+use Rattle.tabled_compact.specs.CompactLines.{part_front}
+use Rattle.tabled_compact.proofs.columns.CompactColumns.end_row.Given as goal
+
+abbrev pub invariant-columns : goal.invariant-columns
+invariant-columns g l =
+    (start : Sent) (begun : Bool) (row : List (List ℕ)) → l.fn.from ≡ min (length row) l.self.count
+    → Sends start (g.S.TextSink.sent l.initial.sink) (part_front l.self begun row l.fn.from)
+    → Sends start (g.S.TextSink.sent l.sink) (part_front l.self begun row l.column)

@@ -1,0 +1,8 @@
+use Rattle.std.proofs.Common.{◌≡◌, ◌+◌, length}
+use Rattle.tabled_compact.proofs.SoFar.{SoFar}
+use Rattle.tabled_compact.proofs.print.refuse.Given as goal
+
+abbrev pub invariant-rows : goal.invariant-rows
+invariant-rows g l =
+    SoFar g.C.IntoIterator.into_iter_gives g.C.IntoIter.Iterator.next_gives g.C.Item.CellText.text
+    (λ read. l.left + length read ≡ l.fn.skip) l.yielded

@@ -1,0 +1,51 @@
+use Rattle.std.proofs.Common.{◌≡◌, ◌∷◌, ℕ, IfOk, [], length, length-append, min, arith, subst, sym}
+use Rattle.tabled_line.specs.Sent.{Writes}
+use Rattle.tabled_compact.specs.CompactLines.{part_front}
+use Rattle.tabled_compact.proofs.RowPieces.{begun-step, given-skip, given-step, next-step}
+use Rattle.tabled_compact.proofs.rows.RowPrinter.write_cells.Goals.{in-Ok, in-Err}
+use Rattle.tabled_compact.proofs.rows.RowPrinter.write_cells.Goals as goal
+
+pub cells-init : goal.cells-init
+cells-init g c =
+    let lines = c.args.self.now.lines in
+    let zero : min 0 lines.columns.count ≡ 0 = omega arith in
+    record {
+      same = c.begin_row-next.ensures.same;
+      begun = c.begin_row-next.ensures.begun;
+      next = subst (λ (n : ℕ). IfOk c.begin_row-next.result (λ column. column ≡ n)) (sym zero) c.begin_row-next.ensures.first;
+      put = subst (λ (n : ℕ). Writes (g.S.TextSink.sent c.args.sink.now) c.begin_row-next.result (g.S.TextSink.sent c.begin_row-next.new.sink)
+          (part_front lines.columns lines.begun [] n)) (sym zero) c.begin_row-next.ensures.put;
+    }
+
+pub cells-preserved : goal.cells-preserved
+cells-preserved g c =
+    let lines = c.args.self.now.lines in
+    let t = lines.columns in
+    let b = lines.begun in
+    let text = g.C.Item.CellText.text in
+    let xs = c.cells.yielded in
+    let x = c.in-Some.cell in
+    let a = g.S.TextSink.sent c.args.sink.now in
+    let s = g.S.TextSink.sent c.cells.sink in
+    let inv = c.cells.invariant in
+    let long = length-append xs (x ∷ []) in
+    elim c.match-next-2.branch [
+      | in-Ok w ↦
+          let at : w.in-Ok.column ≡ min (length xs) t.count =
+          subst (λ r. IfOk r (λ n. n ≡ min (length xs) t.count)) w.in-Ok.is inv.next in
+          record {
+            same = inv.same;
+            begun = begun-step c.cells.next c.match-next-2.next w.in-Ok.column _ w.in-Ok.is inv.begun;
+            next = next-step c.match-next-2.next w.in-Ok.column (length xs) _ t.count at long
+                (rw w.next-is (rw inv.same at w.write_next_cell-next.ensures.next));
+            put = given-step t b text xs x a s _ c.cells.next c.match-next-2.next w.in-Ok.column w.in-Ok.is at inv.put
+                (rw (w.next-is, w.sink-is) (rw inv.same at w.write_next_cell-next.ensures.put));
+          }
+      | in-Err w ↦
+          record {
+            same = inv.same;
+            begun = rw w.next-is tt;
+            next = rw w.next-is tt;
+            put = rw (w.next-is, w.sink-is) (given-skip t b text xs x a s c.cells.next w.in-Err.error w.in-Err.is inv.put);
+          }
+    ]
