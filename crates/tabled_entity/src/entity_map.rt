@@ -144,6 +144,9 @@ impl<T: Copy> EntityMap<T> {
     pub fn get(&self, row: usize, column: usize) -> T
         ensures { result ≡ setting_at self.now row column }
     {
+        if let Some(value) = self.shared() {
+            return value;
+        }
         *self.in_row(row).at(column)
     }
 
