@@ -139,6 +139,14 @@ impl<T: Copy> EntityMap<T> {
         self.in_row(row).shared()
     }
 
+    /// Looks up the value of a cell among the changes.
+    #[inline(never)]
+    fn found(&self, row: usize, column: usize) -> &T
+        ensures { result.now ≡ setting_at self.now row column }
+    {
+        self.in_row(row).at(column)
+    }
+
     /// Returns the value of a cell.
     #[inline]
     pub fn get(&self, row: usize, column: usize) -> T
@@ -147,7 +155,7 @@ impl<T: Copy> EntityMap<T> {
         if let Some(value) = self.shared() {
             return value;
         }
-        *self.in_row(row).at(column)
+        *self.found(row, column)
     }
 
     /// Returns a copy. Fails if an allocation fails.
