@@ -52,7 +52,7 @@ impl Schedule {
         }
     }
 
-    /// Returns that index in a list of so many columns: 0 if it is past the end.
+    /// Returns that index in a list of `count` columns: 0 if it is past the end.
     pub(crate) fn start(&self, count: usize) -> usize
         ensures { result ≡ start (start_of self.now) count }
     {
