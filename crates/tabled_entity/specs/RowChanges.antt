@@ -8,5 +8,5 @@ use Rattle.tabled_entity.specs.declared.row_changes.RowChanges.{RowChanges}
 -- the latest of the changes for the row, for the column, and for the cell itself
 abbrev pub latest_at : RowChanges → ℕ → Option ℕ
 latest_at changes column =
-    later changes.row (later (value_in changes.columns.now column)
+    later changes.row (later (option_and_then (λ columns. value_in columns.now column) changes.columns)
     (option_and_then (λ cells. value_in cells.now column) changes.cells))

@@ -89,7 +89,7 @@ impl ChangeIndex {
     {
         RowChanges {
             row: self.rows.get(row).copied(),
-            columns: &self.columns,
+            columns: self.columns.if_any(),
             cells: self.cells.get(row),
         }
     }

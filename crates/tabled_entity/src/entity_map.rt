@@ -120,7 +120,7 @@ impl<T: Copy> EntityMap<T> {
     }
 
     /// Returns the values of a row's cells.
-    #[inline]
+    #[inline(always)]
     pub fn in_row(&self, row: usize) -> RowValues<'_, T>
         ensures { (column : ℕ) → value_at result column ≡ setting_at self.now row column }
     {
@@ -132,7 +132,7 @@ impl<T: Copy> EntityMap<T> {
 
     /// Returns the value of all cells of a row, if they are known to be equal: nothing was set for
     /// a column, nor for a cell of the row.
-    #[inline]
+    #[inline(always)]
     pub fn row_value(&self, row: usize) -> Option<&T>
         ensures { IfSome result (λ value. (column : ℕ) → value.now ≡ setting_at self.now row column) }
     {

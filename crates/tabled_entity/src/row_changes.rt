@@ -1,7 +1,9 @@
 //! `RowChanges`, the latest changes that cover the cells of a row.
 ghost use Rattle.std.specs.Prelude.{◌≡◌, ℕ, IfSome};
+ghost use Rattle.std.specs.Option.{option_and_then};
 ghost use Rattle.tabled_entity.specs.ChangeIndex.{later};
 ghost use Rattle.tabled_entity.specs.RowChanges.{latest_at};
+ghost use Rattle.tabled_entity.specs.RunMap.{value_in};
 
 use crate::run_map::RunMap;
 
@@ -10,10 +12,21 @@ use crate::run_map::RunMap;
 pub(crate) struct RowChanges<'a> {
     /// The change for the row.
     pub row: Option<usize>,
-    /// The changes for columns.
-    pub columns: &'a RunMap<usize>,
-    /// The changes for the row's cells, by column.
+    /// The changes for columns, if there are any.
+    pub columns: Option<&'a RunMap<usize>>,
+    /// The changes for the row's cells, by column, if there are any.
     pub cells: Option<&'a RunMap<usize>>,
+}
+
+/// Returns the change for a column, by its index.
+#[inline(always)]
+fn place_in(places: Option<&RunMap<usize>>, column: usize) -> Option<usize>
+    ensures { result ≡ option_and_then (λ map. value_in map.now column) places.entry }
+{
+    match places {
+        Some(places) => places.get(column).copied(),
+        None => None,
+    }
 }
 
 /// Returns the later of two changes, by their indices.
@@ -35,7 +48,7 @@ impl<'a> RowChanges<'a> {
     pub fn shared(&self) -> Option<Option<usize>>
         ensures { IfSome result (λ place. (column : ℕ) → latest_at self.now column ≡ place) }
     {
-        if self.cells.is_none() && self.columns.is_empty() {
+        if self.cells.is_none() && self.columns.is_none() {
             Some(self.row)
         } else {
             None
@@ -47,11 +60,7 @@ impl<'a> RowChanges<'a> {
     pub fn at(&self, column: usize) -> Option<usize>
         ensures { result ≡ latest_at self.now column }
     {
-        let of_column = self.columns.get(column).copied();
-        let of_cell = match self.cells {
-            Some(cells) => cells.get(column).copied(),
-            None => None,
-        };
-        later(self.row, later(of_column, of_cell))
+        let of_cell = later(place_in(self.columns, column), place_in(self.cells, column));
+        later(self.row, of_cell)
     }
 }

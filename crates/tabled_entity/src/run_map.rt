@@ -44,6 +44,15 @@ impl<V: Drop> RunMap<V> {
         self.run.is_empty() && self.others.is_empty()
     }
 
+    /// Returns the map, or `None` if it has no values.
+    #[inline(always)]
+    pub fn if_any(&self) -> Option<&RunMap<V>>
+        ensures some { IfSome result (λ map. map.now ≡ self.now) }
+        ensures none { IfNone result (HasNoValue self.now) }
+    {
+        if self.is_empty() { None } else { Some(self) }
+    }
+
     /// Returns the value of a number in the run.
     #[inline(always)]
     fn in_run(&self, number: usize) -> Option<&V>

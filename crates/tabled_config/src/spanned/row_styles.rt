@@ -111,9 +111,6 @@ impl SpannedConfig {
     pub fn styles_in(&self, row: usize) -> RowStyles<'_>
         ensures { DescribesStyles result (style_at self.now row) }
     {
-        if let Some(style) = self.row_style(row) {
-            return RowStyles::Alike(style);
-        }
         RowStyles::Set(SetStyles {
             padding: self.padding.in_row(row),
             horizontal: self.alignment_horizontal.in_row(row),
