@@ -22,7 +22,11 @@ pub(crate) enum ShortOr<S> {
 }
 
 /// A string that can be truncated without allocating.
-pub(crate) trait Shorten: AsStr {
+pub trait Shorten: AsStr {
+    /// Makes one from a `String`.
+    fn owned(text: String) -> Self
+        ensures { Self.AsStr.text result ≡ string_bytes text };
+
     /// Truncates the string to `length` bytes. Never allocates.
     fn shorten(&mut self, length: usize)
         requires { IsCharBoundary (Self.AsStr.text self.old) length }
@@ -30,12 +34,20 @@ pub(crate) trait Shorten: AsStr {
 }
 
 impl Shorten for String {
+    fn owned(text: String) -> String {
+        text
+    }
+
     fn shorten(&mut self, length: usize) {
         self.truncate(length);
     }
 }
 
 impl<'a> Shorten for CowStr<'a, Global> {
+    fn owned(text: String) -> CowStr<'a, Global> {
+        CowStr::Owned(text)
+    }
+
     fn shorten(&mut self, length: usize) {
         match self {
             CowStr::Borrowed(text) => {

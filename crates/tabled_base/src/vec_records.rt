@@ -1,8 +1,6 @@
 //! `VecRecords`, rows of equal length in vectors.
-ghost use Rattle.std.specs.Prelude.{◌≡◌, ◌++◌, ℕ, List, IfErr, IfOk, OnErr, OnOk, map, string_bytes, take, ⊤};
-ghost use Rattle.std.specs.Str.{IsCharBoundary};
+ghost use Rattle.std.specs.Prelude.{◌≡◌, ℕ, List, IfErr, IfOk, OnErr, OnOk, map, string_bytes, ⊤};
 ghost use Rattle.tabled_base.specs.Cells.{IsInside, IsRectangular, cell_at, columns, row_texts, texts_of, with_cell};
-ghost use Rattle.tabled_base.specs.ShortOr.{FitsBehind};
 ghost use Rattle.tabled_base.specs.declared.error.TableError.TheVariants.{Memory};
 
 use crate::error::TableError;
@@ -11,8 +9,6 @@ use crate::records::{CellText, ExactRecords, PeekableRecords, Records, RecordsMu
 use crate::short_or::Shorten;
 use crate::text::Text;
 use std::alloc::Global;
-use std::borrow::CowStr;
-use std::convert::AsStr;
 use std::marker::Model;
 
 /// Records stored as rows of equal length.
@@ -50,37 +46,22 @@ impl<T: CellText> VecRecords<T> {
         self.rows.as_slice()
     }
 
+    /// Returns a cell.
+    #[inline(always)]
+    fn cell(&self, at: Position) -> &T
+        requires { IsInside self.now at.row at.column }
+        ensures { T.text result.now ≡ cell_at self.now at.row at.column }
+    {
+        let row = &self.rows[at.row];
+        &row[at.column]
+    }
+
     /// Returns the rows, which are equally long.
     pub(crate) fn into_rows(self) -> Vec<Vec<T>>
         ensures rows { texts_of T.text result.items ≡ self }
         ensures rectangular { IsRectangular (texts_of T.text result.items) }
     {
         self.rows
-    }
-}
-
-impl<S: AsStr + Drop> VecRecords<Text<S>> {
-    /// Replaces the text of a cell.
-    pub(crate) fn put(&mut self, at: Position, text: Text<S>)
-        requires { IsInside self.old at.row at.column }
-        ensures { self.new ≡ with_cell self.old at.row at.column text }
-    {
-        let row = &mut self.rows[at.row];
-        row[at.column] = text;
-    }
-}
-
-impl<S: Shorten + Drop> VecRecords<Text<S>> {
-    /// Truncates the text of a cell to `bytes` bytes and appends an ending, as `Text` does.
-    fn shorten_cell(&mut self, at: Position, bytes: usize, ending: &str)
-        requires inside { IsInside self.old at.row at.column }
-        requires boundary { IsCharBoundary (cell_at self.old at.row at.column) bytes }
-        requires fits { FitsBehind bytes ending.now }
-        ensures { self.new ≡ with_cell self.old at.row at.column
-            (take bytes (cell_at self.old at.row at.column) ++ ending.now) }
-    {
-        let row = &mut self.rows[at.row];
-        row[at.column].shorten(bytes, ending);
     }
 }
 
@@ -143,52 +124,26 @@ impl<T: CellText> ExactRecords for VecRecords<T> {
 
 impl<T: CellText> PeekableRecords for VecRecords<T> {
     fn get_text(&self, at: Position) -> &str {
-        let row = &self.rows[at.row];
-        row[at.column].text()
+        self.cell(at).text()
     }
 
     fn get_width(&self, at: Position) -> usize {
-        let row = &self.rows[at.row];
-        row[at.column].width()
+        self.cell(at).width()
     }
 
     fn count_lines(&self, at: Position) -> usize {
-        let row = &self.rows[at.row];
-        row[at.column].count_lines()
+        self.cell(at).count_lines()
     }
 
     #[inline(always)]
     fn get_measured(&self, at: Position) -> (&str, usize, usize) {
-        let row = &self.rows[at.row];
-        let cell = &row[at.column];
+        let cell = self.cell(at);
         (cell.text(), cell.width(), cell.count_lines())
     }
 }
 
-/// `set` doesn't allocate and never fails.
-impl RecordsMut for VecRecords<Text<String>> {
-    fn set(&mut self, at: Position, text: String) -> Result<(), TableError>
-        requires { IsInside self.old at.row at.column }
-        ensures ok { OnOk result (self.new ≡ with_cell self.old at.row at.column (string_bytes text)) }
-        ensures err { OnErr result (self.new ≡ self.old) }
-        ensures only { IfErr result (λ e. e ≡ Memory) }
-        ensures never { OnErr result ⊥ }
-    {
-        self.put(at, Text::new(text));
-        Ok(())
-    }
-
-    fn shorten(&mut self, at: Position, bytes: usize, ending: &str) {
-        self.shorten_cell(at, bytes, ending);
-    }
-
-    fn allocator(&self) -> Global {
-        *self.rows.allocator()
-    }
-}
-
 /// A cell that is set owns its new text. `set` doesn't allocate and never fails.
-impl<'a> RecordsMut for VecRecords<Text<CowStr<'a, Global>>> {
+impl<S: Shorten + Drop> RecordsMut for VecRecords<Text<S>> {
     fn set(&mut self, at: Position, text: String) -> Result<(), TableError>
         requires { IsInside self.old at.row at.column }
         ensures ok { OnOk result (self.new ≡ with_cell self.old at.row at.column (string_bytes text)) }
@@ -196,12 +151,15 @@ impl<'a> RecordsMut for VecRecords<Text<CowStr<'a, Global>>> {
         ensures only { IfErr result (λ e. e ≡ Memory) }
         ensures never { OnErr result ⊥ }
     {
-        self.put(at, Text::new(CowStr::Owned(text)));
+        let cell = Text::new(S::owned(text));
+        let row = &mut self.rows[at.row];
+        row[at.column] = cell;
         Ok(())
     }
 
     fn shorten(&mut self, at: Position, bytes: usize, ending: &str) {
-        self.shorten_cell(at, bytes, ending);
+        let row = &mut self.rows[at.row];
+        row[at.column].shorten(bytes, ending);
     }
 
     fn allocator(&self) -> Global {

@@ -3,7 +3,7 @@ use Rattle.std.proofs.lemmas.List.{length-map}
 use Rattle.tabled_base.specs.Cells.{IsRectangular, cell_at, texts_of, with_cell}
 use Rattle.tabled_base.proofs.ChangedCells.{texts_after, with_cell-rectangular}
 use Rattle.tabled_base.proofs.RowLemmas.{cell_read, row_inside}
-use Rattle.tabled_base.proofs.vec_records.VecRecords+Text+S.shorten_cell.Goals as goal
+use Rattle.tabled_base.proofs.vec_records.VecRecordsTextRecordsMut.shorten.Goals as goal
 
 pub invariant_of-self : goal.invariant_of-self
 invariant_of-self g c =
