@@ -1,40 +1,8 @@
 -- Lengthened rows.
-use Rattle.std.proofs.Common.{
-  ◌≡◌,
-  ℕ,
-  zero,
-  suc,
-  ◌+◌,
-  ◌-◌,
-  ◌<◌,
-  ◌≤◌,
-  List,
-  [],
-  ◌∷◌,
-  ◌++◌,
-  length,
-  map,
-  max,
-  get_or,
-  replicate,
-  refl,
-  sym,
-  ap,
-  subst,
-  ◌∙◌,
-  arith,
-  All,
-  append-nil,
-  append_assoc,
-  length-append,
-  Result,
-  Ok,
-  Err,
-  OnOk,
-  OnErr,
-}
+use Rattle.std.proofs.Common.{◌≡◌, ℕ, zero, suc, ◌+◌, ◌-◌, ◌<◌, ◌≤◌, List, [], ◌∷◌, ◌++◌, length, map, max, get_or, replicate}
+use Rattle.std.proofs.Common.{refl, sym, ap, subst, ◌∙◌, arith, All, append-nil, length-append, Result, Ok, Err, OnOk, OnErr}
 use Rattle.std.proofs.Math.ListN.{set}
-use Rattle.std.proofs.lemmas.List.{length-replicate, replicate-append-replicate, map-append}
+use Rattle.std.proofs.lemmas.List.{length-replicate}
 use Rattle.std.proofs.lemmas.List.Elements.{All-head, All-tail, All-cons, All-nil, All-append, All-map}
 use Rattle.tabled_base.specs.Cells.{columns, IsRectangular, lengthened, with_record}
 
@@ -46,13 +14,6 @@ pub lengthened-long : (n : ℕ) (row : List (List ℕ)) → n ≤ length row →
 lengthened-long n row h =
     let none : n - length row ≡ 0 = omega arith in
     ap (λ k. row ++ replicate k []) none ∙ append-nil row
-
--- lengthened to fewer columns first
-pub lengthened-more : (row : List (List ℕ)) (n : ℕ) → length row ≤ n → lengthened n row ++ [] ∷ [] ≡ lengthened (n + 1) row
-lengthened-more row n h =
-    let more : n - length row + 1 ≡ n + 1 - length row = omega arith in
-    append_assoc row (replicate (n - length row) []) ([] ∷ [])
-    ∙ ap (λ l. row ++ l) (replicate-append-replicate (n - length row) 1 [] ∙ ap (λ k. replicate k []) more)
 
 -- columns that want as many cells
 pub lengthened-same : (row : List (List ℕ)) (m n : ℕ) → m - length row ≡ n - length row → lengthened m row ≡ lengthened n row
@@ -79,24 +40,10 @@ lengthened-all n (row ∷ rows) h =
     ap (λ r. r ∷ map (lengthened n) rows) (lengthened-long n row (All-head (λ r. n ≤ length r) row rows h))
     ∙ ap (λ rs. row ∷ rs) (lengthened-all n rows (All-tail (λ r. n ≤ length r) row rows h))
 
--- a longer row comes
-pub with_record-longer : (cells : List (List (List ℕ))) (row : List (List ℕ)) → columns cells < length row
-    → map (lengthened (length row)) cells ++ row ∷ [] ≡ with_record cells row
-with_record-longer cells row h =
-    let most : length row ≡ max (columns cells) (length row) = omega arith in
-    ap (λ r. map (lengthened (length row)) cells ++ r ∷ []) (sym (lengthened-long (length row) row (omega arith)))
-    ∙ sym (map-append (lengthened (length row)) cells (row ∷ []))
-    ∙ ap (λ n. map (lengthened n) (cells ++ row ∷ [])) most
-
--- a row comes that is no longer than the others
-pub with_record-shorter : (cells : List (List (List ℕ))) (row : List (List ℕ)) → IsRectangular cells
-    → length row ≤ columns cells → cells ++ lengthened (columns cells) row ∷ [] ≡ with_record cells row
-with_record-shorter cells row q h =
-    let n = columns cells in
-    let most : n ≡ max n (length row) = omega arith in
-    ap (λ cs. cs ++ lengthened n row ∷ []) (sym (lengthened-all n cells (λ k d l. let own = q k d l in omega arith)))
-    ∙ sym (map-append (lengthened n) cells (row ∷ []))
-    ∙ ap (λ m. map (lengthened m) (cells ++ row ∷ [])) most
+-- equally long rows that are long enough stay
+pub lengthened-rectangular : (n : ℕ) (cells : List (List (List ℕ))) → IsRectangular cells → n ≤ columns cells
+    → map (lengthened n) cells ≡ cells
+lengthened-rectangular n cells q h = lengthened-all n cells (λ k d l. let own = q k d l in omega arith)
 
 -- f of the items up to i, and the items from there on
 abbrev pub mapped : {X : Type 0} → (X → X) → ℕ → List X → List X

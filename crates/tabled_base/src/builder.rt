@@ -193,52 +193,33 @@ fn longest_row(rows: &[Vec<Text<String>>]) -> usize
 }
 
 /// Appends a row, and fills up the shorter ones.
-fn push_row(rows: &mut Vec<Vec<Text<String>>>, row: Vec<Text<String>>) -> Result<(), TableError>
+fn push_row(rows: &mut Vec<Vec<Text<String>>>, mut row: Vec<Text<String>>) -> Result<(), TableError>
     requires { IsRectangular (row_texts rows.old.items) }
     ensures ok { OnOk result
         (row_texts rows.new.items ≡ with_record (row_texts rows.old.items) row.items) }
     ensures err { OnErr result (row_texts rows.new.items ≡ row_texts rows.old.items) }
     ensures only { IfErr result (λ e. e ≡ Memory) }
 {
-    let columns = first_length(rows.as_slice());
-    if columns < row.len() {
-        push_longer(rows, row)
-    } else {
-        push_shorter(rows, row, columns)
-    }
-}
-
-/// Appends a row that is longer than the others, and fills up the others.
-fn push_longer(rows: &mut Vec<Vec<Text<String>>>, row: Vec<Text<String>>) -> Result<(), TableError>
-    ensures ok { let longest = length row.items in OnOk result
-        (row_texts rows.new.items
-        ≡ map (lengthened longest) (row_texts rows.old.items) ++ row.items ∷ []) }
-    ensures err { OnErr result (row_texts rows.new.items ≡ row_texts rows.old.items) }
-    ensures only { IfErr result (λ e. e ≡ Memory) }
-{
-    let columns = row.len();
-    reserve_rows(rows.as_mut_slice(), columns)?;
+    let columns = first_length(rows.as_slice()).max(row.len());
+    row.reserve(columns.saturating_sub(row.len()))?;
     rows.reserve(1)?;
-    lengthen_rows(rows.as_mut_slice(), columns);
+    widen_rows(rows.as_mut_slice(), columns)?;
+    lengthen_row(&mut row, columns);
     rows.push_reserved(row);
     Ok(())
 }
 
-/// Appends a row of at most `columns` cells, filled up to `columns`.
-fn push_shorter(
-    rows: &mut Vec<Vec<Text<String>>>,
-    mut row: Vec<Text<String>>,
-    columns: usize,
-) -> Result<(), TableError>
-    ensures ok { OnOk result
-        (row_texts rows.new.items ≡ row_texts rows.old.items ++ lengthened columns row.items ∷ []) }
-    ensures err { OnErr result (row_texts rows.new.items ≡ row_texts rows.old.items) }
+/// Fills up rows of equal length to `columns` cells. If it fails, the rows are unchanged.
+fn widen_rows(rows: &mut [Vec<Text<String>>], columns: usize) -> Result<(), TableError>
+    requires { IsRectangular (row_texts rows.old) }
+    ensures ok { OnOk result (row_texts rows.new ≡ map (lengthened columns) (row_texts rows.old)) }
+    ensures err { OnErr result (row_texts rows.new ≡ row_texts rows.old) }
     ensures only { IfErr result (λ e. e ≡ Memory) }
 {
-    row.reserve(columns.saturating_sub(row.len()))?;
-    rows.reserve(1)?;
-    lengthen_row(&mut row, columns);
-    rows.push_reserved(row);
+    if first_length(rows) < columns {
+        reserve_rows(rows, columns)?;
+        lengthen_rows(rows, columns);
+    }
     Ok(())
 }
 
