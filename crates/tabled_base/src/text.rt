@@ -81,21 +81,6 @@ impl<S: Shorten + Drop> Text<S> {
     }
 }
 
-impl<S: AsStr> Text<S> {
-    /// Makes a `Text` of a text whose columns and lines are known.
-    fn measured(text: S, columns: usize, lines: usize) -> Self
-        requires columns { columns ≡ text_columns (S.text text) }
-        requires lines { lines ≡ length (lines_of (S.text text)) }
-        ensures { result ≡ S.text text }
-    {
-        Text {
-            text: ShortOr::Other(text),
-            columns,
-            lines,
-        }
-    }
-}
-
 impl<'a> Text<CowStr<'a, Global>> {
     /// Borrows the text of a cell with its measures, without copying. Records that store the
     /// measures aren't measured again.
@@ -104,7 +89,11 @@ impl<'a> Text<CowStr<'a, Global>> {
         ensures { result ≡ cell_at (R.cells records.now) at.row at.column }
     {
         let (text, columns, lines) = records.get_measured(at);
-        Text::measured(CowStr::Borrowed(text), columns, lines)
+        Text {
+            text: ShortOr::Other(CowStr::Borrowed(text)),
+            columns,
+            lines,
+        }
     }
 }
 
@@ -147,15 +136,10 @@ impl Text<String> {
         ensures only { IfErr result (λ e. e ≡ Memory) }
         ensures long { IfErr result (λ _. SHORT_TEXT < length self.now) }
     {
-        let Text {
-            text,
-            columns,
-            lines,
-        } = self;
         Ok(Text {
-            text: text.clone()?,
-            columns: *columns,
-            lines: *lines,
+            text: self.text.clone()?,
+            columns: self.columns,
+            lines: self.lines,
         })
     }
 }
