@@ -1,27 +1,6 @@
 -- Rows that are lengthened to the longest of them.
-use Rattle.std.proofs.Common.{
-  ◌≡◌,
-  ℕ,
-  ◌+◌,
-  ◌-◌,
-  ◌≤◌,
-  List,
-  [],
-  ◌∷◌,
-  ◌++◌,
-  length,
-  map,
-  max,
-  get_or,
-  replicate,
-  refl,
-  sym,
-  ap,
-  ◌∙◌,
-  arith,
-  append_assoc,
-  All,
-}
+use Rattle.std.proofs.Common.{◌≡◌, ℕ, ◌+◌, ◌-◌, ◌≤◌, List, [], ◌∷◌, ◌++◌, length, map, max, get_or, replicate, refl, sym, ap, ◌∙◌}
+use Rattle.std.proofs.Common.{arith, append_assoc, All}
 use Rattle.std.proofs.lemmas.List.{replicate-append-replicate, map-append}
 use Rattle.std.proofs.lemmas.List.Elements.{All-head, All-tail, All-cons, All-map, All-nil}
 use Rattle.tabled_base.specs.Cells.{IsRectangular, columns, longest, lengthened, lengthened_rows, with_record}

@@ -1,26 +1,6 @@
 -- Rows in vectors, as rows of texts.
-use Rattle.std.proofs.Common.{
-  ◌≡◌,
-  ℕ,
-  ◌+◌,
-  ◌-◌,
-  ◌<◌,
-  ◌≤◌,
-  List,
-  [],
-  length,
-  map,
-  sym,
-  ap,
-  ◌∙◌,
-  arith,
-  slice_index_or,
-  vec_len,
-  inl,
-  inr,
-  get_or-set_same,
-  get_or-set_other,
-}
+use Rattle.std.proofs.Common.{◌≡◌, ℕ, ◌+◌, ◌-◌, ◌<◌, ◌≤◌, List, [], length, map, sym, ap, ◌∙◌, arith, slice_index_or, vec_len}
+use Rattle.std.proofs.Common.{inl, inr, get_or-set_same, get_or-set_other}
 use Rattle.std.proofs.Math.ListN.{set}
 use Rattle.std.proofs.lemmas.List.{get_or-map, map-set, map-id, set-get_or, length-map}
 use Rattle.std.proofs.lemmas.Bool.{cases_eq}
