@@ -101,14 +101,7 @@ impl SpannedConfig {
     pub fn from_compact(alloc: Global, compact: CompactConfig) -> SpannedConfig
         ensures { result ≡ spanned_of_compact compact }
     {
-        let mut config = SpannedConfig::new(alloc);
-        config.borders = *compact.get_borders();
-        config.margin = *compact.get_margin();
-        config.padding.set_all(*compact.get_padding());
-        config
-            .alignment_horizontal
-            .set_all(compact.get_alignment_horizontal());
-        config
+        SpannedConfig::from_multiline(alloc, CompactMultilineConfig::from_compact(compact))
     }
 
     /// Converts a `CompactMultilineConfig`, with its vertical alignment and flags, and drops its
@@ -117,16 +110,17 @@ impl SpannedConfig {
         ensures { result ≡ spanned_of_multiline multiline }
     {
         let formatting = multiline.get_formatting();
-        let mut config = SpannedConfig::from_compact(alloc, CompactConfig::from(multiline));
-        config
-            .alignment_vertical
-            .set_all(multiline.get_alignment_vertical());
-        config
-            .line_alignment
-            .set_all(formatting.allow_lines_alignment);
-        config.trim_horizontal.set_all(formatting.horizontal_trim);
-        config.trim_vertical.set_all(formatting.vertical_trim);
-        config
+        SpannedConfig {
+            borders: *multiline.get_borders(),
+            margin: *multiline.get_margin(),
+            padding: EntityMap::new(alloc, *multiline.get_padding()),
+            alignment_horizontal: EntityMap::new(alloc, multiline.get_alignment_horizontal()),
+            alignment_vertical: EntityMap::new(alloc, multiline.get_alignment_vertical()),
+            line_alignment: EntityMap::new(alloc, formatting.allow_lines_alignment),
+            trim_horizontal: EntityMap::new(alloc, formatting.horizontal_trim),
+            trim_vertical: EntityMap::new(alloc, formatting.vertical_trim),
+            lines: HorizontalLines::new(alloc),
+        }
     }
 
     /// Clones the settings. Fails only with `Memory`.
@@ -180,8 +174,7 @@ impl SpannedConfig {
         ensures { IsSetFor entity result self.old self.new
             (record self.old { padding = with_change self.old.padding entity padding }) }
     {
-        self.padding.set(entity, padding)?;
-        Ok(())
+        Ok(self.padding.set(entity, padding)?)
     }
 
     /// Returns the padding of a cell.
@@ -201,14 +194,11 @@ impl SpannedConfig {
         entity: Entity,
         alignment: AlignmentHorizontal,
     ) -> Result<(), TableError>
-        ensures { IsSetFor entity result self.old self.new
-            (record self.old {
-              alignment_horizontal =
-                  with_change self.old.alignment_horizontal entity alignment;
-            }) }
+        ensures { let all = with_change self.old.alignment_horizontal entity alignment in
+            IsSetFor entity result self.old self.new
+            (record self.old { alignment_horizontal = all }) }
     {
-        self.alignment_horizontal.set(entity, alignment)?;
-        Ok(())
+        Ok(self.alignment_horizontal.set(entity, alignment)?)
     }
 
     /// Returns the horizontal alignment of a cell.
@@ -225,14 +215,11 @@ impl SpannedConfig {
         entity: Entity,
         alignment: AlignmentVertical,
     ) -> Result<(), TableError>
-        ensures { IsSetFor entity result self.old self.new
-            (record self.old {
-              alignment_vertical =
-                  with_change self.old.alignment_vertical entity alignment;
-            }) }
+        ensures { let all = with_change self.old.alignment_vertical entity alignment in
+            IsSetFor entity result self.old self.new
+            (record self.old { alignment_vertical = all }) }
     {
-        self.alignment_vertical.set(entity, alignment)?;
-        Ok(())
+        Ok(self.alignment_vertical.set(entity, alignment)?)
     }
 
     /// Returns the vertical alignment of a cell.
@@ -245,14 +232,10 @@ impl SpannedConfig {
     /// Sets whether each line of an entity's cells is aligned by its own width. Fails only with
     /// `Memory`, and then changes nothing.
     pub fn set_line_alignment(&mut self, entity: Entity, allowed: bool) -> Result<(), TableError>
-        ensures { IsSetFor entity result self.old self.new
-            (record self.old {
-              line_alignment =
-                  with_change self.old.line_alignment entity allowed;
-            }) }
+        ensures { let all = with_change self.old.line_alignment entity allowed in
+            IsSetFor entity result self.old self.new (record self.old { line_alignment = all }) }
     {
-        self.line_alignment.set(entity, allowed)?;
-        Ok(())
+        Ok(self.line_alignment.set(entity, allowed)?)
     }
 
     /// Whether each line of a cell is aligned by its own width, instead of all lines by the widest.
@@ -265,14 +248,10 @@ impl SpannedConfig {
     /// Sets whether to trim spaces at the ends of an entity's lines. Stored only: no printer reads
     /// it. Fails only with `Memory`, and then changes nothing.
     pub fn set_trim_horizontal(&mut self, entity: Entity, trimmed: bool) -> Result<(), TableError>
-        ensures { IsSetFor entity result self.old self.new
-            (record self.old {
-              trim_horizontal =
-                  with_change self.old.trim_horizontal entity trimmed;
-            }) }
+        ensures { let all = with_change self.old.trim_horizontal entity trimmed in
+            IsSetFor entity result self.old self.new (record self.old { trim_horizontal = all }) }
     {
-        self.trim_horizontal.set(entity, trimmed)?;
-        Ok(())
+        Ok(self.trim_horizontal.set(entity, trimmed)?)
     }
 
     /// Whether to trim spaces at the ends of a cell's lines.
@@ -285,14 +264,10 @@ impl SpannedConfig {
     /// Sets whether to trim empty lines at the top and bottom of an entity's cells. Stored only: no
     /// printer reads it. Fails only with `Memory`, and then changes nothing.
     pub fn set_trim_vertical(&mut self, entity: Entity, trimmed: bool) -> Result<(), TableError>
-        ensures { IsSetFor entity result self.old self.new
-            (record self.old {
-              trim_vertical =
-                  with_change self.old.trim_vertical entity trimmed;
-            }) }
+        ensures { let all = with_change self.old.trim_vertical entity trimmed in
+            IsSetFor entity result self.old self.new (record self.old { trim_vertical = all }) }
     {
-        self.trim_vertical.set(entity, trimmed)?;
-        Ok(())
+        Ok(self.trim_vertical.set(entity, trimmed)?)
     }
 
     /// Whether to trim empty lines at the top and bottom of a cell.
@@ -318,8 +293,7 @@ impl SpannedConfig {
         ensures absent { OnErr result (line_set self.old.lines row ≡ None) }
         ensures only { IfErr result (λ e. e ≡ Memory) }
     {
-        self.lines.insert(row, line)?;
-        Ok(())
+        Ok(self.lines.insert(row, line)?)
     }
 
     /// Removes all horizontal lines set by index. It doesn't allocate.
