@@ -14,22 +14,18 @@ pub struct Formatting {
 
 impl Formatting {
     /// Creates the three flags, in the order of the fields.
-    pub fn new(
-        horizontal_trim: bool,
-        vertical_trim: bool,
-        allow_lines_alignment: bool,
-    ) -> Formatting
+    pub fn new(horizontal_trim: bool, vertical_trim: bool, align_lines: bool) -> Formatting
         ensures { result
             ≡ record {
               horizontal_trim = horizontal_trim;
               vertical_trim = vertical_trim;
-              allow_lines_alignment = allow_lines_alignment;
+              allow_lines_alignment = align_lines;
             } }
     {
         Formatting {
             horizontal_trim,
             vertical_trim,
-            allow_lines_alignment,
+            allow_lines_alignment: align_lines,
         }
     }
 }
