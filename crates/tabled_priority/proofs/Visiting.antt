@@ -1,7 +1,7 @@
 -- Counts of visits.
 use Rattle.std.proofs.Common.{◌≡◌, ℕ, ◌+◌, ◌*◌, ◌≤◌, List, [], ◌∷◌, length, refl, arith, zero, suc}
 use Rattle.std.proofs.lemmas.Bool.Decides.{nat_tests}
-use Rattle.tabled_priority.specs.declared.steps.Steps.{Steps}
+use Rattle.tabled_priority.specs.declared.column.Steps.{Steps}
 use Rattle.tabled_priority.specs.Changes.{Grows, Shrinks}
 use Rattle.tabled_priority.specs.Grown.{IsGrownFrom, added}
 use Rattle.tabled_priority.specs.Permitted.{IsTakenFrom, taken}

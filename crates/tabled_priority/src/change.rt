@@ -1,17 +1,15 @@
 //! Changes of all columns by a schedule.
-ghost use Rattle.std.specs.Prelude.{◌≡◌, ℕ, ◌+◌, ◌*◌, ◌<◌, ◌≤◌, true, length};
-ghost use Rattle.tabled_priority.specs.Schedule.{CanChange, HasRoom, IsChanged, IsReached};
-ghost use Rattle.tabled_priority.specs.Schedule.{IsScheduled, IsSpan, IsSpanBy, amount_by};
-ghost use Rattle.tabled_priority.specs.Schedule.{columns_of, first_level, first_of, is_open};
+ghost use Rattle.std.specs.Prelude.{◌≡◌, ℕ, ◌+◌, ◌*◌, ◌<◌, ◌≤◌, length};
+ghost use Rattle.tabled_priority.specs.Schedule.{CanChange, HasRoom, IsChanged, IsScheduled, IsSpan};
+ghost use Rattle.tabled_priority.specs.Schedule.{IsSpanBy, amount_by, columns_of, first_level, first_of};
 ghost use Rattle.tabled_priority.specs.Schedule.{last_level, last_of, open_of, share};
 ghost use Rattle.tabled_priority.specs.Permitted.{at};
 ghost use Rattle.tabled_priority.specs.Shrunk.{is_met, place_after, start};
 ghost use Rattle.tabled_priority.specs.Sums.{one_if};
 ghost use Rattle.tabled_priority.specs.Visits.{IsBounded, counted};
 
-use crate::reach::{Reached, reach};
-use crate::schedule::{Ramps, Schedule, total_amount};
-use crate::steps::Steps;
+use crate::column::Steps;
+use crate::schedule::{Ramps, Reached, Schedule, amount_by, reach};
 
 /// Returns the index after this one, and 0 after the last.
 pub(crate) fn place_after(count: usize, place: usize) -> usize
@@ -133,7 +131,7 @@ pub(crate) fn change_columns(
     ensures amount { result.amount ≡ amount_by schedule values.old mins.now by }
     ensures visits { IsBounded values.old values.new steps.old.count steps.new.count }
 {
-    let amount = by.min(total_amount(schedule, mins, values, usize::MAX, steps));
+    let amount = amount_by(schedule, mins, values, by, steps);
     if amount == 0 {
         return Change {
             amount,

@@ -1,9 +1,7 @@
-//! Reading a column, which is counted.
+//! Reading a column, and counting these reads.
 ghost use Rattle.std.specs.Prelude.{◌≡◌, ◌-◌, ◌<◌, length};
 ghost use Rattle.tabled_priority.specs.Permitted.{at};
 ghost use Rattle.tabled_priority.specs.Visits.{counted};
-
-use crate::steps::Steps;
 
 /// The size and the minimum of a column.
 #[derive(Clone, Copy)]
@@ -41,5 +39,33 @@ pub(crate) fn visit(mins: &[usize], values: &[usize], place: usize, steps: &mut 
     Column {
         value: values[place],
         least: minimum(mins, place),
+    }
+}
+
+/// How often a column was read while sizes shrank or grew. The count stops at `usize::MAX`.
+#[derive(Debug, Drop)]
+pub struct Steps {
+    count: usize,
+}
+
+impl Steps {
+    /// Starts at 0.
+    pub fn new() -> Self
+        ensures { result.count ≡ 0 }
+    {
+        Steps { count: 0 }
+    }
+
+    /// Returns the count.
+    pub fn count(&self) -> usize
+        ensures { result ≡ self.now.count }
+    {
+        self.count
+    }
+
+    pub(crate) fn add(&mut self, visits: usize)
+        ensures { self.new.count ≡ counted self.old.count visits }
+    {
+        self.count = self.count.saturating_add(visits);
     }
 }

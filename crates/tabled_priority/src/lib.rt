@@ -6,13 +6,12 @@
 //! - `none.rt`, `stateless.rt`: the five priorities.
 //! - `priority.rt`: `Priority` makes them.
 //! - `choice.rt`: the size that comes first, and growing that one.
-//! - `schedule.rt`: the levels from which and up to which a size changes by one a level.
-//! - `search.rt`, `reach.rt`: the search for the level that is reached.
+//! - `schedule.rt`: the levels from which and up to which a size changes by one a level, and the
+//!   search for the level that is reached.
 //! - `change.rt`: changes all sizes up to a level, some by one more.
-//! - `in_order.rt`: the sizes in order from one side, each as far as it can.
-//! - `spares.rt`: the smallest sizes first, each as far as it can.
+//! - `in_order.rt`: takes from the sizes in order, from each as much as possible.
 //! - `level.rt`: `is_level`, whether sizes are level.
-//! - `column.rt`, `steps.rt`: reads a size; counts these reads.
+//! - `column.rt`: reads a size, and counts these reads.
 #![tactic(auto)]
 
 mod change;
@@ -23,16 +22,12 @@ mod level;
 mod none;
 mod peaker;
 mod priority;
-mod reach;
 mod schedule;
-mod search;
-mod spares;
 mod stateless;
-mod steps;
 
+pub use column::Steps;
 pub use level::is_level;
 pub use none::PriorityNone;
 pub use peaker::{Peaker, TakesAll};
 pub use priority::Priority;
 pub use stateless::{PriorityLeft, PriorityMax, PriorityMin, PriorityRight};
-pub use steps::Steps;

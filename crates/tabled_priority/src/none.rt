@@ -1,21 +1,18 @@
 //! The priority that changes sizes in turn.
-ghost use Rattle.std.specs.Prelude.{◌≡◌, ◌+◌, ◌<◌, ◌^◌, MatchOption, [], length, sum};
+ghost use Rattle.std.specs.Prelude.{◌≡◌, ◌+◌, ◌<◌, ◌^◌, MatchOption, length, sum};
 ghost use Rattle.std.proofs.Common.{sym, subst};
-ghost use Rattle.tabled_priority.specs.Permitted.{FitsMinimums, HasEvenLosses, lowered, raised};
+ghost use Rattle.tabled_priority.specs.Permitted.{HasEvenLosses, lowered, raised};
 ghost use Rattle.tabled_priority.specs.Peak.{NoneAbove, IsNext};
 ghost use Rattle.tabled_priority.specs.Shrunk.{IsRoundShrunk, place_after};
-ghost use Rattle.tabled_priority.specs.Laws.Round.{IsRoundShrunk-none, IsRoundShrunk-done};
-ghost use Rattle.tabled_priority.specs.Laws.Round.{IsRoundShrunk-step};
+ghost use Rattle.tabled_priority.specs.Laws.Round.{IsRoundShrunk-none, IsRoundShrunk-done, IsRoundShrunk-step};
 ghost use Rattle.tabled_priority.specs.Grown.{IsRoundGrown};
-ghost use Rattle.tabled_priority.specs.Laws.Grown.{IsRoundGrown-nothing, IsRoundGrown-none};
-ghost use Rattle.tabled_priority.specs.Laws.Grown.{IsRoundGrown-step};
+ghost use Rattle.tabled_priority.specs.Laws.Grown.{IsRoundGrown-nothing, IsRoundGrown-none, IsRoundGrown-step};
 ghost use Rattle.tabled_priority.specs.Changes.{Grows, Shrinks};
 
 use crate::change::{change_columns, place_after};
-use crate::column::visit;
+use crate::column::{Steps, visit};
 use crate::peaker::{Peaker, TakesAll};
 use crate::schedule::Schedule;
-use crate::steps::Steps;
 
 /// Chooses the next size above its minimum, round the list, and stores the index after it.
 #[derive(Debug, Clone, Copy, Default, PartialEq, Eq, PartialOrd, Ord, Hash)]
@@ -64,7 +61,6 @@ impl Peaker for PriorityNone {
         by: usize,
         steps: &mut Steps,
     ) -> usize
-        requires { FitsMinimums values.old mins.now }
         ensures shrinks { IsRoundShrunk self.old.kept values.old mins.now by values.new
             self.new.kept }
         ensures even { HasEvenLosses values.old mins.now values.new }

@@ -1,12 +1,10 @@
 //! The traits of priorities.
-ghost use Rattle.std.specs.Prelude.{◌≡◌, ℕ, ◌+◌, ◌≤◌, ◌<◌, ◌^◌, List, [], sum};
-ghost use Rattle.std.specs.Prelude.{Option, Some, None, IfSome};
-ghost use Rattle.tabled_priority.specs.Permitted.{FitsMinimums, IsAbove, IsPermitted, IsTakenFrom};
-ghost use Rattle.tabled_priority.specs.Permitted.{lowered, raised};
+ghost use Rattle.std.specs.Prelude.{◌≡◌, ℕ, ◌+◌, ◌≤◌, ◌<◌, ◌^◌, List, [], sum, Option, Some, None, IfSome};
+ghost use Rattle.tabled_priority.specs.Permitted.{FitsMinimums, IsAbove, IsPermitted, IsTakenFrom, lowered, raised};
 ghost use Rattle.tabled_priority.specs.Grown.{IsNoneSmaller};
 ghost use Rattle.tabled_priority.specs.Visits.{changed, counted};
 
-use crate::steps::Steps;
+use crate::column::Steps;
 
 /// An order in which sizes shrink or grow. An implementation needs `peak`, three relations and
 /// their laws; by default `shrink` and `grow` change one size by one at a time.

@@ -1,17 +1,13 @@
-//! How sizes change while a level rises.
-ghost use Rattle.std.specs.Prelude.{◌≡◌, ℕ, ◌+◌, ◌-◌, ◌<◌, ◌≤◌, nat_le, nat_lt, ◌&&◌, length, min};
-ghost use Rattle.std.specs.Prelude.{true};
+//! How sizes change while a level rises, and the search for the level that is reached.
+ghost use Rattle.std.specs.Prelude.{◌≡◌, ℕ, ◌+◌, ◌-◌, ◌<◌, ◌≤◌, nat_le, nat_lt, ◌&&◌, length, min, true, ◌*◌};
 ghost use Rattle.tabled_priority.specs.Permitted.{at};
-ghost use Rattle.tabled_priority.specs.Schedule.{CanChange, IsChanged, columns_of, first_of};
-ghost use Rattle.tabled_priority.specs.Schedule.{is_from_right, is_open, last_of, open_of};
-ghost use Rattle.tabled_priority.specs.Schedule.{first_level, last_level, start_of, total_amount};
-ghost use Rattle.tabled_priority.specs.Schedule.{total_of};
+ghost use Rattle.tabled_priority.specs.Schedule.{CanChange, IsChanged, columns_of, first_of, is_from_right, is_open};
+ghost use Rattle.tabled_priority.specs.Schedule.{last_of, open_of, first_level, last_level, start_of, total_amount};
+ghost use Rattle.tabled_priority.specs.Schedule.{HasRoom, IsBase, IsReached, amount_by, total_of};
 ghost use Rattle.tabled_priority.specs.Shrunk.{start};
 ghost use Rattle.tabled_priority.specs.Visits.{counted};
 
-use crate::column::visit;
-use crate::search::Levels;
-use crate::steps::Steps;
+use crate::column::{Steps, visit};
 
 /// What a level means. Up to a level, each column takes its part of the amount; for what is then
 /// missing, some columns take one more.
@@ -133,6 +129,26 @@ pub(crate) fn total_amount(
     total
 }
 
+/// Returns what is taken or added of an amount: all of it, or as much as the columns can.
+pub(crate) fn amount_by(
+    schedule: Schedule,
+    mins: &[usize],
+    values: &[usize],
+    by: usize,
+    steps: &mut Steps,
+) -> usize
+    requires { HasRoom schedule values.now by }
+    ensures amount { result ≡ amount_by schedule values.now mins.now by }
+    ensures most { result ≤ by }
+    ensures enough { result ≤ total_amount (first_level schedule values.now mins.now)
+        (last_level schedule values.now mins.now) (length values.now) usize.MAX }
+    ensures values_fit { (i : ℕ) → at values.now i ≤ usize.MAX }
+    ensures mins_fit { (i : ℕ) → at mins.now i ≤ usize.MAX }
+    ensures steps { steps.new.count ≡ counted steps.old.count (length values.now) }
+{
+    by.min(total_amount(schedule, mins, values, usize::MAX, steps))
+}
+
 impl Levels for Ramps<'_> {
     ghost total = { total_of };
 
@@ -201,5 +217,139 @@ impl Ramps<'_> {
             }
         }
         unreachable!()
+    }
+}
+
+/// Columns that give no less up to a higher level.
+pub(crate) trait Levels {
+    // What all columns give up to a level.
+    ghost total: { Self → ℕ → ℕ };
+
+    // The number of columns.
+    ghost columns: { Self → ℕ };
+
+    /// Returns what all columns give up to a level, `usize::MAX` at most.
+    fn total(&self, level: usize, steps: &mut Steps) -> usize
+        ensures total { result ≡ min (total self.now level) usize.MAX }
+        ensures steps { steps.new.count ≡ counted steps.old.count (columns self.now) };
+}
+
+/// A level that gives less than is wanted, and one that gives enough.
+#[derive(Clone, Copy)]
+pub(crate) struct Bracket {
+    pub(crate) base: usize,
+    pub(crate) ceiling: usize,
+}
+
+/// Replaces the base or the ceiling of a bracket by a level between them.
+fn narrowed<L: Levels>(
+    levels: &L,
+    wanted: usize,
+    bracket: Bracket,
+    level: usize,
+    steps: &mut Steps,
+) -> Bracket
+    requires base { L.total levels.now bracket.base < wanted }
+    requires ceiling { wanted ≤ L.total levels.now bracket.ceiling }
+    ensures below { L.total levels.now result.base < wanted }
+    ensures enough { wanted ≤ L.total levels.now result.ceiling }
+    ensures higher { bracket.base ≤ result.base }
+    ensures lower { result.ceiling ≤ bracket.ceiling }
+    ensures outside { result.base < level → result.ceiling ≤ level }
+    ensures fewest { steps.old.count ≤ steps.new.count }
+    ensures most { steps.new.count ≤ counted steps.old.count (L.columns levels.now) }
+{
+    if level <= bracket.base || level >= bracket.ceiling {
+        return bracket;
+    }
+    if levels.total(level, steps) < wanted {
+        Bracket {
+            base: level,
+            ceiling: bracket.ceiling,
+        }
+    } else {
+        Bracket {
+            base: bracket.base,
+            ceiling: level,
+        }
+    }
+}
+
+/// Replaces the base or the ceiling of a bracket by a level between them. The bracket is halved
+/// first, so that at most 64 of the levels in all calls are tried.
+pub(crate) fn halved<L: Levels>(
+    levels: &L,
+    wanted: usize,
+    bracket: Bracket,
+    level: usize,
+    steps: &mut Steps,
+) -> Bracket
+    requires base { L.total levels.now bracket.base < wanted }
+    requires ceiling { wanted ≤ L.total levels.now bracket.ceiling }
+    ensures below { L.total levels.now result.base < wanted }
+    ensures enough { wanted ≤ L.total levels.now result.ceiling }
+    ensures higher { bracket.base ≤ result.base }
+    ensures lower { result.ceiling ≤ bracket.ceiling }
+    ensures outside { result.base < level → result.ceiling ≤ level }
+    ensures fewest { steps.old.count ≤ steps.new.count }
+    ensures most { steps.new.count ≤ counted steps.old.count (2 * L.columns levels.now) }
+{
+    if level <= bracket.base || level >= bracket.ceiling {
+        return bracket;
+    }
+    let middle = bracket.base + (bracket.ceiling - bracket.base) / 2;
+    let half = narrowed(levels, wanted, bracket, middle, steps);
+    narrowed(levels, wanted, half, level, steps)
+}
+
+/// The highest level that takes less than is wanted, and how much is missing.
+#[derive(Clone, Copy)]
+pub(crate) struct Reached {
+    pub(crate) level: usize,
+    pub(crate) rest: usize,
+}
+
+/// Returns the highest of the columns' first and last levels that takes less than is wanted, or 0.
+/// Only levels inside the bracket are tried.
+fn find_base(ramps: &Ramps, wanted: usize, steps: &mut Steps) -> usize
+    requires some { 0 < wanted }
+    requires enough { wanted ≤ total_of ramps.now usize.MAX }
+    ensures base { IsBase (first_of ramps.now) (last_of ramps.now) (columns_of ramps.now) wanted
+        result }
+    ensures fewest { steps.old.count ≤ steps.new.count }
+    ensures most { let n = columns_of ramps.now in
+        steps.new.count ≤ counted steps.old.count (n * (4 * n + 1)) }
+{
+    let mut bracket = Bracket {
+        base: 0,
+        ceiling: usize::MAX,
+    };
+    for place in 0..ramps.values.len() {
+        let ramp = ramps.visit(place, steps);
+        bracket = halved(ramps, wanted, bracket, ramp.from, steps);
+        bracket = halved(ramps, wanted, bracket, ramp.to, steps);
+    }
+    bracket.base
+}
+
+/// Returns the level that is reached. Each open column takes one a level above the base, until less
+/// than one for each is missing.
+pub(crate) fn reach(ramps: &Ramps, wanted: usize, steps: &mut Steps) -> Reached
+    requires some { 0 < wanted }
+    requires enough { wanted ≤ total_of ramps.now usize.MAX }
+    ensures reached { IsReached (first_of ramps.now) (last_of ramps.now) (columns_of ramps.now)
+        wanted result.level result.rest }
+    ensures below { result.level < usize.MAX }
+    ensures fewest { steps.old.count ≤ steps.new.count }
+    ensures most { let n = columns_of ramps.now in
+        steps.new.count ≤ counted steps.old.count (n * (4 * n + 1) + 2 * n) }
+{
+    let base = find_base(ramps, wanted, steps);
+    let open = ramps.count_open(ramps.values.len(), base, steps);
+    let missing = wanted - total_amount(ramps.schedule, ramps.mins, ramps.values, base, steps);
+    let levels = (missing - 1) / open;
+    Reached {
+        level: base + levels,
+        rest: missing - levels * open,
     }
 }

@@ -1,25 +1,21 @@
 //! The priorities without a state: they choose a size by the sizes alone.
 ghost use Rattle.std.specs.Prelude.{◌≡◌, ◌+◌, ◌<◌, ◌^◌, true, false, sum};
-ghost use Rattle.tabled_priority.specs.declared.choice.Choice.TheVariants.{Outermost};
-ghost use Rattle.tabled_priority.specs.declared.choice.Choice.TheVariants.{Greatest, Least};
+ghost use Rattle.tabled_priority.specs.declared.choice.Choice.TheVariants.{Outermost, Greatest, Least};
 ghost use Rattle.tabled_priority.specs.Changes.{Grows, Shrinks};
 ghost use Rattle.tabled_priority.specs.Choices.{grows_by, peaks_by, shrinks_by};
 ghost use Rattle.tabled_priority.specs.Grown.{IsMaxGrown, IsMinGrown, IsSideGrown};
-ghost use Rattle.tabled_priority.specs.Laws.Choices.{grows_by-none, grows_by-nothing};
-ghost use Rattle.tabled_priority.specs.Laws.Choices.{grows_by-step, shrinks_by-done};
-ghost use Rattle.tabled_priority.specs.Laws.Choices.{shrinks_by-none, shrinks_by-step};
-ghost use Rattle.tabled_priority.specs.Laws.Choices.{shrinks_by-takes};
+ghost use Rattle.tabled_priority.specs.Laws.Choices.{grows_by-none, grows_by-nothing, grows_by-step, shrinks_by-done};
+ghost use Rattle.tabled_priority.specs.Laws.Choices.{shrinks_by-none, shrinks_by-step, shrinks_by-takes};
 ghost use Rattle.tabled_priority.specs.Least.{HasGreatestLeast, HasLeastGreatest, IsLevel};
-ghost use Rattle.tabled_priority.specs.Permitted.{FitsMinimums, HasOneBetween};
+ghost use Rattle.tabled_priority.specs.Permitted.{HasOneBetween};
 ghost use Rattle.tabled_priority.specs.Shrunk.{IsMaxShrunk, IsMinShrunk, IsSideShrunk};
 
 use crate::change::change_columns;
 use crate::choice::Choice;
-use crate::in_order::shrink_from;
+use crate::column::Steps;
+use crate::in_order::{shrink_from, shrink_smallest};
 use crate::peaker::{Peaker, TakesAll};
 use crate::schedule::Schedule;
-use crate::spares::shrink_smallest;
-use crate::steps::Steps;
 
 /// Chooses the first size above its minimum.
 #[derive(Debug, Clone, Copy, Default, PartialEq, Eq, PartialOrd, Ord, Hash)]
@@ -50,7 +46,6 @@ impl Peaker for PriorityLeft {
         by: usize,
         steps: &mut Steps,
     ) -> usize
-        requires { FitsMinimums values.old mins.now }
         ensures shrinks { IsSideShrunk false values.old mins.now by values.new
             × (self.new ≡ self.old) }
         ensures between { HasOneBetween values.old mins.now values.new }
@@ -113,7 +108,6 @@ impl Peaker for PriorityRight {
         by: usize,
         steps: &mut Steps,
     ) -> usize
-        requires { FitsMinimums values.old mins.now }
         ensures shrinks { IsSideShrunk true values.old mins.now by values.new
             × (self.new ≡ self.old) }
         ensures between { HasOneBetween values.old mins.now values.new }
@@ -194,7 +188,6 @@ impl Peaker for PriorityMax {
         by: usize,
         steps: &mut Steps,
     ) -> usize
-        requires { FitsMinimums values.old mins.now }
         ensures shrinks { IsMaxShrunk self.old.right values.old mins.now by values.new
             × (self.new ≡ self.old) }
         ensures shrinking { Shrinks values.old mins.now by values.new result steps.old steps.new }
@@ -276,7 +269,6 @@ impl Peaker for PriorityMin {
         by: usize,
         steps: &mut Steps,
     ) -> usize
-        requires { FitsMinimums values.old mins.now }
         ensures shrinks { IsMinShrunk self.old.right values.old mins.now by values.new
             × (self.new ≡ self.old) }
         ensures between { HasOneBetween values.old mins.now values.new }

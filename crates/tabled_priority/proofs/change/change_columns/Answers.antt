@@ -1,22 +1,10 @@
-use Rattle.std.proofs.Common.{◌≡◌, length, arith, ap, subst, sym, ◌∙◌}
+use Rattle.std.proofs.Common.{length, arith, ap, subst, sym, ◌∙◌}
 use Rattle.tabled_priority.specs.Permitted.{at}
-use Rattle.tabled_priority.specs.Schedule.{CanChange, IsChanged, IsReached, IsScheduled, amount_by, first_level, last_level, share}
+use Rattle.tabled_priority.specs.Schedule.{CanChange, IsChanged, IsReached, IsScheduled, first_level, last_level, share}
 use Rattle.tabled_priority.specs.Shrunk.{place_after}
-use Rattle.tabled_priority.proofs.ByLevel.{AreSizes, IsPlanned, fits_by, scheduled_by, still_by, wanted_by}
+use Rattle.tabled_priority.proofs.ByLevel.{IsPlanned, fits_by, scheduled_by, still_by}
 use Rattle.tabled_priority.proofs.Visiting.{IsBounded-whole, IsBounded-passes}
 use Rattle.tabled_priority.proofs.change.change_columns.Goals as goal
-
-pub returns-then-amount-eq0-clause-amount : goal.returns-then-amount-eq0-clause-amount
-returns-then-amount-eq0-clause-amount c =
-    let k = c.args.schedule in
-    let old = c.args.values.now in
-    let mins = c.args.mins.now in
-    let sizes : AreSizes old mins = record {
-      values = c.total_amount.ensures.values_fit;
-      least = c.total_amount.ensures.mins_fit;
-    } in
-    wanted_by k old mins c.args.by c.total_amount.result c.min-amount.result sizes (omega arith) c.requires
-    c.total_amount.ensures.total c.min-amount.ensures
 
 pub returns-then-amount-eq0-clause-changed : goal.returns-then-amount-eq0-clause-changed
 returns-then-amount-eq0-clause-changed c =
@@ -24,25 +12,13 @@ returns-then-amount-eq0-clause-changed c =
     let old = c.args.values.now in
     let mins = c.args.mins.now in
     subst (λ n. IsScheduled k old mins c.args.by old n) (sym c.kept.ensures)
-    (still_by k old mins c.args.by (sym (returns-then-amount-eq0-clause-amount c) ∙ c.if-amount-eq0.true))
+    (still_by k old mins c.args.by (sym c.amount_by-amount.ensures.amount ∙ c.if-amount-eq0.true))
 
 pub returns-then-amount-eq0-clause-visits : goal.returns-then-amount-eq0-clause-visits
 returns-then-amount-eq0-clause-visits c =
     let old = c.args.values.now in
-    IsBounded-whole old old c.args.steps.now.count c.total_amount.new.steps.count
-    (length old) (omega arith) c.total_amount.ensures.steps (omega arith)
-
-pub returns-clause-amount : goal.returns-clause-amount
-returns-clause-amount c =
-    let k = c.args.schedule in
-    let old = c.args.values.now in
-    let mins = c.args.mins.now in
-    let sizes : AreSizes old mins = record {
-      values = c.total_amount.ensures.values_fit;
-      least = c.total_amount.ensures.mins_fit;
-    } in
-    wanted_by k old mins c.args.by c.total_amount.result c.min-amount.result sizes (omega arith) c.requires
-    c.total_amount.ensures.total c.min-amount.ensures
+    IsBounded-whole old old c.args.steps.now.count c.amount_by-amount.new.steps.count
+    (length old) (omega arith) c.amount_by-amount.ensures.steps (omega arith)
 
 pub change_to-requires-clause-fits : goal.change_to-requires-clause-fits
 change_to-requires-clause-fits c =
@@ -56,15 +32,10 @@ change_to-requires-clause-fits c =
     let rest = c.reach-reached.result.rest in
     let first = c.find_span-span.result.first in
     let last = c.find_span-span.result.last in
-    let sizes : AreSizes old mins = record {
-      values = c.total_amount.ensures.values_fit;
-      least = c.total_amount.ensures.mins_fit;
-    } in
-    let w : c.min-amount.result ≡ amount_by k old mins c.args.by =
-    wanted_by k old mins c.args.by c.total_amount.result c.min-amount.result sizes (omega arith) c.requires
-    c.total_amount.ensures.total c.min-amount.ensures in
+    let w = c.amount_by-amount.ensures.amount in
+    let most = c.amount_by-amount.ensures.most in
     let plan : IsPlanned k old mins c.args.by level rest first last = record {
-      sizes = sizes;
+      sizes = record { values = c.amount_by-amount.ensures.values_fit; least = c.amount_by-amount.ensures.mins_fit };
       room = c.requires;
       some = omega arith;
       most = omega arith;
@@ -88,15 +59,10 @@ returns-clause-changed c =
     let rest = c.reach-reached.result.rest in
     let first = c.find_span-span.result.first in
     let last = c.find_span-span.result.last in
-    let sizes : AreSizes old mins = record {
-      values = c.total_amount.ensures.values_fit;
-      least = c.total_amount.ensures.mins_fit;
-    } in
-    let w : c.min-amount.result ≡ amount_by k old mins c.args.by =
-    wanted_by k old mins c.args.by c.total_amount.result c.min-amount.result sizes (omega arith) c.requires
-    c.total_amount.ensures.total c.min-amount.ensures in
+    let w = c.amount_by-amount.ensures.amount in
+    let most = c.amount_by-amount.ensures.most in
     let plan : IsPlanned k old mins c.args.by level rest first last = record {
-      sizes = sizes;
+      sizes = record { values = c.amount_by-amount.ensures.values_fit; least = c.amount_by-amount.ensures.mins_fit };
       room = c.requires;
       some = omega arith;
       most = omega arith;
@@ -120,5 +86,5 @@ returns-clause-visits c =
     let d = c.find_span-span.ensures.fewest in
     let e = c.find_span-span.ensures.most in
     let f = c.change_to.ensures.steps in
-    IsBounded-passes c.args.values.now c.change_to.new.values c.args.steps.now.count c.total_amount.new.steps.count
-    c.change_to.new.steps.count c.total_amount.ensures.steps (omega arith) (omega arith)
+    IsBounded-passes c.args.values.now c.change_to.new.values c.args.steps.now.count c.amount_by-amount.new.steps.count
+    c.change_to.new.steps.count c.amount_by-amount.ensures.steps (omega arith) (omega arith)

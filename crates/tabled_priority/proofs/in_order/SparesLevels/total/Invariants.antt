@@ -3,7 +3,7 @@ use Rattle.tabled_priority.specs.Numbers.{greatest_usize}
 use Rattle.tabled_priority.specs.Spares.{is_up_to, spare_if}
 use Rattle.tabled_priority.specs.Sums.{sum_below}
 use Rattle.tabled_priority.specs.Visits.{counted}
-use Rattle.tabled_priority.proofs.spares.SparesLevels.total.Given as goal
+use Rattle.tabled_priority.proofs.in_order.SparesLevels.total.Given as goal
 
 abbrev pub invariant-loop-place : goal.invariant-loop-place
 invariant-loop-place l = record {

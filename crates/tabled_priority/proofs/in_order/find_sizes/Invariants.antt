@@ -2,7 +2,7 @@ use Rattle.std.proofs.Common.{ℕ, ◌+◌, ◌*◌, ◌<◌, ◌≤◌, length}
 use Rattle.tabled_priority.specs.Permitted.{at}
 use Rattle.tabled_priority.specs.Spares.{spare_up_to}
 use Rattle.tabled_priority.specs.Visits.{counted}
-use Rattle.tabled_priority.proofs.spares.find_sizes.Given as goal
+use Rattle.tabled_priority.proofs.in_order.find_sizes.Given as goal
 
 abbrev pub invariant-loop-place : goal.invariant-loop-place
 invariant-loop-place l = record {

@@ -3,8 +3,8 @@ use Rattle.std.proofs.lemmas.Bool.Decides.{nat_tests}
 use Rattle.tabled_priority.specs.Permitted.{at, spare}
 use Rattle.tabled_priority.specs.Spares.{has_size, spare_if}
 use Rattle.tabled_priority.proofs.Givers.{IsLeftOver, beside, left_over-start, left_over-more, left_over-end}
-use Rattle.tabled_priority.proofs.spares.find_giver.Goals as goal
-use Rattle.tabled_priority.proofs.spares.find_giver.Goals.{then-column-size+else-left-spare, else-column-size}
+use Rattle.tabled_priority.proofs.in_order.find_giver.Goals as goal
+use Rattle.tabled_priority.proofs.in_order.find_giver.Goals.{then-column-size+else-left-spare, else-column-size}
 
 has : (values mins : List ℕ) (size place : ℕ) → at values place ≡ size
     → spare_if (has_size values size) values mins place ≡ spare values mins place

@@ -1,6 +1,6 @@
 use Rattle.std.proofs.Common.{arith}
 use Rattle.tabled_priority.proofs.Givers.{spare_up_to-zero}
-use Rattle.tabled_priority.proofs.spares.find_sizes.Goals as goal
+use Rattle.tabled_priority.proofs.in_order.find_sizes.Goals as goal
 
 pub loop-place-init : goal.loop-place-init
 loop-place-init c =

@@ -1,7 +1,7 @@
 use Rattle.std.proofs.Common.{◌≡◌, ◌<◌}
 use Rattle.tabled_priority.specs.Visits.{counted}
 use Rattle.tabled_priority.proofs.Givers.{IsLeftOver}
-use Rattle.tabled_priority.proofs.spares.find_giver.Given as goal
+use Rattle.tabled_priority.proofs.in_order.find_giver.Given as goal
 
 abbrev pub invariant-loop-turn : goal.invariant-loop-turn
 invariant-loop-turn l = record {

@@ -6,7 +6,7 @@ use Rattle.tabled_priority.specs.declared.schedule.Schedule.TheVariants.{Depths,
 use Rattle.tabled_priority.specs.Permitted.{at}
 use Rattle.tabled_priority.specs.Schedule.{IsBase, IsReached, columns_of, first_of, last_level, last_of, open_count, total_amount}
 use Rattle.tabled_priority.proofs.Ramps.{reached, open_some, open_below}
-use Rattle.tabled_priority.proofs.reach.reach.Goals as goal
+use Rattle.tabled_priority.proofs.schedule.reach.Goals as goal
 
 -- the levels that fit, and what is left
 parted : (from to : ℕ → ℕ) (n wanted base count missing : ℕ) → IsBase from to n wanted base → count ≡ open_count from to n base → 0 < count

@@ -3,7 +3,7 @@ use Rattle.std.proofs.lemmas.Bool.{cases_lt}
 use Rattle.tabled_priority.specs.Permitted.{at}
 use Rattle.tabled_priority.specs.Spares.{spare_up_to}
 use Rattle.tabled_priority.proofs.Givers.{IsNextSize, spare_before, spare_up_to-le, spare_up_to-next}
-use Rattle.tabled_priority.proofs.spares.last_giver.Goals as goal
+use Rattle.tabled_priority.proofs.in_order.last_giver.Goals as goal
 
 -- the ceiling is the next size above the base
 next : (values mins : List ℕ) (wanted base size : ℕ) → spare_up_to values mins base < wanted → wanted ≤ spare_up_to values mins size

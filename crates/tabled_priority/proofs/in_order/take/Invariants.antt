@@ -2,7 +2,7 @@ use Rattle.std.proofs.Common.{◌≡◌, ℕ, ◌+◌, ◌<◌, ◌≤◌, lengt
 use Rattle.tabled_priority.specs.Permitted.{at}
 use Rattle.tabled_priority.specs.Spares.{given}
 use Rattle.tabled_priority.specs.Visits.{counted}
-use Rattle.tabled_priority.proofs.spares.take.Given as goal
+use Rattle.tabled_priority.proofs.in_order.take.Given as goal
 
 abbrev pub invariant-loop-place : goal.invariant-loop-place
 invariant-loop-place l = record {

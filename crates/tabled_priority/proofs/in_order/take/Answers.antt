@@ -6,8 +6,8 @@ use Rattle.tabled_priority.specs.Permitted.{at, spare}
 use Rattle.tabled_priority.specs.Shrunk.{comes_before}
 use Rattle.tabled_priority.specs.Laws.Shrunk.{before}
 use Rattle.tabled_priority.specs.Spares.{given}
-use Rattle.tabled_priority.proofs.spares.take.Goals as goal
-use Rattle.tabled_priority.proofs.spares.take.Goals.{then-is_behind, else-is_behind+then-place-giver, else-is_behind+else-place-giver}
+use Rattle.tabled_priority.proofs.in_order.take.Goals as goal
+use Rattle.tabled_priority.proofs.in_order.take.Goals.{then-is_behind, else-is_behind+then-place-giver, else-is_behind+else-place-giver}
 
 given-is : (right : Bool) (old mins : List ℕ) (place amount p : ℕ) (b : Bool) → comes_before right old p place ≡ b
     → given right old mins place amount p ≡ (if b then spare old mins p else (if (p == place) then amount else 0))

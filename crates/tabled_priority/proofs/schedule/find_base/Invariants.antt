@@ -1,7 +1,7 @@
 use Rattle.std.proofs.Common.{ℕ, ◌+◌, ◌*◌, ◌<◌, ◌≤◌}
 use Rattle.tabled_priority.specs.Schedule.{columns_of, first_of, last_of, total_of}
 use Rattle.tabled_priority.specs.Visits.{counted}
-use Rattle.tabled_priority.proofs.reach.find_base.Given as goal
+use Rattle.tabled_priority.proofs.schedule.find_base.Given as goal
 
 abbrev pub invariant-loop-place : goal.invariant-loop-place
 invariant-loop-place l = record {

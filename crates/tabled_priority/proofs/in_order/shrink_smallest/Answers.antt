@@ -1,0 +1,62 @@
+use Rattle.std.proofs.Common.{◌≡◌, length, arith, subst, sym, ◌∙◌}
+use Rattle.tabled_priority.specs.Laws.Shrunk.{IsMinShrunk-still}
+use Rattle.tabled_priority.specs.Numbers.{greatest_usize}
+use Rattle.tabled_priority.specs.Permitted.{taken}
+use Rattle.tabled_priority.specs.Spares.{IsLastGiver}
+use Rattle.tabled_priority.proofs.Between.{min_between}
+use Rattle.tabled_priority.proofs.Givers.{min_shrunk_by, spare_up_to-all}
+use Rattle.tabled_priority.proofs.Visiting.{IsBounded-whole, IsBounded-passes, shrinking}
+use Rattle.tabled_priority.proofs.in_order.shrink_smallest.Goals as goal
+
+pub returns-then-wanted-eq0-clause-shrinks : goal.returns-then-wanted-eq0-clause-shrinks
+returns-then-wanted-eq0-clause-shrinks c =
+    let old = c.args.values.now in
+    let w = c.amount_by-wanted.ensures.amount in
+    IsMinShrunk-still c.args.right old c.args.mins.now c.args.by (sym w ∙ c.if-wanted-eq0.true)
+
+pub returns-then-wanted-eq0-clause-between : goal.returns-then-wanted-eq0-clause-between
+returns-then-wanted-eq0-clause-between c = min_between c.args.right c.args.values.now c.args.mins.now c.args.by
+    c.args.values.now (returns-then-wanted-eq0-clause-shrinks c)
+
+pub returns-then-wanted-eq0-clause-shrinking : goal.returns-then-wanted-eq0-clause-shrinking
+returns-then-wanted-eq0-clause-shrinking c =
+    let old = c.args.values.now in
+    let s = returns-then-wanted-eq0-clause-shrinks c in
+    let w = c.amount_by-wanted.ensures.amount in
+    shrinking old c.args.mins.now c.args.by old 0 c.args.steps.now c.amount_by-wanted.new.steps s.takes
+    (sym (sym w ∙ c.if-wanted-eq0.true)) (IsBounded-whole old old c.args.steps.now.count c.amount_by-wanted.new.steps.count
+    (length old) (omega arith) c.amount_by-wanted.ensures.steps (omega arith))
+
+pub last_giver-giver-requires-clause-enough : goal.last_giver-giver-requires-clause-enough
+last_giver-giver-requires-clause-enough c =
+    let old = c.args.values.now in
+    let w : c.amount_by-wanted.result ≡ taken old c.args.mins.now c.args.by = c.amount_by-wanted.ensures.amount in
+    let a = spare_up_to-all old c.args.mins.now greatest_usize c.amount_by-wanted.ensures.values_fit in
+    omega arith
+
+pub returns-clause-shrinks : goal.returns-clause-shrinks
+returns-clause-shrinks c =
+    let old = c.args.values.now in
+    let mins = c.args.mins.now in
+    let giver = c.last_giver-giver.result in
+    let w = c.amount_by-wanted.ensures.amount in
+    min_shrunk_by c.args.right old mins c.args.by c.take.new.values giver.place giver.amount
+    (subst (λ k. IsLastGiver c.args.right old mins k giver.place giver.amount) w c.last_giver-giver.ensures.giver)
+    c.take.ensures.same_length c.take.ensures.each
+
+pub returns-clause-between : goal.returns-clause-between
+returns-clause-between c = min_between c.args.right c.args.values.now c.args.mins.now c.args.by
+    c.take.new.values (returns-clause-shrinks c)
+
+pub returns-clause-shrinking : goal.returns-clause-shrinking
+returns-clause-shrinking c =
+    let old = c.args.values.now in
+    let s = returns-clause-shrinks c in
+    let w = c.amount_by-wanted.ensures.amount in
+    let a = c.last_giver-giver.ensures.fewest in
+    let b = c.last_giver-giver.ensures.most in
+    let f = c.take.ensures.steps in
+    shrinking old c.args.mins.now c.args.by c.take.new.values c.amount_by-wanted.result c.args.steps.now
+    c.take.new.steps s.takes w
+    (IsBounded-passes old c.take.new.values c.args.steps.now.count c.amount_by-wanted.new.steps.count
+    c.take.new.steps.count c.amount_by-wanted.ensures.steps (omega arith) (omega arith))
