@@ -1,6 +1,6 @@
 -- A beginning of a text that is read by itself, beside the whole: what is known of both readings.
 use Rattle.std.proofs.Common.{◌≡◌, ℕ, ◌+◌, ◌<◌, ◌≤◌, ⊎_elim, Bool, true, false, cond, not, nat_le, ◌==◌, ◌&&◌, refl, sym, ap, arith, subst, max}
-use Rattle.std.proofs.lemmas.Bool.{and_parts, cases_lt}
+use Rattle.std.proofs.lemmas.Bool.{and_parts, cases_lt, not-true}
 use Rattle.std.proofs.lemmas.Bool.Decides.{nat_tests}
 use Rattle.unicode_width.specs.declared.state.After.{After}
 use Rattle.unicode_width.specs.declared.state.After.TheVariants.{LineFeed, RegionalIndicator, RegionalIndicators, KiratE, KiratAi}
@@ -60,10 +60,6 @@ pub record IsOpen (s : State) : Type 0 where
   pub text : s.text ≡ false
   pub single : (s.emoji && s.quote) ≡ false
 
-pub not-true : (b : Bool) → not b ≡ true → b ≡ false
-not-true true h = cc
-not-true false h = refl
-
 pub open-parts : (s : State) → is_open s ≡ true → IsOpen s
 open-parts s h =
     let parts = and_parts (not (is_linked s.after)) (not s.text && not (s.emoji && s.quote)) h in
@@ -95,7 +91,7 @@ open-quote : (b : Bool) (s : State) → IsOpen s → s.emoji ≡ false → is_op
 open-quote true s o e = rw (o.linked, o.text, e)
 open-quote false s o e = refl
 
-cond-emoji : (b : Bool) (s : State) → s.emoji ≡ false → (cond b s plain).emoji ≡ false
+pub cond-emoji : (b : Bool) (s : State) → s.emoji ≡ false → (cond b s plain).emoji ≡ false
 cond-emoji true s e = e
 cond-emoji false s e = refl
 

@@ -1,5 +1,5 @@
 -- Blocks of bytes that are tested at once.
-use Rattle.std.proofs.Common.{◌≡◌, ℕ, ◌+◌, ◌-◌, ◌%◌, ◌<◌, ◌≤◌, Bool, true, false, not, ltb, List, [], ◌∷◌, length, map, refl, ap, subst, ◌∙◌, arith, inl, inr, w8, Fits}
+use Rattle.std.proofs.Common.{◌≡◌, ℕ, ◌+◌, ◌-◌, ◌%◌, ◌<◌, ◌≤◌, Bool, not, ltb, List, [], ◌∷◌, length, map, refl, ap, subst, ◌∙◌, arith, inl, inr, w8, Fits}
 use Rattle.std.specs.Int.{is_in_range}
 use Rattle.std.specs.List.{prefix_len}
 use Rattle.std.specs.Simd.Lanes.{Each1, chunk, mask_l}
@@ -7,14 +7,6 @@ use lib.Count.{count_trailing_zeros}
 use Rattle.std.proofs.lemmas.Bool.{cases_lt}
 use Rattle.std.proofs.lemmas.Bool.Decides.{nat_tests}
 use Rattle.std.proofs.lemmas.Simd.{length-chunk, trailing_mask_l}
-
-pub not-false : (b : Bool) → not b ≡ false → b ≡ true
-not-false true h = refl
-not-false false h = cc
-
-pub not-true : (b : Bool) → not b ≡ true → b ≡ false
-not-true true h = cc
-not-true false h = refl
 
 -- a byte lies outside of a range where it is past the range that was lowered to 0
 lowered-outside : (first last x : ℕ) → first ≤ last → last < 256 → x < 256

@@ -6,7 +6,7 @@ use Rattle.std.proofs.Common.{⊎_elim, lit<, append-nil}
 use Rattle.std.specs.List.{list_all, list_any, onto_first, slice_index_or, join_with_byte}
 use Rattle.std.specs.Str.{IsUtf8}
 use Rattle.std.proofs.Math.Utf8.{scalar, scalars}
-use Rattle.std.proofs.lemmas.Bool.{and_parts, and_from, or_parts, cases_Bool, eqb-true}
+use Rattle.std.proofs.lemmas.Bool.{and_parts, and_from, or_parts, cases_Bool, eqb-true, or_right}
 use Rattle.std.proofs.lemmas.List.{get_or_default}
 use Rattle.std.proofs.lemmas.List.Elements.{All-head, All-tail, All-cons, All-nil, All-map}
 use Rattle.std.proofs.lemmas.List.Splits.{slice_split-cons_no, length-slice_split, join_with_byte-slice_split}
@@ -95,15 +95,11 @@ list_all-scalars : (cs : List ℕ) → list_all scalar cs ≡ scalars cs
 list_all-scalars [] = refl
 list_all-scalars (c ∷ cs) = ap (λ b. scalar c && b) (list_all-scalars cs)
 
-or_true : (a b : Bool) → b ≡ true → (a || b) ≡ true
-or_true true b h = refl
-or_true false b h = h
-
 weaker : (cs : List ℕ) → scalars cs ≡ true → list_all (λ c. is_feed c || scalar c) cs ≡ true
 weaker [] h = refl
 weaker (c ∷ cs) h =
     let parts = and_parts (scalar c) (scalars cs) h in
-    and_from (is_feed c || scalar c) (list_all (λ x. is_feed x || scalar x) cs) (or_true (is_feed c) (scalar c) parts.0) (weaker cs parts.1)
+    and_from (is_feed c || scalar c) (list_all (λ x. is_feed x || scalar x) cs) (or_right (is_feed c) (scalar c) parts.0) (weaker cs parts.1)
 
 scalar_lines : (cs : List ℕ) → scalars cs ≡ true → All (λ l. list_all scalar l ≡ true) (lines_of cs)
 scalar_lines cs h = each_in_lines scalar cs (weaker cs h)

@@ -1,7 +1,7 @@
 -- No text takes more columns than its characters count.
 use Rattle.std.proofs.Common.{◌≡◌, ℕ, ◌+◌, ◌≤◌, Bool, true, false, cond, not, nat_le, ◌==◌, ◌&&◌}
 use Rattle.std.proofs.Common.{List, [], ◌∷◌, Option, Some, None, refl, ap, arith, subst, max}
-use Rattle.std.proofs.lemmas.Bool.{and_parts}
+use Rattle.std.proofs.lemmas.Bool.{and_parts, not-false}
 use Rattle.std.proofs.lemmas.Bool.Decides.{nat_tests}
 use Rattle.std.proofs.lemmas.List.Sums.{sum_by-cons}
 use Rattle.ucd_emoji.specs.Binary.{is_emoji_variation_base}
@@ -62,32 +62,12 @@ single-credit : (c : ℕ) → credit (single false c).1.after ≡ 0
 single-credit c = grind arith
 
 pub of_kind-bound : (c : ℕ) (k : Kind) → (of_kind false c k).0 + slack (of_kind false c k).1 ≤ max 1 (of_kind false c k).0
-of_kind-bound c kinds.Zero = omega arith
-of_kind-bound c kinds.Narrow = omega arith
-of_kind-bound c kinds.Wide = omega arith
-of_kind-bound c kinds.Ambiguous = omega arith
-of_kind-bound c kinds.Alef = omega arith
-of_kind-bound c kinds.KhmerLetter = omega arith
-of_kind-bound c kinds.TifinaghConsonant = omega arith
-of_kind-bound c kinds.LisuTone = omega arith
-of_kind-bound c kinds.RegionalIndicator = omega arith
-of_kind-bound c kinds.EmojiModifier = omega arith
-of_kind-bound c kinds.Emoji = omega arith
 of_kind-bound c kinds.Single = single-bound c
+of_kind-bound c _ = omega arith
 
 of_kind-credit : (c : ℕ) (k : Kind) → credit (of_kind false c k).1.after ≤ (of_kind false c k).0
-of_kind-credit c kinds.Zero = omega arith
-of_kind-credit c kinds.Narrow = omega arith
-of_kind-credit c kinds.Wide = omega arith
-of_kind-credit c kinds.Ambiguous = omega arith
-of_kind-credit c kinds.Alef = omega arith
-of_kind-credit c kinds.KhmerLetter = omega arith
-of_kind-credit c kinds.TifinaghConsonant = omega arith
-of_kind-credit c kinds.LisuTone = omega arith
-of_kind-credit c kinds.RegionalIndicator = omega arith
-of_kind-credit c kinds.EmojiModifier = omega arith
-of_kind-credit c kinds.Emoji = omega arith
 of_kind-credit c kinds.Single = omega (arith, single-credit c)
+of_kind-credit c _ = omega arith
 
 pub columns-high : (c : ℕ) → nat_le c 0xA0 ≡ false → char_columns c ≡ (alone false c).0
 unfolding char_width
@@ -117,47 +97,11 @@ IsCovered-cond after false x y f g = g
 
 joins-covered : (after : After) (c : ℕ) → IsCovered after (joins false after c)
 unfolding joins before_alef
-joins-covered states.Nothing c = grind arith
-joins-covered states.LineFeed c = grind arith
-joins-covered states.EmojiModifier c = grind arith
-joins-covered states.RegionalIndicator c = grind arith
-joins-covered states.RegionalIndicators c = grind arith
-joins-covered states.Emoji c = grind arith
-joins-covered states.ZwjEmoji c = grind arith
-joins-covered states.KeycapZwjEmoji c = grind arith
-joins-covered states.IndicatorZwj c = grind arith
-joins-covered states.EvenIndicatorsZwj c = grind arith
-joins-covered states.OddIndicatorsZwj c = grind arith
-joins-covered states.TagEnd c = grind arith
-joins-covered states.TagDigit1 c = grind arith
-joins-covered states.TagDigit2 c = grind arith
-joins-covered states.TagDigit3 c = grind arith
-joins-covered states.TagLetter1 c = grind arith
-joins-covered states.TagLetter2 c = grind arith
-joins-covered states.TagLetter3 c = grind arith
-joins-covered states.TagLetter4 c = grind arith
-joins-covered states.TagLetter5 c = grind arith
-joins-covered states.TagLetter6 c = grind arith
-joins-covered states.KiratE c = grind arith
-joins-covered states.KiratAi c = grind arith
 joins-covered states.Alef c =
     let same : (credit states.Nothing ≡ 0) × (slack_after states.Nothing ≤ slack_after states.Alef + 1) = (refl, omega arith) in
     let mark : (credit states.Alef ≡ 0) × (slack_after states.Alef ≤ slack_after states.Alef + 1) = (refl, omega arith) in
     IsCovered-cond states.Alef (is_lam c) _ _ same (IsCovered-cond states.Alef (((alone false c).0 == 0) && joining_type_eq (joining_type c) Transparent) _ _ mark tt)
-joins-covered states.Solidus c = grind arith
-joins-covered states.SolidusAlef c = grind arith
-joins-covered states.Lamed c = grind arith
-joins-covered states.ZwjLamed c = grind arith
-joins-covered states.Ya c = grind arith
-joins-covered states.ZwjYa c = grind arith
-joins-covered states.VowelZwjYa c = grind arith
-joins-covered states.Tifinagh c = grind arith
-joins-covered states.ZwjTifinagh c = grind arith
-joins-covered states.JoinerTifinagh c = grind arith
-joins-covered states.LisuTone c = grind arith
-joins-covered states.OrkhonI c = grind arith
-joins-covered states.ZwjOrkhonI c = grind arith
-joins-covered states.KhmerLetter c = grind arith
+joins-covered _ c = grind arith
 
 -- a character of one column at least
 Bounded-joined : (m n total : ℕ) (after : After) (j : Option (Change × After)) (own : ℕ × State) → 1 ≤ n → total + slack_after after ≤ m
@@ -180,43 +124,7 @@ pub record IsSame (a b : After) : Type 0 where
 
 pub with_joiner-same : (after : After) → IsSame (with_joiner after) after
 with_joiner-same states.Nothing = record { slack = refl; credit = refl }
-with_joiner-same states.LineFeed = record { slack = refl; credit = refl }
-with_joiner-same states.EmojiModifier = record { slack = refl; credit = refl }
-with_joiner-same states.RegionalIndicator = record { slack = refl; credit = refl }
-with_joiner-same states.RegionalIndicators = record { slack = refl; credit = refl }
-with_joiner-same states.Emoji = record { slack = refl; credit = refl }
-with_joiner-same states.ZwjEmoji = record { slack = refl; credit = refl }
-with_joiner-same states.KeycapZwjEmoji = record { slack = refl; credit = refl }
-with_joiner-same states.IndicatorZwj = record { slack = refl; credit = refl }
-with_joiner-same states.EvenIndicatorsZwj = record { slack = refl; credit = refl }
-with_joiner-same states.OddIndicatorsZwj = record { slack = refl; credit = refl }
-with_joiner-same states.TagEnd = record { slack = refl; credit = refl }
-with_joiner-same states.TagDigit1 = record { slack = refl; credit = refl }
-with_joiner-same states.TagDigit2 = record { slack = refl; credit = refl }
-with_joiner-same states.TagDigit3 = record { slack = refl; credit = refl }
-with_joiner-same states.TagLetter1 = record { slack = refl; credit = refl }
-with_joiner-same states.TagLetter2 = record { slack = refl; credit = refl }
-with_joiner-same states.TagLetter3 = record { slack = refl; credit = refl }
-with_joiner-same states.TagLetter4 = record { slack = refl; credit = refl }
-with_joiner-same states.TagLetter5 = record { slack = refl; credit = refl }
-with_joiner-same states.TagLetter6 = record { slack = refl; credit = refl }
-with_joiner-same states.KiratE = record { slack = refl; credit = refl }
-with_joiner-same states.KiratAi = record { slack = refl; credit = refl }
-with_joiner-same states.Alef = record { slack = refl; credit = refl }
-with_joiner-same states.Solidus = record { slack = refl; credit = refl }
-with_joiner-same states.SolidusAlef = record { slack = refl; credit = refl }
-with_joiner-same states.Lamed = record { slack = refl; credit = refl }
-with_joiner-same states.ZwjLamed = record { slack = refl; credit = refl }
-with_joiner-same states.Ya = record { slack = refl; credit = refl }
-with_joiner-same states.ZwjYa = record { slack = refl; credit = refl }
-with_joiner-same states.VowelZwjYa = record { slack = refl; credit = refl }
-with_joiner-same states.Tifinagh = record { slack = refl; credit = refl }
-with_joiner-same states.ZwjTifinagh = record { slack = refl; credit = refl }
-with_joiner-same states.JoinerTifinagh = record { slack = refl; credit = refl }
-with_joiner-same states.LisuTone = record { slack = refl; credit = refl }
-with_joiner-same states.OrkhonI = record { slack = refl; credit = refl }
-with_joiner-same states.ZwjOrkhonI = record { slack = refl; credit = refl }
-with_joiner-same states.KhmerLetter = record { slack = refl; credit = refl }
+with_joiner-same _ = record { slack = refl; credit = refl }
 
 -- ---- one step
 
@@ -296,10 +204,6 @@ Bounded-past_emoji m c total s h =
 
 joined_or_two : (b : Bool) → cond b 0 2 ≤ 2
 joined_or_two b = grind arith
-
-pub not-false : (b : Bool) → not b ≡ false → b ≡ true
-not-false true h = refl
-not-false false h = cc
 
 pub Bounded-step : (m c : ℕ) (r : Reading) → Bounded m r → Bounded (m + char_count c) (step false c r)
 unfolding step

@@ -7,16 +7,13 @@ use Rattle.tabled_text.specs.Measure.{lines_of, count_of, text_columns, line_col
 use Rattle.tabled_text.specs.Plain.{IsAdditive}
 use Rattle.tabled_text.specs.Room.{stays}
 use Rattle.tabled_text.proofs.StayLemmas.{stays-suffix}
-use Rattle.tabled_text.specs.Cut.{last_of, last_line, missing_columns, IsCut}
+use Rattle.tabled_text.specs.Cut.{last_of, missing_columns, IsCut}
 use Rattle.tabled_text.proofs.Bridge.{some_line}
 use Rattle.tabled_text.proofs.Each.{list_all-copies}
 use Rattle.tabled_text.specs.FramedLines.{is_no_feed}
 use Rattle.tabled_text.proofs.CountBound.{columns-count}
 use Rattle.tabled_text.proofs.Within.{Within, Within-followed, text_columns-within, add_last, lines_of-last, columns-filled}
-
-missing-le : (n : ℕ) (front rest : List ℕ) → missing_columns n front rest ≤ n - count_of (last_line front)
-missing-le n front [] = omega arith
-missing-le n front (c ∷ rest) = omega arith
+use Rattle.tabled_text.proofs.CutRoom.{missing-le}
 
 last_of-le : (n : ℕ) (ls : List (List ℕ)) → All (λ l. count_of l ≤ n) ls → count_of (last_of ls) ≤ n
 last_of-le n [] h = omega arith

@@ -1,10 +1,10 @@
 -- Cut plain texts stay in their columns, and so does what follows them.
-use Rattle.std.proofs.Common.{◌≡◌, ℕ, ◌+◌, ◌-◌, ◌<◌, ◌≤◌, Bool, true, ◌==◌, List, [], ◌∷◌, ◌++◌}
+use Rattle.std.proofs.Common.{◌≡◌, ℕ, ◌+◌, ◌-◌, ◌<◌, ◌≤◌, Bool, true, List, [], ◌∷◌, ◌++◌}
 use Rattle.std.proofs.Common.{length, refl, sym, ◌∙◌, subst, arith, All, sum_by, replicate, zero}
 use Rattle.std.proofs.Common.{suc, chars}
 use Rattle.std.specs.List.{list_all, join_with_byte}
 use Rattle.std.proofs.lemmas.List.{append_assoc, append-nil}
-use Rattle.std.proofs.lemmas.List.Splits.{join_with_byte-slice_split, length-slice_split}
+use Rattle.std.proofs.lemmas.List.Splits.{join_with_byte-slice_split}
 use Rattle.std.proofs.lemmas.List.Elements.{All-head, All-tail}
 use Rattle.std.proofs.lemmas.List.Sums.{sum_by-cons}
 use Rattle.std.proofs.lemmas.Bool.{and_parts, and_from}
@@ -14,6 +14,7 @@ use Rattle.tabled_text.specs.Room.{is_additive_text, stays}
 use Rattle.tabled_text.specs.Cut.{last_of, last_line, missing_columns, IsCut}
 use Rattle.tabled_text.proofs.PlainLemmas.{columns_of-plain, count_of-plain}
 use Rattle.tabled_text.proofs.WrapRoom.{Lines, EachPlain, EachPlain-lines, plain_replacement, stays-line, stays-break, stays-nothing}
+use Rattle.tabled_text.proofs.Bridge.{some_line}
 
 -- the columns of the last line, where used columns of the first are taken
 abbrev pub last_used : ℕ → List (List ℕ) → ℕ
@@ -41,13 +42,10 @@ stays-join n used (l ∷ m ∷ ls) tail some h s =
     (stays-line n used l (10 ∷ (join_with_byte 10 (m ∷ ls) ++ tail)) h.0
     (stays-break n (used + sum_by char_columns l) (join_with_byte 10 (m ∷ ls) ++ tail) h.1 rest))
 
-pub lines_some : (cs : List ℕ) → 0 < length (lines_of cs)
-lines_some cs = let e = length-slice_split (λ c. c == 10) cs in omega arith
-
 pub stays-text : (n used : ℕ) (cs tail : List ℕ) → Lines n used (lines_of cs)
     → stays n (last_used used (lines_of cs)) tail ≡ true → stays n used (cs ++ tail) ≡ true
 stays-text n used cs tail h s = subst (λ t. stays n used (t ++ tail) ≡ true) (join_with_byte-slice_split 10 cs)
-    (stays-join n used (lines_of cs) tail (lines_some cs) h s)
+    (stays-join n used (lines_of cs) tail (some_line cs) h s)
 
 Lines-counted : (n : ℕ) (ls : List (List ℕ)) → EachPlain ls → All (λ l. count_of l ≤ n) ls → Lines n 0 ls
 Lines-counted n [] p h = tt
@@ -82,7 +80,7 @@ copies c (suc k) h e =
           let f : char_columns c + sum_by char_columns (replicate k c) ≡ suc k = omega arith in f),
     )
 
-missing-le : (n : ℕ) (front rest : List ℕ) → missing_columns n front rest ≤ n - count_of (last_line front)
+pub missing-le : (n : ℕ) (front rest : List ℕ) → missing_columns n front rest ≤ n - count_of (last_line front)
 missing-le n front [] = omega arith
 missing-le n front (c ∷ rest) = omega arith
 
@@ -95,8 +93,8 @@ stays-cut_before n w le text answer tail plain cut h =
     let own = list_all-front is_additive_or_feed front rest (subst (λ t. is_additive_text t ≡ true) cut.longest.parts plain) in
     let each = EachPlain-lines front own in
     let lines = Lines-counted n (lines_of front) each cut.longest.reached.fits in
-    let last = last_used-last (lines_of front) (lines_some front) each in
-    let fits = last_used-le n 0 (lines_of front) (lines_some front) lines in
+    let last = last_used-last (lines_of front) (some_line front) each in
+    let fits = last_used-le n 0 (lines_of front) (some_line front) lines in
     let missing = missing-le n front rest in
     let filled = replicate (missing_columns n front rest) 0xFFFD in
     let fill = copies 0xFFFD (missing_columns n front rest) plain_replacement.0 plain_replacement.1 in
@@ -117,4 +115,4 @@ pub stays-whole : (w k : ℕ) (s tail : List ℕ) → is_additive_text s ≡ tru
 stays-whole w k s tail plain le h =
     let each = EachPlain-lines s plain in
     let lines = Lines-sum w k (lines_of s) each (omega arith) in
-    stays-text w k s tail lines (h (last_used k (lines_of s)) (last_used-le w k (lines_of s) (lines_some s) lines))
+    stays-text w k s tail lines (h (last_used k (lines_of s)) (last_used-le w k (lines_of s) (some_line s) lines))

@@ -5,6 +5,7 @@ use Rattle.std.specs.Str.{IsUtf8}
 use Rattle.std.proofs.lemmas.Bool.{and_from, and_parts, or_left, or_right}
 use Rattle.std.proofs.lemmas.Bool.Decides.{nat_tests}
 use Rattle.std.proofs.lemmas.Str.{chars-append, chars-nil, IsUtf8-nil}
+use Rattle.std.proofs.lemmas.List.{append-nil}
 use Rattle.unicode_width.specs.Width.{str_width}
 use Rattle.tabled_text.specs.Measure.{line_columns, columns_of}
 use Rattle.tabled_text.specs.FramedLines.{is_no_feed, EndsApart, IsFrame, IsLine}
@@ -67,13 +68,9 @@ ends-some [] (c ∷ cs) back h some = ends_before-separators (c ∷ cs) back h
 ends-some (x ∷ []) (c ∷ cs) back h some = ends_before-separators (c ∷ cs) back h
 ends-some (x ∷ y ∷ xs) (c ∷ cs) back h some = ends-some (y ∷ xs) (c ∷ cs) back h some
 
-append-nothing : (cs : List ℕ) → cs ++ [] ≡ cs
-append-nothing [] = refl
-append-nothing (c ∷ cs) = ap (λ l. c ∷ l) (append-nothing cs)
-
 pub begins-frame : {text : List ℕ} {n : ℕ} → IsFrame text n → BeginsApart text
 begins-frame {text} p = record {
-  begins = subst (λ t. begins_apart t ≡ true) (append-nothing (chars text))
+  begins = subst (λ t. begins_apart t ≡ true) (append-nil (chars text))
       (begins_apart-separators (chars text) [] p.separators refl);
 }
 
@@ -123,7 +120,7 @@ opens-append {front} back u o =
     }
 
 pub opens-begins : {text : List ℕ} → Opens text → BeginsApart text
-opens-begins {text} o = record { begins = subst (λ t. begins_apart t ≡ true) (append-nothing (chars text)) (o.opens []) }
+opens-begins {text} o = record { begins = subst (λ t. begins_apart t ≡ true) (append-nil (chars text)) (o.opens []) }
 
 -- ---- a plain character before what begins apart
 

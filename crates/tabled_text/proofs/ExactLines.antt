@@ -1,6 +1,6 @@
 -- Texts of one line whose characters count as many as its columns: where they find room, they aren't cut, and else they are cut to the
 -- longest beginning that does.
-use Rattle.std.proofs.Common.{◌≡◌, ℕ, zero, suc, ◌<◌, ◌≤◌, true, List, [], ◌∷◌, ◌++◌, length, take, map, replicate, chars, refl, sym, ◌∙◌, ap, subst, arith, append-nil, length-append, encode_utf8_all, All}
+use Rattle.std.proofs.Common.{◌≡◌, ℕ, zero, suc, ◌<◌, ◌≤◌, true, List, [], ◌∷◌, ◌++◌, length, take, map, replicate, chars, refl, sym, ◌∙◌, ap, subst, arith, append-nil, encode_utf8_all, All}
 use Rattle.std.specs.List.{list_all, slice_index_or}
 use Rattle.std.specs.Str.{IsUtf8}
 use Rattle.std.proofs.lemmas.Bool.{and_from, and_parts}
@@ -12,8 +12,7 @@ use Rattle.tabled_text.specs.Cut.{IsCut, IsReached, last_line, last_of, missing_
 use Rattle.tabled_text.specs.Longest.{IsLongestCut}
 use Rattle.tabled_text.specs.Measure.{char_count, columns_of, count_of, greatest, line_columns, lines_of, text_columns}
 use Rattle.tabled_text.specs.Plain.{IsAdditive, is_additive}
-use Rattle.tabled_text.proofs.JoinLemmas.{lines_of-join}
-use Rattle.tabled_text.proofs.LongestLemmas.{longest_counted}
+use Rattle.tabled_text.proofs.LongestLemmas.{longest_counted, no_rest}
 use Rattle.tabled_text.proofs.PlainLemmas.{columns_of-plain, count_of-plain}
 use Rattle.tabled_text.proofs.PlainLines.{plain_line-each, text_columns-plain_line}
 use Rattle.tabled_text.specs.Exact.{IsExactLine}
@@ -21,15 +20,11 @@ use Rattle.tabled_text.specs.FramedLines.{is_no_feed}
 use Rattle.tabled_text.proofs.ExactBeginnings.{exact-take}
 use Rattle.tabled_text.proofs.LineLaws.{line-each}
 use Rattle.tabled_text.proofs.Within.{lines_of-feedless}
-
--- the line of a text of one line is the text
-one-line : (text : List ℕ) → length (lines_of text) ≡ 1 → lines_of text ≡ text ∷ []
-one-line text h =
-    lines_of-join (text ∷ []) (omega arith) (All-cons (λ l. length (lines_of l) ≡ 1) text [] h (All-nil (λ l. length (lines_of l) ≡ 1)))
+use Rattle.tabled_text.proofs.Bridge.{lines_of-one}
 
 feedless : (text : List ℕ) → IsUtf8 text → length (lines_of text) ≡ 1 → list_all is_no_feed (chars text) ≡ true
 feedless text u h =
-    let first : slice_index_or (lines_of text) 0 [] ≡ text = ap (λ ls. slice_index_or ls 0 []) (one-line text h) in
+    let first : slice_index_or (lines_of text) 0 [] ≡ text = ap (λ ls. slice_index_or ls 0 []) (lines_of-one text h) in
     subst (λ l. list_all is_no_feed (chars l) ≡ true) first (line-each text u 0 (omega arith)).feedless
 
 feedless-take : (k : ℕ) (cs : List ℕ) → list_all is_no_feed cs ≡ true → list_all is_no_feed (take k cs) ≡ true
@@ -55,10 +50,6 @@ reached-whole n cs h room = record {
       let fewer = fewer-count k cs b in subst (λ l. count_of l < n) (sym last) (omega arith);
 }
 
-no-rest : (front rest : List ℕ) → length (front ++ rest) ≤ length front → rest ≡ []
-no-rest front [] h = refl
-no-rest front (c ∷ rest) h = absurd (omega (arith, length-append front (c ∷ rest)))
-
 pub exact-kept : (n : ℕ) (text answer : List ℕ) → IsExactLine text → text_columns text ≤ n → IsCut n text answer → answer ≡ text
 exact-kept n text answer e room cut =
     let cs = chars text in
@@ -66,7 +57,7 @@ exact-kept n text answer e room cut =
     let counted = e.counted in
     let reached = reached-whole n cs (feedless text e.utf8 e.one) (omega arith) in
     let all : length cs ≤ length cut.front = cut.longest.longest (length cs) (omega arith) (subst (IsReached n) (sym whole) reached) in
-    let none : cut.rest ≡ [] = no-rest cut.front cut.rest (omega (arith, ap length cut.longest.parts)) in
+    let none : cut.rest ≡ [] = no_rest cut.front cut.rest (omega (arith, ap length cut.longest.parts)) in
     let front : cut.front ≡ cs = sym (cut.longest.parts ∙ ap (λ r. cut.front ++ r) none ∙ append-nil cut.front) in
     let same : chars answer ≡ cs =
     cut.characters ∙ ap (λ r. cut.front ++ replicate (missing_columns n cut.front r) 0xFFFD) none ∙ append-nil cut.front ∙ front in
@@ -75,7 +66,7 @@ exact-kept n text answer e room cut =
 -- a plain line is such
 pub plain_exact : (text : List ℕ) → IsAdditive text → length (lines_of text) ≡ 1 → IsExactLine text
 plain_exact text p h =
-    let first : slice_index_or (lines_of text) 0 [] ≡ text = ap (λ ls. slice_index_or ls 0 []) (one-line text h) in
+    let first : slice_index_or (lines_of text) 0 [] ≡ text = ap (λ ls. slice_index_or ls 0 []) (lines_of-one text h) in
     let L : List ℕ → Type 0 = λ l. (list_all is_additive (chars l) ≡ true) × (text_columns l ≡ line_columns l) in
     let plain = plain_line-each text p 0 (omega arith) in
     let own = subst L first (plain.characters, text_columns-plain_line plain) in
@@ -84,7 +75,7 @@ plain_exact text p h =
 -- the columns of its characters are those of the text
 exact-columns : (text : List ℕ) → IsExactLine text → columns_of (chars text) ≡ count_of (chars text)
 exact-columns text e =
-    let all : text_columns text ≡ greatest (line_columns text ∷ []) = ap (λ ls. greatest (map line_columns ls)) (one-line text e.one) in
+    let all : text_columns text ≡ greatest (line_columns text ∷ []) = ap (λ ls. greatest (map line_columns ls)) (lines_of-one text e.one) in
     let counted = e.counted in
     omega arith
 

@@ -6,7 +6,6 @@ use Rattle.std.specs.Prelude.{MatchBool}
 use Rattle.std.specs.List.{list_all, onto_first, flat_map, AllZip}
 use Rattle.std.specs.Str.{IsUtf8}
 use Rattle.std.proofs.lemmas.List.{append_assoc, append-nil, length-map}
-use Rattle.std.proofs.lemmas.List.Splits.{length-slice_split}
 use Rattle.std.proofs.lemmas.List.Sums.{sum_by-cons}
 use Rattle.std.proofs.lemmas.Bool.{and_parts, cases_Bool}
 use Rattle.std.proofs.lemmas.Bool.Decides.{nat_tests}
@@ -15,22 +14,19 @@ use Rattle.tabled_text.specs.Cut.{IsCut, missing_columns}
 use Rattle.tabled_text.specs.Units.{TextUnit, units}
 use Rattle.tabled_text.specs.Breaking.{IsGrouping, HasFewestLines}
 use Rattle.tabled_text.specs.Wrapping.{shown, text_from, text_of_groups, text_of_lines, IsFullest, IsFullestText, IsWrapped}
-use Rattle.tabled_text.proofs.Bridge.{lines_of-chars}
+use Rattle.tabled_text.proofs.Bridge.{lines_of-chars, some_line}
 use Rattle.tabled_text.proofs.Each.{Each, Each-lines, EachUnit, EachUnit-parts, EachUnit-units, list_all-copies}
 use Rattle.tabled_text.proofs.FewestGroups.{fewest_lines}
 
 abbrev rows : List ℕ → ℕ
 rows cs = length (lines_of cs)
 
-rows_some : (cs : List ℕ) → 0 < rows cs
-rows_some cs = let e = length-slice_split (λ c. c == 10) cs in omega arith
-
 -- ---- no line feed inside a unit
 
 abbrev no_feed : ℕ → Bool
 no_feed c = cond (c == 10) false true
 
-every : (cs : List ℕ) → list_all (λ c. true) cs ≡ true
+pub every : (cs : List ℕ) → list_all (λ c. true) cs ≡ true
 every [] = refl
 every (c ∷ cs) = every cs
 
@@ -51,7 +47,7 @@ rows-line [] rest h = refl
 rows-line (c ∷ xs) rest h =
     let parts = and_parts (no_feed c) (list_all no_feed xs) h in
     ap (λ b. length (cond b ([] ∷ lines_of (xs ++ rest)) (onto_first c (lines_of (xs ++ rest))))) (not_feed c parts.0)
-    ∙ length-onto c (lines_of (xs ++ rest)) (rows_some (xs ++ rest)) ∙ rows-line xs rest parts.1
+    ∙ length-onto c (lines_of (xs ++ rest)) (some_line (xs ++ rest)) ∙ rows-line xs rest parts.1
 
 rows-break : (rest : List ℕ) → rows (10 ∷ rest) ≡ 1 + rows rest
 rows-break rest = let e : suc (rows rest) ≡ 1 + rows rest = omega arith in e
@@ -114,7 +110,7 @@ rows-lines n words (l ∷ m ∷ ls) (g ∷ h ∷ gs) some p f =
 -- the lines of a wrapped text are the groups of the fullest breaking
 pub rows-wrapped : (n : ℕ) (words : Bool) (text answer : List ℕ) → (f : IsFullestText n words text answer)
     → length (lines_of answer) ≡ sum_by length f.broken
-rows-wrapped n words text answer f = ap rows f.answered ∙ rows-lines n words (lines_of text) f.broken (rows_some text) (no_feeds text) f.fullest
+rows-wrapped n words text answer f = ap rows f.answered ∙ rows-lines n words (lines_of text) f.broken (some_line text) (no_feeds text) f.fullest
 
 -- a text has as many lines as its characters do
 pub count-chars : (text : List ℕ) → IsUtf8 text → length (lines_of text) ≡ length (lines_of (chars text))
@@ -141,8 +137,8 @@ rows-append (c ∷ xs) ys = let more = rows-append xs ys in ⊎_elim
     ≡ length (cond b ([] ∷ lines_of xs) (onto_first c (lines_of xs))) + rows ys) (sym y) (omega arith))
     (λ no. subst (λ b. length (cond b ([] ∷ lines_of (xs ++ ys)) (onto_first c (lines_of (xs ++ ys)))) + 1
     ≡ length (cond b ([] ∷ lines_of xs) (onto_first c (lines_of xs))) + rows ys) (sym no)
-    (ap (λ k. k + 1) (length-onto c (lines_of (xs ++ ys)) (rows_some (xs ++ ys))) ∙ more ∙ ap
-    (λ k. k + rows ys) (sym (length-onto c (lines_of xs) (rows_some xs)))))
+    (ap (λ k. k + 1) (length-onto c (lines_of (xs ++ ys)) (some_line (xs ++ ys))) ∙ more ∙ ap
+    (λ k. k + rows ys) (sym (length-onto c (lines_of xs) (some_line xs)))))
     (cases_Bool (c == 10))
 
 -- a cut text has no more lines than the text
@@ -153,4 +149,4 @@ lines-cut n text answer u c =
     (list_all-copies no_feed 0xFFFD (missing_columns n c.front c.rest) refl) in
     let own : rows (chars answer) + 1 ≡ rows c.front + rows copies = ap (λ t. rows t + 1) c.characters ∙ rows-append c.front copies in
     let whole : rows (chars text) + 1 ≡ rows c.front + rows c.rest = ap (λ t. rows t + 1) c.longest.parts ∙ rows-append c.front c.rest in
-    omega (arith, own, whole, filled, rows_some c.rest, count-chars answer c.utf8, count-chars text u)
+    omega (arith, own, whole, filled, some_line c.rest, count-chars answer c.utf8, count-chars text u)

@@ -5,6 +5,7 @@ use Rattle.std.specs.List.{list_all}
 use Rattle.std.proofs.lemmas.Bool.{and_parts, and_from, leb-true, le-leb, or_right}
 use Rattle.std.proofs.lemmas.List.Elements.{All-head, All-tail, All-cons, All-nil}
 use Rattle.std.proofs.lemmas.List.Folds.{list_all-append}
+use Rattle.std.proofs.Math.Bool.{and-true}
 use Rattle.unicode_width.proofs.Rules.{width_or_zero-le}
 use Rattle.tabled_text.specs.Breaking.{EachUnitFits}
 use Rattle.tabled_text.specs.Measure.{lines_of, columns_of, char_columns, char_count}
@@ -35,11 +36,7 @@ narrow-word n (c ∷ cs) = by_test (nat_le (columns_of (c ∷ cs)) n) refl
 
 narrow-words : (n : ℕ) → 0 < n → (ws : List (List ℕ)) → narrow n (units_of_words n ws) ≡ list_all (fits_word n) ws
 narrow-words n pos [] = refl
-narrow-words n pos (w ∷ []) = narrow-word n w ∙ alone (fits_word n w)
-  where
-    alone : (b : Bool) → b ≡ (b && true)
-    alone true = refl
-    alone false = refl
+narrow-words n pos (w ∷ []) = narrow-word n w ∙ sym (and-true (fits_word n w))
 narrow-words n pos (w ∷ x ∷ ws) =
     let rest = units_of_words n (x ∷ ws) in
     list_all-append (λ (u : TextUnit). nat_le u.width n) (units_of_word n w) (space ∷ rest)

@@ -10,7 +10,7 @@ use Rattle.unicode_width.specs.Width.{str_width}
 use Rattle.tabled_text.specs.Measure.{lines_of, line_columns, text_columns, greatest}
 use Rattle.tabled_text.proofs.Bridge.{some_line, lines_of-one}
 
-onto_first-append : (c : ℕ) (ls ms : List (List ℕ)) → 0 < length ls → onto_first c (ls ++ ms) ≡ onto_first c ls ++ ms
+pub onto_first-append : (c : ℕ) (ls ms : List (List ℕ)) → 0 < length ls → onto_first c (ls ++ ms) ≡ onto_first c ls ++ ms
 onto_first-append c [] ms h = absurd (omega arith)
 onto_first-append c (l ∷ ls) ms h = refl
 

@@ -59,126 +59,28 @@ IsCalm-cond c false x y f g = g
 
 pub joins-calm : (after : After) (c : ℕ) → is_linked after ≡ false → IsCalm c (joins false after c)
 unfolding joins before_alef
-joins-calm states.Nothing c h = grind arith
-joins-calm states.LineFeed c h = grind arith
-joins-calm states.EmojiModifier c h = grind arith
-joins-calm states.RegionalIndicator c h = grind arith
-joins-calm states.RegionalIndicators c h = grind arith
-joins-calm states.Emoji c h = grind arith
+joins-calm states.Alef c h =
+    IsCalm-cond c (is_lam c) _ _ refl (IsCalm-cond c (((alone false c).0 == 0) && joining_type_eq (joining_type c) Transparent) _ _ refl tt)
 joins-calm states.ZwjEmoji c h = absurd cc
-joins-calm states.KeycapZwjEmoji c h = grind arith
 joins-calm states.IndicatorZwj c h = absurd cc
 joins-calm states.EvenIndicatorsZwj c h = absurd cc
 joins-calm states.OddIndicatorsZwj c h = absurd cc
-joins-calm states.TagEnd c h = grind arith
-joins-calm states.TagDigit1 c h = grind arith
-joins-calm states.TagDigit2 c h = grind arith
-joins-calm states.TagDigit3 c h = grind arith
-joins-calm states.TagLetter1 c h = grind arith
-joins-calm states.TagLetter2 c h = grind arith
-joins-calm states.TagLetter3 c h = grind arith
-joins-calm states.TagLetter4 c h = grind arith
-joins-calm states.TagLetter5 c h = grind arith
-joins-calm states.TagLetter6 c h = grind arith
-joins-calm states.KiratE c h = grind arith
-joins-calm states.KiratAi c h = grind arith
-joins-calm states.Alef c h =
-    IsCalm-cond c (is_lam c) _ _ refl (IsCalm-cond c (((alone false c).0 == 0) && joining_type_eq (joining_type c) Transparent) _ _ refl tt)
-joins-calm states.Solidus c h = grind arith
-joins-calm states.SolidusAlef c h = grind arith
-joins-calm states.Lamed c h = grind arith
-joins-calm states.ZwjLamed c h = grind arith
-joins-calm states.Ya c h = grind arith
-joins-calm states.ZwjYa c h = grind arith
-joins-calm states.VowelZwjYa c h = grind arith
-joins-calm states.Tifinagh c h = grind arith
-joins-calm states.ZwjTifinagh c h = grind arith
-joins-calm states.JoinerTifinagh c h = grind arith
-joins-calm states.LisuTone c h = grind arith
-joins-calm states.OrkhonI c h = grind arith
-joins-calm states.ZwjOrkhonI c h = grind arith
-joins-calm states.KhmerLetter c h = grind arith
+joins-calm _ c h = grind arith
 
 -- what is linked alone keeps back a column
 pub calm-slack : (after : After) → is_linked after ≡ false → slack_after after ≡ 0
-calm-slack states.Nothing h = refl
-calm-slack states.LineFeed h = refl
-calm-slack states.EmojiModifier h = refl
-calm-slack states.RegionalIndicator h = refl
-calm-slack states.RegionalIndicators h = refl
-calm-slack states.Emoji h = refl
 calm-slack states.ZwjEmoji h = cc
-calm-slack states.KeycapZwjEmoji h = refl
 calm-slack states.IndicatorZwj h = cc
 calm-slack states.EvenIndicatorsZwj h = cc
 calm-slack states.OddIndicatorsZwj h = cc
-calm-slack states.TagEnd h = refl
-calm-slack states.TagDigit1 h = refl
-calm-slack states.TagDigit2 h = refl
-calm-slack states.TagDigit3 h = refl
-calm-slack states.TagLetter1 h = refl
-calm-slack states.TagLetter2 h = refl
-calm-slack states.TagLetter3 h = refl
-calm-slack states.TagLetter4 h = refl
-calm-slack states.TagLetter5 h = refl
-calm-slack states.TagLetter6 h = refl
-calm-slack states.KiratE h = refl
-calm-slack states.KiratAi h = refl
-calm-slack states.Alef h = refl
-calm-slack states.Solidus h = refl
-calm-slack states.SolidusAlef h = refl
-calm-slack states.Lamed h = refl
-calm-slack states.ZwjLamed h = refl
-calm-slack states.Ya h = refl
-calm-slack states.ZwjYa h = refl
-calm-slack states.VowelZwjYa h = refl
-calm-slack states.Tifinagh h = refl
-calm-slack states.ZwjTifinagh h = refl
-calm-slack states.JoinerTifinagh h = refl
-calm-slack states.LisuTone h = refl
-calm-slack states.OrkhonI h = refl
-calm-slack states.ZwjOrkhonI h = refl
-calm-slack states.KhmerLetter h = refl
+calm-slack _ h = refl
 
 pub takes-linked : (after : After) (c : ℕ) → takes_column after c ≡ true → is_linked after ≡ false
-takes-linked states.Nothing c h = refl
-takes-linked states.LineFeed c h = refl
-takes-linked states.EmojiModifier c h = refl
-takes-linked states.RegionalIndicator c h = refl
-takes-linked states.RegionalIndicators c h = refl
-takes-linked states.Emoji c h = refl
 takes-linked states.ZwjEmoji c h = cc
-takes-linked states.KeycapZwjEmoji c h = refl
 takes-linked states.IndicatorZwj c h = cc
 takes-linked states.EvenIndicatorsZwj c h = cc
 takes-linked states.OddIndicatorsZwj c h = cc
-takes-linked states.TagEnd c h = refl
-takes-linked states.TagDigit1 c h = refl
-takes-linked states.TagDigit2 c h = refl
-takes-linked states.TagDigit3 c h = refl
-takes-linked states.TagLetter1 c h = refl
-takes-linked states.TagLetter2 c h = refl
-takes-linked states.TagLetter3 c h = refl
-takes-linked states.TagLetter4 c h = refl
-takes-linked states.TagLetter5 c h = refl
-takes-linked states.TagLetter6 c h = refl
-takes-linked states.KiratE c h = refl
-takes-linked states.KiratAi c h = refl
-takes-linked states.Alef c h = refl
-takes-linked states.Solidus c h = refl
-takes-linked states.SolidusAlef c h = refl
-takes-linked states.Lamed c h = refl
-takes-linked states.ZwjLamed c h = refl
-takes-linked states.Ya c h = refl
-takes-linked states.ZwjYa c h = refl
-takes-linked states.VowelZwjYa c h = refl
-takes-linked states.Tifinagh c h = refl
-takes-linked states.ZwjTifinagh c h = refl
-takes-linked states.JoinerTifinagh c h = refl
-takes-linked states.LisuTone c h = refl
-takes-linked states.OrkhonI c h = refl
-takes-linked states.ZwjOrkhonI c h = refl
-takes-linked states.KhmerLetter c h = refl
+takes-linked _ c h = refl
 
 -- ---- characters by themselves
 
@@ -187,18 +89,8 @@ single-open : (c : ℕ) → is_open (single false c).1 ≡ false → (single fal
 single-open c h = grind arith
 
 of_kind-open : (c : ℕ) (k : Kind) → is_open (of_kind false c k).1 ≡ false → (of_kind false c k).0 + slack (of_kind false c k).1 ≡ 0
-of_kind-open c kinds.Zero h = cc
-of_kind-open c kinds.Narrow h = cc
-of_kind-open c kinds.Wide h = cc
-of_kind-open c kinds.Ambiguous h = cc
-of_kind-open c kinds.Alef h = cc
-of_kind-open c kinds.KhmerLetter h = cc
-of_kind-open c kinds.TifinaghConsonant h = cc
-of_kind-open c kinds.LisuTone h = cc
-of_kind-open c kinds.RegionalIndicator h = cc
-of_kind-open c kinds.EmojiModifier h = cc
-of_kind-open c kinds.Emoji h = cc
 of_kind-open c kinds.Single h = single-open c h
+of_kind-open c _ h = cc
 
 pub alone-open : (c : ℕ) → is_open (alone false c).1 ≡ false → (alone false c).0 + slack (alone false c).1 ≡ 0
 unfolding alone
@@ -277,18 +169,11 @@ base-solid c h =
     subst (λ b. (not b || is_solid (kind c)) ≡ true) h all
 
 base-of_kind : (c : ℕ) (k : Kind) → is_solid k ≡ true → max 1 (of_kind false c k).0 ≡ 1 → of_kind false c k ≡ (1, plain)
-base-of_kind c kinds.Zero h n = cc
-base-of_kind c kinds.Narrow h n = refl
 base-of_kind c kinds.Wide h n = absurd (omega arith)
-base-of_kind c kinds.Ambiguous h n = refl
-base-of_kind c kinds.Alef h n = cc
-base-of_kind c kinds.KhmerLetter h n = cc
-base-of_kind c kinds.TifinaghConsonant h n = cc
-base-of_kind c kinds.LisuTone h n = cc
-base-of_kind c kinds.RegionalIndicator h n = cc
-base-of_kind c kinds.EmojiModifier h n = cc
 base-of_kind c kinds.Emoji h n = absurd (omega arith)
-base-of_kind c kinds.Single h n = cc
+base-of_kind c kinds.Narrow h n = refl
+base-of_kind c kinds.Ambiguous h n = refl
+base-of_kind c _ h n = cc
 
 -- the base of a sequence, if it counts one column, takes one by itself
 pub alone-base : (c : ℕ) → is_emoji_variation_base c ≡ true → max 1 (alone false c).0 ≡ 1 → alone false c ≡ (1, plain)
@@ -316,18 +201,8 @@ indicator-kind c h =
     grind (arith, nat_tests)
 
 indicator-of_kind : (c : ℕ) (k : Kind) → is_indicator_kind k ≡ true → of_kind false c k ≡ (1, before states.RegionalIndicator)
-indicator-of_kind c kinds.Zero h = cc
-indicator-of_kind c kinds.Narrow h = cc
-indicator-of_kind c kinds.Wide h = cc
-indicator-of_kind c kinds.Ambiguous h = cc
-indicator-of_kind c kinds.Alef h = cc
-indicator-of_kind c kinds.KhmerLetter h = cc
-indicator-of_kind c kinds.TifinaghConsonant h = cc
-indicator-of_kind c kinds.LisuTone h = cc
 indicator-of_kind c kinds.RegionalIndicator h = refl
-indicator-of_kind c kinds.EmojiModifier h = cc
-indicator-of_kind c kinds.Emoji h = cc
-indicator-of_kind c kinds.Single h = cc
+indicator-of_kind c _ h = cc
 
 pub alone-indicator : (c : ℕ) → is_indicator c ≡ true → alone false c ≡ (1, before states.RegionalIndicator)
 unfolding alone

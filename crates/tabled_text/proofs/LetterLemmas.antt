@@ -81,9 +81,9 @@ columns-high : (c : ℕ) → 0xA0 < c → char_columns c ≡ (of_kind false c (k
 unfolding char_width alone
 columns-high c high = grind (arith, nat_tests)
 
-printable : (c : ℕ) → is_in_range 0x20 0x7E c ≡ true → char_columns c ≡ 1
+pub columns-printable : (c : ℕ) → is_in_range 0x20 0x7E c ≡ true → char_columns c ≡ 1
 unfolding char_width
-printable c h = grind (arith, nat_tests)
+columns-printable c h = grind (arith, nat_tests)
 
 -- the first byte of a character, alone and before others
 lead-is : (c : ℕ) → lead_byte c ≡ cond (nat_lt c 128) c (cond (nat_lt c 2048) (192 + c / 64) (cond (nat_lt c 65536) (224 + c / 4096) (240 + c / 262144)))
@@ -196,7 +196,7 @@ narrow-letter c h =
     let m = leb-true lead 0x7E parts.1 in
     let same = ascii-led c lead (led c) (omega arith) in
     let printed : is_in_range 0x20 0x7E c ≡ true = sym (ap (is_in_range 0x20 0x7E) same) ∙ ascii in
-    record { simple = or_left (is_in_range 0x20 0x7E c) (nat_lt 0xA0 c && is_simple_kind (kind c)) printed; columns = printable c printed; few = lit< tt })
+    record { simple = or_left (is_in_range 0x20 0x7E c) (nat_lt 0xA0 c && is_simple_kind (kind c)) printed; columns = columns-printable c printed; few = lit< tt })
     (λ above. ⊎_elim (λ latin.
     let parts = and_parts (nat_le 0xC3 lead) (nat_le lead 0xCB) latin in
     let l = leb-true 0xC3 lead parts.0 in

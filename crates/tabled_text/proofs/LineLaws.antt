@@ -1,5 +1,5 @@
 -- Lines of any characters, by bytes: what is joined, and what stands in frames.
-use Rattle.std.proofs.Common.{◌≡◌, ℕ, ◌+◌, ◌<◌, Bool, true, false, not, ◌&&◌, ◌||◌, ◌==◌, List, []}
+use Rattle.std.proofs.Common.{◌≡◌, ℕ, ◌+◌, ◌<◌, true, not, ◌&&◌, ◌||◌, ◌==◌, List, []}
 use Rattle.std.proofs.Common.{◌∷◌, ◌++◌, chars, length, map, encode_utf8, refl, sym, ap, ◌∙◌, arith}
 use Rattle.std.proofs.Common.{subst, All, sum_by}
 use Rattle.std.specs.List.{list_all, slice_index_or, flat_map}
@@ -11,6 +11,7 @@ use Rattle.std.proofs.lemmas.List.Folds.{list_all-append}
 use Rattle.std.proofs.lemmas.List.Sums.{sum_by-cons}
 use Rattle.std.proofs.Math.Utf8.{scalar}
 use Rattle.std.proofs.lemmas.Str.{IsUtf8-append, chars-append, chars-encodes}
+use Rattle.std.proofs.Math.Bool.{or-not_self}
 use Rattle.unicode_width.proofs.Rules.{is_simple}
 use Rattle.tabled_text.specs.Measure.{lines_of, line_columns, columns_of}
 use Rattle.tabled_text.specs.Plain.{is_listed_or_drawn, has_plain_width, is_additive, IsAdditiveColumn}
@@ -129,11 +130,7 @@ pieces-line (p ∷ ps) last m l h b =
 
 or-not : (cs : List ℕ) → list_all (λ c. (c == 10) || is_no_feed c) cs ≡ true
 or-not [] = refl
-or-not (c ∷ cs) = and_from ((c == 10) || is_no_feed c) (list_all (λ x. (x == 10) || is_no_feed x) cs) (either (c == 10)) (or-not cs)
-  where
-    either : (b : Bool) → (b || not b) ≡ true
-    either true = refl
-    either false = refl
+or-not (c ∷ cs) = and_from ((c == 10) || is_no_feed c) (list_all (λ x. (x == 10) || is_no_feed x) cs) (or-not_self (c == 10)) (or-not cs)
 
 pub line-each : (text : List ℕ) → IsUtf8 text → (k : ℕ) → k < length (lines_of text)
     → IsLine (slice_index_or (lines_of text) k []) (line_columns (slice_index_or (lines_of text) k []))

@@ -79,7 +79,7 @@ cut_longest n line answer plain cut = record {
   answered = cut.characters;
 }
 
-no_rest : (front rest : List ℕ) → length (front ++ rest) ≤ length front → rest ≡ []
+pub no_rest : (front rest : List ℕ) → length (front ++ rest) ≤ length front → rest ≡ []
 no_rest front [] h = refl
 no_rest front (c ∷ rest) h = absurd (omega (arith, length-append front (c ∷ rest)))
 

@@ -12,26 +12,23 @@ use Rattle.std.proofs.lemmas.List.{get_or-map, append-nil, length-map}
 use Rattle.std.proofs.lemmas.List.Folds.{list_all-append}
 use Rattle.std.proofs.lemmas.List.Splits.{slice_split-cons_no}
 use Rattle.std.proofs.lemmas.Str.{IsUtf8-append, IsUtf8-nil, IsUtf8-encode, chars-append, chars-nil, chars-encodes, encode_ascii}
-use Rattle.unicode_width.specs.Width.{str_width, char_width}
+use Rattle.unicode_width.specs.Width.{str_width}
 use Rattle.unicode_width.proofs.Rules.{is_simple, str_width-append_simple}
 use Rattle.tabled_text.specs.Measure.{lines_of, line_columns, text_columns, char_columns}
 use Rattle.tabled_text.specs.Plain.{is_listed, is_drawn, is_listed_or_drawn, has_plain_width, is_plain_character, is_plain_or_feed, is_additive, is_additive_or_feed, IsPlain, IsPlainColumn, IsAdditive, IsAdditiveLine, IsAdditiveColumn}
 use Rattle.tabled_text.proofs.PlainLemmas.{is_additive-plain, is_simple-plain, line_columns-plain}
 use Rattle.tabled_text.proofs.Bridge.{each_in_lines, lines_of-chars, utf8_lines, lines_of-one, text_columns-one}
+use Rattle.tabled_text.proofs.LetterLemmas.{columns-printable}
 
 -- ---- characters
 
 pub scalar-listed : (c : ℕ) → is_listed_or_drawn c ≡ true → IsScalar c
 scalar-listed c h = grind (arith, nat_tests)
 
-printable-column : (c : ℕ) → is_in_range 0x20 0x7E c ≡ true → char_columns c ≡ 1
-unfolding char_width
-printable-column c h = grind (arith, nat_tests)
-
 -- printable ASCII is plain, and takes one column
 pub plain_column-printable : (c : ℕ) → is_in_range 0x20 0x7E c ≡ true → IsAdditiveColumn c
 plain_column-printable c h =
-    let one = printable-column c h in
+    let one = columns-printable c h in
     record {
       character = and_from (is_listed_or_drawn c) (has_plain_width c && is_simple c) (or_left (is_listed c) (is_drawn c) (or_left (is_in_range 0x20 0x7E c) _ h))
           (and_from (has_plain_width c) (is_simple c)

@@ -3,6 +3,7 @@ use Rattle.std.proofs.Common.{◌≡◌, ℕ, zero, suc, ◌+◌, ◌-◌, ◌<�
 use Rattle.std.specs.List.{list_all}
 use Rattle.std.proofs.lemmas.List.{drop-drop, get_or-drop, length-drop}
 use Rattle.std.proofs.lemmas.List.Folds.{list_all_at}
+use Rattle.std.proofs.lemmas.Bool.{and_parts}
 
 all-of : (test : ℕ → Bool) (xs : List ℕ) → ((k : ℕ) → k < length xs → test (get_or xs k 0) ≡ true) → list_all test xs ≡ true
 all-of test [] h = refl
@@ -22,14 +23,10 @@ run-some test xs from end o l stop =
     list_all_at test (drop from xs) (end - from) 0 (omega (arith, length-drop from xs))
     (ap test (get_or-drop from xs (end - from) 0 ∙ ap (λ i. get_or xs i 0) place) ∙ stop)
 
-and-right : (a b : Bool) → (a && b) ≡ true → b ≡ true
-and-right true b h = h
-and-right false b h = cc
-
 all-drop : (test : ℕ → Bool) (n : ℕ) (xs : List ℕ) → list_all test xs ≡ true → list_all test (drop n xs) ≡ true
 all-drop test zero xs h = h
 all-drop test (suc n) [] h = refl
-all-drop test (suc n) (x ∷ xs) h = all-drop test n xs (and-right (test x) (list_all test xs) h)
+all-drop test (suc n) (x ∷ xs) h = all-drop test n xs (and_parts (test x) (list_all test xs) h).1
 
 -- what stands behind a later place passes too
 pub all-later : (test : ℕ → Bool) (xs : List ℕ) (earlier start : ℕ) → earlier ≤ start → list_all test (drop earlier xs) ≡ true

@@ -1,18 +1,18 @@
 -- A step of the whole and of its beginning from the same state, and what a step does that only the whole joins.
 use Rattle.std.proofs.Common.{◌≡◌, ℕ, ◌+◌, ◌<◌, ◌≤◌, ⊎_elim, Bool, true, false, cond, not, nat_le, ◌==◌, ◌&&◌, Option, Some, None, refl, ap, ◌∙◌, arith, eqb-true}
-use Rattle.std.proofs.lemmas.Bool.{and_parts, cases_Bool}
+use Rattle.std.proofs.lemmas.Bool.{and_parts, cases_Bool, not-true, not-false}
 use Rattle.ucd_emoji.specs.Binary.{is_emoji_variation_base}
 use Rattle.unicode_width.specs.declared.state.After.{After}
-use Rattle.unicode_width.specs.declared.state.After.TheVariants.{Nothing, LineFeed, EmojiModifier, RegionalIndicator, RegionalIndicators, Emoji, ZwjEmoji, KeycapZwjEmoji, IndicatorZwj, EvenIndicatorsZwj, OddIndicatorsZwj, TagEnd, TagDigit1, TagDigit2, TagDigit3, TagLetter1, TagLetter2, TagLetter3, TagLetter4, TagLetter5, TagLetter6, KiratE, KiratAi, Alef, Solidus, SolidusAlef, Lamed, ZwjLamed, Ya, ZwjYa, VowelZwjYa, Tifinagh, ZwjTifinagh, JoinerTifinagh, LisuTone, OrkhonI, ZwjOrkhonI, KhmerLetter}
+use Rattle.unicode_width.specs.declared.state.After.TheVariants.{LineFeed, RegionalIndicator, RegionalIndicators, Emoji, KiratE, KiratAi, JoinerTifinagh}
 use Rattle.unicode_width.specs.declared.state.State.{State}
 use Rattle.unicode_width.specs.declared.state.Change.{Change}
 use Rattle.unicode_width.specs.declared.state.Change.TheVariants.{Less, Same, One, Three}
 use Rattle.unicode_width.specs.Kind.{is_ligature_transparent, is_text_presentation_base}
 use Rattle.unicode_width.specs.Width.{before, plain, alone, joins, added, joined_or, if_kept, is_joined_emoji, skips_marks, is_line_feed, is_quote, is_plain, past_selectors, in_context, past_emoji, step}
 use Rattle.tabled_text.specs.Measure.{char_count}
-use Rattle.tabled_text.proofs.CountBound.{slack, credit, Bounded-past_emoji, count-some, flag-true, not-false, with_joiner-same, IsLess-kept}
+use Rattle.tabled_text.proofs.CountBound.{slack, credit, Bounded-past_emoji, count-some, flag-true, with_joiner-same, IsLess-kept}
 use Rattle.tabled_text.proofs.Joining.{is_linked, is_open, takes_column, IsCalm, joins-calm, takes-linked, calm-slack, alone-open, alone-joiner, alone-vowel, alone-indicator}
-use Rattle.tabled_text.proofs.Beside.{same_state, plain_state, flags_state, vowels_state, lost, Follows, Goes, Goes-at, Goes-both, Goes-cond, Goes-land, Goes-own, IsOpen, alone-bound, cond-no_quote, flag-false, flag-most, joined-slack, kept-no_emoji, kept-no_quote, no-quote, not-true, open-before, open-kept_emoji, open-kept_quote}
+use Rattle.tabled_text.proofs.Beside.{same_state, plain_state, flags_state, vowels_state, lost, Follows, Goes, Goes-at, Goes-both, Goes-cond, Goes-land, Goes-own, IsOpen, alone-bound, cond-no_quote, flag-false, flag-most, joined-slack, kept-no_emoji, kept-no_quote, no-quote, open-before, open-kept_emoji, open-kept_quote}
 
 -- a character that takes a column by a join, read by itself
 pub record IsOwn (after : After) (own : ℕ × State) : Type 0 where
@@ -22,44 +22,10 @@ pub record IsOwn (after : After) (own : ℕ × State) : Type 0 where
   pub follows : Follows (before after) state
 
 pub takes-own : (after : After) (c : ℕ) → takes_column after c ≡ true → IsOwn after (alone false c)
-takes-own Nothing c h = absurd cc
-takes-own LineFeed c h = absurd cc
-takes-own EmojiModifier c h = absurd cc
-takes-own RegionalIndicator c h = absurd cc
 takes-own RegionalIndicators c h = record { state = before RegionalIndicator; reads = alone-indicator c h; keeps = refl; follows = flags_state refl refl }
-takes-own Emoji c h = absurd cc
-takes-own ZwjEmoji c h = absurd cc
-takes-own KeycapZwjEmoji c h = absurd cc
-takes-own IndicatorZwj c h = absurd cc
-takes-own EvenIndicatorsZwj c h = absurd cc
-takes-own OddIndicatorsZwj c h = absurd cc
-takes-own TagEnd c h = absurd cc
-takes-own TagDigit1 c h = absurd cc
-takes-own TagDigit2 c h = absurd cc
-takes-own TagDigit3 c h = absurd cc
-takes-own TagLetter1 c h = absurd cc
-takes-own TagLetter2 c h = absurd cc
-takes-own TagLetter3 c h = absurd cc
-takes-own TagLetter4 c h = absurd cc
-takes-own TagLetter5 c h = absurd cc
-takes-own TagLetter6 c h = absurd cc
 takes-own KiratE c h = record { state = before KiratAi; reads = ap (alone false) (eqb-true c 0x16D68 h) ∙ alone-vowel; keeps = refl; follows = vowels_state refl refl }
-takes-own KiratAi c h = absurd cc
-takes-own Alef c h = absurd cc
-takes-own Solidus c h = absurd cc
-takes-own SolidusAlef c h = absurd cc
-takes-own Lamed c h = absurd cc
-takes-own ZwjLamed c h = absurd cc
-takes-own Ya c h = absurd cc
-takes-own ZwjYa c h = absurd cc
-takes-own VowelZwjYa c h = absurd cc
-takes-own Tifinagh c h = absurd cc
-takes-own ZwjTifinagh c h = absurd cc
 takes-own JoinerTifinagh c h = record { state = plain; reads = ap (alone false) (eqb-true c 0x2D7F h) ∙ alone-joiner; keeps = refl; follows = plain_state refl }
-takes-own LisuTone c h = absurd cc
-takes-own OrkhonI c h = absurd cc
-takes-own ZwjOrkhonI c h = absurd cc
-takes-own KhmerLetter c h = absurd cc
+takes-own _ c h = absurd cc
 
 pub added-at : (own : ℕ) (a b : ℕ × State) → a ≡ b → added own a ≡ added own b
 added-at own a b e = ap (added own) e

@@ -4,7 +4,7 @@ use Rattle.std.proofs.Common.{sym, ap, ◌∙◌, arith, replicate, zero, suc, a
 use Rattle.std.proofs.Common.{⊎_elim, inl, inr, append_assoc}
 use Rattle.std.specs.Prelude.{◌↔◌}
 use Rattle.std.specs.List.{list_all}
-use Rattle.std.proofs.lemmas.Bool.{and_parts, and_from, or_cases, cases_Bool}
+use Rattle.std.proofs.lemmas.Bool.{and_parts, and_from, or_cases, cases_Bool, not-true}
 use Rattle.unicode_width.specs.Width.{plain, Reading, step, read_before, str_width}
 use Rattle.unicode_width.proofs.Rules.{is_simple, str_width-append_simple}
 use Rattle.tabled_text.specs.Measure.{char_columns, columns_of}
@@ -51,10 +51,6 @@ columns-append front back h =
 no_selector-flag : (back : List ℕ) → begins_with_selector back ≡ false → (read_before false back (0, plain)).1.emoji ≡ false
 no_selector-flag [] h = refl
 no_selector-flag (c ∷ cs) h = let r = read_before false cs (0, plain) in step-flag c r.0 r.1 h
-
-not-true : (b : Bool) → not b ≡ true → b ≡ false
-not-true true h = cc
-not-true false h = refl
 
 and-first : (a b : Bool) → (a && b) ≡ false → a ≡ true → b ≡ false
 and-first true b h e = h

@@ -14,7 +14,7 @@ use Rattle.unicode_width.specs.declared.state.After.TheVariants as states
 use Rattle.unicode_width.specs.declared.state.State.{State}
 use Rattle.unicode_width.specs.declared.state.Change.{Change}
 use Rattle.unicode_width.specs.Kind.{kind, is_ligature_transparent, is_text_presentation_base}
-use Rattle.unicode_width.specs.Width.{before, plain, of_kind, alone, char_width, before_alef, joins}
+use Rattle.unicode_width.specs.Width.{before, plain, of_kind, alone, before_alef, joins}
 use Rattle.unicode_width.specs.Width.{Reading, added, joined_or, is_emoji, is_tifinagh}
 use Rattle.unicode_width.specs.Width.{is_indicator, is_tag_letter, is_tag_digit, skips_marks}
 use Rattle.unicode_width.specs.Width.{is_quote, is_plain, is_kept, is_line_feed, is_joined_emoji}
@@ -24,6 +24,9 @@ use Rattle.tabled_text.specs.Measure.{char_columns}
 use Rattle.tabled_text.specs.Plain.{is_listed_or_drawn, has_plain_width, is_additive}
 use Rattle.tabled_text.specs.Separators.{is_keycap_base}
 use Rattle.tabled_text.proofs.Missed.{IsUnmarked, unmarked-listed}
+use Rattle.tabled_text.proofs.LetterLemmas.{columns-printable}
+use Rattle.tabled_text.proofs.CountBound.{columns-high}
+use Rattle.tabled_text.proofs.Beside.{cond-emoji}
 
 -- ---- numbers that no sequence names
 
@@ -53,14 +56,7 @@ not_emoji kinds.Zero h = refl
 not_emoji kinds.Narrow h = refl
 not_emoji kinds.Wide h = refl
 not_emoji kinds.Ambiguous h = refl
-not_emoji kinds.Alef h = cc
-not_emoji kinds.KhmerLetter h = cc
-not_emoji kinds.TifinaghConsonant h = cc
-not_emoji kinds.LisuTone h = cc
-not_emoji kinds.RegionalIndicator h = cc
-not_emoji kinds.EmojiModifier h = cc
-not_emoji kinds.Emoji h = cc
-not_emoji kinds.Single h = cc
+not_emoji _ h = cc
 
 not_tifinagh : (c : ℕ) → is_clear c ≡ true → is_tifinagh c ≡ false
 not_tifinagh c h = grind (arith, nat_tests)
@@ -91,15 +87,12 @@ nothing_joined = None
 
 joins-calm : (after : After) (c : ℕ) → IsCalm c → joins false after c ≡ nothing_joined
 unfolding joins before_alef
-joins-calm states.Nothing c h = refl
-joins-calm states.LineFeed c h = refl
 joins-calm states.EmojiModifier c h = rw (h.unmarked.base, not_named c 0x200D h.clear refl) refl
 joins-calm states.RegionalIndicator c h = rw (not_indicator c h.clear) refl
 joins-calm states.RegionalIndicators c h = rw (not_indicator c h.clear, not_named c 0x200D h.clear refl) refl
 joins-calm states.Emoji c h = rw (not_named c 0x200D h.clear refl) refl
 joins-calm states.ZwjEmoji c h = rw
     (not_named c 0x20E3 h.clear refl, not_indicator c h.clear, not_modifier c h.clear, not_named c 0xE007F h.clear refl, not_emoji (kind c) h.simple) refl
-joins-calm states.KeycapZwjEmoji c h = refl
 joins-calm states.IndicatorZwj c h = rw (not_indicator c h.clear) refl
 joins-calm states.EvenIndicatorsZwj c h = rw (not_indicator c h.clear, not_named c 0x200D h.clear refl) refl
 joins-calm states.OddIndicatorsZwj c h = rw (not_indicator c h.clear, not_named c 0x200D h.clear refl) refl
@@ -117,20 +110,16 @@ joins-calm states.KiratE c h = rw
     (not_named c 0x16D63 h.clear refl, not_named c 0x16D67 h.clear refl, not_named c 0x16D68 h.clear refl, not_named c 0x16D69 h.clear refl) refl
 joins-calm states.KiratAi c h = rw (not_named c 0x16D63 h.clear refl) refl
 joins-calm states.Alef c h = rw (h.unmarked.lam, h.width) refl
-joins-calm states.Solidus c h = refl
-joins-calm states.SolidusAlef c h = refl
-joins-calm states.Lamed c h = refl
 joins-calm states.ZwjLamed c h = rw (not_named c 0x05D0 h.clear refl) refl
-joins-calm states.Ya c h = refl
 joins-calm states.ZwjYa c h = rw (not_named c 0x1A17 h.clear refl) refl
 joins-calm states.VowelZwjYa c h = rw (not_named c 0x1A15 h.clear refl) refl
 joins-calm states.Tifinagh c h = rw (not_named c 0x2D7F h.clear refl) refl
 joins-calm states.ZwjTifinagh c h = rw (not_named c 0x2D7F h.clear refl, not_tifinagh c h.clear) refl
 joins-calm states.JoinerTifinagh c h = rw (not_tifinagh c h.clear) refl
 joins-calm states.LisuTone c h = rw (not_tone c h.clear) refl
-joins-calm states.OrkhonI c h = refl
 joins-calm states.ZwjOrkhonI c h = rw (not_named c 0x10C32 h.clear refl) refl
 joins-calm states.KhmerLetter c h = rw (not_named c 0x17D2 h.clear refl) refl
+joins-calm _ c h = refl
 
 -- ---- one step
 
@@ -139,14 +128,7 @@ alone-simple c kinds.Zero h = refl
 alone-simple c kinds.Narrow h = refl
 alone-simple c kinds.Wide h = refl
 alone-simple c kinds.Ambiguous h = refl
-alone-simple c kinds.Alef h = cc
-alone-simple c kinds.KhmerLetter h = cc
-alone-simple c kinds.TifinaghConsonant h = cc
-alone-simple c kinds.LisuTone h = cc
-alone-simple c kinds.RegionalIndicator h = cc
-alone-simple c kinds.EmojiModifier h = cc
-alone-simple c kinds.Emoji h = cc
-alone-simple c kinds.Single h = cc
+alone-simple c _ h = cc
 
 -- the reading that a character leaves which adds its own width
 abbrev apart : ℕ → ℕ → Reading
@@ -190,14 +172,6 @@ step-steady : (c total : ℕ) (s : State) (r : Reading) → is_emoji_variation_b
     → step false c (total, s) ≡ r
 unfolding step
 step-steady c total s r v p = rw v (cond-same (not s.emoji) _ _ _ (p s) (p (record (if_kept s) { emoji = false })))
-
-columns-high : (c : ℕ) → nat_le c 0xA0 ≡ false → char_columns c ≡ (alone false c).0
-unfolding char_width
-columns-high c h = grind (arith, nat_tests)
-
-columns-printable : (c : ℕ) → is_in_range 0x20 0x7E c ≡ true → char_columns c ≡ 1
-unfolding char_width
-columns-printable c h = grind (arith, nat_tests)
 
 past_emoji-printable : (c total : ℕ) (s : State) → is_in_range 0x20 0x7E c ≡ true → past_emoji false c total s ≡ (total + 1, plain)
 unfolding past_emoji
@@ -261,18 +235,8 @@ single-flag : (c : ℕ) → (c == 0xFE0F) ≡ false → (single false c).1.emoji
 single-flag c h = grind arith
 
 of_kind-flag : (c : ℕ) (k : Kind) → (c == 0xFE0F) ≡ false → (of_kind false c k).1.emoji ≡ false
-of_kind-flag c kinds.Zero h = refl
-of_kind-flag c kinds.Narrow h = refl
-of_kind-flag c kinds.Wide h = refl
-of_kind-flag c kinds.Ambiguous h = refl
-of_kind-flag c kinds.Alef h = refl
-of_kind-flag c kinds.KhmerLetter h = refl
-of_kind-flag c kinds.TifinaghConsonant h = refl
-of_kind-flag c kinds.LisuTone h = refl
-of_kind-flag c kinds.RegionalIndicator h = refl
-of_kind-flag c kinds.EmojiModifier h = refl
-of_kind-flag c kinds.Emoji h = refl
 of_kind-flag c kinds.Single h = single-flag c h
+of_kind-flag c _ h = refl
 
 record IsUnflagged (r : Reading) : Type 0 where
   unflagged : r.1.emoji ≡ false
@@ -289,10 +253,6 @@ unflagged-joined : (total : ℕ) (j : Option (Change × After)) (own : ℕ × St
 unflagged-joined total None own h = h
 unflagged-joined total (Some j) own h = record { unflagged = refl }
 
-unflagged-kept : (b : Bool) (s : State) → s.emoji ≡ false → (cond b s plain).emoji ≡ false
-unflagged-kept true s h = h
-unflagged-kept false s h = refl
-
 unflagged-past_selectors : (c total : ℕ) (after : After) → (c == 0xFE0F) ≡ false → IsUnflagged (past_selectors false c total after)
 unfolding past_selectors
 unflagged-past_selectors c total after h =
@@ -304,8 +264,8 @@ unflagged-in_context : (c total : ℕ) (s : State) → (c == 0xFE0F) ≡ false �
 unfolding in_context
 unflagged-in_context c total s h e =
     rw h
-    (IsUnflagged-cond (c == 0xFE01) _ _ (record { unflagged = unflagged-kept (is_kept s.after) s e })
-    (IsUnflagged-cond (c == 0xFE0E) _ _ (record { unflagged = unflagged-kept (is_kept s.after) s e })
+    (IsUnflagged-cond (c == 0xFE01) _ _ (record { unflagged = cond-emoji (is_kept s.after) s e })
+    (IsUnflagged-cond (c == 0xFE0E) _ _ (record { unflagged = cond-emoji (is_kept s.after) s e })
     (IsUnflagged-cond (s.text && is_text_presentation_base c) _ _ (record { unflagged = refl })
     (IsUnflagged-cond (s.quote && is_quote c) _ _ (record { unflagged = refl }) (unflagged-past_selectors c total s.after h)))))
 

@@ -16,8 +16,8 @@ use Rattle.tabled_text.specs.Cut.{IsCut}
 use Rattle.tabled_text.specs.Plain.{is_listed_or_drawn, has_plain_width, is_additive, IsAdditive, IsAdditiveColumn}
 use Rattle.tabled_text.specs.Room.{stays, StaysWithin}
 use Rattle.tabled_text.specs.Wrapping.{IsWrapped}
-use Rattle.tabled_text.proofs.Bridge.{text_columns-chars, lines_of-chars}
-use Rattle.tabled_text.proofs.CutRoom.{copies, stays-cut, stays-cut_before, stays-whole, stays-text, last_used, last_used-le, lines_some}
+use Rattle.tabled_text.proofs.Bridge.{text_columns-chars, lines_of-chars, some_line}
+use Rattle.tabled_text.proofs.CutRoom.{copies, stays-cut, stays-cut_before, stays-whole, stays-text, last_used, last_used-le}
 use Rattle.tabled_text.proofs.PlainLines.{scalar-listed}
 use Rattle.tabled_text.proofs.PlainLemmas.{columns_of-plain}
 use Rattle.tabled_text.proofs.WordLemmas.{chars-mark, IsUtf8-mark}
@@ -47,7 +47,7 @@ StaysWithin-from {n} {text} p h =
     record {
       utf8 = p.utf8;
       stays = subst (λ t. stays n 0 t ≡ true) (append-nil cs)
-          (stays-text n 0 cs [] lines (stays-nothing n (last_used 0 (lines_of cs)) (last_used-le n 0 (lines_of cs) (lines_some cs) lines)));
+          (stays-text n 0 cs [] lines (stays-nothing n (last_used 0 (lines_of cs)) (last_used-le n 0 (lines_of cs) (some_line cs) lines)));
     }
 
 -- ---- what is cut and wrapped

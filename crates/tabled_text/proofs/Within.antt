@@ -1,12 +1,11 @@
 -- Lists of lines that take at most n columns each.
-use Rattle.std.proofs.Common.{◌≡◌, ℕ, ◌+◌, ◌<◌, ◌≤◌, Bool, true, false, cond, not, ◌==◌, ◌&&◌}
+use Rattle.std.proofs.Common.{◌≡◌, ℕ, ◌+◌, ◌<◌, ◌≤◌, Bool, true, false, cond, ◌==◌, ◌&&◌}
 use Rattle.std.proofs.Common.{nat_le, List, [], ◌∷◌, ◌++◌, length, map, refl, sym, ap, ◌∙◌, arith}
 use Rattle.std.proofs.Common.{subst, ⊎_elim, sum_by, replicate, chars}
 use Rattle.std.specs.Prelude.{⊤}
 use Rattle.std.specs.List.{list_all, onto_first}
 use Rattle.std.specs.Str.{IsUtf8}
-use Rattle.std.proofs.lemmas.Bool.{and_parts, and_from, cases_Bool, leb-true}
-use Rattle.std.proofs.lemmas.List.Sums.{sum_by-cons}
+use Rattle.std.proofs.lemmas.Bool.{and_parts, cases_Bool, leb-true, not-true}
 use Rattle.std.proofs.lemmas.List.Splits.{slice_split-cons_no}
 use Rattle.unicode_width.specs.Width.{str_width}
 use Rattle.unicode_width.proofs.Rules.{str_width-append_simple}
@@ -16,8 +15,9 @@ use Rattle.tabled_text.proofs.PlainLemmas.{is_simple-plain, line_columns-plain}
 use Rattle.tabled_text.specs.Cut.{last_of}
 use Rattle.tabled_text.specs.Plain.{is_additive}
 use Rattle.tabled_text.specs.Room.{stays}
-use Rattle.tabled_text.proofs.WrapRoom.{Lines, replacements}
+use Rattle.tabled_text.proofs.WrapRoom.{Lines, replacements, Lines-onto}
 use Rattle.tabled_text.specs.FramedLines.{is_no_feed}
+use Rattle.tabled_text.proofs.JoinLemmas.{onto_first-append}
 
 abbrev pub Within : ℕ → List (List ℕ) → Type 0
 Within n [] = ⊤
@@ -40,11 +40,7 @@ unfolding str_width
 Within-nothing n = (omega arith, tt)
 
 no_feed-is : (c : ℕ) → is_no_feed c ≡ true → (c == 10) ≡ false
-no_feed-is c h = not-is (c == 10) h
-  where
-    not-is : (b : Bool) → not b ≡ true → b ≡ false
-    not-is true h = cc
-    not-is false h = refl
+no_feed-is c h = not-true (c == 10) h
 
 -- a text without line feeds is one line
 pub lines_of-feedless : (cs : List ℕ) → list_all is_no_feed cs ≡ true → lines_of cs ≡ cs ∷ []
@@ -92,10 +88,6 @@ splice-feed : (ls ts : List (List ℕ)) → 0 < length ls → [] ∷ splice ls t
 splice-feed ls [] h = refl
 splice-feed ls (t ∷ ts) h = ap (λ l. l ++ ts) (add_last-feed ls t h)
 
-onto-append : (c : ℕ) (ls ts : List (List ℕ)) → 0 < length ls → onto_first c (ls ++ ts) ≡ onto_first c ls ++ ts
-onto-append c [] ts h = absurd (omega arith)
-onto-append c (l ∷ ls) ts h = refl
-
 add_last-some : (ls : List (List ℕ)) (xs : List ℕ) → 0 < length (add_last ls xs)
 add_last-some [] xs = omega arith
 add_last-some (l ∷ []) xs = omega arith
@@ -103,7 +95,7 @@ add_last-some (l ∷ m ∷ ls) xs = omega arith
 
 splice-onto : (c : ℕ) (ls ts : List (List ℕ)) → onto_first c (splice ls ts) ≡ splice (onto_first c ls) ts
 splice-onto c ls [] = refl
-splice-onto c ls (t ∷ ts) = onto-append c (add_last ls t) ts (add_last-some ls t) ∙ ap (λ l. l ++ ts) (add_last-onto c ls t)
+splice-onto c ls (t ∷ ts) = onto_first-append c (add_last ls t) ts (add_last-some ls t) ∙ ap (λ l. l ++ ts) (add_last-onto c ls t)
 
 lines_of-splice : (cs tail : List ℕ) → lines_of (cs ++ tail) ≡ splice (lines_of cs) (lines_of tail)
 lines_of-splice [] tail = splice-nothing (lines_of tail) (some_line tail)
@@ -143,12 +135,6 @@ Within-spliced : (n w : ℕ) → n ≤ w → (ls ts : List (List ℕ)) → 0 < l
 Within-spliced n w le ls [] some h t = Within-more n w ls le h
 Within-spliced n w le ls (t ∷ ts) some h lines =
     Within-append w (add_last ls t) ts (Within-added n w le ls t some h lines.0 lines.1) (Within-plain w ts lines.2)
-
-Lines-onto : (n used c : ℕ) (ls : List (List ℕ)) → is_additive c ≡ true → Lines n (used + char_columns c) ls → used + char_columns c ≤ n
-    → Lines n used (onto_first c ls)
-Lines-onto n used c [] h l le = (and_from (is_additive c) true h refl, omega (arith, sum_by-cons char_columns c []), tt)
-Lines-onto n used c (x ∷ ls) h l le =
-    (and_from (is_additive c) (list_all is_additive x) h l.0, (let a = l.1 in omega (arith, sum_by-cons char_columns c x)), l.2)
 
 -- the lines of a text that stays, and the columns used before it
 Lines-stays : (n used : ℕ) (cs : List ℕ) → stays n used cs ≡ true → (used ≤ n) × Lines n used (lines_of cs)

@@ -21,6 +21,7 @@ use Rattle.tabled_text.specs.Separators.{is_separator}
 use Rattle.tabled_text.proofs.CountBound.{columns-count}
 use Rattle.tabled_text.proofs.SeparatorLaws.{columns-between}
 use Rattle.tabled_text.proofs.Within.{Within, Within-append, Within-nothing, text_columns-within, lines_of-feedless, columns-filled}
+use Rattle.tabled_text.proofs.FewestLines.{every}
 
 -- ---- units as they stand in a line
 
@@ -218,10 +219,6 @@ Within-lines n words pos (l ∷ m ∷ ls) (g ∷ h ∷ gs) p f =
     (Within-append n (lines_of (text_of_groups n g)) (lines_of (text_of_lines n (h ∷ gs)))
     (Within-line n pos words l g p.0 f.0) (Within-lines n words pos (m ∷ ls) (h ∷ gs) p.1 f.1))
 
-all_characters : (cs : List ℕ) → list_all (λ c. true) cs ≡ true
-all_characters [] = refl
-all_characters (c ∷ cs) = all_characters cs
-
 is_no_feed-from : (c : ℕ) → (c == 10) ≡ false → is_no_feed c ≡ true
 is_no_feed-from c h = grind (arith, h)
 
@@ -234,7 +231,7 @@ wrap_bound n words text answer w = ⊎_elim
     let full : IsFullestText n words (chars text) (chars answer) = subst
     (λ b. MatchBool b (answer ≡ []) (IsFullestText n words (chars text) (chars answer))) no w.wrapped in
     let pos : 0 < n = grind (arith, nat_tests) in
-    let each = Each-lines is_no_feed (λ c. true) (λ c a b. is_no_feed-from c b) (chars text) (all_characters (chars text)) in
+    let each = Each-lines is_no_feed (λ c. true) (λ c a b. is_no_feed-from c b) (chars text) (every (chars text)) in
     text_columns-within n answer w.utf8
     (subst (λ t. Within n (lines_of t)) (sym full.answered) (Within-lines n words pos (lines_of (chars text)) full.broken each full.fullest)))
     (cases_Bool (n == 0))

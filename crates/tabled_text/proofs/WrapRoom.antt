@@ -73,7 +73,7 @@ abbrev pub Lines : ℕ → ℕ → List (List ℕ) → Type 0
 Lines n used [] = ⊤
 Lines n used (l ∷ ls) = (list_all is_additive l ≡ true) × (used + sum_by char_columns l ≤ n) × Lines n 0 ls
 
-Lines-onto : (n used c : ℕ) (ls : List (List ℕ)) → is_additive c ≡ true → Lines n (used + char_columns c) ls
+pub Lines-onto : (n used c : ℕ) (ls : List (List ℕ)) → is_additive c ≡ true → Lines n (used + char_columns c) ls
     → used + char_columns c ≤ n → Lines n used (onto_first c ls)
 Lines-onto n used c [] h l le = (and_from (is_additive c) true h refl, omega (arith, sum_by-cons char_columns c []), tt)
 Lines-onto n used c (x ∷ ls) h l le = (

@@ -1,7 +1,7 @@
 -- The lines that an iterator over lines has yet to yield.
 use Rattle.std.specs.Prelude.{ℕ, List, [], Option, Some, None}
 use Rattle.std.specs.Borrow.{Bor}
-use Rattle.tabled_text.specs.declared.line.TextLines.{TextLines}
+use Rattle.tabled_text.specs.declared.measure.TextLines.{TextLines}
 use Rattle.tabled_text.specs.Measure.{lines_of}
 
 -- the lines of a text, or none if there is no text

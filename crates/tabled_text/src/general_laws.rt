@@ -1,5 +1,5 @@
 //! Laws of texts of any characters, each the contract of a function.
-ghost use Rattle.std.specs.Prelude.{◌≡◌, ◌↔◌, ◌⊎◌, ◌<◌, ◌≤◌, ℕ, Bool, true, false, List, [], ◌∷◌, ◌++◌, ◌+◌, All, chars, encode_utf8, encode_utf8_all, length, replicate, sum_by, take};
+ghost use Rattle.std.specs.Prelude.{◌≡◌, ◌↔◌, ◌⊎◌, ◌<◌, ◌≤◌, ℕ, Bool, true, List, [], ◌∷◌, ◌++◌, ◌+◌, All, chars, encode_utf8, encode_utf8_all, length, replicate, sum_by, take};
 ghost use Rattle.std.specs.List.{flat_map, join_with_byte, slice_index_or};
 ghost use Rattle.std.specs.Str.{IsUtf8};
 ghost use Rattle.tabled_text.specs.Cut.{IsCut};

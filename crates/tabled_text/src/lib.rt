@@ -7,21 +7,17 @@
 //! Around separators, the columns of any texts add up.
 //!
 //! Measuring:
-//! - `measure`: the columns and lines of a text.
-//! - `character`: the characters of a text, and what each counts in cutting and wrapping.
-//! - `letters`: letters that are measured by their first byte, without a table.
-//! - `line`: an iterator over the lines of a text.
+//! - `measure`: the columns and lines of a text, and an iterator over its lines.
 //! - `runs`: runs of bytes within a range.
 //!
 //! Making texts:
 //! - `cut`: cuts a text to n columns.
 //! - `wrap`: wraps a text to n columns.
-//! - `fullest`: whether a text is another one wrapped.
+//! - `fewest_lines`: whether a text is another one wrapped, in the fewest lines.
 //! - `sink`: where wrapping writes to, and copies of a character.
 //!
-//! Tests of characters:
-//! - `plain`: plain and additive characters.
-//! - `separator`: separators of one column.
+//! Characters:
+//! - `character`: what a character counts; plain, additive and separating characters.
 //!
 //! Laws, each the contract of a function:
 //! - `laws`: additive texts, and cut and wrapped ones.
@@ -30,24 +26,22 @@
 
 mod character;
 mod cut;
-mod fullest;
+mod fewest_lines;
 pub mod general_laws;
 pub mod laws;
-mod letters;
-mod line;
 mod measure;
-mod plain;
 mod runs;
-mod separator;
 mod sink;
 mod wrap;
 
+pub use character::{
+    is_additive, is_additive_column, is_plain, is_plain_column, is_separator_column,
+};
 pub use cut::{cut_length, cut_str, split_str};
-pub use fullest::is_fullest;
-pub use line::{TextLines, lines, split_line};
-pub use measure::{count_lines, line_width, tail_measures, text_measures, text_width};
-pub use plain::{is_additive, is_additive_column, is_plain, is_plain_column};
+pub use fewest_lines::is_fullest;
+pub use measure::{
+    TextLines, count_lines, line_width, lines, split_line, tail_measures, text_measures, text_width,
+};
 pub use runs::run_end;
-pub use separator::is_separator_column;
 pub use sink::{copies, push_copies};
 pub use wrap::wrap_text;

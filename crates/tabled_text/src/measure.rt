@@ -1,12 +1,14 @@
-//! Measures the columns and lines of texts.
-ghost use Rattle.std.specs.Prelude.{◌≡◌, ◌*◌, ◌≤◌, drop, length};
+//! The columns and lines of a text, and an iterator over its lines.
+ghost use Rattle.std.specs.Prelude.{◌≡◌, ◌*◌, ◌≤◌, drop, length, ℕ, IfSome, ◌∷◌};
 ghost use Rattle.std.specs.Int.{is_in_range};
 ghost use Rattle.std.specs.List.{list_all};
 ghost use Rattle.std.specs.Str.{IsCharBoundary};
 ghost use Rattle.tabled_text.specs.Measure.{lines_of, line_columns, text_columns};
+ghost use Rattle.tabled_text.specs.Letters.{IsLetter, is_narrow_lead, is_wide_lead, lead_byte};
+ghost use Rattle.std.specs.Iterator.{YieldsFirstBy, item_count};
+ghost use Rattle.tabled_text.specs.Lines.{lines_in, lines_left};
 
-use crate::letters::letters_width;
-use crate::line::lines;
+use crate::character::split_first;
 use crate::runs::{BLOCK, is_run};
 use unicode_width::UnicodeWidthStr;
 
@@ -100,5 +102,89 @@ pub fn tail_measures(text: &str, start: usize) -> (usize, usize)
         (text.len() - start, 1)
     } else {
         measures_of_any(&text[start..])
+    }
+}
+
+/// Whether a byte is printable ASCII, or begins a character from U+00C0 to U+02FF or from U+0380 to
+/// U+047F.
+#[inline(always)]
+fn is_narrow_lead(lead: u8) -> bool
+    ensures { result ≡ is_narrow_lead lead }
+{
+    matches!(lead, b' '..=b'~' | 0xC3..=0xCB | 0xCE..=0xD1)
+}
+
+/// Whether a byte begins a character from U+4000 to U+9FFF.
+#[inline(always)]
+fn is_wide_lead(lead: u8) -> bool
+    ensures { result ≡ is_wide_lead lead }
+{
+    matches!(lead, 0xE4..=0xE9)
+}
+
+/// Returns the columns of a character by its first byte: 1 for printable ASCII and the ranges of
+/// Latin, Greek and Cyrillic letters, 2 for that of ideographs, else `None`.
+#[inline(always)]
+fn lead_width(lead: u8) -> Option<usize>
+    ensures { (c : ℕ) → lead ≡ lead_byte c → IfSome result (IsLetter c) }
+{
+    if is_narrow_lead(lead) {
+        Some(1)
+    } else if is_wide_lead(lead) {
+        Some(2)
+    } else {
+        None
+    }
+}
+
+/// Returns the columns of a line, or `None` if the first byte of a character isn't enough.
+pub(crate) fn letters_width(line: &str) -> Option<usize>
+    ensures value { IfSome result (λ columns. columns ≡ line_columns line.now) }
+    ensures bound { IfSome result (λ columns. columns ≤ 2 * length line.now) }
+{
+    let mut rest = line;
+    let mut columns = 0;
+    'letters: while let Some((_, after)) = split_first(rest) {
+        columns += lead_width(rest.as_bytes()[0])?;
+        rest = after;
+    }
+    Some(columns)
+}
+
+/// An iterator over the lines of a text. `lines` returns it.
+#[derive(Debug, Drop)]
+pub struct TextLines<'a> {
+    rest: Option<&'a str>,
+}
+
+/// Returns an iterator over the lines of a text, without their line feeds. The empty text has one
+/// empty line.
+pub fn lines(text: &str) -> TextLines<'_>
+    ensures { lines_left result ≡ lines_of text.now }
+{
+    TextLines { rest: Some(text) }
+}
+
+/// Returns the first line of a text, and the rest after its line feed, if it has one.
+pub fn split_line(text: &str) -> (&str, Option<&str>)
+    ensures { lines_of text.now ≡ result.0.now ∷ lines_in result.1 }
+{
+    match text.split_once('\n') {
+        Some((line, after)) => (line, Some(after)),
+        None => (text, None),
+    }
+}
+
+impl<'a> Iterator for TextLines<'a> {
+    type Item = &'a str;
+
+    ghost next_gives = { YieldsFirstBy (λ line. line.now) lines_left };
+
+    ghost remaining = { item_count lines_left };
+
+    fn next(&mut self) -> Option<&'a str> {
+        let (line, rest) = split_line(self.rest?);
+        self.rest = rest;
+        Some(line)
     }
 }

@@ -1,15 +1,13 @@
 //! Wraps texts to n columns. One walk writes unit after unit to a `Sink`.
-ghost use Rattle.std.specs.Prelude.{◌≡◌, ◌++◌, ◌<◌, ◌≤◌, ◌+◌, ◌∷◌, chars, encode_utf8_all, length, map, IfOk, OnOk, IfSome, IsUtf8, string_bytes, List, ℕ, OnErr, [], encode_utf8, replicate, false};
-ghost use Rattle.std.proofs.Common.{sym, ap, ◌∙◌, append-nil, append_assoc};
+ghost use Rattle.std.specs.Prelude.{◌≡◌, ◌<◌, ◌≤◌, ◌+◌, ◌∷◌, chars, encode_utf8_all, length, map, IfOk, OnOk, IfSome, IsUtf8, string_bytes, OnErr, false};
 ghost use Rattle.tabled_text.specs.Measure.{lines_of};
-ghost use Rattle.tabled_text.specs.Units.{TextUnit, unit_of_char, words_of, units, units_of_word, units_of_words};
+ghost use Rattle.tabled_text.specs.Units.{unit_of_char, words_of, units, units_of_word, units_of_words};
 ghost use Rattle.tabled_text.specs.Breaking.{EachUnitFits, HasFewestLines, IsLeastBreaking};
 ghost use Rattle.tabled_text.specs.Wrapping.{IsWrapped};
 ghost use Rattle.tabled_text.specs.Walk.{words_in, begin_at, begin_text, append_text, append_used, append_all, used_after, pending};
 
 use crate::character::{char_count, split_first};
-use crate::line::lines;
-use crate::measure::line_width;
+use crate::measure::{line_width, lines};
 use crate::sink::{Sink, append_copies};
 use std::alloc::{AllocError, Global};
 

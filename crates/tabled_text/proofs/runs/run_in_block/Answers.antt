@@ -1,7 +1,8 @@
 use Rattle.std.proofs.Common.{ℕ, Bool, not, sym, ◌∙◌, arith}
 use Rattle.std.specs.Int.{is_in_range}
 use Rattle.std.proofs.lemmas.Simd.{none_from_empty_mask, run_in_chunk_fails, run_in_chunk_le, run_in_chunk_stops}
-use Rattle.tabled_text.proofs.Blocks.{lowest-is-first, not-false, not-true}
+use Rattle.std.proofs.lemmas.Bool.{not-true, not-false}
+use Rattle.tabled_text.proofs.Blocks.{lowest-is-first}
 use Rattle.tabled_text.proofs.runs.run_in_block.Goals as goal
 
 pub returns-then-outside-eq0-clause-passed : goal.returns-then-outside-eq0-clause-passed

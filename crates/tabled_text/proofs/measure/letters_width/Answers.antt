@@ -6,7 +6,7 @@ use Rattle.std.proofs.lemmas.Str.{IsUtf8-past_char}
 use Rattle.unicode_width.proofs.Rules.{is_simple, str_width-simple}
 use Rattle.tabled_text.specs.Measure.{char_columns, line_columns}
 use Rattle.tabled_text.proofs.LetterLemmas.{lead-here}
-use Rattle.tabled_text.proofs.letters.letters_width.Goals as goal
+use Rattle.tabled_text.proofs.measure.letters_width.Goals as goal
 
 pub letters-init : goal.letters-init
 letters-init c = (

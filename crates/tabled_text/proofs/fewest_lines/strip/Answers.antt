@@ -2,7 +2,7 @@ use Rattle.std.proofs.Common.{◌≡◌, ◌++◌, ◌∙◌, ap, sym, Some, opt
 use Rattle.std.proofs.lemmas.Slice.Eq.{strip_prefix_is}
 use Rattle.std.proofs.lemmas.Bool.Decides.{Decides-eqb}
 use Rattle.tabled_text.proofs.CheckLemmas.{strip_is}
-use Rattle.tabled_text.proofs.fullest.strip.Goals as goal
+use Rattle.tabled_text.proofs.fewest_lines.strip.Goals as goal
 
 pub returns : goal.returns
 returns c = λ z.

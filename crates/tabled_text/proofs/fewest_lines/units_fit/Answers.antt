@@ -4,7 +4,7 @@ use Rattle.tabled_text.specs.Lines.{lines_left}
 use Rattle.tabled_text.specs.Walk.{fits_line}
 use Rattle.tabled_text.proofs.FitLemmas.{fits-wide}
 use Rattle.tabled_text.proofs.Bridge.{lines_of-chars}
-use Rattle.tabled_text.proofs.fullest.units_fit.Goals as goal
+use Rattle.tabled_text.proofs.fewest_lines.units_fit.Goals as goal
 
 pub loop-line-init : goal.loop-line-init
 loop-line-init c =

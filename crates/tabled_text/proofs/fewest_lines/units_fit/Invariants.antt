@@ -3,7 +3,7 @@ use Rattle.std.specs.List.{list_all}
 use Rattle.tabled_text.specs.Lines.{lines_left}
 use Rattle.tabled_text.specs.Measure.{lines_of}
 use Rattle.tabled_text.specs.Walk.{fits_line}
-use Rattle.tabled_text.proofs.fullest.units_fit.Given as goal
+use Rattle.tabled_text.proofs.fewest_lines.units_fit.Given as goal
 
 abbrev pub invariant-loop-line : goal.invariant-loop-line
 invariant-loop-line l =

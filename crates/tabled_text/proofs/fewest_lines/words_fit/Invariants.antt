@@ -4,7 +4,7 @@ use denote.Shadow.{shadow}
 use Rattle.std.specs.List.{list_all}
 use Rattle.tabled_text.specs.Units.{words_of}
 use Rattle.tabled_text.specs.Walk.{fits_word}
-use Rattle.tabled_text.proofs.fullest.words_fit.Given as goal
+use Rattle.tabled_text.proofs.fewest_lines.words_fit.Given as goal
 
 abbrev pub invariant-words : goal.invariant-words
 invariant-words l = (list_all (fits_word l.n) (words_of (chars l.rest)) ≡ list_all (fits_word l.n) (words_of (chars l.line))) × shadow (Utf8 l.rest)

@@ -6,8 +6,8 @@ use Rattle.tabled_text.specs.Wrapping.{IsRoomyWrapping}
 use Rattle.tabled_text.proofs.CheckLemmas.{expected-iff, roomy-iff, not_roomy}
 use Rattle.tabled_text.proofs.FewestLines.{fewest-wrapped}
 use Rattle.tabled_text.proofs.OwnBreaking.{least_breaking}
-use Rattle.tabled_text.proofs.fullest.is_fullest.Goals as goal
-use Rattle.tabled_text.proofs.fullest.is_fullest.Goals.{then-n-eq0-via-then-n-eq0, then-n-eq0-via-else-n-eq0+then-not-units_fit}
+use Rattle.tabled_text.proofs.fewest_lines.is_fullest.Goals as goal
+use Rattle.tabled_text.proofs.fewest_lines.is_fullest.Goals.{then-n-eq0-via-then-n-eq0, then-n-eq0-via-else-n-eq0+then-not-units_fit}
 
 pub returns-then-n-eq0-clause-fullest : goal.returns-then-n-eq0-clause-fullest
 returns-then-n-eq0-clause-fullest c =

@@ -4,7 +4,7 @@ use denote.Text.{Utf8}
 use denote.Shadow.{shadow}
 use Rattle.unicode_width.proofs.Rules.{is_simple}
 use Rattle.tabled_text.specs.Measure.{char_columns, line_columns}
-use Rattle.tabled_text.proofs.letters.letters_width.Given as goal
+use Rattle.tabled_text.proofs.measure.letters_width.Given as goal
 
 abbrev pub invariant-letters : goal.invariant-letters
 invariant-letters l =

@@ -3,7 +3,7 @@ use Rattle.std.specs.List.{after_first}
 use Rattle.std.proofs.lemmas.List.Sums.{fails_before_first}
 use Rattle.std.proofs.lemmas.List.Splits.{slice_split_first, slice_split_none}
 use Rattle.tabled_text.specs.Measure.{lines_of}
-use Rattle.tabled_text.proofs.line.split_line.Goals as goal
+use Rattle.tabled_text.proofs.measure.split_line.Goals as goal
 
 pub returns-in-Some : goal.returns-in-Some
 returns-in-Some c =

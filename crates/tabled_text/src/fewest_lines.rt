@@ -1,5 +1,5 @@
 //! Checks whether a text is another one wrapped: the wrapping walk compares instead of writing.
-ghost use Rattle.std.specs.Prelude.{◌≡◌, ◌++◌, ◌↔◌, ◌<◌, ℕ, List, [], Some, None, Option, chars, encode_utf8, IsTrue};
+ghost use Rattle.std.specs.Prelude.{◌≡◌, ◌++◌, ◌↔◌, ◌<◌, ℕ, List, [], Some, None, chars, encode_utf8, IsTrue};
 ghost use Rattle.std.specs.List.{list_all};
 ghost use Rattle.std.specs.Option.{option_copied};
 ghost use Rattle.tabled_text.specs.Breaking.{HasFewestLines, IsLeastBreaking};
@@ -11,8 +11,7 @@ ghost use Rattle.tabled_text.specs.Walk.{fits_word, fits_line};
 ghost use Rattle.tabled_text.specs.Wrapping.{IsRoomyWrapping};
 
 use crate::character::char_count;
-use crate::line::lines;
-use crate::measure::line_width;
+use crate::measure::{line_width, lines};
 use crate::sink::Sink;
 use crate::wrap::{append_lines, split_word};
 use std::convert::Infallible;

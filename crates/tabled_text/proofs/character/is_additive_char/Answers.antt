@@ -1,6 +1,6 @@
 use Rattle.std.proofs.Common.{sym, ◌∙◌}
 use Rattle.tabled_text.proofs.PlainLemmas.{is_additive-listed}
-use Rattle.tabled_text.proofs.plain.is_additive_char.Goals as goal
+use Rattle.tabled_text.proofs.character.is_additive_char.Goals as goal
 
 pub returns-then-is_listed_or_drawn : goal.returns-then-is_listed_or_drawn
 returns-then-is_listed_or_drawn c =
