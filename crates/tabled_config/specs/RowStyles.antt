@@ -8,6 +8,7 @@ use Rattle.tabled_config.specs.declared.spanned.CellStyle.{CellStyle}
 use Rattle.tabled_config.specs.declared.spanned.row_styles.RowStyles.{RowStyles}
 use Rattle.tabled_config.specs.declared.spanned.row_styles.RowStyles.TheVariants.{Alike, Listed, Set}
 use Rattle.tabled_config.specs.declared.spanned.row_styles.SetStyles.{SetStyles}
+use Rattle.tabled_config.specs.Settings.{style_at}
 use Rattle.tabled_entity.specs.RowValues.{value_at}
 
 -- no indent on one side
@@ -30,8 +31,8 @@ set_style styles column =
     record {
       padding = value_at styles.padding column;
       horizontal = value_at styles.horizontal column;
-      vertical = value_at styles.vertical column;
-      line_alignment = value_at styles.line_alignment column;
+      vertical = (style_at styles.config.now styles.row column).vertical;
+      line_alignment = (style_at styles.config.now styles.row column).line_alignment;
     }
 
 -- the style of the cell in a column

@@ -84,7 +84,7 @@ pub(crate) fn row_added(config: &SpannedConfig, row: usize) -> Option<Extent>
     ensures { IfSome result (λ extent. (column : ℕ) → extent ≡ added_at config.now row column) }
 {
     let padding = config.row_padding(row)?;
-    added_by(padding)
+    added_by(*padding)
 }
 
 /// Lists what padding adds in the first `columns` columns of a row. `None` if a sum exceeds

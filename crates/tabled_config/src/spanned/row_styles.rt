@@ -10,12 +10,13 @@ use crate::sides::{Indent, Sides};
 use tabled_entity::RowValues;
 
 /// The styles that were set for a row's cells.
-#[derive(Drop)]
+#[derive(Clone, Copy)]
 pub struct SetStyles<'a> {
     padding: RowValues<'a, Sides<Indent>>,
     horizontal: RowValues<'a, AlignmentHorizontal>,
-    vertical: RowValues<'a, AlignmentVertical>,
-    line_alignment: RowValues<'a, bool>,
+    // The rest is looked up for each cell: only rows of several lines ask for it.
+    config: &'a SpannedConfig,
+    row: usize,
 }
 
 /// The styles of a row's cells.
@@ -43,14 +44,15 @@ fn plain_style() -> CellStyle
 
 impl<'a> SetStyles<'a> {
     #[inline(always)]
+    #[tactic(auto, unfolding(crate::specs::Settings::style_at))]
     fn at(&self, column: usize) -> CellStyle
         ensures { result ≡ set_style self.now column }
     {
         CellStyle {
             padding: *self.padding.at(column),
             horizontal: *self.horizontal.at(column),
-            vertical: *self.vertical.at(column),
-            line_alignment: *self.line_alignment.at(column),
+            vertical: self.config.alignment_vertical.get(self.row, column),
+            line_alignment: self.config.line_alignment.get(self.row, column),
         }
     }
 }
@@ -114,8 +116,8 @@ impl SpannedConfig {
         RowStyles::Set(SetStyles {
             padding: self.padding.in_row(row),
             horizontal: self.alignment_horizontal.in_row(row),
-            vertical: self.alignment_vertical.in_row(row),
-            line_alignment: self.line_alignment.in_row(row),
+            config: self,
+            row,
         })
     }
 
@@ -123,10 +125,11 @@ impl SpannedConfig {
     /// column or for a cell of the row.
     #[inline(always)]
     #[tactic(auto, unfolding(crate::specs::Settings::style_at))]
-    pub fn row_padding(&self, row: usize) -> Option<Sides<Indent>>
-        ensures { IfSome result (λ padding. (column : ℕ) → (style_at self.now row column).padding ≡ padding) }
+    pub fn row_padding(&self, row: usize) -> Option<&Sides<Indent>>
+        ensures { IfSome result (λ padding. (column : ℕ)
+            → (style_at self.now row column).padding ≡ padding.now) }
     {
-        Some(*self.padding.row_value(row)?)
+        self.padding.row_value(row)
     }
 
     /// Returns the padding and horizontal alignment shared by all cells of a row. `None` only if
