@@ -50,21 +50,7 @@ module _ {S W T A : Type 0} {steps : S → Option W → S → Type 0} {becomes :
       }
 
   module _ {V : Type 0} {rows_become : V → S → Type 0} {source : V} {it to : S} {ahead : List (List A)} (made : rows_become source it) where
-    -- rows that were read come first
-    pub reads_begin : {whole : Bool} → ReadsTo steps becomes cell_steps it ahead whole to
-        → RowsBegin rows_become steps becomes cell_steps source ahead whole
-    reads_begin q =
-        record {
-          lists = q.reads.lists;
-          iterator = it;
-          made = made;
-          reached = q.reached;
-          yielded = q.reads.yielded;
-          each = q.reads.each;
-          ended = λ w. (to, q.ended w);
-        }
-
-    -- so do some of them, where these are all
+    -- some of the rows that were read come first, where these are all
     pub whole_begun : {cells : List (List A)} {whole : Bool} → ReadsTo steps becomes cell_steps it ahead true to
         → BufBegin steps becomes cell_steps ahead None cells whole → RowsBegin rows_become steps becomes cell_steps source cells whole
     whole_begun q b =

@@ -5,7 +5,7 @@ use Rattle.std.specs.List.{list_all, slice_range}
 use Rattle.std.specs.Str.{IsCharBoundary, IsUtf8}
 use Rattle.std.proofs.Math.Seq.{take-length}
 use Rattle.std.proofs.lemmas.Bool.Decides.{nat_tests}
-use Rattle.std.proofs.lemmas.List.{drop-append-le, drop_all, drop_more, length-drop, map-append}
+use Rattle.std.proofs.lemmas.List.{drop-append-le, drop_all, drop_more, length-drop, map-append, get_or_past}
 use Rattle.std.proofs.lemmas.Str.{IsCharBoundary-after_ascii, IsCharBoundary-start}
 use Rattle.std.proofs.lemmas.List.Edits.{between_more}
 use Rattle.std.proofs.lemmas.List.Folds.{drop_split, list_all-append}
@@ -13,7 +13,7 @@ use Rattle.std.proofs.lemmas.List.Elements.{All-append, All-cons, All-nil}
 use Rattle.tabled_records.specs.Joined.{AreKept, behind, texts_from}
 use Rattle.tabled_records.specs.JoinedRows.{AreRanges, part, parts}
 use Rattle.tabled_records.specs.LentRows.{HasNo, IsLent, IsPrintable}
-use Rattle.tabled_records.proofs.Joining.{behind-all, behind-next, kept-next, length-texts, texts-next}
+use Rattle.tabled_records.proofs.Joining.{behind-next, kept-next, length-texts, texts-next}
 use Rattle.tabled_records.proofs.Rows.{part-last, parts-append, ranges-grown, ranges-next}
 use Rattle.tabled_records.proofs.RowsLeft.{prepended, prepended-more, prepended-none, rows-end, rows-feed, rows-tab, rows_of}
 
@@ -65,15 +65,11 @@ pub lent-next : (text : List ℕ) (cells : List (ℕ × ℕ)) (start : ℕ) (cel
     → IsLent text start cell → AreKept 1 text (cells ++ cell ∷ []) []
 lent-next text cells start cell h s lent =
     let own = subst (λ n. IsLent text n cell) s lent in
-    kept-next 1 text cells cell [] [] h own.joined (λ k l. refl) (behind-all [] (length cells) (omega arith) ∙ sym own.line)
+    kept-next 1 text cells cell [] [] h own.joined (λ k l. refl) (get_or_past [] (length cells) 1 (omega arith) ∙ sym own.line)
 
 -- the texts behind a cell, with a further one
 drop-next : (texts : List (List ℕ)) (last : List ℕ) (first : ℕ) → first ≤ length texts → drop first (texts ++ last ∷ []) ≡ drop first texts ++ last ∷ []
 drop-next texts last first h = drop-append-le first texts (last ∷ []) h
-
--- where a cell ended, the next one can begin
-next-begins : (text : List ℕ) (at : ℕ) → IsUtf8 text → at < length text → get_or text at 0 < 128 → IsCharBoundary text (at + 1)
-next-begins text at u l small = IsCharBoundary-after_ascii text at u l small
 
 -- a tab ends a cell
 pub cut-tab : (text : List ℕ) (cells ranges : List (ℕ × ℕ)) (start first at columns : ℕ) → IsUtf8 text → IsCut text cells ranges start first
@@ -100,7 +96,7 @@ cut-tab text cells ranges start first at columns u was within l tab lent =
           ∙ was.rows);
       kept = lent-next text cells start cell was.kept was.starts lent;
       starts = sym (behind-next 1 0 cells cell);
-      begins = next-begins text at u l (omega (arith, tab));
+      begins = IsCharBoundary-after_ascii text at u l (omega (arith, tab));
       placed = ranges-grown (length cells) (length (cells ++ cell ∷ [])) ranges was.placed (omega (arith, more));
       reached = omega (arith, more);
     }
@@ -156,7 +152,7 @@ cut-feed text cells ranges start first at columns count u was within l feed lent
           ∙ was.rows;
       kept = lent-next text cells start cell was.kept was.starts lent;
       starts = sym (behind-next 1 0 cells cell);
-      begins = next-begins text at u l (omega (arith, feed));
+      begins = IsCharBoundary-after_ascii text at u l (omega (arith, feed));
       placed = placed-next cells ranges cell first count was.placed c;
       reached = omega arith;
     }

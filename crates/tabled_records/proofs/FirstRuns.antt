@@ -1,7 +1,7 @@
 -- The first cells of a row.
 use Rattle.std.proofs.Common.{◌≡◌, ℕ, zero, suc, ◌+◌, ◌<◌, List, [], ◌∷◌, Option, None, take, refl, sym, ap, subst, ◌∙◌, arith, add-one}
 use Rattle.std.specs.Iterator.{Drains, Yields}
-use Rattle.tabled_records.specs.declared.limit_columns.FirstCells.{FirstCells}
+use Rattle.tabled_records.specs.declared.limits.FirstCells.{FirstCells}
 use Rattle.tabled_records.specs.FirstCells.{first_cells_steps}
 
 take-cons : {A : Type 0} (n k : ℕ) (x : A) (xs : List A) → k + 1 ≡ n → take n (x ∷ xs) ≡ x ∷ take k xs

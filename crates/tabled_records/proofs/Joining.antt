@@ -137,41 +137,8 @@ filled-next whole more places old new columns u h wide same last few =
       few = omega (arith, few, length-append places (place ∷ []));
     }
 
--- what is kept where a refused text left lines
-pub filled-still : (whole : List ℕ) (places : List (ℕ × ℕ)) (old new : List ℕ) → AreFilled whole places old
-    → ((k : ℕ) → k < length places → get_or new k 1 ≡ get_or old k 1) → length new ≤ length places → AreFilled whole places new
-filled-still whole places old new h same few =
-    let count = length-texts 0 whole 0 places in
-    record {
-      kept = record { joined = h.kept.joined; told = λ k l. same k (omega (arith, l, count)) ∙ h.kept.told k l };
-      filled = h.filled;
-      few = few;
-    }
-
 pub taken : (lines : List ℕ) (n k : ℕ) → k < n → get_or (take n lines) k 1 ≡ get_or lines k 1
 taken lines n k l = get_or-take n lines k 1 l
-
--- a one behind changes nothing
-pub one-behind : (lines : List ℕ) (k : ℕ) → get_or (lines ++ 1 ∷ []) k 1 ≡ get_or lines k 1
-one-behind [] zero = refl
-one-behind [] (suc k) = refl
-one-behind (n ∷ lines) zero = refl
-one-behind (n ∷ lines) (suc k) = one-behind lines k
-
-pub behind-all : (lines : List ℕ) (k : ℕ) → length lines ≤ k → get_or lines k 1 ≡ 1
-behind-all [] zero h = refl
-behind-all [] (suc k) h = refl
-behind-all (n ∷ lines) zero h = absurd (omega (arith, h))
-behind-all (n ∷ lines) (suc k) h = behind-all lines k (omega (arith, h))
-
-pub number-last : (lines : List ℕ) (n k : ℕ) → length lines ≡ k → get_or (lines ++ n ∷ []) k 1 ≡ n
-number-last [] n zero h = refl
-number-last [] n (suc k) h = absurd (omega (arith, h))
-number-last (m ∷ lines) n zero h = absurd (omega (arith, h))
-number-last (m ∷ lines) n (suc k) h = number-last lines n k (omega (arith, h))
-
-pub number-before : (lines : List ℕ) (n k : ℕ) → k < length lines → get_or (lines ++ n ∷ []) k 1 ≡ get_or lines k 1
-number-before lines n k l = get_or_append_left lines (n ∷ []) 1 k l
 
 -- where a text begins
 begin-after : (gap start : ℕ) (places : List (ℕ × ℕ)) (i : ℕ) (d : ℕ × ℕ) → i < length places → begin gap start places (suc i) ≡ (get_or places i d).0 + gap

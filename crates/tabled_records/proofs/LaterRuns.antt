@@ -2,12 +2,14 @@
 use Rattle.std.proofs.Common.{◌≡◌, ℕ, ◌≤◌, Bool, true, false, List, [], ◌∷◌, ◌++◌, Option, None, Some, length, drop, refl, sym, ap, subst, arith, zero, suc}
 use Rattle.std.specs.List.{All, AllZip}
 use Rattle.std.specs.Iterator.{Count, HoldsAlong, IsFinite, IsFiniteIterable, Yields, YieldsThen}
+use Rattle.std.proofs.iter.runs.Lists.{Yields-both}
 use Rattle.tabled_base.specs.Given.{Given}
 use Rattle.tabled_base.specs.RowsGiven.{RowsBegin, RowsEnd}
-use Rattle.tabled_records.specs.declared.skip_rows.LaterRows.{LaterRows}
-use Rattle.tabled_records.specs.LaterRows.{MayPass, SkipsRows}
+use Rattle.tabled_records.specs.declared.limits.LaterRows.{LaterRows}
+use Rattle.tabled_records.specs.LaterRows.{SkipsRows}
+use Rattle.tabled_records.specs.Reading.{MayGive}
 use Rattle.tabled_records.specs.RowByRow.{AreChanged}
-use Rattle.tabled_records.proofs.Runs.{all_behind, run_append, zip_append, zip_length}
+use Rattle.tabled_records.proofs.Runs.{all_behind, zip_append, zip_length}
 
 drop-all : {A : Type 0} (n : ℕ) (xs : List A) → length xs ≤ n → [] ≡ drop n xs
 drop-all zero [] h = refl
@@ -47,7 +49,7 @@ module _ {S W T A : Type 0} (steps : S → Option W → S → Type 0) (cells_bec
       let k = y.1 in
       let more = plain_run y.0 t xs k.done y.2 in
       all_behind P k.lists (x ∷ xs) (h (k.lists ++ x ∷ xs) t.rows
-      (run_append steps k.lists (x ∷ xs) s.rows k.yielded.0 t.rows k.yielded.1 (y.0.rows, k.yielded.2, more.0)))
+      (Yields-both steps k.lists (x ∷ xs) s.rows k.yielded.0 t.rows k.yielded.1 (y.0.rows, k.yielded.2, more.0)))
 
   module _ {V : Type 0} (rows_become : V → S → Type 0) (source : V) where
     abbrev Begun : Bool → List (List A) → Type 0
@@ -98,7 +100,7 @@ module _ {S W T A : Type 0} (steps : S → Option W → S → Type 0) (cells_bec
             iterator = rows.rows;
             made = made;
             reached = reached.rows;
-            yielded = run_append steps k.lists (x ∷ xs) rows.rows k.yielded.0 reached.rows k.yielded.1 (y.0.rows, k.yielded.2, more.0);
+            yielded = Yields-both steps k.lists (x ∷ xs) rows.rows k.yielded.0 reached.rows k.yielded.1 (y.0.rows, k.yielded.2, more.0);
             each = zip_append Gave k.lists (x ∷ xs) k.cells (c ∷ cs) k.each each;
             ended = λ w. let last = ended w in (last.0.rows, (plain_step reached last.0 None more.1 last.1).0);
           };
@@ -116,15 +118,15 @@ module _ {S W T A : Type 0} (steps : S → Option W → S → Type 0) (cells_bec
     pub later_end : {can_row : S → Type 0} {rows_left : S → Count} {can_cell : T → Type 0} {cells_left : T → Count} (rows : LaterRows S)
         (rows_same : LaterRows S → LaterRows S → Type 0) → ((it : LaterRows S) → rows_same rows it → it ≡ rows) → rows_become source rows.rows
         → RowsEnd rows_become can_row steps rows_left cells_become can_cell cells_left source
-        → RowsEnd rows_same (λ s. MayPass can_row steps rows_left cells_become can_cell cells_left s.rows) Skips (λ s. rows_left s.rows)
+        → RowsEnd rows_same (λ s. MayGive can_row steps rows_left cells_become can_cell cells_left s.rows) Skips (λ s. rows_left s.rows)
         cells_become can_cell cells_left rows
     later_end {can_row = can_row} {rows_left = rows_left} {can_cell = can_cell} {cells_left = cells_left} rows rows_same same made ends =
         let P : W → Type 0 = IsFiniteIterable cells_become can_cell cells_left in
         let base = ends.all rows.rows made in
-        let may : MayPass can_row steps rows_left cells_become can_cell cells_left rows.rows
-        = record { can = base.0; finite = base.1; each = ends.each rows.rows made } in
+        let may : MayGive can_row steps rows_left cells_become can_cell cells_left rows.rows
+        = record { can = base.0; ends = base.1; each = ends.each rows.rows made } in
         record {
-          all = λ it b. subst (λ s. MayPass can_row steps rows_left cells_become can_cell cells_left s.rows × IsFinite (rows_left s.rows))
+          all = λ it b. subst (λ s. MayGive can_row steps rows_left cells_become can_cell cells_left s.rows × IsFinite (rows_left s.rows))
               (sym (same it b)) (may, base.1);
           each = λ it b xs t y. later_all P rows t xs (subst (λ s. Yields Skips s xs t) (same it b) y) (ends.each rows.rows made);
         }

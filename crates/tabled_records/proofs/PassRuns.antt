@@ -2,13 +2,14 @@
 use Rattle.std.proofs.Common.{◌≡◌, ℕ, ◌+◌, ◌≤◌, List, [], ◌∷◌, ◌++◌, Option, None, Some, length, refl, subst, arith, length-append}
 use Rattle.std.specs.List.{AllZip}
 use Rattle.std.specs.Iterator.{Count, IsFiniteIterable, MakesProgress, Yields, YieldsThen, size}
-use Rattle.std.proofs.iter.Next.{Yields-more, on, rested}
-use Rattle.std.proofs.lemmas.List.Elements.{All-head, All-tail}
+use Rattle.std.proofs.iter.runs.Lists.{Yields-both}
+use Rattle.std.proofs.iter.Next.{Yields-more, on}
 use Rattle.tabled_base.specs.Given.{Given}
-use Rattle.tabled_records.specs.declared.skip_rows.LaterRows.{LaterRows}
-use Rattle.tabled_records.specs.LaterRows.{MayPass, SkipsRows}
-use Rattle.tabled_records.specs.Reading.{Walked}
-use Rattle.tabled_records.proofs.Runs.{run_append, zip_append}
+use Rattle.tabled_records.specs.declared.limits.LaterRows.{LaterRows}
+use Rattle.tabled_records.specs.LaterRows.{SkipsRows}
+use Rattle.tabled_records.specs.Reading.{MayGive, Walked}
+use Rattle.tabled_records.proofs.Runs.{zip_append}
+use Rattle.tabled_records.proofs.RowsRead.{may-cells, may-step}
 
 pub walked_more : {S A : Type 0} {can : S → Type 0} {steps : S → Option A → S → Type 0} {left : S → Count} {s t u : S} {r : Option A} (x : A)
     → r ≡ Some x → Walked can steps left s t → steps t r u → MakesProgress can left t r u → Walked can steps left s u
@@ -26,12 +27,12 @@ pub walked_given : {U S A : Type 0} {becomes : U → S → Type 0} {can : S → 
     {it between last : S} → becomes cells it → Walked can steps left it between → (others : List A) × YieldsThen steps between others None last
     → (items : List A) × Given becomes steps cells items
 walked_given {steps = steps} {it = it} {between} {last} made w (others, (to, yielded, ended)) =
-    (w.items ++ others, record { iterator = it; made = made; drained = (last, (to, run_append steps w.items others it between to w.yielded yielded, ended)) })
+    (w.items ++ others, record { iterator = it; made = made; drained = (last, (to, Yields-both steps w.items others it between to w.yielded yielded, ended)) })
 
 module _ {S W T A : Type 0} (can_row : S → Type 0) (steps : S → Option W → S → Type 0) (rows_left : S → Count) (cells_become : W → T → Type 0)
     (can_cell : T → Type 0) (cell_steps : T → Option A → T → Type 0) (cells_left : T → Count) where
   abbrev May : S → Type 0
-  May = MayPass can_row steps rows_left cells_become can_cell cells_left
+  May = MayGive can_row steps rows_left cells_become can_cell cells_left
 
   abbrev Ends : W → Type 0
   Ends = IsFiniteIterable cells_become can_cell cells_left
@@ -54,16 +55,16 @@ module _ {S W T A : Type 0} (can_row : S → Type 0) (steps : S → Option W →
   pub may_more : {s t : S} {r : Option W} (x : W) → r ≡ Some x → May s → steps s r t → MakesProgress can_row rows_left s r t → Ends x × May t
   may_more {s = s} {t = t} x e may step goes =
       let at = subst (λ o. steps s o t) e step in
-      let more = on {can = can_row} {left = rows_left} x e goes may.finite in (
-        All-head Ends x [] (may.each (x ∷ []) t (t, at, refl)),
-        record { can = more.0; finite = more.1; each = λ xs u y. All-tail Ends x xs (may.each (x ∷ xs) u (t, at, y)) },
+      let more = on {can = can_row} {left = rows_left} x e goes may.ends in (
+        may-cells may at,
+        may-step may at more.0 more.1,
       )
 
   pub one_passed : {s t : LaterRows S} {u : S} {r : Option W} (n : ℕ) (x : W) → r ≡ Some x → Passing s t → steps t.rows r u
       → MakesProgress can_row rows_left t.rows r u → (items : List A) × Given cells_become cell_steps x items → n + 1 ≡ t.left
       → Passing s (record { rows = u; left = n })
   one_passed {s = s} {t = t} {u = u} n x e p step goes walked count =
-      let more = on {can = can_row} {left = rows_left} x e goes p.may.finite in
+      let more = on {can = can_row} {left = rows_left} x e goes p.may.ends in
       record {
         lists = p.lists ++ x ∷ [];
         cells = p.cells ++ walked.0 ∷ [];
@@ -82,27 +83,10 @@ module _ {S W T A : Type 0} (can_row : S → Type 0) (steps : S → Option W →
   passed {s = s} {t = t} {u = u} (Some x) e p step =
       record { lists = p.lists; cells = p.cells; yielded = (t.rows, p.yielded, step); each = p.each; count = p.count; done = e }
 
-  pub none_left : {s t : LaterRows S} {u : S} (r : Option W) → r ≡ None → Passing s t → steps t.rows r u
-      → SkipsRows steps cells_become cell_steps s None (record { rows = u; left = t.left })
-  none_left {s = s} {t = t} {u = u} r e p step =
-      record {
-        lists = p.lists;
-        cells = p.cells;
-        yielded = (t.rows, p.yielded, subst (λ o. steps t.rows o u) e step);
-        each = p.each;
-        count = p.count;
-        done = tt;
-      }
-
   pub passed_goes : {s t : LaterRows S} {u : S} (n : ℕ) (r : Option W) → Passing s t → steps t.rows r u → MakesProgress can_row rows_left t.rows r u
       → MakesProgress (λ v. May v.rows) (λ v. rows_left v.rows) s r (record { rows = u; left = n })
-  passed_goes n None p step goes = record { on = λ _. tt; keeps = tt; rests = λ _. goes.rests p.may.finite }
+  passed_goes n None p step goes = record { on = λ _. tt; keeps = tt; rests = λ _. goes.rests p.may.ends }
   passed_goes n (Some x) p step goes =
-      let more = on {can = can_row} {left = rows_left} x refl goes p.may.finite in
+      let more = on {can = can_row} {left = rows_left} x refl goes p.may.ends in
       let may = (may_more x refl p.may step goes).1 in
       record { on = λ _. (may, more.1, omega (arith, more.2, p.fewer)); keeps = may; rests = λ _. tt }
-
-  pub none_goes : {s t : LaterRows S} {u : S} (n : ℕ) (r : Option W) → r ≡ None → Passing s t → MakesProgress can_row rows_left t.rows r u
-      → MakesProgress {A = W} (λ v. May v.rows) (λ v. rows_left v.rows) s None (record { rows = u; left = n })
-  none_goes n r e p goes =
-      record { on = λ _. tt; keeps = tt; rests = λ _. rested {can = can_row} {left = rows_left} e goes p.may.finite }

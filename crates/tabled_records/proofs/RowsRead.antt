@@ -1,6 +1,5 @@
 -- Rows that are read of an iterator.
-use Rattle.std.proofs.Common.{ℕ, ◌<◌, true, false, List, [], ◌∷◌, ◌++◌, length, Result, Ok, Err, OnErr, refl, arith, length-append}
-use Rattle.std.specs.List.{AllZip}
+use Rattle.std.proofs.Common.{ℕ, ◌<◌, true, false, List, [], ◌∷◌, ◌++◌, length, refl, arith, length-append}
 use Rattle.std.specs.declared.option.Option.{Option}
 use Rattle.std.specs.declared.option.Option.TheVariants.{Some, None}
 use Rattle.std.specs.Iterator.{Count, IsFinite, IsFiniteIterable}
@@ -8,18 +7,8 @@ use Rattle.std.proofs.iter.runs.Lists.{Yields-both}
 use Rattle.std.proofs.lemmas.List.Elements.{All-head, All-tail}
 use Rattle.tabled_base.specs.Given.{Given}
 use Rattle.tabled_base.specs.RowsGiven.{RowsBegin}
+use Rattle.tabled_records.proofs.Runs.{zip_append}
 use Rattle.tabled_records.specs.Reading.{MayGive, Reads, ReadsSome, ReadsTo}
-
--- what holds anyhow holds on an error
-pub on-err : {R E : Type 0} (r : Result R E) (Q : Type 0) → Q → OnErr r Q
-on-err (Ok x) Q q = tt
-on-err (Err e) Q q = q
-
-all_zip-both : {X Y : Type 0} (R : X → Y → Type 0) (xs vs : List X) (ys ws : List Y) → AllZip R xs ys → AllZip R vs ws → AllZip R (xs ++ vs) (ys ++ ws)
-all_zip-both R [] vs [] ws h k = k
-all_zip-both R [] vs (y ∷ ys) ws h k = absurd h
-all_zip-both R (x ∷ xs) vs [] ws h k = absurd h
-all_zip-both R (x ∷ xs) vs (y ∷ ys) ws h k = (h.0, all_zip-both R xs vs ys ws h.1 k)
 
 module _ {S W T A : Type 0} {steps : S → Option W → S → Type 0} {becomes : W → T → Type 0} {cell_steps : T → Option A → T → Type 0} where
   pub reads-none : (a : S) → Reads steps becomes cell_steps a [] a
@@ -33,7 +22,7 @@ module _ {S W T A : Type 0} {steps : S → Option W → S → Type 0} {becomes :
   reads-both {a} {b} {c} {xs} {ys} p q = record {
     lists = p.lists ++ q.lists;
     yielded = Yields-both steps p.lists q.lists a b c p.yielded q.yielded;
-    each = all_zip-both (Given becomes cell_steps) p.lists q.lists xs ys p.each q.each;
+    each = zip_append (Given becomes cell_steps) p.lists q.lists xs ys p.each q.each;
   }
 
   -- a further row

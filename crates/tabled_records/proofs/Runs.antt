@@ -7,12 +7,6 @@ use Rattle.tabled_base.specs.Given.{Given}
 use Rattle.tabled_base.specs.RowsGiven.{RowsBegin, RowsEnd, RowsGiven}
 use Rattle.tabled_records.specs.RowByRow.{AreChanged, RowOfRow}
 
--- a run and another one
-pub run_append : {S A : Type 0} (steps : S → Option A → S → Type 0) (xs ys : List A) (s t u : S) → Yields steps s xs t → Yields steps t ys u
-    → Yields steps s (xs ++ ys) u
-run_append steps [] ys s t u a b = subst (λ k. Yields steps k ys u) (sym a) b
-run_append steps (x ∷ xs) ys s t u a b = (a.0, a.1, run_append steps xs ys a.0 t u a.2 b)
-
 -- lists of which the elements stand in a relation are equally long
 pub zip_length : {X Y : Type 0} (R : X → Y → Type 0) (xs : List X) (ys : List Y) → AllZip R xs ys → length xs ≡ length ys
 zip_length R [] [] h = refl
@@ -20,7 +14,7 @@ zip_length R [] (y ∷ ys) h = absurd h
 zip_length R (x ∷ xs) [] h = absurd h
 zip_length R (x ∷ xs) (y ∷ ys) h = omega (arith, zip_length R xs ys h.1)
 
--- and so do lists behind them
+-- so are lists with others behind them
 pub zip_append : {X Y : Type 0} (R : X → Y → Type 0) (xs us : List X) (ys vs : List Y) → AllZip R xs ys → AllZip R us vs → AllZip R (xs ++ us) (ys ++ vs)
 zip_append R [] us [] vs h k = k
 zip_append R [] us (y ∷ ys) vs h k = absurd h

@@ -1,9 +1,8 @@
 -- The rows of a text.
-use Rattle.std.proofs.Common.{◌≡◌, ℕ, ◌≤◌, ◌==◌, false, cond, List, [], ◌∷◌, length, map, get_or, ap, ◌∙◌, arith, All}
+use Rattle.std.proofs.Common.{◌≡◌, ℕ, ◌≤◌, List, [], ◌∷◌, length, map, get_or, arith, All}
 use Rattle.std.proofs.lemmas.List.Elements.{All-cons, All-nil, All-map}
-use Rattle.tabled_text.specs.Measure.{lines_of}
 use Rattle.tabled_base.specs.Cells.{IsRectangular, lengthened}
-use Rattle.tabled_records.specs.TextRows.{cells_of, most_cells, row_lines, text_rows, without_last_feed}
+use Rattle.tabled_records.specs.TextRows.{cells_of, most_cells}
 use Rattle.tabled_base.proofs.Lengthening.{length-lengthened, rectangular-from_length}
 
 -- no line has more cells than the longest
@@ -19,12 +18,3 @@ rows-rectangular lines =
     rectangular-from_length n (map (λ line. lengthened n (cells_of line)) lines)
     (All-map (λ row. length row ≡ n) (λ line. lengthened n (cells_of line)) lines
     (λ k d h. let own = most-above lines k d h in omega (arith, length-lengthened n (cells_of (get_or lines k d)))))
-
--- a text that is not empty has the lines of what stands before its last line feed
-pub text_rows-some : (text whole : List ℕ) → false ≡ (length text == 0) → whole ≡ without_last_feed text → map
-    (λ line. lengthened (most_cells (lines_of whole)) (cells_of line)) (lines_of whole) ≡ text_rows text
-unfolding text_rows
-text_rows-some text whole h e =
-    let same : lines_of whole ≡ row_lines text =
-    ap lines_of e ∙ ap (λ b. cond b [] (lines_of (without_last_feed text))) h in
-    ap (λ lines. map (λ line. lengthened (most_cells lines) (cells_of line)) lines) same

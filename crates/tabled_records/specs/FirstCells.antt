@@ -3,7 +3,7 @@ use Rattle.std.specs.Prelude.{◌≡◌, ◌+◌, ◌<◌, List, [], MatchOption
 use Rattle.std.specs.declared.option.Option.{Option}
 use Rattle.std.specs.declared.option.Option.TheVariants.{None, Some}
 use Rattle.std.specs.Iterator.{YieldsThen}
-use Rattle.tabled_records.specs.declared.limit_columns.FirstCells.{FirstCells}
+use Rattle.tabled_records.specs.declared.limits.FirstCells.{FirstCells}
 
 -- a cell within the limit is yielded; or the others are read to their end, and there are none if
 -- the limit isn't reached

@@ -1,17 +1,10 @@
 -- The rows after those that are skipped.
 use Rattle.std.specs.Prelude.{◌≡◌, ◌+◌, List, length, OnSome}
-use Rattle.std.specs.List.{All, AllZip}
+use Rattle.std.specs.List.{AllZip}
 use Rattle.std.specs.declared.option.Option.{Option}
-use Rattle.std.specs.Iterator.{Count, HoldsAlong, IsFinite, IsFiniteIterable, YieldsThen}
+use Rattle.std.specs.Iterator.{YieldsThen}
 use Rattle.tabled_base.specs.Given.{Given}
-use Rattle.tabled_records.specs.declared.skip_rows.LaterRows.{LaterRows}
-
--- rows may be requested to their end, and so may the cells of each
-pub record MayPass {S W T : Type 0} (can_row : S → Type 0) (row_steps : S → Option W → S → Type 0) (rows_left : S → Count)
-    (cells_become : W → T → Type 0) (can_cell : T → Type 0) (cells_left : T → Count) (rows : S) : Type 0 where
-  pub can : can_row rows
-  pub finite : IsFinite (rows_left rows)
-  pub each : HoldsAlong row_steps rows (All (IsFiniteIterable cells_become can_cell cells_left))
+use Rattle.tabled_records.specs.declared.limits.LaterRows.{LaterRows}
 
 -- rows were read with their cells, and then this one was yielded, or none is left; if none is left,
 -- some may still be to be skipped

@@ -1,5 +1,5 @@
 //! Records of empty cells.
-ghost use Rattle.std.specs.Prelude.{◌≡◌, ℕ, List, [], map, replicate, ⊤};
+ghost use Rattle.std.specs.Prelude.{◌≡◌, [], map, replicate, ⊤};
 ghost use Rattle.std.specs.Iterator.{YieldsFirst, YieldsFirstBy, item_count};
 ghost use Rattle.tabled_records.specs.Empty.{cells_left, rows_left};
 

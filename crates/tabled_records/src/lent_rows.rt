@@ -1,12 +1,22 @@
-//! Rows whose cells borrow one text.
-ghost use Rattle.std.specs.Prelude.{◌≡◌, ℕ, List, length, []};
+//! Rows whose cells borrow one text or the cells of other records.
+ghost use Rattle.std.specs.Prelude.{◌≡◌, ℕ, List, length, [], ◌<◌, ◌≤◌, IfErr, IfOk, OnErr, map, true};
+ghost use Rattle.std.specs.Prelude.{slice_index_or};
 ghost use Rattle.tabled_records.specs.Joined.{AreKept, texts_from};
 ghost use Rattle.tabled_records.specs.JoinedRows.{AreRanges, rows_in};
+ghost use Rattle.std.specs.List.{slice_range};
+ghost use Rattle.std.specs.Str.{IsCharBoundary};
+ghost use Rattle.tabled_base.specs.Cells.{lengthened, columns};
+ghost use Rattle.tabled_records.specs.LentRows.{HasNo, IsLent, IsPrintable};
+ghost use Rattle.tabled_records.specs.TextRows.{cells_of, most_cells, text_rows, without_last_feed};
+ghost use Rattle.tabled_base.specs.declared.error.TableError.TheVariants.{Memory};
+ghost use Rattle.tabled_text.specs.Measure.{lines_of};
 
-use crate::pairs::Pairs;
-use crate::row_ranges::RowRanges;
+use crate::row_ranges::{Pairs, RowRanges};
+use std::alloc::Global;
+use std::borrow::CowStr;
 use std::marker::Model;
-use tabled_base::{ExactRecords, PeekableRecords, Position};
+use tabled_base::{ExactRecords, PeekableRecords, Position, TableError, Text, VecRecords};
+use tabled_text::{line_width, run_end};
 
 /// Rows whose cells borrow one text. Rows shorter than the longest end with empty cells.
 #[derive(Debug, Drop)]
@@ -70,4 +80,128 @@ impl<'a> PeekableRecords for LentRows<'a> {
             None => ("", 0, 1),
         }
     }
+}
+
+/// Splits a text at line feeds into rows, and rows at tabs into cells. Short rows get empty cells.
+/// A last line feed ends the last row, and the empty text has no rows. All cells borrow the text.
+/// Error: `Memory`, unless the text is empty.
+#[tactic(auto, unfolding(crate::specs::TextRows::text_rows))]
+pub fn text_rows(alloc: Global, text: &str) -> Result<LentRows<'_>, TableError>
+    ensures ok { IfOk result (λ rows. rows ≡ text_rows text.now) }
+    ensures some { OnErr result (0 < length text.now) }
+    ensures only { IfErr result (λ e. e ≡ Memory) }
+{
+    if text.is_empty() {
+        return Ok(LentRows::new(text, Pairs::new(alloc), RowRanges::new(alloc)));
+    }
+    split_rows(alloc, without_last_feed(text))
+}
+
+/// Returns the text without a line feed at its end.
+fn without_last_feed(text: &str) -> &str
+    ensures { result.now ≡ without_last_feed text.now }
+{
+    let bytes = text.as_bytes();
+    if !bytes.is_empty() && bytes[bytes.len() - 1] == b'\n' {
+        &text[..text.len() - 1]
+    } else {
+        text
+    }
+}
+
+/// Makes each line of a text a row.
+fn split_rows(alloc: Global, text: &str) -> Result<LentRows<'_>, TableError>
+    ensures ok { IfOk result (λ rows. rows
+        ≡ map (λ line. lengthened (most_cells (lines_of text.now)) (cells_of line))
+        (lines_of text.now)) }
+    ensures only { IfErr result (λ e. e ≡ Memory) }
+{
+    let bytes = text.as_bytes();
+    let mut cells = Pairs::new(alloc);
+    let mut rows = RowRanges::new(alloc);
+    let mut start: usize = 0;
+    let mut first: usize = 0;
+    // Whether all of the cell so far is printable ASCII.
+    let mut printable = true;
+    let mut at = run_end(bytes, 0, b' ', b'~');
+    'bytes: while at < bytes.len() {
+        let byte = bytes[at];
+        if byte != b'\t' && byte != b'\n' {
+            printable = false;
+            at = run_end(bytes, at + 1, b' ', u8::MAX);
+            continue;
+        }
+        let columns = cell_columns(text, start, at, printable);
+        cells.push((at, columns))?;
+        start = at + 1;
+        printable = true;
+        at = run_end(bytes, start, b' ', b'~');
+        if byte == b'\t' {
+            continue;
+        }
+        let count = cells.len() - first;
+        rows.push(first, count)?;
+        first = cells.len();
+    }
+    let end = bytes.len();
+    let columns = cell_columns(text, start, end, printable);
+    cells.push((end, columns))?;
+    let count = cells.len() - first;
+    rows.push(first, count)?;
+    Ok(LentRows::new(text, cells, rows))
+}
+
+/// Returns the columns of the cell between two byte offsets: in printable ASCII the number of
+/// bytes.
+fn cell_columns(text: &str, start: usize, end: usize, printable: bool) -> usize
+    requires ordered { start ≤ end }
+    requires begins { IsCharBoundary text.now start }
+    requires ends { IsCharBoundary text.now end }
+    requires line { HasNo 10 (slice_range text.now start end) }
+    requires printable { printable ≡ true → IsPrintable (slice_range text.now start end) }
+    ensures { IsLent text.now start (end, result) }
+{
+    if printable {
+        end - start
+    } else {
+        line_width(&text[start..end])
+    }
+}
+
+/// Makes records whose cells borrow those of `records`: no text is copied or measured again. A cell
+/// that is set gets its own text. Error: `Memory`.
+pub fn lend_cells<R: PeekableRecords>(
+    alloc: Global,
+    records: &R,
+) -> Result<VecRecords<Text<CowStr<'_, Global>>>, TableError>
+    ensures ok { IfOk result (λ lent. lent ≡ R.cells records.now) }
+    ensures only { IfErr result (λ e. e ≡ Memory) }
+{
+    let count = records.count_rows();
+    let columns = records.count_columns();
+    let mut rows = Vec::with_capacity(alloc, count)?;
+    'rows: for row in 0..count {
+        rows.push(lend_row(alloc, records, row, columns)?)?;
+    }
+    Ok(VecRecords::new(rows))
+}
+
+/// Borrows the cells of a row with `count` columns.
+fn lend_row<R: PeekableRecords>(
+    alloc: Global,
+    records: &R,
+    row: usize,
+    count: usize,
+) -> Result<Vec<Text<CowStr<'_, Global>>>, TableError>
+    requires row { row < length (R.cells records.now) }
+    requires columns { count ≡ columns (R.cells records.now) }
+    requires long { length (slice_index_or (R.cells records.now) row []) ≡ count }
+    ensures ok { IfOk result (λ lent. lent.items ≡ slice_index_or (R.cells records.now) row []) }
+    ensures only { IfErr result (λ e. e ≡ Memory) }
+{
+    let mut cells = Vec::with_capacity(alloc, count)?;
+    'cells: for column in 0..count {
+        cells.push(Text::lend(records, Position::new(row, column)))?;
+    }
+    Ok(cells)
 }

@@ -1,12 +1,12 @@
-//! Reading rows one by one.
-ghost use Rattle.std.specs.Prelude.{◌≡◌, ◌<◌, ◌≤◌, ◌∷◌, ◌++◌, List, [], false, true, map, length, IfErr, IfOk, OnErr, OnOk, MatchOption, Some, None};
+//! Reading rows one by one, and cells to their end.
+ghost use Rattle.std.specs.Prelude.{◌≡◌, ◌<◌, ◌≤◌, ◌∷◌, ◌++◌, List, [], false, true, length, IfErr, IfOk, OnErr};
+ghost use Rattle.std.specs.Prelude.{OnOk, MatchOption, Some, None};
 ghost use Rattle.std.specs.Iterator.{IsFinite, IsFiniteIterable, YieldsThen, size};
 ghost use Rattle.tabled_base.specs.declared.error.TableError.TheVariants.{Memory};
 ghost use Rattle.tabled_base.specs.Given.{Given};
 ghost use Rattle.tabled_records.specs.Buffered.{cells_ahead};
 ghost use Rattle.tabled_records.specs.Reading.{MayGive, Reads, ReadsSome, ReadsTo, Walked};
 
-use crate::walk::walk_rest;
 use std::alloc::Global;
 use tabled_base::TableError;
 
@@ -114,4 +114,26 @@ pub fn take_rows<I: Iterator<Item = W>, W: IntoIterator<Item = C>, C: Drop>(
         rows: taken,
         whole: false,
     })
+}
+
+/// Reads cells to their end and drops them.
+pub(crate) fn walk<C: IntoIterator>(cells: C)
+where
+    C::Item: Drop,
+    requires { IsFiniteIterable C.into_iter_gives C.IntoIter.can_next C.IntoIter.remaining cells }
+    ensures { (items : List C.Item) × Given C.into_iter_gives C.IntoIter.next_gives cells items }
+{
+    for _cell in cells {}
+}
+
+/// Reads the remaining cells and drops them.
+pub(crate) fn walk_rest<I: Iterator>(cells: &mut I)
+where
+    I::Item: Drop,
+    requires can { I.can_next cells.old }
+    requires finite { IsFinite (I.remaining cells.old) }
+    ensures walked { (items : List I.Item) × YieldsThen I.next_gives cells.old items None cells.new }
+    ensures finite { IsFinite (I.remaining cells.new) }
+{
+    while let Some(_cell) = cells.next() {}
 }

@@ -1,8 +1,7 @@
 //! Cells that are cut to the widths of their columns.
-ghost use Rattle.std.specs.Prelude.{◌≡◌, ℕ, List, Bool, map, IfErr, IfOk, OnErr, MatchOption};
+ghost use Rattle.std.specs.Prelude.{◌≡◌, map, IfErr, IfOk, OnErr};
 ghost use Rattle.std.specs.Cow.{cow_str_bytes, IsOwnedStr};
 ghost use Rattle.tabled_base.specs.declared.error.TableError.TheVariants.{Memory};
-ghost use Rattle.tabled_text.specs.Cut.{IsCut, NeedsFill};
 ghost use Rattle.tabled_records.specs.RowByRow.{AreChanged, RowOfRow};
 ghost use Rattle.tabled_records.specs.CutRows.{IsShown, WantsFill, cut_cells_steps, with_widths};
 

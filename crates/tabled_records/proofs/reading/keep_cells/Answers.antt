@@ -1,7 +1,7 @@
 use Rattle.std.proofs.Common.{[], ◌∷◌, ◌++◌, ◌∙◌, ap, refl, sym, append-nil, append_assoc}
 use Rattle.tabled_records.proofs.PassRuns.{walked_more}
-use Rattle.tabled_records.proofs.RowsRead.{on-err}
 use Rattle.tabled_records.proofs.reading.keep_cells.Goals as goal
+use Rattle.tabled_records.proofs.Joining.{on-err}
 
 pub cells-init : goal.cells-init
 cells-init g c = record {
@@ -18,5 +18,5 @@ cells-preserved g c = record {
 
 pub returns-in_err-push-clause-err : goal.returns-in_err-push-clause-err
 returns-in_err-push-clause-err g c =
-    on-err c.from_residual.result _
+    on-err c.from_residual.result
     (walked_more c.in-Some.cell c.in-Some.is c.cells.invariant.walked c.next.ensures.steps c.next.ensures.goes)

@@ -1,5 +1,6 @@
-use Rattle.tabled_records.proofs.RowsRead.{may-cells, may-step, on-err, reads-one}
+use Rattle.tabled_records.proofs.RowsRead.{may-cells, may-step, reads-one}
 use Rattle.tabled_records.proofs.reading.next_cells.Goals as goal
+use Rattle.tabled_records.proofs.Joining.{on-err}
 
 pub collect_cells-requires : goal.collect_cells-requires
 collect_cells-requires g c = may-cells c.requires c.in-Some.ensures.steps
@@ -15,4 +16,4 @@ returns-in_ok-collect_cells-in-Some-clause-goes g c =
 pub returns-in_err-collect_cells-in-Some-clause-err : goal.returns-in_err-collect_cells-in-Some-clause-err
 returns-in_err-collect_cells-in-Some-clause-err g c =
     let walked = c.in_err-collect_cells-in-Some.ensures.err in
-    on-err c.from_residual.result _ (walked.0, reads-one c.in-Some.ensures.steps walked.1)
+    on-err c.from_residual.result (walked.0, reads-one c.in-Some.ensures.steps walked.1)

@@ -1,7 +1,8 @@
 use Rattle.std.proofs.Common.{[], ◌∷◌, length, ap, arith, length-append}
 use Rattle.std.proofs.lemmas.List.{length-map, map-append}
-use Rattle.tabled_records.proofs.RowsRead.{on-err, reads-both, reads-some}
+use Rattle.tabled_records.proofs.RowsRead.{reads-both, reads-some}
 use Rattle.tabled_records.proofs.reading.take_rows.Goals as goal
+use Rattle.tabled_records.proofs.Joining.{on-err}
 
 pub rows-preserved : goal.rows-preserved
 rows-preserved g c =
@@ -18,12 +19,12 @@ pub returns-in_err-cells-clause-err : goal.returns-in_err-cells-clause-err
 returns-in_err-cells-clause-err g c =
     let taken = c.rows.taken.items in
     let walked = c.in_err-cells.ensures.err in
-    on-err c.from_residual.result _
+    on-err c.from_residual.result
     (reads-some c.args.count c.rows.invariant.reads walked.1 (omega (arith, length-map taken (λ row. row.items), c.len.ensures, c.rows-test.true, c.rows.taken.ok.0)))
 
 pub returns-in_err-push-in-Some-clause-err : goal.returns-in_err-push-in-Some-clause-err
 returns-in_err-push-in-Some-clause-err g c =
     let taken = c.rows.taken.items in
     let row = rw c.in-Some.is at c.in_ok-cells.ensures.ok in
-    on-err c.from_residual-in_err-push-in-Some.result _
+    on-err c.from_residual-in_err-push-in-Some.result
     (reads-some c.args.count c.rows.invariant.reads row (omega (arith, length-map taken (λ row. row.items), c.len.ensures, c.rows-test.true, c.rows.taken.ok.0)))

@@ -1,9 +1,10 @@
 use Rattle.std.proofs.Common.{false}
 use Rattle.tabled_base.specs.Laws.{whole_rows}
 use Rattle.tabled_records.proofs.BufferedRuns.{open_begun, whole_begun}
-use Rattle.tabled_records.proofs.RowsRead.{on-err, reads-begun}
+use Rattle.tabled_records.proofs.RowsRead.{reads-begun}
 use Rattle.tabled_records.proofs.buffer.BufRecords.new.Goals as goal
 use Rattle.tabled_records.proofs.buffer.BufRecords.new.Goals.{then-taken, else-taken}
+use Rattle.tabled_records.proofs.Joining.{on-err}
 
 pub take_rows-requires : goal.take_rows-requires
 take_rows-requires g c =
@@ -31,7 +32,7 @@ returns-clause-gives g c cells b =
 pub returns-in_err-taken-clause-err : goal.returns-in_err-taken-clause-err
 returns-in_err-taken-clause-err g c =
     let read = c.in_err-taken.ensures.err in
-    on-err c.from_residual.result _
+    on-err c.from_residual.result
     (record {
       rows = read.cells;
       begun = c.iter_rows.ensures.begins read.cells false (reads-begun c.into_iter-rows.ensures.into_iter_gives read.reads);

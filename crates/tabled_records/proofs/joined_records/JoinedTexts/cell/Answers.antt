@@ -1,0 +1,41 @@
+use Rattle.std.proofs.Common.{◌≡◌, [], length, max, get_or, sym, ap, subst, ◌∙◌, arith, string_bytes}
+use Rattle.tabled_text.specs.Measure.{lines_of, text_columns}
+use Rattle.tabled_text.proofs.PlainLines.{plain_line-nil}
+use Rattle.tabled_base.specs.Cells.{cell_at}
+use Rattle.tabled_records.specs.Joined.{AreLines, texts_from}
+use Rattle.tabled_records.specs.JoinedRows.{IsCell, rows_in}
+use Rattle.tabled_records.proofs.Joining.{length-texts}
+use Rattle.tabled_records.proofs.Rows.{ranges-grown}
+use Rattle.tabled_records.proofs.joined_records.JoinedTexts.cell.Goals as goal
+
+pub cell-requires-clause-ranges : goal.cell-requires-clause-ranges
+cell-requires-clause-ranges c =
+    ranges-grown (length c.args.self.now) (length c.self.inside.ends) c.args.rows.now c.requires.ranges
+    (omega (arith, ap length c.self.view_is, length-texts 0 (string_bytes c.self.inside.whole) 0 c.self.inside.ends))
+
+pub returns-in-Some : goal.returns-in-Some
+returns-in-Some c =
+    let at = c.args.at in
+    let place = c.in-Some.place in
+    let all = ap (λ bytes. texts_from 0 bytes 0 c.self.inside.ends) c.as_str.ensures.value ∙ c.self.view_is in
+    let own = subst (λ texts. IsCell texts (cell_at (rows_in texts c.args.rows.now) at.row at.column) c.in-Some.text.now c.in-Some.columns place)
+    all c.in-Some.ensures in
+    let told = subst (λ texts. AreLines texts c.self.inside.lines.items) c.self.view_is c.self.invariant.kept.told in
+    record {
+      same = own.same;
+      wide = own.wide;
+      high = c.lines_at.ensures ∙ ap (λ lines. get_or lines place 1) c.deref.ensures.value ∙ told place own.there
+          ∙ ap (λ text. length (lines_of text)) own.found;
+    }
+
+pub returns-in-None : goal.returns-in-None
+returns-in-None c =
+    let at = c.args.at in
+    let all = ap (λ bytes. texts_from 0 bytes 0 c.self.inside.ends) c.as_str.ensures.value ∙ c.self.view_is in
+    let none : cell_at (rows_in c.args.self.now c.args.rows.now) at.row at.column ≡ [] =
+    ap (λ texts. cell_at (rows_in texts c.args.rows.now) at.row at.column) (sym all) ∙ c.in-None.ensures in
+    record {
+      same = sym none;
+      wide = sym (ap text_columns none ∙ ap (λ n. max n 0) plain_line-nil.columns);
+      high = sym (ap (λ text. length (lines_of text)) none);
+    }

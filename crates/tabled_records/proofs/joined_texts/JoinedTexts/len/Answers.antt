@@ -1,6 +1,0 @@
-use Rattle.std.proofs.Common.{length, sym, ap, ◌∙◌, string_bytes}
-use Rattle.tabled_records.proofs.Joining.{length-texts}
-use Rattle.tabled_records.proofs.joined_texts.JoinedTexts.len.Goals as goal
-
-pub returns : goal.returns
-returns c = c.len.ensures ∙ sym (length-texts 0 (string_bytes c.self.inside.whole) 0 c.self.inside.ends) ∙ ap length c.self.view_is

@@ -1,8 +1,0 @@
-use Rattle.std.proofs.Common.{◌≡◌, ℕ, length, get_or}
-use Rattle.tabled_records.proofs.joined_texts.note_lines.Given as goal
-
-abbrev pub invariant-ones : goal.invariant-ones
-invariant-ones l = record {
-  same : (k : ℕ) → get_or l.lines.items k 1 ≡ get_or l.fn.lines.items k 1;
-  count : length l.lines.items ≡ l._before;
-}

@@ -1,5 +1,0 @@
-use Rattle.tabled_records.proofs.PassRuns.{walked_more}
-use Rattle.tabled_records.proofs.walk.walk_rest.Goals as goal
-
-pub loop-cell-preserved : goal.loop-cell-preserved
-loop-cell-preserved g c = walked_more c.in-Some._cell c.in-Some.is c.loop-cell.invariant c.next.ensures.steps c.next.ensures.goes
