@@ -26,8 +26,7 @@ side_between right old mins by new s i j a b =
 one_first : (right : Bool) (x y i j : ℕ) → i ≢ j
     → (nat_lt x y || ((x == y) && (if right then nat_lt j i else nat_lt i j))) ≡ false
     → (nat_lt y x || ((y == x) && (if right then nat_lt i j else nat_lt j i))) ≡ true
-one_first true x y i j ne h = grind (arith, nat_tests)
-one_first false x y i j ne h = grind (arith, nat_tests)
+one_first right x y i j ne h = grind (arith, nat_tests)
 
 min_place : (right : Bool) (old mins : List ℕ) (by : ℕ) (new : List ℕ) (s : IsMinShrunk right old mins by new) (i : ℕ)
     → IsBetween old mins new i → i ≡ s.place

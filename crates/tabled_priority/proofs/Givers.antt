@@ -58,8 +58,7 @@ spare_up_to-next values mins base size n =
 next_before : (right : Bool) (v s base size i place : ℕ) → base < size → (base < v → size ≤ v)
     → (if (nat_lt v size || ((v == size) && (if right then nat_lt place i else nat_lt i place))) then s else 0)
     ≡ (if nat_le v base then s else 0) + (if ((v == size) && (if right then nat_lt place i else nat_lt i place)) then s else 0)
-next_before true v s base size i place h out = grind (arith, nat_tests)
-next_before false v s base size i place h out = grind (arith, nat_tests)
+next_before right v s base size i place h out = grind (arith, nat_tests)
 
 -- and those that come before one of them are those up to the base, and those of its size that stand beside it
 pub spare_before : (right : Bool) (values mins : List ℕ) (base size place : ℕ) → IsNextSize values base size → at values place ≡ size
@@ -75,12 +74,10 @@ spare_before right values mins base size place n is =
 
 -- ---- columns beside a place
 kept_left : (b : Bool) (s i k : ℕ) → i < k → (if (b && nat_lt i k) then s else 0) ≡ (if b then s else 0)
-kept_left true s i k h = grind (arith, nat_tests)
-kept_left false s i k h = refl
+kept_left b s i k h = grind (arith, nat_tests)
 
 gone_left : (b : Bool) (s i k : ℕ) → k ≤ i → (if (b && nat_lt i k) then s else 0) ≡ 0
-gone_left true s i k h = grind (arith, nat_tests)
-gone_left false s i k h = refl
+gone_left b s i k h = grind (arith, nat_tests)
 
 pub sum-left : (t : ℕ → Bool) (f : ℕ → ℕ) (k n : ℕ) → k ≤ n
     → sum_below (λ i. if (t i && nat_lt i k) then f i else 0) n ≡ sum_below (λ i. if t i then f i else 0) k
@@ -94,8 +91,7 @@ sum-left t f k (suc n) h = ⊎_elim
     (cases_lt k (suc n))
 
 parted : (b : Bool) (s i k : ℕ) → (if (b && nat_lt k i) then s else 0) + (if (b && nat_lt i (suc k)) then s else 0) ≡ (if b then s else 0)
-parted true s i k = grind (arith, nat_tests)
-parted false s i k = refl
+parted b s i k = grind (arith, nat_tests)
 
 pub sum-right : (t : ℕ → Bool) (f : ℕ → ℕ) (k n : ℕ) → k < n
     → sum_below (λ i. if (t i && nat_lt k i) then f i else 0) n + sum_below (λ i. if t i then f i else 0) (suc k)

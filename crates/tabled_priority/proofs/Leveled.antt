@@ -11,6 +11,7 @@ use Rattle.tabled_priority.specs.Permitted.{at, low, spare, taken, IsTakenFrom}
 use Rattle.tabled_priority.specs.Shrunk.{ceiling, is_met, start, place_after, IsMaxShrunk, IsRoundShrunk}
 use Rattle.tabled_priority.specs.Sums.{one_if}
 use Rattle.tabled_priority.specs.Schedule.{IsSpanBy, first_level, last_level, is_open, share}
+use Rattle.tabled_priority.specs.Laws.Round.{met_itself}
 
 -- ---- the greatest first
 -- a column with a share of depths stands at the ceiling, or at its limits
@@ -27,8 +28,7 @@ ceiling_left : (level last i : ℕ) → level < greatest_usize
 ceiling_left level last i a = grind (arith, nat_tests)
 
 pub one_if-le : (b : Bool) → one_if b ≤ 1
-one_if-le true = omega arith
-one_if-le false = omega arith
+one_if-le b = grind arith
 
 -- a span from the left begins at 0
 pub start-zero : (n : ℕ) → start 0 n ≡ 0
@@ -77,16 +77,12 @@ max_shrunk false old mins by new level first last v m l t within side each =
 
 -- ---- in turn
 round_share : (v m level new : ℕ) (b : Bool) → new + (min (level + one_if b) (v - m) - 0) ≡ v → new + min (v - m) (if b then level + 1 else level) ≡ v
-round_share v m level new true h = omega arith
-round_share v m level new false h = omega arith
+round_share v m level new b h = grind arith
 
 last_share : (v m level new : ℕ) (b : Bool) → b ≡ true → (nat_le 0 level && nat_lt level (v - m)) ≡ true
     → new + (min (level + one_if b) (v - m) - 0) ≡ v → new + (level + 1) ≡ v
 last_share v m level new true e o h = let l : level < v - m = grind (arith, nat_tests) in omega arith
 last_share v m level new false e o h = absurd cc
-
-met_last : (first last : ℕ) → is_met first last last ≡ true
-met_last first last = grind (arith, nat_tests)
 
 pub round_shrunk : (kept : ℕ) (old mins : List ℕ) (by : ℕ) (new : List ℕ) (level first last : ℕ)
     → 0 < taken old mins by → IsTakenFrom old mins by new → first ≡ start kept (length old)
@@ -99,7 +95,7 @@ round_shrunk kept old mins by new level first last some t e o each = record {
   last = last;
   stays = λ z. absurd (omega arith);
   moves = λ _. refl;
-  reached = λ _. last_share (at old last) (at mins last) level (at new last) (is_met first last last) (met_last first last) o (each last);
+  reached = λ _. last_share (at old last) (at mins last) level (at new last) (is_met first last last) (met_itself first last) o (each last);
   losses = λ i _ _. subst (λ k. at new i + min (spare old mins i) (if is_met k last i then level + 1 else level) ≡ at old i) e
       (round_share (at old i) (at mins i) level (at new i) (is_met first last i) (each i));
 }

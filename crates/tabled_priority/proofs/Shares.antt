@@ -1,5 +1,6 @@
 -- What columns take or gain by their shares.
-use Rattle.std.proofs.Common.{◌≡◌, ℕ, ◌+◌, ◌-◌, ◌≤◌, Bool, true, false, cond, ◌&&◌, ◌==◌, List, length, min, refl, ap, ◌∙◌, arith}
+use Rattle.std.proofs.Common.{◌≡◌, ℕ, ◌+◌, ◌-◌, ◌≤◌, Bool, true, false, cond, ◌&&◌, ◌==◌, List, length, min, refl, ap, ◌∙◌, arith, sym}
+use Rattle.std.proofs.Math.Bool.{and-true, and-false}
 use Rattle.tabled_priority.specs.Numbers.{greatest_usize}
 use Rattle.tabled_priority.specs.declared.schedule.Schedule.{Schedule}
 use Rattle.tabled_priority.specs.declared.schedule.Schedule.TheVariants.{Depths, Rounds, Heights, Gains}
@@ -35,18 +36,10 @@ share-at kind xs ys mins i from to level height first last took e f t h k =
 
 share-more : (from to : ℕ → ℕ) (level i : ℕ) (b : Bool) → amount from to (level + one_if b) i
     ≡ amount from to level i + one_if (is_open from to level i && b)
-share-more from to level i true = amount-more from to level i ∙ ap (λ t. amount from to level i + one_if t) (and_true (is_open from to level i))
-  where
-    and_true : (t : Bool) → t ≡ (t && true)
-    and_true true = refl
-    and_true false = refl
+share-more from to level i true = amount-more from to level i ∙ ap (λ t. amount from to level i + one_if t) (sym (and-true (is_open from to level i)))
 share-more from to level i false =
     ap (λ x. amount from to x i) (let e : level + 0 ≡ level = omega arith in e)
-    ∙ (let n = ap one_if (and_false (is_open from to level i)) in omega arith)
-  where
-    and_false : (t : Bool) → (t && false) ≡ false
-    and_false true = refl
-    and_false false = refl
+    ∙ (let n = ap one_if (and-false (is_open from to level i)) in omega arith)
 
 -- all shares together
 pub shares : (from to : ℕ → ℕ) (n wanted level rest first last : ℕ) → IsReached from to n wanted level rest

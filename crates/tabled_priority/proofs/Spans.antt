@@ -1,5 +1,5 @@
 -- How many open columns stand from a place round the list to another.
-use Rattle.std.proofs.Common.{◌≡◌, ℕ, ◌+◌, ◌-◌, ◌<◌, ◌≤◌, ◌⊎◌, Bool, true, false, ◌&&◌, refl, ap, arith, ⊎_elim, suc, nat_lt}
+use Rattle.std.proofs.Common.{◌≡◌, ℕ, ◌+◌, ◌-◌, ◌<◌, ◌≤◌, ◌⊎◌, Bool, true, ◌&&◌, ap, arith, ⊎_elim, suc, nat_lt}
 use Rattle.std.proofs.lemmas.Bool.Decides.{nat_tests}
 use Rattle.std.proofs.lemmas.Bool.{cases_lt}
 use Rattle.tabled_priority.specs.Sums.{sum_below, one_if}
@@ -12,12 +12,10 @@ count_below : (o : ℕ → Bool) (k n : ℕ) → k ≤ n → sum_below (λ i. on
 count_below o k n h = sum-left o (λ _. 1) k n h
 
 straight : (b : Bool) (f l i : ℕ) → f ≤ l → one_if (b && is_met f l i) + one_if (b && nat_lt i f) ≡ one_if (b && nat_lt i (suc l))
-straight true f l i h = grind (arith, nat_tests)
-straight false f l i h = refl
+straight b f l i h = grind (arith, nat_tests)
 
 around : (b : Bool) (f l i : ℕ) → l < f → one_if (b && is_met f l i) + one_if (b && nat_lt i f) ≡ one_if b + one_if (b && nat_lt i (suc l))
-around true f l i h = grind (arith, nat_tests)
-around false f l i h = refl
+around b f l i h = grind (arith, nat_tests)
 
 pub count_straight : (o : ℕ → Bool) (n f l : ℕ) → f ≤ l → l < n → sum_below
     (λ i. one_if (o i && is_met f l i)) n + sum_below (λ i. one_if (o i)) f ≡ sum_below (λ i. one_if (o i)) (suc l)

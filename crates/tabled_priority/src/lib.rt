@@ -3,8 +3,8 @@
 //! Sizes and minimums are plain numbers here; this crate knows no tables.
 //!
 //! - `peaker.rt`: `Peaker` chooses the size to change next; `TakesAll`.
-//! - `none.rt`, `stateless.rt`: the five priorities.
-//! - `priority.rt`: `Priority` makes them.
+//! - `priority.rt`: `Priority` makes the five priorities; `PriorityNone` changes sizes in turn.
+//! - `stateless.rt`: the other four.
 //! - `choice.rt`: the size that comes first, and growing that one.
 //! - `schedule.rt`: the levels from which and up to which a size changes by one a level, and the
 //!   search for the level that is reached.
@@ -19,7 +19,6 @@ mod choice;
 mod column;
 mod in_order;
 mod level;
-mod none;
 mod peaker;
 mod priority;
 mod schedule;
@@ -27,7 +26,6 @@ mod stateless;
 
 pub use column::Steps;
 pub use level::is_level;
-pub use none::PriorityNone;
 pub use peaker::{Peaker, TakesAll};
-pub use priority::Priority;
+pub use priority::{Priority, PriorityNone};
 pub use stateless::{PriorityLeft, PriorityMax, PriorityMin, PriorityRight};

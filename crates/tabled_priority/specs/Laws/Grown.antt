@@ -142,19 +142,16 @@ IsMinGrown-still right xs by z = record {
 floor-here : (right : Bool) (height i j : ℕ) → (ceiling (not right) height (cond right i (i + 1)) i ≡ height + 1)
     × (ceiling (not right) height (cond right i (i + 1)) j ≤ height + 1)
     × (j ≢ i → (if right then nat_lt j i else nat_lt i j) ≡ true → ceiling (not right) height (cond right i (i + 1)) j ≡ height)
-floor-here true height i j = (grind (arith, nat_tests), grind (arith, nat_tests), λ ne side. grind (arith, nat_tests))
-floor-here false height i j = (grind (arith, nat_tests), grind (arith, nat_tests), λ ne side. grind (arith, nat_tests))
+floor-here right height i j = (grind (arith, nat_tests), grind (arith, nat_tests), λ ne side. grind (arith, nat_tests))
 
 -- an index after the smallest has a greater value, or is on its side
 least-side : (right : Bool) (x y i j : ℕ) → before right x y i j ≡ true → x ≡ y → (if right then nat_lt j i else nat_lt i j) ≡ true
-least-side true x y i j h e = grind (arith, nat_tests)
-least-side false x y i j h e = grind (arith, nat_tests)
+least-side right x y i j h e = grind (arith, nat_tests)
 
 -- if the floor at i is at most its value, no other nonzero value is raised
 floor-side : (right : Bool) (level p i j : ℕ) → (if right then nat_lt j i else nat_lt i j) ≡ true
     → ceiling (not right) level p j ≤ ceiling (not right) level p i
-floor-side true level p i j h = grind (arith, nat_tests)
-floor-side false level p i j h = grind (arith, nat_tests)
+floor-side right level p i j h = grind (arith, nat_tests)
 
 floor-other : (right : Bool) (level p i j : ℕ) (x height : ℕ) → ceiling (not right) level p i ≤ height → height ≤ x
     → (height ≡ x → (if right then nat_lt j i else nat_lt i j) ≡ true) → ceiling (not right) level p j ≤ x

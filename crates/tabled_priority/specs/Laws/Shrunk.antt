@@ -98,8 +98,7 @@ pub at-le-sum : (xs : List ℕ) (i : ℕ) → at xs i ≤ sum xs
 at-le-sum xs i = ⊎_elim (λ l. get_or-le-sum_by (λ x. x) xs i 0 l) (λ past. let e = get_or_past xs i 0 past in omega arith) (cases_lt i (length xs))
 
 pub level-le-ceiling : (right : Bool) (level p i : ℕ) → (level ≤ ceiling right level p i) × (ceiling right level p i ≤ level + 1)
-level-le-ceiling true level p i = grind (arith, nat_tests)
-level-le-ceiling false level p i = grind (arith, nat_tests)
+level-le-ceiling right level p i = grind (arith, nat_tests)
 
 pub IsMaxShrunk-still : (right : Bool) (xs mins : List ℕ) (by : ℕ) → taken xs mins by ≡ 0 → IsMaxShrunk right xs mins by xs
 IsMaxShrunk-still right xs mins by z = record {
@@ -119,13 +118,11 @@ IsMaxShrunk-done right xs mins by h = IsMaxShrunk-still right xs mins by (taken-
 ceiling-here : (right : Bool) (height i j : ℕ) → 0 < height → (ceiling right (height - 1) (cond right i (i + 1)) i + 1 ≡ height)
     × (height ≤ ceiling right (height - 1) (cond right i (i + 1)) j + 1)
     × ((j ≢ i → cond right (nat_le j i) (nat_le i j) ≡ true → ceiling right (height - 1) (cond right i (i + 1)) j ≡ height))
-ceiling-here true height i j h = (grind (arith, nat_tests), grind (arith, nat_tests), λ ne side. grind (arith, nat_tests))
-ceiling-here false height i j h = (grind (arith, nat_tests), grind (arith, nat_tests), λ ne side. grind (arith, nat_tests))
+ceiling-here right height i j h = (grind (arith, nat_tests), grind (arith, nat_tests), λ ne side. grind (arith, nat_tests))
 
 -- the ceiling doesn't rise on the given side
 pub ceiling-side : (right : Bool) (level p i j : ℕ) → cond right (nat_le j i) (nat_le i j) ≡ true → ceiling right level p i ≤ ceiling right level p j
-ceiling-side true level p i j h = grind (arith, nat_tests)
-ceiling-side false level p i j h = grind (arith, nat_tests)
+ceiling-side right level p i j h = grind (arith, nat_tests)
 
 -- if the ceiling at i is at least its value, no other value above its minimum is lowered
 ceiling-other : (right : Bool) (level p i j : ℕ) (x height : ℕ) → height ≤ ceiling right level p i → x ≤ height
@@ -216,12 +213,10 @@ abbrev pub before : Bool → ℕ → ℕ → ℕ → ℕ → Bool
 before right x y i j = nat_lt x y || ((x == y) && (if right then nat_lt j i else nat_lt i j))
 
 pub before-asym : (right : Bool) (x y i j : ℕ) → before right x y i j ≡ true → before right y x j i ≡ true → ⊥
-before-asym true x y i j a b = grind (arith, nat_tests)
-before-asym false x y i j a b = grind (arith, nat_tests)
+before-asym right x y i j a b = grind (arith, nat_tests)
 
 pub before-le : (right : Bool) (x y i j : ℕ) → before right x y i j ≡ true → x ≤ y
-before-le true x y i j a = grind (arith, nat_tests)
-before-le false x y i j a = grind (arith, nat_tests)
+before-le right x y i j a = grind (arith, nat_tests)
 
 pub before-lt : (right : Bool) (x y i j : ℕ) → x < y → before right x y i j ≡ true
 before-lt right x y i j h = ap (λ b. b || ((x == y) && (if right then nat_lt j i else nat_lt i j))) (lt-ltb x y h)

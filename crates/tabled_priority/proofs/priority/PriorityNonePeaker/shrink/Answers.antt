@@ -1,6 +1,6 @@
 use Rattle.tabled_priority.proofs.Between.{round_even}
 use Rattle.tabled_priority.proofs.Visiting.{shrinking}
-use Rattle.tabled_priority.proofs.none.PriorityNonePeaker.shrink.Goals as goal
+use Rattle.tabled_priority.proofs.priority.PriorityNonePeaker.shrink.Goals as goal
 
 pub returns-clause-shrinking : goal.returns-clause-shrinking
 returns-clause-shrinking c =

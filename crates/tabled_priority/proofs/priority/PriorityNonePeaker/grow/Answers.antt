@@ -1,5 +1,5 @@
 use Rattle.tabled_priority.proofs.Visiting.{growing}
-use Rattle.tabled_priority.proofs.none.PriorityNonePeaker.grow.Goals as goal
+use Rattle.tabled_priority.proofs.priority.PriorityNonePeaker.grow.Goals as goal
 
 pub returns-clause-growing : goal.returns-clause-growing
 returns-clause-growing c =
