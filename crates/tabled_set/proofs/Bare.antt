@@ -13,8 +13,7 @@ use Rattle.tabled_text.proofs.PlainLines.{plain_line-nil}
 use Rattle.tabled_text.specs.Exact.{IsExactLine}
 use Rattle.tabled_text.proofs.ExactLines.{exact-longest}
 use Rattle.tabled_set.specs.declared.suffix.SuffixLimit.{SuffixLimit}
-use Rattle.tabled_set.specs.Truncated.{IsCutBefore, IsEnded, IsLimited, IsTruncated, IsUsed, suffix_columns}
-use Rattle.tabled_set.specs.LongestLines.{HasLongestLines}
+use Rattle.tabled_set.specs.Truncated.{IsCutBefore, IsEnded, IsLimited, IsTruncated, IsUsed, suffix_columns, HasLongestLines}
 
 missing-none : (rest : List ℕ) → missing_columns 0 [] rest ≡ 0
 missing-none [] = refl

@@ -70,31 +70,6 @@ AreChanged-as {chosen} {first} {second} {old} {new} h so =
           (cases_Bool (chosen row column));
     }
 
--- chosen places may stay where the relation says so
-pub AreChanged-staying : {chosen : ℕ → ℕ → Bool} {change : ℕ → ℕ → List ℕ → List ℕ → Type 0} (cells : List (List (List ℕ))) → ((row column : ℕ) → IsInside cells row column → chosen row column ≡ true → change row column (cell_at cells row column) (cell_at cells row column)) → AreChanged chosen change cells cells
-AreChanged-staying {chosen} {change} cells stays =
-    record {
-      rows = refl;
-      row_lengths = λ row. refl;
-      cells = λ row column inside.
-          let text = cell_at cells row column in
-          ⊎_elim
-          (λ yes. match-true (change row column text text) (text ≡ text) yes (stays row column inside yes))
-          (λ no. match-false (change row column text text) (text ≡ text) no refl)
-          (cases_Bool (chosen row column));
-    }
-
--- no place is chosen
-pub AreChanged-none : {chosen : ℕ → ℕ → Bool} {change : ℕ → ℕ → List ℕ → List ℕ → Type 0} (cells : List (List (List ℕ))) → ((row column : ℕ) → IsInside cells row column → chosen row column ≡ false) → AreChanged chosen change cells cells
-AreChanged-none {chosen} {change} cells none =
-    record {
-      rows = refl;
-      row_lengths = λ row. refl;
-      cells = λ row column inside.
-          let text = cell_at cells row column in
-          match-false (change row column text text) (text ≡ text) (none row column inside) refl;
-    }
-
 -- a place is chosen where one of two tests chooses it, and not both do
 pub record IsEither (chosen first second : Bool) : Type 0 where
   pub apart : first ≡ true → second ≡ false

@@ -10,9 +10,8 @@ use Rattle.tabled_size.specs.Sheet.{Sheet}
 use Rattle.tabled_set.specs.CellChanges.{AreChanged, AreChangedBefore, NeedsMemory, NeedsMemoryIn, if_taken, in_room}
 use Rattle.tabled_set.specs.declared.walk.WalkOrder.{WalkOrder}
 use Rattle.tabled_set.specs.declared.changing.CellFilter.{CellFilter}
-use Rattle.tabled_set.specs.ColumnChanges.{for_width, is_permitted, needs_for_width}
+use Rattle.tabled_set.specs.Narrowed.{for_width, is_permitted, needs_for_width, for_content_size, needs_for_content_size}
 use Rattle.tabled_set.specs.Minimums.{minimums, side_padding}
-use Rattle.tabled_set.specs.Narrowed.{for_content_size, needs_for_content_size}
 use Rattle.tabled_set.proofs.ChangingCells.{AreChanged-as}
 
 -- the test of a column by a list of minimums that goes as far as the widths

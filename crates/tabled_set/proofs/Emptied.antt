@@ -14,9 +14,6 @@ use Rattle.tabled_text.specs.Measure.{text_columns}
 use Rattle.tabled_text.proofs.StayLemmas.{StaysWithin-none, text_columns-stays}
 use Rattle.tabled_set.specs.Minimums.{emptied, minimums, side_padding}
 
-no_text : List ℕ → List ℕ
-no_text text = []
-
 pub emptied-rows : (cells : List (List (List ℕ))) → length (emptied cells) ≡ length cells
 emptied-rows cells = length-map cells (map (λ text. []))
 

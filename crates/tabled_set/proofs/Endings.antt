@@ -1,8 +1,10 @@
 -- What is appended of a text that is truncated.
-use Rattle.std.proofs.Common.{◌≡◌, ◌≢◌, ℕ, zero, suc, List, ◌++◌, MatchBool, refl, sym, subst, ◌∙◌, append_assoc}
+use Rattle.std.proofs.Common.{◌≡◌, ◌≢◌, ℕ, zero, suc, List, ◌++◌, MatchBool, refl, sym, subst, ◌∙◌, append_assoc, ◌+◌, ◌==◌, length, sum_by, arith}
 use Rattle.std.proofs.Math.Dec.{eqb-suc-zero}
 use Rattle.tabled_text.specs.Cut.{IsCut}
-use Rattle.tabled_set.specs.Truncated.{AddsEnded, IsCutBefore}
+use Rattle.tabled_set.specs.Truncated.{AddsEnded, IsCutBefore, suffix_columns}
+use Rattle.std.proofs.lemmas.List.Splits.{length-slice_split}
+use Rattle.tabled_text.specs.Measure.{line_columns, lines_of}
 
 -- what stands for the suffix alone
 pub AddsEnded-alone : {left : ℕ} {used text old new : List ℕ} → left ≡ 0 → new ≡ old ++ used → AddsEnded left used text old new
@@ -19,3 +21,11 @@ AddsEnded-cut (suc k) {used} {text} {front} {old} some cut e =
       ended = subst (λ b. MatchBool b (answer ≡ used) (IsCutBefore (suc k) used text answer)) (sym (eqb-suc-zero k)) (record { front = front; cut = cut; answered = refl });
       added = e ∙ append_assoc old front used;
     }
+
+-- the columns of some lines, and one more for each
+abbrev pub taken : List (List ℕ) → ℕ
+taken lines = sum_by line_columns lines + length lines
+
+-- a column more is left than where each line takes one more
+pub left_beside : (suffix : List ℕ) (content_size left : ℕ) → left + taken (lines_of suffix) ≡ content_size → suffix_columns suffix + (left + 1) ≡ content_size
+left_beside suffix content_size left h = let some = length-slice_split (λ c. c == 10) suffix in omega (arith, h, some)

@@ -16,8 +16,7 @@ use Rattle.tabled_size.specs.Stored.{heights_of, widths_of}
 use Rattle.tabled_size.specs.Totals.{filled_height, filled_width, part_height, total_height, total_width}
 use Rattle.tabled_size.specs.declared.complete_dimension.CompleteDimension.{CompleteDimension}
 use Rattle.tabled_size.proofs.Totalling.{heights_length}
-use Rattle.tabled_set.specs.Growing.{IsGrownBy}
-use Rattle.tabled_set.specs.Increased.{IncreasesWidth, IsWidened}
+use Rattle.tabled_set.specs.Increased.{IsGrownBy, IncreasesWidth, IsWidened}
 use Rattle.tabled_set.proofs.NarrowingTables.{effective-filled, effective-total, effective-widths}
 
 -- ---- the sizes are a part of the total

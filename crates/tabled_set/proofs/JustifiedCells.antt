@@ -5,8 +5,7 @@ use Rattle.std.proofs.lemmas.Bool.Decides.{nat_tests}
 use Rattle.tabled_base.specs.declared.position.Entity.{Entity}
 use Rattle.tabled_set.proofs.ChangingCells.{AreChanged-as, match-false}
 use Rattle.tabled_set.specs.CellChanges.{ChangesEntity, if_taken, is_taken, truncating}
-use Rattle.tabled_set.specs.Justified.{IsJustified}
-use Rattle.tabled_set.specs.TextLines.{filling}
+use Rattle.tabled_set.specs.TextLines.{IsJustified, filling}
 use Rattle.tabled_set.specs.declared.suffix.SuffixLimit.TheVariants.{Cut}
 use Rattle.tabled_set.specs.declared.changing.CellFilter.TheVariants.{NotAsWide}
 use Rattle.tabled_text.specs.Measure.{text_columns}

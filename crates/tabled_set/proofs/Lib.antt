@@ -2,12 +2,11 @@ pub mod Bare
 pub mod Beginnings
 pub mod ChangingCells
 pub mod ChangingColumns
-pub mod CopiedFeeds
 pub mod Emptied
 pub mod Endings
 pub mod ExactTotals
 pub mod GrowingTables
-pub mod HeightTotals
+pub mod Totals
 pub mod JoinedLines
 pub mod JustifiedCells
 pub mod NarrowingTables
@@ -16,7 +15,5 @@ pub mod Picking
 pub mod PromisedSizes
 pub mod Promises
 pub mod Stopping
-pub mod SuffixLemmas
 pub mod TruncatedTexts
 pub mod WalkLemmas
-pub mod WidthTotals

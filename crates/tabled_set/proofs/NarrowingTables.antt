@@ -10,7 +10,7 @@ use Rattle.tabled_base.specs.declared.error.TableError.TheVariants.{Memory, Rang
 use Rattle.tabled_config.specs.declared.spanned.SpannedConfig.{SpannedConfig}
 use Rattle.tabled_size.specs.Estimates.{IsTooWide, estimated_heights, estimated_widths}
 use Rattle.tabled_size.specs.FilledIn.{IsFilledIn}
-use Rattle.tabled_priority.specs.Permitted.{FitsMinimums, IsPermitted}
+use Rattle.tabled_priority.specs.Permitted.{FitsMinimums}
 use Rattle.tabled_size.specs.Sheet.{Sheet, is_empty}
 use Rattle.tabled_size.specs.Effective.{effective, effective_sizes}
 use Rattle.tabled_size.specs.Stored.{heights_of, widths_of}
@@ -20,10 +20,8 @@ use Rattle.tabled_size.proofs.Totalling.{heights_length, widths_length}
 use Rattle.tabled_set.specs.CellChanges.{AreChanged, AreChangedBefore, if_taken}
 use Rattle.tabled_set.specs.declared.walk.WalkOrder.TheVariants.{ByColumn}
 use Rattle.tabled_set.specs.declared.changing.CellFilter.{CellFilter}
-use Rattle.tabled_set.specs.ColumnChanges.{for_width, needs_for_width}
+use Rattle.tabled_set.specs.Narrowed.{for_width, needs_for_width, IsNarrowed, Narrows, NarrowingOutOfRange, StopsNarrowing, WiderOutOfRange, IsFound}
 use Rattle.tabled_set.specs.Minimums.{emptied, minimums}
-use Rattle.tabled_set.specs.Narrowed.{IsNarrowed, Narrows, NarrowingOutOfRange, StopsNarrowing, WiderOutOfRange}
-use Rattle.tabled_set.specs.Shrinking.{IsFound, IsShrunkBy}
 use Rattle.tabled_set.proofs.ChangingCells.{match-false, match-true}
 use Rattle.tabled_set.proofs.ChangingColumns.{content_sizes-before, content_sizes-made}
 use Rattle.tabled_set.proofs.Emptied.{minimums-length}
@@ -66,24 +64,6 @@ minimums-fit cells config stored widths mins count e w m =
     inr (omega (arith, long, short, minimums-length cells config, e))
 
 module _ {P : Type 0} (shrinks : P → List ℕ → List ℕ → ℕ → List ℕ → P → Type 0) (priority : P) (n : ℕ) where
-  pub found : (t : Sheet) (old mins new : List ℕ) (by total : ℕ) → n < total → by ≡ total - n → total ≡ total_width t → old ≡ t.widths → mins ≡ take (length old) (minimums t.cells t.config) → length new ≡ length old → IsShrunkBy shrinks priority old mins by new → IsFound shrinks priority n t new mins
-  found t old mins new by total wider b e w m long s =
-      let same : mins ≡ take (length t.widths) (minimums t.cells t.config) = m ∙ ap (λ l. take (length l) (minimums t.cells t.config)) w in
-      record {
-        wider = omega (arith, wider, e);
-        shrunk = record {
-          last = s.last;
-          shrunk =
-              subst (λ k. shrinks priority t.widths (take (length t.widths) (minimums t.cells t.config)) k new s.last) (b ∙ ap (λ k. k - n) e)
-              (subst (λ ms. shrinks priority t.widths ms by new s.last) same
-              (subst (λ ws. shrinks priority ws mins by new s.last) w s.shrunk));
-          permitted =
-              subst (λ ms. IsPermitted t.widths ms new) same
-              (subst (λ ws. IsPermitted ws mins new) w s.permitted);
-        };
-        fits = m ∙ ap (λ k. take k (minimums t.cells t.config)) (sym long);
-      }
-
   -- ---- what narrowing leaves
 
   module _ (change : ℕ → List ℕ → List ℕ → Type 0) (cells : List (List (List ℕ))) (config : SpannedConfig) (old mid : CompleteDimension) (some : is_empty cells ≡ false) (filled : IsFilledIn old cells config mid) where

@@ -5,8 +5,8 @@ use Rattle.std.proofs.lemmas.List.FromFn.{map-range_with_len_more}
 use Rattle.tabled_size.proofs.Greatest.{greatest_more}
 use Rattle.tabled_text.specs.Measure.{greatest}
 use Rattle.tabled_set.specs.Extremes.{least, least_of, picked}
-use Rattle.tabled_set.specs.declared.extremes.Pick.{Pick}
-use Rattle.tabled_set.specs.declared.extremes.Pick.TheVariants.{Greatest, Least}
+use Rattle.tabled_set.specs.declared.measurement.Pick.{Pick}
+use Rattle.tabled_set.specs.declared.measurement.Pick.TheVariants.{Greatest, Least}
 
 least_of-push : (x : ℕ) (xs : List ℕ) (y : ℕ) → least_of x (xs ++ y ∷ []) ≡ min (least_of x xs) y
 least_of-push x [] y = refl
@@ -44,7 +44,3 @@ picks_greatest Least n best next answer e a f b q = let no : Least ≡ Greatest 
 pub picks_least : (pick : Pick) (n best next answer : ℕ) → pick ≡ Least → n ≢ 0 → answer ≡ min best next → Picks pick n best next answer
 picks_least Least n best next answer e some a f b q = a ∙ least_next f n best next some b q
 picks_least Greatest n best next answer e some a f b q = let no : Greatest ≡ Least = e in cc
-
-pub picks_first : (pick : Pick) (n best next : ℕ) → pick ≡ Least → n ≡ 0 → Picks pick n best next next
-picks_first Least n best next e none f b q = least_first f n next none q
-picks_first Greatest n best next e none f b q = let no : Greatest ≡ Least = e in cc

@@ -16,14 +16,16 @@ use Rattle.tabled_size.specs.Totals.{filled_height, filled_width, total_height, 
 use Rattle.tabled_size.specs.declared.complete_dimension.CompleteDimension.{CompleteDimension}
 use Rattle.tabled_size.proofs.Totalling.{heights_length}
 use Rattle.tabled_set.specs.HeightFrame.{frame_height}
-use Rattle.tabled_set.specs.Increased.{IncreasesHeight, IncreasesWidth, IsHeightened, IsWidened}
+use Rattle.tabled_set.specs.CellChanges.{AreChanged}
+use Rattle.tabled_set.specs.Increased.{IncreasesHeight, IncreasesWidth, IsGrownBy, IsHeightened, IsWidened}
+use Rattle.tabled_set.specs.Narrowed.{IsShrunkBy}
 use Rattle.tabled_set.specs.Limited.{IsLowered, LimitsHeight, for_height}
 use Rattle.tabled_set.specs.Priorities.{AddsTo}
+use Rattle.tabled_set.proofs.ChangingCells.{match-false}
 use Rattle.tabled_set.proofs.ExactTotals.{changed_empty}
 use Rattle.tabled_set.proofs.GrowingTables.{full_height}
-use Rattle.tabled_set.proofs.HeightTotals.{filled_height-frame, grown-sum, shrunk-total, some-lines}
+use Rattle.tabled_set.proofs.Totals.{filled_height-frame, grown-sum, shrunk-total, some-lines, filled_width-short, short-widths, take-all}
 use Rattle.tabled_set.proofs.NarrowingTables.{filled-size, effective-filled}
-use Rattle.tabled_set.proofs.WidthTotals.{filled_width-short, short-widths, take-all}
 use Rattle.tabled_set.specs.Promised.{HeightensAsPromised, LimitsAsPromised, WidensAsPromised}
 
 -- ---- heights
@@ -41,6 +43,45 @@ total-stored cells config left heights some stored long =
 -- the estimated ones
 total-estimated : (cells : List (List (List ℕ))) (config : SpannedConfig) → is_empty cells ≡ false → total_height (estimated cells config) ≡ sum (estimated_heights cells config) + frame_height config (length cells)
 total-estimated cells config some = full_height cells config some ∙ filled_height-frame config (length cells) (estimated_heights cells config) (heights_length cells config)
+
+-- heights that grow or shrink from the estimates by the settings that a table lends
+module _ {P : Type 0} (s : P) (n m total : ℕ) (cells : List (List (List ℕ))) (config lent : SpannedConfig) (old new : CompleteDimension) (heights list : List ℕ)
+    (same : lent ≡ config) (some : is_empty cells ≡ false) (measured : m ≡ n) (whole : total ≡ total_height (estimated cells lent)) (high : heights ≡ estimated_heights cells lent)
+    (stored : heights_of new ≡ Some list) (wide : widths_of new ≡ widths_of old) where
+  all : total ≡ total_height (estimated cells config)
+  all = whole ∙ ap (λ c. total_height (estimated cells c)) same
+
+  pub heightened : (grows : P → List ℕ → ℕ → List ℕ → P → Type 0) → total < m → IsGrownBy grows s heights (m - total) list → IncreasesHeight grows s n cells config old new
+  heightened grows less grown =
+      let by : m - total ≡ n - total_height (estimated cells config) = ap (λ k. k - total) measured ∙ ap (λ k. n - k) all in
+      let above = lt-leb n (total_height (estimated cells config)) (omega (arith, all, measured, less)) in
+      match-false (new ≡ old) _ some
+      (match-false (new ≡ old) (IsHeightened grows s n cells config old new) above
+      (record {
+        heights = list;
+        grown =
+            subst (λ k. IsGrownBy grows s (estimated_heights cells config) k list) by
+            (subst (λ hs. IsGrownBy grows s hs (m - total) list) (high ∙ ap (λ c. estimated_heights cells c) same) grown);
+        stored = stored;
+        widths = wide;
+      }))
+
+  pub lowered : (shrinks : P → List ℕ → List ℕ → ℕ → List ℕ → P → Type 0) (cells' : List (List (List ℕ))) (kept : List ℕ) → m < total
+      → IsShrunkBy shrinks s heights [] (total - m) list → kept ≡ list → AreChanged (λ row column. true) (for_height kept) cells cells' → LimitsHeight shrinks s n cells config old cells' new
+  lowered shrinks cells' kept less shrunk e changed =
+      let by : total - m ≡ total_height (estimated cells config) - n = ap (λ k. k - m) all ∙ ap (λ k. total_height (estimated cells config) - k) measured in
+      let above = lt-leb (total_height (estimated cells config)) n (omega (arith, all, measured, less)) in
+      match-false ((cells' ≡ cells) × (new ≡ old)) _ some
+      (match-false ((cells' ≡ cells) × (new ≡ old)) (IsLowered shrinks s n cells config old cells' new) above
+      (record {
+        heights = list;
+        shrunk =
+            subst (λ k. IsShrunkBy shrinks s (estimated_heights cells config) [] k list) by
+            (subst (λ hs. IsShrunkBy shrinks s hs [] (total - m) list) (high ∙ ap (λ c. estimated_heights cells c) same) shrunk);
+        changed = subst (λ hs. AreChanged (λ row column. true) (for_height hs) cells cells') e changed;
+        stored = stored;
+        widths = wide;
+      }))
 
 module _ {P : Type 0} (grows : P → List ℕ → ℕ → List ℕ → P → Type 0) (s : P) (n : ℕ) (cells : List (List (List ℕ))) (config : SpannedConfig) (old new left : CompleteDimension)
     (h : IncreasesHeight grows s n cells config old new) (cleared : AreCleared None new left) where

@@ -21,10 +21,9 @@ use Rattle.tabled_set.specs.BestNarrowing.{HasLeastWidth, IsBestCut, inner_width
 use Rattle.tabled_set.specs.CellChanges.{if_wider, truncating, wrapping}
 use Rattle.tabled_set.specs.ExactTotal.{HasExactTotal}
 use Rattle.tabled_set.specs.Narrowed.{IsNarrowed, Narrows}
-use Rattle.tabled_set.specs.PlainEnding.{IsAdditiveLimit}
+use Rattle.tabled_set.specs.Truncated.{IsAdditiveLimit, IsTruncated}
 use Rattle.tabled_set.specs.Priorities.{TakesFrom, TakesGreatest}
 use Rattle.tabled_set.specs.Promised.{IsWiderThan, TruncatesAsPromised, WrapsAsPromised}
-use Rattle.tabled_set.specs.Truncated.{IsTruncated}
 use Rattle.tabled_set.specs.declared.suffix.SuffixLimit.{SuffixLimit}
 use Rattle.tabled_set.proofs.Bare.{longest_lines, longest_truncated}
 use Rattle.tabled_set.proofs.ExactTotals.{FindsRoom, IsNarrowed-wider, KeepsPlain, changed_for_room, exact_total, leveled}

@@ -4,7 +4,7 @@ use Rattle.tabled_base.specs.declared.error.TableError.{TableError}
 use Rattle.tabled_base.specs.declared.error.TableError.TheVariants.{Memory, Range}
 use Rattle.tabled_set.specs.CellChanges.{AreChangedBefore, StopsChanging}
 use Rattle.tabled_set.specs.declared.walk.WalkOrder.{WalkOrder}
-use Rattle.tabled_set.specs.Filling.{StopsFilling}
+use Rattle.tabled_set.specs.Increased.{StopsFilling}
 use Rattle.tabled_size.specs.declared.complete_dimension.CompleteDimension.{CompleteDimension}
 
 -- with `Memory` the cells before some cell are changed

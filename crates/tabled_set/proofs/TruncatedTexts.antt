@@ -16,8 +16,7 @@ use Rattle.tabled_text.proofs.FittingLaws.{fits-cut, fits-suffix, fits-joined, f
 use Rattle.tabled_text.proofs.PlainLines.{plain_line-each, plain_text-line}
 use Rattle.tabled_text.proofs.StayLemmas.{StaysWithin-cut, StaysWithin-suffix, StaysWithin-join, StaysWithin-none, StaysWithin-filled}
 use Rattle.tabled_set.specs.CellChanges.{if_wider, truncating}
-use Rattle.tabled_set.specs.PlainEnding.{IsAdditiveLimit}
-use Rattle.tabled_set.specs.Truncated.{IsCutBefore, IsEnded, IsLimited, IsTruncated, IsUsed, suffix_columns}
+use Rattle.tabled_set.specs.Truncated.{IsAdditiveLimit, IsCutBefore, IsEnded, IsLimited, IsTruncated, IsUsed, suffix_columns}
 use Rattle.tabled_set.specs.declared.suffix.SuffixLimit.{SuffixLimit}
 use Rattle.tabled_set.specs.declared.suffix.SuffixLimit.TheVariants.{Cut, Ignore, Replace}
 

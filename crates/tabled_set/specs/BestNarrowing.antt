@@ -2,7 +2,7 @@
 use Rattle.std.specs.Prelude.{◌≡◌, ◌<◌, ◌-◌, ℕ, Bool, true, false}
 use Rattle.tabled_text.specs.Exact.{IsExactLine}
 use Rattle.tabled_base.specs.Cells.{IsInside, cell_at}
-use Rattle.tabled_set.specs.LongestLines.{HasLongestLines}
+use Rattle.tabled_set.specs.Truncated.{HasLongestLines}
 use Rattle.tabled_set.specs.Minimums.{minimums, side_padding}
 use Rattle.tabled_priority.specs.Least.{HasLeastGreatest}
 use Rattle.tabled_priority.specs.Permitted.{at}

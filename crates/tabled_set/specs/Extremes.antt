@@ -1,12 +1,14 @@
--- The maximum or minimum size of a table's cells.
-use Rattle.std.specs.Prelude.{ℕ, List, [], ◌∷◌, length, map, min}
+-- The maximum or minimum size of a table's cells, and a percentage of its total size.
+use Rattle.std.specs.Prelude.{ℕ, List, [], ◌∷◌, length, map, min, ◌⊎◌, ◌≤◌, ◌^◌, ◌*◌, ◌/◌}
 use Rattle.std.specs.List.{range_with_len}
 use Rattle.tabled_base.specs.Cells.{cell_at, columns}
 use Rattle.tabled_text.specs.Measure.{greatest, lines_of, text_columns}
-use Rattle.tabled_set.specs.declared.extremes.TextMeasure.{TextMeasure}
-use Rattle.tabled_set.specs.declared.extremes.TextMeasure.TheVariants.{Columns, Lines}
-use Rattle.tabled_set.specs.declared.extremes.Pick.{Pick}
-use Rattle.tabled_set.specs.declared.extremes.Pick.TheVariants.{Greatest, Least}
+use Rattle.tabled_set.specs.declared.measurement.TextMeasure.{TextMeasure}
+use Rattle.tabled_set.specs.declared.measurement.TextMeasure.TheVariants.{Columns, Lines}
+use Rattle.tabled_set.specs.declared.measurement.Pick.{Pick}
+use Rattle.tabled_set.specs.declared.measurement.Pick.TheVariants.{Greatest, Least}
+use Rattle.tabled_size.specs.Sheet.{Sheet}
+use Rattle.tabled_size.specs.Totals.{total_height, total_width}
 
 -- the minimum of a number and a list
 abbrev pub least_of : ℕ → List ℕ → ℕ
@@ -42,3 +44,16 @@ picked_of_rows across within extent cells =
 abbrev pub min_of : TextMeasure → List (List (List ℕ)) → ℕ
 min_of Columns cells = picked_of_rows Greatest Least Columns cells
 min_of Lines cells = picked_of_rows Least Greatest Lines cells
+
+-- the total width or height of a table
+abbrev pub total_of : TextMeasure → Sheet → ℕ
+total_of Columns t = total_width t
+total_of Lines t = total_height t
+
+-- a percentage of a number, rounded down
+abbrev pub percent_of : ℕ → ℕ → ℕ
+percent_of percent whole = whole * percent / 100
+
+-- the number, or its product with the percentage, overflows `usize`
+abbrev pub HasNoPercent : ℕ → ℕ → Type 0
+HasNoPercent percent whole = (2 ^ 64 ≤ whole) ⊎ (2 ^ 64 ≤ whole * percent)

@@ -1,4 +1,4 @@
--- Tables whose columns or rows grow to a total.
+-- Tables whose columns or rows grow to a total, and errors before they do.
 use Rattle.std.specs.Prelude.{◌≡◌, ℕ, ◌-◌, ◌⊎◌, ◌<◌, ◌≤◌, ◌^◌, nat_le, false, List, MatchBool, Some, unwrap_or}
 use Rattle.tabled_base.specs.declared.error.TableError.{TableError}
 use Rattle.tabled_base.specs.declared.error.TableError.TheVariants.{Memory}
@@ -7,11 +7,21 @@ use Rattle.tabled_size.specs.Estimates.{IsTooHigh, estimated_heights}
 use Rattle.tabled_size.specs.FilledIn.{HasNoEstimate, IsFilledIn}
 use Rattle.tabled_size.specs.Sheet.{estimated, is_empty}
 use Rattle.tabled_size.specs.Effective.{effective}
-use Rattle.tabled_size.specs.Stored.{heights_of, widths_of}
+use Rattle.tabled_size.specs.Stored.{heights_of, widths_of, is_stored}
 use Rattle.tabled_size.specs.Totals.{total_height, total_width}
 use Rattle.tabled_size.specs.declared.complete_dimension.CompleteDimension.{CompleteDimension}
-use Rattle.tabled_set.specs.Filling.{StopsFilling}
-use Rattle.tabled_set.specs.Growing.{IsGrownBy}
+use Rattle.tabled_priority.specs.Grown.{IsNoneSmaller}
+
+-- such an error leaves the sizes unchanged. It is `Memory` only if widths or heights aren't stored
+pub record StopsFilling (error : TableError) (old new : CompleteDimension) : Type 0 where
+  pub lacking : error ≡ Memory → is_stored old ≡ false
+  pub same : new ≡ old
+
+-- the priority may grow the old list by an amount to the new one; no entry is smaller
+pub record IsGrownBy {P : Type 0} (grows : P → List ℕ → ℕ → List ℕ → P → Type 0) (priority : P) (old : List ℕ) (by : ℕ) (new : List ℕ) : Type 0 where
+  pub last : P
+  pub grown : grows priority old by new last
+  pub kept : IsNoneSmaller old new
 
 -- ---- the width
 

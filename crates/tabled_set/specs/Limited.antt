@@ -13,7 +13,7 @@ use Rattle.tabled_set.specs.CellChanges.{AreChanged, AreChangedBefore, NeedsMemo
 use Rattle.tabled_set.specs.declared.walk.WalkOrder.TheVariants.{ByRow}
 use Rattle.tabled_set.specs.declared.changing.CellFilter.TheVariants.{Higher}
 use Rattle.tabled_set.specs.TextLines.{limiting}
-use Rattle.tabled_set.specs.Shrinking.{IsShrunkBy}
+use Rattle.tabled_set.specs.Narrowed.{IsShrunkBy}
 
 -- a cell with more lines than its row's height keeps that many of its first lines, whatever its
 -- padding

@@ -1,8 +1,8 @@
 -- Lists of sizes that are stored.
 use Rattle.std.specs.Prelude.{◌≡◌, ℕ, List, MatchBool, Some, length, nat_lt}
 use Rattle.tabled_base.specs.Cells.{columns}
-use Rattle.tabled_set.specs.declared.extremes.TextMeasure.{TextMeasure}
-use Rattle.tabled_set.specs.declared.extremes.TextMeasure.TheVariants.{Columns, Lines}
+use Rattle.tabled_set.specs.declared.measurement.TextMeasure.{TextMeasure}
+use Rattle.tabled_set.specs.declared.measurement.TextMeasure.TheVariants.{Columns, Lines}
 use Rattle.tabled_size.specs.Stored.{heights_of, widths_of}
 use Rattle.tabled_size.specs.declared.complete_dimension.CompleteDimension.{CompleteDimension}
 

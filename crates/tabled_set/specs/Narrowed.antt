@@ -1,9 +1,9 @@
 -- Tables whose columns shrink to a total, and whose cells are changed to fit.
-use Rattle.std.specs.Prelude.{◌≡◌, ◌⊎◌, ◌<◌, ◌≤◌, ◌^◌, ℕ, ◌-◌, true, false, nat_le, List, MatchBool, Some, None, length, take}
+use Rattle.std.specs.Prelude.{◌≡◌, ◌⊎◌, ◌<◌, ◌≤◌, ◌^◌, ℕ, ◌-◌, true, false, nat_le, List, MatchBool, Some, None, length, take, Bool, ◌&&◌, nat_lt}
 use Rattle.tabled_base.specs.declared.error.TableError.{TableError}
 use Rattle.tabled_base.specs.declared.error.TableError.TheVariants.{Memory}
 use Rattle.tabled_config.specs.declared.spanned.SpannedConfig.{SpannedConfig}
-use Rattle.tabled_priority.specs.Permitted.{IsPermitted}
+use Rattle.tabled_priority.specs.Permitted.{IsPermitted, at}
 use Rattle.tabled_size.specs.Estimates.{IsTooWide}
 use Rattle.tabled_size.specs.FilledIn.{HasNoEstimate, IsFilledIn}
 use Rattle.tabled_size.specs.Sheet.{Sheet, is_empty}
@@ -11,12 +11,26 @@ use Rattle.tabled_size.specs.Effective.{effective}
 use Rattle.tabled_size.specs.Stored.{heights_of, widths_of}
 use Rattle.tabled_size.specs.Totals.{total_width}
 use Rattle.tabled_size.specs.declared.complete_dimension.CompleteDimension.{CompleteDimension}
-use Rattle.tabled_set.specs.CellChanges.{AreChanged, AreChangedBefore, if_taken}
+use Rattle.tabled_set.specs.CellChanges.{AreChanged, AreChangedBefore, if_taken, NeedsMemory}
 use Rattle.tabled_set.specs.declared.walk.WalkOrder.TheVariants.{ByColumn}
 use Rattle.tabled_set.specs.declared.changing.CellFilter.{CellFilter}
-use Rattle.tabled_set.specs.ColumnChanges.{for_width, needs_for_width}
-use Rattle.tabled_set.specs.Filling.{StopsFilling}
-use Rattle.tabled_set.specs.Minimums.{emptied, minimums}
+use Rattle.tabled_set.specs.Increased.{StopsFilling}
+use Rattle.tabled_set.specs.Minimums.{emptied, minimums, side_padding}
+
+-- a column has one of the widths, and it isn't below its minimum
+abbrev pub is_permitted : List ℕ → List ℕ → ℕ → Bool
+is_permitted widths mins column = nat_lt column (length widths) && nat_le (at mins column) (at widths column)
+
+-- a cell of such a column is changed for its content width, and another isn't
+abbrev pub for_width : (ℕ → List ℕ → List ℕ → Type 0) → SpannedConfig → List ℕ → List ℕ → ℕ → ℕ → List ℕ → List ℕ → Type 0
+for_width change config widths mins row column before after =
+    MatchBool (is_permitted widths mins column) (change (at widths column - side_padding config row column) before after) (after ≡ before)
+
+-- changing a cell of such a column needs an allocation
+abbrev pub needs_for_width : CellFilter → (ℕ → List ℕ → Type 0) → SpannedConfig → List ℕ → List ℕ → ℕ → ℕ → List ℕ → Type 0
+needs_for_width cell_filter in_place config widths mins row column text =
+    (is_permitted widths mins column ≡ true)
+    × NeedsMemory cell_filter in_place (at widths column - side_padding config row column) text
 
 -- the priority may shrink the widths of a table to these, by the excess of its total over n. There
 -- are as many, permitted by the columns' minimums
@@ -88,3 +102,18 @@ WiderOutOfRange n cells config sizes =
 abbrev pub NarrowingOutOfRange : Type 0 → ℕ → List (List (List ℕ)) → SpannedConfig → CompleteDimension → Type 0
 NarrowingOutOfRange measure_out_of_range n cells config sizes =
     (is_empty cells ≡ false) × (measure_out_of_range ⊎ (HasNoEstimate sizes cells config ⊎ WiderOutOfRange n cells config sizes))
+
+-- the priority may shrink the old list by an amount to the new one, which is as long and permitted
+-- by the minimums
+pub record IsShrunkBy {P : Type 0} (shrinks : P → List ℕ → List ℕ → ℕ → List ℕ → P → Type 0) (priority : P) (old mins : List ℕ) (by : ℕ)
+    (new : List ℕ) : Type 0 where
+  pub last : P
+  pub shrunk : shrinks priority old mins by new last
+  pub permitted : IsPermitted old mins new
+
+-- the widths to which a table wider than n shrinks, and the minimums of as many columns
+pub record IsFound {P : Type 0} (shrinks : P → List ℕ → List ℕ → ℕ → List ℕ → P → Type 0) (priority : P) (n : ℕ) (t : Sheet)
+    (widths mins : List ℕ) : Type 0 where
+  pub wider : n < total_width t
+  pub shrunk : IsShrunkTo shrinks priority n t widths
+  pub fits : mins ≡ take (length widths) (minimums t.cells t.config)

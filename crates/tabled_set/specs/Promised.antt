@@ -2,7 +2,7 @@
 use Rattle.std.specs.Prelude.{◌≡◌, ◌<◌, ℕ, Bool, List, [], false, length, max, sum}
 use Rattle.tabled_set.specs.BestNarrowing.{HasLeastWidth, IsBestCut, IsBestWrapped}
 use Rattle.tabled_set.specs.ExactTotal.{HasEstimatedWidths, HasExactTotal}
-use Rattle.tabled_set.specs.PlainEnding.{IsAdditiveLimit}
+use Rattle.tabled_set.specs.Truncated.{IsAdditiveLimit}
 use Rattle.tabled_set.specs.declared.suffix.SuffixLimit.{SuffixLimit}
 use Rattle.tabled_config.specs.declared.spanned.SpannedConfig.{SpannedConfig}
 use Rattle.tabled_set.specs.HeightFrame.{frame_height}

@@ -1,8 +1,11 @@
 -- Texts whose lines are filled up, and texts that get more or fewer lines. Texts are lists of
 -- bytes.
-use Rattle.std.specs.Prelude.{◌≡◌, ℕ, ◌-◌, List, ◌++◌, encode_utf8_all, length, map, replicate, take}
+use Rattle.std.specs.Prelude.{◌≡◌, ℕ, ◌-◌, List, ◌++◌, encode_utf8_all, length, map, replicate, take, [], false}
 use Rattle.std.specs.List.{join_with_byte}
 use Rattle.tabled_text.specs.Measure.{line_columns, lines_of}
+use Rattle.tabled_set.specs.CellChanges.{if_taken, truncating}
+use Rattle.tabled_set.specs.declared.suffix.SuffixLimit.TheVariants.{Cut}
+use Rattle.tabled_set.specs.declared.changing.CellFilter.TheVariants.{Narrower, Wider}
 
 -- a line with a copy of a character for each column that it has less than the content size
 abbrev pub filled_line : ℕ → ℕ → List ℕ → List ℕ
@@ -30,3 +33,9 @@ lengthening content_size before after = after ≡ lengthened content_size before
 
 abbrev pub limiting : ℕ → List ℕ → List ℕ → Type 0
 limiting content_size before after = after ≡ limited content_size before
+
+-- a narrower text is filled up with spaces, and then what is too wide is cut
+pub record IsJustified (content_size : ℕ) (before after : List ℕ) : Type 0 where
+  pub between : List ℕ
+  pub increased : if_taken Narrower (filling 32) content_size before between
+  pub truncated : if_taken Wider (truncating [] Cut false) content_size between after

@@ -5,6 +5,9 @@ use Rattle.tabled_text.specs.Cut.{IsCut}
 use Rattle.tabled_text.specs.Measure.{line_columns, lines_of}
 use Rattle.tabled_set.specs.declared.suffix.SuffixLimit.{SuffixLimit}
 use Rattle.tabled_set.specs.declared.suffix.SuffixLimit.TheVariants.{Cut, Ignore, Replace}
+use Rattle.tabled_text.specs.Plain.{IsAdditiveColumn}
+use Rattle.tabled_text.specs.Exact.{IsExactLine}
+use Rattle.tabled_text.specs.Longest.{IsLongestCut}
 
 -- ---- the suffix
 
@@ -59,3 +62,16 @@ pub record AddsEnded (left : ℕ) (used text old new : List ℕ) : Type 0 where
   pub piece : List ℕ
   pub ended : IsEnded left used text piece
   pub added : new ≡ old ++ piece
+
+-- a character that replaces the suffix is additive and takes one column
+abbrev pub IsAdditiveLimit : SuffixLimit → Type 0
+IsAdditiveLimit Cut = Unit {0}
+IsAdditiveLimit Ignore = Unit {0}
+IsAdditiveLimit (Replace c) = IsAdditiveColumn c
+
+-- each line of a text becomes a line; one whose width is the sum of its characters' widths, each at
+-- least 1, becomes the longest beginning that fits
+pub record HasLongestLines (content_size : ℕ) (text answer : List ℕ) : Type 0 where
+  pub lines : List (List ℕ)
+  pub each : AllZip (λ line cut. IsExactLine line → IsLongestCut content_size line cut) (lines_of text) lines
+  pub joined : answer ≡ join_with_byte 10 lines

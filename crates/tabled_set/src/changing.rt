@@ -182,31 +182,13 @@ impl<'a, T: TextTransform, M: ContentSizes> Change<'a, T, M> {
         if !self.cell_filter.takes(records, at, content_size) {
             return Ok(());
         }
-        set_changed(self.transform, records, at, content_size)
+        let _columns = records.count_columns();
+        let (by, alloc) = (self.transform, records.allocator());
+        if let Some(kept) = by.beginning(records.get_text(at), content_size) {
+            records.shorten(at, kept.bytes, kept.ending);
+            return Ok(());
+        }
+        let text = by.changed_text(alloc, records.get_text(at), content_size)?;
+        records.set(at, text)
     }
-}
-
-/// Transforms the text of a cell, in place if possible.
-fn set_changed<T: TextTransform, R: RecordsMut>(
-    transform: &T,
-    records: &mut R,
-    at: Position,
-    content_size: usize,
-) -> Result<(), TableError>
-    requires { IsInside (R.cells records.old) at.row at.column }
-    ensures ok { OnOk result (AreChanged (covers (Cell at.row at.column))
-        (λ row column. T.makes transform.now content_size)
-        (R.cells records.old) (R.cells records.new)) }
-    ensures err { OnErr result (R.cells records.new ≡ R.cells records.old) }
-    ensures longer { OnErr result (T.shortens transform.now content_size
-        (cell_at (R.cells records.old) at.row at.column) → ⊥) }
-    ensures only { IfErr result (λ e. e ≡ Memory) }
-{
-    let _columns = records.count_columns();
-    if let Some(kept) = transform.beginning(records.get_text(at), content_size) {
-        records.shorten(at, kept.bytes, kept.ending);
-        return Ok(());
-    }
-    let text = transform.changed_text(records.allocator(), records.get_text(at), content_size)?;
-    records.set(at, text)
 }

@@ -2,17 +2,16 @@
 ghost use Rattle.std.specs.Prelude.{◌≡◌};
 ghost use Rattle.tabled_base.specs.declared.position.Entity.TheVariants.{Global};
 ghost use Rattle.tabled_set.specs.CellChanges.{ChangesEntity, StopsEntity, never_in_place};
-ghost use Rattle.tabled_set.specs.Justified.{IsJustified};
+ghost use Rattle.tabled_set.specs.TextLines.{IsJustified};
 ghost use Rattle.tabled_set.specs.declared.changing.CellFilter.TheVariants.{NotAsWide};
 
 use crate::changing::{Beginning, CellFilter, OptionTransform, TextTransform};
-use crate::extremes::{Max, Min};
-use crate::measurement::{Measurement, Width};
+use crate::measurement::{Max, Measurement, Min, Width};
 use crate::min_width::Filling;
-use crate::resize::change_measured;
+use crate::resize::Resize;
 use crate::truncate::Truncating;
 use std::alloc::Global;
-use tabled_base::{Entity, RecordsMut, TableError, TableOption};
+use tabled_base::{CellOption, Entity, RecordsMut, TableError, TableOption};
 use tabled_config::ColoredConfig;
 use tabled_text::text_width;
 
@@ -115,7 +114,8 @@ impl<W: Measurement<Width> + Drop, R: RecordsMut, D> TableOption<R, ColoredConfi
         cfg: &mut ColoredConfig,
         _dims: &mut D,
     ) -> Result<(), TableError> {
-        change_measured(&Justifying, &self.width, records, cfg, Entity::Global)
+        let option = Resize::<Justifying, W>::new(self.width);
+        CellOption::change(&option, records, cfg, Entity::Global)
     }
 
     fn hint_change(&self) -> Option<Entity> {

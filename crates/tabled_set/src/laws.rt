@@ -2,9 +2,7 @@
 ghost use Rattle.std.specs.Prelude.{ℕ, Bool, true, false, List, []};
 ghost use Rattle.tabled_text.specs.Exact.{IsExactLine};
 ghost use Rattle.tabled_text.specs.Fitting.{FitsIn};
-ghost use Rattle.tabled_set.specs.LongestLines.{HasLongestLines};
-ghost use Rattle.tabled_set.specs.PlainEnding.{IsAdditiveLimit};
-ghost use Rattle.tabled_set.specs.Truncated.{IsTruncated};
+ghost use Rattle.tabled_set.specs.Truncated.{HasLongestLines, IsAdditiveLimit, IsTruncated};
 ghost use Rattle.tabled_set.specs.declared.suffix.SuffixLimit.{SuffixLimit};
 ghost use Rattle.tabled_text.specs.Cut.{IsCut};
 ghost use Rattle.tabled_text.specs.Longest.{IsLongestCut};

@@ -1,24 +1,29 @@
-//! The trait `Measurement`, the numbers that options read from a table.
-ghost use Rattle.std.specs.Prelude.{◌≡◌, ℕ, IfErr, IfOk, List, OnOk, [], false};
+//! The trait `Measurement`, the numbers that options read from a table, and the measurements `Max`,
+//! `Min` and `Percent`.
+ghost use Rattle.std.specs.Prelude.{◌≡◌, ℕ, ◌+◌, ◌<◌, ◌≤◌, ◌^◌, IfErr, IfOk, List, MatchOption, OnOk, [], false, length, map};
 ghost use Rattle.std.specs.Iterator.{IsFiniteIterable};
+ghost use Rattle.std.specs.List.{range_with_len};
+ghost use Rattle.tabled_base.specs.Cells.{IsInside, cell_at};
 ghost use Rattle.tabled_base.specs.Given.{Given};
 ghost use Rattle.tabled_base.specs.declared.error.TableError.TheVariants.{Memory, Range};
 ghost use Rattle.tabled_config.specs.declared.spanned.SpannedConfig.{SpannedConfig};
-ghost use Rattle.tabled_set.specs.declared.extremes.TextMeasure.{TextMeasure};
-ghost use Rattle.tabled_set.specs.declared.extremes.TextMeasure.TheVariants.{Columns, Lines};
+ghost use Rattle.tabled_set.specs.Extremes.{extent_of, min_of, picked, picked_in_row, picked_of_rows, HasNoPercent, percent_of, total_of};
+ghost use Rattle.tabled_set.specs.declared.measurement.Pick.TheVariants.{Greatest};
+ghost use Rattle.tabled_set.specs.declared.measurement.TextMeasure.{TextMeasure};
+ghost use Rattle.tabled_set.specs.declared.measurement.TextMeasure.TheVariants.{Columns, Lines};
 ghost use Rattle.tabled_set.specs.declared.suffix.SuffixLimit.TheVariants.{Cut};
+ghost use Rattle.tabled_size.specs.Sheet.{estimated};
 
-use crate::extremes::TextMeasure;
-use crate::height_increase::CellHeightIncrease;
-use crate::height_limit::CellHeightLimit;
+use crate::heights::{CellHeightIncrease, CellHeightLimit};
 use crate::justify::Justify;
 use crate::min_width::MinWidth;
-use crate::size_list::{HeightList, WidthList};
+use crate::sizes::{HeightList, WidthList};
 use crate::truncate::Truncate;
 use crate::wrap::Wrap;
 use std::alloc::Global;
-use tabled_base::{PeekableRecords, TableError};
+use tabled_base::{PeekableRecords, Position, TableError};
 use tabled_config::SpannedConfig;
+use tabled_size::{estimated_total_height, estimated_total_width};
 
 /// The horizontal direction: its measurements count terminal columns, its options change the widths
 /// of cells and columns.
@@ -29,6 +34,25 @@ pub struct Width;
 /// and rows.
 #[derive(Debug, Drop)]
 pub struct Height;
+
+/// What is measured of a text: its columns or its lines.
+#[derive(Clone, Copy)]
+pub enum TextMeasure {
+    Columns,
+    Lines,
+}
+
+impl TextMeasure {
+    fn of_cell<R: PeekableRecords>(self, records: &R, at: Position) -> usize
+        requires { IsInside (R.cells records.now) at.row at.column }
+        ensures { result ≡ extent_of self (cell_at (R.cells records.now) at.row at.column) }
+    {
+        match self {
+            TextMeasure::Columns => records.get_width(at),
+            TextMeasure::Lines => records.count_lines(at),
+        }
+    }
+}
 
 /// `Width` or `Height`.
 pub trait Direction {
@@ -82,6 +106,141 @@ impl<A> Measurement<A> for usize {
         _cfg: &SpannedConfig,
     ) -> Result<usize, TableError> {
         Ok(*self)
+    }
+}
+
+/// Whether the maximum or the minimum is picked.
+#[derive(Clone, Copy)]
+pub(crate) enum Pick {
+    Greatest,
+    Least,
+}
+
+impl Pick {
+    /// Returns the pick of the first n + 1 numbers of a sequence: `best` is the pick of the first
+    /// n, `next` the number after them.
+    fn with(self, n: usize, best: usize, next: usize) -> usize
+        ensures { (f : ℕ → ℕ) → best ≡ picked self (map f (range_with_len 0 n)) → next ≡ f n
+            → result ≡ picked self (map f (range_with_len 0 (n + 1))) }
+    {
+        match self {
+            Pick::Greatest => best.max(next),
+            Pick::Least => { if n == 0 { next } else { best.min(next) } }
+        }
+    }
+}
+
+/// Returns the maximum or minimum size of a row's cells, 0 if it has none.
+fn picked_in_row<R: PeekableRecords>(
+    within: Pick,
+    extent: TextMeasure,
+    records: &R,
+    row: usize,
+) -> usize
+    requires { row < length (R.cells records.now) }
+    ensures { result ≡ picked_in_row within extent (R.cells records.now) row }
+{
+    let mut best: usize = 0;
+    'columns: for column in 0..records.count_columns() {
+        let size = extent.of_cell(records, Position { row, column });
+        best = within.with(column, best, size);
+    }
+    best
+}
+
+/// Returns the maximum or minimum over the rows of what `picked_in_row` finds, 0 without rows.
+fn picked_of_rows<R: PeekableRecords>(
+    across: Pick,
+    within: Pick,
+    extent: TextMeasure,
+    records: &R,
+) -> usize
+    ensures { result ≡ picked_of_rows across within extent (R.cells records.now) }
+{
+    let mut best: usize = 0;
+    'rows: for row in 0..records.count_rows() {
+        best = across.with(row, best, picked_in_row(within, extent, records, row));
+    }
+    best
+}
+
+/// Measures the largest cell: as a width, the columns of the widest cell; as a height, the lines of
+/// the tallest. Padding doesn't count. A table without cells measures 0. Never fails.
+#[derive(Debug, Drop)]
+pub struct Max;
+
+/// Measures a minimum of the cells. As a width, it is the maximum over the rows of each row's
+/// narrowest cell. As a height, it is the minimum over the rows of each row's tallest cell.
+///
+/// Padding doesn't count. A table without cells measures 0. Never fails.
+#[derive(Debug, Drop)]
+pub struct Min;
+
+impl<A: Direction> Measurement<A> for Max {
+    ghost measures = { λ s cells config. picked_of_rows Greatest Greatest A.COUNTED cells };
+
+    fn measure<R: PeekableRecords>(
+        &self,
+        records: &R,
+        _cfg: &SpannedConfig,
+    ) -> Result<usize, TableError> {
+        let most = Pick::Greatest;
+        Ok(picked_of_rows(most, most, A::COUNTED, records))
+    }
+}
+
+impl<A: Direction> Measurement<A> for Min {
+    ghost measures = { λ s cells config. min_of A.COUNTED cells };
+
+    fn measure<R: PeekableRecords>(
+        &self,
+        records: &R,
+        _cfg: &SpannedConfig,
+    ) -> Result<usize, TableError> {
+        let (most, least) = (Pick::Greatest, Pick::Least);
+        match A::COUNTED {
+            TextMeasure::Columns => Ok(picked_of_rows(most, least, TextMeasure::Columns, records)),
+            TextMeasure::Lines => Ok(picked_of_rows(least, most, TextMeasure::Lines, records)),
+        }
+    }
+}
+
+/// Measures a percentage of the table's total width or height, rounded down. The total includes
+/// borders and margins. It is estimated: stored sizes don't count. Fails with `Range` if the total,
+/// or its product with the percentage, overflows `usize`.
+#[derive(Debug, Drop)]
+pub struct Percent(pub usize);
+
+/// Returns the estimated total width or height of a table, or `None` if it overflows `usize`.
+fn estimated_total<R: PeekableRecords>(
+    counted: TextMeasure,
+    records: &R,
+    cfg: &SpannedConfig,
+) -> Option<usize>
+    ensures { let whole = total_of counted (estimated (R.cells records.now) cfg.now) in
+        MatchOption result (2 ^ 64 ≤ whole) (λ n. n ≡ whole) }
+{
+    match counted {
+        TextMeasure::Columns => estimated_total_width(records, cfg),
+        TextMeasure::Lines => estimated_total_height(records, cfg),
+    }
+}
+
+impl<A: Direction> Measurement<A> for Percent {
+    ghost measures = { λ s cells config.
+        percent_of s.0 (total_of A.COUNTED (estimated cells config)) };
+
+    ghost out_of_range = { λ s cells config.
+        HasNoPercent s.0 (total_of A.COUNTED (estimated cells config)) };
+
+    fn measure<R: PeekableRecords>(
+        &self,
+        records: &R,
+        cfg: &SpannedConfig,
+    ) -> Result<usize, TableError> {
+        let total = estimated_total(A::COUNTED, records, cfg).ok_or(TableError::Range)?;
+        let product = total.checked_mul(self.0).ok_or(TableError::Range)?;
+        Ok(product / 100)
     }
 }
 

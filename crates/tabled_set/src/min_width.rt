@@ -82,13 +82,11 @@ impl OptionTransform for Filling {
 
 impl<W, P> MinWidth<W, P> {
     /// Sets the character that fills up lines. It counts as one column, whatever its width.
-    pub fn fill_with(self, c: char) -> MinWidth<W, P>
+    pub fn fill_with(mut self, c: char) -> MinWidth<W, P>
         ensures { result ≡ record self { transform = record { fill = c } } }
     {
-        Resize {
-            transform: Filling { fill: c },
-            ..self
-        }
+        self.transform.fill = c;
+        self
     }
 }
 

@@ -1,17 +1,13 @@
 //! Narrows a table to a total width, and changes its cells to fit.
-ghost use Rattle.std.specs.List.{slice_index};
-ghost use Rattle.std.specs.Prelude.{◌≡◌, ◌⊎◌, IfErr, IfOk, take, ◌<◌, ◌≤◌, ◌^◌, MatchOption, OnErr, Some, false, is_some, length, true, None, if◌then◌else◌, ◌-◌, OnOk};
+ghost use Rattle.std.specs.Prelude.{◌≡◌, ◌⊎◌, IfErr, IfOk, ◌<◌, ◌≤◌, MatchOption, OnErr, Some, false, is_some, true, None, if◌then◌else◌, ◌-◌, OnOk};
 ghost use Rattle.tabled_base.specs.Cells.{IsRectangular};
 ghost use Rattle.tabled_base.specs.declared.error.TableError.TheVariants.{Memory, Range};
-ghost use Rattle.tabled_priority.specs.Permitted.{FitsMinimums, at};
-ghost use Rattle.tabled_set.specs.CellChanges.{AreChanged, AreChangedBefore, if_taken};
-ghost use Rattle.tabled_set.specs.ColumnChanges.{for_width, is_permitted, needs_for_width};
-ghost use Rattle.tabled_set.specs.Minimums.{emptied, minimums, side_padding};
-ghost use Rattle.tabled_set.specs.Narrowed.{WiderOutOfRange, Narrows, NarrowingOutOfRange, StopsNarrowing};
-ghost use Rattle.tabled_set.specs.Shrinking.{IsFound, IsShrunkBy};
+ghost use Rattle.tabled_priority.specs.Permitted.{at};
+ghost use Rattle.tabled_set.specs.CellChanges.{if_taken};
+ghost use Rattle.tabled_set.specs.Narrowed.{is_permitted, WiderOutOfRange, Narrows, NarrowingOutOfRange, StopsNarrowing, IsFound};
+ghost use Rattle.tabled_set.specs.Minimums.{emptied, side_padding};
 ghost use Rattle.tabled_set.specs.declared.walk.WalkOrder.TheVariants.{ByColumn};
 ghost use Rattle.tabled_size.specs.Effective.{effective};
-ghost use Rattle.tabled_size.specs.Estimates.{IsTooWide};
 ghost use Rattle.tabled_size.specs.Sheet.{is_empty};
 ghost use Rattle.tabled_size.specs.Stored.{widths_of};
 ghost use Rattle.tabled_size.specs.Totals.{filled_width, total_width};
@@ -21,7 +17,6 @@ use crate::measurement::{Measurement, Width};
 use crate::resize::Resize;
 use crate::sizes::{first_sizes, padded_width, shrunk};
 use crate::walk::{WalkOrder, change_cells};
-use std::alloc::Global;
 use tabled_base::{Entity, ExactRecords, PeekableRecords, Position, RecordsMut, TableError};
 use tabled_config::SpannedConfig;
 use tabled_size::{
@@ -61,24 +56,6 @@ impl<'a, R: ExactRecords> PeekableRecords for EmptiedRecords<'a, R> {
     }
 }
 
-/// Returns the minimum widths of the first `columns` columns. Fails with `Memory`, or with `Range`
-/// if the side padding of a cell overflows `usize`.
-pub(crate) fn minimum_widths<R: ExactRecords>(
-    alloc: Global,
-    records: &R,
-    config: &SpannedConfig,
-    columns: usize,
-) -> Result<Vec<usize>, TableError>
-    ensures ok { IfOk result (λ mins.
-        mins.items ≡ take columns (minimums (R.cells records.now) config.now)) }
-    ensures err { IfErr result (λ e. (e ≡ Memory)
-        ⊎ ((e ≡ Range) × IsTooWide (emptied (R.cells records.now)) config.now)) }
-{
-    let mut mins = estimate_widths(alloc, &EmptiedRecords { records }, config)?;
-    mins.truncate(columns);
-    Ok(mins)
-}
-
 /// Returns the widths, which must be stored.
 pub(crate) fn stored_widths(sizes: &CompleteDimension) -> &[usize]
     requires { is_some (widths_of sizes.now) ≡ true }
@@ -94,7 +71,7 @@ pub(crate) fn stored_widths(sizes: &CompleteDimension) -> &[usize]
 /// total is at most n. The table has cells, and its widths are stored. Fails only if the table is
 /// wider than n: with `Memory`, or with `Range` if the total or the side padding of a cell
 /// overflows `usize`.
-pub(crate) fn narrowed_widths<P: Peaker + Drop, R: ExactRecords>(
+fn narrowed_widths<P: Peaker + Drop, R: ExactRecords>(
     priority: P,
     records: &R,
     config: &SpannedConfig,
@@ -113,45 +90,22 @@ pub(crate) fn narrowed_widths<P: Peaker + Drop, R: ExactRecords>(
 {
     let columns = records.count_columns();
     let widths = first_sizes(stored_widths(sizes), columns);
-    let Some(total) = padded_width(config, columns, widths) else {
-        return Err(TableError::Range);
-    };
+    let total = padded_width(config, columns, widths).ok_or(TableError::Range)?;
     if total <= n {
         return Ok(None);
     }
     let alloc = sizes.allocator();
-    let mins = minimum_widths(alloc, records, config, widths.len())?;
+    let mut mins = estimate_widths(alloc, &EmptiedRecords { records }, config)?;
+    mins.truncate(widths.len());
     let widths = shrunk(alloc, priority, widths, &mins, total - n)?;
     Ok(Some(ColumnWidths { widths, mins }))
 }
 
-/// Returns what the side padding of a cell leaves of a width, at least 0.
-fn content_width_beside(config: &SpannedConfig, at: Position, width: usize) -> usize
-    ensures { result ≡ width - side_padding config.now at.row at.column }
-{
-    let padding = config.get_padding(at);
-    width
-        .saturating_sub(padding.left.size)
-        .saturating_sub(padding.right.size)
-}
-
 /// The widths of a table's columns, from the left, and their minimums.
 #[derive(Drop)]
-pub(crate) struct ColumnWidths {
-    pub(crate) widths: Vec<usize>,
-    pub(crate) mins: Vec<usize>,
-}
-
-impl ColumnWidths {
-    /// Returns the width of a column, or `None` if it has none or is below its minimum.
-    fn permitted_width(&self, column: usize) -> Option<usize>
-        ensures { result ≡ (if is_permitted self.now.widths.items self.now.mins.items column
-            then Some (at self.now.widths.items column) else None) }
-    {
-        let width = *self.widths.get(column)?;
-        let least = self.mins.get(column).copied().unwrap_or(0);
-        if width < least { None } else { Some(width) }
-    }
+struct ColumnWidths {
+    widths: Vec<usize>,
+    mins: Vec<usize>,
 }
 
 /// The content width of each cell: its column's width less its own padding. Cells of a column below
@@ -169,49 +123,19 @@ impl<'a> ContentSizes for ColumnContentWidths<'a> {
         else None };
 
     fn content_size(&self, at: Position) -> Option<usize> {
-        match self.sizes.permitted_width(at.column) {
-            None => None,
-            Some(width) => Some(content_width_beside(self.config, at, width)),
+        let width = *self.sizes.widths.get(at.column)?;
+        let least = self.sizes.mins.get(at.column).copied().unwrap_or(0);
+        if width < least {
+            return None;
         }
+        let padding = self.config.get_padding(at);
+        let inner = width.saturating_sub(padding.left.size);
+        Some(inner.saturating_sub(padding.right.size))
     }
 }
 
-/// Changes the cells of each column that has a width, unless that is below its minimum, column by
-/// column from the top. Fails only with `Memory`.
-pub(crate) fn change_columns<T: TextTransform, R: RecordsMut>(
-    transform: &T,
-    cell_filter: CellFilter,
-    records: &mut R,
-    config: &SpannedConfig,
-    sizes: &ColumnWidths,
-) -> Result<(), TableError>
-    ensures ok { OnOk result (AreChanged (λ r c. true)
-        (for_width (if_taken cell_filter (T.makes transform.now)) config.now
-        sizes.now.widths.items sizes.now.mins.items)
-        (R.cells records.old) (R.cells records.new)) }
-    ensures err { OnErr result (AreChangedBefore ByColumn (λ r c. true)
-        (needs_for_width cell_filter (T.shortens transform.now) config.now
-        sizes.now.widths.items sizes.now.mins.items)
-        (for_width (if_taken cell_filter (T.makes transform.now)) config.now
-        sizes.now.widths.items sizes.now.mins.items)
-        (R.cells records.old) (R.cells records.new)) }
-    ensures only { IfErr result (λ e. e ≡ Memory) }
-{
-    let content_sizes = &ColumnContentWidths { config, sizes };
-    change_cells(
-        &Change {
-            transform,
-            cell_filter,
-            content_sizes,
-        },
-        records,
-        WalkOrder::ByColumn,
-        Entity::Global,
-    )
-}
-
-/// Narrows a table to a total of the measured width. Missing sizes are estimated first, and are
-/// stored even if an error follows.
+/// Narrows a table to a total of the measured width, and changes its cells, column by column from
+/// the top. Missing sizes are estimated first, and are stored even if an error follows.
 ///
 /// Fails with `Memory` only if sizes are missing or the table is too wide. Fails with `Range` if
 /// the measurement does, if an estimate or the total overflows `usize`, or if the side padding of a
@@ -251,7 +175,16 @@ pub(crate) fn narrow_table<
     let Some(found) = narrowed_widths(option.priority, records, config, sizes, n)? else {
         return Ok(());
     };
-    change_columns(&option.transform, cell_filter, records, config, &found)?;
+    let content_sizes = ColumnContentWidths {
+        config,
+        sizes: &found,
+    };
+    let change = Change {
+        transform: &option.transform,
+        cell_filter,
+        content_sizes: &content_sizes,
+    };
+    change_cells(&change, records, WalkOrder::ByColumn, Entity::Global)?;
     sizes.set_widths(found.widths);
     sizes.clear_height();
     Ok(())

@@ -1,6 +1,5 @@
 //! `Resize`, the type of the options that change widths and heights.
-ghost use Rattle.std.specs.Prelude.{◌≡◌, ◌⊎◌, IfErr, OnOk};
-ghost use Rattle.tabled_base.specs.declared.error.TableError.TheVariants.{Memory, Range};
+ghost use Rattle.std.specs.Prelude.{◌≡◌};
 ghost use Rattle.tabled_set.specs.CellChanges.{ChangesEntity, StopsEntity, if_taken};
 
 use crate::changing::{Change, OptionTransform};
@@ -51,35 +50,6 @@ impl<T, W, P: Drop> Resize<T, W, P> {
     }
 }
 
-/// Transforms the entity's cells that pass the transform's filter, all for one content size, which
-/// is measured once. Fails with `Range` if the measurement does, before any change, or with
-/// `Memory` at a cell that can't be cut in place. The cells before that, row by row, have changed.
-pub(crate) fn change_measured<T: OptionTransform, W: Measurement<T::Direction>, R: RecordsMut>(
-    transform: &T,
-    size: &W,
-    records: &mut R,
-    cfg: &ColoredConfig,
-    entity: Entity,
-) -> Result<(), TableError>
-    ensures ok { OnOk result (ChangesEntity (if_taken T.cell_filter (T.makes transform.now))
-        (W.measures size.now (R.cells records.old) cfg.now.config) entity
-        (R.cells records.old) (R.cells records.new)) }
-    ensures err { IfErr result (λ e. StopsEntity T.cell_filter
-        (T.shortens transform.now) (T.makes transform.now)
-        (W.measures size.now (R.cells records.old) cfg.now.config) entity e
-        (R.cells records.old) (R.cells records.new)) }
-    ensures only { IfErr result (λ e. (e ≡ Memory)
-        ⊎ ((e ≡ Range) × W.out_of_range size.now (R.cells records.old) cfg.now.config)) }
-{
-    let n = size.measure(records, cfg.as_ref())?;
-    let change = Change {
-        transform,
-        cell_filter: T::filter(),
-        content_sizes: &n,
-    };
-    change_cells(&change, records, WalkOrder::ByRow, entity)
-}
-
 /// Changes the entity's cells that pass the transform's filter. No other cell changes. Fails with
 /// `Range` if the measurement does, before any change, or with `Memory` at a cell that can't be cut
 /// in place. The cells before that, row by row, have changed.
@@ -102,7 +72,13 @@ impl<T: OptionTransform, W: Measurement<T::Direction>, P, R: RecordsMut> CellOpt
         cfg: &mut ColoredConfig,
         entity: Entity,
     ) -> Result<(), TableError> {
-        change_measured(&self.transform, &self.size, records, cfg, entity)
+        let n = self.size.measure(records, cfg.as_ref())?;
+        let change = Change {
+            transform: &self.transform,
+            cell_filter: T::filter(),
+            content_sizes: &n,
+        };
+        change_cells(&change, records, WalkOrder::ByRow, entity)
     }
 
     fn hint_change(&self) -> Option<Entity> {

@@ -1,8 +1,8 @@
 //! The suffix of a truncated text, and what happens to it if it is too wide.
 ghost use Rattle.std.specs.Prelude.{◌≡◌, ◌-◌, IfNone, IfOk, IfSome, None, Some, if◌then◌else◌, nat_lt};
 ghost use Rattle.std.specs.Cow.{cow_str_bytes};
-ghost use Rattle.tabled_set.specs.InPlace.{IsMade, IsMadeFor};
-ghost use Rattle.tabled_set.specs.Truncated.{IsLimited, IsUsed, suffix_columns};
+ghost use Rattle.tabled_set.specs.InPlace.{IsMade};
+ghost use Rattle.tabled_set.specs.Truncated.{IsUsed, suffix_columns};
 
 use std::alloc::{AllocError, Global};
 use std::borrow::CowStr;
@@ -41,32 +41,6 @@ fn columns_beside(suffix: &str, content_size: usize) -> Option<usize>
     Some(left + 1)
 }
 
-/// Applies the limit to a suffix that leaves the text no column. Returns `None` if the result has
-/// to be allocated.
-fn borrowed_limited(
-    suffix: &str,
-    limit: SuffixLimit,
-    content_size: usize,
-) -> Option<UsedSuffix<&str>>
-    ensures used { IfSome result (λ lent.
-        IsLimited content_size suffix.now limit lent.text.now lent.left) }
-    ensures some { IfSome result (λ _. IsMadeFor content_size suffix.now limit → ⊥) }
-    ensures none { IfNone result (IsMadeFor content_size suffix.now limit) }
-{
-    match limit {
-        SuffixLimit::Cut => {
-            let bytes = cut_length(suffix, content_size)?;
-            let (text, _) = suffix.split_at(bytes);
-            Some(UsedSuffix { text, left: 0 })
-        }
-        SuffixLimit::Ignore => Some(UsedSuffix {
-            text: "",
-            left: content_size,
-        }),
-        SuffixLimit::Replace(_) => None,
-    }
-}
-
 /// Returns the suffix to write for `content_size` columns, or `None` if it has to be allocated.
 pub(crate) fn borrowed_suffix(
     suffix: &str,
@@ -84,9 +58,20 @@ pub(crate) fn borrowed_suffix(
             left: content_size,
         });
     }
-    match columns_beside(suffix, content_size) {
-        Some(left) => Some(UsedSuffix { text: suffix, left }),
-        None => borrowed_limited(suffix, limit, content_size),
+    if let Some(left) = columns_beside(suffix, content_size) {
+        return Some(UsedSuffix { text: suffix, left });
+    }
+    match limit {
+        SuffixLimit::Cut => {
+            let bytes = cut_length(suffix, content_size)?;
+            let (text, _) = suffix.split_at(bytes);
+            Some(UsedSuffix { text, left: 0 })
+        }
+        SuffixLimit::Ignore => Some(UsedSuffix {
+            text: "",
+            left: content_size,
+        }),
+        SuffixLimit::Replace(_) => None,
     }
 }
 

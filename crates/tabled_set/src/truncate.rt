@@ -53,10 +53,8 @@ impl<'a> TextTransform for Truncating<'a> {
         if used.text.len() > SHORT_TEXT.saturating_sub(bytes) {
             return None;
         }
-        Some(Beginning {
-            bytes,
-            ending: used.text,
-        })
+        let ending = used.text;
+        Some(Beginning { bytes, ending })
     }
 
     fn changed_text(
@@ -169,13 +167,11 @@ impl<'a, W, P> Truncate<'a, W, P> {
           transform = record self.entry.transform { suffix = suffix.entry };
         } }
     {
-        Resize {
-            transform: Truncating {
-                suffix,
-                ..self.transform
-            },
-            ..self
-        }
+        let transform = Truncating {
+            suffix,
+            ..self.transform
+        };
+        Resize { transform, ..self }
     }
 
     /// Sets what happens to a suffix that is as wide as the content width, or wider.
@@ -184,29 +180,22 @@ impl<'a, W, P> Truncate<'a, W, P> {
           transform = record self.entry.transform { limit = limit };
         } }
     {
-        Resize {
-            transform: Truncating {
-                limit,
-                ..self.transform
-            },
-            ..self
-        }
+        let transform = Truncating {
+            limit,
+            ..self.transform
+        };
+        Resize { transform, ..self }
     }
 
     /// Sets whether each line of a text is truncated on its own. Each line then ends with the
     /// suffix, even a short one.
-    pub fn multiline(self, on: bool) -> Truncate<'a, W, P>
+    pub fn multiline(mut self, on: bool) -> Truncate<'a, W, P>
         ensures { result ≡ record self.entry {
           transform = record self.entry.transform { multiline = on };
         } }
     {
-        Resize {
-            transform: Truncating {
-                multiline: on,
-                ..self.transform
-            },
-            ..self
-        }
+        self.transform.multiline = on;
+        self
     }
 
     /// Truncates a text to `content_size` columns, whatever the option's width is: cuts it to the

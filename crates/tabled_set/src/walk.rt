@@ -26,14 +26,8 @@ impl WalkOrder {
         ensures place { place_of self result.row result.column ≡ place }
     {
         match self {
-            WalkOrder::ByRow => Position {
-                row: line,
-                column: place,
-            },
-            WalkOrder::ByColumn => Position {
-                row: place,
-                column: line,
-            },
+            WalkOrder::ByRow => Position::new(line, place),
+            WalkOrder::ByColumn => Position::new(place, line),
         }
     }
 }
@@ -60,13 +54,9 @@ impl Band {
         ensures within { (k : ℕ) → k < count → is_within result k ≡ (place == k) }
         ensures end { result.end ≤ count }
     {
-        if place < count {
-            Band {
-                first: place,
-                end: place + 1,
-            }
-        } else {
-            Band::all(0)
+        Band {
+            first: place,
+            end: place.saturating_add(1).min(count),
         }
     }
 }

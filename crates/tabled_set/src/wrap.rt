@@ -71,13 +71,11 @@ impl OptionTransform for Wrapping {
 
 impl<W, P> Wrap<W, P> {
     /// Sets whether words that fit on a line of their own are kept whole.
-    pub fn keep_words(self, on: bool) -> Wrap<W, P>
+    pub fn keep_words(mut self, on: bool) -> Wrap<W, P>
         ensures { result ≡ record self { transform = record { keep_words = on } } }
     {
-        Resize {
-            transform: Wrapping { keep_words: on },
-            ..self
-        }
+        self.transform.keep_words = on;
+        self
     }
 }
 

@@ -1,8 +1,7 @@
 use Rattle.std.proofs.Common.{◌≡◌, ◌∙◌, ◌-◌, ℕ, arith, false, inl, inr, refl, rules, subst}
 use Rattle.std.proofs.lemmas.Result.{err_from_is_err_and}
 use Rattle.tabled_base.specs.declared.error.TableError.TheVariants.{Memory, Range}
-use Rattle.tabled_set.specs.Growing.{IsGrownBy}
-use Rattle.tabled_set.specs.Increased.{StopsIncreasing}
+use Rattle.tabled_set.specs.Increased.{IsGrownBy, StopsIncreasing}
 use Rattle.tabled_size.specs.Effective.{effective}
 use Rattle.tabled_size.specs.Sheet.{is_empty}
 use Rattle.tabled_size.specs.Stored.{is_stored}

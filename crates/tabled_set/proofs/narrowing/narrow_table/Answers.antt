@@ -6,9 +6,9 @@ use Rattle.tabled_size.specs.Sheet.{Sheet, is_empty}
 use Rattle.tabled_size.specs.Stored.{is_stored}
 use Rattle.tabled_size.specs.Totals.{total_width}
 use Rattle.tabled_set.specs.CellChanges.{if_taken}
-use Rattle.tabled_set.specs.Narrowed.{NarrowingOutOfRange, StopsNarrowing}
-use Rattle.tabled_set.specs.Shrinking.{IsFound}
+use Rattle.tabled_set.specs.Narrowed.{NarrowingOutOfRange, StopsNarrowing, IsFound}
 use Rattle.tabled_set.specs.declared.narrowing.ColumnWidths.{ColumnWidths}
+use Rattle.tabled_set.proofs.ChangingColumns.{widths-before, widths-made}
 use Rattle.tabled_set.proofs.NarrowingTables.{fails-lacking, if-err, narrows-none, narrows-some, passes-before, stops-some, stops-wider}
 use Rattle.tabled_set.proofs.Stopping.{stops-measuring}
 use Rattle.tabled_set.proofs.narrowing.narrow_table.Goals as goal
@@ -88,8 +88,8 @@ found-widths shrinks priority n k t o found e is h =
     subst (λ (m : ℕ). IsFound shrinks priority m t found.widths.items found.mins.items) e
     (subst (λ (p : Option ColumnWidths). MatchOption p (total_width t ≤ k) (λ w. IsFound shrinks priority k t w.widths.items w.mins.items)) is h)
 
-pub returns-in_err-change_columns-clause-err : goal.returns-in_err-change_columns-clause-err
-returns-in_err-change_columns-clause-err g c =
+pub returns-in_err-change_cells-clause-err : goal.returns-in_err-change_cells-clause-err
+returns-in_err-change_cells-clause-err g c =
     let by = c.args.option in
     let cells = g.R.ExactRecords.cells c.args.records.now in
     let config = c.args.config.now in
@@ -97,18 +97,18 @@ returns-in_err-change_columns-clause-err g c =
     let t = effective cells config c.estimate.new.self in
     let makes = g.T.TextTransform.makes by.transform in
     let in_place = g.T.TextTransform.shortens by.transform in
-    let after = g.R.ExactRecords.cells c.change_columns.new.records in
+    let after = g.R.ExactRecords.cells c.change_cells.new.records in
     let some : is_empty cells ≡ false = search rules in
     if-err
     (λ e. (is_empty cells ≡ false) × StopsNarrowing g.P.Peaker.shrinks by.priority c.args.cell_filter in_place makes n e cells config c.args.sizes.now after c.estimate.new.self)
-    c.from_residual-in_err-change_columns.result _ c.from_residual-in_err-change_columns.ensures.1 (
+    c.from_residual-in_err-change_cells.result _ c.from_residual-in_err-change_cells.ensures.1 (
       some,
       stops-some g.P.Peaker.shrinks by.priority n makes cells config
           c.args.sizes.now c.estimate.new.self some c.in_ok-estimate.ensures.ok c.args.cell_filter in_place
           after _ c.in-Some.found.widths.items c.in-Some.found.mins.items
-          c.in_err-change_columns.ensures.only
+          c.in_err-change_cells.ensures.only
           (found-widths g.P.Peaker.shrinks by.priority n c.in_ok-n.n t _ c.in-Some.found c.in_ok-n.ensures.ok c.in-Some.is c.in_ok-found.ensures.ok)
-          c.in_err-change_columns.ensures.err,
+          (widths-before c.args.cell_filter in_place makes config c.in-Some.found.widths.items c.in-Some.found.mins.items c.in_err-change_cells.ensures.err),
     )
 
 pub returns-clause-ok : goal.returns-clause-ok
@@ -121,8 +121,8 @@ returns-clause-ok g c =
     let some : is_empty cells ≡ false = search rules in
     narrows-some g.P.Peaker.shrinks by.priority n (if_taken c.args.cell_filter (g.T.TextTransform.makes by.transform)) cells config
     c.args.sizes.now c.estimate.new.self some c.in_ok-estimate.ensures.ok
-    (g.R.ExactRecords.cells c.change_columns.new.records) c.clear_height.new.self
+    (g.R.ExactRecords.cells c.change_cells.new.records) c.clear_height.new.self
     c.in-Some.found.widths.items c.in-Some.found.mins.items
     (found-widths g.P.Peaker.shrinks by.priority n c.in_ok-n.n t _ c.in-Some.found c.in_ok-n.ensures.ok c.in-Some.is c.in_ok-found.ensures.ok)
-    c.in_ok-change_columns.ensures.ok
+    (widths-made (if_taken c.args.cell_filter (g.T.TextTransform.makes by.transform)) config c.in-Some.found.widths.items c.in-Some.found.mins.items c.in_ok-change_cells.ensures.ok)
     (c.clear_height.ensures.widths ∙ c.set_widths.ensures.widths) c.clear_height.ensures.heights

@@ -1,7 +1,7 @@
 use Rattle.std.proofs.Common.{◌≡◌, [], ◌+◌, ◌-◌, ◌<◌, Some, None, ap, ◌∙◌, arith}
 use Rattle.std.proofs.lemmas.Bool.{cond_below}
 use Rattle.tabled_set.specs.Truncated.{suffix_columns}
-use Rattle.tabled_set.proofs.SuffixLemmas.{taken, left_beside}
+use Rattle.tabled_set.proofs.Endings.{taken, left_beside}
 use Rattle.tabled_set.proofs.suffix.columns_beside.Goals as goal
 
 pub overflow_add-result : goal.overflow_add-result

@@ -1,7 +1,7 @@
 use Rattle.std.proofs.Common.{◌≡◌, ◌+◌}
 use Rattle.tabled_text.specs.Lines.{lines_left}
 use Rattle.tabled_text.specs.Measure.{lines_of}
-use Rattle.tabled_set.proofs.SuffixLemmas.{taken}
+use Rattle.tabled_set.proofs.Endings.{taken}
 use Rattle.tabled_set.proofs.suffix.columns_beside.Given as goal
 
 abbrev pub invariant-loop-line : goal.invariant-loop-line

@@ -1,16 +1,22 @@
-use Rattle.std.proofs.Common.{◌≡◌, refl}
+use Rattle.std.proofs.Common.{◌≡◌, ℕ, ap, refl, subst}
+use Rattle.std.proofs.lemmas.Result.{IfErr-weaker}
+use Rattle.tabled_base.specs.declared.error.TableError.{TableError}
 use Rattle.tabled_base.specs.declared.position.Entity.TheVariants.{Global}
 use Rattle.tabled_set.specs.CellChanges.{StopsEntity, never_in_place}
-use Rattle.tabled_set.specs.Justified.{IsJustified}
+use Rattle.tabled_set.specs.TextLines.{IsJustified}
 use Rattle.tabled_set.specs.declared.changing.CellFilter.TheVariants.{NotAsWide}
-use Rattle.tabled_set.proofs.Stopping.{stops-with}
 use Rattle.tabled_set.proofs.justify.JustifyTableOptionColoredConfig.change.Goals as goal
 
 pub returns-clause-err : goal.returns-clause-err
 returns-clause-err g c =
-    let cells = g.R.ExactRecords.cells c.args.records.now in
-    let n = g.W.Measurement.measures c.args.self.width cells c.args.cfg.now.config in
-    let new = g.R.ExactRecords.cells c.change_measured.new.records in
-    let error = c.change_measured.result in
-    stops-with (λ e. StopsEntity NotAsWide never_in_place IsJustified n Global e cells new) ((c.args.cfg.now ≡ c.args.cfg.now) × (c.args._dims.now ≡ c.args._dims.now)) error
-    c.change_measured.ensures.err (refl, refl)
+    let old = g.R.ExactRecords.cells c.args.records.now in
+    let new = g.R.ExactRecords.cells c.change.new.records in
+    let config = c.args.cfg.now.config in
+    let stops = λ (n : ℕ) (e : TableError). StopsEntity NotAsWide never_in_place IsJustified n Global e old new in
+    let same = ap (λ size. g.W.Measurement.measures size old config) c.new-option.ensures.size in
+    let kept = c.change.new.cfg ≡ c.args.cfg.now in
+    IfErr-weaker c.change.result
+    (λ e. stops (g.W.Measurement.measures c.new-option.result.size old config) e × kept)
+    (λ e. stops (g.W.Measurement.measures c.args.self.width old config) e × (kept × (c.args._dims.now ≡ c.args._dims.now)))
+    (λ e h. (subst (λ (n : ℕ). stops n e) same h.0, (h.1, refl)))
+    c.change.ensures.err

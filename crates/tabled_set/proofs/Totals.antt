@@ -1,0 +1,104 @@
+-- The totals of tables whose rows grew or shrank, or for which too few widths may be stored.
+use Rattle.std.proofs.Common.{◌≡◌, ℕ, ◌+◌, ◌-◌, ◌==◌, ◌<◌, false, List, [], length, sum, max, refl, sym, ap, ◌∙◌, arith, if◌then◌else◌, zero, suc, ◌≤◌, ◌∷◌, take, Option, Some, None, ⊎_elim}
+use Rattle.std.proofs.lemmas.Bool.Decides.{nat_tests}
+use Rattle.tabled_base.specs.Cells.{cell_at, columns}
+use Rattle.tabled_config.specs.declared.spanned.SpannedConfig.{SpannedConfig}
+use Rattle.tabled_priority.specs.Grown.{IsGrownFrom, added}
+use Rattle.tabled_priority.specs.Laws.Sums.{sum-below, sum_below-plus, sum_below-same, sum_below-term, sum_below-zero}
+use Rattle.tabled_priority.specs.Permitted.{IsTakenFrom, at, spare, spare_total}
+use Rattle.tabled_priority.specs.Sums.{sum_below}
+use Rattle.tabled_size.specs.Estimates.{estimated_heights, estimated_widths}
+use Rattle.tabled_size.specs.Sheet.{is_empty}
+use Rattle.tabled_size.specs.Totals.{filled_height, part_height, rules_at, filled_width}
+use Rattle.tabled_size.proofs.Passing.{height_at, height_ge}
+use Rattle.tabled_size.proofs.Totalling.{heights_length, widths_length}
+use Rattle.tabled_text.proofs.Bridge.{some_line}
+use Rattle.tabled_set.specs.HeightFrame.{frame_height}
+use Rattle.std.proofs.lemmas.Bool.{cases_lt}
+use Rattle.std.proofs.lemmas.List.{get_or_past, length-take}
+use Rattle.tabled_size.specs.Effective.{effective, effective_sizes}
+use Rattle.tabled_size.specs.Stored.{widths_of}
+use Rattle.tabled_size.specs.declared.complete_dimension.CompleteDimension.{CompleteDimension}
+use Rattle.tabled_size.proofs.ShrunkTotals.{frame_width}
+
+-- where there is a height a row, the whole is their sum and the frame
+parts : (config : SpannedConfig) (rows : ℕ) (heights : List ℕ) → sum_below (part_height config rows heights) rows ≡ sum_below (rules_at config rows) rows + sum_below (at heights) rows
+unfolding part_height
+parts config rows heights = sum_below-plus (rules_at config rows) (at heights) rows
+
+pub filled_height-frame : (config : SpannedConfig) (rows : ℕ) (heights : List ℕ) → length heights ≡ rows → filled_height config rows heights ≡ sum heights + frame_height config rows
+unfolding filled_height
+filled_height-frame config rows heights long =
+    let whole = parts config rows heights in
+    let bare = parts config rows [] in
+    let none = sum_below-zero (at []) rows (λ i lt. refl) in
+    let all : sum heights ≡ sum_below (at heights) rows = sum-below heights ∙ ap (sum_below (at heights)) long in
+    omega arith
+
+-- every row of a table with a column has a line at least
+some-row : (cells : List (List (List ℕ))) → is_empty cells ≡ false → 0 < length cells
+some-row cells some = grind (arith, nat_tests, some)
+
+some-column : (cells : List (List (List ℕ))) → is_empty cells ≡ false → 0 < columns cells
+some-column cells some = grind (arith, nat_tests, some)
+
+pub some-lines : (cells : List (List (List ℕ))) (config : SpannedConfig) → is_empty cells ≡ false → 0 < sum (estimated_heights cells config)
+some-lines cells config some =
+    let heights = estimated_heights cells config in
+    let row = some-row cells some in
+    let long = heights_length cells config in
+    let first = height_at cells config 0 row in
+    let above = height_ge cells config 0 0 (some-column cells some) in
+    let lines = some_line (cell_at cells 0 0) in
+    let term = sum_below-term (at heights) (length heights) 0 (omega arith) in
+    let all = sum-below heights in
+    omega arith
+
+-- ---- grown
+
+pub grown-sum : (old new : List ℕ) (by : ℕ) → 0 < sum old → IsGrownFrom old by new → sum new ≡ sum old + by
+grown-sum old new by some h =
+    let all : added old by ≡ by = let no : (sum old == 0) ≡ false = grind (arith, nat_tests, some) in ap (λ b. if b then 0 else by) no in
+    h.total ∙ ap (λ k. sum old + k) all
+
+-- ---- shrunk, with no minimums
+
+spare-all : (values : List ℕ) → spare_total values [] ≡ sum values
+spare-all values = sum_below-same (spare values []) (at values) (length values) (λ i lt. omega arith) ∙ sym (sum-below values)
+
+pub shrunk-total : (old new : List ℕ) (frame n : ℕ) → n < sum old + frame → IsTakenFrom old [] (sum old + frame - n) new → sum new + frame ≡ max n frame
+shrunk-total old new frame n more t =
+    let s = spare-all old in
+    let e = t.total in
+    omega arith
+
+-- no list that stands is longer than the table
+pub short-sizes : (stored : Option (List ℕ)) (estimates : List ℕ) (count : ℕ) → length estimates ≡ count → length (effective_sizes stored estimates count) ≤ count
+short-sizes None estimates count long = omega (arith, long)
+short-sizes (Some sizes) estimates count long = omega (arith, length-take count sizes)
+
+pub short-widths : (cells : List (List (List ℕ))) (config : SpannedConfig) (sizes : CompleteDimension) → length (effective cells config sizes).widths ≤ columns cells
+short-widths cells config sizes = short-sizes (widths_of sizes) (estimated_widths cells config) (columns cells) (widths_length cells config)
+
+pub take-all : {A : Type 0} (n : ℕ) (xs : List A) → length xs ≤ n → take n xs ≡ xs
+take-all zero [] h = refl
+take-all zero (x ∷ xs) h = absurd (omega arith)
+take-all (suc n) [] h = refl
+take-all (suc n) (x ∷ xs) h = ap (λ l. x ∷ l) (take-all n xs (omega arith))
+
+-- what is read past the end of a list adds nothing
+past-end : (sizes : List ℕ) (count : ℕ) → length sizes ≤ count → sum_below (at sizes) count ≡ sum_below (at sizes) (length sizes)
+past-end sizes zero h = let e : length sizes ≡ 0 = omega arith in ap (sum_below (at sizes)) (sym e)
+past-end sizes (suc count) h = ⊎_elim
+    (λ (below : length sizes < suc count).
+    let r = past-end sizes count (omega arith) in
+    let none = get_or_past sizes count 0 (omega arith) in
+    omega arith)
+    (λ past. let e : suc count ≡ length sizes = omega arith in ap (sum_below (at sizes)) e)
+    (cases_lt (length sizes) (suc count))
+
+pub filled_width-short : (config : SpannedConfig) (count : ℕ) (widths : List ℕ) → length widths ≤ count → filled_width config count widths ≡ sum widths + frame_width config count
+unfolding filled_width
+filled_width-short config count widths short =
+    let a : sum widths ≡ sum_below (at widths) count = sum-below widths ∙ sym (past-end widths count short) in
+    omega arith

@@ -1,9 +1,0 @@
-use Rattle.std.proofs.Common.{◌≡◌, map}
-use Rattle.std.specs.List.{range_with_len}
-use Rattle.tabled_base.specs.Cells.{cell_at}
-use Rattle.tabled_set.specs.Extremes.{extent_of, picked}
-use Rattle.tabled_set.proofs.extremes.picked_in_row.Given as goal
-
-abbrev pub invariant-columns : goal.invariant-columns
-invariant-columns g l =
-    l.best ≡ picked l.within (map (λ column. extent_of l.extent (cell_at (g.R.ExactRecords.cells l.records) l.row column)) (range_with_len 0 l.column))

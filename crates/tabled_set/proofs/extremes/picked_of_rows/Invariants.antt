@@ -1,8 +1,0 @@
-use Rattle.std.proofs.Common.{◌≡◌, map}
-use Rattle.std.specs.List.{range_with_len}
-use Rattle.tabled_set.specs.Extremes.{picked, picked_in_row}
-use Rattle.tabled_set.proofs.extremes.picked_of_rows.Given as goal
-
-abbrev pub invariant-rows : goal.invariant-rows
-invariant-rows g l =
-    l.best ≡ picked l.across (map (picked_in_row l.within l.extent (g.R.ExactRecords.cells l.records)) (range_with_len 0 l.row))

@@ -1,0 +1,35 @@
+use Rattle.std.proofs.Common.{◌≡◌, ℕ, ◌+◌, ◌-◌, ◌<◌, ◌∙◌, List, ap, arith, false, rules, subst, sum, sym}
+use Rattle.tabled_config.specs.declared.spanned.SpannedConfig.{SpannedConfig}
+use Rattle.tabled_size.specs.Estimates.{estimated_heights}
+use Rattle.tabled_size.specs.Sheet.{estimated, is_empty}
+use Rattle.tabled_size.specs.Totals.{total_height}
+use Rattle.tabled_set.proofs.GrowingTables.{heights-fit}
+use Rattle.tabled_set.proofs.PromisedSizes.{heightened, heightens}
+use Rattle.tabled_set.proofs.heights.TableHeightIncreaseTableOptionColoredConfigCompleteDimension.change.Goals as goal
+
+pub grown-requires : goal.grown-requires
+grown-requires g c =
+    let cells = g.R.ExactRecords.cells c.args.records.now in
+    let config = c.as_ref-config.result.now in
+    let n = c.in_ok-n.n in
+    let total = c.in_ok-heights.total in
+    let some : is_empty cells ≡ false = search rules in
+    let same : total ≡ total_height (estimated cells config) = c.in_ok-heights.ensures.total in
+    subst (λ (heights : List ℕ). sum heights + (n - total) < 18446744073709551616) (sym (c.deref.ensures.value ∙ c.in_ok-heights.ensures.heights))
+    (subst (λ (k : ℕ). sum (estimated_heights cells config) + (n - k) < 18446744073709551616) (sym same)
+    (heights-fit cells config n some (omega (arith, same, c.if-n-total.false)) (omega arith)))
+
+pub returns-clause-promised : goal.returns-clause-promised
+returns-clause-promised g c =
+    λ left cleared.
+    let s = c.args.self in
+    let cells = g.R.ExactRecords.cells c.args.records.now in
+    let config = c.args.cfg.now.config in
+    let n = g.W.Measurement.measures s.size cells config in
+    let some : is_empty cells ≡ false = search rules in
+    let measured = c.in_ok-n.ensures.ok ∙ ap (λ (k : SpannedConfig). g.W.Measurement.measures s.size cells k) c.as_ref-config.ensures in
+    let is =
+    heightened s.priority n c.in_ok-n.n c.in_ok-heights.total cells config c.as_ref-config.result.now c.args.dims.now c.set_heights.new.self c.deref.result.now c.in_ok-higher.higher.items
+    c.as_ref-config.ensures some measured c.in_ok-heights.ensures.total (c.deref.ensures.value ∙ c.in_ok-heights.ensures.heights)
+    c.set_heights.ensures.heights c.set_heights.ensures.widths g.P.Peaker.grows (omega (arith, c.if-n-total.false)) c.in_ok-higher.ensures.grown in
+    heightens g.P.Peaker.grows s.priority n cells config c.args.dims.now c.set_heights.new.self left is cleared

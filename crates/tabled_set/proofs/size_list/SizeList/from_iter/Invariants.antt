@@ -1,5 +1,0 @@
-use Rattle.std.proofs.Common.{◌≡◌}
-use Rattle.tabled_set.proofs.size_list.SizeList.from_iter.Given as goal
-
-abbrev pub invariant-sizes : goal.invariant-sizes
-invariant-sizes g l = l.list.items ≡ l.yielded

@@ -1,0 +1,301 @@
+//! The options `CellHeightIncrease`, `CellHeightLimit`, `TableHeightIncrease` and
+//! `TableHeightLimit`, which change the heights of cells and tables.
+ghost use Rattle.std.specs.Prelude.{◌≡◌, ◌⊎◌, ◌≤◌, ◌^◌, IfErr, IfOk, None, OnErr, OnOk, Some, false, true};
+ghost use Rattle.tabled_base.specs.declared.error.TableError.TheVariants.{Memory, Range};
+ghost use Rattle.tabled_priority.specs.Permitted.{at};
+ghost use Rattle.tabled_set.specs.CellChanges.{AreChanged, AreChangedBefore, never_in_place};
+ghost use Rattle.tabled_set.specs.Increased.{HeightOutOfRange, IncreasesHeight};
+ghost use Rattle.tabled_set.specs.Limited.{LimitsHeight, StopsLimiting, for_height, needs_for_height};
+ghost use Rattle.tabled_set.specs.Promised.{HeightensAsPromised, LimitsAsPromised};
+ghost use Rattle.tabled_set.specs.TextLines.{lengthening, limiting};
+ghost use Rattle.tabled_set.specs.declared.changing.CellFilter.TheVariants.{Higher, Lower};
+ghost use Rattle.tabled_set.specs.declared.walk.WalkOrder.TheVariants.{ByRow};
+ghost use Rattle.tabled_size.specs.Cleared.{AreCleared};
+ghost use Rattle.tabled_size.specs.Effective.{effective};
+ghost use Rattle.tabled_size.specs.Estimates.{IsTooHigh, estimated_heights};
+ghost use Rattle.tabled_size.specs.Sheet.{estimated, is_empty};
+ghost use Rattle.tabled_size.specs.Totals.{total_height};
+ghost use Rattle.tabled_size.specs.declared.complete_dimension.CompleteDimension.{CompleteDimension};
+
+use crate::changing::{
+    Beginning, CellFilter, Change, ContentSizes, OptionTransform, TextTransform,
+};
+use crate::measurement::{Height, Measurement};
+use crate::resize::Resize;
+use crate::sizes::{grown, padded_height, shrunk};
+use crate::walk::{WalkOrder, change_cells};
+use std::alloc::Global;
+use tabled_base::{Entity, PeekableRecords, Position, RecordsMut, TableError, TableOption};
+use tabled_config::{ColoredConfig, SpannedConfig};
+use tabled_size::{CompleteDimension, Peaker, PriorityNone, estimate_heights, is_empty};
+use tabled_text::{count_lines, lines, push_copies};
+
+/// Appends empty lines to cells that have fewer lines than measured. As a table option it grows the
+/// rows of a table to a total of that height, in turn.
+pub type CellHeightIncrease<W = usize> = Resize<Lengthening, W>;
+
+/// Grows the rows of a table that has fewer lines than measured to a total of that height.
+pub type TableHeightIncrease<W = usize, P = PriorityNone> = Resize<Lengthening, W, P>;
+
+/// Appends a line feed for each line that a text has less than the content size.
+#[derive(Clone, Copy, Debug, PartialEq, Eq, PartialOrd, Ord)]
+pub struct Lengthening;
+
+impl TextTransform for Lengthening {
+    ghost makes = { λ s. lengthening };
+
+    ghost shortens = { λ s. never_in_place };
+
+    fn beginning(&self, _text: &str, _content_size: usize) -> Option<Beginning<'_>> {
+        None
+    }
+
+    fn changed_text(
+        &self,
+        alloc: Global,
+        text: &str,
+        content_size: usize,
+    ) -> Result<String, TableError> {
+        let mut answer = String::from_str(alloc, text)?;
+        let wanting = content_size.saturating_sub(count_lines(text));
+        push_copies(&mut answer, '\n', wanting)?;
+        Ok(answer)
+    }
+}
+
+impl OptionTransform for Lengthening {
+    type Direction = Height;
+
+    ghost cell_filter = { Lower };
+
+    ghost is_new = { λ s. Unit {0} };
+
+    fn filter() -> CellFilter {
+        CellFilter::Lower
+    }
+
+    fn new() -> Lengthening {
+        Lengthening
+    }
+}
+
+/// Returns the estimated heights of a table with cells, and its total height. Fails with `Memory`,
+/// or with `Range` if a height or the total overflows `usize`.
+fn estimated_rows<R: PeekableRecords>(
+    alloc: Global,
+    records: &R,
+    config: &SpannedConfig,
+) -> Result<(Vec<usize>, usize), TableError>
+    requires { is_empty (R.cells records.now) ≡ false }
+    ensures heights { IfOk result (λ rows.
+        rows.0.items ≡ estimated_heights (R.cells records.now) config.now) }
+    ensures total { IfOk result (λ rows.
+        rows.1 ≡ total_height (estimated (R.cells records.now) config.now)) }
+    ensures err { IfErr result (λ e. (e ≡ Memory) ⊎ ((e ≡ Range)
+        × (IsTooHigh (R.cells records.now) config.now
+        ⊎ (2 ^ 64 ≤ total_height (estimated (R.cells records.now) config.now))))) }
+{
+    let heights = estimate_heights(alloc, records, config)?;
+    let total = padded_height(config, records.count_rows(), &heights).ok_or(TableError::Range)?;
+    Ok((heights, total))
+}
+
+/// Grows the rows of a table that has fewer lines than measured, in the order of its priority, by
+/// the difference. Starts from the estimated heights, whatever is stored, and stores the result.
+/// Nothing else changes.
+impl<W: Measurement<Height> + Drop, P: Peaker + Drop, R: PeekableRecords> TableOption<
+    R,
+    ColoredConfig,
+    CompleteDimension,
+> for TableHeightIncrease<W, P> {
+    ghost changes = { λ s r c d r' c' d'. IncreasesHeight P.grows s.priority
+        (W.measures s.size (R.cells r) c.config) (R.cells r) c.config d d'
+        × ((r' ≡ r) × (c' ≡ c)) };
+
+    // Only a table with cells fails. Nothing has changed then.
+    ghost refuses = { λ s e r c d r' c' d'. (is_empty (R.cells r) ≡ false)
+        × ((r' ≡ r) × ((c' ≡ c) × (d' ≡ d))) };
+
+    ghost out_of_range = { λ s r c d.
+        HeightOutOfRange (W.out_of_range s.size (R.cells r) c.config) (R.cells r) c.config };
+
+    // About the sizes that are left after those of the hint are cleared.
+    ghost promises = { λ s r c d r' c' d'. (left : CompleteDimension) → AreCleared None d' left
+        → HeightensAsPromised P.grows s.priority (W.measures s.size (R.cells r) c.config)
+        (R.cells r) c.config (effective (R.cells r') c'.config left) };
+
+    ghost hint = { λ s. None };
+
+    fn change(
+        self,
+        records: &mut R,
+        cfg: &mut ColoredConfig,
+        dims: &mut CompleteDimension,
+    ) -> Result<(), TableError> {
+        if is_empty(records) {
+            return Ok(());
+        }
+        let config = cfg.as_ref();
+        let n = self.size.measure(records, config)?;
+        let alloc = dims.allocator();
+        let (heights, total) = estimated_rows(alloc, records, config)?;
+        if n <= total {
+            return Ok(());
+        }
+        let higher = grown(alloc, self.priority, &heights, n - total)?;
+        dims.set_heights(higher);
+        Ok(())
+    }
+
+    fn hint_change(&self) -> Option<Entity> {
+        None
+    }
+}
+
+/// Limits cells to as many of their first lines as measured. As a table option it shrinks the rows
+/// of a table to a total of that height, in turn.
+pub type CellHeightLimit<W = usize> = Resize<Limiting, W>;
+
+/// Shrinks the rows of a table that has more lines than measured to a total of that height. Cells
+/// keep their first lines.
+pub type TableHeightLimit<W = usize, P = PriorityNone> = Resize<Limiting, W, P>;
+
+/// Keeps as many of the first lines of a text as the content size says. The result is empty for 0
+/// lines.
+#[derive(Clone, Copy, Debug, PartialEq, Eq, PartialOrd, Ord)]
+pub struct Limiting;
+
+impl TextTransform for Limiting {
+    ghost makes = { λ s. limiting };
+
+    ghost shortens = { λ s. never_in_place };
+
+    fn beginning(&self, _text: &str, _content_size: usize) -> Option<Beginning<'_>> {
+        None
+    }
+
+    fn changed_text(
+        &self,
+        alloc: Global,
+        text: &str,
+        content_size: usize,
+    ) -> Result<String, TableError> {
+        let mut answer = String::new(alloc);
+        let mut left = content_size;
+        for line in lines(text) {
+            if left == 0 {
+                return Ok(answer);
+            }
+            if left < content_size {
+                answer.push('\n')?;
+            }
+            left -= 1;
+            answer.push_str(line)?;
+        }
+        Ok(answer)
+    }
+}
+
+impl OptionTransform for Limiting {
+    type Direction = Height;
+
+    ghost cell_filter = { Higher };
+
+    ghost is_new = { λ s. Unit {0} };
+
+    fn filter() -> CellFilter {
+        CellFilter::Higher
+    }
+
+    fn new() -> Limiting {
+        Limiting
+    }
+}
+
+/// The content height of each cell: its row's height, whatever its padding.
+#[derive(Drop)]
+struct RowContentHeights<'a> {
+    heights: &'a [usize],
+}
+
+impl<'a> ContentSizes for RowContentHeights<'a> {
+    ghost content_size_at = { λ s row column. Some (at s.heights.now row) };
+
+    fn content_size(&self, at: Position) -> Option<usize> {
+        Some(self.heights.get(at.row).copied().unwrap_or(0))
+    }
+}
+
+/// Limits each cell that has more lines than its row's height, row by row. Fails only with
+/// `Memory`.
+fn limit_rows<R: RecordsMut>(records: &mut R, heights: &[usize]) -> Result<(), TableError>
+    ensures ok { OnOk result (AreChanged (λ r c. true) (for_height heights.now)
+        (R.cells records.old) (R.cells records.new)) }
+    ensures err { OnErr result (AreChangedBefore ByRow (λ r c. true)
+        (needs_for_height heights.now) (for_height heights.now)
+        (R.cells records.old) (R.cells records.new)) }
+    ensures only { IfErr result (λ e. e ≡ Memory) }
+{
+    let change = Change {
+        transform: &Limiting,
+        cell_filter: CellFilter::Higher,
+        content_sizes: &RowContentHeights { heights },
+    };
+    change_cells(&change, records, WalkOrder::ByRow, Entity::Global)
+}
+
+/// Shrinks the rows of a table that has more lines than measured, in the order of its priority, by
+/// the excess, without minimums. Starts from the estimated heights, whatever is stored, and stores
+/// the result. Each cell keeps as many of its first lines as its row is high, whatever its padding.
+/// The widths don't change.
+impl<W: Measurement<Height> + Drop, P: Peaker + Drop, R: RecordsMut> TableOption<
+    R,
+    ColoredConfig,
+    CompleteDimension,
+> for TableHeightLimit<W, P> {
+    ghost changes = { λ s r c d r' c' d'. LimitsHeight P.shrinks s.priority
+        (W.measures s.size (R.cells r) c.config) (R.cells r) c.config d (R.cells r') d'
+        × (c' ≡ c) };
+
+    // Only a table with cells fails. Its sizes are then unchanged.
+    ghost refuses = { λ s e r c d r' c' d'. (is_empty (R.cells r) ≡ false)
+        × StopsLimiting P.shrinks s.priority
+        (W.measures s.size (R.cells r) c.config) e (R.cells r) c.config (R.cells r')
+        × ((c' ≡ c) × (d' ≡ d)) };
+
+    ghost out_of_range = { λ s r c d.
+        HeightOutOfRange (W.out_of_range s.size (R.cells r) c.config) (R.cells r) c.config };
+
+    // About the sizes that are left after those of the hint are cleared.
+    ghost promises = { λ s r c d r' c' d'. (left : CompleteDimension) → AreCleared None d' left
+        → LimitsAsPromised P.shrinks s.priority (W.measures s.size (R.cells r) c.config)
+        (R.cells r) c.config (effective (R.cells r') c'.config left) };
+
+    ghost hint = { λ s. None };
+
+    fn change(
+        self,
+        records: &mut R,
+        cfg: &mut ColoredConfig,
+        dims: &mut CompleteDimension,
+    ) -> Result<(), TableError> {
+        if is_empty(records) {
+            return Ok(());
+        }
+        let config = cfg.as_ref();
+        let n = self.size.measure(records, config)?;
+        let alloc = records.allocator();
+        let (heights, total) = estimated_rows(alloc, records, config)?;
+        if total <= n {
+            return Ok(());
+        }
+        let lower = shrunk(alloc, self.priority, &heights, &[], total - n)?;
+        limit_rows(records, &lower)?;
+        dims.set_heights(lower);
+        Ok(())
+    }
+
+    fn hint_change(&self) -> Option<Entity> {
+        None
+    }
+}
