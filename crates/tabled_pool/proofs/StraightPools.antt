@@ -6,9 +6,9 @@ use Rattle.std.specs.Str.{IsUtf8}
 use Rattle.std.proofs.lemmas.Str.{IsUtf8-nil}
 use Rattle.std.proofs.lemmas.List.FromFn.{length-map-range_with_len, get_or-map-range_with_len}
 use Rattle.tabled_text.specs.Measure.{line_columns}
-use Rattle.tabled_text.specs.Plain.{IsAdditive, IsAdditiveLine}
+use Rattle.tabled_text.specs.Plain.{IsAdditive, IsAdditiveColumn, IsAdditiveLine}
 use Rattle.tabled_text.proofs.PlainLines.{plain_line-append, plain_line-as}
-use Rattle.tabled_text.specs.FramedLines.{IsLine}
+use Rattle.tabled_text.specs.FramedLines.{IsLine, IsSeparatorColumn}
 use Rattle.tabled_text.proofs.LineLaws.{line-frame, line-framed}
 use Rattle.tabled_config.specs.declared.sides.Indent.{Indent}
 use Rattle.tabled_config.specs.declared.sides.Sides.{Sides}
@@ -23,9 +23,10 @@ use Rattle.tabled_pool.specs.Colours.{marks_of, no_mark}
 use Rattle.tabled_pool.specs.Margins.{margin_line, within_margin, with_margin}
 use Rattle.tabled_pool.specs.Plan.{DrawingPlan}
 use Rattle.tabled_pool.specs.declared.pool_table.PoolTable.{PoolTable}
-use Rattle.tabled_pool.specs.Apart.{IsApartMargin, IsApartPool, IsStraightPool}
+use Rattle.tabled_pool.specs.Apart.{IsApartPool, IsStraightPool}
+use Rattle.tabled_pool.specs.Characters.{EachFill}
 use Rattle.tabled_pool.specs.Drawn.{drawn, drawn_line}
-use Rattle.tabled_pool.specs.Plain.{IsAdditivePool, IsPlainMargin, IsPlainPool}
+use Rattle.tabled_pool.specs.Plain.{IsAdditivePool, IsPlainPool}
 use Rattle.tabled_pool.specs.PlainTree.{PlainTree}
 use Rattle.tabled_pool.specs.Pool.{
   borders_of,
@@ -65,7 +66,7 @@ plain_plan t h = record {
   top = refl;
   bottom = refl;
   borders = h.settings.borders;
-  style = h.settings.style;
+  style = let p = h.settings.padding in record { left = p.left; right = p.right; top = p.top; bottom = p.bottom };
   texts = λ x y p o k. owner-text IsAdditive _ x y p
       (framed-texts IsAdditive additive-nil (spacing_of t) t.value h.texts (frame_of (borders_of t)) (frame_place t)) o;
   padding_marks = h.settings.uncoloured.padding;
@@ -81,12 +82,12 @@ apart_plan t h = record {
   right = refl;
   top = refl;
   bottom = refl;
-  borders = h.borders;
-  style = h.style;
+  borders = h.settings.borders;
+  style = let p = h.settings.padding in record { left = p.left; right = p.right; top = p.top; bottom = p.bottom };
   texts = λ x y p o. owner-text IsUtf8 _ x y p
       (framed-texts IsUtf8 IsUtf8-nil (spacing_of t) t.value (tree-utf8 t.value) (frame_of (borders_of t)) (frame_place t)) o;
-  padding_marks = h.uncoloured.padding;
-  line_marks = h.uncoloured.borders;
+  padding_marks = h.settings.uncoloured.padding;
+  line_marks = h.settings.uncoloured.borders;
 }
 
 -- the lines of a drawing are put together piece by piece, and each of them is a line
@@ -164,7 +165,7 @@ bare-margin t h =
 
 -- ---- plain margins
 
-plain-within : (m : Sides Indent) (w : ℕ) (line : List ℕ) → IsPlainMargin m → IsAdditiveLine line w
+plain-within : (m : Sides Indent) (w : ℕ) (line : List ℕ) → EachFill IsAdditiveColumn m → IsAdditiveLine line w
     → line_columns (within_margin m bare line) ≡ m.left.size + w + m.right.size
 plain-within m w line p l =
     (plain_line-as
@@ -172,7 +173,7 @@ plain-within m w line p l =
     (plain_line-append l (plain-run (plain-fill m.right.fill m.right.size p.right))))
     (omega arith)).columns
 
-plain-columns : (t : PoolTable) (m : Sides Indent) → IsAdditivePool t → IsPlainMargin m
+plain-columns : (t : PoolTable) (m : Sides Indent) → IsAdditivePool t → EachFill IsAdditiveColumn m
     → EachLineTakes (m.left.size + framed_width t + m.right.size) (with_margin m bare (framed_width t) (drawn (plan t)))
 plain-columns t m h p =
     let w = framed_width t in
@@ -183,13 +184,13 @@ plain-columns t m h p =
 
 -- ---- margins of separators
 
-apart-within : (m : Sides Indent) (w : ℕ) (line : List ℕ) → IsApartMargin m → IsLine line w
+apart-within : (m : Sides Indent) (w : ℕ) (line : List ℕ) → EachFill IsSeparatorColumn m → IsLine line w
     → line_columns (within_margin m bare line) ≡ m.left.size + w + m.right.size
 apart-within m w line p l =
     let framed = line-framed (frame-run (frame-fill m.left.fill m.left.size p.left)) l (frame-run (frame-fill m.right.fill m.right.size p.right)) in
     omega (arith, framed.columns)
 
-apart-columns : (t : PoolTable) (m : Sides Indent) → IsApartPool t → IsApartMargin m
+apart-columns : (t : PoolTable) (m : Sides Indent) → IsApartPool t → EachFill IsSeparatorColumn m
     → EachLineTakes (m.left.size + framed_width t + m.right.size) (with_margin m bare (framed_width t) (drawn (plan t)))
 apart-columns t m h p =
     let w = framed_width t in
@@ -208,7 +209,7 @@ marked t c e h =
     (subst (λ ms. EachLineTakes (total_width t) (with_margin (margin_of t) ms (framed_width t) (drawn (plan t)))) (sym (bare-margin t e)) h)
 
 pub whole_columns : (t : PoolTable) → HasColumns t → IsStraightPool t → EachLineTakes (total_width t) (pool_lines t)
-whole_columns t c (inl h) = marked t c h.uncoloured.margin (apart-columns t (margin_of t) h h.margin)
+whole_columns t c (inl h) = marked t c h.settings.uncoloured.margin (apart-columns t (margin_of t) h h.settings.margin)
 whole_columns t c (inr h) = marked t c h.settings.uncoloured.margin (plain-columns t (margin_of t) h h.settings.margin)
 
 -- plain texts are additive

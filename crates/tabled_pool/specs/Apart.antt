@@ -2,36 +2,21 @@
 use Rattle.std.specs.Prelude.{◌≡◌, ℕ, ◌<◌, ◌⊎◌, true}
 use Rattle.tabled_text.specs.FramedLines.{IsSeparatorColumn}
 use Rattle.tabled_config.specs.declared.borders.Borders.{Borders}
-use Rattle.tabled_config.specs.declared.sides.Indent.{Indent}
-use Rattle.tabled_config.specs.declared.sides.Sides.{Sides}
 use Rattle.tabled_config.specs.Frame.{has_left}
 use Rattle.tabled_config.specs.declared.spanned.CellStyle.{CellStyle}
-use Rattle.tabled_line.specs.Apart.{IsApartStyle}
 use Rattle.tabled_pool.specs.declared.pool_table.PoolTable.{PoolTable}
-use Rattle.tabled_pool.specs.Characters.{EachCharacter}
-use Rattle.tabled_pool.specs.Plain.{IsAdditivePool}
+use Rattle.tabled_pool.specs.Plain.{HasSettings, IsAdditivePool}
 use Rattle.tabled_pool.specs.Pool.{borders_of, style_of}
-use Rattle.tabled_pool.specs.Uncoloured.{IsUncoloured}
 
 -- texts side by side have a vertical border or side padding between them
 abbrev pub HasGap : Borders ℕ → CellStyle → Type 0
 HasGap b style = (has_left b ≡ true) ⊎ ((0 < style.padding.left.size) ⊎ (0 < style.padding.right.size))
 
--- a margin is filled with separators
-pub record IsApartMargin (margin : Sides Indent) : Type 0 where
-  pub left : IsSeparatorColumn margin.left.fill
-  pub right : IsSeparatorColumn margin.right.fill
-  pub top : IsSeparatorColumn margin.top.fill
-  pub bottom : IsSeparatorColumn margin.bottom.fill
-
 -- borders, padding and margin are separators of one column, a border or padding is between texts
 -- side by side, and nothing is coloured
 pub record IsApartPool (t : PoolTable) : Type 0 where
-  pub borders : EachCharacter IsSeparatorColumn (borders_of t)
-  pub style : IsApartStyle (style_of t.config)
+  pub settings : HasSettings IsSeparatorColumn t
   pub gap : HasGap (borders_of t) (style_of t.config)
-  pub margin : IsApartMargin t.config.config.margin
-  pub uncoloured : IsUncoloured t
 
 -- the columns of what is drawn add up: the settings separate any texts, or texts and settings are
 -- additive

@@ -1,6 +1,16 @@
--- The border characters of a pool table. A missing one is a space.
+-- The characters of borders, padding and margins. A missing border character is a space.
 use Rattle.std.specs.Prelude.{ℕ, unwrap_or}
+use Rattle.tabled_text.specs.FramedLines.{IsSeparatorColumn}
+use Rattle.tabled_text.specs.Plain.{IsAdditiveColumn}
 use Rattle.tabled_config.specs.declared.borders.Borders.{Borders}
+use Rattle.tabled_config.specs.declared.sides.Indent.{Indent}
+use Rattle.tabled_config.specs.declared.sides.Sides.{Sides}
+use Rattle.tabled_pool.specs.declared.plain.CharacterKind.{CharacterKind}
+use Rattle.tabled_pool.specs.declared.plain.CharacterKind.TheVariants.{Additive, Separator}
+
+abbrev pub IsOfKind : CharacterKind → ℕ → Type 0
+IsOfKind Additive = IsAdditiveColumn
+IsOfKind Separator = IsSeparatorColumn
 
 pub record EachLine (IsKind : ℕ → Type 0) (b : Borders ℕ) : Type 0 where
   pub top : IsKind (unwrap_or b.top 32)
@@ -26,3 +36,10 @@ pub record EachCharacter (IsKind : ℕ → Type 0) (b : Borders ℕ) : Type 0 wh
   pub lines : EachLine IsKind b
   pub corners : EachCorner IsKind b
   pub intersections : EachIntersection IsKind b
+
+-- `IsKind` holds for the fill of each side
+pub record EachFill (IsKind : ℕ → Type 0) (sides : Sides Indent) : Type 0 where
+  pub left : IsKind sides.left.fill
+  pub right : IsKind sides.right.fill
+  pub top : IsKind sides.top.fill
+  pub bottom : IsKind sides.bottom.fill

@@ -9,8 +9,8 @@
 //! - `pool_table`: `PoolTable`, its settings, its size, and how it is printed
 //! - `making`: tables of rows, and copies of tables
 //! - `applying`: options
-//! - `plain`: whether all characters are plain, so that all lines are equally wide
-//! - `apart`: whether the settings separate the texts, so that all lines are equally wide
+//! - `plain`: whether all characters are plain or the settings separate the texts, so that all lines
+//!   are equally wide
 //! - `uncolored`: whether the settings have no colours
 //!
 //! Trees, and the rectangles of their boxes:
@@ -28,7 +28,6 @@
 //! - `marks`: the marks around a border character
 //! - `margins`: `ColoredMargin`, a margin and its colours
 //! - `drawing`: `Drawing`, the pieces and their settings
-//! - `kinds`: which pieces are borders
 //!
 //! Drawing line by line:
 //! - `find`: the piece at a position
@@ -50,7 +49,6 @@
 //! - `block_lines`: all lines of the drawn tree, with the margin
 #![tactic(auto)]
 
-mod apart;
 mod applying;
 mod block;
 mod block_lines;
@@ -68,7 +66,6 @@ mod frames;
 mod inherited;
 mod inherited_text;
 mod inheriting;
-mod kinds;
 mod line;
 mod line_characters;
 mod making;

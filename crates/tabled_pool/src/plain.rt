@@ -1,17 +1,26 @@
-//! `PoolTable::is_plain`: whether all characters are plain, so that all lines are equally wide.
-ghost use Rattle.std.specs.Prelude.{◌↔◌, IsTrue, map};
-ghost use Rattle.tabled_text.specs.Plain.{IsAdditiveColumn, IsPlain};
-ghost use Rattle.tabled_line.specs.Plain.{IsPlainPiece, IsPlainStyle};
+//! `PoolTable::is_plain` and `PoolTable::is_apart`: whether all lines are equally wide.
+ghost use Rattle.std.specs.Prelude.{◌↔◌, IsTrue, map, unwrap_or};
+ghost use Rattle.tabled_text.specs.Plain.{IsPlain};
 ghost use Rattle.tabled_pool.specs.Tree.{tree_of, trees};
-ghost use Rattle.tabled_pool.specs.Characters.{EachCharacter, EachCorner, EachIntersection, EachLine};
-ghost use Rattle.tabled_pool.specs.Plain.{HasPlainSettings, IsPlainMargin, IsPlainPool};
-ghost use Rattle.tabled_pool.specs.Apart.{IsStraightPool};
+ghost use Rattle.tabled_pool.specs.Characters.{EachCharacter, EachCorner, EachFill, EachIntersection, EachLine, IsOfKind};
+ghost use Rattle.tabled_pool.specs.Plain.{HasSettings, IsPlainPool};
+ghost use Rattle.tabled_pool.specs.Pool.{borders_of, style_of};
+ghost use Rattle.tabled_pool.specs.Apart.{HasGap, IsApartPool, IsStraightPool};
 ghost use Rattle.tabled_pool.specs.Texts.{EachText, EachTextIn};
 
-use crate::pool_table::{PoolTable, style_of};
+use crate::pool_table::PoolTable;
 use crate::tree::TableValue;
-use tabled_config::{Borders, CellStyle, Indent, Sides};
-use tabled_text::{is_additive_column, is_plain};
+use tabled_config::{Borders, Indent, Sides};
+use tabled_text::{is_additive_column, is_plain, is_separator_column};
+
+/// Which characters are asked for. All take one column.
+#[derive(Clone, Copy, Debug, PartialEq, Eq)]
+pub(crate) enum CharacterKind {
+    /// Plain characters and separators, whose columns add up.
+    Additive,
+    /// Characters that join with no text beside them.
+    Separator,
+}
 
 #[cycle(plain)]
 fn are_plain_values(values: &[TableValue]) -> bool
@@ -36,75 +45,79 @@ fn is_plain_value(value: &TableValue) -> bool
     }
 }
 
-fn is_plain_piece(piece: Option<char>) -> bool
-    ensures { IsTrue result ↔ IsPlainPiece piece }
+/// Whether a character is of a kind. A missing one is a space.
+fn is_of_kind(kind: CharacterKind, c: Option<char>) -> bool
+    ensures { IsTrue result ↔ IsOfKind kind (unwrap_or c 32) }
 {
-    is_additive_column(piece.unwrap_or(' '))
+    let c = c.unwrap_or(' ');
+    match kind {
+        CharacterKind::Additive => is_additive_column(c),
+        CharacterKind::Separator => is_separator_column(c),
+    }
 }
 
-fn are_plain_lines(borders: &Borders<char>) -> bool
-    ensures { IsTrue result ↔ EachLine IsAdditiveColumn borders.now }
+fn are_lines(kind: CharacterKind, borders: &Borders<char>) -> bool
+    ensures { IsTrue result ↔ EachLine (IsOfKind kind) borders.now }
 {
-    is_plain_piece(borders.top)
-        && is_plain_piece(borders.bottom)
-        && is_plain_piece(borders.left)
-        && is_plain_piece(borders.right)
+    is_of_kind(kind, borders.top)
+        && is_of_kind(kind, borders.bottom)
+        && is_of_kind(kind, borders.left)
+        && is_of_kind(kind, borders.right)
 }
 
-fn are_plain_corners(borders: &Borders<char>) -> bool
-    ensures { IsTrue result ↔ EachCorner IsAdditiveColumn borders.now }
+fn are_corners(kind: CharacterKind, borders: &Borders<char>) -> bool
+    ensures { IsTrue result ↔ EachCorner (IsOfKind kind) borders.now }
 {
-    is_plain_piece(borders.top_left)
-        && is_plain_piece(borders.top_right)
-        && is_plain_piece(borders.bottom_left)
-        && is_plain_piece(borders.bottom_right)
+    is_of_kind(kind, borders.top_left)
+        && is_of_kind(kind, borders.top_right)
+        && is_of_kind(kind, borders.bottom_left)
+        && is_of_kind(kind, borders.bottom_right)
 }
 
-fn are_plain_intersections(borders: &Borders<char>) -> bool
-    ensures { IsTrue result ↔ EachIntersection IsAdditiveColumn borders.now }
+fn are_intersections(kind: CharacterKind, borders: &Borders<char>) -> bool
+    ensures { IsTrue result ↔ EachIntersection (IsOfKind kind) borders.now }
 {
-    is_plain_piece(borders.top_intersection)
-        && is_plain_piece(borders.bottom_intersection)
-        && is_plain_piece(borders.left_intersection)
-        && is_plain_piece(borders.right_intersection)
-        && is_plain_piece(borders.intersection)
+    is_of_kind(kind, borders.top_intersection)
+        && is_of_kind(kind, borders.bottom_intersection)
+        && is_of_kind(kind, borders.left_intersection)
+        && is_of_kind(kind, borders.right_intersection)
+        && is_of_kind(kind, borders.intersection)
 }
 
-/// Whether each border character is plain or a separator, and takes one column.
-fn are_plain_borders(borders: &Borders<char>) -> bool
-    ensures { IsTrue result ↔ EachCharacter IsAdditiveColumn borders.now }
+fn are_borders(kind: CharacterKind, borders: &Borders<char>) -> bool
+    ensures { IsTrue result ↔ EachCharacter (IsOfKind kind) borders.now }
 {
-    are_plain_lines(borders) && are_plain_corners(borders) && are_plain_intersections(borders)
+    are_lines(kind, borders) && are_corners(kind, borders) && are_intersections(kind, borders)
 }
 
-fn is_plain_style(style: CellStyle) -> bool
-    ensures { IsTrue result ↔ IsPlainStyle style }
+/// Whether the characters that fill padding or a margin are of a kind.
+fn are_fills(kind: CharacterKind, sides: &Sides<Indent>) -> bool
+    ensures { IsTrue result ↔ EachFill (IsOfKind kind) sides.now }
 {
-    is_additive_column(style.padding.left.fill)
-        && is_additive_column(style.padding.right.fill)
-        && is_additive_column(style.padding.top.fill)
-        && is_additive_column(style.padding.bottom.fill)
-}
-
-fn is_plain_margin(margin: &Sides<Indent>) -> bool
-    ensures { IsTrue result ↔ IsPlainMargin margin.now }
-{
-    is_additive_column(margin.left.fill)
-        && is_additive_column(margin.right.fill)
-        && is_additive_column(margin.top.fill)
-        && is_additive_column(margin.bottom.fill)
+    is_of_kind(kind, Some(sides.left.fill))
+        && is_of_kind(kind, Some(sides.right.fill))
+        && is_of_kind(kind, Some(sides.top.fill))
+        && is_of_kind(kind, Some(sides.bottom.fill))
 }
 
 impl PoolTable {
-    /// Whether the characters of borders, padding and margin are plain or separators, and nothing
-    /// is coloured.
-    fn has_plain_settings(&self) -> bool
-        ensures { IsTrue result ↔ HasPlainSettings self.now }
+    /// Whether the characters of borders, padding and margin are of a kind, and nothing is
+    /// coloured.
+    fn has_settings(&self, kind: CharacterKind) -> bool
+        ensures { IsTrue result ↔ HasSettings (IsOfKind kind) self.now }
     {
-        are_plain_borders(self.config.get_borders())
-            && is_plain_style(style_of(&self.config))
-            && is_plain_margin(self.config.get_margin())
+        are_borders(kind, self.config.get_borders())
+            && are_fills(kind, self.config.get_padding())
+            && are_fills(kind, self.config.get_margin())
             && self.is_uncolored()
+    }
+
+    /// Whether texts side by side have a border or padding between them.
+    fn has_gap(&self) -> bool
+        ensures { IsTrue result ↔ HasGap (borders_of self.now) (style_of self.now.config) }
+    {
+        let padding = self.config.get_padding();
+        self.config.get_borders().has_left() || padding.left.size > 0 || padding.right.size > 0
     }
 
     /// Whether the texts are plain, and the characters of borders, padding and margin are missing,
@@ -117,6 +130,21 @@ impl PoolTable {
         ensures test { IsTrue result ↔ IsPlainPool self.now }
         ensures straight { IsTrue result → IsStraightPool self.now }
     {
-        self.has_plain_settings() && is_plain_value(&self.value)
+        self.has_settings(CharacterKind::Additive) && is_plain_value(&self.value)
+    }
+
+    /// Whether the settings separate the texts, so that characters of different texts can't join.
+    /// Then all printed lines are equally wide and each text is in its rectangle, if each text has
+    /// at least one column.
+    ///
+    /// Returns `true` exactly if all of these hold, also for characters that aren't drawn:
+    /// - Borders, padding and margin are missing or separators of one column, such as a space,
+    ///   lines, blocks and dots, and printable ASCII except `#`, `*` and digits.
+    /// - There is a vertical border or side padding between texts side by side.
+    /// - Nothing is coloured, except by an empty colour.
+    pub fn is_apart(&self) -> bool
+        ensures { IsTrue result ↔ IsApartPool self.now }
+    {
+        self.has_settings(CharacterKind::Separator) && self.has_gap()
     }
 }
