@@ -12,20 +12,7 @@ use crate::margins::{ColoredMargin, draw_margin};
 use tabled_base::TableError;
 use tabled_line::{TextSink, write_break};
 
-/// Writes a line between the side margins.
-fn draw_inner_text<S: TextSink>(
-    sink: &mut S,
-    margin: &ColoredMargin,
-    line: &str,
-) -> Result<(), TableError>
-    ensures { Writes (S.sent sink.old) result (S.sent sink.new)
-        (within_margin margin.now.indent (marks_of margin.now.colors) line.now) }
-{
-    margin.write_left_margin(sink)?;
-    sink.write_text(line)?;
-    margin.write_right_margin(sink)
-}
-
+/// Writes the next line, between the side margins.
 fn draw_next_text<S: TextSink>(
     sink: &mut S,
     begun: &mut bool,
@@ -36,7 +23,9 @@ fn draw_next_text<S: TextSink>(
         (within_margin margin.now.indent (marks_of margin.now.colors) line.now ∷ []) }
 {
     write_break(sink, begun)?;
-    draw_inner_text(sink, margin, line)
+    margin.write_left_margin(sink)?;
+    sink.write_text(line)?;
+    margin.write_right_margin(sink)
 }
 
 /// Writes lines between the side margins.
@@ -55,30 +44,6 @@ fn draw_text_lines<S: TextSink>(
     Ok(())
 }
 
-/// Writes the lines of a block and of its margin.
-fn draw_margined<S: TextSink>(
-    sink: &mut S,
-    begun: &mut bool,
-    block: &DrawnBlock,
-    margin: &ColoredMargin,
-) -> Result<(), TableError>
-    ensures { WritesLines (S.sent sink.old) begun.old result (S.sent sink.new) begun.new
-        (with_margin margin.now.indent (marks_of margin.now.colors) (block_sheet_of block.now).width (block_sheet_of block.now).lines) }
-{
-    let top = margin.indent.top;
-    let bottom = margin.indent.bottom;
-    draw_margin(sink, begun, margin, margin.colors.top, top, block.width)?;
-    draw_text_lines(sink, begun, margin, block.lines.as_slice())?;
-    draw_margin(
-        sink,
-        begun,
-        margin,
-        margin.colors.bottom,
-        bottom,
-        block.width,
-    )
-}
-
 /// Writes a block with its margin, with line feeds between the lines.
 pub fn draw_block<S: TextSink>(
     sink: &mut S,
@@ -86,8 +51,15 @@ pub fn draw_block<S: TextSink>(
     margin: &ColoredMargin,
 ) -> Result<(), TableError>
     ensures { Writes (S.sent sink.old) result (S.sent sink.new) (join_with_byte 10
-        (with_margin margin.now.indent (marks_of margin.now.colors) (block_sheet_of block.now).width (block_sheet_of block.now).lines)) }
+        (with_margin margin.now.indent (marks_of margin.now.colors)
+        (block_sheet_of block.now).width (block_sheet_of block.now).lines)) }
 {
+    let ColoredMargin { indent, colors } = *margin;
+    let top = indent.top;
+    let bottom = indent.bottom;
+    let width = block.width;
     let mut begun = false;
-    draw_margined(sink, &mut begun, block, margin)
+    draw_margin(sink, &mut begun, margin, colors.top, top, width)?;
+    draw_text_lines(sink, &mut begun, margin, block.lines.as_slice())?;
+    draw_margin(sink, &mut begun, margin, colors.bottom, bottom, width)
 }

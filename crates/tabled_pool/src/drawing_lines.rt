@@ -16,20 +16,7 @@ use crate::sweep::Sweep;
 use tabled_base::TableError;
 use tabled_line::{TextSink, write_break};
 
-/// Writes a line of a drawing, between the side margins.
-fn draw_inner_line<S: TextSink>(
-    sink: &mut S,
-    margin: &ColoredMargin,
-    line: &Line<'_, '_, '_, '_>,
-) -> Result<(), TableError>
-    ensures { Writes (S.sent sink.old) result (S.sent sink.new) (within_margin margin.now.indent (marks_of margin.now.colors)
-        (drawn_line (plan_of line.now.drawing.now) line.now.y)) }
-{
-    margin.write_left_margin(sink)?;
-    draw_line(sink, line)?;
-    margin.write_right_margin(sink)
-}
-
+/// Writes the next line of a drawing, between the side margins.
 fn draw_next_line<S: TextSink>(
     sink: &mut S,
     begun: &mut bool,
@@ -40,7 +27,9 @@ fn draw_next_line<S: TextSink>(
         (within_margin margin.now.indent (marks_of margin.now.colors) (drawn_line (plan_of line.now.drawing.now) line.now.y) ∷ []) }
 {
     write_break(sink, begun)?;
-    draw_inner_line(sink, margin, line)
+    margin.write_left_margin(sink)?;
+    draw_line(sink, line)?;
+    margin.write_right_margin(sink)
 }
 
 /// Writes the lines of a drawing, between the side margins.
@@ -67,40 +56,23 @@ fn draw_inner_lines<S: TextSink>(
     Ok(())
 }
 
-/// Writes the lines of a drawing and of its margin.
-#[tactic(auto, unfolding(crate::specs::Drawn::drawn))]
-fn draw_lines<S: TextSink>(
-    sink: &mut S,
-    begun: &mut bool,
-    drawing: &Drawing<'_, '_>,
-    margin: &ColoredMargin,
-) -> Result<(), TableError>
-    ensures { WritesLines (S.sent sink.old) begun.old result (S.sent sink.new) begun.new
-        (with_margin margin.now.indent (marks_of margin.now.colors) drawing.now.width (drawn (plan_of drawing.now))) }
-{
-    let top = margin.indent.top;
-    let bottom = margin.indent.bottom;
-    draw_margin(sink, begun, margin, margin.colors.top, top, drawing.width)?;
-    draw_inner_lines(sink, begun, drawing, margin)?;
-    draw_margin(
-        sink,
-        begun,
-        margin,
-        margin.colors.bottom,
-        bottom,
-        drawing.width,
-    )
-}
-
 /// Writes a drawing with its margin, with line feeds between the lines.
+#[tactic(auto, unfolding(crate::specs::Drawn::drawn))]
 pub(crate) fn draw_framed<S: TextSink>(
     sink: &mut S,
     drawing: &Drawing<'_, '_>,
     margin: &ColoredMargin,
 ) -> Result<(), TableError>
     ensures { Writes (S.sent sink.old) result (S.sent sink.new) (join_with_byte 10
-        (with_margin margin.now.indent (marks_of margin.now.colors) drawing.now.width (drawn (plan_of drawing.now)))) }
+        (with_margin margin.now.indent (marks_of margin.now.colors) drawing.now.width
+        (drawn (plan_of drawing.now)))) }
 {
+    let ColoredMargin { indent, colors } = *margin;
+    let top = indent.top;
+    let bottom = indent.bottom;
+    let width = drawing.width;
     let mut begun = false;
-    draw_lines(sink, &mut begun, drawing, margin)
+    draw_margin(sink, &mut begun, margin, colors.top, top, width)?;
+    draw_inner_lines(sink, &mut begun, drawing, margin)?;
+    draw_margin(sink, &mut begun, margin, colors.bottom, bottom, width)
 }

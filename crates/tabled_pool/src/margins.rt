@@ -38,22 +38,7 @@ impl ColoredMargin {
     }
 }
 
-/// Writes a line of the top or bottom margin, between the side margins.
-fn draw_filled_line<S: TextSink>(
-    sink: &mut S,
-    margin: &ColoredMargin,
-    color: ANSIStr<'static>,
-    c: char,
-    width: usize,
-) -> Result<(), TableError>
-    ensures { Writes (S.sent sink.old) result (S.sent sink.new)
-        (margin_line margin.now.indent (marks_of margin.now.colors) (mark_of color.entry) c width) }
-{
-    margin.write_left_margin(sink)?;
-    draw_colored_fill(sink, color, c, width)?;
-    margin.write_right_margin(sink)
-}
-
+/// Writes the next line of the top or bottom margin, between the side margins.
 fn draw_next_margin_line<S: TextSink>(
     sink: &mut S,
     begun: &mut bool,
@@ -66,7 +51,9 @@ fn draw_next_margin_line<S: TextSink>(
         (margin_line margin.now.indent (marks_of margin.now.colors) (mark_of color.entry) c width ∷ []) }
 {
     write_break(sink, begun)?;
-    draw_filled_line(sink, margin, color, c, width)
+    margin.write_left_margin(sink)?;
+    draw_colored_fill(sink, color, c, width)?;
+    margin.write_right_margin(sink)
 }
 
 /// Writes the lines of the top or the bottom margin.

@@ -1,8 +1,29 @@
+use Rattle.std.proofs.Common.{append_assoc, refl}
 use Rattle.tabled_line.proofs.Leading.{one-line, one-line-stopped}
+use Rattle.tabled_line.proofs.Sending.{further, finished, stopped, stopped-first}
 use Rattle.tabled_pool.proofs.block_lines.draw_next_text.Goals as goal
 
 pub returns-in_err-write_break : goal.returns-in_err-write_break
-returns-in_err-write_break g c = one-line-stopped _ _ _ _ _ c.in_err-write_break.ensures.printed c.from_residual.ensures.1
+returns-in_err-write_break g c =
+    one-line-stopped _ _ _ _ _ c.in_err-write_break.ensures.printed c.from_residual.ensures.1
+
+pub returns-in_err-write_left_margin : goal.returns-in_err-write_left_margin
+returns-in_err-write_left_margin g c =
+    one-line _ _ _ _ _ c.in_ok-write_break.ensures.printed
+    (stopped-first _ _ _ c.in_err-write_left_margin.ensures
+    c.from_residual-in_err-write_left_margin.ensures.1 refl)
+    c.write_break.ensures.after
+
+pub returns-in_err-write_text : goal.returns-in_err-write_text
+returns-in_err-write_text g c =
+    one-line _ _ _ _ _ c.in_ok-write_break.ensures.printed
+    (stopped _ _ _ c.in_ok-write_left_margin.ensures c.in_err-write_text.ensures.written
+    c.from_residual-in_err-write_text.ensures.1 refl)
+    c.write_break.ensures.after
 
 pub returns : goal.returns
-returns g c = one-line _ _ _ _ _ c.in_ok-write_break.ensures.printed c.draw_inner_text.ensures c.write_break.ensures.after
+returns g c =
+    one-line _ _ _ _ _ c.in_ok-write_break.ensures.printed
+    (finished _ _ _ _ (further c.in_ok-write_left_margin.ensures c.in_ok-write_text.ensures.written refl)
+    c.write_right_margin.ensures (simp append_assoc))
+    c.write_break.ensures.after
