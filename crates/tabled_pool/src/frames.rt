@@ -2,7 +2,7 @@
 ghost use Rattle.std.specs.Prelude.{◌≡◌, ◌+◌, ◌^◌, ◌<◌, ◌≤◌, map, ◌++◌, IfOk};
 ghost use Rattle.tabled_pool.specs.Boxes.{box_of};
 ghost use Rattle.tabled_pool.specs.Shown.{shown};
-ghost use Rattle.tabled_pool.specs.Tiling.{framed, AreTiles, EachFits};
+ghost use Rattle.tabled_pool.specs.Tiling.{framed};
 
 use crate::box_spacing::BoxSpacing;
 use crate::pieces::{Kind, Piece, Rectangle};
@@ -12,30 +12,9 @@ use std::alloc::AllocError;
 use tabled_config::Sides;
 
 /// Adds the texts and borders of a tree and the borders around it, in a rectangle that holds both.
-/// Each position of the rectangle is in exactly one text or border, and each text has at least the
-/// size that it needs with its padding. `frame` is the thickness of each outer border, in columns
-/// or lines. Recurses at each level.
-pub fn place_tree<'a>(
-    value: &'a TableValue,
-    spacing: &BoxSpacing,
-    frame: &Sides<usize>,
-    whole: Rectangle,
-    pieces: &mut Vec<Piece<'a>>,
-) -> Result<(), AllocError>
-    requires wide { frame.now.left + (box_of spacing.now value.now).width + frame.now.right ≤ whole.width }
-    requires tall { frame.now.top + (box_of spacing.now value.now).height + frame.now.bottom ≤ whole.height }
-    requires right { whole.x + whole.width < 2 ^ 64 }
-    requires low { whole.y + whole.height < 2 ^ 64 }
-    ensures tiles { AreTiles (framed frame.now (box_of spacing.now value.now) whole) whole }
-    ensures fits { EachFits spacing.now (framed frame.now (box_of spacing.now value.now) whole) }
-    ensures places { IfOk result (λ _. map shown pieces.new.items ≡ map shown pieces.old.items
-        ++ framed (frame.now) (box_of spacing.now value.now) whole) }
-{
-    place_framed(value, spacing, frame, whole, pieces)
-}
-
+/// `frame` is the thickness of each outer border, in columns or lines. Recurses at each level.
 #[tactic(auto, unfolding(crate::specs::Tiling::framed))]
-fn place_framed<'a>(
+pub fn place_tree<'a>(
     value: &'a TableValue,
     spacing: &BoxSpacing,
     frame: &Sides<usize>,

@@ -1,8 +1,14 @@
-use Rattle.tabled_pool.proofs.Framing.{tree_framed_tiles, tree_framed_fits}
+use Rattle.std.proofs.Common.{◌≡◌, List, [], ◌∷◌, ◌++◌, ap, ◌∙◌, append_assoc}
+use Rattle.tabled_pool.specs.Tiling.{framed}
 use Rattle.tabled_pool.proofs.frames.place_tree.Goals as goal
 
-pub returns-clause-tiles : goal.returns-clause-tiles
-returns-clause-tiles c = tree_framed_tiles _ _ _ _ c.requires.wide c.requires.tall
+joined : {A : Type 0} (o a b c d n ps : List A) (p q r s : A) → a ≡ o ++ (p ∷ []) → b ≡ a ++ (q ∷ []) → c
+    ≡ b ++ (r ∷ []) → d ≡ c ++ (s ∷ []) → n ≡ d ++ ps → n ≡ o ++ (p ∷ (q ∷ (r ∷ (s ∷ ps))))
+joined o a b c d n ps p q r s h1 h2 h3 h4 h5 =
+    h5 ∙ ap (λ u. u ++ ps) (h4 ∙ ap (λ u. u ++ (s ∷ [])) (h3 ∙ ap (λ u. u ++ (r ∷ [])) (h2 ∙ ap (λ u. u ++ (q ∷ [])) h1)))
+    ∙ simp append_assoc
 
-pub returns-clause-fits : goal.returns-clause-fits
-returns-clause-fits c = tree_framed_fits _ _ _ _ c.requires.wide c.requires.tall
+pub returns : goal.returns
+unfolding framed
+returns c = joined _ _ _ _ _ _ _ _ _ _ _ c.in_ok-place_bar.ensures c.in_ok-place_bar-2.ensures
+    c.in_ok-place_bar-3.ensures c.in_ok-place_bar-4.ensures c.in_ok-place_value.ensures

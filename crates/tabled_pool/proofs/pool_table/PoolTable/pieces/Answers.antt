@@ -5,5 +5,5 @@ pub returns-clause-places : goal.returns-clause-places
 unfolding plan
 returns-clause-places c =
     let e = rw (c.requires.width, c.requires.height, c.frame_of-frame.ensures, c.get_borders.ensures, c.spacing.ensures)
-    at c.in_ok-place_tree.ensures.places in
+    at c.in_ok-place_tree.ensures in
     rw c.new-pieces.ensures.items at e
