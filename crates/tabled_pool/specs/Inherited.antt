@@ -14,7 +14,7 @@ use Rattle.tabled_pool.specs.declared.tree.TableValue.TheOpen.{TableValue-F, Row
 use Rattle.tabled_pool.specs.declared.tree.TableValue.TheFolds.{fold-TableValue}
 use Rattle.tabled_pool.specs.Boxes.{Box, box_of, Part, part_of, leaf_box, row_box, column_box, first_width, first_height, left_part, right_part, top_part, bottom_part}
 use Rattle.tabled_pool.specs.declared.flags.Flags.{Flags}
-use Rattle.tabled_pool.specs.Marks.{alone, begun, ended, used_after, within_marks}
+use Rattle.tabled_pool.specs.Marks.{Around, alone, begun, ended, used_after, within_marks}
 use Rattle.tabled_pool.specs.Colours.{Mark}
 use Rattle.tabled_pool.specs.Leaf.{leaf_line}
 use Rattle.tabled_pool.specs.Kinds.{is_line_kind}
@@ -85,23 +85,19 @@ is_right b = is_some b.right || (is_some b.top_right || is_some b.bottom_right)
 abbrev pub written : Bool → Option ℕ → Option ℕ
 written there c = if there then Some (unwrap_or c 32) else None
 
--- a character beside a text, with its colour
-abbrev pub side_text : Option Mark → Option ℕ → List ℕ
-side_text mark None = []
-side_text mark (Some c) = within_marks (alone mark) (encode_utf8 c)
-
-abbrev pub corner_text : Option Mark → Option Mark → Option ℕ → List ℕ
-corner_text used mark None = []
-corner_text used mark (Some c) = within_marks (begun used mark) (encode_utf8 c)
+-- a border character between its marks, if there is one
+abbrev pub marked_text : Around → Option ℕ → List ℕ
+marked_text marks None = []
+marked_text marks (Some c) = within_marks marks (encode_utf8 c)
 
 -- the border above or below a text: a corner, a run, a corner, each with its colour
 abbrev pub outer_line : Option Mark → Option Mark → Option Mark → Option ℕ → List ℕ → Option ℕ → List ℕ
 outer_line corner main last start run end =
     let first = if is_some start then corner else None in
     let used = used_after first main in
-    corner_text None corner start
+    marked_text (begun None corner) start
     ++ (within_marks (begun first main) run
-    ++ (corner_text used last end ++ ended (if is_some end then used_after used last else used)))
+    ++ (marked_text (begun used last) end ++ ended (if is_some end then used_after used last else used)))
 
 -- a horizontal border of `width` columns, with `split` where vertical ones meet it
 abbrev pub run_char : List ℕ → ℕ → Option ℕ → Option ℕ → ℕ → List ℕ
@@ -132,8 +128,8 @@ left_char t b h y = if is_split h.before h.place.height y then t.borders.right_i
 -- a line of the text's block, between the borders at its sides
 abbrev pub inner_text : DrawingPlan → Borders ℕ → InheritedSheet → List ℕ → ℕ → List ℕ
 inner_text t b h text y =
-    side_text t.line_marks.left (written (is_left b) (left_char t b h y))
-    ++ (leaf_line t (part_of Leaf h.place text) y ++ side_text t.line_marks.right (written (is_right b) b.right))
+    marked_text (alone t.line_marks.left) (written (is_left b) (left_char t b h y))
+    ++ (leaf_line t (part_of Leaf h.place text) y ++ marked_text (alone t.line_marks.right) (written (is_right b) b.right))
 
 abbrev pub line_if : Bool → List ℕ → List (List ℕ)
 line_if there line = if there then line ∷ [] else []

@@ -24,13 +24,6 @@ fn draw_marked<S: TextSink>(sink: &mut S, marks: Marks, c: char) -> Result<(), T
     ensures { Writes (S.sent sink.old) result (S.sent sink.new) (within_marks (around_of marks) (encode_utf8 c)) }
 {
     sink.write_text(marks.close)?;
-    draw_opened(sink, marks, c)
-}
-
-/// Writes a prefix, a character, and the suffix after it.
-fn draw_opened<S: TextSink>(sink: &mut S, marks: Marks, c: char) -> Result<(), TableError>
-    ensures { Writes (S.sent sink.old) result (S.sent sink.new) (marks.start.now ++ (encode_utf8 c ++ marks.behind.now)) }
-{
     sink.write_text(marks.start)?;
     write_char(sink, c)?;
     sink.write_text(marks.behind)
@@ -112,8 +105,7 @@ fn draw_run<S: TextSink>(
 {
     match run.piece.kind {
         Kind::Leaf => draw_text(sink, line, run.piece, x),
-        Kind::Bar => draw_border(sink, line, run, x),
-        Kind::Rule => draw_border(sink, line, run, x),
+        Kind::Bar | Kind::Rule => draw_border(sink, line, run, x),
     }
 }
 

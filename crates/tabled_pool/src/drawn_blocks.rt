@@ -16,20 +16,13 @@ pub struct DrawnBlock {
     pub lines: Vec<String>,
 }
 
-pub(crate) fn push_fill(line: &mut String, c: char, count: usize) -> Result<(), TableError>
-    ensures ok { IfOk result (λ _. string_bytes line.new ≡ string_bytes line.old ++ fill c count) }
-    ensures only { IfErr result (λ e. e ≡ Memory) }
-{
-    write_fill(line, c, count)
-}
-
 /// Appends line `y` of a block, or spaces below its last line.
 fn push_drawn_line(line: &mut String, block: &DrawnBlock, y: usize) -> Result<(), TableError>
     ensures ok { IfOk result (λ _. string_bytes line.new ≡ string_bytes line.old ++ drawn_block_line y (block_sheet_of block.now)) }
     ensures only { IfErr result (λ e. e ≡ Memory) }
 {
     if y >= block.lines.len() {
-        return push_fill(line, ' ', block.width);
+        return write_fill(line, ' ', block.width);
     }
     line.push_str(block.lines[y].as_str())?;
     Ok(())
@@ -102,7 +95,7 @@ fn widened_line(alloc: Global, text: &str, spaces: usize) -> Result<String, Tabl
     ensures only { IfErr result (λ e. e ≡ Memory) }
 {
     let mut line = String::from_str(alloc, text)?;
-    push_fill(&mut line, ' ', spaces)?;
+    write_fill(&mut line, ' ', spaces)?;
     Ok(line)
 }
 

@@ -12,15 +12,14 @@ ghost use Rattle.tabled_pool.specs.Leaf.{leaf_line};
 ghost use Rattle.tabled_pool.specs.Inherited.{
   bordered_block,
   bottom_text,
-  corner_text,
   inner_text,
   is_left,
   is_right,
   left_char,
+  marked_text,
   outer_line,
   run_char,
   run_text,
-  side_text,
   text_block,
   top_text,
   written,
@@ -38,7 +37,7 @@ use crate::pieces::Rectangle;
 use crate::taking::is_split;
 use std::alloc::Global;
 use tabled_base::TableError;
-use tabled_config::{ANSIStr, Borders};
+use tabled_config::Borders;
 use tabled_line::{CellBlock, Content};
 
 /// What a box inherits: its rectangle, its flags, the widths of the boxes above it and the heights
@@ -58,49 +57,20 @@ fn written(there: bool, c: Option<char>) -> Option<char>
     if there { Some(c.unwrap_or(' ')) } else { None }
 }
 
-fn push_marked(line: &mut String, marks: Marks, c: char) -> Result<(), TableError>
+/// Appends a border character between its marks, if there is one.
+fn push_marked(line: &mut String, marks: Marks, c: Option<char>) -> Result<(), TableError>
     ensures ok { IfOk result (λ _. string_bytes line.new
-        ≡ string_bytes line.old ++ within_marks (around_of marks) (encode_utf8 c)) }
+        ≡ string_bytes line.old ++ marked_text (around_of marks) c) }
     ensures only { IfErr result (λ e. e ≡ Memory) }
 {
+    let Some(c) = c else {
+        return Ok(());
+    };
     line.push_str(marks.close)?;
     line.push_str(marks.start)?;
     line.push(c)?;
     line.push_str(marks.behind)?;
     Ok(())
-}
-
-/// Appends a character of a left or right border, if there is one.
-fn push_side(
-    line: &mut String,
-    color: Option<ANSIStr<'static>>,
-    c: Option<char>,
-) -> Result<(), TableError>
-    ensures ok { IfOk result (λ _. string_bytes line.new
-        ≡ string_bytes line.old ++ side_text (option_map mark_of color.entry) c) }
-    ensures only { IfErr result (λ e. e ≡ Memory) }
-{
-    match c {
-        Some(c) => push_marked(line, alone(color), c),
-        None => Ok(()),
-    }
-}
-
-/// Appends a corner, if there is one.
-fn push_corner(
-    line: &mut String,
-    used: Option<ANSIStr<'static>>,
-    color: Option<ANSIStr<'static>>,
-    c: Option<char>,
-) -> Result<(), TableError>
-    ensures ok { IfOk result (λ _. string_bytes line.new
-        ≡ string_bytes line.old ++ corner_text (option_map mark_of used.entry) (option_map mark_of color.entry) c) }
-    ensures only { IfErr result (λ e. e ≡ Memory) }
-{
-    match c {
-        Some(c) => push_marked(line, begun(used, color), c),
-        None => Ok(()),
-    }
 }
 
 /// The character at column `x` of a horizontal border: `split` where a vertical one meets it.
@@ -170,9 +140,9 @@ fn outer_line(
         used
     };
     let mut line = String::new(alloc);
-    push_corner(&mut line, None, colors.corner, start)?;
+    push_marked(&mut line, begun(None, colors.corner), start)?;
     push_run(&mut line, begun(first, colors.main), run)?;
-    push_corner(&mut line, used, colors.right, end)?;
+    push_marked(&mut line, begun(used, colors.right), end)?;
     line.push_str(ended(last))?;
     Ok(line)
 }
@@ -275,9 +245,9 @@ fn inner_text(
     let left = written(is_left(own), left_char(drawing, own, inherited, y));
     let right = written(is_right(own), own.right);
     let mut line = String::new(drawing.alloc);
-    push_side(&mut line, drawing.colors.left, left)?;
+    push_marked(&mut line, alone(drawing.colors.left), left)?;
     push_block_line(&mut line, drawing, inherited.place, text, y)?;
-    push_side(&mut line, drawing.colors.right, right)?;
+    push_marked(&mut line, alone(drawing.colors.right), right)?;
     Ok(line)
 }
 
