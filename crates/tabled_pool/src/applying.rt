@@ -33,10 +33,7 @@ impl PoolTable {
             rows: 0,
             columns: 0,
         };
-        match option.change(&mut records, &mut self.config, &mut self.dimension) {
-            Ok(()) => Ok(()),
-            Err(error) => Err(error),
-        }
+        option.change(&mut records, &mut self.config, &mut self.dimension)
     }
 
     /// Applies an option to the settings, and returns the table. The option sees records without

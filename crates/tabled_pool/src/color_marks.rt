@@ -20,10 +20,9 @@ ghost use Rattle.tabled_pool.specs.Around.{
 };
 
 use crate::drawing::Drawing;
-use crate::kinds::is_line_kind;
 use crate::line_characters::{ends_at, has_bottom, has_top};
 use crate::marks::{LineColors, Marks, alone, begun, ended, used_after};
-use crate::pieces::{Piece, Rectangle};
+use crate::pieces::{Piece, Rectangle, is_line_kind};
 use tabled_config::ANSIStr;
 
 /// Where a position is relative to a range of columns or lines.

@@ -10,9 +10,8 @@ ghost use Rattle.tabled_pool.specs.Runs.{IsRun};
 
 use crate::drawing::Drawing;
 use crate::find::piece_at;
-use crate::kinds::is_line_kind;
 use crate::line_characters::{Arms, border_char};
-use crate::pieces::Piece;
+use crate::pieces::{Piece, is_line_kind};
 use crate::sweep::Sweep;
 
 /// A line of a drawing.

@@ -1,4 +1,6 @@
 //! `Rectangle`, and `Piece`, a text or a border in its rectangle.
+ghost use Rattle.std.specs.Prelude.{◌≡◌};
+ghost use Rattle.tabled_pool.specs.Kinds.{is_line_kind};
 
 /// A rectangle of a drawing, in columns from the left and lines from the top.
 #[derive(Clone, Copy, Debug, PartialEq, Eq)]
@@ -33,4 +35,14 @@ pub struct Piece<'a> {
     pub place: Rectangle,
     /// Its text; a border has none.
     pub text: &'a str,
+}
+
+/// Whether a piece is a border.
+pub fn is_line_kind(kind: Kind) -> bool
+    ensures { result ≡ is_line_kind kind }
+{
+    match kind {
+        Kind::Leaf => false,
+        Kind::Bar | Kind::Rule => true,
+    }
 }
