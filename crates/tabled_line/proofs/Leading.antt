@@ -60,9 +60,19 @@ lines-stopped-first {T} {a} {c} {p} r rest whole res e k i w = lines-stopped r r
 lines_after-one : (p : Bool) (l : List ℕ) → lines_after p (l ∷ []) ≡ break p ++ l
 lines_after-one p l = ap (λ u. break p ++ u) (append-nil l)
 
+pub line-sent : {a b c : Sent} {p r : Bool} {l : List ℕ} → Sends a b (break p) → Sends b c l → r ≡ true → LineSends a p c r (l ∷ [])
+line-sent {p = p} {l = l} h k e = record { sends = further h k (lines_after-one p l); after = e }
+
+pub line-stopped : {a b c : Sent} {p : Bool} {l : List ℕ} {d : TableError} → Sends a b (break p) → Stops b d c l → LineStops a p d c (l ∷ [])
+line-stopped {c = c} {p = p} {l = l} {d = d} h k =
+    record { stops = finished {T = Unit {0}} c l (lines_after p (l ∷ [])) (Err d) h k (lines_after-one p l) }
+
+pub break-stopped : {a c : Sent} {p : Bool} {d : TableError} (l : List ℕ) → Stops a d c (break p) → LineStops a p d c (l ∷ [])
+break-stopped {p = p} {d = d} l h = record { stops = stopped-first {T = Unit {0}} (Err d) d l h refl (lines_after-one p l) }
+
 pub one-line : {T : Type 0} {a b : Sent} (p : Bool) (c : Sent) (r : Bool) (l : List ℕ) (res : Result T TableError) → Sends a b (break p) → Writes b res c l → r ≡ true → WritesLines a p res c r (l ∷ [])
-one-line p c r l (Ok x) h k e = record { sends = further h k (lines_after-one p l); after = e }
-one-line p c r l (Err d) h k e = record { stops = finished {T = Unit {0}} c l (lines_after p (l ∷ [])) (Err d) h k (lines_after-one p l) }
+one-line p c r l (Ok x) h k e = line-sent h k e
+one-line p c r l (Err d) h k e = line-stopped h k
 
 pub one-line-stopped : {T : Type 0} {a c : Sent} (p r : Bool) (l : List ℕ) (res : Result T TableError) (e : TableError) → Stops a e c (break p) → IsErrAnd res (λ d. d ≡ e) → WritesLines a p res c r (l ∷ [])
 one-line-stopped p r l (Ok x) e h i = absurd i

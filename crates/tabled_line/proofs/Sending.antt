@@ -1,9 +1,9 @@
 -- Texts that are sent one after another.
-use Rattle.std.proofs.Common.{◌≡◌, ℕ, ◌≤◌, Bool, List, [], ◌∷◌, ◌++◌, length, take, drop, Option, Some, None, Result, Ok, Err, refl, sym, ◌∙◌, ap, subst, append-nil, append_assoc, arith, inl, inr, ⊎_elim}
+use Rattle.std.proofs.Common.{◌≡◌, ℕ, ◌≤◌, Bool, List, [], ◌∷◌, ◌++◌, length, take, drop, is_ok, true, false, Option, Some, None, Result, Ok, Err, refl, sym, ◌∙◌, ap, subst, append-nil, append_assoc, arith, inl, inr, ⊎_elim}
 use Rattle.std.proofs.lemmas.Grind.{common_steps}
 use Rattle.std.proofs.lemmas.List.{take-append-drop}
 use Rattle.std.specs.Io.KnownBytes.{Appends, Keeps}
-use Rattle.std.specs.Result.{IsErrAnd, OnOk}
+use Rattle.std.specs.Result.{IsErrAnd}
 use Rattle.tabled_line.specs.Sent.{Sent, Sends, Stops, Took, Rose, IsCause, Writes}
 use Rattle.tabled_base.specs.declared.error.TableError.{TableError}
 use Rattle.tabled_base.specs.declared.error.TableError.TheVariants.{Memory, ShortWidths, ShortHeights, Narrow, Range, Writer}
@@ -113,6 +113,7 @@ stopped {T} {a} {b} {c} {s} {t} {whole} (Err d) e rest p q h w =
 pub stopped-first : {T : Type 0} {a c : Sent} {t whole : List ℕ} (r : Result T TableError) (e : TableError) (rest : List ℕ) → Stops a e c t → IsErrAnd r (λ d. d ≡ e) → whole ≡ t ++ rest → Writes a r c whole
 stopped-first {T} {a} r e rest q h w = stopped r e rest (sends-none a) q h w
 
-pub sent_if_ok : {T : Type 0} (a b : Sent) (r : Result T TableError) (text : List ℕ) → Writes a r b text → OnOk r (Sends a b text)
-sent_if_ok a b (Ok x) text p = p
-sent_if_ok a b (Err e) text p = tt
+-- the step that returned `Ok`
+pub sent-ok : {T : Type 0} {a b : Sent} {text : List ℕ} (r : Result T TableError) → is_ok r ≡ true → Writes a r b text → Sends a b text
+sent-ok (Ok x) ok p = p
+sent-ok (Err e) ok p = let no : false ≡ true = ok in cc

@@ -2,7 +2,7 @@
 ghost use Rattle.std.specs.Prelude.{◌≡◌, ◌≤◌, ◌<◌, ◌-◌, ◌^◌, List, ℕ, []};
 ghost use Rattle.std.specs.List.{slice_index_or};
 ghost use Rattle.tabled_text.specs.Measure.{line_columns};
-ghost use Rattle.tabled_line.specs.Block.{above_text, before_text, block, cell_line, columns_before, fill_above, free_lines, inner_width};
+ghost use Rattle.tabled_line.specs.Block.{above_text, before_text, block, cell_line, columns_before, free_lines, inner_width};
 ghost use Rattle.tabled_line.specs.Cursors.{IsCursor};
 ghost use Rattle.tabled_line.specs.Sent.{Sent, Writes};
 
@@ -27,18 +27,6 @@ pub fn before_text(alignment: AlignmentHorizontal, free: usize) -> usize
         0
     } else {
         centered
-    }
-}
-
-/// Returns how many of the free lines come above the text.
-fn above_text(alignment: AlignmentVertical, free: usize) -> usize
-    ensures value { result ≡ above_text alignment free }
-    ensures within { result ≤ free }
-{
-    match alignment {
-        AlignmentVertical::Top => 0,
-        AlignmentVertical::Center => free / 2,
-        AlignmentVertical::Bottom => free,
     }
 }
 
@@ -115,15 +103,11 @@ impl<'a> CellBlock<'a> {
             .saturating_sub(self.content.lines)
             .saturating_sub(padding.top.size)
             .saturating_sub(padding.bottom.size);
-        above_text(self.style.vertical, free)
-    }
-
-    /// Returns the number of lines above the text: top padding and alignment. The sum is in range,
-    /// since alignment adds at most the height less the padding.
-    fn fill_above(&self) -> usize
-        ensures { result ≡ fill_above self.now.style self.now.height self.now.content.text.now }
-    {
-        self.style.padding.top.size + self.lines_above()
+        match self.style.vertical {
+            AlignmentVertical::Top => 0,
+            AlignmentVertical::Center => free / 2,
+            AlignmentVertical::Bottom => free,
+        }
     }
 
     /// Writes the line of the block at `index`. The search for a line of the text starts at
@@ -141,7 +125,8 @@ impl<'a> CellBlock<'a> {
             self.now.content.text.now) index []) }
         ensures stands { IsCursor self.now.content.text.now cursor.new }
     {
-        let above = self.fill_above();
+        // In range, since alignment adds at most the height less the padding.
+        let above = self.style.padding.top.size + self.lines_above();
         if index < above {
             return write_fill(sink, self.style.padding.top.fill, self.width);
         }

@@ -1,12 +1,11 @@
 //! The separator between two texts in a row of one line, cached as a string.
-ghost use Rattle.std.specs.Prelude.{◌≡◌, ◌≤◌, IfSome, take, true};
+ghost use Rattle.std.specs.Prelude.{◌≡◌, IfSome, take, true};
 ghost use Rattle.std.specs.Str.{is_utf8};
 ghost use Rattle.tabled_line.specs.ColumnSeparator.{separator_text};
 ghost use Rattle.tabled_line.specs.Sent.{Sent, Writes};
 
 use crate::buffer::FixedBuffer;
-use crate::edges::write_bar;
-use crate::pieces::write_spaces;
+use crate::pieces::{write_bar, write_spaces};
 use crate::text_sink::TextSink;
 use tabled_base::TableError;
 use tabled_config::VerticalLine;
@@ -40,18 +39,6 @@ impl<'a> SeparatorText<'a> {
         SeparatorText { bar, text }
     }
 
-    /// Returns the part with `behind` spaces before the vertical line and `before` spaces after it,
-    /// at most 64 each.
-    #[inline(always)]
-    fn part(&self, behind: usize, before: usize) -> &'a str
-        requires behind { behind ≤ 64 }
-        requires before { before ≤ 64 }
-        ensures { result.now ≡ separator_text self.now.bar behind before }
-    {
-        let end = self.text.len() - (SPACES - before);
-        &self.text[SPACES - behind..end]
-    }
-
     /// Writes `behind` spaces after a text, the vertical line, and `before` spaces before the next
     /// text.
     #[inline(always)]
@@ -66,7 +53,8 @@ impl<'a> SeparatorText<'a> {
         let first = behind.min(SPACES);
         let last = before.min(SPACES);
         write_spaces(sink, behind - first)?;
-        sink.write_text(self.part(first, last))?;
+        let end = self.text.len() - (SPACES - last);
+        sink.write_text(&self.text[SPACES - first..end])?;
         write_spaces(sink, before - last)
     }
 }

@@ -44,8 +44,8 @@ impl<'a> Content<'a> {
     }
 
     /// Returns the line at `index` and its width in columns; `None` past the last line. The search
-    /// starts at `cursor`, which moves to the line after it. A text of one line isn't searched or
-    /// measured again.
+    /// starts at `cursor`, or at the first line if the cursor is past the line, and the cursor moves
+    /// to the line after it. A text of one line isn't searched or measured again.
     pub(crate) fn line(&self, index: usize, cursor: &mut Cursor<'a>) -> Option<(&'a str, usize)>
         requires index { index < 2 ^ 64 - 1 }
         requires stands { IsCursor self.now.text.now cursor.old }
@@ -61,24 +61,13 @@ impl<'a> Content<'a> {
                 None
             };
         }
-        let line = self.line_from(index, cursor)?;
-        Some((line, line_width(line)))
-    }
-
-    /// Returns the line at `index`, searched from `cursor` on, or from the start if the cursor is
-    /// past it.
-    fn line_from(&self, index: usize, cursor: &mut Cursor<'a>) -> Option<&'a str>
-        requires index { index < 2 ^ 64 - 1 }
-        requires stands { IsCursor self.now.text.now cursor.old }
-        ensures line { option_map (λ line. line.now) result ≡ slice_get (lines_of self.now.text.now) index }
-        ensures stands { IsCursor self.now.text.now cursor.new }
-    {
         if cursor.line > index {
             *cursor = Cursor::start(self.text);
         }
         'passed: while cursor.line < index {
             cursor.next()?;
         }
-        cursor.next()
+        let line = cursor.next()?;
+        Some((line, line_width(line)))
     }
 }

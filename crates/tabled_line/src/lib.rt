@@ -6,18 +6,14 @@
 //! row template into which the texts of a row are copied.
 //!
 //! Sinks:
-//! - `text_sink`: the trait of everything that text can be written to.
+//! - `text_sink`: the trait of everything that text can be written to, a `String` and a `Vec<u8>`.
 //! - `io_sink`: a writer that the sink owns.
 //! - `writer_sink`: a borrowed writer; contracts say what it took.
-//! - `memory`: a `String` and a `Vec<u8>`.
 //! - `buffer`: a buffer of 4 KiB, or one of up to 1 MiB.
 //!
 //! Pieces:
-//! - `pieces`: runs of one character.
-//! - `edges`: vertical lines, and the left and right end of a line.
-//! - `line_feed`: the line feed between two lines.
-//! - `margin`: the lines of a top or bottom margin.
-//! - `columns`: the columns of a table, and the horizontal lines over them.
+//! - `pieces`: runs of one character, vertical lines, and the left and right end of a line.
+//! - `horizontal_line`: the columns of a table, and the horizontal lines over them.
 //! - `new_config`: the settings of a new table that is printed while its rows are read.
 //!
 //! The text of a cell:
@@ -37,9 +33,8 @@
 //! - `lines`: `LinePrinter`, which writes rows, horizontal lines and margins with line feeds
 //!   between them.
 //! - `line_cache`: the cached horizontal line and row template.
-//! - `leading_feed`: writes cached lines together with the line feed before them.
-//! - `offsets`: the offsets of the cells in a blank row.
-//! - `slots`: these offsets, listed once for all rows.
+//! - `line_feed`: the line feed between two lines, alone or together with a cached line.
+//! - `slots`: the offsets of the cells in a blank row, listed once for all rows.
 //! - `row_template`: a blank row that the texts of each row are copied into.
 //! - `template_texts`: copies the texts into it.
 #![tactic(auto)]
@@ -47,20 +42,15 @@
 mod block;
 mod buffer;
 mod column_separator;
-mod columns;
 mod content;
 mod cursors;
-mod edges;
+mod horizontal_line;
 mod io_sink;
 pub mod laws;
-mod leading_feed;
 mod line_cache;
 mod line_feed;
 mod lines;
-mod margin;
-mod memory;
 mod new_config;
-mod offsets;
 mod pieces;
 mod placement;
 mod row;
@@ -74,17 +64,19 @@ mod writer_sink;
 
 pub use block::{CellBlock, before_text};
 pub use column_separator::ColumnSeparator;
-pub use columns::{TableColumns, count_drawn};
 pub use content::Content;
 pub use cursors::{Cursor, FEW_CURSORS, MANY_CURSORS};
-pub use edges::{write_bar, write_left_edge, write_right_edge};
+pub use horizontal_line::{TableColumns, count_drawn};
 pub use io_sink::IoSink;
 pub use line_feed::write_break;
 pub use lines::LinePrinter;
 pub use new_config::new_compact_config;
-pub use offsets::{bar_length, next_offset};
-pub use pieces::{write_char, write_fill, write_indent, write_padded_text};
+pub use pieces::{
+    write_bar, write_char, write_fill, write_indent, write_left_edge, write_padded_text,
+    write_right_edge,
+};
 pub use placement::{CellPlacement, Placement, UniformPlacement};
 pub use row::Row;
+pub use slots::{bar_length, next_offset};
 pub use text_sink::TextSink;
 pub use writer_sink::WriterSink;

@@ -4,12 +4,11 @@ ghost use Rattle.tabled_line.specs.LineCache.{IsCacheOf, IsCachedRule};
 ghost use Rattle.tabled_line.specs.Leading.{WritesLines};
 ghost use Rattle.tabled_line.specs.Buffers.{buffer_text};
 ghost use Rattle.tabled_line.specs.Row.{ColumnSheet, rule_line};
-ghost use Rattle.tabled_line.specs.Sent.{Sent, Writes};
+ghost use Rattle.tabled_line.specs.Sent.{Sent};
 
 use crate::buffer::LineBuffer;
-use crate::columns::{TableColumns, write_rule_line};
-use crate::leading_feed::write_feed_and_line;
-use crate::line_feed::write_break;
+use crate::horizontal_line::{TableColumns, write_rule_line};
+use crate::line_feed::{write_break, write_feed_and_line};
 use crate::row_template::RowTemplate;
 use crate::text_sink::TextSink;
 use std::alloc::Global;
@@ -23,18 +22,6 @@ pub(crate) struct CachedRule {
     line: Option<HorizontalLine>,
     buffer: LineBuffer,
     whole: bool,
-}
-
-/// Writes a line feed and a horizontal line.
-fn write_next_rule<C: TableColumns, S: TextSink>(
-    sink: &mut S,
-    columns: &C,
-    line: &HorizontalLine,
-) -> Result<(), TableError>
-    ensures { Writes (S.sent sink.old) result (S.sent sink.new) (10 ∷ rule_line (C.sheet columns.now) line.now) }
-{
-    sink.write_text("\n")?;
-    write_rule_line(sink, columns, line)
 }
 
 impl CachedRule {
@@ -75,8 +62,12 @@ impl CachedRule {
         ensures kept { IsCachedRule (C.sheet columns.now) self.new }
     {
         self.buffer.clear();
-        self.whole = write_next_rule(&mut self.buffer, columns, &line).is_ok();
         self.line = Some(line);
+        self.whole = false;
+        let Ok(()) = self.buffer.write_text("\n") else {
+            return;
+        };
+        self.whole = write_rule_line(&mut self.buffer, columns, &line).is_ok();
     }
 
     /// Replaces the cached line, unless it is the same.

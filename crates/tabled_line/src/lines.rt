@@ -1,41 +1,22 @@
 //! Writes rows, horizontal lines and margins below each other, with line feeds between them.
-ghost use Rattle.std.specs.Prelude.{◌≡◌, ◌<◌, true, false, [], ◌∷◌, replicate};
+ghost use Rattle.std.specs.Prelude.{◌≡◌, true, false, replicate};
 ghost use Rattle.tabled_line.specs.Fill.{fill};
 ghost use Rattle.tabled_line.specs.LineCache.{IsCacheOf};
 ghost use Rattle.tabled_line.specs.Leading.{WritesLines, break};
 ghost use Rattle.tabled_line.specs.Cursors.{AreCursors};
-ghost use Rattle.tabled_line.specs.Row.{ColumnSheet, RowSheet, row_line, row_lines, rule_if};
+ghost use Rattle.tabled_line.specs.Row.{ColumnSheet, RowSheet, row_lines, rule_if};
 ghost use Rattle.tabled_line.specs.Sent.{Sent, Writes};
 
-use crate::columns::TableColumns;
 use crate::cursors::{Cursor, forget_cursors};
-use crate::leading_feed::write_feed_and_line;
+use crate::horizontal_line::TableColumns;
 use crate::line_cache::{LineCache, write_cached_rule};
-use crate::line_feed::write_break;
-use crate::margin::write_margin;
+use crate::line_feed::{write_break, write_feed_and_line};
+use crate::pieces::write_fill;
 use crate::row::{Row, write_row_line};
 use crate::text_sink::TextSink;
 use std::alloc::Global;
 use tabled_base::TableError;
 use tabled_config::{HorizontalLine, Indent};
-
-/// Writes a line of a row, with a line feed before it unless it is the first line.
-fn write_next_line<'a, R: Row<'a>, S: TextSink>(
-    sink: &mut S,
-    begun: &mut bool,
-    row: &R,
-    cursors: &mut [Cursor<'a>],
-    index: usize,
-) -> Result<(), TableError>
-    requires index_in { index < (R.sheet row.now).height }
-    requires cursors { AreCursors (R.sheet row.now).text cursors.old }
-    ensures printed { WritesLines (S.sent sink.old) begun.old result (S.sent sink.new) begun.new
-        (row_line (R.sheet row.now) index ∷ []) }
-    ensures cursors { AreCursors (R.sheet row.now).text cursors.new }
-{
-    write_break(sink, begun)?;
-    write_row_line(sink, row, cursors, index)
-}
 
 /// Writes the lines of a row. The cursors are in the texts of its cells.
 #[tactic(auto, unfolding(crate::specs::Row::row_lines))]
@@ -51,23 +32,10 @@ fn write_row_lines<'a, R: Row<'a>, S: TextSink>(
     ensures cursors { AreCursors (R.sheet row.now).text cursors.new }
 {
     'lines: for index in 0..row.height() {
-        write_next_line(sink, begun, row, cursors, index)?;
+        write_break(sink, begun)?;
+        write_row_line(sink, row, cursors, index)?;
     }
     Ok(())
-}
-
-/// Writes the lines of a row. The cursors may be in the texts of another row.
-fn write_tall_row<'a, R: Row<'a>, S: TextSink>(
-    sink: &mut S,
-    begun: &mut bool,
-    row: &R,
-    cursors: &mut [Cursor<'a>],
-) -> Result<(), TableError>
-    ensures { WritesLines (S.sent sink.old) begun.old result (S.sent sink.new) begun.new
-        (row_lines (R.sheet row.now)) }
-{
-    forget_cursors(cursors);
-    write_row_lines(sink, begun, row, cursors)
 }
 
 /// Prints lines over the same columns. It remembers whether a line was written, and caches what
@@ -126,7 +94,11 @@ impl<C: TableColumns> LinePrinter<C> {
         ensures same { self.new.columns ≡ self.old.columns }
         ensures kept { IsCacheOf (C.sheet self.new.columns) self.new.kept }
     {
-        write_margin(sink, &mut self.begun, side, width)
+        'lines: for _i in 0..side.size {
+            write_break(sink, &mut self.begun)?;
+            write_fill(sink, side.fill, width)?;
+        }
+        Ok(())
     }
 
     /// Writes a horizontal line, if there is one.
@@ -178,6 +150,8 @@ impl<C: TableColumns> LinePrinter<C> {
             return write_row_lines(sink, &mut self.begun, row, &mut []);
         }
         let count = cursors.len().min(row.count_columns());
-        write_tall_row(sink, &mut self.begun, row, &mut cursors[..count])
+        let cursors = &mut cursors[..count];
+        forget_cursors(cursors);
+        write_row_lines(sink, &mut self.begun, row, cursors)
     }
 }

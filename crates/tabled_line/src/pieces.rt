@@ -1,11 +1,12 @@
-//! Writes runs of one character.
-ghost use Rattle.std.specs.Prelude.{◌≡◌, ◌≤◌, ◌++◌, encode_utf8};
-ghost use Rattle.tabled_line.specs.Fill.{fill, indent, padded_text};
+//! Writes runs of one character, vertical lines, and the left and right end of a line.
+ghost use Rattle.std.specs.Prelude.{◌++◌, encode_utf8};
+ghost use Rattle.tabled_line.specs.Fill.{IsRun, fill, indent, padded_text};
+ghost use Rattle.tabled_line.specs.Row.{left_edge, piece, right_edge};
 ghost use Rattle.tabled_line.specs.Sent.{Sent, Writes};
 
 use crate::text_sink::TextSink;
 use tabled_base::TableError;
-use tabled_config::{Indent, Sides};
+use tabled_config::{Frame, Indent, Sides};
 
 const SPACES: &str = "                                                                ";
 
@@ -20,35 +21,28 @@ pub fn write_char<S: TextSink>(sink: &mut S, c: char) -> Result<(), TableError>
     sink.write_text(text)
 }
 
-/// Returns `count` spaces, at most 64.
-fn spaces(count: usize) -> &'static str
-    requires { count ≤ 64 }
-    ensures { result.now ≡ fill 32 count }
-{
-    &SPACES[..count]
-}
-
-/// Returns `count` dashes, at most 64.
-fn dashes(count: usize) -> &'static str
-    requires { count ≤ 64 }
-    ensures { result.now ≡ fill 45 count }
-{
-    &DASHES[..count]
-}
-
-/// Writes `count` spaces, 64 at a time. Inlined, since there are mostly few of them, and a call
-/// would take longer.
+/// Writes `count` copies of the character that `run` consists of, 64 at a time. Inlined, since there
+/// are mostly few of them, and a call would take longer.
 #[inline(always)]
-pub(crate) fn write_spaces<S: TextSink>(sink: &mut S, count: usize) -> Result<(), TableError>
-    ensures { Writes (S.sent sink.old) result (S.sent sink.new) (fill 32 count) }
+fn write_run<S: TextSink>(sink: &mut S, run: &str, count: usize) -> Result<(), TableError>
+    requires { IsRun run.now }
+    ensures { (run_is : IsRun run.now) → Writes (S.sent sink.old) result (S.sent sink.new) (fill run_is.c count) }
 {
     let mut left = count;
     while left > 0 {
         let part = left.min(64);
-        sink.write_text(spaces(part))?;
+        sink.write_text(&run[..part])?;
         left -= part;
     }
     Ok(())
+}
+
+/// Writes `count` spaces.
+#[inline(always)]
+pub(crate) fn write_spaces<S: TextSink>(sink: &mut S, count: usize) -> Result<(), TableError>
+    ensures { Writes (S.sent sink.old) result (S.sent sink.new) (fill 32 count) }
+{
+    write_run(sink, SPACES, count)
 }
 
 /// Writes a padding and then `spaces` spaces, in one run if the padding is spaces too.
@@ -101,19 +95,6 @@ pub fn write_padded_text<S: TextSink>(
     write_right_padding(sink, behind, padding.right)
 }
 
-/// Writes `count` dashes, 64 at a time.
-fn write_dashes<S: TextSink>(sink: &mut S, count: usize) -> Result<(), TableError>
-    ensures { Writes (S.sent sink.old) result (S.sent sink.new) (fill 45 count) }
-{
-    let mut left = count;
-    while left > 0 {
-        let part = left.min(64);
-        sink.write_text(dashes(part))?;
-        left -= part;
-    }
-    Ok(())
-}
-
 /// Writes any character `count` times.
 fn write_copies<S: TextSink>(sink: &mut S, c: char, count: usize) -> Result<(), TableError>
     ensures { Writes (S.sent sink.old) result (S.sent sink.new) (fill c count) }
@@ -132,7 +113,7 @@ pub fn write_fill<S: TextSink>(sink: &mut S, c: char, count: usize) -> Result<()
 {
     match c {
         ' ' => write_spaces(sink, count),
-        '-' => write_dashes(sink, count),
+        '-' => write_run(sink, DASHES, count),
         _ => write_copies(sink, c, count),
     }
 }
@@ -145,4 +126,27 @@ pub fn write_indent<S: TextSink>(sink: &mut S, side: Indent) -> Result<(), Table
         return Ok(());
     }
     write_fill(sink, side.fill, side.size)
+}
+
+/// Writes `c`, the character of a vertical line, if `there` is true.
+pub fn write_bar<S: TextSink>(sink: &mut S, there: bool, c: char) -> Result<(), TableError>
+    ensures { Writes (S.sent sink.old) result (S.sent sink.new) (piece there c) }
+{
+    if there { write_char(sink, c) } else { Ok(()) }
+}
+
+/// Writes the left margin and the left vertical line.
+pub fn write_left_edge<S: TextSink>(sink: &mut S, frame: &Frame, c: char) -> Result<(), TableError>
+    ensures { Writes (S.sent sink.old) result (S.sent sink.new) (left_edge frame.now c) }
+{
+    write_indent(sink, frame.margin.left)?;
+    write_bar(sink, frame.left.there, c)
+}
+
+/// Writes the right vertical line and the right margin.
+pub fn write_right_edge<S: TextSink>(sink: &mut S, frame: &Frame, c: char) -> Result<(), TableError>
+    ensures { Writes (S.sent sink.old) result (S.sent sink.new) (right_edge frame.now c) }
+{
+    write_bar(sink, frame.right.there, c)?;
+    write_indent(sink, frame.margin.right)
 }

@@ -1,7 +1,7 @@
 //! The placement of texts in rows of one line.
-ghost use Rattle.std.specs.Prelude.{◌≡◌, IfSome, true};
+ghost use Rattle.std.specs.Prelude.{◌≡◌, IfSome};
 ghost use Rattle.tabled_config.specs.declared.spanned.CellStyle.{CellStyle};
-ghost use Rattle.tabled_line.specs.Placements.{IsPlaceable, IsSpaced, IsUniform, placement_of};
+ghost use Rattle.tabled_line.specs.Placements.{IsPlaceable, IsUniform, placement_of};
 
 use tabled_config::{AlignmentHorizontal, CellStyle, Indent, Sides};
 
@@ -25,14 +25,6 @@ pub struct CellPlacement {
     pub placement: Placement,
 }
 
-/// Whether side padding is spaces and there is no top padding.
-#[inline(always)]
-fn is_spaced(padding: &Sides<Indent>) -> bool
-    ensures { result ≡ true → IsSpaced padding.now }
-{
-    padding.left.fill == ' ' && padding.right.fill == ' ' && padding.top.size == 0
-}
-
 /// The placement that texts with one style have in columns of any width.
 #[derive(Clone, Copy)]
 pub struct UniformPlacement {
@@ -49,7 +41,7 @@ impl UniformPlacement {
     pub fn of(padding: &Sides<Indent>, horizontal: AlignmentHorizontal) -> Option<UniformPlacement>
         ensures { (style : CellStyle) → padding.now ≡ style.padding → horizontal ≡ style.horizontal → IfSome result (IsUniform style) }
     {
-        if !is_spaced(padding) {
+        if padding.left.fill != ' ' || padding.right.fill != ' ' || padding.top.size != 0 {
             return None;
         }
         Some(UniformPlacement {

@@ -1,17 +1,17 @@
 //! The trait of rows, and writing one line of a row.
 ghost use Rattle.std.specs.Prelude.{◌≡◌, ◌<◌, ◌≤◌, ℕ, IfSome, []};
-ghost use Rattle.std.specs.List.{flat_map, range_with_len, slice_index_or};
+ghost use Rattle.std.specs.List.{flat_map, range_with_len};
 ghost use Rattle.tabled_config.specs.RowStyles.{style_in};
 ghost use Rattle.tabled_line.specs.Placements.{ArePlacements, IsUniform};
 ghost use Rattle.tabled_line.specs.Cursors.{AreCursors};
-ghost use Rattle.tabled_line.specs.Row.{RowSheet, cell_block, cell_piece, row_line};
+ghost use Rattle.tabled_line.specs.Row.{RowSheet, cell_piece, row_line};
 ghost use Rattle.tabled_line.specs.Sent.{Sent, Writes};
 
 use crate::block::CellBlock;
 use crate::column_separator::{ColumnSeparator, SeparatorText};
 use crate::content::Content;
 use crate::cursors::{Cursor, cursor_at, keep_cursor};
-use crate::edges::{write_bar, write_left_edge, write_right_edge};
+use crate::pieces::{write_bar, write_left_edge, write_right_edge};
 use crate::placement::{CellPlacement, UniformPlacement};
 use crate::row_placements::CachedPlacements;
 use crate::spaced::write_spaced_cells;
@@ -91,34 +91,8 @@ pub(crate) struct CellLine {
     pub index: usize,
 }
 
-/// Writes a line of a cell's block. If the text has several lines, the cursor of its column moves
-/// to the next one.
-fn write_block_line<'a, R: Row<'a>, S: TextSink>(
-    sink: &mut S,
-    row: &R,
-    cursors: &mut [Cursor<'a>],
-    line: &CellLine,
-) -> Result<(), TableError>
-    requires column_in { line.now.column < (R.sheet row.now).columns.count }
-    requires style { line.now.style ≡ (R.sheet row.now).style line.now.column }
-    requires index_in { line.now.index < (R.sheet row.now).height }
-    requires cursors { AreCursors (R.sheet row.now).text cursors.old }
-    ensures printed { Writes (S.sent sink.old) result (S.sent sink.new)
-        (slice_index_or (cell_block (R.sheet row.now) line.now.column) line.now.index []) }
-    ensures cursors { AreCursors (R.sheet row.now).text cursors.new }
-{
-    let cell = row.cell(line.column, line.style);
-    let content = cell.content;
-    if content.lines <= 1 {
-        return cell.write_line(sink, &mut Cursor::start(content.text), line.index);
-    }
-    let mut cursor = cursor_at(cursors, line.column, content.text);
-    cell.write_line(sink, &mut cursor, line.index)?;
-    keep_cursor(cursors, line.column, cursor);
-    Ok(())
-}
-
-/// Writes a line of a cell, after the vertical line before it.
+/// Writes a line of a cell, after the vertical line before it. If the text has several lines, the
+/// cursor of its column moves to the next one.
 pub(crate) fn write_cell<'a, R: Row<'a>, S: TextSink>(
     sink: &mut S,
     row: &R,
@@ -135,30 +109,14 @@ pub(crate) fn write_cell<'a, R: Row<'a>, S: TextSink>(
 {
     let frame = row.frame();
     write_bar(sink, frame.has_bar(line.column), frame.inner.main)?;
-    write_block_line(sink, row, cursors, line)
-}
-
-fn write_block_cells<'a, R: Row<'a>, S: TextSink>(
-    sink: &mut S,
-    row: &R,
-    cursors: &mut [Cursor<'a>],
-    index: usize,
-) -> Result<(), TableError>
-    requires index_in { index < (R.sheet row.now).height }
-    requires cursors { AreCursors (R.sheet row.now).text cursors.old }
-    ensures printed { Writes (S.sent sink.old) result (S.sent sink.new)
-        (flat_map (cell_piece (R.sheet row.now) index) (range_with_len 0 (R.sheet row.now).columns.count)) }
-    ensures cursors { AreCursors (R.sheet row.now).text cursors.new }
-{
-    let styles = row.styles();
-    'cells: for column in 0..row.count_drawn() {
-        let line = CellLine {
-            column,
-            style: styles.at(column),
-            index,
-        };
-        write_cell(sink, row, cursors, &line)?;
+    let cell = row.cell(line.column, line.style);
+    let content = cell.content;
+    if content.lines <= 1 {
+        return cell.write_line(sink, &mut Cursor::start(content.text), line.index);
     }
+    let mut cursor = cursor_at(cursors, line.column, content.text);
+    cell.write_line(sink, &mut cursor, line.index)?;
+    keep_cursor(cursors, line.column, cursor);
     Ok(())
 }
 
@@ -216,7 +174,16 @@ fn write_cells<'a, R: Row<'a>, S: TextSink>(
     {
         return write_spaced_row(sink, row, separator);
     }
-    write_block_cells(sink, row, cursors, index)
+    let styles = row.styles();
+    'cells: for column in 0..row.count_drawn() {
+        let line = CellLine {
+            column,
+            style: styles.at(column),
+            index,
+        };
+        write_cell(sink, row, cursors, &line)?;
+    }
+    Ok(())
 }
 
 /// Writes the line of a row at `index`. The cursors are in the texts of its cells.

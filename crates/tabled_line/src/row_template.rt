@@ -2,19 +2,19 @@
 //! and the texts of each row are copied into it.
 ghost use Rattle.std.specs.Prelude.{◌≡◌, [], ◌∷◌, IfOk, IsUtf8, drop, false, string_bytes, true};
 ghost use Rattle.tabled_line.specs.Template.{IsTemplateOf};
-ghost use Rattle.tabled_line.specs.BlankRow.{blank_line, blank_row, first_offset};
+ghost use Rattle.tabled_line.specs.BlankRow.{blank_row, first_offset};
 ghost use Rattle.tabled_line.specs.Slots.{AreSlots};
 ghost use Rattle.tabled_line.specs.Row.{row_line, row_lines};
 
-use crate::columns::{TableColumns, write_rule_pieces};
-use crate::edges::{write_left_edge, write_right_edge};
+use crate::horizontal_line::{TableColumns, write_rule_pieces};
+use crate::pieces::{write_left_edge, write_right_edge};
 use crate::row::Row;
 use crate::slots::{Slot, list_slots};
 use crate::template_texts::fill_texts;
 use crate::text_sink::TextSink;
 use std::alloc::Global;
 use tabled_base::TableError;
-use tabled_config::{Frame, HorizontalLine};
+use tabled_config::HorizontalLine;
 
 /// After this many rows that couldn't be filled in, the template is given up.
 const TRIES: usize = 16;
@@ -37,19 +37,6 @@ fn is_short<C: TableColumns>(columns: &C) -> bool {
     taken <= MOST_COLUMNS
 }
 
-/// Returns the characters of a blank row, as a horizontal line: spaces, with the vertical lines at
-/// its ends and intersections.
-fn blank_line(frame: &Frame) -> HorizontalLine
-    ensures { result ≡ blank_line frame.now }
-{
-    HorizontalLine {
-        main: Some(' '),
-        left: Some(frame.left.main),
-        intersection: Some(frame.inner.main),
-        right: Some(frame.right.main),
-    }
-}
-
 /// Writes a line feed and a blank row. Returns the offset of the first cell, in bytes after the
 /// line feed.
 fn write_blank<C: TableColumns>(blank: &mut String, columns: &C) -> Result<usize, TableError>
@@ -61,7 +48,13 @@ fn write_blank<C: TableColumns>(blank: &mut String, columns: &C) -> Result<usize
     blank.write_text("\n")?;
     write_left_edge(blank, frame, frame.left.main)?;
     let start = blank.as_str().len() - 1;
-    write_rule_pieces(blank, columns, &blank_line(frame))?;
+    let line = HorizontalLine {
+        main: Some(' '),
+        left: Some(frame.left.main),
+        intersection: Some(frame.inner.main),
+        right: Some(frame.right.main),
+    };
+    write_rule_pieces(blank, columns, &line)?;
     write_right_edge(blank, frame, frame.right.main)?;
     Ok(start)
 }

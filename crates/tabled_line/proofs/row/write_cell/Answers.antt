@@ -1,6 +1,6 @@
-use Rattle.std.proofs.Common.{refl, []}
+use Rattle.std.proofs.Common.{refl, [], append-nil}
 use Rattle.std.specs.List.{slice_index_or}
-use Rattle.tabled_line.proofs.Sending.{finished, stopped-first}
+use Rattle.tabled_line.proofs.Sending.{finished, further, stopped, stopped-first}
 use Rattle.tabled_line.specs.Row.{cell_block, cell_piece}
 use Rattle.tabled_line.proofs.row.write_cell.Goals as goal
 
@@ -10,8 +10,23 @@ returns-in_err-write_bar-clause-printed g c =
     stopped-first _ _ (slice_index_or (cell_block (g.R.Row.sheet c.args.row.now) c.args.line.now.column) c.args.line.now.index [])
     c.in_err-write_bar.ensures c.from_residual.ensures.1 (rw (c.has_bar.ensures, c.frame-frame.ensures) refl)
 
+pub returns-then-content-le1-clause-printed : goal.returns-then-content-le1-clause-printed
+unfolding cell_piece
+returns-then-content-le1-clause-printed g c =
+    let cell = c.cell-cell.ensures in
+    finished _ _ _ _ c.in_ok-write_bar.ensures c.write_line.ensures.printed
+    (rw (c.has_bar.ensures, c.frame-frame.ensures, cell.style, cell.width, cell.height, cell.text) refl)
+
+pub returns-in_err-write_line-clause-printed : goal.returns-in_err-write_line-clause-printed
+unfolding cell_piece
+returns-in_err-write_line-clause-printed g c =
+    let cell = c.cell-cell.ensures in
+    stopped _ _ [] c.in_ok-write_bar.ensures c.in_err-write_line.ensures.printed c.from_residual-in_err-write_line.ensures.1
+    (rw (c.has_bar.ensures, c.frame-frame.ensures, cell.style, cell.width, cell.height, cell.text, append-nil) refl)
+
 pub returns-clause-printed : goal.returns-clause-printed
 unfolding cell_piece
 returns-clause-printed g c =
-    finished _ _ _ _ c.in_ok-write_bar.ensures c.write_block_line.ensures.printed
-    (rw (c.has_bar.ensures, c.frame-frame.ensures) refl)
+    let cell = c.cell-cell.ensures in
+    further c.in_ok-write_bar.ensures c.in_ok-write_line.ensures.printed
+    (rw (c.has_bar.ensures, c.frame-frame.ensures, cell.style, cell.width, cell.height, cell.text) refl)

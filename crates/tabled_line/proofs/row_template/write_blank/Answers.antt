@@ -14,7 +14,7 @@ unfolding rule_line
 returns-clause-row g c =
     blank-parts _ _ _ _ _ _ _ _ _ c.requires.empty c.in_ok-write_text.ensures.written.added c.in_ok-write_left_edge.ensures.added
     c.in_ok-write_rule_pieces.ensures.added c.in_ok-write_right_edge.ensures.added
-    ∙ rw (c.blank_line.ensures, c.frame-frame.ensures) refl
+    ∙ rw c.frame-frame.ensures refl
 
 pub returns-clause-start : goal.returns-clause-start
 returns-clause-start g c =

@@ -3,17 +3,17 @@ use Rattle.tabled_line.proofs.block.CellBlock.write_line.Goals as goal
 
 pub returns-then-index-above-clause-printed : goal.returns-then-index-above-clause-printed
 returns-then-index-above-clause-printed g c =
-    let l = rw c.fill_above-above.ensures at c.if-index-above.true in
+    let l = rw c.lines_above.ensures.value at c.if-index-above.true in
     rw (block-above c.args.self.now.style c.args.self.now.width c.args.self.now.height c.args.self.now.content.text.now c.args.index c.requires.index l) c.write_fill.ensures
 
 pub returns-in-Some-clause-printed : goal.returns-in-Some-clause-printed
 returns-in-Some-clause-printed g c =
-    let l = rw c.fill_above-above.ensures at c.if-index-above.false in
-    let e = rw c.fill_above-above.ensures at c.in-Some.ensures.line in
+    let l = rw c.lines_above.ensures.value at c.if-index-above.false in
+    let e = rw c.lines_above.ensures.value at c.in-Some.ensures.line in
     rw (block-text c.args.self.now.style c.args.self.now.width c.args.self.now.height c.args.self.now.content.text.now c.args.index c.in-Some.line.now c.requires.index l e) c.write_text_line.ensures
 
 pub returns-in-None-clause-printed : goal.returns-in-None-clause-printed
 returns-in-None-clause-printed g c =
-    let l = rw c.fill_above-above.ensures at c.if-index-above.false in
-    let e = rw c.fill_above-above.ensures at c.in-None.ensures.line in
+    let l = rw c.lines_above.ensures.value at c.if-index-above.false in
+    let e = rw c.lines_above.ensures.value at c.in-None.ensures.line in
     rw (block-below c.args.self.now.style c.args.self.now.width c.args.self.now.height c.args.self.now.content.text.now c.args.index c.requires.index l e) c.write_fill-in-None.ensures
