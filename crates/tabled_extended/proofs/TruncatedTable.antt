@@ -4,7 +4,7 @@ use Rattle.std.specs.Prelude.{OnErr, OnOk}
 use Rattle.std.specs.List.{AllZip}
 use Rattle.tabled_set.specs.CellChanges.{in_room}
 use Rattle.tabled_extended.specs.Truncated.{AreTruncated, IsTruncated}
-use Rattle.tabled_extended.specs.declared.text_widths.TextWidths.{TextWidths}
+use Rattle.tabled_extended.specs.declared.truncating.TextWidths.{TextWidths}
 
 pub on_err : {T E P Q : Type 0} (r : Result T E) → (P → Q) → OnErr r P → OnErr r Q
 on_err (Ok x) f h = h

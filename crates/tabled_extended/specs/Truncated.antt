@@ -33,7 +33,7 @@ use Rattle.tabled_set.specs.CellChanges.{in_room}
 use Rattle.tabled_set.specs.Truncated.{suffix_columns}
 use Rattle.tabled_text.specs.Cut.{IsCut, IsLongestReached, missing_columns}
 use Rattle.tabled_extended.specs.RecordLines.{widest}
-use Rattle.tabled_extended.specs.declared.text_widths.TextWidths.{TextWidths}
+use Rattle.tabled_extended.specs.declared.truncating.TextWidths.{TextWidths}
 
 -- ---- the widths
 

@@ -1,9 +1,11 @@
-//! `ExtendedTable`, and its template.
-ghost use Rattle.std.specs.Prelude.{◌≡◌};
+//! `ExtendedTable`, its template, and copies of it.
+ghost use Rattle.std.specs.Prelude.{◌≡◌, IfErr, IfOk};
 ghost use Rattle.tabled_base.specs.Cells.{row_texts};
+ghost use Rattle.tabled_base.specs.declared.error.TableError.TheVariants.{Memory};
 
 use crate::template::RecordTemplate;
-use tabled_base::Text;
+use std::alloc::Global;
+use tabled_base::{TableError, Text};
 
 /// A table that prints each record as a list: a header, then a line `name | value` for each field.
 #[derive(Debug)]
@@ -42,4 +44,49 @@ impl<F: Drop> ExtendedTable<F> {
             template,
         }
     }
+}
+
+impl<F: Copy> ExtendedTable<F> {
+    /// Copies the table. Error: `Memory`.
+    pub fn clone(&self) -> Result<ExtendedTable<F>, TableError>
+        ensures fields { IfOk result (λ copy. copy.fields.items ≡ self.now.fields.items) }
+        ensures records { IfOk result
+            (λ copy. row_texts copy.records.items ≡ row_texts self.now.records.items) }
+        ensures template { IfOk result (λ copy. copy.template ≡ self.now.template) }
+        ensures only { IfErr result (λ e. e ≡ Memory) }
+    {
+        let alloc = *self.fields.allocator();
+        Ok(ExtendedTable {
+            fields: copied_texts(alloc, self.fields.as_slice())?,
+            records: copied_records(alloc, self.records.as_slice())?,
+            template: self.template,
+        })
+    }
+}
+
+/// Copies the cells of records.
+fn copied_records(
+    alloc: Global,
+    records: &[Vec<Text<String>>],
+) -> Result<Vec<Vec<Text<String>>>, TableError>
+    ensures ok { IfOk result (λ copy. row_texts copy.items ≡ row_texts records.now) }
+    ensures only { IfErr result (λ e. e ≡ Memory) }
+{
+    let mut copy = Vec::with_capacity(alloc, records.len())?;
+    for record in records {
+        copy.push(copied_texts(alloc, record.as_slice())?)?;
+    }
+    Ok(copy)
+}
+
+/// Copies cells.
+fn copied_texts(alloc: Global, texts: &[Text<String>]) -> Result<Vec<Text<String>>, TableError>
+    ensures ok { IfOk result (λ copy. copy.items ≡ texts.now) }
+    ensures only { IfErr result (λ e. e ≡ Memory) }
+{
+    let mut copy = Vec::with_capacity(alloc, texts.len())?;
+    for text in texts {
+        copy.push(text.clone()?)?;
+    }
+    Ok(copy)
 }

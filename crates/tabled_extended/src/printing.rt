@@ -1,5 +1,7 @@
 //! Printing the lines of records.
-ghost use Rattle.std.specs.Prelude.{codes, ◌≡◌, ◌⊎◌, ◌≤◌, true, false, ◌∷◌, [], ◌++◌, ◌+◌, ◌-◌, ◌<◌, ◌^◌, ℕ, List, IfErr, IfOk, OnOk, map, string_bytes, length, slice_index_or};
+ghost use Rattle.std.specs.Prelude.{◌≡◌, ◌⊎◌, ◌≤◌, ◌<◌, ◌+◌, ◌-◌, ◌^◌, ◌∷◌, ◌++◌, [], ℕ, List};
+ghost use Rattle.std.specs.Prelude.{IfErr, IfOk, IfNone, IfSome, OnOk, codes, false, length, map};
+ghost use Rattle.std.specs.Prelude.{min, slice_index_or, string_bytes, true};
 ghost use Rattle.std.specs.List.{zip};
 ghost use Rattle.tabled_base.specs.Cells.{row_texts};
 ghost use Rattle.tabled_base.specs.declared.error.TableError.TheVariants.{Memory, Range};
@@ -7,21 +9,24 @@ ghost use Rattle.tabled_line.specs.Fill.{fill};
 ghost use Rattle.tabled_line.specs.Leading.{WritesLines};
 ghost use Rattle.tabled_line.specs.Sent.{Sent, Writes};
 ghost use Rattle.tabled_text.specs.Measure.{text_columns};
-ghost use Rattle.tabled_extended.specs.RecordLines.{AreRecordLines, header, record_lines, rule_behind, text_of, title, value_line, widest, widest_value};
+ghost use Rattle.tabled_extended.specs.RecordLines.{AreRecordLines, header, record_lines};
+ghost use Rattle.tabled_extended.specs.RecordLines.{rule_behind, text_of, title, value_line};
+ghost use Rattle.tabled_extended.specs.RecordLines.{widest, widest_value};
 ghost use Rattle.tabled_extended.specs.PrintedRecords.{IsTooWide, PrintsRecord, PrintsRecords};
 
 use crate::extended_table::ExtendedTable;
 use crate::template::Template;
-use crate::titles::{title_width, write_title};
 use std::fmt;
 use tabled_base::{CellText, TableError, Text};
 use tabled_line::{TextSink, write_break, write_fill};
+use tabled_text::{line_width, lines};
 
 /// The columns of the widest field and of the widest value.
 #[derive(Clone, Copy)]
-pub(crate) struct Widths {
-    pub field: usize,
-    pub value: usize,
+struct Widths {
+    field: usize,
+    value: usize,
+    ghost in_range: { field + 3 + value < 2 ^ 64 },
 }
 
 /// Returns the columns of the widest cell.
@@ -36,7 +41,7 @@ pub(crate) fn widest(texts: &[Text<String>]) -> usize
 }
 
 /// Returns the columns of the widest value.
-pub(crate) fn widest_value(records: &[Vec<Text<String>>]) -> usize
+fn widest_value(records: &[Vec<Text<String>>]) -> usize
     ensures { result ≡ widest_value (row_texts records.now) }
 {
     let mut columns: usize = 0;
@@ -44,6 +49,22 @@ pub(crate) fn widest_value(records: &[Vec<Text<String>>]) -> usize
         columns = columns.max(widest(record.as_slice()));
     }
     columns
+}
+
+/// Returns the columns of a label between dashes, `usize::MAX` at most. The dashes add a column to
+/// the first line and to the last one.
+fn title_width(label: &str) -> usize
+    ensures { result ≡ min (2 ^ 64 - 1) (text_columns (title label.now)) }
+{
+    let mut widest: usize = 0;
+    let mut before: usize = 1;
+    let mut last: usize = 0;
+    'lines: for line in lines(label) {
+        widest = widest.max(last);
+        last = before + line_width(line);
+        before = 0;
+    }
+    widest.max(last.saturating_add(1))
 }
 
 /// Writes the end of a header: dashes, with a `+` above the bar.
@@ -62,54 +83,39 @@ fn write_title_rule<S: TextSink>(
     widths: Widths,
     columns: usize,
 ) -> Result<(), TableError>
-    requires { widths.field + 3 + widths.value < 2 ^ 64 }
-    ensures { Writes (S.sent sink.old) result (S.sent sink.new) (rule_behind widths.field widths.value columns) }
+    ensures { Writes (S.sent sink.old) result (S.sent sink.new)
+        (rule_behind widths.field widths.value columns) }
 {
     let whole = widths.field + 3 + widths.value;
-    if columns < whole {
-        if columns < widths.field + 2 {
-            write_cross(sink, widths.field + 1 - columns, widths.value + 1)
-        } else {
-            write_fill(sink, '-', whole - columns)
-        }
+    if columns >= whole {
+        return Ok(());
+    }
+    if columns < widths.field + 2 {
+        write_cross(sink, widths.field + 1 - columns, widths.value + 1)
     } else {
-        Ok(())
+        write_fill(sink, '-', whole - columns)
     }
 }
 
-/// Writes a label as a title, and fills the header up.
-fn write_titled<S: TextSink>(sink: &mut S, widths: Widths, label: &str) -> Result<(), TableError>
-    requires { widths.field + 3 + widths.value < 2 ^ 64 }
-    ensures { Writes (S.sent sink.old) result (S.sent sink.new) (header widths.field widths.value (title label.now)) }
-{
-    write_title(sink, label)?;
-    write_title_rule(sink, widths, title_width(label))
-}
-
-/// Writes the header of a record, on a line of its own.
+/// Writes the header of a record, on a line of its own: a label between dashes, filled up.
 fn write_header<S: TextSink>(
     sink: &mut S,
     begun: &mut bool,
     widths: Widths,
     label: &str,
 ) -> Result<(), TableError>
-    requires { widths.field + 3 + widths.value < 2 ^ 64 }
     ensures { WritesLines (S.sent sink.old) begun.old result (S.sent sink.new) begun.new
         (header widths.field widths.value (title label.now) ∷ []) }
 {
     write_break(sink, begun)?;
-    write_titled(sink, widths, label)
-}
-
-/// Returns how many columns a field is narrower than `columns`.
-fn padding(columns: usize, field: &Text<String>) -> usize
-    ensures { result ≡ columns - text_columns field.now }
-{
-    columns.saturating_sub(field.width())
+    sink.write_text("-")?;
+    sink.write_text(label)?;
+    sink.write_text("-")?;
+    write_title_rule(sink, widths, title_width(label))
 }
 
 /// Writes a field, spaces, the bar and a value.
-fn write_field_line<S: TextSink>(
+fn write_field<S: TextSink>(
     sink: &mut S,
     field: &str,
     spaces: usize,
@@ -124,19 +130,7 @@ fn write_field_line<S: TextSink>(
     sink.write_text(value)
 }
 
-/// Writes a field, padded to `columns`, and its value.
-fn write_shown_field<S: TextSink>(
-    sink: &mut S,
-    columns: usize,
-    field: &Text<String>,
-    value: &Text<String>,
-) -> Result<(), TableError>
-    ensures { Writes (S.sent sink.old) result (S.sent sink.new) (value_line columns (field.now, value.now)) }
-{
-    write_field_line(sink, field.text(), padding(columns, field), value.text())
-}
-
-/// Writes the line of a field.
+/// Writes the line of a field, padded to `columns`, and its value.
 fn write_value_line<S: TextSink>(
     sink: &mut S,
     begun: &mut bool,
@@ -147,8 +141,9 @@ fn write_value_line<S: TextSink>(
     ensures { WritesLines (S.sent sink.old) begun.old result (S.sent sink.new) begun.new
         (value_line columns (field.now, value.now) ∷ []) }
 {
+    let spaces = columns.saturating_sub(field.width());
     write_break(sink, begun)?;
-    write_shown_field(sink, columns, field, value)
+    write_field(sink, field.text(), spaces, value.text())
 }
 
 /// Writes a line for each field that has a value.
@@ -169,23 +164,6 @@ fn write_value_lines<S: TextSink>(
     Ok(())
 }
 
-/// Writes the lines of a record with a label.
-fn write_record_lines<S: TextSink>(
-    sink: &mut S,
-    begun: &mut bool,
-    widths: Widths,
-    fields: &[Text<String>],
-    label: &str,
-    values: &[Text<String>],
-) -> Result<(), TableError>
-    requires { widths.field + 3 + widths.value < 2 ^ 64 }
-    ensures { WritesLines (S.sent sink.old) begun.old result (S.sent sink.new) begun.new
-        (record_lines widths.field widths.value fields.now label.now values.now) }
-{
-    write_header(sink, begun, widths, label)?;
-    write_value_lines(sink, begun, widths.field, fields, values)
-}
-
 /// Returns the values of a record.
 fn values_at(records: &[Vec<Text<String>>], index: usize) -> &[Text<String>]
     requires { index < length records.now }
@@ -202,36 +180,32 @@ fn write_record<F: Template, S: TextSink>(
     widths: Widths,
     index: usize,
 ) -> Result<(), TableError>
-    requires there { index < length table.now.records.items }
-    requires range { widths.field + 3 + widths.value < 2 ^ 64 }
+    requires { index < length table.now.records.items }
     ensures { PrintsRecord (F.answers table.now.template index) (F.refuses table.now.template index)
         (λ label. record_lines widths.field widths.value table.now.fields.items label
         (slice_index_or (row_texts table.now.records.items) index []))
         (S.sent sink.old) begun.old result (S.sent sink.new) begun.new }
 {
-    let alloc = *table.fields.allocator();
-    let label = table.template.label(alloc, index)?;
+    let label = table.template.label(*table.fields.allocator(), index)?;
+    write_header(sink, begun, widths, label.as_str())?;
     let values = values_at(table.records.as_slice(), index);
-    write_record_lines(sink, begun, widths, table.fields.as_slice(), &label, values)
+    write_value_lines(sink, begun, widths.field, table.fields.as_slice(), values)
 }
 
-/// Writes the lines of all records.
-fn write_records<F: Template, S: TextSink>(
-    sink: &mut S,
-    table: &ExtendedTable<F>,
-    widths: Widths,
-) -> Result<(), TableError>
-    requires field { widths.field ≡ widest table.now.fields.items }
-    requires value { widths.value ≡ widest_value (row_texts table.now.records.items) }
-    requires range { widths.field + 3 + widths.value < 2 ^ 64 }
-    ensures { PrintsRecords (F.answers table.now.template) (F.refuses table.now.template)
-        table.now.fields.items (row_texts table.now.records.items) (S.sent sink.old) result (S.sent sink.new) }
-{
-    let mut begun = false;
-    'records: for index in 0..table.records.len() {
-        write_record(sink, &mut begun, table, widths, index)?;
+impl Widths {
+    /// Returns the widths of a table; `None` if a field, a bar and a value don't fit `usize`.
+    fn of<F>(table: &ExtendedTable<F>) -> Option<Widths>
+        ensures fields { IfSome result (λ widths. widths.field ≡ widest table.now.fields.items) }
+        ensures values { IfSome result
+            (λ widths. widths.value ≡ widest_value (row_texts table.now.records.items)) }
+        ensures none { IfNone result (2 ^ 64 ≤ widest table.now.fields.items + 3
+            + widest_value (row_texts table.now.records.items)) }
+    {
+        let field = widest(table.fields.as_slice());
+        let value = widest_value(table.records.as_slice());
+        field.checked_add(3)?.checked_add(value)?;
+        Some(Widths { field, value })
     }
-    Ok(())
 }
 
 impl<F: Template> ExtendedTable<F> {
@@ -248,28 +222,31 @@ impl<F: Template> ExtendedTable<F> {
     /// - The error of the sink: a beginning of the text is written.
     pub fn write_to<S: TextSink>(&self, sink: &mut S) -> Result<(), TableError>
         ensures { PrintsRecords (F.answers self.now.template) (F.refuses self.now.template)
-            self.now.fields.items (row_texts self.now.records.items) (S.sent sink.old) result (S.sent sink.new) }
+            self.now.fields.items (row_texts self.now.records.items)
+            (S.sent sink.old) result (S.sent sink.new) }
     {
         if self.records.is_empty() {
             return Ok(());
         }
-        let widths = Widths {
-            field: widest(self.fields.as_slice()),
-            value: widest_value(self.records.as_slice()),
-        };
-        if !is_in_range(widths) {
+        let Some(widths) = Widths::of(self) else {
             return Err(TableError::Range);
+        };
+        let mut begun = false;
+        'records: for index in 0..self.records.len() {
+            write_record(sink, &mut begun, self, widths, index)?;
         }
-        write_records(sink, self, widths)
+        Ok(())
     }
 
     /// Returns the text that `write_to` writes. Fails as `write_to` does.
     pub fn to_string(&self) -> Result<String, TableError>
         ensures ok { IfOk result (λ text. (parts : List (List (List ℕ)))
             × (length parts ≡ length (row_texts self.now.records.items))
-            × AreRecordLines (F.answers self.now.template) self.now.fields.items (row_texts self.now.records.items) parts
+            × AreRecordLines (F.answers self.now.template) self.now.fields.items
+            (row_texts self.now.records.items) parts
             × (string_bytes text ≡ text_of parts)) }
-        ensures in_range { OnOk result (IsTooWide self.now.fields.items (row_texts self.now.records.items) → ⊥) }
+        ensures in_range { OnOk result
+            (IsTooWide self.now.fields.items (row_texts self.now.records.items) → ⊥) }
         ensures err { IfErr result (λ e. ((e ≡ Memory) × (0 < length (row_texts self.now.records.items)))
             ⊎ ((e ≡ Range) × IsTooWide self.now.fields.items (row_texts self.now.records.items))) }
     {
@@ -292,16 +269,5 @@ impl<F: Template> fmt::Display for ExtendedTable<F> {
             Ok(text) => f.write_str(&text),
             Err(_) => Err(fmt::Error),
         }
-    }
-}
-
-/// Whether the columns of a field, a bar and a value are in range.
-fn is_in_range(widths: Widths) -> bool
-    ensures yes { result ≡ true → widths.field + 3 + widths.value < 2 ^ 64 }
-    ensures no { result ≡ false → 2 ^ 64 ≤ widths.field + 3 + widths.value }
-{
-    match widths.field.checked_add(3) {
-        Some(columns) => columns.checked_add(widths.value).is_some(),
-        None => false,
     }
 }

@@ -1,17 +1,73 @@
-//! Truncating the fields and values of records.
-ghost use Rattle.std.specs.Prelude.{◌≡◌, ℕ, IfErr, IfOk, MatchOption, OnErr, OnOk, Some, string_bytes};
+//! Truncating the fields and values of records, and the widths to which they are truncated.
+ghost use Rattle.std.specs.Prelude.{◌≡◌, ◌-◌, ◌≤◌, ℕ, IfErr, IfOk, MatchOption, None, OnErr};
+ghost use Rattle.std.specs.Prelude.{OnOk, Some, decimal, if◌then◌else◌, length, nat_lt};
+ghost use Rattle.std.specs.Prelude.{string_bytes};
 ghost use Rattle.std.specs.List.{AllZip};
 ghost use Rattle.tabled_base.specs.Cells.{row_texts};
 ghost use Rattle.tabled_base.specs.declared.error.TableError.TheVariants.{Memory};
 ghost use Rattle.tabled_set.specs.CellChanges.{in_room};
-ghost use Rattle.tabled_extended.specs.Truncated.{AreTruncated, IsRefused, IsTruncated, StopsInRecord, StopsInRecords, StopsTruncating, TakesMemory, Truncates};
+ghost use Rattle.tabled_set.specs.Truncated.{suffix_columns};
+ghost use Rattle.tabled_extended.specs.Truncated.{AreTruncated, IsRefused, IsTruncated};
+ghost use Rattle.tabled_extended.specs.Truncated.{StopsInRecord, StopsInRecords, StopsTruncating};
+ghost use Rattle.tabled_extended.specs.Truncated.{TakesMemory, Truncates, least_columns};
+ghost use Rattle.tabled_extended.specs.Truncated.{text_widths_in};
 
 use crate::extended_table::ExtendedTable;
 use crate::printing::widest;
-use crate::text_widths::{TextWidths, text_widths_in};
 use std::alloc::{AllocError, Global};
 use tabled_base::{CellText, TableError, Text};
-use tabled_text::cut_str;
+use tabled_text::{count_lines, cut_str, line_width, lines};
+
+/// The greatest widths of fields, if they are truncated, and of values, in columns.
+#[derive(Clone, Copy)]
+struct TextWidths {
+    fields: Option<usize>,
+    values: usize,
+}
+
+/// Returns the columns of a default header with the number of records.
+fn least_columns(count: usize) -> usize
+    ensures { result ≡ least_columns count }
+{
+    match count.checked_ilog10() {
+        Some(log) => 14 + log as usize,
+        None => 14,
+    }
+}
+
+/// Returns the columns that a suffix leaves, if it fits.
+fn columns_beside(suffix: &str, columns: usize) -> Option<usize>
+    ensures { result ≡ (if nat_lt columns (suffix_columns suffix.now) then None
+        else Some (columns - suffix_columns suffix.now)) }
+{
+    let mut left = columns;
+    for line in lines(suffix) {
+        left = left.checked_sub(line_width(line))?;
+    }
+    left.checked_sub(count_lines(suffix) - 1)
+}
+
+/// Returns the widths for lines of `max` columns, `count` records and a widest field of `field`
+/// columns. Fields stay if they, a bar and the suffix fit, else they are cut and values emptied.
+fn text_widths_in(max: usize, count: usize, field: usize, suffix: &str) -> Option<TextWidths>
+    ensures { result ≡ text_widths_in max count field (suffix_columns suffix.now) }
+{
+    let left = columns_beside(suffix, max)?;
+    if max < least_columns(count) {
+        return None;
+    }
+    let texts = left.checked_sub(3)?.checked_sub(max - left)?;
+    if left - 3 < field {
+        return Some(TextWidths {
+            fields: Some(texts),
+            values: 0,
+        });
+    }
+    Some(TextWidths {
+        fields: None,
+        values: texts.checked_sub(field)?,
+    })
+}
 
 /// Returns a text cut to a width, with the suffix after it; `None` if nothing was cut off.
 fn truncated(
@@ -20,7 +76,8 @@ fn truncated(
     width_limit: usize,
     suffix: &str,
 ) -> Result<Option<String>, AllocError>
-    ensures ok { IfOk result (λ answer. MatchOption answer (IsTruncated suffix.now width_limit text.now text.now)
+    ensures ok { IfOk result (λ answer. MatchOption answer
+        (IsTruncated suffix.now width_limit text.now text.now)
         (λ answer. IsTruncated suffix.now width_limit text.now (string_bytes answer))) }
     ensures err { OnErr result (TakesMemory suffix.now width_limit text.now) }
 {
@@ -75,8 +132,10 @@ fn truncate_if_limited(
     width_limit: Option<usize>,
     suffix: &str,
 ) -> Result<(), TableError>
-    ensures ok { OnOk result (AllZip (in_room (IsTruncated suffix.now) width_limit) row.old.items row.new.items) }
-    ensures err { OnErr result ((n : ℕ) × (width_limit ≡ Some n) × StopsInRecord suffix.now n row.old.items row.new.items) }
+    ensures ok { OnOk result
+        (AllZip (in_room (IsTruncated suffix.now) width_limit) row.old.items row.new.items) }
+    ensures err { OnErr result ((n : ℕ) × (width_limit ≡ Some n)
+        × StopsInRecord suffix.now n row.old.items row.new.items) }
     ensures only { IfErr result (λ e. e ≡ Memory) }
 {
     match width_limit {
@@ -92,8 +151,10 @@ fn truncate_rows(
     width_limit: usize,
     suffix: &str,
 ) -> Result<(), TableError>
-    ensures ok { OnOk result (AllZip (AllZip (IsTruncated suffix.now width_limit)) (row_texts rows.old.items) (row_texts rows.new.items)) }
-    ensures err { OnErr result (StopsInRecords suffix.now width_limit (row_texts rows.old.items) (row_texts rows.new.items)) }
+    ensures ok { OnOk result (AllZip (AllZip (IsTruncated suffix.now width_limit))
+        (row_texts rows.old.items) (row_texts rows.new.items)) }
+    ensures err { OnErr result (StopsInRecords suffix.now width_limit
+        (row_texts rows.old.items) (row_texts rows.new.items)) }
     ensures only { IfErr result (λ e. e ≡ Memory) }
 {
     'rows: for index in 0..rows.len() {
@@ -105,9 +166,11 @@ fn truncate_rows(
 impl<F> ExtendedTable<F> {
     /// Truncates values, and fields if they have a width limit.
     fn truncate_to(&mut self, text_widths: TextWidths, suffix: &str) -> Result<(), TableError>
-        ensures ok { OnOk result (AreTruncated suffix.now text_widths self.old.fields.items (row_texts self.old.records.items)
+        ensures ok { OnOk result (AreTruncated suffix.now text_widths
+            self.old.fields.items (row_texts self.old.records.items)
             self.new.fields.items (row_texts self.new.records.items)) }
-        ensures err { OnErr result (StopsTruncating suffix.now text_widths self.old.fields.items (row_texts self.old.records.items)
+        ensures err { OnErr result (StopsTruncating suffix.now text_widths
+            self.old.fields.items (row_texts self.old.records.items)
             self.new.fields.items (row_texts self.new.records.items)) }
         ensures only { IfErr result (λ e. e ≡ Memory) }
         ensures template { self.new.template ≡ self.old.template }
@@ -132,17 +195,16 @@ impl<F> ExtendedTable<F> {
     /// Error: `Memory`, for a text that is cut. The texts before it, fields first, are truncated
     /// then; it and the later ones are unchanged.
     pub fn truncate(&mut self, max: usize, suffix: &str) -> Result<bool, TableError>
-        ensures texts { Truncates max suffix.now self.old.fields.items (row_texts self.old.records.items) result
+        ensures texts { Truncates max suffix.now
+            self.old.fields.items (row_texts self.old.records.items) result
             self.new.fields.items (row_texts self.new.records.items) }
         ensures template { self.new.template ≡ self.old.template }
     {
         let field = widest(self.fields.as_slice());
-        match text_widths_in(max, self.records.len(), field, suffix) {
-            Some(text_widths) => {
-                self.truncate_to(text_widths, suffix)?;
-                Ok(true)
-            }
-            None => Ok(false),
-        }
+        let Some(text_widths) = text_widths_in(max, self.records.len(), field, suffix) else {
+            return Ok(false);
+        };
+        self.truncate_to(text_widths, suffix)?;
+        Ok(true)
     }
 }

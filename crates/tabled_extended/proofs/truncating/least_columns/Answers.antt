@@ -1,7 +1,7 @@
 use Rattle.std.proofs.Common.{arith, sym, ap, ◌∙◌, ◌+◌, decimal, length}
 use Rattle.std.proofs.lemmas.Fmt.{decimal_digit}
 use Rattle.tabled_extended.proofs.Digits.{digits_of_log}
-use Rattle.tabled_extended.proofs.text_widths.least_columns.Goals as goal
+use Rattle.tabled_extended.proofs.truncating.least_columns.Goals as goal
 
 pub returns-in-Some : goal.returns-in-Some
 returns-in-Some c =

@@ -1,7 +1,7 @@
 use Rattle.std.proofs.Common.{◌∙◌, ap, arith}
 use Rattle.tabled_base.specs.Cells.{row_texts}
 use Rattle.tabled_base.proofs.CopiedRows.{copied-more}
-use Rattle.tabled_extended.proofs.copying.copied_records.Goals as goal
+use Rattle.tabled_extended.proofs.extended_table.copied_records.Goals as goal
 
 pub loop-record-preserved : goal.loop-record-preserved
 loop-record-preserved c =

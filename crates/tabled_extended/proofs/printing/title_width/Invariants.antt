@@ -1,9 +1,9 @@
-use Rattle.std.proofs.Common.{◌≡◌, ◌*◌, ◌≤◌, All, length, max}
+use Rattle.std.proofs.Common.{◌≡◌, ◌≤◌, All, length, max}
 use Rattle.tabled_text.specs.Lines.{lines_left}
 use Rattle.tabled_text.specs.Measure.{text_columns}
 use Rattle.tabled_extended.specs.RecordLines.{title}
 use Rattle.tabled_extended.proofs.Dashed.{columns_dashed}
-use Rattle.tabled_extended.proofs.titles.title_width.Given as goal
+use Rattle.tabled_extended.proofs.printing.title_width.Given as goal
 
 abbrev pub invariant-lines : goal.invariant-lines
 invariant-lines l = record {

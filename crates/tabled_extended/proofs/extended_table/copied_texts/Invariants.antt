@@ -1,5 +1,5 @@
 use Rattle.std.proofs.Common.{◌≡◌, take}
-use Rattle.tabled_extended.proofs.copying.copied_texts.Given as goal
+use Rattle.tabled_extended.proofs.extended_table.copied_texts.Given as goal
 
 abbrev pub invariant-loop-text : goal.invariant-loop-text
 invariant-loop-text l = l.copy.items ≡ take l.text-index l.texts

@@ -2,7 +2,7 @@ use Rattle.std.proofs.Common.{◌++◌, append_assoc, sym, ◌∙◌, refl}
 use Rattle.std.specs.Prelude.{codes}
 use Rattle.tabled_line.proofs.Sending.{further, finished, stopped, stopped-first}
 use Rattle.tabled_line.specs.Fill.{fill}
-use Rattle.tabled_extended.proofs.printing.write_field_line.Goals as goal
+use Rattle.tabled_extended.proofs.printing.write_field.Goals as goal
 
 pub returns-in_err-write_text : goal.returns-in_err-write_text
 returns-in_err-write_text g c = stopped-first _ _ _ c.in_err-write_text.ensures.written c.from_residual.ensures.1 refl

@@ -1,9 +1,9 @@
 use Rattle.std.proofs.Common.{rules, ◌≤◌, ◌∙◌, All, length, sym, ap, subst, arith}
-use Rattle.std.proofs.lemmas.List.Elements.{All-head, All-tail}
+use Rattle.std.proofs.lemmas.List.Elements.{All-tail}
 use Rattle.tabled_text.specs.Lines.{lines_left}
 use Rattle.tabled_text.proofs.Bridge.{lines_length}
 use Rattle.tabled_extended.proofs.Dashed.{columns_dashed, title-columns}
-use Rattle.tabled_extended.proofs.titles.title_width.Goals as goal
+use Rattle.tabled_extended.proofs.printing.title_width.Goals as goal
 
 pub lines-init : goal.lines-init
 lines-init c =

@@ -1,5 +1,5 @@
 use Rattle.std.proofs.Common.{Ok, refl, subst, ◌≡◌}
-use Rattle.tabled_extended.proofs.fn_template.FnTemplateTemplate.label.Goals as goal
+use Rattle.tabled_extended.proofs.template.FnTemplateTemplate.label.Goals as goal
 
 pub returns-clause-text : goal.returns-clause-text
 returns-clause-text g c =
