@@ -1,34 +1,7 @@
 -- What a dimension answers, place by place.
-use Rattle.std.proofs.Common.{
-  ◌≡◌,
-  ℕ,
-  zero,
-  suc,
-  ◌<◌,
-  ◌≤◌,
-  List,
-  [],
-  ◌∷◌,
-  length,
-  map,
-  take,
-  Option,
-  Some,
-  None,
-  is_some,
-  Bool,
-  true,
-  false,
-  nat_lt,
-  unwrap_or,
-  get_or,
-  min,
-  refl,
-  sym,
-  ap,
-  ◌∙◌,
-  arith,
-}
+use Rattle.std.proofs.Common.{◌≡◌, ℕ, zero, suc, ◌<◌, ◌≤◌, List, [], ◌∷◌, length, map, take, Option, Some}
+use Rattle.std.proofs.Common.{None, is_some, Bool, true, false, nat_lt, unwrap_or, get_or, min, refl, sym, ap}
+use Rattle.std.proofs.Common.{◌∙◌, arith}
 use Rattle.std.specs.List.{range_with_len, slice_index}
 use Rattle.std.proofs.lemmas.Bool.Decides.{nat_tests}
 use Rattle.std.proofs.Math.Seq.{take-length}
@@ -95,13 +68,10 @@ entry_there sizes i h = let e : nat_lt i (length sizes) ≡ true = grind (arith,
 entry_missing : (sizes : List ℕ) (i : ℕ) → length sizes ≤ i → entry sizes i ≡ None
 entry_missing sizes i h = let e : nat_lt i (length sizes) ≡ false = grind (arith, nat_tests) in rw e refl
 
-some_there : {n : ℕ} (o : Option ℕ) → o ≡ Some n → is_some o ≡ true
-some_there o h = ap is_some h
-
 -- of a stored list the places that it has are reached
 stored_length : (sizes : List ℕ) (count k : ℕ) → k ≤ count → k ≤ length sizes → k ≤ length (reached (stored_at (Some sizes)) count)
 stored_length sizes count k h l = reached_so (stored_at (Some sizes)) count k h
-    (λ i lt. some_there (entry sizes i) (entry_there sizes i (omega arith)))
+    (λ i lt. ap is_some (entry_there sizes i (omega arith)))
 
 stored_no_more : (sizes : List ℕ) (count : ℕ) → length (reached (stored_at (Some sizes)) count) ≤ length sizes
 stored_no_more sizes count = by_cases (nat_lt (length sizes) count) refl

@@ -1,7 +1,7 @@
 -- Sizes from a single value, a list, or a list with a value for the rest.
 use Rattle.std.specs.Prelude.{◌≡◌, ℕ, Option, Some, length, nat_lt, if◌then◌else◌}
-use Rattle.tabled_size.specs.declared.static_dimension.DimensionValue.{DimensionValue}
-use Rattle.tabled_size.specs.declared.static_dimension.DimensionValue.TheVariants.{Exact, List as Listed, Partial}
+use Rattle.tabled_size.specs.declared.const_dimension.DimensionValue.{DimensionValue}
+use Rattle.tabled_size.specs.declared.const_dimension.DimensionValue.TheVariants.{Exact, List as Listed, Partial}
 use Rattle.tabled_priority.specs.Permitted.{at}
 use Rattle.tabled_size.specs.Entries.{entry}
 

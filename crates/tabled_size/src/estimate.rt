@@ -1,33 +1,25 @@
-//! The widths and heights that the cells of a table need.
-ghost use Rattle.std.specs.Prelude.{◌≡◌, ◌⊎◌, ◌+◌, ◌<◌, ◌≤◌, ◌^◌, ℕ, IfOk, IfErr, IfNone, IfSome, MatchOption, length};
+//! The widths and heights that the cells of a table need, and estimates for sizes that aren't stored.
+ghost use Rattle.std.specs.Prelude.{◌≡◌, ◌⊎◌, ◌+◌, ◌<◌, ◌≤◌, ◌^◌, IfOk, IfErr, IfNone, IfSome, MatchOption};
+ghost use Rattle.std.specs.Prelude.{length, IsOk, IsTrue, OnErr, OnOk};
 ghost use Rattle.tabled_base.specs.Cells.{IsInside, columns};
 ghost use Rattle.tabled_base.specs.declared.error.TableError.TheVariants.{Memory, Range};
 ghost use Rattle.tabled_config.specs.Settings.{style_at};
 ghost use Rattle.tabled_size.specs.Added.{KnowsAdded, DescribesAdded, added_at};
-ghost use Rattle.tabled_size.specs.Estimates.{IsTooHigh, IsTooWide, estimated_heights, estimated_widths, needed_height, needed_width, raised, row_height};
+ghost use Rattle.tabled_size.specs.Estimates.{IsTooHigh, IsTooWide, estimated_heights, estimated_widths};
+ghost use Rattle.tabled_size.specs.Estimates.{needed_height, needed_width, raised, row_height};
+ghost use Rattle.tabled_size.specs.FilledIn.{HasNoEstimate, IsFilledIn};
+ghost use Rattle.tabled_size.specs.Stored.{is_stored};
 
-use crate::added::{Extent, KnownAdded, Listed, RowPadding, row_added};
+use crate::complete_dimension::CompleteDimension;
+use crate::dimension::Estimate;
+use crate::padding::{Extent, KnownAdded, Listed, RowPadding, row_added};
 use std::alloc::Global;
 use tabled_base::{PeekableRecords, Position, TableError};
-use tabled_config::{Indent, Sides, SpannedConfig};
-
-/// Returns the width that a cell needs, or `None` if it exceeds `usize::MAX`.
-pub(crate) fn needed_width<R: PeekableRecords>(
-    records: &R,
-    config: &SpannedConfig,
-    at: Position,
-) -> Option<usize>
-    requires { IsInside (R.cells records.now) at.row at.column }
-    ensures { MatchOption result
-        (2 ^ 64 ≤ needed_width (R.cells records.now) config.now at.row at.column)
-        (λ n. n ≡ needed_width (R.cells records.now) config.now at.row at.column) }
-{
-    padded_width(records, config, at, config.get_padding(at))
-}
+use tabled_config::{ColoredConfig, Indent, Sides, SpannedConfig};
 
 /// Returns the width that a cell with this padding needs, or `None` if it exceeds `usize::MAX`.
 #[inline(always)]
-fn padded_width<R: PeekableRecords>(
+pub(crate) fn padded_width<R: PeekableRecords>(
     records: &R,
     config: &SpannedConfig,
     at: Position,
@@ -254,4 +246,47 @@ pub fn estimate_sizes<R: PeekableRecords>(
         heights.push(height)?;
     }
     Ok((widths, heights))
+}
+
+impl<R: PeekableRecords> Estimate<R, SpannedConfig> for CompleteDimension {
+    ghost estimates = { λ old records config new. IsFilledIn old (R.cells records) config new };
+
+    ghost out_of_range = { λ old records config. HasNoEstimate old (R.cells records) config };
+
+    fn estimate(&mut self, records: &R, config: &SpannedConfig) -> Result<(), TableError>
+        ensures ok { OnOk result (IsFilledIn self.old (R.cells records.now) config.now self.new) }
+        ensures stored { IsTrue (is_stored self.old) → IsOk result }
+        ensures err { OnErr result (self.new ≡ self.old) }
+        ensures only { IfErr result (λ e. (e ≡ Memory)
+            ⊎ ((e ≡ Range) × HasNoEstimate self.old (R.cells records.now) config.now)) }
+    {
+        let alloc = self.allocator();
+        match (self.get_widths().is_some(), self.get_heights().is_some()) {
+            (true, true) => {}
+            (true, false) => self.set_heights(estimate_heights(alloc, records, config)?),
+            (false, true) => self.set_widths(estimate_widths(alloc, records, config)?),
+            (false, false) => {
+                let (widths, heights) = estimate_sizes(alloc, records, config)?;
+                self.set_widths(widths);
+                self.set_heights(heights);
+            }
+        }
+        Ok(())
+    }
+}
+
+impl<R: PeekableRecords> Estimate<R, ColoredConfig> for CompleteDimension {
+    ghost estimates = { λ old records config new. IsFilledIn old (R.cells records) config.config new };
+
+    ghost out_of_range = { λ old records config. HasNoEstimate old (R.cells records) config.config };
+
+    fn estimate(&mut self, records: &R, config: &ColoredConfig) -> Result<(), TableError>
+        ensures ok { OnOk result (IsFilledIn self.old (R.cells records.now) config.now.config self.new) }
+        ensures stored { IsTrue (is_stored self.old) → IsOk result }
+        ensures err { OnErr result (self.new ≡ self.old) }
+        ensures only { IfErr result (λ e. (e ≡ Memory)
+            ⊎ ((e ≡ Range) × HasNoEstimate self.old (R.cells records.now) config.now.config)) }
+    {
+        Estimate::estimate(self, records, config.as_ref())
+    }
 }

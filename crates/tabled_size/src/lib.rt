@@ -3,42 +3,37 @@
 //!
 //! - `dimension.rt`: the traits of sizes, `Dimension` and `Estimate`.
 //! - `complete_dimension.rt`: sizes that are stored or not (`CompleteDimension`).
-//! - `const_dimension.rt`, `static_dimension.rt`, `zero_dimension.rt`: given sizes that never
-//!   change.
+//! - `const_dimension.rt`: given sizes that never change.
 //! - `pool_table_dimension.rt`: which boxes of a pool table are made wider or taller
 //!   (`PoolTableDimension`).
 //! - `estimate.rt`: the widest cell of each column and the tallest of each row.
-//! - `added.rt`: what padding adds to the size of a cell.
-//! - `estimating.rt`: estimates for the sizes that aren't stored.
+//! - `padding.rt`: what padding adds to the size of a cell.
 //! - `total.rt`: the total of given sizes, with borders and margins.
 //! - `effective.rt`: totals and checks of the effective sizes: stored ones, else estimates.
-//! - `estimated_total.rt`: totals of estimates, without a list of sizes.
 #![tactic(auto)]
 
-mod added;
 mod complete_dimension;
 mod const_dimension;
 mod dimension;
 mod effective;
 mod estimate;
-mod estimated_total;
-mod estimating;
+mod padding;
 mod pool_table_dimension;
-mod static_dimension;
 mod total;
-mod zero_dimension;
 
 pub use complete_dimension::CompleteDimension;
-pub use const_dimension::{ConstDimension, ConstSize};
+pub use const_dimension::{
+    ConstDimension, ConstSize, DimensionValue, StaticDimension, ZeroDimension,
+};
 pub use dimension::{Dimension, Estimate};
-pub use effective::{check_heights, check_widths, is_empty, total_height, total_width};
+pub use effective::{
+    check_heights, check_widths, estimated_total_height, estimated_total_width, is_empty,
+    total_height, total_width,
+};
 pub use estimate::{estimate_heights, estimate_sizes, estimate_widths};
-pub use estimated_total::{estimated_total_height, estimated_total_width};
 pub use pool_table_dimension::{DimensionPriority, PoolTableDimension};
-pub use static_dimension::{DimensionValue, StaticDimension};
 pub use tabled_priority::{
     Peaker, Priority, PriorityLeft, PriorityMax, PriorityMin, PriorityNone, PriorityRight, Steps,
     TakesAll, is_level,
 };
 pub use total::{filled_height, filled_width};
-pub use zero_dimension::ZeroDimension;

@@ -3,7 +3,7 @@ ghost use Rattle.std.specs.Prelude.{◌≡◌, ◌<◌, ◌≤◌, ◌^◌, Matc
 ghost use Rattle.std.specs.List.{slice_index};
 ghost use Rattle.tabled_size.specs.Reached.{reached};
 ghost use Rattle.tabled_priority.specs.Sums.{one_if, sum_below};
-ghost use Rattle.tabled_size.specs.Totals.{filled_height, filled_width, framed_height, framed_width, part_height, rules_at};
+ghost use Rattle.tabled_size.specs.Totals.{filled_height, filled_width, framed_height, framed_width, part_height};
 
 use crate::dimension::Dimension;
 use tabled_config::SpannedConfig;

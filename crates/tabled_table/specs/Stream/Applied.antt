@@ -2,7 +2,7 @@
 -- settings stay. The sizes that the option sees are all zero.
 use Rattle.std.specs.Prelude.{◌≡◌}
 use Rattle.tabled_config.specs.declared.compact.CompactConfig.{CompactConfig}
-use Rattle.tabled_size.specs.declared.zero_dimension.ZeroDimension.{ZeroDimension}
+use Rattle.tabled_size.specs.declared.const_dimension.ZeroDimension.{ZeroDimension}
 use Rattle.tabled_table.specs.declared.iter_table.IterTable.{IterTable}
 
 -- an option's change, or what it leaves when it fails

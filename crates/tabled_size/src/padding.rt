@@ -22,7 +22,7 @@ pub(crate) struct Extent {
 
 /// Looks up what padding adds in each column of a row.
 pub(crate) trait RowPadding {
-    ghost use Rattle.tabled_size.specs.declared.added.Extent.{Extent};
+    ghost use Rattle.tabled_size.specs.declared.padding.Extent.{Extent};
 
     // What padding adds in a column.
     ghost known: { Self → ℕ → Extent };
