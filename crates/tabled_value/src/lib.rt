@@ -3,11 +3,11 @@
 //! - `value.rt`: `Tabled`; `value/`: its impls for strings, numbers, tuples, arrays, options, boxes
 //!   and references.
 //! - `rows.rt`: the records of some values, with or without a header.
-//! - `cells.rt`: strings that are measured and appended to a row.
+//! - `texts.rt`: the strings of fields, and their cells.
 #![tactic(auto)]
 
-mod cells;
 mod rows;
+mod texts;
 mod value;
 
 pub use rows::{field_records, named_records, value_records};

@@ -1,5 +1,5 @@
 //! The records that values make, with or without a header.
-ghost use Rattle.std.specs.Prelude.{◌≡◌, ◌∷◌, ◌++◌, [], ℕ, List, IfErr, IfOk, OnOk, length, map, string_bytes, vec_len};
+ghost use Rattle.std.specs.Prelude.{◌≡◌, ◌∷◌, ◌++◌, ℕ, List, IfErr, IfOk, OnOk, length, map};
 ghost use Rattle.std.specs.Cow.{cow_str_bytes};
 ghost use Rattle.std.specs.Iterator.{IsFiniteIterable};
 ghost use Rattle.std.specs.List.{AllZip, flat_map};
@@ -8,7 +8,7 @@ ghost use Rattle.tabled_base.specs.Given.{Given};
 ghost use Rattle.tabled_base.specs.declared.error.TableError.TheVariants.{Memory};
 ghost use Rattle.tabled_value.specs.ValueRows.{pairs};
 
-use crate::cells::push_texts;
+use crate::texts::push_texts;
 use crate::value::Tabled;
 use std::alloc::Global;
 use std::borrow::CowStr;
@@ -52,7 +52,10 @@ where
 {
     let values = iter.into_iter();
     let mut rows = Vec::with_capacity(alloc, room)?;
-    rows.push(measured(alloc, I::Item::headers(alloc)?)?)?;
+    let headers = I::Item::headers(alloc)?;
+    let mut names = Vec::with_capacity(alloc, headers.len())?;
+    push_texts(&mut names, headers)?;
+    rows.push(names)?;
     'values: for value in values {
         rows.push(value_row(alloc, &value)?)?;
     }
@@ -95,19 +98,12 @@ fn push_fields(
 {
     let alloc = *rows.allocator();
     'fields: for (name, text) in names.iter().zip(texts) {
-        rows.push(pair(alloc, name.as_str(), text.into_owned(alloc)?)?)?;
+        let mut row = Vec::with_capacity(alloc, 2)?;
+        row.push(Text::copied(alloc, name.as_str())?)?;
+        row.push(Text::new(text.into_owned(alloc)?))?;
+        rows.push(row)?;
     }
     Ok(())
-}
-
-fn pair(alloc: Global, name: &str, text: String) -> Result<Vec<Text<String>>, TableError>
-    ensures ok { IfOk result (λ row. row.items ≡ name.now ∷ string_bytes text ∷ []) }
-    ensures only { IfErr result (λ e. e ≡ Memory) }
-{
-    let mut row = Vec::with_capacity(alloc, 2)?;
-    row.push(Text::copied(alloc, name)?)?;
-    row.push(Text::new(text))?;
-    Ok(row)
 }
 
 fn value_row<T: Tabled>(alloc: Global, value: &T) -> Result<Vec<Text<String>>, TableError>
@@ -117,15 +113,5 @@ fn value_row<T: Tabled>(alloc: Global, value: &T) -> Result<Vec<Text<String>>, T
 {
     let mut row = Vec::with_capacity(alloc, T::length())?;
     value.push_cells(&mut row)?;
-    Ok(row)
-}
-
-fn measured(alloc: Global, texts: Vec<CowStr<'_>>) -> Result<Vec<Text<String>>, TableError>
-    ensures texts { IfOk result (λ row. row.items ≡ map cow_str_bytes texts.entry.items) }
-    ensures length { IfOk result (λ row. length row.items ≡ vec_len texts.entry) }
-    ensures only { IfErr result (λ e. e ≡ Memory) }
-{
-    let mut row = Vec::with_capacity(alloc, texts.len())?;
-    push_texts(&mut row, texts)?;
     Ok(row)
 }

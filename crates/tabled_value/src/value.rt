@@ -4,14 +4,11 @@ ghost use Rattle.std.specs.Cow.{cow_str_bytes};
 ghost use Rattle.tabled_base.specs.declared.error.TableError.TheVariants.{Memory};
 ghost use Rattle.tabled_value.specs.Fields.{CellsAdded};
 
-mod arrays;
 mod holders;
-mod integers;
-mod parts;
 mod single;
 mod tuples;
 
-use crate::cells::push_texts;
+use crate::texts::push_texts;
 use std::alloc::Global;
 use std::borrow::CowStr;
 use tabled_base::{TableError, Text};

@@ -2,8 +2,7 @@
 ghost use Rattle.std.specs.Prelude.{◌≡◌, [], MatchOption, replicate};
 
 use super::Tabled;
-use super::parts::empty_texts;
-use crate::cells::push_empty;
+use crate::texts::{empty_texts, push_empty};
 use std::alloc::Global;
 use std::borrow::CowStr;
 use tabled_base::{TableError, Text};

@@ -1,11 +1,12 @@
-//! `Tabled` for strings, characters and booleans: one field, named after the type.
-ghost use Rattle.std.specs.Prelude.{◌≡◌, ◌∷◌, [], IfErr, IfOk, codes, encode_utf8, if◌then◌else◌, map, string_bytes, vec_len};
+//! `Tabled` for strings, characters, booleans and integers: one field, named after the type.
 ghost use Rattle.std.specs.Cow.{cow_str_bytes};
+ghost use Rattle.std.specs.Fmt.{signed_decimal};
+ghost use Rattle.std.specs.Prelude.{◌≡◌, ◌∷◌, [], IfErr, IfOk, codes, decimal, encode_utf8, if◌then◌else◌, map, string_bytes, vec_len};
 ghost use Rattle.tabled_base.specs.declared.error.TableError.TheVariants.{Memory};
 
 use super::Tabled;
-use super::parts::{one_displayed, one_text};
-use crate::cells::push_text;
+use crate::texts::{displayed, one_text, push_text};
+use itoa::Buffer;
 use std::alloc::Global;
 use std::borrow::CowStr;
 use tabled_base::{TableError, Text};
@@ -23,12 +24,8 @@ impl Tabled for &str {
         1
     }
 
-    fn fields(&self, alloc: Global) -> Result<Vec<CowStr<'_>>, TableError>
-        ensures texts { IfOk result (λ v. map cow_str_bytes v.items ≡ self.now.now ∷ []) }
-        ensures length { IfOk result (λ v. vec_len v ≡ 1) }
-        ensures only { IfErr result (λ e. e ≡ Memory) }
-    {
-        one_text(alloc, self)
+    fn fields(&self, alloc: Global) -> Result<Vec<CowStr<'_>>, TableError> {
+        one_text(alloc, CowStr::Borrowed(*self))
     }
 
     fn headers(alloc: Global) -> Result<Vec<CowStr<'static>>, TableError>
@@ -36,7 +33,7 @@ impl Tabled for &str {
         ensures length { IfOk result (λ v. vec_len v ≡ 1) }
         ensures only { IfErr result (λ e. e ≡ Memory) }
     {
-        one_text(alloc, "&str")
+        one_text(alloc, CowStr::Borrowed("&str"))
     }
 
     fn push_cells(&self, row: &mut Vec<Text<String>>) -> Result<(), TableError> {
@@ -56,11 +53,11 @@ impl Tabled for String {
     }
 
     fn fields(&self, alloc: Global) -> Result<Vec<CowStr<'_>>, TableError> {
-        one_text(alloc, self.as_str())
+        one_text(alloc, CowStr::Borrowed(self.as_str()))
     }
 
     fn headers(alloc: Global) -> Result<Vec<CowStr<'static>>, TableError> {
-        one_text(alloc, "String")
+        one_text(alloc, CowStr::Borrowed("String"))
     }
 
     fn push_cells(&self, row: &mut Vec<Text<String>>) -> Result<(), TableError> {
@@ -80,11 +77,11 @@ impl Tabled for char {
     }
 
     fn fields(&self, alloc: Global) -> Result<Vec<CowStr<'_>>, TableError> {
-        one_displayed(alloc, self)
+        one_text(alloc, displayed(alloc, self)?)
     }
 
     fn headers(alloc: Global) -> Result<Vec<CowStr<'static>>, TableError> {
-        one_text(alloc, "char")
+        one_text(alloc, CowStr::Borrowed("char"))
     }
 
     fn push_cells(&self, row: &mut Vec<Text<String>>) -> Result<(), TableError> {
@@ -104,14 +101,302 @@ impl Tabled for bool {
     }
 
     fn fields(&self, alloc: Global) -> Result<Vec<CowStr<'_>>, TableError> {
-        one_displayed(alloc, self)
+        one_text(alloc, displayed(alloc, self)?)
     }
 
     fn headers(alloc: Global) -> Result<Vec<CowStr<'static>>, TableError> {
-        one_text(alloc, "bool")
+        one_text(alloc, CowStr::Borrowed("bool"))
     }
 
     fn push_cells(&self, row: &mut Vec<Text<String>>) -> Result<(), TableError> {
         push_text(row, if *self { "true" } else { "false" })
+    }
+}
+
+impl Tabled for i8 {
+    ghost LENGTH = { 1 };
+
+    ghost shows = { λ n row. row ≡ signed_decimal n ∷ [] };
+
+    ghost names = { codes "i8" ∷ [] };
+
+    fn length() -> usize {
+        1
+    }
+
+    fn fields(&self, alloc: Global) -> Result<Vec<CowStr<'_>>, TableError> {
+        one_text(alloc, displayed(alloc, self)?)
+    }
+
+    fn headers(alloc: Global) -> Result<Vec<CowStr<'static>>, TableError> {
+        one_text(alloc, CowStr::Borrowed("i8"))
+    }
+
+    fn push_cells(&self, row: &mut Vec<Text<String>>) -> Result<(), TableError> {
+        push_text(row, Buffer::new().format(*self))
+    }
+}
+
+impl Tabled for i16 {
+    ghost LENGTH = { 1 };
+
+    ghost shows = { λ n row. row ≡ signed_decimal n ∷ [] };
+
+    ghost names = { codes "i16" ∷ [] };
+
+    fn length() -> usize {
+        1
+    }
+
+    fn fields(&self, alloc: Global) -> Result<Vec<CowStr<'_>>, TableError> {
+        one_text(alloc, displayed(alloc, self)?)
+    }
+
+    fn headers(alloc: Global) -> Result<Vec<CowStr<'static>>, TableError> {
+        one_text(alloc, CowStr::Borrowed("i16"))
+    }
+
+    fn push_cells(&self, row: &mut Vec<Text<String>>) -> Result<(), TableError> {
+        push_text(row, Buffer::new().format(*self))
+    }
+}
+
+impl Tabled for i32 {
+    ghost LENGTH = { 1 };
+
+    ghost shows = { λ n row. row ≡ signed_decimal n ∷ [] };
+
+    ghost names = { codes "i32" ∷ [] };
+
+    fn length() -> usize {
+        1
+    }
+
+    fn fields(&self, alloc: Global) -> Result<Vec<CowStr<'_>>, TableError> {
+        one_text(alloc, displayed(alloc, self)?)
+    }
+
+    fn headers(alloc: Global) -> Result<Vec<CowStr<'static>>, TableError> {
+        one_text(alloc, CowStr::Borrowed("i32"))
+    }
+
+    fn push_cells(&self, row: &mut Vec<Text<String>>) -> Result<(), TableError> {
+        push_text(row, Buffer::new().format(*self))
+    }
+}
+
+impl Tabled for i64 {
+    ghost LENGTH = { 1 };
+
+    ghost shows = { λ n row. row ≡ signed_decimal n ∷ [] };
+
+    ghost names = { codes "i64" ∷ [] };
+
+    fn length() -> usize {
+        1
+    }
+
+    fn fields(&self, alloc: Global) -> Result<Vec<CowStr<'_>>, TableError> {
+        one_text(alloc, displayed(alloc, self)?)
+    }
+
+    fn headers(alloc: Global) -> Result<Vec<CowStr<'static>>, TableError> {
+        one_text(alloc, CowStr::Borrowed("i64"))
+    }
+
+    fn push_cells(&self, row: &mut Vec<Text<String>>) -> Result<(), TableError> {
+        push_text(row, Buffer::new().format(*self))
+    }
+}
+
+impl Tabled for i128 {
+    ghost LENGTH = { 1 };
+
+    ghost shows = { λ n row. row ≡ signed_decimal n ∷ [] };
+
+    ghost names = { codes "i128" ∷ [] };
+
+    fn length() -> usize {
+        1
+    }
+
+    fn fields(&self, alloc: Global) -> Result<Vec<CowStr<'_>>, TableError> {
+        one_text(alloc, displayed(alloc, self)?)
+    }
+
+    fn headers(alloc: Global) -> Result<Vec<CowStr<'static>>, TableError> {
+        one_text(alloc, CowStr::Borrowed("i128"))
+    }
+
+    fn push_cells(&self, row: &mut Vec<Text<String>>) -> Result<(), TableError> {
+        push_text(row, Buffer::new().format(*self))
+    }
+}
+
+impl Tabled for isize {
+    ghost LENGTH = { 1 };
+
+    ghost shows = { λ n row. row ≡ signed_decimal n ∷ [] };
+
+    ghost names = { codes "isize" ∷ [] };
+
+    fn length() -> usize {
+        1
+    }
+
+    fn fields(&self, alloc: Global) -> Result<Vec<CowStr<'_>>, TableError> {
+        one_text(alloc, displayed(alloc, self)?)
+    }
+
+    fn headers(alloc: Global) -> Result<Vec<CowStr<'static>>, TableError> {
+        one_text(alloc, CowStr::Borrowed("isize"))
+    }
+
+    fn push_cells(&self, row: &mut Vec<Text<String>>) -> Result<(), TableError> {
+        push_text(row, Buffer::new().format(*self))
+    }
+}
+
+impl Tabled for u8 {
+    ghost LENGTH = { 1 };
+
+    ghost shows = { λ n row. row ≡ decimal n ∷ [] };
+
+    ghost names = { codes "u8" ∷ [] };
+
+    fn length() -> usize {
+        1
+    }
+
+    fn fields(&self, alloc: Global) -> Result<Vec<CowStr<'_>>, TableError> {
+        one_text(alloc, displayed(alloc, self)?)
+    }
+
+    fn headers(alloc: Global) -> Result<Vec<CowStr<'static>>, TableError> {
+        one_text(alloc, CowStr::Borrowed("u8"))
+    }
+
+    fn push_cells(&self, row: &mut Vec<Text<String>>) -> Result<(), TableError> {
+        push_text(row, Buffer::new().format(*self))
+    }
+}
+
+impl Tabled for u16 {
+    ghost LENGTH = { 1 };
+
+    ghost shows = { λ n row. row ≡ decimal n ∷ [] };
+
+    ghost names = { codes "u16" ∷ [] };
+
+    fn length() -> usize {
+        1
+    }
+
+    fn fields(&self, alloc: Global) -> Result<Vec<CowStr<'_>>, TableError> {
+        one_text(alloc, displayed(alloc, self)?)
+    }
+
+    fn headers(alloc: Global) -> Result<Vec<CowStr<'static>>, TableError> {
+        one_text(alloc, CowStr::Borrowed("u16"))
+    }
+
+    fn push_cells(&self, row: &mut Vec<Text<String>>) -> Result<(), TableError> {
+        push_text(row, Buffer::new().format(*self))
+    }
+}
+
+impl Tabled for u32 {
+    ghost LENGTH = { 1 };
+
+    ghost shows = { λ n row. row ≡ decimal n ∷ [] };
+
+    ghost names = { codes "u32" ∷ [] };
+
+    fn length() -> usize {
+        1
+    }
+
+    fn fields(&self, alloc: Global) -> Result<Vec<CowStr<'_>>, TableError> {
+        one_text(alloc, displayed(alloc, self)?)
+    }
+
+    fn headers(alloc: Global) -> Result<Vec<CowStr<'static>>, TableError> {
+        one_text(alloc, CowStr::Borrowed("u32"))
+    }
+
+    fn push_cells(&self, row: &mut Vec<Text<String>>) -> Result<(), TableError> {
+        push_text(row, Buffer::new().format(*self))
+    }
+}
+
+impl Tabled for u64 {
+    ghost LENGTH = { 1 };
+
+    ghost shows = { λ n row. row ≡ decimal n ∷ [] };
+
+    ghost names = { codes "u64" ∷ [] };
+
+    fn length() -> usize {
+        1
+    }
+
+    fn fields(&self, alloc: Global) -> Result<Vec<CowStr<'_>>, TableError> {
+        one_text(alloc, displayed(alloc, self)?)
+    }
+
+    fn headers(alloc: Global) -> Result<Vec<CowStr<'static>>, TableError> {
+        one_text(alloc, CowStr::Borrowed("u64"))
+    }
+
+    fn push_cells(&self, row: &mut Vec<Text<String>>) -> Result<(), TableError> {
+        push_text(row, Buffer::new().format(*self))
+    }
+}
+
+impl Tabled for u128 {
+    ghost LENGTH = { 1 };
+
+    ghost shows = { λ n row. row ≡ decimal n ∷ [] };
+
+    ghost names = { codes "u128" ∷ [] };
+
+    fn length() -> usize {
+        1
+    }
+
+    fn fields(&self, alloc: Global) -> Result<Vec<CowStr<'_>>, TableError> {
+        one_text(alloc, displayed(alloc, self)?)
+    }
+
+    fn headers(alloc: Global) -> Result<Vec<CowStr<'static>>, TableError> {
+        one_text(alloc, CowStr::Borrowed("u128"))
+    }
+
+    fn push_cells(&self, row: &mut Vec<Text<String>>) -> Result<(), TableError> {
+        push_text(row, Buffer::new().format(*self))
+    }
+}
+
+impl Tabled for usize {
+    ghost LENGTH = { 1 };
+
+    ghost shows = { λ n row. row ≡ decimal n ∷ [] };
+
+    ghost names = { codes "usize" ∷ [] };
+
+    fn length() -> usize {
+        1
+    }
+
+    fn fields(&self, alloc: Global) -> Result<Vec<CowStr<'_>>, TableError> {
+        one_text(alloc, displayed(alloc, self)?)
+    }
+
+    fn headers(alloc: Global) -> Result<Vec<CowStr<'static>>, TableError> {
+        one_text(alloc, CowStr::Borrowed("usize"))
+    }
+
+    fn push_cells(&self, row: &mut Vec<Text<String>>) -> Result<(), TableError> {
+        push_text(row, Buffer::new().format(*self))
     }
 }

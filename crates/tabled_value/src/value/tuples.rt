@@ -1,11 +1,14 @@
-//! `Tabled` for tuples: the fields of each part, one after another.
-ghost use Rattle.std.specs.Prelude.{◌+◌, ◌++◌, ◌-◌, ◌^◌, min};
-ghost use Rattle.tabled_value.specs.Fields.{Joined};
+//! `Tabled` for tuples: the fields of each part, one after another. And for arrays of `Display`
+//! values: one field for each item, named by its index.
+ghost use Rattle.std.specs.List.{AllZip, range_with_len};
+ghost use Rattle.std.specs.Prelude.{◌+◌, ◌++◌, ◌-◌, ◌^◌, List, decimal, map, min};
+ghost use Rattle.tabled_value.specs.Fields.{Joined, Says};
 
 use super::Tabled;
-use super::parts::joined;
+use crate::texts::{displayed, joined, push_displayed};
 use std::alloc::Global;
 use std::borrow::CowStr;
+use std::fmt::Display;
 use tabled_base::{TableError, Text};
 
 impl<A: Tabled> Tabled for (A,) {
@@ -176,5 +179,40 @@ impl<A: Tabled, B: Tabled, C: Tabled, D: Tabled, E: Tabled, F: Tabled> Tabled
         self.3.push_cells(row)?;
         self.4.push_cells(row)?;
         self.5.push_cells(row)
+    }
+}
+
+impl<T: Display, const N: usize> Tabled for [T; N] {
+    ghost LENGTH = { N };
+
+    ghost shows = { λ items row. AllZip (λ item text. Says (T.output item) text) items row };
+
+    ghost names = { map decimal (range_with_len 0 N) };
+
+    fn length() -> usize {
+        N
+    }
+
+    fn fields(&self, alloc: Global) -> Result<Vec<CowStr<'_>>, TableError> {
+        let mut texts = Vec::with_capacity(alloc, N)?;
+        'items: for item in self {
+            texts.push(displayed(alloc, item)?)?;
+        }
+        Ok(texts)
+    }
+
+    fn headers(alloc: Global) -> Result<Vec<CowStr<'static>>, TableError> {
+        let mut names = Vec::with_capacity(alloc, N)?;
+        'places: for place in 0..N {
+            names.push(displayed(alloc, &place)?)?;
+        }
+        Ok(names)
+    }
+
+    fn push_cells(&self, row: &mut Vec<Text<String>>) -> Result<(), TableError> {
+        'items: for item in self {
+            push_displayed(row, item)?;
+        }
+        Ok(())
     }
 }

@@ -1,11 +1,11 @@
-use Rattle.std.proofs.Common.{◌∙◌, rules}
+use Rattle.std.proofs.Common.{rules}
 use Rattle.tabled_value.proofs.RowsAdded.{names_stand, rectangular_named, values_added}
 use Rattle.tabled_value.proofs.rows.named_records.Goals as goal
 
 pub values-init : goal.values-init
 values-init g c =
-    names_stand g.I.Item.Tabled.shows g.I.Item.Tabled.LENGTH g.I.Item.Tabled.names c.push.new.self.items c.in_ok-measured.field-0
-    (search rules) (c.in_ok-measured.ensures.texts ∙ c.in_ok-headers.ensures.names)
+    names_stand g.I.Item.Tabled.shows g.I.Item.Tabled.LENGTH g.I.Item.Tabled.names c.push.new.self.items c.push_texts.new.row
+    (search rules) (search rules)
 
 pub values-preserved : goal.values-preserved
 values-preserved g c =

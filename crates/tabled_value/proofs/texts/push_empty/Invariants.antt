@@ -1,5 +1,5 @@
 use Rattle.std.proofs.Common.{◌≡◌, ◌+◌, ◌++◌, [], replicate, vec_len}
-use Rattle.tabled_value.proofs.cells.push_empty.Given as goal
+use Rattle.tabled_value.proofs.texts.push_empty.Given as goal
 
 abbrev pub invariant-empty : goal.invariant-empty
 invariant-empty l = record {

@@ -2,7 +2,7 @@ use Rattle.std.proofs.Common.{rules}
 use Rattle.std.specs.Cow.{cow_str_bytes}
 use Rattle.tabled_value.specs.Fields.{Says}
 use Rattle.tabled_value.proofs.Joining.{next_item}
-use Rattle.tabled_value.proofs.value.arrays.ArrayTabled.fields.Goals as goal
+use Rattle.tabled_value.proofs.value.tuples.ArrayTabled.fields.Goals as goal
 
 pub items-preserved : goal.items-preserved
 items-preserved g c = record {

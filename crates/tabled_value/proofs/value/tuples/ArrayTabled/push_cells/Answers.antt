@@ -1,6 +1,6 @@
 use Rattle.std.proofs.Common.{rules}
 use Rattle.tabled_value.proofs.CellsBehind.{next_behind}
-use Rattle.tabled_value.proofs.value.arrays.ArrayTabled.push_cells.Goals as goal
+use Rattle.tabled_value.proofs.value.tuples.ArrayTabled.push_cells.Goals as goal
 
 pub items-preserved : goal.items-preserved
 items-preserved g c = record {

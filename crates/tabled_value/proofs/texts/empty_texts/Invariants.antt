@@ -1,6 +1,6 @@
 use Rattle.std.proofs.Common.{◌≡◌, [], map, replicate, vec_len}
 use Rattle.std.specs.Cow.{cow_str_bytes}
-use Rattle.tabled_value.proofs.value.parts.empty_texts.Given as goal
+use Rattle.tabled_value.proofs.texts.empty_texts.Given as goal
 
 abbrev pub invariant-empty : goal.invariant-empty
 invariant-empty l = record {

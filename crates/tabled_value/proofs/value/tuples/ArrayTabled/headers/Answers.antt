@@ -3,7 +3,7 @@ use Rattle.std.specs.List.{range_with_len}
 use Rattle.std.specs.Cow.{cow_str_bytes}
 use Rattle.std.proofs.lemmas.List.{map-append}
 use Rattle.std.proofs.lemmas.List.FromFn.{map-range_with_len_more}
-use Rattle.tabled_value.proofs.value.arrays.ArrayTabled.headers.Goals as goal
+use Rattle.tabled_value.proofs.value.tuples.ArrayTabled.headers.Goals as goal
 
 pub places-preserved : goal.places-preserved
 places-preserved g c = record {

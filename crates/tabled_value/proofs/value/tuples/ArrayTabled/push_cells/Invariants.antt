@@ -1,7 +1,7 @@
 use Rattle.std.proofs.Common.{◌≡◌, ◌+◌, take, vec_len}
 use Rattle.std.specs.List.{AllZip}
 use Rattle.tabled_value.specs.Fields.{CellsAdded, Says}
-use Rattle.tabled_value.proofs.value.arrays.ArrayTabled.push_cells.Given as goal
+use Rattle.tabled_value.proofs.value.tuples.ArrayTabled.push_cells.Given as goal
 
 abbrev pub invariant-items : goal.invariant-items
 invariant-items g l = record {

@@ -1,6 +1,6 @@
 use Rattle.std.proofs.Common.{◌≡◌, ◌+◌, ◌++◌, length, map, vec_len}
 use Rattle.std.specs.Cow.{cow_str_bytes}
-use Rattle.tabled_value.proofs.cells.push_texts.Given as goal
+use Rattle.tabled_value.proofs.texts.push_texts.Given as goal
 
 abbrev pub invariant-texts : goal.invariant-texts
 invariant-texts l = record {

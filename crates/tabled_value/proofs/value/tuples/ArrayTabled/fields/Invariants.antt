@@ -2,7 +2,7 @@ use Rattle.std.proofs.Common.{◌≡◌, map, take, vec_len}
 use Rattle.std.specs.Cow.{cow_str_bytes}
 use Rattle.std.specs.List.{AllZip}
 use Rattle.tabled_value.specs.Fields.{Says}
-use Rattle.tabled_value.proofs.value.arrays.ArrayTabled.fields.Given as goal
+use Rattle.tabled_value.proofs.value.tuples.ArrayTabled.fields.Given as goal
 
 abbrev pub invariant-items : goal.invariant-items
 invariant-items g l = record {

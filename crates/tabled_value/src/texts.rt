@@ -1,14 +1,58 @@
-//! Strings that are measured and appended to a row.
-ghost use Rattle.std.specs.Prelude.{◌≡◌, ◌∷◌, ◌++◌, ◌+◌, [], IfErr, OnOk, map, replicate, vec_len};
+//! The strings of fields: as lists, or measured and appended to a row.
 ghost use Rattle.std.specs.Cow.{cow_str_bytes};
+ghost use Rattle.std.specs.Prelude.{◌≡◌, ◌∷◌, ◌++◌, ◌+◌, [], List, IfErr, IfOk, OnOk, map, replicate, vec_len};
 ghost use Rattle.tabled_base.specs.declared.error.TableError.TheVariants.{Memory};
-ghost use Rattle.tabled_value.specs.Fields.{CellsAdded, OneSays};
+ghost use Rattle.tabled_value.specs.Fields.{CellsAdded, OneSays, Says};
 
-use itoa::{Buffer, Integer};
+use std::alloc::Global;
 use std::borrow::CowStr;
 use std::fmt::Display;
 use std::string::ToString;
 use tabled_base::{TableError, Text};
+
+/// Returns a list of one string.
+pub(crate) fn one_text<'a>(alloc: Global, text: CowStr<'a>) -> Result<Vec<CowStr<'a>>, TableError>
+    ensures ok { IfOk result (λ v. map cow_str_bytes v.items ≡ cow_str_bytes text.entry ∷ []) }
+    ensures length { IfOk result (λ v. vec_len v ≡ 1) }
+    ensures only { IfErr result (λ e. e ≡ Memory) }
+{
+    let mut texts = Vec::new(alloc);
+    texts.push(text)?;
+    Ok(texts)
+}
+
+/// Returns what `Display` writes of a value. A `Display` that fails is reported as `Memory`.
+pub(crate) fn displayed<'a, T: Display>(alloc: Global, value: &T) -> Result<CowStr<'a>, TableError>
+    ensures text { IfOk result (λ text. Says (T.output value.now) (cow_str_bytes text)) }
+    ensures only { IfErr result (λ e. e ≡ Memory) }
+{
+    Ok(CowStr::Owned(value.to_string(alloc)?))
+}
+
+pub(crate) fn empty_texts<'a>(alloc: Global, count: usize) -> Result<Vec<CowStr<'a>>, TableError>
+    ensures ok { IfOk result (λ v. map cow_str_bytes v.items ≡ replicate count []) }
+    ensures length { IfOk result (λ v. vec_len v ≡ count) }
+    ensures only { IfErr result (λ e. e ≡ Memory) }
+{
+    let mut texts = Vec::with_capacity(alloc, count)?;
+    'empty: for _field in 0..count {
+        texts.push(CowStr::Borrowed(""))?;
+    }
+    Ok(texts)
+}
+
+pub(crate) fn joined<'a>(
+    mut front: Vec<CowStr<'a>>,
+    mut behind: Vec<CowStr<'a>>,
+) -> Result<Vec<CowStr<'a>>, TableError>
+    ensures ok { IfOk result (λ v. map cow_str_bytes v.items
+        ≡ map cow_str_bytes front.entry.items ++ map cow_str_bytes behind.entry.items) }
+    ensures length { IfOk result (λ v. vec_len v ≡ vec_len front.entry + vec_len behind.entry) }
+    ensures only { IfErr result (λ e. e ≡ Memory) }
+{
+    front.append(&mut behind)?;
+    Ok(front)
+}
 
 pub(crate) fn push_text(row: &mut Vec<Text<String>>, text: &str) -> Result<(), TableError>
     ensures texts { OnOk result
@@ -19,15 +63,6 @@ pub(crate) fn push_text(row: &mut Vec<Text<String>>, text: &str) -> Result<(), T
     let text = Text::copied(*row.allocator(), text)?;
     row.push(text)?;
     Ok(())
-}
-
-pub(crate) fn push_integer<I: Integer>(row: &mut Vec<Text<String>>, n: I) -> Result<(), TableError>
-    ensures texts { OnOk result
-        (CellsAdded (λ texts. texts ≡ I.text n ∷ []) row.old.items row.new.items) }
-    ensures length { OnOk result (vec_len row.new ≡ vec_len row.old + 1) }
-    ensures only { IfErr result (λ e. e ≡ Memory) }
-{
-    push_text(row, Buffer::new().format(n))
 }
 
 /// Appends what `Display` writes of a value to a row. A `Display` that fails is reported as

@@ -2,7 +2,7 @@ use Rattle.std.proofs.Common.{◌≡◌, map, vec_len}
 use Rattle.std.specs.Prelude.{decimal}
 use Rattle.std.specs.List.{range_with_len}
 use Rattle.std.specs.Cow.{cow_str_bytes}
-use Rattle.tabled_value.proofs.value.arrays.ArrayTabled.headers.Given as goal
+use Rattle.tabled_value.proofs.value.tuples.ArrayTabled.headers.Given as goal
 
 abbrev pub invariant-places : goal.invariant-places
 invariant-places g l = record {
