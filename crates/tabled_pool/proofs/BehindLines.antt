@@ -1,34 +1,6 @@
 -- Each text of a framed tree stands behind a line, where one stands between boxes side by side and at the left.
-use Rattle.std.proofs.Common.{
-  ◌≡◌,
-  ℕ,
-  zero,
-  suc,
-  ◌+◌,
-  ◌-◌,
-  ◌≤◌,
-  true,
-  List,
-  [],
-  ◌∷◌,
-  ◌++◌,
-  Option,
-  Some,
-  None,
-  map,
-  length,
-  refl,
-  sym,
-  ap,
-  ◌∙◌,
-  subst,
-  arith,
-  ⊎_elim,
-  ◌⊎◌,
-  inl,
-  inr,
-  string_bytes,
-}
+use Rattle.std.proofs.Common.{◌≡◌, ℕ, zero, suc, ◌+◌, ◌-◌, ◌<◌, ◌≤◌, true, List, [], ◌∷◌, ◌++◌, Option, Some, None, map}
+use Rattle.std.proofs.Common.{length, refl, sym, ap, ◌∙◌, subst, arith, ⊎_elim, ◌⊎◌, inl, inr, string_bytes}
 use Rattle.tabled_config.specs.declared.sides.Sides.{Sides}
 use Rattle.tabled_pool.specs.declared.box_spacing.BoxSpacing.{BoxSpacing}
 use Rattle.tabled_pool.specs.declared.pieces.Rectangle.{Rectangle}
@@ -37,32 +9,13 @@ use Rattle.tabled_pool.specs.declared.tree.TableValue.{TableValue}
 use Rattle.tabled_pool.specs.declared.tree.TableValue.TheOpen.{Row, Column, Cell}
 use Rattle.tabled_pool.specs.declared.tree.TableValue.TheFolds.{fold-roll-TableValue, ind-TableValue, map-TableValue}
 use Rattle.tabled_pool.specs.declared.tree.TableValue.TheViews.{roll-TableValue}
-use Rattle.tabled_pool.specs.Boxes.{
-  Part,
-  Box,
-  part_of,
-  share,
-  left_part,
-  right_part,
-  top_part,
-  bottom_part,
-  row_width,
-  row_height,
-  first_width,
-  row_parts,
-  column_width,
-  column_height,
-  first_height,
-  column_parts,
-  leaf_box,
-  row_box,
-  column_box,
-  box_step,
-  box_of,
-}
+use Rattle.tabled_pool.specs.declared.box_spacing.Direction.TheVariants.{Across, Down}
+use Rattle.tabled_pool.specs.Boxes.{Part, Box, part_of, left_part, right_part, top_part, bottom_part, given_size}
+use Rattle.tabled_pool.specs.Boxes.{needed_by, joined_box, leaf_box, list_box, box_step, box_of}
 use Rattle.tabled_pool.specs.Tiling.{framed, within, covering, Tiles}
 use Rattle.tabled_pool.proofs.Framing.{tree_framed_tiles}
-use Rattle.tabled_pool.proofs.Tiling.{covering-append, row_box-tiles, column_box-tiles, share_within, tree-tiles, AllTile}
+use Rattle.tabled_pool.proofs.Directions.{shares}
+use Rattle.tabled_pool.proofs.Tiling.{covering-append, joined-tiles, list_box-tiles, tree-tiles, AllTile}
 use Rattle.tabled_pool.specs.Kinds.{is_line_kind}
 use Rattle.tabled_pool.specs.Owner.{owner, is_border_before, is_line}
 use Rattle.tabled_pool.proofs.Owners.{inside-within, within-inside, within-le, owner-inside, owner-here, owner-behind, counted, is-1}
@@ -123,7 +76,8 @@ before-last ps qs (suc x) y c h =
     ap is_line (owner-last ps qs x y q.0 (c x) q.1) ∙ (sym (ap is_line q.1) ∙ h)
 
 -- a line at the place before x
-before-here : (ps qs : List Part) (q : Part) (x y m : ℕ) → x ≡ suc m → covering (ps ++ q ∷ qs) m y ≤ 1 → within q.place m y ≡ 1 → is_line_kind q.kind ≡ true
+before-here : (ps qs : List Part) (q : Part) (x y m : ℕ) → x ≡ suc m → covering (ps ++ q ∷ qs) m y ≤ 1
+    → within q.place m y ≡ 1 → is_line_kind q.kind ≡ true
     → is_border_before (ps ++ q ∷ qs) x y ≡ true
 before-here ps qs q x y m e c w l =
     subst (λ v. is_border_before (ps ++ q ∷ qs) v y ≡ true) (sym e)
@@ -149,59 +103,57 @@ at-most ps qs q r x y e =
     let le = within-le r x y in
     (omega (arith, e, le), omega (arith, e, le, covering-append ps (q ∷ qs) x y))
 
-row-behind : (g : BoxSpacing) → g.bar ≡ 1 → (b : Box) (bs : List Box) → TextsBehind b → AllBehind bs → Tiles b → AllTile bs → (r : Rectangle) (x y : ℕ) (p : Part)
-    → row_width g b bs ≤ r.width → row_height b bs ≤ r.height → owner (row_parts g b bs r) x y ≡ Some p → p.kind ≡ Leaf → p.place.x ≡ x
-    → IsBehind (row_parts g b bs r) r.x x y
-row-behind g e b [] t ts u us r x y p w h o k s = t.behind r x y p w h o k s
-row-behind g e b (c ∷ bs) t (t2, ts) u (u2, us) r x y p w h o k s =
-    let n = first_width g b (c ∷ bs) r.width in
-    let share_fits : share g.across (r.width - row_width g b (c ∷ bs)) (length (c ∷ bs) + 1) ≤ r.width - row_width g b (c ∷ bs)
-    = share_within g.across _ _ (omega arith) in
-    let rest = right_part n r in
-    let last = right_part g.bar rest in
-    let ps = b.parts (left_part n r) in
-    let bar = part_of Bar (left_part g.bar rest) [] in
-    let qs = row_parts g c bs last in
-    let once : (v : ℕ) → (covering (ps ++ bar ∷ qs) v y ≤ 1) × (covering (bar ∷ qs) v y ≤ 1) = λ v. at-most ps qs bar r v y
-    ((row_box-tiles g (b ∷ (c ∷ bs)) (u, (u2, us))).once r v y w h) in
-    ⊎_elim
-    (λ a. ⊎_elim (λ i. inl i) (λ i. inr (before-first ps (bar ∷ qs) x y i)) (t.behind (left_part n r) x y p (omega arith) (omega arith) a k s))
-    (λ a.
-    let z = no-leaf bar qs x y p refl a k in
-    let some = counted qs x y x y p z (owner-inside qs x y p z) in
-    let covers = (row_box-tiles g (c ∷ bs) (u2, us)).once last x y (omega arith) (omega arith) in
-    let i = within-inside last x y (omega (arith, some, covers, within-le last x y)) in
-    ⊎_elim
-    (λ j. inr (before-here ps qs bar x y (r.x + n) (omega (arith, j, e)) (once (r.x + n)).0
-    (inside-within bar.place (r.x + n) y (record { left = omega arith; right = omega (arith, e); top = i.top; bottom = i.bottom })) refl))
-    (λ j. inr (before-last ps (bar ∷ qs) x y (λ v. (once v).0) (before-last (bar ∷ []) qs x y (λ v. (once v).1) j)))
-    (row-behind g e c bs t2 ts u2 us last x y p (omega arith) (omega arith) z k s))
-    (owner-either ps (bar ∷ qs) x y p o)
+row-behind : (g : BoxSpacing) → g.bar ≡ 1 → (k : ℕ) (b c : Box) → 0 < k → TextsBehind b → TextsBehind c → Tiles b → Tiles c
+    → TextsBehind (joined_box Across g k b c)
+row-behind g e count b c z0 t t2 u u2 = record {
+  behind = λ r x y p w h o k s.
+      let n = given_size Across g b r.width (needed_by Across g b c) count in
+      let sh = shares Across g count b c r z0 w h in
+      let rest = right_part n r in
+      let last = right_part g.bar rest in
+      let ps = b.parts (left_part n r) in
+      let bar = part_of Bar (left_part g.bar rest) [] in
+      let qs = c.parts last in
+      let once : (v : ℕ) → (covering (ps ++ bar ∷ qs) v y ≤ 1) × (covering (bar ∷ qs) v y ≤ 1) =
+      λ v. at-most ps qs bar r v y ((joined-tiles Across g count b c z0 u u2).once r v y w h) in
+      ⊎_elim
+      (λ a. ⊎_elim (λ i. inl i) (λ i. inr (before-first ps (bar ∷ qs) x y i)) (t.behind (left_part n r) x y p sh.wide sh.tall a k s))
+      (λ a.
+      let z = no-leaf bar qs x y p refl a k in
+      let some = counted qs x y x y p z (owner-inside qs x y p z) in
+      let covers = u2.once last x y sh.rest_wide sh.rest_tall in
+      let i = within-inside last x y (omega (arith, some, covers, within-le last x y)) in
+      ⊎_elim
+      (λ j. inr (before-here ps qs bar x y (r.x + n) (omega (arith, j, e)) (once (r.x + n)).0
+      (inside-within bar.place (r.x + n) y (record { left = omega arith; right = omega (arith, e); top = i.top; bottom = i.bottom })) refl))
+      (λ j. inr (before-last ps (bar ∷ qs) x y (λ v. (once v).0) (before-last (bar ∷ []) qs x y (λ v. (once v).1) j)))
+      (t2.behind last x y p sh.rest_wide sh.rest_tall z k s))
+      (owner-either ps (bar ∷ qs) x y p o);
+}
 
-column-behind : (g : BoxSpacing) (b : Box) (bs : List Box) → TextsBehind b → AllBehind bs → Tiles b → AllTile bs → (r : Rectangle) (x y : ℕ) (p : Part)
-    → column_width b bs ≤ r.width → column_height g b bs ≤ r.height → owner (column_parts g b bs r) x y ≡ Some p → p.kind ≡ Leaf → p.place.x ≡ x
-    → IsBehind (column_parts g b bs r) r.x x y
-column-behind g b [] t ts u us r x y p w h o k s = t.behind r x y p w h o k s
-column-behind g b (c ∷ bs) t (t2, ts) u (u2, us) r x y p w h o k s =
-    let n = first_height g b (c ∷ bs) r.height in
-    let share_fits : share g.down (r.height - column_height g b (c ∷ bs)) (length (c ∷ bs) + 1) ≤ r.height - column_height g b (c ∷ bs)
-    = share_within g.down _ _ (omega arith) in
-    let rest = bottom_part n r in
-    let last = bottom_part g.rule rest in
-    let ps = b.parts (top_part n r) in
-    let rule = part_of Rule (top_part g.rule rest) [] in
-    let qs = column_parts g c bs last in
-    let once : (v : ℕ) → (covering (ps ++ rule ∷ qs) v y ≤ 1) × (covering (rule ∷ qs) v y ≤ 1) = λ v. at-most ps qs rule r v y
-    ((column_box-tiles g (b ∷ (c ∷ bs)) (u, (u2, us))).once r v y w h) in
-    ⊎_elim
-    (λ a. ⊎_elim (λ i. inl i) (λ i. inr (before-first ps (rule ∷ qs) x y i)) (t.behind (top_part n r) x y p (omega arith) (omega arith) a k s))
-    (λ a.
-    let z = no-leaf rule qs x y p refl a k in
-    ⊎_elim
-    (λ j. inl j)
-    (λ j. inr (before-last ps (rule ∷ qs) x y (λ v. (once v).0) (before-last (rule ∷ []) qs x y (λ v. (once v).1) j)))
-    (column-behind g c bs t2 ts u2 us last x y p (omega arith) (omega arith) z k s))
-    (owner-either ps (rule ∷ qs) x y p o)
+column-behind : (g : BoxSpacing) (k : ℕ) (b c : Box) → 0 < k → TextsBehind b → TextsBehind c → Tiles b → Tiles c
+    → TextsBehind (joined_box Down g k b c)
+column-behind g count b c z0 t t2 u u2 = record {
+  behind = λ r x y p w h o k s.
+      let n = given_size Down g b r.height (needed_by Down g b c) count in
+      let sh = shares Down g count b c r z0 w h in
+      let rest = bottom_part n r in
+      let last = bottom_part g.rule rest in
+      let ps = b.parts (top_part n r) in
+      let rule = part_of Rule (top_part g.rule rest) [] in
+      let qs = c.parts last in
+      let once : (v : ℕ) → (covering (ps ++ rule ∷ qs) v y ≤ 1) × (covering (rule ∷ qs) v y ≤ 1) =
+      λ v. at-most ps qs rule r v y ((joined-tiles Down g count b c z0 u u2).once r v y w h) in
+      ⊎_elim
+      (λ a. ⊎_elim (λ i. inl i) (λ i. inr (before-first ps (rule ∷ qs) x y i)) (t.behind (top_part n r) x y p sh.wide sh.tall a k s))
+      (λ a.
+      let z = no-leaf rule qs x y p refl a k in
+      ⊎_elim
+      (λ j. inl j)
+      (λ j. inr (before-last ps (rule ∷ qs) x y (λ v. (once v).0) (before-last (rule ∷ []) qs x y (λ v. (once v).1) j)))
+      (t2.behind last x y p sh.rest_wide sh.rest_tall z k s))
+      (owner-either ps (rule ∷ qs) x y p o);
+}
 
 leaf-behind : (g : BoxSpacing) (text : List ℕ) → TextsBehind (leaf_box g text)
 leaf-behind g text = record {
@@ -211,13 +163,19 @@ leaf-behind g text = record {
       (is-1 (within r x y));
 }
 
-row_box-behind : (g : BoxSpacing) → g.bar ≡ 1 → (bs : List Box) → AllBehind bs → AllTile bs → TextsBehind (row_box g bs)
-row_box-behind g e [] ts us = leaf-behind g []
-row_box-behind g e (b ∷ bs) (t, ts) (u, us) = record { behind = λ r x y p w h o k s. row-behind g e b bs t ts u us r x y p w h o k s }
+all-row : (g : BoxSpacing) → g.bar ≡ 1 → (bs : List Box) → AllBehind bs → AllTile bs → TextsBehind (list_box Across g bs)
+all-row g e [] ts us = leaf-behind g []
+all-row g e (b ∷ []) (t, ts) (u, us) = t
+all-row g e (b ∷ (c ∷ bs)) (t, ts) (u, us) =
+    row-behind g e (length (c ∷ bs) + 1) b (list_box Across g (c ∷ bs)) (omega arith) t (all-row g e (c ∷ bs) ts us) u
+    (list_box-tiles Across g (c ∷ bs) us)
 
-column_box-behind : (g : BoxSpacing) (bs : List Box) → AllBehind bs → AllTile bs → TextsBehind (column_box g bs)
-column_box-behind g [] ts us = leaf-behind g []
-column_box-behind g (b ∷ bs) (t, ts) (u, us) = record { behind = λ r x y p w h o k s. column-behind g b bs t ts u us r x y p w h o k s }
+all-column : (g : BoxSpacing) (bs : List Box) → AllBehind bs → AllTile bs → TextsBehind (list_box Down g bs)
+all-column g [] ts us = leaf-behind g []
+all-column g (b ∷ []) (t, ts) (u, us) = t
+all-column g (b ∷ (c ∷ bs)) (t, ts) (u, us) =
+    column-behind g (length (c ∷ bs) + 1) b (list_box Down g (c ∷ bs)) (omega arith) t (all-column g (c ∷ bs) ts us) u
+    (list_box-tiles Down g (c ∷ bs) us)
 
 -- ---- trees
 
@@ -238,8 +196,8 @@ tree-behind g e = ind-TableValue (Holds g) (λ x y is.
     (subst TextsBehind (sym (fold-roll-TableValue Box (box_step g) (map-TableValue _ TableValue (λ e. e.0) y)))
     (elim y as (λ v. TextsBehind (box_step g (map-TableValue _ Box (box_of g) (map-TableValue _ TableValue (λ e. e.0) v)))) [
       | Cell s ↦ leaf-behind g (string_bytes s)
-      | Row v ↦ row_box-behind g e _ (all-behind g v.items) (all-tile g v.items)
-      | Column v ↦ column_box-behind g _ (all-behind g v.items) (all-tile g v.items)
+      | Row v ↦ all-row g e _ (all-behind g v.items) (all-tile g v.items)
+      | Column v ↦ all-column g _ (all-behind g v.items) (all-tile g v.items)
     ])))
 
 -- a tree in its frame: a line stands before each text

@@ -1,84 +1,48 @@
 -- Each leaf of a tree is given at least its own size.
-use Rattle.std.proofs.Common.{ℕ, ◌+◌, ◌-◌, ◌≤◌, List, [], ◌∷◌, ◌++◌, map, length, sym, subst, arith, string_bytes}
+use Rattle.std.proofs.Common.{ℕ, ◌+◌, ◌<◌, ◌≤◌, List, [], ◌∷◌, ◌++◌, map, length, sym, subst, arith, string_bytes}
 use Rattle.tabled_pool.specs.declared.box_spacing.BoxSpacing.{BoxSpacing}
 use Rattle.tabled_pool.specs.declared.pieces.Rectangle.{Rectangle}
-use Rattle.tabled_pool.specs.declared.pieces.Kind.TheVariants.{Bar, Rule}
+use Rattle.tabled_pool.specs.declared.box_spacing.Direction.{Direction}
+use Rattle.tabled_pool.specs.declared.box_spacing.Direction.TheVariants.{Across, Down}
 use Rattle.tabled_pool.specs.declared.tree.TableValue.{TableValue}
 use Rattle.tabled_pool.specs.declared.tree.TableValue.TheOpen.{Row, Column, Cell}
 use Rattle.tabled_pool.specs.declared.tree.TableValue.TheFolds.{fold-roll-TableValue, ind-TableValue, map-TableValue}
 use Rattle.tabled_pool.specs.declared.tree.TableValue.TheViews.{roll-TableValue}
-use Rattle.tabled_pool.specs.Boxes.{
-  Part,
-  Box,
-  part_of,
-  share,
-  left_part,
-  right_part,
-  top_part,
-  bottom_part,
-  row_width,
-  row_height,
-  first_width,
-  row_parts,
-  column_width,
-  column_height,
-  first_height,
-  column_parts,
-  leaf_box,
-  row_box,
-  column_box,
-  box_step,
-  box_of,
-}
+use Rattle.tabled_pool.specs.Boxes.{Part, Box, part_of, first_part, place_along, border_kind, given_size, behind_border}
+use Rattle.tabled_pool.specs.Boxes.{needed_by, joined_box, leaf_box, list_box, box_step, box_of}
 use Rattle.tabled_pool.specs.Tiling.{FitsLeaf, EachFits, LeavesFit}
-use Rattle.tabled_pool.proofs.Tiling.{share_within}
+use Rattle.tabled_pool.proofs.Directions.{shares}
 
 fits-append : (g : BoxSpacing) (ps qs : List Part) → EachFits g ps → EachFits g qs → EachFits g (ps ++ qs)
 fits-append g [] qs p q = q
 fits-append g (x ∷ xs) qs p q = (p.0, fits-append g xs qs p.1 q)
 
-bar-fits : (g : BoxSpacing) (r : Rectangle) → FitsLeaf g (part_of Bar r [])
-bar-fits g r e = cc
-
-rule-fits : (g : BoxSpacing) (r : Rectangle) → FitsLeaf g (part_of Rule r [])
-rule-fits g r e = cc
+border-fits : (d : Direction) (g : BoxSpacing) (r : Rectangle) → FitsLeaf g (part_of (border_kind d) r [])
+border-fits Across g r e = cc
+border-fits Down g r e = cc
 
 abbrev pub AllFit : BoxSpacing → List Box → Type 0
 AllFit g [] = Unit {0}
 AllFit g (b ∷ bs) = LeavesFit g b × AllFit g bs
 
-row-fits : (g : BoxSpacing) (b : Box) (bs : List Box) → LeavesFit g b → AllFit g bs → (r : Rectangle)
-    → row_width g b bs ≤ r.width → row_height b bs ≤ r.height → EachFits g (row_parts g b bs r)
-row-fits g b [] t ts r w h = t.fit r w h
-row-fits g b (c ∷ bs) t (u, ts) r w h =
-    let n = first_width g b (c ∷ bs) r.width in
-    let rest = right_part n r in
-    let share_fits : share g.across (r.width - row_width g b (c ∷ bs)) (length (c ∷ bs) + 1) ≤ r.width - row_width g b
-    (c ∷ bs) = share_within g.across _ _ (omega arith) in
-    fits-append g (b.parts (left_part n r)) _ (t.fit (left_part n r) (omega arith) (omega arith))
-    (bar-fits g (left_part g.bar rest), row-fits g c bs u ts (right_part g.bar rest) (omega arith) (omega arith))
-
-column-fits : (g : BoxSpacing) (b : Box) (bs : List Box) → LeavesFit g b → AllFit g bs → (r : Rectangle)
-    → column_width b bs ≤ r.width → column_height g b bs ≤ r.height → EachFits g (column_parts g b bs r)
-column-fits g b [] t ts r w h = t.fit r w h
-column-fits g b (c ∷ bs) t (u, ts) r w h =
-    let n = first_height g b (c ∷ bs) r.height in
-    let rest = bottom_part n r in
-    let share_fits : share g.down (r.height - column_height g b (c ∷ bs)) (length (c ∷ bs) + 1) ≤ r.height -
-    column_height g b (c ∷ bs) = share_within g.down _ _ (omega arith) in
-    fits-append g (b.parts (top_part n r)) _ (t.fit (top_part n r) (omega arith) (omega arith))
-    (rule-fits g (top_part g.rule rest), column-fits g c bs u ts (bottom_part g.rule rest) (omega arith) (omega arith))
-
 leaf-fits : (g : BoxSpacing) (text : List ℕ) → LeavesFit g (leaf_box g text)
 leaf-fits g text = record { fit = λ r w h. ((λ e. record { wide = w; tall = h }), tt) }
 
-row_box-fits : (g : BoxSpacing) (bs : List Box) → AllFit g bs → LeavesFit g (row_box g bs)
-row_box-fits g [] ts = leaf-fits g []
-row_box-fits g (b ∷ bs) (t, ts) = record { fit = λ r w h. row-fits g b bs t ts r w h }
+joined-fits : (d : Direction) (g : BoxSpacing) (k : ℕ) (b c : Box) → 0 < k → LeavesFit g b → LeavesFit g c
+    → LeavesFit g (joined_box d g k b c)
+joined-fits d g k b c z t u = record {
+  fit = λ r w h.
+      let n = given_size d g b (place_along d r) (needed_by d g b c) k in
+      let s = shares d g k b c r z w h in
+      fits-append g (b.parts (first_part d n r)) _ (t.fit (first_part d n r) s.wide s.tall)
+      (border-fits d g _, u.fit (behind_border d g n r) s.rest_wide s.rest_tall);
+}
 
-column_box-fits : (g : BoxSpacing) (bs : List Box) → AllFit g bs → LeavesFit g (column_box g bs)
-column_box-fits g [] ts = leaf-fits g []
-column_box-fits g (b ∷ bs) (t, ts) = record { fit = λ r w h. column-fits g b bs t ts r w h }
+list_box-fits : (d : Direction) (g : BoxSpacing) (bs : List Box) → AllFit g bs → LeavesFit g (list_box d g bs)
+list_box-fits d g [] ts = leaf-fits g []
+list_box-fits d g (b ∷ []) (t, ts) = t
+list_box-fits d g (b ∷ (c ∷ bs)) (t, ts) =
+    joined-fits d g (length (c ∷ bs) + 1) b (list_box d g (c ∷ bs)) (omega arith) t (list_box-fits d g (c ∷ bs) ts)
 
 abbrev Holds : BoxSpacing → TableValue → Type 0
 Holds g t = LeavesFit g (box_of g t)
@@ -94,6 +58,6 @@ tree-fits g = ind-TableValue (Holds g) (λ x y is.
     (subst (LeavesFit g) (sym (fold-roll-TableValue Box (box_step g) (map-TableValue _ TableValue (λ e. e.0) y)))
     (elim y as (λ v. LeavesFit g (box_step g (map-TableValue _ Box (box_of g) (map-TableValue _ TableValue (λ e. e.0) v)))) [
       | Cell s ↦ leaf-fits g (string_bytes s)
-      | Row v ↦ row_box-fits g _ (all-map g v.items)
-      | Column v ↦ column_box-fits g _ (all-map g v.items)
+      | Row v ↦ list_box-fits Across g _ (all-map g v.items)
+      | Column v ↦ list_box-fits Down g _ (all-map g v.items)
     ])))

@@ -7,6 +7,7 @@ pub mod Characters
 pub mod CollectedValues
 pub mod Columns
 pub mod Contains
+pub mod Directions
 pub mod Drawable
 pub mod Drawers
 pub mod Fitting

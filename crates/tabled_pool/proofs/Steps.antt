@@ -1,59 +1,24 @@
--- Boxes side by side: the first one, then the others.
-use Rattle.std.proofs.Common.{◌≡◌, ℕ, ◌+◌, ◌-◌, ◌<◌, ◌≤◌, List, [], ◌∷◌, ◌++◌, length, max, map, drop, get_or, suc, append_assoc, refl, ap, sym, subst, ◌∙◌, arith, add-one}
+-- Boxes one after another: the first one, then the others.
+use Rattle.std.proofs.Common.{◌≡◌, ℕ, ◌+◌, ◌<◌, ◌≤◌, List, [], ◌∷◌, ◌++◌, length, max, map, drop, get_or, append_assoc, refl, ap}
+use Rattle.std.proofs.Common.{sym, subst, ◌∙◌, arith, add-one}
 use Rattle.std.proofs.lemmas.Grind.{common_steps}
 use Rattle.std.proofs.Math.Seq.{drop-cons}
 use Rattle.tabled_pool.specs.declared.tree.TableValue.{TableValue}
-use Rattle.tabled_pool.specs.Shown.{Fits}
-use Rattle.tabled_pool.proofs.Tiling.{share_within}
-use Rattle.tabled_pool.specs.Left.{boxes_left}
 use Rattle.tabled_pool.specs.declared.box_spacing.BoxSpacing.{BoxSpacing}
+use Rattle.tabled_pool.specs.declared.box_spacing.Direction.{Direction}
 use Rattle.tabled_pool.specs.declared.pieces.Rectangle.{Rectangle}
-use Rattle.tabled_pool.specs.declared.pieces.Kind.TheVariants.{Bar, Rule}
-use Rattle.tabled_pool.specs.Boxes.{Part, Box, part_of, share, left_part, right_part, top_part, bottom_part, row_box, column_box, box_of}
-
-abbrev pub behind_bar : BoxSpacing → ℕ → Rectangle → List Box → List Part
-behind_bar g n r bs =
-    let rest = right_part n r in
-    part_of Bar (left_part g.bar rest) [] ∷ (row_box g bs).parts (right_part g.bar rest)
-
-pub row_step : (g : BoxSpacing) (b : Box) (bs : List Box) (r : Rectangle) (n : ℕ) → 0 < length bs → n
-    ≡ b.width + share g.across (r.width - (row_box g (b ∷ bs)).width) (length bs + 1) → (row_box g (b ∷ bs)).parts r
-    ≡ b.parts (left_part n r) ++ behind_bar g n r bs
-row_step g b [] r n h e = absurd (omega arith)
-row_step g b (c ∷ bs) r n h e = rw e refl
-
-pub row_step_width : (g : BoxSpacing) (b : Box) (bs : List Box) → 0 < length bs → (row_box g (b ∷ bs)).width ≡ b.width + (g.bar + (row_box g bs).width)
-row_step_width g b [] h = absurd (omega arith)
-row_step_width g b (c ∷ bs) h = refl
-
-pub row_step_height : (g : BoxSpacing) (b : Box) (bs : List Box) → 0 < length bs → (row_box g (b ∷ bs)).height ≡ max b.height (row_box g bs).height
-row_step_height g b [] h = absurd (omega arith)
-row_step_height g b (c ∷ bs) h = refl
-
-abbrev pub below_rule : BoxSpacing → ℕ → Rectangle → List Box → List Part
-below_rule g n r bs =
-    let rest = bottom_part n r in
-    part_of Rule (top_part g.rule rest) [] ∷ (column_box g bs).parts (bottom_part g.rule rest)
-
-pub column_step : (g : BoxSpacing) (b : Box) (bs : List Box) (r : Rectangle) (n : ℕ) → 0 < length bs → n
-    ≡ b.height + share g.down (r.height - (column_box g (b ∷ bs)).height) (length bs + 1)
-    → (column_box g (b ∷ bs)).parts r ≡ b.parts (top_part n r) ++ below_rule g n r bs
-column_step g b [] r n h e = absurd (omega arith)
-column_step g b (c ∷ bs) r n h e = rw e refl
-
-pub column_step_height : (g : BoxSpacing) (b : Box) (bs : List Box) → 0 < length bs → (column_box g (b ∷ bs)).height
-    ≡ b.height + (g.rule + (column_box g bs).height)
-column_step_height g b [] h = absurd (omega arith)
-column_step_height g b (c ∷ bs) h = refl
-
-pub column_step_width : (g : BoxSpacing) (b : Box) (bs : List Box) → 0 < length bs → (column_box g (b ∷ bs)).width ≡ max b.width (column_box g bs).width
-column_step_width g b [] h = absurd (omega arith)
-column_step_width g b (c ∷ bs) h = refl
+use Rattle.tabled_pool.specs.Boxes.{Part, Box, part_of, first_part, box_along, box_across, place_along, border_kind}
+use Rattle.tabled_pool.specs.Boxes.{border_size, given_size, border_part, behind_border, needed_by, joined_box}
+use Rattle.tabled_pool.specs.Boxes.{joined_parts, list_box, box_of}
+use Rattle.tabled_pool.specs.Left.{boxes_left}
+use Rattle.tabled_pool.specs.Shown.{Fits}
+use Rattle.tabled_pool.proofs.Directions.{joined_along, joined_across, shares}
 
 pub left_count : (g : BoxSpacing) (front : List TableValue) (last : TableValue) → length (boxes_left g front last) ≡ length front + 1
 left_count g front last = grind (arith, common_steps)
 
-pub left_all : (g : BoxSpacing) (front : List TableValue) (last : TableValue) → boxes_left g front last ≡ map (box_of g) (front ++ (last ∷ []))
+pub left_all : (g : BoxSpacing) (front : List TableValue) (last : TableValue)
+    → boxes_left g front last ≡ map (box_of g) (front ++ (last ∷ []))
 left_all g [] last = refl
 left_all g (t ∷ ts) last = ap (λ bs. box_of g t ∷ bs) (left_all g ts last)
 
@@ -64,181 +29,76 @@ pub left_first : (g : BoxSpacing) (front : List TableValue) (last : TableValue) 
     → boxes_left g (drop i front) last ≡ box_of g (get_or front i d) ∷ boxes_left g (drop (i + 1) front) last
 left_first g front last i d h = ap (λ ts. boxes_left g ts last) (drop_first front i d h)
 
-add-one-of : (n : ℕ) → suc n ≡ n + 1
-add-one-of n = omega arith
+joined : (d : Direction) (g : BoxSpacing) (b : Box) (next : List Box) → 0 < length next
+    → list_box d g (b ∷ next) ≡ joined_box d g (length next + 1) b (list_box d g next)
+joined d g b [] h = absurd (omega arith)
+joined d g b (c ∷ bs) h = refl
 
--- what is known of the boxes that are left, the first of them t
-pub record RowFacts (g : BoxSpacing) (now next : List Box) (b : Box) : Type 0 where
-  pub along : (row_box g now).width ≡ b.width + (g.bar + (row_box g next).width)
-  pub most : (row_box g now).height ≡ max b.height (row_box g next).height
+-- what is known of the boxes that are left: the first of them, and the others
+pub record ListFacts (d : Direction) (g : BoxSpacing) (now next : List Box) (b : Box) : Type 0 where
+  pub box : list_box d g now ≡ joined_box d g (length now) b (list_box d g next)
+  pub along : box_along d (list_box d g now) ≡ box_along d b + (border_size d g + box_along d (list_box d g next))
+  pub most : box_across d (list_box d g now) ≡ max (box_across d b) (box_across d (list_box d g next))
   pub count : length now ≡ length next + 1
-  pub some : 0 < length next
-  pub parts : (r : Rectangle) → (row_box g now).parts r
-      ≡ b.parts (left_part (b.width + share g.across (r.width - (row_box g now).width) (length now)) r) ++ behind_bar
-      g (b.width + share g.across (r.width - (row_box g now).width) (length now)) r next
+  pub some : 0 < length now
 
-row_facts_at : (g : BoxSpacing) (now next : List Box) (b : Box) → now ≡ b ∷ next → 0 < length next → RowFacts g now next b
-row_facts_at g now next b e h =
-    let P : List Box → Type 0 = λ bs. RowFacts g bs next b in
-    subst P (sym e) (record {
-      along = row_step_width g b next h;
-      most = row_step_height g b next h;
-      count = omega arith;
-      some = h;
-      parts = λ r. row_step g b next r _ h (ap (λ n. b.width + share g.across (r.width - (row_box g (b ∷ next)).width) n) (add-one-of (length next)));
-    })
+facts-of : (d : Direction) (g : BoxSpacing) (now next : List Box) (b : Box) → now ≡ b ∷ next → 0 < length next → ListFacts d g now next b
+facts-of d g now next b e h =
+    let count : length now ≡ length next + 1 = ap length e ∙ omega arith in
+    let box : list_box d g now ≡ joined_box d g (length now) b (list_box d g next) =
+    ap (list_box d g) e ∙ joined d g b next h ∙ ap (λ k. joined_box d g k b (list_box d g next)) (sym count) in
+    record {
+      box = box;
+      along = ap (box_along d) box ∙ joined_along d g (length now) b (list_box d g next);
+      most = ap (box_across d) box ∙ joined_across d g (length now) b (list_box d g next);
+      count = count;
+      some = omega (arith, count);
+    }
 
-pub row_facts : (g : BoxSpacing) (front : List TableValue) (last : TableValue) (i : ℕ) (t : TableValue) → i < length front
-    → t ≡ get_or front i t → RowFacts g (boxes_left g (drop i front) last) (boxes_left g (drop (i + 1) front) last) (box_of g t)
-row_facts g front last i t h e =
-    row_facts_at g _ _ _ (left_first g front last i t h ∙ ap
+pub list_facts : (d : Direction) (g : BoxSpacing) (front : List TableValue) (last : TableValue) (i : ℕ) (t : TableValue) → i < length front
+    → t ≡ get_or front i t → ListFacts d g (boxes_left g (drop i front) last) (boxes_left g (drop (i + 1) front) last) (box_of g t)
+list_facts d g front last i t h e =
+    facts-of d g _ _ _ (left_first g front last i t h ∙ ap
     (λ u. box_of g u ∷ boxes_left g (drop (i + 1) front) last) (sym e)) (omega (arith, left_count g (drop (i + 1) front) last))
 
--- what is known of the boxes that are left, the first of them t
-pub record ColumnFacts (g : BoxSpacing) (now next : List Box) (b : Box) : Type 0 where
-  pub along : (column_box g now).height ≡ b.height + (g.rule + (column_box g next).height)
-  pub most : (column_box g now).width ≡ max b.width (column_box g next).width
-  pub count : length now ≡ length next + 1
-  pub some : 0 < length next
-  pub parts : (r : Rectangle) → (column_box g now).parts r
-      ≡ b.parts (top_part (b.height + share g.down (r.height - (column_box g now).height) (length now)) r) ++
-      below_rule g (b.height + share g.down (r.height - (column_box g now).height) (length now)) r next
+-- the size that the first of them is given
+size-of : (d : Direction) (g : BoxSpacing) (now next : List Box) (b : Box) (size l k : ℕ) → ListFacts d g now next b
+    → l ≡ box_along d (list_box d g now) → k ≡ length now
+    → given_size d g b size (needed_by d g b (list_box d g next)) (length now) ≡ given_size d g b size l k
+size-of d g now next b size l k f e1 e2 =
+    ap (λ m. given_size d g b size m (length now)) (sym (e1 ∙ f.along)) ∙ ap (given_size d g b size l) (sym e2)
 
-column_facts_at : (g : BoxSpacing) (now next : List Box) (b : Box) → now ≡ b ∷ next → 0 < length next → ColumnFacts g now next b
-column_facts_at g now next b e h =
-    let P : List Box → Type 0 = λ bs. ColumnFacts g bs next b in
-    subst P (sym e) (record {
-      along = column_step_height g b next h;
-      most = column_step_width g b next h;
-      count = omega arith;
-      some = h;
-      parts = λ r. column_step g b next r _ h (ap (λ n. b.height + share g.down
-          (r.height - (column_box g (b ∷ next)).height) n) (add-one-of (length next)));
+pub list_next : (d : Direction) (g : BoxSpacing) (now next : List Box) (b : Box) (r : Rectangle) (l k : ℕ) (rest : Rectangle)
+    → ListFacts d g now next b → Fits (list_box d g now) r → l ≡ box_along d (list_box d g now) → k ≡ length now
+    → rest ≡ behind_border d g (given_size d g b (place_along d r) l k) r → Fits (list_box d g next) rest
+list_next d g now next b r l k rest f fits el ek er =
+    let j : Fits (joined_box d g (length now) b (list_box d g next)) r = subst (λ c. Fits c r) f.box fits in
+    let s = shares d g (length now) b (list_box d g next) r f.some j.wide j.tall in
+    let e = er ∙ ap (λ n. behind_border d g n r) (sym (size-of d g now next b (place_along d r) l k f el ek)) in
+    subst (Fits (list_box d g next)) (sym e) (record {
+      wide = s.rest_wide;
+      tall = s.rest_tall;
+      right = omega (arith, s.right, fits.right);
+      low = omega (arith, s.low, fits.low);
     })
 
-pub column_facts : (g : BoxSpacing) (front : List TableValue) (last : TableValue) (i : ℕ) (t : TableValue)
-    → i < length front → t ≡ get_or front i t → ColumnFacts g (boxes_left g (drop i front) last) (boxes_left g (drop (i + 1) front) last) (box_of g t)
-column_facts g front last i t h e =
-    column_facts_at g _ _ _ (left_first g front last i t h ∙ ap
-    (λ u. box_of g u ∷ boxes_left g (drop (i + 1) front) last) (sym e)) (omega (arith, left_count g (drop (i + 1) front) last))
-
-row_n : (g : BoxSpacing) (now : List Box) (b : Box) (r : Rectangle) (o l k : ℕ) → o ≡ b.width → l ≡ (row_box g now).width
-    → k ≡ length now → o + share g.across (r.width - l) k ≡ b.width + share g.across (r.width - (row_box g now).width) (length now)
-row_n g now b r o l k e f h = cc
-
-row_share : (g : BoxSpacing) (now next : List Box) (b : Box) (r : Rectangle) → RowFacts g now next b
-    → (row_box g now).width ≤ r.width → b.width + share g.across (r.width - (row_box g now).width) (length now) +
-    (g.bar + (row_box g next).width) ≤ r.width
-row_share g now next b r f h =
-    let s = share_within g.across (r.width - (row_box g now).width) (length now) (omega (arith, f.count)) in
-    omega (arith, s, f.along)
-
-pub row_given : (g : BoxSpacing) (now next : List Box) (b : Box) (r : Rectangle) (o l k : ℕ) (given : Rectangle)
-    → RowFacts g now next b → Fits (row_box g now) r → o ≡ b.width → l ≡ (row_box g now).width → k ≡ length now
-    → given ≡ left_part (o + share g.across (r.width - l) k) r → Fits b given
-row_given g now next b r o l k given f fits eo el ek eg =
-    let s = row_share g now next b r f fits.wide in
-    let e = eg ∙ ap (λ n. left_part n r) (row_n g now b r o l k eo el ek) in
-    subst (Fits b) (sym e) (record {
-      wide = omega (arith, s, f.most, fits.wide);
-      tall = omega (arith, s, f.most, fits.tall);
-      right = omega (arith, s, fits.right);
-      low = omega (arith, s, fits.low);
-    })
-
-pub row_next : (g : BoxSpacing) (now next : List Box) (b : Box) (r : Rectangle) (o l k : ℕ) (rest : Rectangle)
-    → RowFacts g now next b → Fits (row_box g now) r → o ≡ b.width → l ≡ (row_box g now).width → k ≡ length now → rest
-    ≡ right_part g.bar (right_part (o + share g.across (r.width - l) k) r) → Fits (row_box g next) rest
-row_next g now next b r o l k rest f fits eo el ek er =
-    let s = row_share g now next b r f fits.wide in
-    let e = er ∙ ap (λ n. right_part g.bar (right_part n r)) (row_n g now b r o l k eo el ek) in
-    subst (Fits (row_box g next)) (sym e) (record {
-      wide = omega (arith, s, f.most, fits.wide);
-      tall = omega (arith, s, f.most, fits.tall);
-      right = omega (arith, s, fits.right);
-      low = omega (arith, s, fits.low);
-    })
-
-pub row_parts_next : (g : BoxSpacing) (now next : List Box) (b : Box) (r : Rectangle) (o l k : ℕ)
-    (given line rest : Rectangle) (before before' before'' whole : List Part) → RowFacts g now next b → o ≡ b.width
-    → l ≡ (row_box g now).width → k ≡ length now → given ≡ left_part (o + share g.across (r.width - l) k) r → line
-    ≡ left_part g.bar (right_part (o + share g.across (r.width - l) k) r) → rest
-    ≡ right_part g.bar (right_part (o + share g.across (r.width - l) k) r) → before ++ (row_box g now).parts r ≡ whole
-    → before' ≡ before ++ b.parts given → before'' ≡ before' ++ (part_of Bar line [] ∷ []) → before'' ++ (row_box g next).parts rest ≡ whole
-row_parts_next g now next b r o l k given line rest before before' before'' whole f eo el ek eg eb er h e1 e2 =
-    let n = o + share g.across (r.width - l) k in
-    let all : (row_box g now).parts r ≡ b.parts (left_part n r) ++ behind_bar g n r next = f.parts r ∙ ap
-    (λ m. b.parts (left_part m r) ++ behind_bar g m r next) (sym (row_n g now b r o l k eo el ek)) in
-    let here : b.parts given ≡ b.parts (left_part n r) = ap b.parts eg in
-    let there : (row_box g next).parts rest ≡ (row_box g next).parts (right_part g.bar (right_part n r)) = ap (row_box g next).parts er in
-    let bar : part_of Bar line [] ≡ part_of Bar (left_part g.bar (right_part n r)) [] = ap (λ z. part_of Bar z []) eb in
-    ap (λ u. u ++ (row_box g next).parts rest) (e2 ∙ ap (λ u. u ++ (part_of Bar line [] ∷ [])) e1)
-    ∙ append_assoc (before ++ b.parts given) (part_of Bar line [] ∷ []) ((row_box g next).parts rest)
-    ∙ append_assoc before (b.parts given) (part_of Bar line [] ∷ (row_box g next).parts rest)
-    ∙ ap (λ u. before ++ u) (ap (λ u. u ++ (part_of Bar line [] ∷ (row_box g next).parts rest)) here
-    ∙ ap (λ u. b.parts (left_part n r) ++ u) (ap (λ u. u ∷ (row_box g next).parts rest) bar ∙ ap
-    (λ u. part_of Bar (left_part g.bar (right_part n r)) [] ∷ u) there)
-    ∙ sym all)
-    ∙ h
-
-column_n : (g : BoxSpacing) (now : List Box) (b : Box) (r : Rectangle) (o l k : ℕ) → o ≡ b.height → l
-    ≡ (column_box g now).height → k ≡ length now → o + share g.down (r.height - l) k
-    ≡ b.height + share g.down (r.height - (column_box g now).height) (length now)
-column_n g now b r o l k e f h = cc
-
-column_share : (g : BoxSpacing) (now next : List Box) (b : Box) (r : Rectangle) → ColumnFacts g now next b
-    → (column_box g now).height ≤ r.height → b.height + share g.down (r.height - (column_box g now).height)
-    (length now) + (g.rule + (column_box g next).height) ≤ r.height
-column_share g now next b r f h =
-    let s = share_within g.down (r.height - (column_box g now).height) (length now) (omega (arith, f.count)) in
-    omega (arith, s, f.along)
-
-pub column_given : (g : BoxSpacing) (now next : List Box) (b : Box) (r : Rectangle) (o l k : ℕ) (given : Rectangle)
-    → ColumnFacts g now next b → Fits (column_box g now) r → o ≡ b.height → l ≡ (column_box g now).height → k
-    ≡ length now → given ≡ top_part (o + share g.down (r.height - l) k) r → Fits b given
-column_given g now next b r o l k given f fits eo el ek eg =
-    let s = column_share g now next b r f fits.tall in
-    let e = eg ∙ ap (λ n. top_part n r) (column_n g now b r o l k eo el ek) in
-    subst (Fits b) (sym e) (record {
-      wide = omega (arith, s, f.most, fits.wide);
-      tall = omega (arith, s, f.most, fits.tall);
-      right = omega (arith, s, fits.right);
-      low = omega (arith, s, fits.low);
-    })
-
-pub column_next : (g : BoxSpacing) (now next : List Box) (b : Box) (r : Rectangle) (o l k : ℕ) (rest : Rectangle)
-    → ColumnFacts g now next b → Fits (column_box g now) r → o ≡ b.height → l ≡ (column_box g now).height → k
-    ≡ length now → rest ≡ bottom_part g.rule (bottom_part (o + share g.down (r.height - l) k) r) → Fits (column_box g next) rest
-column_next g now next b r o l k rest f fits eo el ek er =
-    let s = column_share g now next b r f fits.tall in
-    let e = er ∙ ap (λ n. bottom_part g.rule (bottom_part n r)) (column_n g now b r o l k eo el ek) in
-    subst (Fits (column_box g next)) (sym e) (record {
-      wide = omega (arith, s, f.most, fits.wide);
-      tall = omega (arith, s, f.most, fits.tall);
-      right = omega (arith, s, fits.right);
-      low = omega (arith, s, fits.low);
-    })
-
-pub column_parts_next : (g : BoxSpacing) (now next : List Box) (b : Box) (r : Rectangle) (o l k : ℕ)
-    (given line rest : Rectangle) (before before' before'' whole : List Part) → ColumnFacts g now next b → o
-    ≡ b.height → l ≡ (column_box g now).height → k ≡ length now → given
-    ≡ top_part (o + share g.down (r.height - l) k) r → line
-    ≡ top_part g.rule (bottom_part (o + share g.down (r.height - l) k) r) → rest
-    ≡ bottom_part g.rule (bottom_part (o + share g.down (r.height - l) k) r) → before ++ (column_box g now).parts r
-    ≡ whole → before' ≡ before ++ b.parts given → before'' ≡ before' ++ (part_of Rule line [] ∷ [])
-    → before'' ++ (column_box g next).parts rest ≡ whole
-column_parts_next g now next b r o l k given line rest before before' before'' whole f eo el ek eg eb er h e1 e2 =
-    let n = o + share g.down (r.height - l) k in
-    let all : (column_box g now).parts r ≡ b.parts (top_part n r) ++ below_rule g n r next = f.parts r ∙ ap
-    (λ m. b.parts (top_part m r) ++ below_rule g m r next) (sym (column_n g now b r o l k eo el ek)) in
-    let here : b.parts given ≡ b.parts (top_part n r) = ap b.parts eg in
-    let there : (column_box g next).parts rest ≡ (column_box g next).parts (bottom_part g.rule (bottom_part n r)) = ap (column_box g next).parts er in
-    let bar : part_of Rule line [] ≡ part_of Rule (top_part g.rule (bottom_part n r)) [] = ap (λ z. part_of Rule z []) eb in
-    ap (λ u. u ++ (column_box g next).parts rest) (e2 ∙ ap (λ u. u ++ (part_of Rule line [] ∷ [])) e1)
-    ∙ append_assoc (before ++ b.parts given) (part_of Rule line [] ∷ []) ((column_box g next).parts rest)
-    ∙ append_assoc before (b.parts given) (part_of Rule line [] ∷ (column_box g next).parts rest)
-    ∙ ap (λ u. before ++ u) (ap (λ u. u ++ (part_of Rule line [] ∷ (column_box g next).parts rest)) here
-    ∙ ap (λ u. b.parts (top_part n r) ++ u) (ap (λ u. u ∷ (column_box g next).parts rest) bar ∙ ap
-    (λ u. part_of Rule (top_part g.rule (bottom_part n r)) [] ∷ u) there)
-    ∙ sym all)
-    ∙ h
+pub list_parts_next : (d : Direction) (g : BoxSpacing) (now next : List Box) (b : Box) (r : Rectangle) (l k : ℕ)
+    (given line rest : Rectangle) (before before' before'' whole : List Part) → ListFacts d g now next b
+    → l ≡ box_along d (list_box d g now) → k ≡ length now
+    → (let n = given_size d g b (place_along d r) l k in
+    given ≡ first_part d n r → part_of (border_kind d) line [] ≡ border_part d g n r → rest ≡ behind_border d g n r
+    → before ++ (list_box d g now).parts r ≡ whole → before' ≡ before ++ b.parts given
+    → before'' ≡ before' ++ (part_of (border_kind d) line [] ∷ []) → before'' ++ (list_box d g next).parts rest ≡ whole)
+list_parts_next d g now next b r l k given line rest before before' before'' whole f el ek eg eb er h e1 e2 =
+    let c = list_box d g next in
+    let n = given_size d g b (place_along d r) l k in
+    let all : (list_box d g now).parts r ≡ joined_parts d g b c n r =
+    ap (λ (x : Box). x.parts r) f.box
+    ∙ ap (λ m. joined_parts d g b c m r) (size-of d g now next b (place_along d r) l k f el ek) in
+    let put : before'' ++ c.parts rest ≡ (before ++ b.parts (first_part d n r)) ++ (border_part d g n r ∷ c.parts (behind_border d g n r)) =
+    ap (λ u. u ++ c.parts rest) (e2 ∙ ap (λ u. u ++ (part_of (border_kind d) line [] ∷ [])) e1)
+    ∙ append_assoc (before ++ b.parts given) (part_of (border_kind d) line [] ∷ []) (c.parts rest)
+    ∙ ap (λ z. (before ++ b.parts z) ++ (part_of (border_kind d) line [] ∷ c.parts rest)) eg
+    ∙ ap (λ z. (before ++ b.parts (first_part d n r)) ++ (z ∷ c.parts rest)) eb
+    ∙ ap (λ z. (before ++ b.parts (first_part d n r)) ++ (border_part d g n r ∷ c.parts z)) er in
+    put ∙ append_assoc before (b.parts (first_part d n r)) _ ∙ ap (λ u. before ++ u) (sym all) ∙ h

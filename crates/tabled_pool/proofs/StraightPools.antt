@@ -28,20 +28,8 @@ use Rattle.tabled_pool.specs.Characters.{EachFill}
 use Rattle.tabled_pool.specs.Drawn.{drawn, drawn_line}
 use Rattle.tabled_pool.specs.Plain.{IsAdditivePool, IsPlainPool}
 use Rattle.tabled_pool.specs.PlainTree.{PlainTree}
-use Rattle.tabled_pool.specs.Pool.{
-  borders_of,
-  frame_of,
-  frame_place,
-  framed_width,
-  spacing_of,
-  has_margin,
-  margin_marks,
-  margin_of,
-  plan,
-  pool_lines,
-  total_width,
-  HasColumns,
-}
+use Rattle.tabled_pool.specs.Pool.{borders_of, frame_of, frame_place, framed_width, spacing_of, has_margin}
+use Rattle.tabled_pool.specs.Pool.{margin_marks, margin_of, plan, pool_lines, total_width, HasColumns}
 use Rattle.tabled_pool.specs.Tiled.{Tiled}
 use Rattle.tabled_pool.proofs.ApartBlocks.{frame-fill, frame-run}
 use Rattle.tabled_pool.proofs.Aparts.{bar_drawable, left_drawable, right_drawable, ApartTree}
@@ -96,7 +84,8 @@ record AreDrawn (t : DrawingPlan) : Type 0 where
   takes : EachLineTakes t.width (drawn t)
   lines : (y : ℕ) → y < t.height → IsLine (drawn_line t y) t.width
 
-drawn-by : {Out : ℕ → ℕ → List ℕ → ℕ → Type 0} (t : DrawingPlan) → IsDrawable t Out → ((y x : ℕ) (out : List ℕ) (n : ℕ) → Out y x out n → IsLine out n)
+drawn-by : {Out : ℕ → ℕ → List ℕ → ℕ → Type 0} (t : DrawingPlan) → IsDrawable t Out → ((y x : ℕ) (out : List ℕ) (n : ℕ)
+    → Out y x out n → IsLine out n)
     → AreDrawn t
 drawn-by t d line = record {
   tiled = drawn_tiles t d;
@@ -115,7 +104,8 @@ bar_drawn t h l =
     (omega arith) (omega arith) x y p o k s))
     (λ y x out n l. l.line)
 
-padded_drawn : (t : PoolTable) → IsApartPool t → (0 < (plan t).style.padding.left.size) ⊎ (0 < (plan t).style.padding.right.size) → AreDrawn (plan t)
+padded_drawn : (t : PoolTable) → IsApartPool t
+    → (0 < (plan t).style.padding.left.size) ⊎ (0 < (plan t).style.padding.right.size) → AreDrawn (plan t)
 padded_drawn t h (inl z) = drawn-by (plan t) (left_drawable (spacing_of t) (plan t) (apart_plan t h) z) (λ y x out n l. l)
 padded_drawn t h (inr z) = drawn-by (plan t) (right_drawable (spacing_of t) (plan t) (apart_plan t h) z) (λ y x out n l. l.line)
 
@@ -178,16 +168,19 @@ plain-columns : (t : PoolTable) (m : Sides Indent) → IsAdditivePool t → Each
 plain-columns t m h p =
     let w = framed_width t in
     margin-takes m w _ (drawn (plan t))
-    (plain-within m w _ p (plain-run (plain-fill m.top.fill w p.top))) (plain-within m w _ p (plain-run (plain-fill m.bottom.fill w p.bottom)))
+    (plain-within m w _ p (plain-run (plain-fill m.top.fill w p.top))) (plain-within m w _ p (plain-run
+    (plain-fill m.bottom.fill w p.bottom)))
     (drawn-each (plan t) (λ x. line_columns (within_margin m bare x) ≡ m.left.size + framed_width t + m.right.size)
-    (λ y v. plain-within m w _ p (subst (IsAdditiveLine (drawn_line (plan t) y)) (plan-width t) (line-measured (plan t) (plain-drawable t h) y v))))
+    (λ y v. plain-within m w _ p (subst (IsAdditiveLine (drawn_line (plan t) y)) (plan-width t) (line-measured (plan t)
+    (plain-drawable t h) y v))))
 
 -- ---- margins of separators
 
 apart-within : (m : Sides Indent) (w : ℕ) (line : List ℕ) → EachFill IsSeparatorColumn m → IsLine line w
     → line_columns (within_margin m bare line) ≡ m.left.size + w + m.right.size
 apart-within m w line p l =
-    let framed = line-framed (frame-run (frame-fill m.left.fill m.left.size p.left)) l (frame-run (frame-fill m.right.fill m.right.size p.right)) in
+    let framed = line-framed (frame-run (frame-fill m.left.fill m.left.size p.left)) l (frame-run
+    (frame-fill m.right.fill m.right.size p.right)) in
     omega (arith, framed.columns)
 
 apart-columns : (t : PoolTable) (m : Sides Indent) → IsApartPool t → EachFill IsSeparatorColumn m
@@ -203,7 +196,8 @@ apart-columns t m h p =
 -- ---- the columns of the whole
 
 marked : (t : PoolTable) → HasColumns t → marks_of t.config.config.margin_color ≡ each_side no_mark
-    → EachLineTakes (total_width t) (with_margin (margin_of t) bare (framed_width t) (drawn (plan t))) → EachLineTakes (total_width t) (pool_lines t)
+    → EachLineTakes (total_width t) (with_margin (margin_of t) bare (framed_width t) (drawn (plan t)))
+    → EachLineTakes (total_width t) (pool_lines t)
 marked t c e h =
     subst (EachLineTakes (total_width t)) (sym (lined t c))
     (subst (λ ms. EachLineTakes (total_width t) (with_margin (margin_of t) ms (framed_width t) (drawn (plan t)))) (sym (bare-margin t e)) h)

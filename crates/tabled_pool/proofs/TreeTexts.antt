@@ -13,23 +13,9 @@ use Rattle.tabled_pool.specs.declared.tree.TableValue.{TableValue}
 use Rattle.tabled_pool.specs.declared.tree.TableValue.TheOpen.{TableValue-F, Row, Column, Cell}
 use Rattle.tabled_pool.specs.declared.tree.TableValue.TheFolds.{fold-roll-TableValue, ind-TableValue, map-TableValue}
 use Rattle.tabled_pool.specs.declared.tree.TableValue.TheViews.{roll-TableValue}
-use Rattle.tabled_pool.specs.Boxes.{
-  Part,
-  Box,
-  left_part,
-  right_part,
-  top_part,
-  bottom_part,
-  first_width,
-  row_parts,
-  first_height,
-  column_parts,
-  leaf_box,
-  row_box,
-  column_box,
-  box_step,
-  box_of,
-}
+use Rattle.tabled_pool.specs.declared.box_spacing.Direction.{Direction}
+use Rattle.tabled_pool.specs.declared.box_spacing.Direction.TheVariants.{Across, Down}
+use Rattle.tabled_pool.specs.Boxes.{Part, Box, leaf_box, list_box, box_step, box_of}
 use Rattle.tabled_pool.specs.Tiling.{framed, within}
 use Rattle.tabled_pool.specs.Tree.{Tree, Trees, leaf, across, down, none, one_more, tree_of, tree_step, trees}
 use Rattle.tabled_pool.specs.Owner.{owner}
@@ -53,35 +39,22 @@ abbrev AllTexts : (List ℕ → Type 0) → List Box → Type 0
 AllTexts P [] = Unit {0}
 AllTexts P (b ∷ bs) = HasTexts P b × AllTexts P bs
 
-row-texts : (P : List ℕ → Type 0) → P [] → (g : BoxSpacing) (b : Box) (bs : List Box) → HasTexts P b → AllTexts P bs → (r : Rectangle)
-    → EachPart P (row_parts g b bs r)
-row-texts P e g b [] t ts r = t.texts r
-row-texts P e g b (c ∷ bs) t (u, ts) r =
-    let n = first_width g b (c ∷ bs) r.width in
-    part-append P (b.parts (left_part n r)) _ (t.texts (left_part n r)) (e, row-texts P e g c bs u ts (right_part g.bar (right_part n r)))
-
-column-texts : (P : List ℕ → Type 0) → P [] → (g : BoxSpacing) (b : Box) (bs : List Box) → HasTexts P b → AllTexts P bs → (r : Rectangle)
-    → EachPart P (column_parts g b bs r)
-column-texts P e g b [] t ts r = t.texts r
-column-texts P e g b (c ∷ bs) t (u, ts) r =
-    let n = first_height g b (c ∷ bs) r.height in
-    part-append P (b.parts (top_part n r)) _ (t.texts (top_part n r)) (e, column-texts P e g c bs u ts (bottom_part g.rule (bottom_part n r)))
-
 leaf-texts : (P : List ℕ → Type 0) (g : BoxSpacing) (text : List ℕ) → P text → HasTexts P (leaf_box g text)
 leaf-texts P g text u = record { texts = λ r. (u, tt) }
 
-row_box-texts : (P : List ℕ → Type 0) → P [] → (g : BoxSpacing) (bs : List Box) → AllTexts P bs → HasTexts P (row_box g bs)
-row_box-texts P e g [] ts = leaf-texts P g [] e
-row_box-texts P e g (b ∷ bs) (t, ts) = record { texts = row-texts P e g b bs t ts }
-
-column_box-texts : (P : List ℕ → Type 0) → P [] → (g : BoxSpacing) (bs : List Box) → AllTexts P bs → HasTexts P (column_box g bs)
-column_box-texts P e g [] ts = leaf-texts P g [] e
-column_box-texts P e g (b ∷ bs) (t, ts) = record { texts = column-texts P e g b bs t ts }
+list_box-texts : (P : List ℕ → Type 0) → P [] → (d : Direction) (g : BoxSpacing) (bs : List Box) → AllTexts P bs
+    → HasTexts P (list_box d g bs)
+list_box-texts P e d g [] ts = leaf-texts P g [] e
+list_box-texts P e d g (b ∷ []) (t, ts) = t
+list_box-texts P e d g (b ∷ (c ∷ bs)) (t, ts) =
+    let u = list_box-texts P e d g (c ∷ bs) ts in
+    record { texts = λ r. part-append P (b.parts _) _ (t.texts _) (e, u.texts _) }
 
 abbrev Holds : (List ℕ → Type 0) → BoxSpacing → TableValue → Type 0
 Holds P g t = EachText P (tree_of t) → HasTexts P (box_of g t)
 
-all-texts : (P : List ℕ → Type 0) (g : BoxSpacing) (es : List ((t : TableValue) × Holds P g t)) → EachTextIn P (trees (map tree_of (map (λ e. e.0) es)))
+all-texts : (P : List ℕ → Type 0) (g : BoxSpacing) (es : List ((t : TableValue) × Holds P g t))
+    → EachTextIn P (trees (map tree_of (map (λ e. e.0) es)))
     → AllTexts P (map (box_of g) (map (λ e. e.0) es))
 all-texts P g [] h = tt
 all-texts P g (e ∷ es) h = (e.1 h.0, all-texts P g es h.1)
@@ -90,8 +63,8 @@ step-texts : (P : List ℕ → Type 0) → P [] → (g : BoxSpacing) (y : TableV
     → EachText P (tree_step (map-TableValue _ Tree tree_of (map-TableValue _ TableValue (λ e. e.0) y)))
     → HasTexts P (box_step g (map-TableValue _ Box (box_of g) (map-TableValue _ TableValue (λ e. e.0) y)))
 step-texts P e g (Cell s) h = leaf-texts P g (string_bytes s) h
-step-texts P e g (Row v) h = row_box-texts P e g _ (all-texts P g v.items h)
-step-texts P e g (Column v) h = column_box-texts P e g _ (all-texts P g v.items h)
+step-texts P e g (Row v) h = list_box-texts P e Across g _ (all-texts P g v.items h)
+step-texts P e g (Column v) h = list_box-texts P e Down g _ (all-texts P g v.items h)
 
 tree-texts : (P : List ℕ → Type 0) → P [] → (g : BoxSpacing) (t : TableValue) → EachText P (tree_of t) → HasTexts P (box_of g t)
 tree-texts P e g = ind-TableValue (Holds P g) (λ x y is.

@@ -1,31 +1,12 @@
 -- Boxes: the size that each needs, and the parts that fill a rectangle.
-use Rattle.std.specs.Prelude.{
-  ◌≡◌,
-  ℕ,
-  ◌+◌,
-  ◌-◌,
-  ◌/◌,
-  ◌^◌,
-  ◌≤◌,
-  ◌⊎◌,
-  if◌then◌else◌,
-  max,
-  List,
-  [],
-  ◌∷◌,
-  ◌++◌,
-  length,
-  Option,
-  Some,
-  None,
-  string_bytes,
-  ◌%◌,
-  ◌==◌,
-}
+use Rattle.std.specs.Prelude.{◌≡◌, ℕ, ◌+◌, ◌-◌, ◌/◌, ◌^◌, ◌≤◌, ◌⊎◌, if◌then◌else◌, max, List, [], ◌∷◌, ◌++◌, length}
+use Rattle.std.specs.Prelude.{Option, Some, None, string_bytes, ◌%◌, ◌==◌}
 use Rattle.tabled_text.specs.Measure.{lines_of, text_columns}
 use Rattle.tabled_size.specs.declared.pool_table_dimension.DimensionPriority.{DimensionPriority}
 use Rattle.tabled_size.specs.declared.pool_table_dimension.DimensionPriority.TheVariants.{First, Last, List as Each}
 use Rattle.tabled_pool.specs.declared.box_spacing.BoxSpacing.{BoxSpacing}
+use Rattle.tabled_pool.specs.declared.box_spacing.Direction.{Direction}
+use Rattle.tabled_pool.specs.declared.box_spacing.Direction.TheVariants.{Across, Down}
 use Rattle.tabled_pool.specs.declared.box_spacing.Size.{Size}
 use Rattle.tabled_pool.specs.declared.pieces.Rectangle.{Rectangle}
 use Rattle.tabled_pool.specs.declared.pieces.Kind.{Kind}
@@ -67,44 +48,73 @@ top_part n r = record r { height = n }
 abbrev pub bottom_part : ℕ → Rectangle → Rectangle
 bottom_part n r = record r { y = r.y + n; height = r.height - n }
 
--- boxes side by side
-abbrev pub row_width : BoxSpacing → Box → List Box → ℕ
-row_width g b [] = b.width
-row_width g b (c ∷ bs) = b.width + (g.bar + row_width g c bs)
+-- ---- by direction: side by side or below each other
 
-abbrev pub row_height : Box → List Box → ℕ
-row_height b [] = b.height
-row_height b (c ∷ bs) = max b.height (row_height c bs)
+abbrev pub pick : {A : Type 0} → Direction → A → A → A
+pick Across a b = a
+pick Down a b = b
 
--- the width of the first box with its share of a surplus; the last box gets what is left
-abbrev pub first_width : BoxSpacing → Box → List Box → ℕ → ℕ
-first_width g b bs width = b.width + share g.across (width - row_width g b bs) (length bs + 1)
+abbrev pub first_part : Direction → ℕ → Rectangle → Rectangle
+first_part Across n r = left_part n r
+first_part Down n r = top_part n r
 
-abbrev pub row_parts : BoxSpacing → Box → List Box → Rectangle → List Part
-row_parts g b [] r = b.parts r
-row_parts g b (c ∷ bs) r =
-    let n = first_width g b (c ∷ bs) r.width in
-    let rest = right_part n r in
-    b.parts (left_part n r) ++ (part_of Bar (left_part g.bar rest) [] ∷ row_parts g c bs (right_part g.bar rest))
+abbrev pub rest_part : Direction → ℕ → Rectangle → Rectangle
+rest_part Across n r = right_part n r
+rest_part Down n r = bottom_part n r
 
--- boxes below each other
-abbrev pub column_width : Box → List Box → ℕ
-column_width b [] = b.width
-column_width b (c ∷ bs) = max b.width (column_width c bs)
+-- sizes in a direction, and in the other one
+abbrev pub box_along : Direction → Box → ℕ
+box_along d b = pick d b.width b.height
 
-abbrev pub column_height : BoxSpacing → Box → List Box → ℕ
-column_height g b [] = b.height
-column_height g b (c ∷ bs) = b.height + (g.rule + column_height g c bs)
+abbrev pub box_across : Direction → Box → ℕ
+box_across d b = pick d b.height b.width
 
-abbrev pub first_height : BoxSpacing → Box → List Box → ℕ → ℕ
-first_height g b bs height = b.height + share g.down (height - column_height g b bs) (length bs + 1)
+abbrev pub place_along : Direction → Rectangle → ℕ
+place_along d r = pick d r.width r.height
 
-abbrev pub column_parts : BoxSpacing → Box → List Box → Rectangle → List Part
-column_parts g b [] r = b.parts r
-column_parts g b (c ∷ bs) r =
-    let n = first_height g b (c ∷ bs) r.height in
-    let rest = bottom_part n r in
-    b.parts (top_part n r) ++ (part_of Rule (top_part g.rule rest) [] ∷ column_parts g c bs (bottom_part g.rule rest))
+abbrev pub place_across : Direction → Rectangle → ℕ
+place_across d r = pick d r.height r.width
+
+-- the thickness of a border between boxes, and what it is
+abbrev pub border_size : Direction → BoxSpacing → ℕ
+border_size d g = pick d g.bar g.rule
+
+abbrev pub border_kind : Direction → Kind
+border_kind d = pick d Bar Rule
+
+abbrev pub priority_of : Direction → BoxSpacing → DimensionPriority
+priority_of d g = pick d g.across g.down
+
+-- ---- boxes one after another
+
+-- the size that the first of `count` boxes is given, of `size` columns or lines where all need
+-- `needed`: its own and its share of the surplus; the last box gets what is left
+abbrev pub given_size : Direction → BoxSpacing → Box → ℕ → ℕ → ℕ → ℕ
+given_size d g b size needed count = box_along d b + share (priority_of d g) (size - needed) count
+
+-- the border after the first n columns or lines, and the rectangle behind it
+abbrev pub border_part : Direction → BoxSpacing → ℕ → Rectangle → Part
+border_part d g n r = part_of (border_kind d) (first_part d (border_size d g) (rest_part d n r)) []
+
+abbrev pub behind_border : Direction → BoxSpacing → ℕ → Rectangle → Rectangle
+behind_border d g n r = rest_part d (border_size d g) (rest_part d n r)
+
+-- the first of `count` boxes, and the box of the others
+abbrev pub needed_by : Direction → BoxSpacing → Box → Box → ℕ
+needed_by d g b c = box_along d b + (border_size d g + box_along d c)
+
+abbrev pub joined_parts : Direction → BoxSpacing → Box → Box → ℕ → Rectangle → List Part
+joined_parts d g b c n r = b.parts (first_part d n r) ++ (border_part d g n r ∷ c.parts (behind_border d g n r))
+
+abbrev pub joined_box : Direction → BoxSpacing → ℕ → Box → Box → Box
+joined_box d g count b c =
+    let along = needed_by d g b c in
+    let across = max (box_across d b) (box_across d c) in
+    record {
+      width = pick d along across;
+      height = pick d across along;
+      parts = λ r. joined_parts d g b c (given_size d g b (place_along d r) along count) r;
+    }
 
 abbrev pub leaf_box : BoxSpacing → List ℕ → Box
 leaf_box g text = record {
@@ -113,22 +123,23 @@ leaf_box g text = record {
   parts = λ r. part_of Leaf r text ∷ [];
 }
 
-abbrev pub row_box : BoxSpacing → List Box → Box
-row_box g [] = leaf_box g []
-row_box g (b ∷ bs) = record { width = row_width g b bs; height = row_height b bs; parts = row_parts g b bs }
-
-abbrev pub column_box : BoxSpacing → List Box → Box
-column_box g [] = leaf_box g []
-column_box g (b ∷ bs) = record { width = column_width b bs; height = column_height g b bs; parts = column_parts g b bs }
+abbrev pub list_box : Direction → BoxSpacing → List Box → Box
+list_box d g [] = leaf_box g []
+list_box d g (b ∷ []) = b
+list_box d g (b ∷ (c ∷ bs)) = joined_box d g (length (c ∷ bs) + 1) b (list_box d g (c ∷ bs))
 
 -- the box of a node, from the boxes of its children
 abbrev pub box_step : BoxSpacing → TableValue-F Box → Box
 box_step g (Cell s) = leaf_box g (string_bytes s)
-box_step g (Row v) = row_box g v.items
-box_step g (Column v) = column_box g v.items
+box_step g (Row v) = list_box Across g v.items
+box_step g (Column v) = list_box Down g v.items
 
 abbrev pub box_of : BoxSpacing → TableValue → Box
 box_of g = fold-TableValue Box (box_step g)
+
+-- the size that a tree is given as the first of `count` boxes in a rectangle
+abbrev pub given_in : Direction → BoxSpacing → TableValue → ℕ → ℕ → Rectangle → ℕ
+given_in d g v needed count r = given_size d g (box_of g v) (place_along d r) needed count
 
 abbrev pub IsSize : Option Size → Box → Type 0
 IsSize None b = (2 ^ 64 ≤ b.width) ⊎ (2 ^ 64 ≤ b.height)

@@ -2,7 +2,8 @@
 -- at the edges of the table also those below it and to its right, and drawn boxes are joined. Boxes
 -- pass on where borders meet: their widths to the boxes below, their heights to the boxes at the
 -- right.
-use Rattle.std.specs.Prelude.{ℕ, ◌+◌, ◌-◌, ltb, ◌==◌, if◌then◌else◌, Bool, true, false, not, ◌&&◌, ◌||◌, List, [], ◌∷◌, ◌++◌, map, Option, Some, None, is_some, unwrap_or, encode_utf8, string_bytes}
+use Rattle.std.specs.Prelude.{ℕ, ◌+◌, ◌-◌, ltb, ◌==◌, if◌then◌else◌, Bool, true, false, not, ◌&&◌, ◌||◌, List, [], ◌∷◌, ◌++◌}
+use Rattle.std.specs.Prelude.{length, map, Option, Some, None, is_some, unwrap_or, encode_utf8, string_bytes}
 use Rattle.std.specs.List.{flat_map, range_with_len}
 use Rattle.tabled_priority.specs.Sums.{one_if}
 use Rattle.tabled_config.specs.declared.borders.Borders.{Borders}
@@ -12,7 +13,10 @@ use Rattle.tabled_pool.specs.declared.pieces.Rectangle.{Rectangle}
 use Rattle.tabled_pool.specs.declared.tree.TableValue.{TableValue}
 use Rattle.tabled_pool.specs.declared.tree.TableValue.TheOpen.{TableValue-F, Row, Column, Cell}
 use Rattle.tabled_pool.specs.declared.tree.TableValue.TheFolds.{fold-TableValue}
-use Rattle.tabled_pool.specs.Boxes.{Box, box_of, Part, part_of, leaf_box, row_box, column_box, first_width, first_height, left_part, right_part, top_part, bottom_part}
+use Rattle.tabled_pool.specs.declared.box_spacing.Direction.{Direction}
+use Rattle.tabled_pool.specs.declared.box_spacing.Direction.TheVariants.{Across, Down}
+use Rattle.tabled_pool.specs.Boxes.{Box, box_of, Part, part_of, leaf_box, list_box, given_size, behind_border, box_along}
+use Rattle.tabled_pool.specs.Boxes.{first_part, pick, place_along}
 use Rattle.tabled_pool.specs.declared.flags.Flags.{Flags}
 use Rattle.tabled_pool.specs.Marks.{Around, alone, begun, ended, used_after, within_marks}
 use Rattle.tabled_pool.specs.Colours.{Mark}
@@ -155,11 +159,12 @@ pub record PassedOn : Type 0 where
   pub above : List ℕ
   pub before : List ℕ
 
--- the boxes of a row or a column, with the sizes that they pass on together
+-- the boxes of a row or a column: the sizes that they pass on together, and those that the last
+-- one passes on in the other direction
 pub record Children : Type 0 where
   pub blocks : List BlockSheet
-  pub above : List ℕ
-  pub before : List ℕ
+  pub sizes : List ℕ
+  pub passed : List ℕ
 
 pub record Drawer : Type 0 where
   pub box : Box
@@ -176,81 +181,81 @@ text_drawer t g text = record { box = leaf_box g text; draw = text_passes t text
 
 -- the flags of the first of several boxes, and of those after it; `last` if no other follows, `met`
 -- if an inherited border ends at their corner
-abbrev pub first_in_row : Flags → Bool → Flags
-first_in_row f last = record f { last_column = f.last_column && last; leans = not f.first_column }
+abbrev pub first_flags : Direction → Flags → Bool → Flags
+first_flags Across f last = record f { last_column = f.last_column && last; leans = not f.first_column }
+first_flags Down f last = record f { last_row = f.last_row && last }
 
-abbrev pub later_in_row : Flags → Bool → Flags
-later_in_row f met = record f { first_column = false; side = false; cross = met }
+abbrev pub later_flags : Direction → Flags → Bool → Flags
+later_flags Across f met = record f { first_column = false; side = false; cross = met }
+later_flags Down f met = record f { first_row = false; leans = false; side = true; cross = met }
 
-abbrev pub first_in_column : Flags → Bool → Flags
-first_in_column f last = record f { last_row = f.last_row && last }
+-- the first n of the sizes that boxes inherit in their direction, and the others
+abbrev pub taken_along : Direction → ℕ → InheritedSheet → Taken
+taken_along d n h = taken n (pick d h.above h.before)
 
-abbrev pub later_in_column : Flags → Bool → Flags
-later_in_column f met = record f { first_row = false; leans = false; side = true; cross = met }
+-- what boxes inherit: the first, those after it together, and the last
+abbrev pub to_first : Direction → ℕ → InheritedSheet → InheritedSheet
+to_first d n h =
+    let part = (taken_along d n h).part in
+    record {
+      place = first_part d n h.place;
+      flags = first_flags d h.flags false;
+      above = pick d part h.above;
+      before = pick d h.before part;
+    }
 
--- what boxes side by side inherit: the first, those after it together, and the last
-abbrev pub to_first_in_row : ℕ → Taken → InheritedSheet → InheritedSheet
-to_first_in_row n t h =
-    record { place = left_part n h.place; flags = first_in_row h.flags false; above = t.part; before = h.before }
+abbrev pub to_later : Direction → BoxSpacing → ℕ → InheritedSheet → List ℕ → InheritedSheet
+to_later d g n h passed =
+    let t = taken_along d n h in
+    record {
+      place = behind_border d g n h.place;
+      flags = later_flags d h.flags t.met;
+      above = pick d t.rest passed;
+      before = pick d passed t.rest;
+    }
 
-abbrev pub to_later_in_row : BoxSpacing → ℕ → Taken → InheritedSheet → List ℕ → InheritedSheet
-to_later_in_row g n t h before =
-    record { place = right_part g.bar (right_part n h.place); flags = later_in_row h.flags t.met; above = t.rest; before = before }
+abbrev pub to_last : Direction → InheritedSheet → InheritedSheet
+to_last d h =
+    let part = (taken_along d (place_along d h.place) h).part in
+    record h { flags = first_flags d h.flags true; above = pick d part h.above; before = pick d h.before part }
 
-abbrev pub to_last_in_row : InheritedSheet → InheritedSheet
-to_last_in_row h = record h { flags = first_in_row h.flags true; above = (taken h.place.width h.above).part }
+-- sizes in the other direction take the place of inherited ones
+abbrev pub with_passed : Direction → InheritedSheet → List ℕ → InheritedSheet
+with_passed d h passed = record h { above = pick d h.above passed; before = pick d passed h.before }
 
--- the boxes of a row: each takes its part of the widths above, and inherits the heights that the
--- box before it passes on
-abbrev pub row_children : BoxSpacing → Drawer → List Drawer → InheritedSheet → Children
-row_children g d [] h =
-    let l = d.draw (to_last_in_row h) in record { blocks = l.block ∷ []; above = l.above; before = l.before }
-row_children g d (e ∷ ds) h =
-    let n = first_width g d.box (boxes (e ∷ ds)) h.place.width in
-    let t = taken n h.above in
-    let l = d.draw (to_first_in_row n t h) in
-    let ls = row_children g e ds (to_later_in_row g n t h l.before) in
-    record { blocks = l.block ∷ ls.blocks; above = l.above ++ ls.above; before = ls.before }
+-- the sizes that a box passes on in a direction, and in the other one
+abbrev pub passes_along : Direction → PassedOn → List ℕ
+passes_along d l = pick d l.above l.before
 
--- what boxes below each other inherit: the first, those after it together, and the last
-abbrev pub to_first_in_column : ℕ → Taken → InheritedSheet → InheritedSheet
-to_first_in_column n t h =
-    record { place = top_part n h.place; flags = first_in_column h.flags false; above = h.above; before = t.part }
+abbrev pub passes_across : Direction → PassedOn → List ℕ
+passes_across d l = pick d l.before l.above
 
-abbrev pub to_later_in_column : BoxSpacing → ℕ → Taken → InheritedSheet → List ℕ → InheritedSheet
-to_later_in_column g n t h above =
-    record { place = bottom_part g.rule (bottom_part n h.place); flags = later_in_column h.flags t.met; above = above; before = t.rest }
+-- each box takes its part of the sizes that all inherit in their direction, and inherits those in
+-- the other one that the box before it passes on
+abbrev pub list_children : Direction → BoxSpacing → Drawer → List Drawer → InheritedSheet → Children
+list_children d g e [] h =
+    let l = e.draw (to_last d h) in record { blocks = l.block ∷ []; sizes = passes_along d l; passed = passes_across d l }
+list_children d g e (f ∷ es) h =
+    let n = given_size d g e.box (place_along d h.place) (box_along d (list_box d g (boxes (e ∷ (f ∷ es))))) (length (f ∷ es) + 1) in
+    let l = e.draw (to_first d n h) in
+    let ls = list_children d g f es (to_later d g n h (passes_across d l)) in
+    record { blocks = l.block ∷ ls.blocks; sizes = passes_along d l ++ ls.sizes; passed = ls.passed }
 
-abbrev pub to_last_in_column : InheritedSheet → InheritedSheet
-to_last_in_column h = record h { flags = first_in_column h.flags true; before = (taken h.place.height h.before).part }
+abbrev pub join : Direction → List BlockSheet → BlockSheet
+join Across blocks = side_by_side blocks
+join Down blocks = stacked blocks
 
--- the boxes of a column: each takes its part of the heights to the left, and inherits the widths
--- that the box above it passes on
-abbrev pub column_children : BoxSpacing → Drawer → List Drawer → InheritedSheet → Children
-column_children g d [] h =
-    let l = d.draw (to_last_in_column h) in record { blocks = l.block ∷ []; above = l.above; before = l.before }
-column_children g d (e ∷ ds) h =
-    let n = first_height g d.box (boxes (e ∷ ds)) h.place.height in
-    let t = taken n h.before in
-    let l = d.draw (to_first_in_column n t h) in
-    let ls = column_children g e ds (to_later_in_column g n t h l.above) in
-    record { blocks = l.block ∷ ls.blocks; above = ls.above; before = l.before ++ ls.before }
+abbrev pub joined : Direction → Children → PassedOn
+joined d c = record { block = join d c.blocks; above = pick d c.sizes c.passed; before = pick d c.passed c.sizes }
 
-abbrev pub joined : (List BlockSheet → BlockSheet) → Children → PassedOn
-joined join c = record { block = join c.blocks; above = c.above; before = c.before }
-
-abbrev pub row_drawer : DrawingPlan → BoxSpacing → List Drawer → Drawer
-row_drawer t g [] = text_drawer t g []
-row_drawer t g (d ∷ ds) = record { box = row_box g (boxes (d ∷ ds)); draw = λ h. joined side_by_side (row_children g d ds h) }
-
-abbrev pub column_drawer : DrawingPlan → BoxSpacing → List Drawer → Drawer
-column_drawer t g [] = text_drawer t g []
-column_drawer t g (d ∷ ds) = record { box = column_box g (boxes (d ∷ ds)); draw = λ h. joined stacked (column_children g d ds h) }
+abbrev pub list_drawer : Direction → DrawingPlan → BoxSpacing → List Drawer → Drawer
+list_drawer d t g [] = text_drawer t g []
+list_drawer d t g (e ∷ es) = record { box = list_box d g (boxes (e ∷ es)); draw = λ h. joined d (list_children d g e es h) }
 
 abbrev pub drawer_step : DrawingPlan → BoxSpacing → TableValue-F Drawer → Drawer
 drawer_step t g (Cell s) = text_drawer t g (string_bytes s)
-drawer_step t g (Row v) = row_drawer t g v.items
-drawer_step t g (Column v) = column_drawer t g v.items
+drawer_step t g (Row v) = list_drawer Across t g v.items
+drawer_step t g (Column v) = list_drawer Down t g v.items
 
 abbrev pub drawer : DrawingPlan → BoxSpacing → TableValue → Drawer
 drawer t g = fold-TableValue Drawer (drawer_step t g)

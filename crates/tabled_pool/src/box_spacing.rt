@@ -1,4 +1,6 @@
-//! `BoxSpacing`, on which the sizes of boxes depend, and `Size`.
+//! `BoxSpacing`, on which the sizes of boxes depend, `Size` and `Direction`.
+ghost use Rattle.std.specs.Prelude.{◌≡◌};
+ghost use Rattle.tabled_pool.specs.Boxes.{pick};
 
 use tabled_config::Sides;
 use tabled_size::DimensionPriority;
@@ -25,4 +27,25 @@ pub struct Size {
     pub width: usize,
     /// In lines.
     pub height: usize,
+}
+
+/// Whether boxes are side by side or below each other.
+#[derive(Clone, Copy, Debug, PartialEq, Eq)]
+pub enum Direction {
+    /// Side by side, from the left.
+    Across,
+    /// Below each other, from the top.
+    Down,
+}
+
+impl Direction {
+    /// Returns the first value for boxes side by side, else the second.
+    pub fn pick<T: Copy>(self, across: T, down: T) -> T
+        ensures { result ≡ pick self across down }
+    {
+        match self {
+            Direction::Across => across,
+            Direction::Down => down,
+        }
+    }
 }

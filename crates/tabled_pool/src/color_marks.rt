@@ -180,17 +180,6 @@ fn around_text(drawing: &Drawing<'_, '_>, place: Rectangle, x: usize, y: usize) 
     }
 }
 
-fn around_piece(drawing: &Drawing<'_, '_>, piece: &Piece<'_>, x: usize, y: usize) -> Option<Marks>
-    requires across { x < 2 ^ 64 - 1 }
-    requires down { y < 2 ^ 64 - 1 }
-    ensures { option_map around_of result ≡ around_part (plan_of drawing.now) (shown piece.now) x y }
-{
-    if is_line_kind(piece.kind) {
-        return None;
-    }
-    around_text(drawing, piece.place, x, y)
-}
-
 /// The marks around a position: those of the first of some pieces that draws it.
 pub(crate) fn around_at(drawing: &Drawing<'_, '_>, near: &[Piece<'_>], x: usize, y: usize) -> Marks
     requires across { x < 2 ^ 64 - 1 }
@@ -198,7 +187,9 @@ pub(crate) fn around_at(drawing: &Drawing<'_, '_>, near: &[Piece<'_>], x: usize,
     ensures { around_of result ≡ around_at (plan_of drawing.now) (map shown near.now) x y }
 {
     for piece in near {
-        if let Some(marks) = around_piece(drawing, piece, x, y) {
+        if !is_line_kind(piece.kind)
+            && let Some(marks) = around_text(drawing, piece.place, x, y)
+        {
             return marks;
         }
     }

@@ -1,7 +1,8 @@
 //! Where a box is in its tree, and which border characters it has there.
 ghost use Rattle.std.specs.Prelude.{◌≡◌, None, if◌then◌else◌};
-ghost use Rattle.tabled_pool.specs.Inherited.{first_in_column, first_in_row, is_bottom, is_left, is_right, is_top, later_in_column, later_in_row, own_borders, top_left, whole_flags};
+ghost use Rattle.tabled_pool.specs.Inherited.{first_flags, is_bottom, is_left, is_right, is_top, later_flags, own_borders, top_left, whole_flags};
 
+use crate::box_spacing::Direction;
 use tabled_config::Borders;
 
 /// Where a box is in its tree, and which borders meet at its top left corner.
@@ -39,50 +40,42 @@ impl Flags {
         }
     }
 
-    /// The flags of the first of several boxes side by side; `last` if no other follows.
-    pub fn first_in_row(self, last: bool) -> Flags
-        ensures { result ≡ first_in_row self last }
+    /// The flags of the first of several boxes; `last` if no other follows.
+    pub fn first(self, direction: Direction, last: bool) -> Flags
+        ensures { result ≡ first_flags direction self last }
     {
-        Flags {
-            last_column: self.last_column && last,
-            leans: !self.first_column,
-            ..self
+        match direction {
+            Direction::Across => Flags {
+                last_column: self.last_column && last,
+                leans: !self.first_column,
+                ..self
+            },
+            Direction::Down => Flags {
+                last_row: self.last_row && last,
+                ..self
+            },
         }
     }
 
-    /// The flags of the boxes after the first one; `met` if a border above ends at their corner.
-    pub fn later_in_row(self, met: bool) -> Flags
-        ensures { result ≡ later_in_row self met }
-    {
-        Flags {
-            first_column: false,
-            side: false,
-            cross: met,
-            ..self
-        }
-    }
-
-    /// The flags of the first of several boxes below each other; `last` if no other follows.
-    pub fn first_in_column(self, last: bool) -> Flags
-        ensures { result ≡ first_in_column self last }
-    {
-        Flags {
-            last_row: self.last_row && last,
-            ..self
-        }
-    }
-
-    /// The flags of the boxes below the first one; `met` if a border to the left ends at their
+    /// The flags of the boxes after the first one; `met` if an inherited border ends at their
     /// corner.
-    pub fn later_in_column(self, met: bool) -> Flags
-        ensures { result ≡ later_in_column self met }
+    pub fn later(self, direction: Direction, met: bool) -> Flags
+        ensures { result ≡ later_flags direction self met }
     {
-        Flags {
-            first_row: false,
-            leans: false,
-            side: true,
-            cross: met,
-            ..self
+        match direction {
+            Direction::Across => Flags {
+                first_column: false,
+                side: false,
+                cross: met,
+                ..self
+            },
+            Direction::Down => Flags {
+                first_row: false,
+                leans: false,
+                side: true,
+                cross: met,
+                ..self
+            },
         }
     }
 }

@@ -4,7 +4,7 @@ ghost use Rattle.tabled_pool.specs.Boxes.{box_of};
 ghost use Rattle.tabled_pool.specs.Shown.{shown};
 ghost use Rattle.tabled_pool.specs.Tiling.{framed};
 
-use crate::box_spacing::BoxSpacing;
+use crate::box_spacing::{BoxSpacing, Direction};
 use crate::pieces::{Kind, Piece, Rectangle};
 use crate::places::{place_bar, place_value};
 use crate::tree::TableValue;
@@ -28,46 +28,18 @@ pub fn place_tree<'a>(
     ensures { IfOk result (λ _. map shown pieces.new.items ≡ map shown pieces.old.items
         ++ framed (frame.now) (box_of spacing.now value.now) whole) }
 {
-    let left = Rectangle {
-        x: whole.x,
-        y: whole.y,
-        width: frame.left,
-        height: whole.height,
-    };
-    let middle = Rectangle {
-        x: whole.x + frame.left,
-        y: whole.y,
-        width: whole.width - frame.left - frame.right,
-        height: whole.height,
-    };
-    let right = Rectangle {
-        x: middle.x + middle.width,
-        y: whole.y,
-        width: whole.width - frame.left - middle.width,
-        height: whole.height,
-    };
-    let top = Rectangle {
-        x: middle.x,
-        y: whole.y,
-        width: middle.width,
-        height: frame.top,
-    };
-    let inner = Rectangle {
-        x: middle.x,
-        y: whole.y + frame.top,
-        width: middle.width,
-        height: whole.height - frame.top - frame.bottom,
-    };
-    let bottom = Rectangle {
-        x: middle.x,
-        y: inner.y + inner.height,
-        width: middle.width,
-        height: whole.height - frame.top - inner.height,
-    };
+    let rest = whole.rest_part(Direction::Across, frame.left);
+    let width = rest.width - frame.right;
+    let middle = rest.first_part(Direction::Across, width);
+    let below = middle.rest_part(Direction::Down, frame.top);
+    let height = below.height - frame.bottom;
+    let left = whole.first_part(Direction::Across, frame.left);
+    let top = middle.first_part(Direction::Down, frame.top);
+    let inner = below.first_part(Direction::Down, height);
     place_bar(Kind::Bar, left, pieces)?;
-    place_bar(Kind::Bar, right, pieces)?;
+    place_bar(Kind::Bar, rest.rest_part(Direction::Across, width), pieces)?;
     place_bar(Kind::Rule, top, pieces)?;
-    place_bar(Kind::Rule, bottom, pieces)?;
+    place_bar(Kind::Rule, below.rest_part(Direction::Down, height), pieces)?;
     place_value(value, spacing, inner, pieces)?;
     Ok(())
 }

@@ -2,19 +2,19 @@
 //! passes on where borders meet.
 ghost use Rattle.std.specs.Prelude.{◌≡◌, ◌+◌, ◌^◌, ◌<◌, ◌∷◌, [], map, IfErr, IfOk, string_bytes};
 ghost use Rattle.tabled_base.specs.declared.error.TableError.TheVariants.{Memory};
-ghost use Rattle.tabled_pool.specs.Boxes.{box_of, column_box, row_box};
+ghost use Rattle.tabled_pool.specs.Boxes.{box_of, list_box};
 ghost use Rattle.tabled_pool.specs.Shown.{Fits, shown};
-ghost use Rattle.tabled_pool.specs.Inherited.{column_drawer, drawer, inherited_block, has_zero_width, is_zero_width, row_drawer, text_passes};
+ghost use Rattle.tabled_pool.specs.Inherited.{drawer, inherited_block, has_zero_width, list_drawer};
 ghost use Rattle.tabled_pool.specs.Inheriting.{inheriting_box, passed_on};
 ghost use Rattle.tabled_pool.specs.DrawnBlocks.{block_sheet_of};
 ghost use Rattle.tabled_pool.specs.Plans.{plan_of};
 
-use crate::box_spacing::{BoxSpacing, Size};
+use crate::box_spacing::{BoxSpacing, Direction, Size};
 use crate::drawing::Drawing;
 use crate::drawn_blocks::DrawnBlock;
 use crate::inheriting::{DrawnBoxes, InheritingBox};
 use crate::pieces::{Piece, Rectangle, is_line_kind};
-use crate::sizes::{column_size, row_size};
+use crate::sizes::list_size;
 use crate::tree::TableValue;
 use tabled_base::TableError;
 
@@ -32,8 +32,9 @@ pub fn has_zero_width(pieces: &[Piece<'_>]) -> bool
 
 #[cycle(draws)]
 #[inline(never)]
-#[tactic(auto, using(crate::proofs::Steps::row_step_width, crate::proofs::Steps::row_step_height, crate::proofs::Steps::column_step_width, crate::proofs::Steps::column_step_height, crate::proofs::Steps::left_first, crate::proofs::Steps::left_all, crate::proofs::Steps::left_count,))]
-fn draw_row(
+#[tactic(auto, using(crate::proofs::Steps::left_first, crate::proofs::Steps::left_all, crate::proofs::Steps::left_count,))]
+fn draw_list(
+    direction: Direction,
     children: &[TableValue],
     spacing: &BoxSpacing,
     drawing: &Drawing<'_, '_>,
@@ -42,75 +43,36 @@ fn draw_row(
 ) -> Result<(), TableError>
     requires blocks { drawn.old.blocks.items ≡ [] }
     requires sizes { drawn.old.sizes.items ≡ [] }
-    requires fits { Fits (row_box spacing.now (map (box_of spacing.now) children.now)) inherited.old.place }
-    ensures ok { IfOk result (λ _. passed_on inherited.new ≡ (row_drawer (plan_of drawing.now) spacing.now
+    requires fits { Fits (list_box direction spacing.now (map (box_of spacing.now) children.now)) inherited.old.place }
+    ensures ok { IfOk result (λ _. passed_on inherited.new ≡ (list_drawer direction (plan_of drawing.now) spacing.now
         (map (drawer (plan_of drawing.now) spacing.now) children.now)).draw (inheriting_box inherited.old)) }
     ensures only { IfErr result (λ e. e ≡ Memory) }
 {
-    let alloc = drawing.alloc;
     let Some((last, front)) = children.split_last() else {
         return inherited.draw_text(drawing, "");
     };
-    let Some(own) = row_size(children, spacing) else {
+    let Some(own) = list_size(direction, children, spacing) else {
         unreachable!()
     };
-    let mut left = own.width;
+    let border = direction.pick(spacing.bar, spacing.rule);
+    let mut left = direction.pick(own.width, own.height);
     let mut count = children.len();
     for child in front {
-        let own = inherited.pass_to_row(&mut drawn.next, child, spacing, left, count, alloc)?;
+        let own = inherited.pass_to(direction, &mut drawn.next, child, spacing, left, count)?;
         draw_value(child, spacing, drawing, &mut drawn.next)?;
-        drawn.add_to_row(inherited, alloc)?;
-        left -= own + spacing.bar;
+        drawn.add(direction, inherited)?;
+        left -= own + border;
         count -= 1;
     }
-    inherited.pass_rest_to_row(&mut drawn.next, alloc)?;
+    inherited.pass_rest(direction, &mut drawn.next)?;
     draw_value(last, spacing, drawing, &mut drawn.next)?;
-    drawn.add_to_row(inherited, alloc)?;
-    drawn.join_row(inherited, alloc)
+    drawn.add(direction, inherited)?;
+    drawn.join(direction, inherited)
 }
 
 #[cycle(draws)]
 #[inline(never)]
-#[tactic(auto, using(crate::proofs::Steps::row_step_width, crate::proofs::Steps::row_step_height, crate::proofs::Steps::column_step_width, crate::proofs::Steps::column_step_height, crate::proofs::Steps::left_first, crate::proofs::Steps::left_all, crate::proofs::Steps::left_count,))]
-fn draw_column(
-    children: &[TableValue],
-    spacing: &BoxSpacing,
-    drawing: &Drawing<'_, '_>,
-    inherited: &mut InheritingBox,
-    drawn: &mut DrawnBoxes,
-) -> Result<(), TableError>
-    requires blocks { drawn.old.blocks.items ≡ [] }
-    requires sizes { drawn.old.sizes.items ≡ [] }
-    requires fits { Fits (column_box spacing.now (map (box_of spacing.now) children.now)) inherited.old.place }
-    ensures ok { IfOk result (λ _. passed_on inherited.new ≡ (column_drawer (plan_of drawing.now) spacing.now
-        (map (drawer (plan_of drawing.now) spacing.now) children.now)).draw (inheriting_box inherited.old)) }
-    ensures only { IfErr result (λ e. e ≡ Memory) }
-{
-    let alloc = drawing.alloc;
-    let Some((last, front)) = children.split_last() else {
-        return inherited.draw_text(drawing, "");
-    };
-    let Some(own) = column_size(children, spacing) else {
-        unreachable!()
-    };
-    let mut left = own.height;
-    let mut count = children.len();
-    for child in front {
-        let own = inherited.pass_to_column(&mut drawn.next, child, spacing, left, count, alloc)?;
-        draw_value(child, spacing, drawing, &mut drawn.next)?;
-        drawn.add_to_column(inherited, alloc)?;
-        left -= own + spacing.rule;
-        count -= 1;
-    }
-    inherited.pass_rest_to_column(&mut drawn.next, alloc)?;
-    draw_value(last, spacing, drawing, &mut drawn.next)?;
-    drawn.add_to_column(inherited, alloc)?;
-    drawn.join_column(inherited, alloc)
-}
-
-#[cycle(draws)]
-#[inline(never)]
-#[tactic(auto, using(crate::proofs::Steps::row_step_width, crate::proofs::Steps::row_step_height, crate::proofs::Steps::column_step_width, crate::proofs::Steps::column_step_height, crate::proofs::Steps::left_first, crate::proofs::Steps::left_all, crate::proofs::Steps::left_count,))]
+#[tactic(auto, using(crate::proofs::Steps::left_first, crate::proofs::Steps::left_all, crate::proofs::Steps::left_count,))]
 fn draw_value(
     value: &TableValue,
     spacing: &BoxSpacing,
@@ -125,11 +87,15 @@ fn draw_value(
         TableValue::Cell(text) => inherited.draw_text(drawing, text.as_str()),
         TableValue::Row(children) => {
             let mut drawn = DrawnBoxes::boxed(drawing.alloc, inherited.place)?;
-            draw_row(children.as_slice(), spacing, drawing, inherited, &mut drawn)
+            let direction = Direction::Across;
+            let children = children.as_slice();
+            draw_list(direction, children, spacing, drawing, inherited, &mut drawn)
         }
         TableValue::Column(children) => {
             let mut drawn = DrawnBoxes::boxed(drawing.alloc, inherited.place)?;
-            draw_column(children.as_slice(), spacing, drawing, inherited, &mut drawn)
+            let direction = Direction::Down;
+            let children = children.as_slice();
+            draw_list(direction, children, spacing, drawing, inherited, &mut drawn)
         }
     }
 }

@@ -2,20 +2,39 @@
 //! small stack frame.
 ghost use Rattle.std.specs.Prelude.{◌≡◌, ◌^◌, ◌<◌, ◌+◌, ◌-◌, ◌≤◌, ◌∷◌, ◌++◌, [], map, false, true, IfErr, IfOk};
 ghost use Rattle.tabled_base.specs.declared.error.TableError.TheVariants.{Memory};
-ghost use Rattle.tabled_pool.specs.Boxes.{box_of, share};
+ghost use Rattle.tabled_pool.specs.Boxes.{
+  border_size,
+  box_across,
+  box_along,
+  box_of,
+  given_in,
+  pick,
+  place_across,
+  place_along,
+};
 ghost use Rattle.tabled_pool.specs.Shown.{Fits};
-ghost use Rattle.tabled_pool.specs.Inherited.{taken, text_passes, to_first_in_column, to_first_in_row, to_last_in_column, to_last_in_row, to_later_in_column, to_later_in_row, whole_flags};
-ghost use Rattle.tabled_pool.specs.Inheriting.{inheriting_box, passed_on, taken_of};
-ghost use Rattle.tabled_pool.specs.DrawnBlocks.{block_sheet_of, side_by_side, stacked};
+ghost use Rattle.tabled_pool.specs.Inherited.{
+  joined,
+  passes_across,
+  passes_along,
+  text_passes,
+  to_first,
+  to_last,
+  to_later,
+  whole_flags,
+  with_passed,
+};
+ghost use Rattle.tabled_pool.specs.Inheriting.{inheriting_box, passed_on};
+ghost use Rattle.tabled_pool.specs.DrawnBlocks.{block_sheet_of};
 ghost use Rattle.tabled_pool.specs.Plans.{plan_of};
 
-use crate::box_spacing::BoxSpacing;
+use crate::box_spacing::{BoxSpacing, Direction};
 use crate::drawing::Drawing;
 use crate::drawn_blocks::{DrawnBlock, side_by_side, stacked};
 use crate::flags::Flags;
 use crate::inherited_text::{Inherited, text_block};
 use crate::pieces::Rectangle;
-use crate::places::{split_column, split_row};
+use crate::places::split;
 use crate::taking::{TakenSizes, taken};
 use crate::tree::TableValue;
 use std::alloc::Global;
@@ -86,125 +105,91 @@ impl InheritingBox {
         Ok(())
     }
 
-    /// Passes to the first of `count` boxes side by side its part of what they inherit. `left` is
-    /// the width that they and the borders between them need. Returns the width that the first one
-    /// needs.
-    #[inline(never)]
-    pub(crate) fn pass_to_row(
-        &mut self,
-        first: &mut InheritingBox,
-        child: &TableValue,
-        spacing: &BoxSpacing,
-        left: usize,
-        count: usize,
-        alloc: Global,
-    ) -> Result<usize, TableError>
-        requires some { 0 < count }
-        requires own { (box_of spacing.now child.now).width + spacing.now.bar ≤ left }
-        requires across { (box_of spacing.now child.now).height ≤ self.old.place.height }
-        requires along { left ≤ self.old.place.width }
-        requires right { self.old.place.x + self.old.place.width < 2 ^ 64 }
-        requires low { self.old.place.y + self.old.place.height < 2 ^ 64 }
-        ensures own { IfOk result (λ own. own ≡ (box_of spacing.now child.now).width) }
-        ensures first { IfOk result (λ _.
-            let n = (box_of spacing.now child.now).width + share spacing.now.across (self.old.place.width - left) count in
-            inheriting_box first.new ≡ to_first_in_row n (taken n self.old.above.items) (inheriting_box self.old)) }
-        ensures others { IfOk result (λ _.
-            let n = (box_of spacing.now child.now).width + share spacing.now.across (self.old.place.width - left) count in
-            inheriting_box self.new ≡ to_later_in_row spacing.now n (taken n self.old.above.items) (inheriting_box self.old) self.new.before.items) }
-        ensures fits { IfOk result (λ _. Fits (box_of spacing.now child.now) first.new.place) }
-        ensures only { IfErr result (λ e. e ≡ Memory) }
+    /// The sizes that it inherits or passes on in a direction.
+    fn along(&self, direction: Direction) -> &[usize]
+        ensures { result.now ≡ pick direction self.now.above.items self.now.before.items }
     {
-        let cut = split_row(child, spacing, left, count, self.place);
-        let TakenSizes { part, rest, met } = taken(alloc, cut.given.width, self.above.as_slice())?;
-        first.place = cut.given;
-        first.flags = self.flags.first_in_row(false);
-        first.above = part;
-        mem::swap(&mut first.before, &mut self.before);
-        self.place = cut.rest;
-        self.flags = self.flags.later_in_row(met);
-        self.above = rest;
-        Ok(cut.own)
+        match direction {
+            Direction::Across => self.above.as_slice(),
+            Direction::Down => self.before.as_slice(),
+        }
     }
 
-    /// Passes to the last of the boxes side by side what is left.
-    #[inline(never)]
-    pub(crate) fn pass_rest_to_row(
-        &mut self,
-        last: &mut InheritingBox,
-        alloc: Global,
-    ) -> Result<(), TableError>
-        ensures ok { IfOk result (λ _. inheriting_box last.new ≡ to_last_in_row (inheriting_box self.old)) }
-        ensures only { IfErr result (λ e. e ≡ Memory) }
-    {
-        let sizes = taken(alloc, self.place.width, self.above.as_slice())?;
-        last.place = self.place;
-        last.flags = self.flags.first_in_row(true);
-        last.above = sizes.part;
-        mem::swap(&mut last.before, &mut self.before);
-        Ok(())
-    }
-
-    /// Passes to the first of `count` boxes below each other its part of what they inherit. `left`
-    /// is the height that they and the borders between them need. Returns the height that the first
+    /// Passes to the first of `count` boxes its part of what they inherit. `left` is the size in
+    /// their direction that they and the borders between them need. Returns the size that the first
     /// one needs.
     #[inline(never)]
-    pub(crate) fn pass_to_column(
+    pub(crate) fn pass_to(
         &mut self,
+        direction: Direction,
         first: &mut InheritingBox,
         child: &TableValue,
         spacing: &BoxSpacing,
         left: usize,
         count: usize,
-        alloc: Global,
     ) -> Result<usize, TableError>
         requires some { 0 < count }
-        requires own { (box_of spacing.now child.now).height + spacing.now.rule ≤ left }
-        requires across { (box_of spacing.now child.now).width ≤ self.old.place.width }
-        requires along { left ≤ self.old.place.height }
+        requires own { box_along direction (box_of spacing.now child.now) + border_size direction spacing.now ≤ left }
+        requires across { box_across direction (box_of spacing.now child.now) ≤ place_across direction self.old.place }
+        requires along { left ≤ place_along direction self.old.place }
         requires right { self.old.place.x + self.old.place.width < 2 ^ 64 }
         requires low { self.old.place.y + self.old.place.height < 2 ^ 64 }
-        ensures own { IfOk result (λ own. own ≡ (box_of spacing.now child.now).height) }
-        ensures first { IfOk result (λ _.
-            let n = (box_of spacing.now child.now).height + share spacing.now.down (self.old.place.height - left) count in
-            inheriting_box first.new ≡ to_first_in_column n (taken n self.old.before.items) (inheriting_box self.old)) }
-        ensures others { IfOk result (λ _.
-            let n = (box_of spacing.now child.now).height + share spacing.now.down (self.old.place.height - left) count in
-            inheriting_box self.new ≡ to_later_in_column spacing.now n (taken n self.old.before.items) (inheriting_box self.old) self.new.above.items) }
+        ensures own { IfOk result (λ own. own ≡ box_along direction (box_of spacing.now child.now)) }
+        ensures first { IfOk result (λ _. inheriting_box first.new ≡ to_first direction
+            (given_in direction spacing.now child.now left count self.old.place) (inheriting_box self.old)) }
+        ensures others { IfOk result (λ _. inheriting_box self.new ≡ to_later direction spacing.now
+            (given_in direction spacing.now child.now left count self.old.place) (inheriting_box self.old)
+            (pick direction self.new.before.items self.new.above.items)) }
         ensures fits { IfOk result (λ _. Fits (box_of spacing.now child.now) first.new.place) }
         ensures only { IfErr result (λ e. e ≡ Memory) }
     {
-        let cut = split_column(child, spacing, left, count, self.place);
-        let TakenSizes { part, rest, met } = taken(
-            alloc,
-            cut.given.height,
-            self.before.as_slice(),
-        )?;
+        let cut = split(direction, child, spacing, left, count, self.place);
+        let given = direction.pick(cut.given.width, cut.given.height);
+        let alloc = *self.above.allocator();
+        let TakenSizes { part, rest, met } = taken(alloc, given, self.along(direction))?;
         first.place = cut.given;
-        first.flags = self.flags.first_in_column(false);
-        mem::swap(&mut first.above, &mut self.above);
-        first.before = part;
+        first.flags = self.flags.first(direction, false);
         self.place = cut.rest;
-        self.flags = self.flags.later_in_column(met);
-        self.before = rest;
+        self.flags = self.flags.later(direction, met);
+        match direction {
+            Direction::Across => {
+                first.above = part;
+                mem::swap(&mut first.before, &mut self.before);
+                self.above = rest;
+            }
+            Direction::Down => {
+                first.before = part;
+                mem::swap(&mut first.above, &mut self.above);
+                self.before = rest;
+            }
+        }
         Ok(cut.own)
     }
 
-    /// Passes to the last of the boxes below each other what is left.
+    /// Passes to the last of the boxes what is left.
     #[inline(never)]
-    pub(crate) fn pass_rest_to_column(
+    pub(crate) fn pass_rest(
         &mut self,
+        direction: Direction,
         last: &mut InheritingBox,
-        alloc: Global,
     ) -> Result<(), TableError>
-        ensures ok { IfOk result (λ _. inheriting_box last.new ≡ to_last_in_column (inheriting_box self.old)) }
+        ensures ok { IfOk result (λ _. inheriting_box last.new ≡ to_last direction (inheriting_box self.old)) }
         ensures only { IfErr result (λ e. e ≡ Memory) }
     {
-        let sizes = taken(alloc, self.place.height, self.before.as_slice())?;
+        let size = direction.pick(self.place.width, self.place.height);
+        let sizes = taken(*self.above.allocator(), size, self.along(direction))?;
         last.place = self.place;
-        last.flags = self.flags.first_in_column(true);
-        mem::swap(&mut last.above, &mut self.above);
-        last.before = sizes.part;
+        last.flags = self.flags.first(direction, true);
+        match direction {
+            Direction::Across => {
+                last.above = sizes.part;
+                mem::swap(&mut last.before, &mut self.before);
+            }
+            Direction::Down => {
+                last.before = sizes.part;
+                mem::swap(&mut last.above, &mut self.above);
+            }
+        }
         Ok(())
     }
 }
@@ -229,89 +214,60 @@ impl DrawnBoxes {
         }
     }
 
-    /// Adds the drawn box at the right end, and passes its heights on to the boxes after it.
+    /// Adds the drawn box, and passes its sizes in the other direction on to the boxes after it.
     #[inline(never)]
-    pub(crate) fn add_to_row(
+    pub(crate) fn add(
         &mut self,
+        direction: Direction,
         all: &mut InheritingBox,
-        alloc: Global,
     ) -> Result<(), TableError>
         ensures blocks { IfOk result (λ _. map block_sheet_of self.new.blocks.items
             ≡ map block_sheet_of self.old.blocks.items ++ (block_sheet_of self.old.next.block ∷ [])) }
-        ensures sizes { IfOk result (λ _. self.new.sizes.items ≡ self.old.sizes.items ++ self.old.next.above.items) }
-        ensures others { IfOk result (λ _. inheriting_box all.new ≡ record (inheriting_box all.old) { before = self.old.next.before.items }) }
+        ensures sizes { IfOk result (λ _. self.new.sizes.items
+            ≡ self.old.sizes.items ++ passes_along direction (passed_on self.old.next)) }
+        ensures others { IfOk result (λ _. inheriting_box all.new
+            ≡ with_passed direction (inheriting_box all.old) (passes_across direction (passed_on self.old.next))) }
         ensures only { IfErr result (λ e. e ≡ Memory) }
     {
         let none = DrawnBlock {
             width: 0,
-            lines: Vec::new(alloc),
+            lines: Vec::new(*self.sizes.allocator()),
         };
         self.blocks.push(mem::replace(&mut self.next.block, none))?;
-        self.sizes.extend_from_slice(self.next.above.as_slice())?;
-        mem::swap(&mut all.before, &mut self.next.before);
+        self.sizes.extend_from_slice(self.next.along(direction))?;
+        match direction {
+            Direction::Across => mem::swap(&mut all.before, &mut self.next.before),
+            Direction::Down => mem::swap(&mut all.above, &mut self.next.above),
+        }
         Ok(())
     }
 
-    /// Adds the drawn box at the bottom, and passes its widths on to the boxes below it.
+    /// Joins the boxes. The sizes of all in their direction pass on, and in the other one those of
+    /// the last.
     #[inline(never)]
-    pub(crate) fn add_to_column(
+    pub(crate) fn join(
         &mut self,
+        direction: Direction,
         all: &mut InheritingBox,
-        alloc: Global,
     ) -> Result<(), TableError>
-        ensures blocks { IfOk result (λ _. map block_sheet_of self.new.blocks.items
-            ≡ map block_sheet_of self.old.blocks.items ++ (block_sheet_of self.old.next.block ∷ [])) }
-        ensures sizes { IfOk result (λ _. self.new.sizes.items ≡ self.old.sizes.items ++ self.old.next.before.items) }
-        ensures others { IfOk result (λ _. inheriting_box all.new ≡ record (inheriting_box all.old) { above = self.old.next.above.items }) }
+        ensures ok { IfOk result (λ _. passed_on all.new ≡ joined direction (record {
+          blocks = map block_sheet_of self.old.blocks.items;
+          sizes = self.old.sizes.items;
+          passed = pick direction all.old.before.items all.old.above.items;
+        })) }
         ensures only { IfErr result (λ e. e ≡ Memory) }
     {
-        let none = DrawnBlock {
-            width: 0,
-            lines: Vec::new(alloc),
-        };
-        self.blocks.push(mem::replace(&mut self.next.block, none))?;
-        self.sizes.extend_from_slice(self.next.before.as_slice())?;
-        mem::swap(&mut all.above, &mut self.next.above);
-        Ok(())
-    }
-
-    /// Joins boxes side by side. The widths of all pass to the boxes below, and the heights of the
-    /// last to the boxes at the right.
-    #[inline(never)]
-    pub(crate) fn join_row(
-        &mut self,
-        all: &mut InheritingBox,
-        alloc: Global,
-    ) -> Result<(), TableError>
-        ensures ok { IfOk result (λ _. passed_on all.new ≡ record {
-          block = side_by_side (map block_sheet_of self.old.blocks.items);
-          above = self.old.sizes.items;
-          before = all.old.before.items;
-        }) }
-        ensures only { IfErr result (λ e. e ≡ Memory) }
-    {
-        all.block = side_by_side(alloc, self.blocks.as_slice())?;
-        mem::swap(&mut all.above, &mut self.sizes);
-        Ok(())
-    }
-
-    /// Joins boxes below each other. The widths of the last pass to the boxes below, and the
-    /// heights of all to the boxes at the right.
-    #[inline(never)]
-    pub(crate) fn join_column(
-        &mut self,
-        all: &mut InheritingBox,
-        alloc: Global,
-    ) -> Result<(), TableError>
-        ensures ok { IfOk result (λ _. passed_on all.new ≡ record {
-          block = stacked (map block_sheet_of self.old.blocks.items);
-          above = all.old.above.items;
-          before = self.old.sizes.items;
-        }) }
-        ensures only { IfErr result (λ e. e ≡ Memory) }
-    {
-        all.block = stacked(alloc, self.blocks.as_slice())?;
-        mem::swap(&mut all.before, &mut self.sizes);
+        let alloc = *self.sizes.allocator();
+        match direction {
+            Direction::Across => {
+                all.block = side_by_side(alloc, self.blocks.as_slice())?;
+                mem::swap(&mut all.above, &mut self.sizes);
+            }
+            Direction::Down => {
+                all.block = stacked(alloc, self.blocks.as_slice())?;
+                mem::swap(&mut all.before, &mut self.sizes);
+            }
+        }
         Ok(())
     }
 }

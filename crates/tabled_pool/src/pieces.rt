@@ -1,6 +1,9 @@
 //! `Rectangle`, and `Piece`, a text or a border in its rectangle.
-ghost use Rattle.std.specs.Prelude.{◌≡◌};
+ghost use Rattle.std.specs.Prelude.{◌≡◌, ◌+◌, ◌^◌, ◌<◌, ◌≤◌};
+ghost use Rattle.tabled_pool.specs.Boxes.{first_part, place_along, rest_part};
 ghost use Rattle.tabled_pool.specs.Kinds.{is_line_kind};
+
+use crate::box_spacing::Direction;
 
 /// A rectangle of a drawing, in columns from the left and lines from the top.
 #[derive(Clone, Copy, Debug, PartialEq, Eq)]
@@ -13,6 +16,45 @@ pub struct Rectangle {
     pub width: usize,
     /// Its height in lines.
     pub height: usize,
+}
+
+impl Rectangle {
+    /// Returns the first columns, or the first lines.
+    pub fn first_part(self, direction: Direction, size: usize) -> Rectangle
+        ensures { result ≡ first_part direction size self }
+    {
+        match direction {
+            Direction::Across => Rectangle {
+                width: size,
+                ..self
+            },
+            Direction::Down => Rectangle {
+                height: size,
+                ..self
+            },
+        }
+    }
+
+    /// Returns what is behind the first columns, or below the first lines.
+    pub fn rest_part(self, direction: Direction, size: usize) -> Rectangle
+        requires within { size ≤ place_along direction self }
+        requires right { self.x + self.width < 2 ^ 64 }
+        requires low { self.y + self.height < 2 ^ 64 }
+        ensures { result ≡ rest_part direction size self }
+    {
+        match direction {
+            Direction::Across => Rectangle {
+                x: self.x + size,
+                width: self.width - size,
+                ..self
+            },
+            Direction::Down => Rectangle {
+                y: self.y + size,
+                height: self.height - size,
+                ..self
+            },
+        }
+    }
 }
 
 /// What a piece is.

@@ -1,18 +1,33 @@
 //! Places the texts of a tree and the borders between its boxes in rectangles.
 ghost use Rattle.std.specs.Prelude.{◌≡◌, ◌+◌, ◌-◌, ◌^◌, ◌<◌, ◌≤◌, map, ◌++◌, ◌∷◌, [], IfOk};
 ghost use Rattle.tabled_pool.specs.declared.pieces.Kind.TheVariants.{Leaf};
-ghost use Rattle.tabled_pool.specs.Boxes.{box_of, leaf_box, row_box, column_box, share, part_of, left_part, right_part, top_part, bottom_part};
+ghost use Rattle.tabled_pool.specs.Boxes.{
+  behind_border,
+  border_kind,
+  border_part,
+  border_size,
+  box_across,
+  box_along,
+  box_of,
+  first_part,
+  given_in,
+  list_box,
+  part_of,
+  place_across,
+  place_along,
+  share,
+};
 ghost use Rattle.tabled_pool.specs.Shown.{shown, Fits};
 
-use crate::box_spacing::BoxSpacing;
+use crate::box_spacing::{BoxSpacing, Direction};
 use crate::pieces::{Kind, Piece, Rectangle};
-use crate::sizes::{column_size, own_size, row_size};
+use crate::sizes::{list_size, own_size};
 use crate::tree::TableValue;
 use std::alloc::AllocError;
 use tabled_size::DimensionPriority;
 
 /// What the first of `count` boxes gets of a surplus of columns or lines.
-#[tactic(auto, using(crate::proofs::Tiling::share_within))]
+#[tactic(auto, using(crate::proofs::Directions::share_within))]
 fn share(priority: DimensionPriority, surplus: usize, count: usize) -> usize
     requires { 0 < count }
     ensures value { result ≡ share priority surplus count }
@@ -74,67 +89,10 @@ pub struct SplitPlace {
     pub rest: Rectangle,
 }
 
-/// Splits a rectangle of `count` boxes side by side after the first. `left` is the width that they
-/// and the borders between them need.
-pub fn split_row(
-    child: &TableValue,
-    spacing: &BoxSpacing,
-    left: usize,
-    count: usize,
-    place: Rectangle,
-) -> SplitPlace
-    requires some { 0 < count }
-    requires own { (box_of spacing.now child.now).width + spacing.now.bar ≤ left }
-    requires across { (box_of spacing.now child.now).height ≤ place.height }
-    requires along { left ≤ place.width }
-    requires right { place.x + place.width < 2 ^ 64 }
-    requires low { place.y + place.height < 2 ^ 64 }
-    ensures own { result.own ≡ (box_of spacing.now child.now).width }
-    ensures given { result.given
-        ≡ left_part ((box_of spacing.now child.now).width + share spacing.now.across (place.width - left) count) place }
-    ensures line { result.line
-        ≡ left_part spacing.now.bar (right_part ((box_of spacing.now child.now).width + share spacing.now.across (place.width - left) count) place) }
-    ensures rest { result.rest
-        ≡ right_part spacing.now.bar (right_part ((box_of spacing.now child.now).width + share spacing.now.across (place.width - left) count) place) }
-    ensures fits { Fits (box_of spacing.now child.now) result.given }
-{
-    let Some(size) = own_size(child, spacing) else {
-        unreachable!()
-    };
-    let own = size.width;
-    let width = own + share(spacing.across, place.width - left, count);
-    let behind = Rectangle {
-        x: place.x + width,
-        y: place.y,
-        width: place.width - width,
-        height: place.height,
-    };
-    SplitPlace {
-        own,
-        given: Rectangle {
-            x: place.x,
-            y: place.y,
-            width,
-            height: place.height,
-        },
-        line: Rectangle {
-            x: behind.x,
-            y: behind.y,
-            width: spacing.bar,
-            height: behind.height,
-        },
-        rest: Rectangle {
-            x: behind.x + spacing.bar,
-            y: behind.y,
-            width: behind.width - spacing.bar,
-            height: behind.height,
-        },
-    }
-}
-
-/// Splits a rectangle of `count` boxes below each other after the first. `left` is the height that
+/// Splits a rectangle of `count` boxes after the first. `left` is the size in the direction that
 /// they and the borders between them need.
-pub fn split_column(
+pub fn split(
+    direction: Direction,
     child: &TableValue,
     spacing: &BoxSpacing,
     left: usize,
@@ -142,112 +100,66 @@ pub fn split_column(
     place: Rectangle,
 ) -> SplitPlace
     requires some { 0 < count }
-    requires own { (box_of spacing.now child.now).height + spacing.now.rule ≤ left }
-    requires across { (box_of spacing.now child.now).width ≤ place.width }
-    requires along { left ≤ place.height }
+    requires own { box_along direction (box_of spacing.now child.now) + border_size direction spacing.now ≤ left }
+    requires across { box_across direction (box_of spacing.now child.now) ≤ place_across direction place }
+    requires along { left ≤ place_along direction place }
     requires right { place.x + place.width < 2 ^ 64 }
     requires low { place.y + place.height < 2 ^ 64 }
-    ensures own { result.own ≡ (box_of spacing.now child.now).height }
-    ensures given { result.given
-        ≡ top_part ((box_of spacing.now child.now).height + share spacing.now.down (place.height - left) count) place }
-    ensures line { result.line
-        ≡ top_part spacing.now.rule (bottom_part ((box_of spacing.now child.now).height + share spacing.now.down (place.height - left) count) place) }
-    ensures rest { result.rest
-        ≡ bottom_part spacing.now.rule (bottom_part ((box_of spacing.now child.now).height + share spacing.now.down (place.height - left) count) place) }
+    ensures own { result.own ≡ box_along direction (box_of spacing.now child.now) }
+    ensures given { result.given ≡ first_part direction
+        (given_in direction spacing.now child.now left count place) place }
+    ensures line { part_of (border_kind direction) result.line [] ≡ border_part direction spacing.now
+        (given_in direction spacing.now child.now left count place) place }
+    ensures rest { result.rest ≡ behind_border direction spacing.now
+        (given_in direction spacing.now child.now left count place) place }
     ensures fits { Fits (box_of spacing.now child.now) result.given }
 {
     let Some(size) = own_size(child, spacing) else {
         unreachable!()
     };
-    let own = size.height;
-    let height = own + share(spacing.down, place.height - left, count);
-    let below = Rectangle {
-        x: place.x,
-        y: place.y + height,
-        width: place.width,
-        height: place.height - height,
-    };
+    let own = direction.pick(size.width, size.height);
+    let surplus = direction.pick(place.width, place.height) - left;
+    let priority = direction.pick(spacing.across, spacing.down);
+    let given = own + share(priority, surplus, count);
+    let border = direction.pick(spacing.bar, spacing.rule);
+    let behind = place.rest_part(direction, given);
     SplitPlace {
         own,
-        given: Rectangle {
-            x: place.x,
-            y: place.y,
-            width: place.width,
-            height,
-        },
-        line: Rectangle {
-            x: below.x,
-            y: below.y,
-            width: below.width,
-            height: spacing.rule,
-        },
-        rest: Rectangle {
-            x: below.x,
-            y: below.y + spacing.rule,
-            width: below.width,
-            height: below.height - spacing.rule,
-        },
+        given: place.first_part(direction, given),
+        line: behind.first_part(direction, border),
+        rest: behind.rest_part(direction, border),
     }
 }
 
 #[cycle(places)]
-#[tactic(auto, using(crate::proofs::Steps::row_step_width, crate::proofs::Steps::row_step_height, crate::proofs::Steps::column_step_width, crate::proofs::Steps::column_step_height, crate::proofs::Steps::left_first, crate::proofs::Steps::left_all, crate::proofs::Steps::left_count,))]
-fn place_row<'a>(
+#[tactic(auto, using(crate::proofs::Steps::left_first, crate::proofs::Steps::left_all, crate::proofs::Steps::left_count,))]
+fn place_list<'a>(
+    direction: Direction,
     children: &'a [TableValue],
     spacing: &BoxSpacing,
     whole: Rectangle,
     pieces: &mut Vec<Piece<'a>>,
 ) -> Result<(), AllocError>
-    requires { Fits (row_box spacing.now (map (box_of spacing.now) children.now)) whole }
+    requires { Fits (list_box direction spacing.now (map (box_of spacing.now) children.now)) whole }
     ensures { IfOk result (λ _. map shown pieces.new.items ≡ map shown pieces.old.items
-        ++ (row_box spacing.now (map (box_of spacing.now) children.now)).parts whole) }
+        ++ (list_box direction spacing.now (map (box_of spacing.now) children.now)).parts whole) }
 {
     let Some((last, front)) = children.split_last() else {
         return place_leaf("", whole, pieces);
     };
-    let Some(own) = row_size(children, spacing) else {
+    let Some(own) = list_size(direction, children, spacing) else {
         unreachable!()
     };
-    let mut left = own.width;
+    let border = direction.pick(spacing.bar, spacing.rule);
+    let kind = direction.pick(Kind::Bar, Kind::Rule);
+    let mut left = direction.pick(own.width, own.height);
     let mut count = children.len();
     let mut place = whole;
     for child in front {
-        let cut = split_row(child, spacing, left, count, place);
+        let cut = split(direction, child, spacing, left, count, place);
         place_value(child, spacing, cut.given, pieces)?;
-        place_bar(Kind::Bar, cut.line, pieces)?;
-        left -= cut.own + spacing.bar;
-        count -= 1;
-        place = cut.rest;
-    }
-    place_value(last, spacing, place, pieces)
-}
-
-#[cycle(places)]
-#[tactic(auto, using(crate::proofs::Steps::row_step_width, crate::proofs::Steps::row_step_height, crate::proofs::Steps::column_step_width, crate::proofs::Steps::column_step_height, crate::proofs::Steps::left_first, crate::proofs::Steps::left_all, crate::proofs::Steps::left_count,))]
-fn place_column<'a>(
-    children: &'a [TableValue],
-    spacing: &BoxSpacing,
-    whole: Rectangle,
-    pieces: &mut Vec<Piece<'a>>,
-) -> Result<(), AllocError>
-    requires { Fits (column_box spacing.now (map (box_of spacing.now) children.now)) whole }
-    ensures { IfOk result (λ _. map shown pieces.new.items ≡ map shown pieces.old.items
-        ++ (column_box spacing.now (map (box_of spacing.now) children.now)).parts whole) }
-{
-    let Some((last, front)) = children.split_last() else {
-        return place_leaf("", whole, pieces);
-    };
-    let Some(own) = column_size(children, spacing) else {
-        unreachable!()
-    };
-    let mut left = own.height;
-    let mut count = children.len();
-    let mut place = whole;
-    for child in front {
-        let cut = split_column(child, spacing, left, count, place);
-        place_value(child, spacing, cut.given, pieces)?;
-        place_bar(Kind::Rule, cut.line, pieces)?;
-        left -= cut.own + spacing.rule;
+        place_bar(kind, cut.line, pieces)?;
+        left -= cut.own + border;
         count -= 1;
         place = cut.rest;
     }
@@ -256,7 +168,7 @@ fn place_column<'a>(
 
 /// Adds the texts of a tree and the borders between its boxes. Recurses at each level.
 #[cycle(places)]
-#[tactic(auto, using(crate::proofs::Steps::row_step_width, crate::proofs::Steps::row_step_height, crate::proofs::Steps::column_step_width, crate::proofs::Steps::column_step_height, crate::proofs::Steps::left_first, crate::proofs::Steps::left_all, crate::proofs::Steps::left_count,))]
+#[tactic(auto, using(crate::proofs::Steps::left_first, crate::proofs::Steps::left_all, crate::proofs::Steps::left_count,))]
 pub fn place_value<'a>(
     value: &'a TableValue,
     spacing: &BoxSpacing,
@@ -269,7 +181,13 @@ pub fn place_value<'a>(
 {
     match value {
         TableValue::Cell(text) => place_leaf(text.as_str(), whole, pieces),
-        TableValue::Row(children) => place_row(children.as_slice(), spacing, whole, pieces),
-        TableValue::Column(children) => place_column(children.as_slice(), spacing, whole, pieces),
+        TableValue::Row(children) => {
+            let children = children.as_slice();
+            place_list(Direction::Across, children, spacing, whole, pieces)
+        }
+        TableValue::Column(children) => {
+            let children = children.as_slice();
+            place_list(Direction::Down, children, spacing, whole, pieces)
+        }
     }
 }

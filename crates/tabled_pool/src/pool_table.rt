@@ -81,7 +81,7 @@ fn frame_of(borders: &Borders<char>) -> Sides<usize>
     }
 }
 
-pub(crate) fn style_of(config: &CompactMultilineConfig) -> CellStyle
+fn style_of(config: &CompactMultilineConfig) -> CellStyle
     ensures { result ≡ style_of config.now }
 {
     CellStyle {
@@ -202,15 +202,17 @@ impl PoolTable {
         Some(Size { width, height })
     }
 
-    /// The colours of a margin. An empty margin has none.
-    fn margin_colors(&self, margin: Sides<Indent>) -> Sides<ANSIStr<'static>>
-        ensures { marks_of result ≡ marks_for self.now margin }
+    /// A margin with its colours. An empty margin has none.
+    fn colored_margin(&self, indent: Sides<Indent>) -> ColoredMargin
+        ensures indent { result.indent ≡ indent }
+        ensures colors { marks_of result.colors ≡ marks_for self.now indent }
     {
-        if has_margin(margin) {
+        let colors = if has_margin(indent) {
             *self.config.get_margin_color()
         } else {
             Sides::filled(ANSIStr::new("", ""))
-        }
+        };
+        ColoredMargin { indent, colors }
     }
 
     /// The margin around a drawn block. One empty line has none.
@@ -284,11 +286,7 @@ impl PoolTable {
         requires plan { plan_of drawing.now ≡ plan self.now }
         ensures { Writes (S.sent sink.old) result (S.sent sink.new) (pool_text self.now) }
     {
-        let indent = *self.config.get_margin();
-        let margin = ColoredMargin {
-            indent,
-            colors: self.margin_colors(indent),
-        };
+        let margin = self.colored_margin(*self.config.get_margin());
         draw_framed(sink, drawing, &margin)
     }
 
@@ -302,11 +300,7 @@ impl PoolTable {
         requires block { block_sheet_of block.now ≡ inherited_block (plan self.now) (spacing_of self.now) self.now.value }
         ensures { Writes (S.sent sink.old) result (S.sent sink.new) (pool_text self.now) }
     {
-        let indent = self.margin_around(block);
-        let margin = ColoredMargin {
-            indent,
-            colors: self.margin_colors(indent),
-        };
+        let margin = self.colored_margin(self.margin_around(block));
         draw_block(sink, block, &margin)
     }
 

@@ -1,8 +1,9 @@
 //! The sizes that boxes need.
 ghost use Rattle.std.specs.Prelude.{◌≡◌, ◌+◌, ◌^◌, ◌≤◌, ◌⊎◌, map};
-ghost use Rattle.tabled_pool.specs.Boxes.{box_of, leaf_box, row_box, column_box, IsSize};
+ghost use Rattle.tabled_pool.specs.Boxes.{box_of, leaf_box, list_box, IsSize};
+ghost use Rattle.tabled_pool.specs.declared.box_spacing.Direction.TheVariants.{Across, Down};
 
-use crate::box_spacing::{BoxSpacing, Size};
+use crate::box_spacing::{BoxSpacing, Direction, Size};
 use crate::tree::TableValue;
 use tabled_text::{count_lines, text_width};
 
@@ -21,8 +22,8 @@ fn leaf_size(text: &str, spacing: &BoxSpacing) -> Option<Size>
 /// Returns the size that boxes side by side need, if it fits in `usize`.
 #[cycle(sizes)]
 #[tactic(auto, using(crate::proofs::Sums::row_width_more, crate::proofs::Sums::row_height_most, crate::proofs::Sums::column_width_most, crate::proofs::Sums::column_height_more,))]
-pub fn row_size(children: &[TableValue], spacing: &BoxSpacing) -> Option<Size>
-    ensures { IsSize result (row_box spacing.now (map (box_of spacing.now) children.now)) }
+fn row_size(children: &[TableValue], spacing: &BoxSpacing) -> Option<Size>
+    ensures { IsSize result (list_box Across spacing.now (map (box_of spacing.now) children.now)) }
 {
     let Some((first, rest)) = children.split_first() else {
         return leaf_size("", spacing);
@@ -42,8 +43,8 @@ pub fn row_size(children: &[TableValue], spacing: &BoxSpacing) -> Option<Size>
 /// Returns the size that boxes below each other need, if it fits in `usize`.
 #[cycle(sizes)]
 #[tactic(auto, using(crate::proofs::Sums::row_width_more, crate::proofs::Sums::row_height_most, crate::proofs::Sums::column_width_most, crate::proofs::Sums::column_height_more,))]
-pub fn column_size(children: &[TableValue], spacing: &BoxSpacing) -> Option<Size>
-    ensures { IsSize result (column_box spacing.now (map (box_of spacing.now) children.now)) }
+fn column_size(children: &[TableValue], spacing: &BoxSpacing) -> Option<Size>
+    ensures { IsSize result (list_box Down spacing.now (map (box_of spacing.now) children.now)) }
 {
     let Some((first, rest)) = children.split_first() else {
         return leaf_size("", spacing);
@@ -58,6 +59,20 @@ pub fn column_size(children: &[TableValue], spacing: &BoxSpacing) -> Option<Size
         width = width.max(own.width);
     }
     Some(Size { width, height })
+}
+
+/// Returns the size that boxes in a direction need, if it fits in `usize`.
+pub fn list_size(
+    direction: Direction,
+    children: &[TableValue],
+    spacing: &BoxSpacing,
+) -> Option<Size>
+    ensures { IsSize result (list_box direction spacing.now (map (box_of spacing.now) children.now)) }
+{
+    match direction {
+        Direction::Across => row_size(children, spacing),
+        Direction::Down => column_size(children, spacing),
+    }
 }
 
 /// Returns the size that a tree needs, if it fits in `usize`.

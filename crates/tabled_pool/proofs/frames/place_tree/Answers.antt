@@ -10,5 +10,16 @@ joined o a b c d n ps p q r s h1 h2 h3 h4 h5 =
 
 pub returns : goal.returns
 unfolding framed
-returns c = joined _ _ _ _ _ _ _ _ _ _ _ c.in_ok-place_bar.ensures c.in_ok-place_bar-2.ensures
-    c.in_ok-place_bar-3.ensures c.in_ok-place_bar-4.ensures c.in_ok-place_value.ensures
+returns c =
+    let parts = joined _ _ _ _ _ _ _ _ _ _ _ c.in_ok-place_bar.ensures c.in_ok-place_bar-2.ensures
+    c.in_ok-place_bar-3.ensures c.in_ok-place_bar-4.ensures c.in_ok-place_value.ensures in
+    rw (
+      c.first_part-left.ensures,
+      c.rest_part.ensures,
+      c.first_part-top.ensures,
+      c.rest_part-2.ensures,
+      c.first_part-inner.ensures,
+      c.rest_part-below.ensures,
+      c.first_part-middle.ensures,
+      c.rest_part-rest.ensures,
+    ) at parts

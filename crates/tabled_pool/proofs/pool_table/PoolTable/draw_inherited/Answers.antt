@@ -1,6 +1,10 @@
+use Rattle.std.proofs.Common.{ap, sym, ◌∙◌}
+use Rattle.tabled_pool.specs.Pool.{marks_for}
 use Rattle.tabled_pool.proofs.PoolLemmas.{inherited_text}
 use Rattle.tabled_pool.proofs.pool_table.PoolTable.draw_inherited.Goals as goal
 
 pub returns : goal.returns
 returns g c =
-    rw (inherited_text c.args.self.now _ _ _ c.requires.bare c.requires.block c.margin_around-indent.ensures c.margin_colors.ensures) c.draw_block.ensures
+    let m = c.colored_margin-margin.ensures in
+    rw (inherited_text c.args.self.now _ _ _ c.requires.bare c.requires.block (m.indent ∙ c.margin_around.ensures)
+    (m.colors ∙ ap (marks_for c.args.self.now) (sym m.indent))) c.draw_block.ensures
