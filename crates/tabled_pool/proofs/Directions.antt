@@ -9,7 +9,7 @@ use Rattle.tabled_pool.specs.declared.box_spacing.Direction.{Direction}
 use Rattle.tabled_pool.specs.declared.box_spacing.Direction.TheVariants.{Across, Down}
 use Rattle.tabled_pool.specs.declared.pieces.Rectangle.{Rectangle}
 use Rattle.tabled_pool.specs.Boxes.{Box, share, pick, first_part, rest_part, box_along, box_across, place_along}
-use Rattle.tabled_pool.specs.Boxes.{place_across, border_size, priority_of, given_size, behind_border, needed_by}
+use Rattle.tabled_pool.specs.Boxes.{place_across, border_size, given_size, behind_border, needed_by}
 use Rattle.tabled_pool.specs.Boxes.{joined_box}
 use Rattle.tabled_pool.specs.Shown.{Fits}
 

@@ -1,5 +1,5 @@
 -- Each leaf of a tree is given at least its own size.
-use Rattle.std.proofs.Common.{ℕ, ◌+◌, ◌<◌, ◌≤◌, List, [], ◌∷◌, ◌++◌, map, length, sym, subst, arith, string_bytes}
+use Rattle.std.proofs.Common.{ℕ, ◌+◌, ◌<◌, List, [], ◌∷◌, ◌++◌, map, length, sym, subst, arith, string_bytes}
 use Rattle.tabled_pool.specs.declared.box_spacing.BoxSpacing.{BoxSpacing}
 use Rattle.tabled_pool.specs.declared.pieces.Rectangle.{Rectangle}
 use Rattle.tabled_pool.specs.declared.box_spacing.Direction.{Direction}

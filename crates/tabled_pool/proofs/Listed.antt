@@ -1,5 +1,5 @@
 -- Owners of positions in parts that tile a rectangle.
-use Rattle.std.proofs.Common.{◌≡◌, ℕ, zero, suc, ◌+◌, ◌-◌, ◌<◌, ◌≤◌, true, false, List, [], ◌∷◌, Option, Some, None, slice_get, get_or, length, map, refl, sym, ap, ◌∙◌, subst, arith, ⊎_elim, ◌⊎◌, inl, inr}
+use Rattle.std.proofs.Common.{◌≡◌, ℕ, zero, suc, ◌+◌, ◌<◌, ◌≤◌, true, List, [], ◌∷◌, Some, None, slice_get, get_or, length, map, refl, sym, ap, ◌∙◌, subst, arith, ⊎_elim, ◌⊎◌}
 use Rattle.std.specs.Option.{option_map}
 use Rattle.std.proofs.lemmas.Bool.Decides.{nat_tests}
 use Rattle.std.proofs.lemmas.Option.{slice_get-map, slice_get_read}
@@ -9,7 +9,7 @@ use Rattle.tabled_pool.specs.Boxes.{Part}
 use Rattle.tabled_pool.specs.Shown.{shown}
 use Rattle.tabled_pool.specs.Tiling.{within, covering, AreTiles}
 use Rattle.tabled_pool.specs.Owner.{contains, owner}
-use Rattle.tabled_pool.proofs.Owners.{inside-within, within-inside, within-le, owner-here, owner-behind, owner-inside, counted, is-1}
+use Rattle.tabled_pool.proofs.Owners.{within-inside, within-le, owner-here, owner-behind, is-1}
 
 -- a place that no part covers has no owner
 pub owner-none : (ps : List Part) (x y : ℕ) → covering ps x y ≡ 0 → owner ps x y ≡ None

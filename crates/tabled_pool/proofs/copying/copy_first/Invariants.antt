@@ -1,5 +1,3 @@
-use Rattle.std.proofs.Common.{◌≡◌, ◌+◌, ◌≤◌}
-use Rattle.tabled_pool.specs.Tree.{tree_of}
 use Rattle.tabled_pool.specs.Nodes.{nodes}
 use Rattle.tabled_pool.specs.Levels.{GoesDown}
 use Rattle.tabled_pool.proofs.copying.copy_first.Given as goal

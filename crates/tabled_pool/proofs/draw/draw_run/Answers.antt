@@ -1,4 +1,4 @@
-use Rattle.std.proofs.Common.{sym, arith}
+use Rattle.std.proofs.Common.{arith}
 use Rattle.tabled_pool.specs.Plans.{plan_of}
 use Rattle.tabled_pool.specs.Shown.{shown}
 use Rattle.tabled_pool.proofs.Runs.{run_inside, run_text}
