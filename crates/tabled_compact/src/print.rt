@@ -1,5 +1,5 @@
 //! Prints a compact table, and checks its columns before the first byte.
-ghost use Rattle.std.specs.Prelude.{◌≡◌, ◌≤◌, ◌+◌, ℕ, Bool, List, [], length, true, false, IfErr, IfOk, MatchResult, OnOk};
+ghost use Rattle.std.specs.Prelude.{◌≡◌, ◌≤◌, ◌+◌, ℕ, Bool, List, length, true, IfErr, IfOk, MatchResult, OnOk};
 ghost use Rattle.tabled_base.specs.RowsGiven.{RowsBegin, RowsEnd};
 ghost use Rattle.tabled_line.specs.Sent.{Sent};
 ghost use Rattle.tabled_compact.specs.Shown.{Came};
@@ -15,17 +15,6 @@ use tabled_base::{CellText, IntoRecords, TableError};
 use tabled_config::CompactConfig;
 use tabled_line::TextSink;
 use tabled_size::Dimension;
-
-/// Makes the iterator of a source and reads no row.
-fn pass_over<R, C>(rows: R)
-where
-    R: IntoIterator<Item = C>,
-    C: IntoIterator,
-    ensures { RowsBegin R.into_iter_gives R.IntoIter.next_gives C.into_iter_gives
-        C.IntoIter.next_gives rows [] false }
-{
-    let _rows = rows.into_iter();
-}
 
 /// Fails with `error` if there is a row after those that are skipped; no further row is read then.
 fn refuse<R, C>(rows: R, skip: usize, error: TableError) -> Result<(), TableError>
@@ -101,7 +90,8 @@ where
 {
     let rows = records.iter_rows();
     if columns == 0 || window.is_spent() {
-        pass_over(rows);
+        // Makes the iterator, and reads no row.
+        let _rows = rows.into_iter();
         return Ok(());
     }
     match checked_columns(config, dimension, columns) {

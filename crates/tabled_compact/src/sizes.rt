@@ -35,30 +35,6 @@ pub trait SetHeight<S, const COUNT: usize> {
         ensures { heightened self height result };
 }
 
-fn width_of<const COLUMNS: usize, const ROWS: usize>(
-    sizes: ConstDimension<COLUMNS, ROWS>,
-) -> ConstSize<COLUMNS>
-    ensures { result ≡ sizes.entry.width }
-{
-    let both: (ConstSize<COLUMNS>, ConstSize<ROWS>) = sizes.into();
-    both.0
-}
-
-fn height_of<const COLUMNS: usize, const ROWS: usize>(
-    sizes: ConstDimension<COLUMNS, ROWS>,
-) -> ConstSize<ROWS>
-    ensures { result ≡ sizes.entry.height }
-{
-    let both: (ConstSize<COLUMNS>, ConstSize<ROWS>) = sizes.into();
-    both.1
-}
-
-fn size_from<S: Into<ConstSize<COUNT>>, const COUNT: usize>(size: S) -> ConstSize<COUNT>
-    ensures { S.converts size result }
-{
-    size.into()
-}
-
 impl<
     S: Into<ConstSize<COUNT>>,
     const COUNT: usize,
@@ -70,7 +46,8 @@ impl<
     ghost widened = { λ old width new. S.converts width new.width × (new.height ≡ old.height) };
 
     fn set_width(self, width: S) -> ConstDimension<COUNT, ROWS> {
-        ConstDimension::new(size_from(width), height_of(self))
+        let (_, height): (ConstSize<COLUMNS>, ConstSize<ROWS>) = self.into();
+        ConstDimension::new(width.into(), height)
     }
 }
 
@@ -85,6 +62,7 @@ impl<
     ghost heightened = { λ old height new. S.converts height new.height × (new.width ≡ old.width) };
 
     fn set_height(self, height: S) -> ConstDimension<COLUMNS, COUNT> {
-        ConstDimension::new(width_of(self), size_from(height))
+        let (width, _): (ConstSize<COLUMNS>, ConstSize<ROWS>) = self.into();
+        ConstDimension::new(width, height.into())
     }
 }

@@ -272,22 +272,10 @@ where
             (Came (I.begins self.records) I.Cell.text)
             (S.sent sink.old) result (S.sent sink.new) }
     {
-        let CompactTable {
-            records,
-            config,
-            dimension,
-            columns,
-            limit,
-            skip,
-        } = self;
-        print_compact(
-            sink,
-            records,
-            &config,
-            &dimension,
-            columns,
-            Window { skip, limit },
-        )
+        let (columns, skip, limit) = (self.columns, self.skip, self.limit);
+        let (config, dimension) = (self.config, self.dimension);
+        let window = Window { skip, limit };
+        print_compact(sink, self.records, &config, &dimension, columns, window)
     }
 
     /// Prints the table to a writer, as `fmt` does to a sink. The writer isn't flushed, and nothing
@@ -328,9 +316,7 @@ where
             (record { bytes = Some []; failures = 0; grows = true }) e new × (new.failures ≡ 0)) }
     {
         let mut text = String::new(alloc);
-        match self.fmt(&mut text) {
-            Ok(()) => Ok(text),
-            Err(error) => Err(error),
-        }
+        self.fmt(&mut text)?;
+        Ok(text)
     }
 }

@@ -1,8 +1,7 @@
 //! Whether the settings of a table separate its cells, so that all lines are equally wide whatever
 //! the cells contain.
-ghost use Rattle.std.specs.Prelude.{◌≡◌, ◌↔◌, ◌<◌, ◌≤◌, ◌⊎◌, ℕ, IsTrue, Some, true};
+ghost use Rattle.std.specs.Prelude.{◌≡◌, ◌↔◌, ◌<◌, ◌≤◌, ℕ, IsTrue, Some};
 ghost use Rattle.tabled_text.specs.Plain.{IsAdditiveColumn};
-ghost use Rattle.tabled_text.specs.FramedLines.{IsSeparatorColumn};
 ghost use Rattle.tabled_config.specs.Settings.{frame, rule_at, style_at};
 ghost use Rattle.tabled_config.specs.declared.borders.HorizontalLine.{HorizontalLine};
 ghost use Rattle.tabled_line.specs.Apart.{AreApartCells, ArePaddedLeft, HasGaps, HasSteadyBars, IsApartFrame, IsApartStyle};
@@ -30,13 +29,6 @@ fn is_apart_style(style: CellStyle) -> bool
         && is_separator_column(style.padding.right.fill)
         && is_separator_column(style.padding.top.fill)
         && is_separator_column(style.padding.bottom.fill)
-}
-
-/// Whether the vertical lines before cells are separators.
-fn are_separators(frame: Frame) -> bool
-    ensures { IsTrue result ↔ (IsSeparatorColumn frame.left.main × IsSeparatorColumn frame.inner.main) }
-{
-    is_separator_column(frame.left.main) && is_separator_column(frame.inner.main)
 }
 
 /// Whether the padding of each cell of a row consists of separators.
@@ -80,7 +72,9 @@ fn has_right_padding(config: &SpannedConfig, row: usize, columns: usize) -> bool
 fn has_steady_bars(config: &SpannedConfig, row: usize, columns: usize) -> bool
     ensures { IsTrue result ↔ HasSteadyBars (frame config.now) columns (style_at config.now row) }
 {
-    are_separators(config.frame()) || has_left_padding(config, row, columns)
+    let frame = config.frame();
+    (is_separator_column(frame.left.main) && is_separator_column(frame.inner.main))
+        || has_left_padding(config, row, columns)
 }
 
 /// Whether there is a vertical line or padding between each two cells of a row.

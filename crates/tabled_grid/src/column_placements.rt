@@ -84,27 +84,6 @@ impl ColumnPlacements {
         }))
     }
 
-    /// Returns the placements of a row with any number of columns, in allocated memory.
-    fn each<D: Dimension>(
-        alloc: Global,
-        config: &SpannedConfig,
-        dimension: &D,
-        row: usize,
-        columns: usize,
-    ) -> Option<ColumnPlacements>
-        requires { columns ≤ length (reached (D.width_at dimension.now) columns) }
-        ensures { IfSome result (λ kept.
-            ArePlacements (style_at config.now row) (columns_in config.now (slice_index (reached (D.width_at dimension.now) columns)) columns) (placements_of kept)) }
-    {
-        let Ok(mut placements) = vec![in alloc; NO_PLACEMENT; columns] else {
-            return None;
-        };
-        if !list_placements(&mut placements, config, dimension, row) {
-            return None;
-        }
-        Some(ColumnPlacements::Each(placements))
-    }
-
     /// Returns the placements of a row of `columns` cells, for rows of one line. `None` if a width
     /// is missing, a text has no placement, an offset overflows, or there are more than
     /// `FEW_COLUMNS` columns and memory for them can't be allocated.
@@ -124,7 +103,14 @@ impl ColumnPlacements {
         if columns <= FEW_COLUMNS {
             return ColumnPlacements::few(config, dimension, row, columns);
         }
-        ColumnPlacements::each(memory?, config, dimension, row, columns)
+        let alloc = memory?;
+        let Ok(mut placements) = vec![in alloc; NO_PLACEMENT; columns] else {
+            return None;
+        };
+        if !list_placements(&mut placements, config, dimension, row) {
+            return None;
+        }
+        Some(ColumnPlacements::Each(placements))
     }
 
     /// Returns the placements, from left to right.

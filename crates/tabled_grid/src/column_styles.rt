@@ -1,7 +1,6 @@
 //! The styles of all columns, looked up once for rows with the same settings.
-ghost use Rattle.std.specs.Prelude.{◌≡◌, ℕ, IfErr, IfOk, IfSome, map, true};
+ghost use Rattle.std.specs.Prelude.{◌≡◌, ℕ, IfSome, map, true};
 ghost use Rattle.std.specs.List.{range_with_len, slice_index};
-ghost use Rattle.tabled_base.specs.declared.error.TableError.TheVariants.{Memory};
 ghost use Rattle.tabled_config.specs.Settings.{style_at};
 ghost use Rattle.tabled_grid.specs.ColumnStyles.{AreStyles, columns_in};
 ghost use Rattle.tabled_line.specs.Placements.{ArePlacements};
@@ -9,7 +8,6 @@ ghost use Rattle.tabled_size.specs.Reached.{reached};
 
 use crate::column_placements::ColumnPlacements;
 use std::alloc::Global;
-use tabled_base::TableError;
 use tabled_config::{CellStyle, SpannedConfig};
 use tabled_line::CellPlacement;
 use tabled_size::Dimension;
@@ -20,26 +18,8 @@ const MOST_COLUMNS: usize = 65_536;
 /// Nothing is cached for a table with fewer rows, which would gain too little.
 const FEWEST_ROWS: usize = 4;
 
-/// Returns the styles of a row of `columns` cells. The only error is `Memory`: an allocation
-/// failed.
-fn styles_in(
-    alloc: Global,
-    config: &SpannedConfig,
-    row: usize,
-    columns: usize,
-) -> Result<Vec<CellStyle>, TableError>
-    ensures ok { IfOk result (λ styles. styles.items ≡ map (style_at config.now row) (range_with_len 0 columns)) }
-    ensures only { IfErr result (λ e. e ≡ Memory) }
-{
-    let mut styles = Vec::with_capacity(alloc, columns)?;
-    'columns: for column in 0..columns {
-        styles.push(config.style_at(row, column))?;
-    }
-    Ok(styles)
-}
-
 /// Returns the styles of a row of `columns` cells, if they can be allocated.
-fn listed_styles(
+fn styles_in(
     memory: Option<Global>,
     config: &SpannedConfig,
     row: usize,
@@ -47,10 +27,11 @@ fn listed_styles(
 ) -> Option<Vec<CellStyle>>
     ensures { IfSome result (λ styles. styles.items ≡ map (style_at config.now row) (range_with_len 0 columns)) }
 {
-    match styles_in(memory?, config, row, columns) {
-        Ok(styles) => Some(styles),
-        Err(_) => None,
+    let mut styles = Vec::with_capacity(memory?, columns).ok()?;
+    'columns: for column in 0..columns {
+        styles.push(config.style_at(row, column)).ok()?;
     }
+    Some(styles)
 }
 
 /// The styles of one row's cells, which hold for every row with the same settings.
@@ -84,7 +65,7 @@ impl ColumnStyles {
         Some(ColumnStyles {
             row: rows,
             everywhere: config.are_all_alike(),
-            styles: listed_styles(memory, config, rows, columns),
+            styles: styles_in(memory, config, rows, columns),
             placements: ColumnPlacements::new(memory, config, dimension, rows, columns),
         })
     }

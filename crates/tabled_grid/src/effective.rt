@@ -43,22 +43,6 @@ pub fn print_standing<R: PeekableRecords, S: TextSink>(
         return print_grid(sink, records, config, stored);
     }
     check_stored(records, config, stored)?;
-    print_copied(sink, records, config, stored)
-}
-
-/// Prints a table with a row and a column. A copy of the stored sizes is completed with estimates.
-fn print_copied<R: PeekableRecords, S: TextSink>(
-    sink: &mut S,
-    records: &R,
-    config: &SpannedConfig,
-    stored: &CompleteDimension,
-) -> Result<(), TableError>
-    requires filled { is_empty (R.cells records.now) ≡ false }
-    requires sized { IsSized (effective (R.cells records.now) config.now stored.now) }
-    requires holds { Holds (effective (R.cells records.now) config.now stored.now) }
-    ensures { Prints true (effective (R.cells records.now) config.now stored.now)
-        (S.sent sink.old) result (S.sent sink.new) }
-{
     let copy = stored.clone()?;
     print_filled_in(sink, records, config, copy)
 }

@@ -1,7 +1,7 @@
 //! A table to print: records, settings and sizes.
 ghost use Rattle.std.specs.Prelude.{◌≡◌, ◌<◌, ℕ, IfSome, length};
 ghost use Rattle.std.specs.List.{slice_index};
-ghost use Rattle.tabled_base.specs.Cells.{IsInside, cell_at, columns};
+ghost use Rattle.tabled_base.specs.Cells.{columns};
 ghost use Rattle.tabled_config.specs.Frame.{if_any, inner_line};
 ghost use Rattle.tabled_config.specs.RowStyles.{style_in};
 ghost use Rattle.tabled_config.specs.Settings.{frame, rule_at, style_at};
@@ -9,16 +9,15 @@ ghost use Rattle.tabled_grid.specs.ColumnStyles.{AreStyles};
 ghost use Rattle.tabled_grid.specs.Grid.{sheet_by};
 ghost use Rattle.tabled_grid.specs.Picture.{columns_of};
 ghost use Rattle.tabled_line.specs.Placements.{ArePlacements, IsUniform};
-ghost use Rattle.tabled_size.specs.Holds.{IsSized};
 ghost use Rattle.tabled_size.specs.Reached.{reached};
 ghost use Rattle.tabled_size.specs.Sheet.{Sheet};
 
 use crate::column_styles::ColumnStyles;
 use std::alloc::Global;
 use std::marker::Model;
-use tabled_base::{PeekableRecords, Position};
-use tabled_config::{CellStyle, Frame, HorizontalLine, RowStyles, SpannedConfig};
-use tabled_line::{CellBlock, CellPlacement, ColumnSeparator, Content, UniformPlacement};
+use tabled_base::PeekableRecords;
+use tabled_config::{Frame, HorizontalLine, RowStyles, SpannedConfig};
+use tabled_line::{CellPlacement, ColumnSeparator, UniformPlacement};
 use tabled_size::Dimension;
 
 /// Records, settings and sizes, with what is looked up once for all rows. Contracts see them as a
@@ -36,8 +35,8 @@ pub(crate) struct Grid<'a, R: PeekableRecords, D: Dimension> {
     around: Frame,
     // The horizontal line between two rows, by the borders.
     between: Option<HorizontalLine>,
-    // The separator between the texts of two columns.
-    separator: ColumnSeparator,
+    /// The separator between the texts of two columns.
+    pub separator: ColumnSeparator,
     // The placement of all texts, if they share one.
     uniform: Option<UniformPlacement>,
     by_column: Option<ColumnStyles>,
@@ -103,32 +102,18 @@ impl<'a, R: PeekableRecords, D: Dimension> Grid<'a, R, D> {
         &self.around
     }
 
-    /// Returns the separator between two texts, for rows of one line.
-    pub fn separator(&self) -> &ColumnSeparator
-        ensures { result.now.bar ≡ (frame self.now.config).inner }
-    {
-        &self.separator
-    }
-
-    /// Returns the placement that all texts of a row share, if no padding or horizontal alignment
-    /// was set for a column or for a cell of the row.
-    #[inline(always)]
-    fn uniform_of_row(&self, row: usize) -> Option<UniformPlacement>
-        ensures { IfSome result (λ uniform. (column : ℕ) → IsUniform (style_at self.now.config row column) uniform) }
-    {
-        let (padding, horizontal) = self.config.row_sides(row)?;
-        UniformPlacement::of(padding, horizontal)
-    }
-
-    /// Returns the placement that all texts of a row share, if one is known.
+    /// Returns the placement that all texts of a row share, if one is known: that of the table, or
+    /// that of the row if no padding or horizontal alignment was set for a column or for one of its
+    /// cells.
     #[inline(always)]
     pub fn uniform(&self, row: usize) -> Option<UniformPlacement>
         ensures { IfSome result (λ uniform. (column : ℕ) → IsUniform (style_at self.now.config row column) uniform) }
     {
-        match self.uniform {
-            Some(uniform) => Some(uniform),
-            None => self.uniform_of_row(row),
+        if let Some(uniform) = self.uniform {
+            return Some(uniform);
         }
+        let (padding, horizontal) = self.config.row_sides(row)?;
+        UniformPlacement::of(padding, horizontal)
     }
 
     /// Returns the styles of a row's cells.
@@ -165,38 +150,6 @@ impl<'a, R: PeekableRecords, D: Dimension> Grid<'a, R, D> {
         self.records.count_columns()
     }
 
-    /// Returns the text of a cell with its measures.
-    #[inline(always)]
-    pub fn content(&self, at: Position) -> Content<'a>
-        requires { IsInside self.now.cells at.row at.column }
-        ensures { result.text.now ≡ cell_at self.now.cells at.row at.column }
-    {
-        let (text, columns, lines) = self.records.get_measured(at);
-        Content {
-            text,
-            columns,
-            lines,
-        }
-    }
-
-    /// Returns a cell to print, in its style. Its width and its height must be there.
-    pub fn block(&self, at: Position, style: CellStyle) -> CellBlock<'a>
-        requires sized { IsSized self.now }
-        requires inside { IsInside self.now.cells at.row at.column }
-        requires style { style ≡ style_at self.now.config at.row at.column }
-        ensures style { result.style ≡ style_at self.now.config at.row at.column }
-        ensures width { result.width ≡ slice_index self.now.widths at.column }
-        ensures height { result.height ≡ slice_index self.now.heights at.row }
-        ensures text { result.content.text.now ≡ cell_at self.now.cells at.row at.column }
-    {
-        CellBlock {
-            style,
-            width: self.width(at.column),
-            height: self.height(at.row),
-            content: self.content(at),
-        }
-    }
-
     /// Returns the horizontal line above the first row or below the last one, if there is one.
     #[inline(never)]
     fn outer_rule(&self, index: usize) -> Option<HorizontalLine>
@@ -226,13 +179,5 @@ impl<'a, R: PeekableRecords, D: Dimension> Grid<'a, R, D> {
         ensures { result ≡ slice_index self.now.widths column }
     {
         self.dimension.get_width(column)
-    }
-
-    /// Returns the height of a row, which must be there.
-    pub fn height(&self, row: usize) -> usize
-        requires { row < length self.now.heights }
-        ensures { result ≡ slice_index self.now.heights row }
-    {
-        self.dimension.get_height(row)
     }
 }

@@ -54,7 +54,8 @@ impl<'a, R: PeekableRecords, D: Dimension> Row<'a> for GridRow<'a, R, D> {
     }
 
     fn height(&self) -> usize {
-        self.grid.height(self.row)
+        let grid = self.grid;
+        grid.dimension.get_height(self.row)
     }
 
     fn frame(&self) -> &Frame {
@@ -62,7 +63,8 @@ impl<'a, R: PeekableRecords, D: Dimension> Row<'a> for GridRow<'a, R, D> {
     }
 
     fn separator(&self) -> &ColumnSeparator {
-        self.grid.separator()
+        let grid = self.grid;
+        &grid.separator
     }
 
     #[inline(always)]
@@ -84,20 +86,26 @@ impl<'a, R: PeekableRecords, D: Dimension> Row<'a> for GridRow<'a, R, D> {
 
     #[inline(always)]
     fn content(&self, column: usize) -> Content<'a> {
-        self.grid.content(Position {
+        let grid = self.grid;
+        let at = Position {
             row: self.row,
             column,
-        })
+        };
+        let (text, columns, lines) = grid.records.get_measured(at);
+        Content {
+            text,
+            columns,
+            lines,
+        }
     }
 
     fn cell(&self, column: usize, style: CellStyle) -> CellBlock<'a> {
-        self.grid.block(
-            Position {
-                row: self.row,
-                column,
-            },
+        CellBlock {
             style,
-        )
+            width: self.width(column),
+            height: self.height(),
+            content: self.content(column),
+        }
     }
 
     fn count_drawn(&self) -> usize {

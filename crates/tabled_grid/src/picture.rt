@@ -1,5 +1,5 @@
 //! Writes all lines of a table.
-ghost use Rattle.std.specs.Prelude.{◌≡◌, ◌<◌, length};
+ghost use Rattle.std.specs.Prelude.{◌≡◌, length};
 ghost use Rattle.std.specs.List.{flat_map, join_with_byte, range_with_len};
 ghost use Rattle.tabled_size.specs.Holds.{IsSized};
 ghost use Rattle.tabled_line.specs.Leading.{WritesLines};
@@ -34,23 +34,7 @@ impl<'a, R: PeekableRecords, D: Dimension> Picture<'a, R, D> {
         self.lines.write_rule(sink, rule)
     }
 
-    /// Writes a row, after the horizontal line above it.
-    fn write_row_part<S: TextSink>(
-        &mut self,
-        sink: &mut S,
-        row: usize,
-        cursors: &mut [Cursor<'a>],
-    ) -> Result<(), TableError>
-        requires row_in { row < length self.old.lines.columns.grid.now.cells }
-        ensures printed { WritesLines (S.sent sink.old) self.old.lines.begun result (S.sent sink.new) self.new.lines.begun
-            (row_part self.old.lines.columns.grid.now row) }
-        ensures same { self.new.lines.columns ≡ self.old.lines.columns }
-    {
-        let grid = self.lines.columns.grid;
-        self.write_rule(sink, row)?;
-        self.lines.write_row(sink, &GridRow { grid, row }, cursors)
-    }
-
+    /// Writes all rows, each after the horizontal line above it.
     fn write_rows<S: TextSink>(
         &mut self,
         sink: &mut S,
@@ -63,7 +47,8 @@ impl<'a, R: PeekableRecords, D: Dimension> Picture<'a, R, D> {
     {
         let grid = self.lines.columns.grid;
         'rows: for row in 0..grid.count_rows() {
-            self.write_row_part(sink, row, cursors)?;
+            self.write_rule(sink, row)?;
+            self.lines.write_row(sink, &GridRow { grid, row }, cursors)?;
         }
         Ok(())
     }

@@ -2,30 +2,24 @@
 //! wide.
 ghost use Rattle.std.specs.Prelude.{◌≡◌, ◌↔◌, ◌<◌, ◌≤◌, ℕ, IsTrue, Some, [], length, slice_index_or};
 ghost use Rattle.std.specs.List.{All};
-ghost use Rattle.tabled_text.specs.Plain.{IsAdditiveColumn, IsPlain};
+ghost use Rattle.tabled_text.specs.Plain.{IsPlain};
 ghost use Rattle.tabled_config.specs.Settings.{rule_at, style_at};
 ghost use Rattle.tabled_config.specs.declared.borders.HorizontalLine.{HorizontalLine};
 ghost use Rattle.tabled_size.specs.PlainCells.{ArePlain};
-ghost use Rattle.tabled_line.specs.Plain.{IsPlainFrame, IsPlainPiece, IsPlainRule, IsPlainStyle};
+ghost use Rattle.tabled_line.specs.Plain.{IsPlainFrame, IsPlainRule, IsPlainStyle};
 ghost use Rattle.tabled_grid.specs.PlainSheet.{IsPlainConfig};
 
 use tabled_base::{PeekableRecords, Position};
-use tabled_config::{CellStyle, Frame, HorizontalLine, Indent, Sides, SpannedConfig};
+use tabled_config::{CellStyle, Frame, HorizontalLine, SpannedConfig};
 use tabled_text::{is_additive_column, is_plain};
-
-fn is_plain_piece(piece: Option<char>) -> bool
-    ensures { IsTrue result ↔ IsPlainPiece piece }
-{
-    is_additive_column(piece.unwrap_or(' '))
-}
 
 fn is_plain_rule(line: HorizontalLine) -> bool
     ensures { IsTrue result ↔ IsPlainRule line }
 {
-    is_plain_piece(line.main)
-        && is_plain_piece(line.left)
-        && is_plain_piece(line.intersection)
-        && is_plain_piece(line.right)
+    is_additive_column(line.main.unwrap_or(' '))
+        && is_additive_column(line.left.unwrap_or(' '))
+        && is_additive_column(line.intersection.unwrap_or(' '))
+        && is_additive_column(line.right.unwrap_or(' '))
 }
 
 fn is_plain_style(style: CellStyle) -> bool
@@ -86,16 +80,6 @@ fn are_plain_styles(config: &SpannedConfig, rows: usize, columns: usize) -> bool
     true
 }
 
-fn is_plain_margin(margin: Sides<Indent>) -> bool
-    ensures { IsTrue result ↔ (IsAdditiveColumn margin.left.fill × IsAdditiveColumn margin.right.fill
-        × IsAdditiveColumn margin.top.fill × IsAdditiveColumn margin.bottom.fill) }
-{
-    is_additive_column(margin.left.fill)
-        && is_additive_column(margin.right.fill)
-        && is_additive_column(margin.top.fill)
-        && is_additive_column(margin.bottom.fill)
-}
-
 /// Whether vertical lines and margins are additive.
 fn is_plain_frame(frame: Frame) -> bool
     ensures { IsTrue result ↔ IsPlainFrame frame }
@@ -103,7 +87,10 @@ fn is_plain_frame(frame: Frame) -> bool
     is_additive_column(frame.inner.main)
         && is_additive_column(frame.left.main)
         && is_additive_column(frame.right.main)
-        && is_plain_margin(frame.margin)
+        && is_additive_column(frame.margin.left.fill)
+        && is_additive_column(frame.margin.right.fill)
+        && is_additive_column(frame.margin.top.fill)
+        && is_additive_column(frame.margin.bottom.fill)
 }
 
 /// Whether all horizontal lines and paddings are additive.

@@ -13,7 +13,21 @@ returns-then-columns-eq0 g c =
       | then-columns-eq0-via-then-columns-eq0 w ↦ inl w.if-columns-eq0.true
       | then-columns-eq0-via-else-columns-eq0+then-is_spent w ↦ inr (w.if-is_spent.ensures.0 refl)
     ] in
-    prints-nothing t c.args.window _ _ ([], c.iter_rows-rows.ensures.begins [] false c.pass_over.ensures, refl) why
+    let it = c.into_iter-rows in
+    prints-nothing t c.args.window _ _ (
+      [],
+      c.iter_rows-rows.ensures.begins [] false
+          (record {
+            lists = [];
+            iterator = it.result;
+            made = it.ensures.into_iter_gives;
+            reached = it.result;
+            yielded = refl;
+            each = tt;
+            ended = λ e. absurd (cc);
+          }),
+      refl,
+    ) why
 
 pub returns-in-Ok : goal.returns-in-Ok
 returns-in-Ok g c =

@@ -1,9 +1,10 @@
-use Rattle.std.proofs.Common.{◌∙◌, Bool, ap, false, not, subst, sym}
+use Rattle.std.proofs.Common.{◌∙◌, Bool, ap, false, inl, not, subst, sym, true}
+use Rattle.tabled_size.specs.Holds.{Holds, IsSized}
 use Rattle.tabled_size.specs.Sheet.{Sheet}
 use Rattle.tabled_size.specs.Effective.{effective}
 use Rattle.tabled_grid.specs.Printed.{Prints}
-use Rattle.tabled_grid.proofs.Printing.{prints_nothing}
-use Rattle.tabled_grid.proofs.EffectiveSizes.{answered_complete}
+use Rattle.tabled_grid.proofs.Printing.{prints_nothing, refused_so}
+use Rattle.tabled_grid.proofs.EffectiveSizes.{answered_complete, same_effective}
 use Rattle.tabled_grid.proofs.effective.print_standing.Goals as goal
 
 pub returns-then-is_empty : goal.returns-then-is_empty
@@ -19,8 +20,31 @@ returns-then-is_complete g c =
     subst Q (ap not (sym stored))
     (subst P (answered_complete (g.R.ExactRecords.cells c.args.records.now) c.args.config.now c.args.stored.now stored) c.print_grid.ensures)
 
+pub returns-in_err-copy : goal.returns-in_err-copy
+returns-in_err-copy g c =
+    let t = effective (g.R.ExactRecords.cells c.args.records.now) c.args.config.now c.args.stored.now in
+    let Q : Bool → Type 0 = λ estimates. Prints estimates t (g.S.TextSink.sent c.args.sink.now) c.from_residual-in_err-copy.result (g.S.TextSink.sent c.args.sink.now) in
+    subst Q (ap not (sym (sym c.is_complete.ensures ∙ c.if-is_complete.false)))
+    (refused_so t _ _ _ (sym c.is_empty.ensures.value ∙ c.if-is_empty.false) (inl c.in_err-copy.ensures.only) c.from_residual-in_err-copy.ensures.1)
+
+pub print_filled_in-requires-clause-sized : goal.print_filled_in-requires-clause-sized
+print_filled_in-requires-clause-sized g c =
+    subst IsSized
+    (sym (same_effective (g.R.ExactRecords.cells c.args.records.now) c.args.config.now c.args.stored.now c.in_ok-copy.copy c.in_ok-copy.ensures.widths c.in_ok-copy.ensures.heights))
+    c.in_ok-check_stored.ensures.sized
+
+pub print_filled_in-requires-clause-holds : goal.print_filled_in-requires-clause-holds
+print_filled_in-requires-clause-holds g c =
+    subst Holds
+    (sym (same_effective (g.R.ExactRecords.cells c.args.records.now) c.args.config.now c.args.stored.now c.in_ok-copy.copy c.in_ok-copy.ensures.widths c.in_ok-copy.ensures.heights))
+    c.in_ok-check_stored.ensures.holds
+
 pub returns : goal.returns
 returns g c =
-    let Q : Bool → Type 0 = λ estimates. Prints estimates (effective (g.R.ExactRecords.cells c.args.records.now) c.args.config.now c.args.stored.now)
-    (g.S.TextSink.sent c.args.sink.now) c.print_copied.result (g.S.TextSink.sent c.print_copied.new.sink) in
-    subst Q (ap not (sym (sym c.is_complete.ensures ∙ c.if-is_complete.false))) c.print_copied.ensures
+    let t = effective (g.R.ExactRecords.cells c.args.records.now) c.args.config.now c.args.stored.now in
+    let P : Sheet → Type 0 = λ t. Prints true t (g.S.TextSink.sent c.args.sink.now) c.print_filled_in.result (g.S.TextSink.sent c.print_filled_in.new.sink) in
+    let Q : Bool → Type 0 = λ estimates. Prints estimates t (g.S.TextSink.sent c.args.sink.now) c.print_filled_in.result (g.S.TextSink.sent c.print_filled_in.new.sink) in
+    subst Q (ap not (sym (sym c.is_complete.ensures ∙ c.if-is_complete.false)))
+    (subst P
+    (same_effective (g.R.ExactRecords.cells c.args.records.now) c.args.config.now c.args.stored.now c.in_ok-copy.copy c.in_ok-copy.ensures.widths c.in_ok-copy.ensures.heights)
+    c.print_filled_in.ensures)

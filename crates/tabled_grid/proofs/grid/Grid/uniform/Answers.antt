@@ -3,7 +3,7 @@ use Rattle.tabled_config.specs.Settings.{style_at}
 use Rattle.tabled_config.specs.declared.spanned.CellStyle.{CellStyle}
 use Rattle.tabled_line.specs.Placements.{IsUniform}
 use Rattle.tabled_line.specs.declared.placement.UniformPlacement.{UniformPlacement}
-use Rattle.tabled_grid.proofs.grid.Grid.uniform_of_row.Goals as goal
+use Rattle.tabled_grid.proofs.grid.Grid.uniform.Goals as goal
 
 -- what holds of the style of each column
 each-uniform : (styles : ℕ → CellStyle) (o : Option UniformPlacement) → ((column : ℕ) → IfSome o (IsUniform (styles column)))

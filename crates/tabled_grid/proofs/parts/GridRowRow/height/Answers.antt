@@ -1,0 +1,21 @@
+use Rattle.std.proofs.Common.{◌≡◌, ◌<◌, arith, length, subst, sym}
+use Rattle.std.specs.List.{slice_index}
+use Rattle.tabled_size.specs.Sheet.{Sheet}
+use Rattle.tabled_size.proofs.Reaching.{reached_size, reached_there}
+use Rattle.tabled_grid.proofs.parts.GridRowRow.height.Goals as goal
+
+pub get_height-requires : goal.get_height-requires
+get_height-requires g c =
+    let P : Sheet → Type 0 = λ t. c.args.self.now.row < length t.heights in
+    let here : P c.args.self.now.grid.now = omega (arith, c.args.self.now.inside, c.args.self.now.sized.rows) in
+    reached_there (g.D.Dimension.height_at c.grid.inside.dimension.now) (length (g.R.ExactRecords.cells c.grid.inside.records.now))
+    c.args.self.now.row (subst P (sym c.grid.view_is) here)
+
+pub returns : goal.returns
+returns g c =
+    let P : Sheet → Type 0 = λ t. c.args.self.now.row < length t.heights in
+    let Q : Sheet → Type 0 = λ t. c.get_height.result ≡ slice_index t.heights c.args.self.now.row in
+    let here : P c.args.self.now.grid.now = omega (arith, c.args.self.now.inside, c.args.self.now.sized.rows) in
+    subst Q c.grid.view_is
+    (reached_size (g.D.Dimension.height_at c.grid.inside.dimension.now) (length (g.R.ExactRecords.cells c.grid.inside.records.now))
+    c.args.self.now.row _ (subst P (sym c.grid.view_is) here) c.get_height.ensures)
