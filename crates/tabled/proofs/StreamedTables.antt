@@ -29,14 +29,15 @@ use Rattle.tabled_size.proofs.Passing.{width_at}
 use Rattle.tabled_table.specs.Stream.GoesOn.{GoesOn}
 use Rattle.tabled_text.specs.Exact.{IsExactLine}
 use Rattle.tabled_table.specs.Stream.LikeTable.{AreMeasured, IsLikeTable}
-use Rattle.tabled_table.specs.Stream.NewTable.{IsNewConfig, new_settings}
+use Rattle.tabled_line.specs.NewConfig.{IsNewConfig}
+use Rattle.tabled_table.specs.Stream.NewTable.{new_settings}
 use Rattle.tabled_table.specs.Stream.Printed.{text_above}
 use Rattle.tabled_table.specs.Stream.Streamed.{IsStreamed, column_count, content_width, sniffed, stream_height, stream_widths, tallest}
-use Rattle.tabled_table.specs.Stream.Streams.{AreSniffed, IsFilled, IsTooHighFirst, PrintsStream, StreamStops, StopsAtEnd, StopsAtRow, StopsEarly, StopsInRows, Streams, stream_total}
+use Rattle.tabled_table.specs.Stream.Streams.{AreEnough, AreSniffed, IsFilled, IsTooHighFirst, PrintsStream}
+use Rattle.tabled_table.specs.Stream.Streams.{StreamStops, StopsAtEnd, StopsAtRow, StopsEarly, StopsInRows, Streams, stream_total}
 use Rattle.tabled_table.specs.declared.iter_table.settings.StreamSettings.{StreamSettings}
 use Rattle.tabled_table.proofs.Stream.SameSheet.{all-sniffed, counted-columns, heights-same, like_table, row-cut, width-same, widths-same}
 use Rattle.tabled_table.proofs.Stream.StreamedTexts.{streamed_holds, streamed_rectangular, streamed_texts}
-use Rattle.tabled_table.proofs.Stream.TakenRows.{enough_sniffed}
 use Rattle.tabled_table.proofs.Stream.WholeTexts.{goes_on}
 use Rattle.tabled_table.specs.NewConfig.{new_config}
 use Rattle.tabled_table.specs.TableSheet.{new_sheet}
@@ -52,6 +53,10 @@ use Rattle.tabled.proofs.LowTables.{low_total}
 use Rattle.tabled.proofs.PlannedTables.{changed_columns}
 
 -- ---- the settings of a new stream are those of a new table
+
+enough_sniffed : (settings : StreamSettings) (rows : Cells) (whole : Bool) → AreEnough settings rows whole → AreSniffed settings rows whole
+enough_sniffed settings rows whole (inl h) = inl h
+enough_sniffed settings rows whole (inr (h, _)) = inr h
 
 new_spanned_is : (c : CompactConfig) → IsNewConfig c → spanned_of_compact c ≡ new_config
 unfolding new_config

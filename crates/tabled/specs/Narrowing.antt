@@ -2,9 +2,9 @@
 use Rattle.std.specs.Prelude.{◌≡◌, ℕ}
 use Rattle.tabled_size.specs.Holds.{Holds, IsSized}
 use Rattle.tabled_size.specs.Sheet.{Sheet, is_empty}
-use Rattle.tabled.specs.declared.narrowing.Fit.{Fit}
-use Rattle.tabled.specs.declared.narrowing.Fit.TheVariants.{Truncate, Wrap}
-use Rattle.tabled.specs.declared.narrowing.Narrowing.{Narrowing}
+use Rattle.tabled.specs.declared.rendering.Fit.{Fit}
+use Rattle.tabled.specs.declared.rendering.Fit.TheVariants.{Truncate, Wrap}
+use Rattle.tabled.specs.declared.rendering.Narrowing.{Narrowing}
 use Rattle.tabled.specs.declared.plan.Order.{Order}
 use Rattle.tabled.specs.declared.plan.Plan.{Plan}
 use Rattle.tabled.specs.declared.plan.Plan.TheVariants.{Wrapped, Shortened}

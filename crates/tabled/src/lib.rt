@@ -9,9 +9,8 @@
 //!
 //! Each module below has an example, which the programs `docs_tour` and `docs_gallery` run.
 //!
-//! - `rendering.rt`: `render`; `plan.rt`: its plans.
-//! - `narrowing.rt`, `order_priority.rt`: narrowed tables.
-//! - `program.rt`: `run`; `arguments.rt`, `input.rt`, `fault.rt`: its arguments, input, failures.
+//! - `rendering.rt`: `render`; `plan.rt`: its plans; `order_priority.rt`: the order of shrinking.
+//! - `program.rt`: `run`; `arguments.rt`, `fault.rt`: its arguments and failures.
 //! - `block_sink.rt`, `block_buffer.rt`: output in blocks.
 #![tactic(auto)]
 
@@ -19,8 +18,6 @@ mod arguments;
 mod block_buffer;
 mod block_sink;
 mod fault;
-mod input;
-mod narrowing;
 mod order_priority;
 mod plan;
 mod program;

@@ -1,27 +1,70 @@
 //! The command-line program over any reader and writers.
-ghost use Rattle.std.specs.Prelude.{◌≡◌, ◌≤◌, ◌↔◌, ◌⊎◌, IfErr, IfSome, IsErrOf, OnOk, map};
+ghost use Rattle.std.specs.Prelude.{◌≡◌, ◌≤◌, ◌↔◌, ◌⊎◌, IfErr, IfOk, IfSome, IsErrOf, OnOk, map};
 ghost use Rattle.std.specs.Prelude.{string_bytes};
+ghost use Rattle.std.specs.Io.KnownBytes.{IsAtEnd};
 ghost use Rattle.tabled.specs.declared.fault.Fault.{Fault};
-ghost use Rattle.tabled.specs.declared.fault.Fault.TheVariants.{Usage};
+ghost use Rattle.tabled.specs.declared.fault.Fault.TheVariants.{Input, Memory, Usage};
 ghost use Rattle.tabled.specs.declared.plan.Plan.{Plan};
 ghost use Rattle.tabled.specs.BlockSent.{Advances, block_sent};
 ghost use Rattle.tabled.specs.Faults.{line_of, usage, word_of};
 ghost use Rattle.tabled.specs.Output.{Begins, Puts, PutsOutput};
-ghost use Rattle.tabled.specs.Runs.{HasFailed, HasPrinted};
+ghost use Rattle.tabled.specs.Runs.{HasFailed, HasPrinted, HasRead};
 ghost use Rattle.tabled.specs.Arguments.{SpellsPlan};
 
 use crate::arguments::plan_of;
 use crate::block_buffer::BlockBuffer;
 use crate::block_sink::{BlockSink, BytesSince, SinkOverWriter, WriterStart};
 use crate::fault::Fault;
-use crate::input::read_text;
 use crate::plan::Plan;
 use crate::rendering::render;
+use simdutf8::is_utf8;
 use std::alloc::Global;
 use std::io::{Read, Write};
 use std::marker::{Brand, PhantomData};
 use tabled_base::TableError;
 use tabled_grid::TextSink;
+
+/// The bytes of one read.
+const BLOCK: usize = 1 << 16;
+
+/// The number of reads after which reading fails.
+const READS: u64 = 1 << 40;
+
+/// Reads all bytes. Fails at the first error of a read, `Interrupted` too.
+fn read_all<I: Read>(alloc: Global, input: &mut I) -> Result<Vec<u8>, Fault>
+    ensures all { IfOk result (λ bytes. IfSome (I.remaining input.old) (λ all. bytes.items ≡ all)) }
+    ensures ended { OnOk result (IsAtEnd (I.remaining input.new)) }
+    ensures failed { IfErr result (λ fault. (fault ≡ Input) ⊎ (fault ≡ Memory)) }
+{
+    let mut bytes = Vec::new(alloc);
+    let mut block = [0u8; BLOCK];
+    'reads: for _read in 0..READS {
+        let Ok(count) = input.read(&mut block) else {
+            return Err(Fault::Input);
+        };
+        if count == 0 {
+            return Ok(bytes);
+        }
+        if bytes.extend_from_slice(&block[..count]).is_err() {
+            return Err(Fault::Memory);
+        }
+    }
+    Err(Fault::Input)
+}
+
+/// Reads all bytes, and fails unless they are UTF-8.
+fn read_text<I: Read>(alloc: Global, input: &mut I) -> Result<String, Fault>
+    ensures text { IfOk result (λ text. HasRead (I.remaining input.old) (I.remaining input.new)
+        (string_bytes text)) }
+    ensures failed { IfErr result (λ fault. (fault ≡ Input) ⊎ (fault ≡ Memory)) }
+{
+    let bytes = read_all(alloc, input)?;
+    if !is_utf8(&bytes) {
+        return Err(Fault::Input);
+    }
+    // In range: the bytes are checked above.
+    Ok(unsafe { String::from_utf8_unchecked(bytes) })
+}
 
 /// Prints a text as a table under a plan. Ends with a line feed, unless the text is empty.
 fn print_output<S: TextSink>(
@@ -110,16 +153,6 @@ fn attempt<I: Read, O: Write>(
     Ok(())
 }
 
-fn status(fault: &Fault) -> u8
-    ensures usage { result ≡ 2 ↔ (fault.now ≡ Fault.Usage) }
-    ensures range { (1 ≤ result) × (result ≤ 2) }
-{
-    match fault {
-        Fault::Usage => 2,
-        _ => 1,
-    }
-}
-
 /// Writes a text, and fails at the first error, `Interrupted` too.
 fn write_once<W: Write>(text: &str, writer: &mut W) -> Result<(), TableError>
     ensures { Puts (W.contents writer.old) result (W.contents writer.new) text.now }
@@ -149,7 +182,10 @@ pub(crate) fn report<E: Write>(fault: &Fault, err: &mut E) -> u8
     ensures told { Begins (E.contents err.old) (E.contents err.new) (line_of (word_of fault.now)) }
 {
     let _ = write_line_once(fault.word(), err);
-    status(fault)
+    match fault {
+        Fault::Usage => 2,
+        _ => 1,
+    }
 }
 
 /// Runs the command-line program: prints tab-separated rows as a table and ends with a line feed,

@@ -4,3 +4,4 @@ pub mod Sheets
 pub mod Shown
 pub mod ShownTables
 pub mod Stream
+pub mod Walks

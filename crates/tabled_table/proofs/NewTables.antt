@@ -25,7 +25,7 @@ use Rattle.std.proofs.Common.{
 }
 use Rattle.tabled_text.specs.Plain.{IsAdditiveColumn}
 use Rattle.tabled_text.proofs.PlainLines.{plain_column-printable, plain_column-space}
-use Rattle.tabled_base.specs.Cells.{IsRectangular, columns}
+use Rattle.tabled_base.specs.Cells.{columns}
 use Rattle.tabled_config.specs.declared.borders.HorizontalLine.{HorizontalLine}
 use Rattle.tabled_config.specs.Settings.{rule_at, style_at}
 use Rattle.tabled_config.specs.declared.spanned.SpannedConfig.{SpannedConfig}
@@ -34,20 +34,15 @@ use Rattle.tabled_size.specs.Sheet.{Sheet, is_empty}
 use Rattle.tabled_size.specs.Effective.{effective_sizes}
 use Rattle.tabled_size.specs.Stored.{heights_of, widths_of}
 use Rattle.tabled_priority.specs.Sums.{sum_below}
-use Rattle.tabled_size.specs.Totals.{filled_height, part_height, total_height, total_width}
+use Rattle.tabled_size.specs.Totals.{filled_height, part_height, total_height}
 use Rattle.tabled_priority.proofs.Sums.{sum_step}
 use Rattle.tabled_size.specs.Holds.{Holds}
-use Rattle.tabled_grid.specs.Picture.{picture}
-use Rattle.tabled_size.specs.PlainCells.{AreAdditive}
-use Rattle.tabled_line.specs.Plain.{EachLineTakes, IsPlainRule, IsPlainStyle}
+use Rattle.tabled_line.specs.Plain.{IsPlainRule, IsPlainStyle}
 use Rattle.tabled_grid.specs.PlainSheet.{IsPlainConfig}
 use Rattle.tabled_grid.proofs.EstimatedSizes.{holds_estimated}
-use Rattle.tabled_grid.proofs.Whole.{picture_columns, picture_lines}
 use Rattle.tabled_text.specs.FramedLines.{IsSeparatorColumn}
-use Rattle.tabled_size.specs.TextCells.{AreTexts}
 use Rattle.tabled_line.specs.Apart.{IsApartStyle}
 use Rattle.tabled_grid.specs.ApartSheet.{IsApartConfig}
-use Rattle.tabled_grid.proofs.ApartPictures.{apart_columns}
 use Rattle.tabled_table.specs.NewConfig.{new_config}
 use Rattle.tabled_table.specs.NewTable.{IsNew}
 use Rattle.tabled_table.specs.TableSheet.{new_sheet, sheet}
@@ -131,22 +126,6 @@ new_apart rows count = record {
     margin_right = separator-space;
   };
 }
-
--- each line of a new table takes as many columns as the whole, whatever its texts are
-pub new_texts : (cells : List (List (List ℕ))) → IsRectangular cells → AreTexts cells
-    → EachLineTakes (total_width (new_sheet cells)) (picture (new_sheet cells))
-new_texts cells h texts =
-    apart_columns (new_sheet cells) (new_apart (length cells) (columns cells)) texts h (holds_estimated cells new_config)
-
--- each line of a new table of plain texts takes as many columns as the whole
-pub new_columns : (cells : List (List (List ℕ))) → IsRectangular cells → AreAdditive cells
-    → EachLineTakes (total_width (new_sheet cells)) (picture (new_sheet cells))
-new_columns cells h plain =
-    picture_columns (new_sheet cells) (new_plain (length cells) (columns cells)) plain h (holds_estimated cells new_config)
-
--- the picture has as many lines as the whole
-pub new_lines : (cells : List (List (List ℕ))) → length (picture (new_sheet cells)) ≡ total_height (new_sheet cells)
-new_lines cells = picture_lines (new_sheet cells)
 
 part_ge : (rows : ℕ) (heights : List ℕ) (row : ℕ) → 1 ≤ part_height new_config rows heights row
 unfolding part_height

@@ -10,7 +10,7 @@ use Rattle.tabled_config.specs.declared.alignment.AlignmentHorizontal.TheVariant
 use Rattle.tabled_config.specs.Settings.{frame, rule_at, style_at}
 use Rattle.tabled_config.specs.declared.spanned.SpannedConfig.{SpannedConfig}
 use Rattle.tabled_size.specs.declared.complete_dimension.CompleteDimension.{CompleteDimension}
-use Rattle.tabled_size.specs.Estimates.{column_width, estimated_heights, estimated_widths, row_height}
+use Rattle.tabled_size.specs.Estimates.{column_width, estimated_widths}
 use Rattle.tabled_size.specs.Holds.{Holds}
 use Rattle.tabled_size.specs.Effective.{effective}
 use Rattle.tabled_size.specs.Totals.{filled_width}
@@ -92,11 +92,6 @@ module _ (config : SpannedConfig) (align : Option AlignmentHorizontal) (fill mis
       → (effective cells changed sizes).widths ≡ (effective cells config sizes).widths
   unfolding estimated_widths column_width style_at
   shown_widths cells sizes = refl
-
-  pub shown_heights : (cells : List (List (List ℕ))) (sizes : CompleteDimension)
-      → (effective cells changed sizes).heights ≡ (effective cells config sizes).heights
-  unfolding estimated_heights row_height style_at
-  shown_heights cells sizes = refl
 
   -- and they hold the same cells
   pub shown_holds : (cells : List (List (List ℕ))) (sizes : CompleteDimension)

@@ -16,7 +16,6 @@ pub mod Slices
 pub mod Sources
 pub mod Steps
 pub mod StreamedTexts
-pub mod TakenRows
 pub mod ToWriters
 pub mod TopAndBottom
 pub mod Unshown

@@ -1,6 +1,7 @@
 -- What an option leaves of a table. The stored sizes that its hint names are cleared, and all of
 -- them if it fails.
-use Rattle.std.specs.Prelude.{◌≡◌, ℕ, List, [], ◌∷◌, Option, None}
+use Rattle.std.specs.Prelude.{◌≡◌, ℕ, List, [], ◌∷◌, Option, None, length}
+use Rattle.tabled_base.specs.Cells.{columns}
 use Rattle.tabled_base.specs.declared.position.Entity.{Entity}
 use Rattle.tabled_config.specs.declared.colored.ColoredConfig.{ColoredConfig}
 use Rattle.tabled_size.specs.Cleared.{AreCleared}
@@ -31,6 +32,10 @@ pub record IsRefusedBy (refuses : Cells → ColoredConfig → CompleteDimension 
   pub sizes : CompleteDimension
   pub refused : refuses old.records old.config old.dimension new.records new.config sizes
   pub cleared : AreNone new.dimension
+
+-- the entities that a target picks in a table
+abbrev pub named_in : Table → (ℕ → ℕ → List Entity) → List Entity
+named_in table picks = picks (length table.records) (columns table.records)
 
 -- a change of cells and configuration at an entity, from old to new
 abbrev pub CellChange : Type 1

@@ -1,6 +1,12 @@
--- The sheet of a table.
-use Rattle.std.specs.Prelude.{ℕ, List}
-use Rattle.tabled_size.specs.Sheet.{Sheet, estimated}
+-- The sheet of a table, and what its settings promise.
+use Rattle.std.specs.Prelude.{◌≡◌, ◌⊎◌, ℕ, List, false, length, true}
+use Rattle.tabled_base.specs.Cells.{columns}
+use Rattle.tabled_base.specs.declared.error.TableError.{TableError}
+use Rattle.tabled_base.specs.declared.error.TableError.TheVariants.{Memory}
+use Rattle.tabled_grid.specs.ApartSheet.{IsApartConfig}
+use Rattle.tabled_grid.specs.PlainSheet.{IsPlainConfig}
+use Rattle.tabled_grid.specs.Printed.{IsPrintable, IsRefused}
+use Rattle.tabled_size.specs.Sheet.{Sheet, estimated, is_empty}
 use Rattle.tabled_size.specs.Effective.{effective}
 use Rattle.tabled_table.specs.NewConfig.{new_config}
 use Rattle.tabled_table.specs.declared.table.Table.{Table}
@@ -16,3 +22,19 @@ cells_of table = table.records
 -- a table with its effective sizes: those that are stored, else estimates
 abbrev pub sheet : Table → Sheet
 sheet table = effective (cells_of table) table.config.config table.dimension
+
+-- the settings separate the cells of a table
+abbrev pub IsApart : Table → Type 0
+IsApart table = IsApartConfig (sheet table).config (length (cells_of table)) (columns (cells_of table))
+
+-- borders, fills and margins are plain characters or separators of one column
+abbrev pub IsPlain : Table → Type 0
+IsPlain table = IsPlainConfig (sheet table).config (length (cells_of table)) (columns (cells_of table))
+
+-- the table is empty, or it can be printed
+abbrev pub HasText : Table → Type 0
+HasText table = (is_empty (cells_of table) ≡ true) ⊎ IsPrintable (sheet table)
+
+-- an allocation failed, or the table can't be printed
+abbrev pub HasNoText : Table → TableError → Type 0
+HasNoText table error = (error ≡ Memory) ⊎ ((is_empty (cells_of table) ≡ false) × IsRefused (sheet table) error)

@@ -4,7 +4,7 @@ ghost use Rattle.std.specs.Borrow.{RestsIfErr, sem};
 ghost use Rattle.tabled_base.specs.Cells.{columns};
 ghost use Rattle.tabled_base.specs.declared.error.TableError.TheVariants.{Memory, Range};
 ghost use Rattle.tabled_table.specs.Applied.{ChangesEach, IsApplied, IsModified, IsRefusedBy};
-ghost use Rattle.tabled_table.specs.TableSheet.{cells_of};
+ghost use Rattle.tabled_table.specs.Applied.{named_in};
 ghost use Rattle.tabled_table.specs.Stopped.{IsModifyingRefused, IsPutBack, IsStopped};
 ghost use Rattle.tabled_table.specs.Stopped.{kept_config};
 ghost use Rattle.tabled_table.specs.declared.table.Table.{Table};
@@ -88,11 +88,9 @@ impl Table {
         O: CellOption<VecRecords<Text<String>>, ColoredConfig>,
     >(&mut self, target: T, option: &O) -> Result<(), TableError>
         ensures ok { OnOk result (IsModified (O.changes option.now)
-            (T.picks target (length (cells_of self.old)) (columns (cells_of self.old)))
-            (O.hint option.now) self.old self.new) }
-        ensures err { IfErr result (λ e. IsModifyingRefused
-            (O.changes option.now) (O.refuses option.now) (O.out_of_range option.now)
-            (T.picks target (length (cells_of self.old)) (columns (cells_of self.old)))
+            (named_in self.old (T.picks target)) (O.hint option.now) self.old self.new) }
+        ensures err { IfErr result (λ e. IsModifyingRefused (O.changes option.now)
+            (O.refuses option.now) (O.out_of_range option.now) (named_in self.old (T.picks target))
             e self.old self.new) }
         ensures only { IfErr result (λ e. (e ≡ Memory) ⊎ (e ≡ Range)) }
     {
@@ -119,17 +117,14 @@ impl Table {
         O: CellOption<VecRecords<Text<String>>, ColoredConfig> + Drop,
     >(&mut self, target: T, option: O) -> Result<&mut Self, TableError>
         ensures* rests { sem 𝓛 (RestsIfErr the_row self.entry (λ table. table.ghost_name) result
-            (λ last. IfErr result (λ e. IsModifyingRefused
-            (O.changes option) (O.refuses option) (O.out_of_range option)
-            (T.picks target (length (cells_of self.old)) (columns (cells_of self.old)))
+            (λ last. IfErr result (λ e. IsModifyingRefused (O.changes option)
+            (O.refuses option) (O.out_of_range option) (named_in self.old (T.picks target))
             e self.old last))) }
         ensures same_reference { IfOk result (λ table. table.ghost_name ≡ self.entry.ghost_name) }
         ensures ok { IfOk result (λ table. IsModified (O.changes option)
-            (T.picks target (length (cells_of self.old)) (columns (cells_of self.old)))
-            (O.hint option) self.old table.now) }
-        ensures err { IfErr result (λ e. (left : Table) × IsModifyingRefused
-            (O.changes option) (O.refuses option) (O.out_of_range option)
-            (T.picks target (length (cells_of self.old)) (columns (cells_of self.old)))
+            (named_in self.old (T.picks target)) (O.hint option) self.old table.now) }
+        ensures err { IfErr result (λ e. (left : Table) × IsModifyingRefused (O.changes option)
+            (O.refuses option) (O.out_of_range option) (named_in self.old (T.picks target))
             e self.old left) }
         ensures only { IfErr result (λ e. (e ≡ Memory) ⊎ (e ≡ Range)) }
     {
@@ -145,11 +140,9 @@ impl Table {
         O: CellOption<VecRecords<Text<String>>, ColoredConfig> + Drop,
     >(&mut self, target: T, option: O) -> Result<(), TableError>
         ensures ok { OnOk result (IsModified (O.changes option)
-            (T.picks target (length (cells_of self.old)) (columns (cells_of self.old)))
-            (O.hint option) self.old self.new) }
-        ensures err { IfErr result (λ e. IsModifyingRefused
-            (O.changes option) (O.refuses option) (O.out_of_range option)
-            (T.picks target (length (cells_of self.old)) (columns (cells_of self.old)))
+            (named_in self.old (T.picks target)) (O.hint option) self.old self.new) }
+        ensures err { IfErr result (λ e. IsModifyingRefused (O.changes option)
+            (O.refuses option) (O.out_of_range option) (named_in self.old (T.picks target))
             e self.old self.new) }
         ensures only { IfErr result (λ e. (e ≡ Memory) ⊎ (e ≡ Range)) }
     {

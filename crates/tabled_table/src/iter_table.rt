@@ -3,11 +3,12 @@ ghost use Rattle.std.specs.Prelude.{◌≡◌, ◌⊎◌, [], IfErr, IfOk, None,
 ghost use Rattle.std.specs.Prelude.{true};
 ghost use Rattle.std.specs.Borrow.{RestsIfErr, sem};
 ghost use Rattle.tabled_base.specs.declared.error.TableError.TheVariants.{Memory, Range};
+ghost use Rattle.tabled_line.specs.NewConfig.{IsNewConfig};
 ghost use Rattle.tabled_line.specs.Sent.{Sent};
 ghost use Rattle.tabled_records.specs.Reading.{MayGive, ReadsTo};
 ghost use Rattle.tabled_table.specs.Stream.Applied.{IsApplied, WasOutOfRange};
 ghost use Rattle.tabled_table.specs.Stream.LikeTable.{PrintsLikeTable};
-ghost use Rattle.tabled_table.specs.Stream.NewTable.{IsNewConfig, new_settings};
+ghost use Rattle.tabled_table.specs.Stream.NewTable.{new_settings, with_settings};
 ghost use Rattle.tabled_table.specs.Stream.Streams.{BuildsStream, Came, PrintsStream};
 
 mod layout;
@@ -22,8 +23,8 @@ use crate::iter_table::settings::StreamSettings;
 use std::alloc::Global;
 use std::io::Write;
 use tabled_base::{CellText, IntoRecords, TableError, TableOption};
-use tabled_config::{AlignmentHorizontal, CompactConfig, Indent, Sides, Style};
-use tabled_line::{TextSink, WriterSink};
+use tabled_config::CompactConfig;
+use tabled_line::{TextSink, WriterSink, new_compact_config};
 use tabled_records::reading::next_cells;
 use tabled_size::ZeroDimension;
 
@@ -35,22 +36,6 @@ pub struct IterTable<I> {
     pub(crate) records: I,
     pub(crate) config: CompactConfig,
     pub(crate) settings: StreamSettings,
-}
-
-/// Returns the configuration of a new table: ASCII borders, one column of padding on the left and
-/// right, and text at the left.
-fn new_config() -> CompactConfig
-    ensures { IsNewConfig result }
-{
-    CompactConfig::new()
-        .set_padding(Sides::new(
-            Indent::spaced(1),
-            Indent::spaced(1),
-            Indent::zero(),
-            Indent::zero(),
-        ))
-        .set_alignment_horizontal(AlignmentHorizontal::Left)
-        .set_borders(Style::ascii().get_borders())
 }
 
 impl<I> IterTable<I> {
@@ -67,7 +52,7 @@ impl<I> IterTable<I> {
     {
         IterTable {
             records,
-            config: new_config(),
+            config: new_compact_config(),
             settings: StreamSettings {
                 sniff: 1000,
                 columns: None,
@@ -82,9 +67,8 @@ impl<I> IterTable<I> {
     /// If it isn't set, it is the number of cells in the longest row that is read ahead.
     pub fn columns(&mut self, count: usize) -> &mut Self
         ensures same_reference { result.ghost_name ≡ self.entry.ghost_name }
-        ensures set { result.now ≡ record self.old {
-          settings = record self.old.settings { columns = Some count };
-        } }
+        ensures set { result.now ≡ with_settings self.old
+            (record self.old.settings { columns = Some count }) }
     {
         self.settings.columns = Some(count);
         self
@@ -93,9 +77,8 @@ impl<I> IterTable<I> {
     /// Sets how many rows are shown at most. It doesn't limit how many rows are read ahead.
     pub fn rows(&mut self, count: usize) -> &mut Self
         ensures same_reference { result.ghost_name ≡ self.entry.ghost_name }
-        ensures set { result.now ≡ record self.old {
-          settings = record self.old.settings { rows = Some count };
-        } }
+        ensures set { result.now ≡ with_settings self.old
+            (record self.old.settings { rows = Some count }) }
     {
         self.settings.rows = Some(count);
         self
@@ -105,9 +88,8 @@ impl<I> IterTable<I> {
     /// number of columns and their width are set, no row is read ahead.
     pub fn sniff(&mut self, count: usize) -> &mut Self
         ensures same_reference { result.ghost_name ≡ self.entry.ghost_name }
-        ensures set { result.now ≡ record self.old {
-          settings = record self.old.settings { sniff = count };
-        } }
+        ensures set { result.now ≡ with_settings self.old
+            (record self.old.settings { sniff = count }) }
     {
         self.settings.sniff = count;
         self
@@ -117,9 +99,8 @@ impl<I> IterTable<I> {
     /// it.
     pub fn height(&mut self, lines: usize) -> &mut Self
         ensures same_reference { result.ghost_name ≡ self.entry.ghost_name }
-        ensures set { result.now ≡ record self.old {
-          settings = record self.old.settings { height = Some lines };
-        } }
+        ensures set { result.now ≡ with_settings self.old
+            (record self.old.settings { height = Some lines }) }
     {
         self.settings.height = Some(lines);
         self
@@ -129,9 +110,8 @@ impl<I> IterTable<I> {
     /// row then has one line for text, unless the height is set.
     pub fn width(&mut self, columns: usize) -> &mut Self
         ensures same_reference { result.ghost_name ≡ self.entry.ghost_name }
-        ensures set { result.now ≡ record self.old {
-          settings = record self.old.settings { width = Some columns };
-        } }
+        ensures set { result.now ≡ with_settings self.old
+            (record self.old.settings { width = Some columns }) }
     {
         self.settings.width = Some(columns);
         self

@@ -1,9 +1,8 @@
 //! `Table` and `IterTable`: tables of values or of rows, changed by options, and printed.
 //!
 //! A `Table` stores all of its cells:
-//! - `table`: the table, its parts, its totals and its text
+//! - `table`: the table, its parts, its totals and its text, and the settings of a new one
 //! - `making`: tables of values and of rows
-//! - `config`: the settings of a new table
 //! - `applying`: options for the whole table and for some of its cells
 //! - `printing`: printing with a minimum width and an alignment, and `Display`
 //! - `batches`: where the batches of a table's rows begin
@@ -24,7 +23,6 @@
 
 mod applying;
 mod batches;
-mod config;
 mod iter_table;
 pub mod laws;
 mod making;
@@ -32,6 +30,5 @@ mod printing;
 mod table;
 
 pub use batches::LayoutIterator;
-pub use config::new_config;
 pub use iter_table::IterTable;
-pub use table::Table;
+pub use table::{Table, new_config};

@@ -1,19 +1,18 @@
 //! Makes tables of values and of rows.
-ghost use Rattle.std.specs.Prelude.{◌≡◌, ◌∷◌, ℕ, List, IfErr, IfOk, map};
+ghost use Rattle.std.specs.Prelude.{◌≡◌, ◌∷◌, List, IfErr, IfOk, map};
 ghost use Rattle.std.specs.Iterator.{IsFiniteIterable};
-ghost use Rattle.std.specs.List.{AllZip, flat_map};
+ghost use Rattle.std.specs.List.{flat_map};
 ghost use Rattle.tabled_base.specs.Cells.{lengthened_rows};
-ghost use Rattle.tabled_base.specs.Given.{Given};
 ghost use Rattle.tabled_base.specs.declared.error.TableError.TheVariants.{Memory};
 ghost use Rattle.tabled_value.specs.ValueRows.{pairs};
 
 use crate::table::Table;
 use std::alloc::Global;
 use tabled_base::{Builder, CellText, IntoRecords, TableError};
-use tabled_value::{Tabled, field_records, named_records};
+use tabled_value::{Tabled, field_records, named_records, value_records};
 
 impl Table {
-    ghost use Rattle.tabled_table.specs.NewTable.{IsNew};
+    ghost use Rattle.tabled_table.specs.NewTable.{IsNew, Shows};
 
     /// Returns a table with the names of the fields as its header, and a row for each value.
     /// Without a value it has the header alone. Fails only if an allocation fails (`Memory`).
@@ -22,9 +21,8 @@ impl Table {
         I::Item: Tabled + Drop,
         requires { IsFiniteIterable I.into_iter_gives I.IntoIter.can_next
             I.IntoIter.remaining iter }
-        ensures ok { IfOk result (λ table. (values : List I.Item) × (rows : List (List (List ℕ)))
-            × Given I.into_iter_gives I.IntoIter.next_gives iter values
-            × AllZip I.Item.shows values rows × IsNew (I.Item.names ∷ rows) table) }
+        ensures ok { IfOk result (λ table. Shows I.into_iter_gives I.IntoIter.next_gives iter
+            I.Item.shows (λ rows. IsNew (I.Item.names ∷ rows) table)) }
         ensures only { IfErr result (λ e. e ≡ Memory) }
     {
         Table::with_capacity(alloc, iter, 0)
@@ -41,12 +39,26 @@ impl Table {
         I::Item: Tabled + Drop,
         requires { IsFiniteIterable I.into_iter_gives I.IntoIter.can_next
             I.IntoIter.remaining iter }
-        ensures ok { IfOk result (λ table. (values : List I.Item) × (rows : List (List (List ℕ)))
-            × Given I.into_iter_gives I.IntoIter.next_gives iter values
-            × AllZip I.Item.shows values rows × IsNew (I.Item.names ∷ rows) table) }
+        ensures ok { IfOk result (λ table. Shows I.into_iter_gives I.IntoIter.next_gives iter
+            I.Item.shows (λ rows. IsNew (I.Item.names ∷ rows) table)) }
         ensures only { IfErr result (λ e. e ≡ Memory) }
     {
         let records = named_records(alloc, iter, rows.saturating_add(1))?;
+        Ok(Table::of_records(records))
+    }
+
+    /// Returns a table with a row for each value and no header. Fails only if an allocation fails
+    /// (`Memory`).
+    pub fn nohead<I: IntoIterator>(alloc: Global, iter: I) -> Result<Table, TableError>
+    where
+        I::Item: Tabled + Drop,
+        requires { IsFiniteIterable I.into_iter_gives I.IntoIter.can_next
+            I.IntoIter.remaining iter }
+        ensures ok { IfOk result (λ table. Shows I.into_iter_gives I.IntoIter.next_gives iter
+            I.Item.shows (λ rows. IsNew rows table)) }
+        ensures only { IfErr result (λ e. e ≡ Memory) }
+    {
+        let records = value_records(alloc, iter)?;
         Ok(Table::of_records(records))
     }
 
@@ -57,10 +69,8 @@ impl Table {
         I::Item: Tabled + Drop,
         requires { IsFiniteIterable I.into_iter_gives I.IntoIter.can_next
             I.IntoIter.remaining iter }
-        ensures ok { IfOk result (λ table. (values : List I.Item) × (rows : List (List (List ℕ)))
-            × Given I.into_iter_gives I.IntoIter.next_gives iter values
-            × AllZip I.Item.shows values rows
-            × IsNew (flat_map (pairs I.Item.names) rows) table) }
+        ensures ok { IfOk result (λ table. Shows I.into_iter_gives I.IntoIter.next_gives iter
+            I.Item.shows (λ rows. IsNew (flat_map (pairs I.Item.names) rows) table)) }
         ensures only { IfErr result (λ e. e ≡ Memory) }
     {
         let records = field_records(alloc, iter)?;
@@ -74,10 +84,8 @@ impl Table {
         I::Item: Tabled + Drop,
         requires { IsFiniteIterable I.into_iter_gives I.IntoIter.can_next
             I.IntoIter.remaining iter }
-        ensures ok { IfOk result (λ builder. (values : List I.Item)
-            × (rows : List (List (List ℕ)))
-            × Given I.into_iter_gives I.IntoIter.next_gives iter values
-            × AllZip I.Item.shows values rows × (builder ≡ I.Item.names ∷ rows)) }
+        ensures ok { IfOk result (λ builder. Shows I.into_iter_gives I.IntoIter.next_gives iter
+            I.Item.shows (λ rows. builder ≡ I.Item.names ∷ rows)) }
         ensures only { IfErr result (λ e. e ≡ Memory) }
     {
         let records = named_records(alloc, iter, 1)?;

@@ -14,13 +14,11 @@ ghost use Rattle.tabled_size.specs.TextCells.{AreTexts};
 ghost use Rattle.tabled_size.specs.Totals.{total_width};
 ghost use Rattle.tabled_line.specs.Plain.{EachLineTakes};
 ghost use Rattle.tabled_line.specs.Sent.{Sent};
-ghost use Rattle.tabled_grid.specs.ApartSheet.{IsApartConfig};
 ghost use Rattle.tabled_grid.specs.Picture.{picture};
-ghost use Rattle.tabled_grid.specs.PlainSheet.{IsPlainConfig};
 ghost use Rattle.tabled_grid.specs.Printed.{Prints};
 ghost use Rattle.tabled_table.specs.PrintedWith.{asked, left_part, missing_columns, shown};
 ghost use Rattle.tabled_table.specs.PrintedWith.{shown_config, shown_fill, takes_memory, widened};
-ghost use Rattle.tabled_table.specs.TableSheet.{cells_of, sheet};
+ghost use Rattle.tabled_table.specs.TableSheet.{IsApart, IsPlain, cells_of, sheet};
 
 use crate::table::Table;
 use std::fmt;
@@ -140,16 +138,12 @@ impl Table {
         ensures total { is_empty (cells_of self.now) ≡ false
             → total_width (shown self.now width align fill)
             ≡ max (asked width) (total_width (sheet self.now)) }
-        ensures texts { IsApartConfig (sheet self.now).config (length (cells_of self.now))
-            (columns (cells_of self.now))
-            → AreTexts (cells_of self.now) → Holds (sheet self.now)
+        ensures texts { IsApart self.now → AreTexts (cells_of self.now) → Holds (sheet self.now)
             → IsSeparatorColumn (shown_fill fill)
             → EachLineTakes (total_width (shown self.now width align fill))
             (picture (shown self.now width align fill)) }
-        ensures columns { IsPlainConfig (sheet self.now).config (length (cells_of self.now))
-            (columns (cells_of self.now))
-            → AreAdditive (cells_of self.now) → Holds (sheet self.now)
-            → IsAdditiveColumn (shown_fill fill)
+        ensures columns { IsPlain self.now → AreAdditive (cells_of self.now)
+            → Holds (sheet self.now) → IsAdditiveColumn (shown_fill fill)
             → EachLineTakes (total_width (shown self.now width align fill))
             (picture (shown self.now width align fill)) }
     {

@@ -1,13 +1,10 @@
-//! `Table`: cells with settings and sizes.
-ghost use Rattle.std.specs.Prelude.{◌≡◌, ◌↔◌, ◌⊎◌, ◌≤◌, ◌^◌, [], ℕ, List, IfErr, IfOk, IsTrue};
+//! `Table`: cells with settings and sizes, and the settings of a new table.
+ghost use Rattle.std.specs.Prelude.{◌≡◌, ◌↔◌, ◌≤◌, ◌^◌, [], IfErr, IfOk, IsTrue};
 ghost use Rattle.std.specs.Prelude.{None, Ok, OnOk, false, length, not, string_bytes, true};
 ghost use Rattle.std.specs.Borrow.{Lends, sem};
 ghost use Rattle.tabled_base.specs.contracts.text.Text.{the_row as text_row};
 ghost use Rattle.tabled_base.specs.contracts.vec_records.VecRecords.{the_row as records_row};
-ghost use Rattle.std.specs.Iterator.{IsFiniteIterable};
-ghost use Rattle.std.specs.List.{AllZip};
 ghost use Rattle.tabled_base.specs.Cells.{columns};
-ghost use Rattle.tabled_base.specs.Given.{Given};
 ghost use Rattle.tabled_base.specs.declared.error.TableError.TheVariants.{Memory, Range, Writer};
 ghost use Rattle.tabled_size.specs.Sheet.{is_empty};
 ghost use Rattle.tabled_size.specs.EffectiveTotals.{AnswersHeight, AnswersWidth};
@@ -18,20 +15,17 @@ ghost use Rattle.tabled_grid.specs.Picture.{picture, table_text};
 ghost use Rattle.tabled_size.specs.PlainCells.{AreAdditive, ArePlain};
 ghost use Rattle.tabled_size.specs.TextCells.{AreTexts};
 ghost use Rattle.tabled_line.specs.Plain.{EachLineTakes};
-ghost use Rattle.tabled_grid.specs.ApartSheet.{IsApartConfig};
-ghost use Rattle.tabled_grid.specs.PlainSheet.{IsPlainConfig};
-ghost use Rattle.tabled_grid.specs.Printed.{IsPrintable, IsRefused, Prints};
+ghost use Rattle.tabled_grid.specs.Printed.{Prints};
 ghost use Rattle.tabled_line.specs.Sent.{Sent};
+ghost use Rattle.tabled_table.specs.NewConfig.{new_config};
 ghost use Rattle.tabled_table.specs.Rows.{string_row};
 
-use crate::config::new_config;
 use std::alloc::Global;
 use std::convert::AsStr;
 use tabled_base::{Builder, CellText, ExactRecords, TableError, Text, VecRecords};
-use tabled_config::ColoredConfig;
+use tabled_config::{ColoredConfig, CompactConfig, Indent, Sides, SpannedConfig, Style};
 use tabled_grid::{TextSink, is_apart_config, is_plain_config, is_plain_records, print_standing};
 use tabled_size::{CompleteDimension, is_empty, total_height, total_width};
-use tabled_value::{Tabled, value_records};
 
 /// A table: its cells, its settings, and the sizes that were stored. Sizes that aren't stored are
 /// estimated from the cells when they are needed. Two tables are equal if their cells, settings and
@@ -54,10 +48,25 @@ impl Drop for Table {
     }
 }
 
+/// Returns the settings of a new table: ASCII borders, no margin, one column of padding on the left
+/// and right, and text at the left and the top. Allocates nothing.
+#[tactic(auto, unfolding(crate::specs::NewConfig::new_config))]
+pub fn new_config(alloc: Global) -> SpannedConfig
+    ensures { result ≡ new_config }
+{
+    let one = Indent::spaced(1);
+    let none = Indent::zero();
+    let compact = CompactConfig::new()
+        .set_borders(Style::ascii().get_borders())
+        .set_padding(Sides::new(one, one, none, none));
+    SpannedConfig::from_compact(alloc, compact)
+}
+
 impl Table {
     ghost use Rattle.tabled_table.specs.contracts.table.Table.{the_row};
     ghost use Rattle.tabled_table.specs.Lending.{LendsConfig, LendsDimension};
     ghost use Rattle.tabled_table.specs.NewTable.{IsNew};
+    ghost use Rattle.tabled_table.specs.TableSheet.{HasNoText, HasText, IsApart, IsPlain};
     ghost use Rattle.tabled_table.specs.TableSheet.{cells_of, sheet};
 
     /// Returns a table of these records with the settings of a new one. Allocates nothing.
@@ -89,22 +98,6 @@ impl Table {
         ensures { IsNew [] result }
     {
         Table::from(Builder::new(alloc))
-    }
-
-    /// Returns a table with a row for each value and no header. Fails only if an allocation fails
-    /// (`Memory`).
-    pub fn nohead<I: IntoIterator>(alloc: Global, iter: I) -> Result<Table, TableError>
-    where
-        I::Item: Tabled + Drop,
-        requires { IsFiniteIterable I.into_iter_gives I.IntoIter.can_next
-            I.IntoIter.remaining iter }
-        ensures ok { IfOk result (λ table. (values : List I.Item) × (rows : List (List (List ℕ)))
-            × Given I.into_iter_gives I.IntoIter.next_gives iter values
-            × AllZip I.Item.shows values rows × IsNew rows table) }
-        ensures only { IfErr result (λ e. e ≡ Memory) }
-    {
-        let records = value_records(alloc, iter)?;
-        Ok(Table::of_records(records))
     }
 
     /// Returns a copy of the table. Fails only if an allocation fails (`Memory`).
@@ -212,8 +205,7 @@ impl Table {
     /// - Vertical lines are of additive characters before left padding, or of separators.
     /// - There is a vertical line or padding between any two cells of a row.
     pub fn is_apart(&self) -> bool
-        ensures { IsTrue result ↔ IsApartConfig (sheet self.now).config (length (cells_of self.now))
-            (columns (cells_of self.now)) }
+        ensures { IsTrue result ↔ IsApart self.now }
     {
         is_apart_config(
             self.config.as_ref(),
@@ -226,8 +218,7 @@ impl Table {
     /// separators of one column. Then each printed line is exactly `total_width` columns wide, even
     /// where cells touch, if the widths hold the cells, as estimated widths do.
     pub fn is_plain(&self) -> bool
-        ensures { IsTrue result ↔ (IsPlainConfig (sheet self.now).config
-            (length (cells_of self.now)) (columns (cells_of self.now)) × ArePlain (cells_of self.now)) }
+        ensures { IsTrue result ↔ (IsPlain self.now × ArePlain (cells_of self.now)) }
     {
         let config = self.config.as_ref();
         is_plain_config(config, self.count_rows(), self.count_columns())
@@ -245,13 +236,10 @@ impl Table {
         ensures filled { is_empty (cells_of self.now) ≡ false → AnswersWidth (sheet self.now).config
             (columns (cells_of self.now)) (sheet self.now).widths result }
         ensures memory { IfErr result (λ e. e ≡ Memory → widths_of self.now.dimension ≡ None) }
-        ensures texts { IsApartConfig (sheet self.now).config (length (cells_of self.now))
-            (columns (cells_of self.now))
-            → AreTexts (cells_of self.now) → Holds (sheet self.now)
+        ensures texts { IsApart self.now → AreTexts (cells_of self.now) → Holds (sheet self.now)
             → EachLineTakes (total_width (sheet self.now)) (picture (sheet self.now)) }
-        ensures columns { IsPlainConfig (sheet self.now).config (length (cells_of self.now))
-            (columns (cells_of self.now))
-            → AreAdditive (cells_of self.now) → Holds (sheet self.now)
+        ensures columns { IsPlain self.now → AreAdditive (cells_of self.now)
+            → Holds (sheet self.now)
             → EachLineTakes (total_width (sheet self.now)) (picture (sheet self.now)) }
     {
         total_width(&self.records, self.config.as_ref(), &self.dimension)
@@ -303,10 +291,8 @@ impl Table {
     /// ```
     pub fn to_text(&self) -> Result<String, TableError>
         ensures ok { IfOk result (λ text. string_bytes text ≡ table_text (sheet self.now)) }
-        ensures printable { IfOk result (λ _. (is_empty (cells_of self.now) ≡ true)
-            ⊎ IsPrintable (sheet self.now)) }
-        ensures err { IfErr result (λ e. (e ≡ Memory) ⊎ ((is_empty (cells_of self.now) ≡ false)
-            × IsRefused (sheet self.now) e)) }
+        ensures printable { IfOk result (λ _. HasText self.now) }
+        ensures err { IfErr result (λ e. HasNoText self.now e) }
     {
         let mut text = String::new(self.records.allocator());
         self.write_to(&mut text)?;
@@ -316,10 +302,8 @@ impl Table {
     /// Returns the printed table; see `to_text`.
     pub fn to_string(&self) -> Result<String, TableError>
         ensures ok { IfOk result (λ text. string_bytes text ≡ table_text (sheet self.now)) }
-        ensures printable { IfOk result (λ _. (is_empty (cells_of self.now) ≡ true)
-            ⊎ IsPrintable (sheet self.now)) }
-        ensures err { IfErr result (λ e. (e ≡ Memory) ⊎ ((is_empty (cells_of self.now) ≡ false)
-            × IsRefused (sheet self.now) e)) }
+        ensures printable { IfOk result (λ _. HasText self.now) }
+        ensures err { IfErr result (λ e. HasNoText self.now e) }
     {
         self.to_text()
     }

@@ -10,7 +10,7 @@ use Rattle.tabled_config.specs.declared.compact.CompactConfig.{CompactConfig}
 use Rattle.tabled_line.specs.Sent.{Sent}
 use Rattle.tabled_table.specs.declared.iter_table.layout.Layout.{Layout}
 use Rattle.tabled_table.specs.declared.iter_table.settings.StreamSettings.{StreamSettings}
-use Rattle.tabled_table.specs.Stream.Progress.{Halts, HaltsMore, HasPut, HasPutMore, IsLimited, IsPermitted, PutsNext, PutsRows}
+use Rattle.tabled_table.specs.Stream.Progress.{Halts, HaltsMore, HasPut, HasPutMore, IsPermitted, PutsNext, PutsRows, left_of}
 use Rattle.tabled_table.specs.Stream.Streamed.{column_count, content_height, tallest}
 use Rattle.tabled_table.proofs.Stream.NextPut.{halts-before}
 
@@ -101,21 +101,10 @@ pub permitted-next : (limit left : Option ℕ) (count : ℕ) → IsLeft limit le
 permitted-next None left count h going = tt
 permitted-next (Some n) left count h going = below-limit left n count h.0 h.1 going
 
-fewer : (left next : Option ℕ) (m : ℕ) → left ≡ Some m → MatchOption left (next ≡ None) (λ n. next ≡ Some (n - 1)) → next ≡ Some (m - 1)
-fewer left next m e h = let P : Option ℕ → Type 0 = λ o. MatchOption o (next ≡ None) (λ n. next ≡ Some (n - 1)) in subst P e h
-
-gone : (left next : Option ℕ) → left ≡ None → MatchOption left (next ≡ None) (λ n. next ≡ Some (n - 1)) → next ≡ None
-gone left next e h = let P : Option ℕ → Type 0 = λ o. MatchOption o (next ≡ None) (λ n. next ≡ Some (n - 1)) in subst P e h
-
 pub left-next : (limit left next : Option ℕ) (count more : ℕ) → IsLeft limit left count → (left ≡ Some 0 → ⊥)
-    → MatchOption left (next ≡ None) (λ n. next ≡ Some (n - 1)) → more ≡ count + 1 → IsLeft limit next more
-left-next None left next count more h going f m = gone left next h f
+    → next ≡ left_of left 1 → more ≡ count + 1 → IsLeft limit next more
+left-next None left next count more h going f m = f ∙ ap (λ (o : Option ℕ). left_of o 1) h
 left-next (Some n) left next count more h going f m = (
-  fewer left next (n - count) h.0 f
-      ∙ ap Some (let e : n - count - 1 ≡ n - more = omega arith in e),
+  f ∙ ap (λ (o : Option ℕ). left_of o 1) h.0 ∙ ap Some (let e : n - count - 1 ≡ n - more = omega arith in e),
   (let w = below-limit left n count h.0 h.1 going in omega arith),
 )
-
-pub left-reached : (limit left : Option ℕ) (count : ℕ) → IsLeft limit left count → left ≡ Some 0 → IsLimited limit count false
-left-reached None left count h e = let never = h in absurd (cc)
-left-reached (Some n) left count h e = let same : Some (n - count) ≡ Some 0 = sym h.0 ∙ e in let z : n - count ≡ 0 = cc in (h.1, λ _. omega (arith, h.1))

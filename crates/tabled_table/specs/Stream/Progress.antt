@@ -1,5 +1,6 @@
 -- How far a stream was printed.
-use Rattle.std.specs.Prelude.{◌≡◌, ◌≢◌, ℕ, ◌+◌, ◌-◌, ◌==◌, ◌^◌, ◌<◌, ◌≤◌, ◌⊎◌, Bool, true, false, List, [], ◌∷◌, ◌++◌, Option, Some, None, Result, Ok, Err, length, slice_index, unwrap_or}
+use Rattle.std.specs.Prelude.{◌≡◌, ◌≢◌, ℕ, ◌+◌, ◌-◌, ◌==◌, ◌^◌, ◌<◌, ◌≤◌, ◌⊎◌, Bool, true, false, List, [], ◌∷◌, ◌++◌, Option}
+use Rattle.std.specs.Prelude.{Some, None, Result, Ok, Err, MatchResult, length, slice_index, take, unwrap_or}
 use Rattle.std.specs.Result.{IsErrAnd}
 use Rattle.tabled_base.specs.declared.error.TableError.{TableError}
 use Rattle.tabled_base.specs.declared.error.TableError.TheVariants.{Memory, Range}
@@ -16,8 +17,8 @@ use Rattle.tabled_table.specs.declared.iter_table.settings.StreamSettings.{Strea
 use Rattle.tabled_table.specs.Stream.Below.{StopsBelow, WritesBelow}
 use Rattle.tabled_table.specs.Stream.Printed.{lines_above, lines_before, text_above}
 use Rattle.tabled_table.specs.Stream.Row.{compact_style, content_at}
-use Rattle.tabled_table.specs.Stream.Streamed.{IsStreamed, ahead, column_count, content_height, content_width}
-use Rattle.tabled_table.specs.Stream.Streams.{IsTooHighFirst, stream_total}
+use Rattle.tabled_table.specs.Stream.Streamed.{IsStreamed, ahead, column_count, content_height, content_width, sniffed}
+use Rattle.tabled_table.specs.Stream.Streams.{IsTooHighFirst, Streams, stream_total}
 
 -- a layout for these settings and the rows that were read ahead
 pub record IsLaidOut (settings : StreamSettings) (config : CompactConfig) (ahead_rows : List (List (List ℕ))) (layout : Layout) : Type 0 where
@@ -84,6 +85,23 @@ PutsNext lines row layout first old begun result first' new begun' =
     → HasPut settings config ahead_rows shown start layout first old begun → lines ≡ content_height settings ahead_rows (length shown) row
     → PutsRows settings config ahead_rows (shown ++ row ∷ []) start layout result first' new begun'
 
+-- what writing the top margin leaves
+abbrev pub PutsTop : {R : Type 0} → Layout → ℕ → Sent → Result R TableError → Bool → Sent → Bool → Type 0
+PutsTop layout total old result first new begun =
+    (settings : StreamSettings) (config : CompactConfig) (ahead_rows : List (List (List ℕ)))
+    → IsLaidOut settings config ahead_rows layout → total ≡ stream_total settings config ahead_rows
+    → MatchResult result (λ _. HasPut settings config ahead_rows [] old layout first new begun)
+    (λ error. HaltsWithin settings config ahead_rows [] old layout.count error new)
+
+-- what writing the first rows leaves, of which `many` were read ahead
+abbrev pub PutsFirst : {R : Type 0} → StreamSettings → ℕ → List (List (List ℕ)) → Layout → Bool → Sent → Bool → Result R TableError
+    → Bool → Sent → Bool → Type 0
+PutsFirst settings many rows layout first old begun result first' new begun' =
+    (config : CompactConfig) (ahead_rows : List (List (List ℕ))) (start : Sent) → length ahead_rows ≡ many
+    → HasPut settings config ahead_rows [] start layout first old begun
+    → MatchResult result (λ _. HasPut settings config ahead_rows rows start layout first' new begun')
+    (λ error. (count : ℕ) × Halts settings config ahead_rows (take count rows) start layout.count error new)
+
 -- further rows were written after those that were read ahead
 abbrev pub HasPutMore : ℕ → List (List (List ℕ)) → Layout → Bool → Sent → Bool → Bool → Sent → Bool → Type 0
 HasPutMore lines more layout first old begun first' new begun' =
@@ -133,6 +151,14 @@ pub record EndsSheet {R : Type 0} (settings : StreamSettings) (config : CompactC
   pub in_reach : IsInReach settings config ahead_rows shown sheet
   pub writes : WritesBelow (text_above sheet (column_count settings ahead_rows) (length shown)) start result now (table_text sheet)
 
+-- what writing the end of a table leaves, below its last row
+abbrev pub PutsBottom : {R : Type 0} → Layout → ℕ → Bool → Sent → Bool → Result R TableError → Sent → Type 0
+PutsBottom layout total first old begun result new =
+    (settings : StreamSettings) (config : CompactConfig) (ahead_rows shown : List (List (List ℕ))) (start : Sent)
+    → 0 < length shown → 0 < layout.count → total ≡ stream_total settings config ahead_rows
+    → HasPut settings config ahead_rows shown start layout first old begun
+    → EndsSheet settings config ahead_rows shown start result new
+
 -- what printing what follows the rows that were read first leaves: as many further rows as may be
 -- shown and the end of the table are written, or the sink failed in the end of the table, or
 -- printing stopped before. If further rows may be shown, those that are read ahead are written
@@ -143,3 +169,12 @@ FinishesBehind left lines total whole more layout first old begun result new =
     → total ≡ stream_total settings config ahead_rows → HasPut settings config ahead_rows shown start layout first old begun
     → (IsLimited left (length more) whole × EndsSheet settings config ahead_rows (shown ++ more) start result new)
     ⊎ IsErrAnd result (λ e. Halts settings config ahead_rows (shown ++ more) start layout.count e new)
+
+-- what writing the entire table leaves: with this layout and total width, it is the stream of the
+-- rows that were read first, and of further ones
+abbrev pub StreamsLaidOut : {R : Type 0} → StreamSettings → Layout → ℕ → List (List (List ℕ)) → List (List (List ℕ)) → Bool → Sent
+    → Result R TableError → Sent → Type 0
+StreamsLaidOut settings layout total rows more whole old result new =
+    (config : CompactConfig) → IsLaidOut settings config (sniffed settings rows) layout
+    → total ≡ stream_total settings config (sniffed settings rows)
+    → Streams settings config (rows ++ more) whole old result new

@@ -7,7 +7,7 @@ ghost use Rattle.tabled_base.specs.declared.error.TableError.TheVariants.{Memory
 ghost use Rattle.tabled_records.specs.Reading.{MayGive, ReadsTo};
 ghost use Rattle.tabled_table.specs.Stream.Progress.{AreFirst, IsLaidOut};
 ghost use Rattle.tabled_table.specs.Stream.Reading.{ReadsOn};
-ghost use Rattle.tabled_table.specs.Stream.Row.{compact_style, layout_total};
+ghost use Rattle.tabled_table.specs.Stream.Row.{layout_total};
 ghost use Rattle.tabled_table.specs.Stream.Streamed.{column_count, content_width};
 ghost use Rattle.tabled_table.specs.Stream.Streams.{ArePermitted, Streams, stream_total};
 
@@ -37,18 +37,6 @@ struct StreamPlan {
     total: usize,
     ghost whole: { total ≡ layout_total layout },
     ghost in_range: { layout_total layout < 2 ^ 64 },
-}
-
-/// Returns the padding and alignment of all cells.
-fn style_of(config: &CompactConfig) -> CellStyle
-    ensures { result ≡ compact_style config.now }
-{
-    CellStyle {
-        padding: *config.get_padding(),
-        horizontal: config.get_alignment_horizontal(),
-        vertical: AlignmentVertical::Top,
-        line_alignment: false,
-    }
 }
 
 /// Returns the columns of left and right padding. Fails with `Range` if the sum exceeds
@@ -118,7 +106,12 @@ impl<'a> Printer<'a> {
     {
         let contents = self.contents(rows, count)?;
         let spanned = SpannedConfig::from_compact(self.alloc, *self.config);
-        let style = style_of(self.config);
+        let style = CellStyle {
+            padding: *self.config.get_padding(),
+            horizontal: self.config.get_alignment_horizontal(),
+            vertical: AlignmentVertical::Top,
+            line_alignment: false,
+        };
         let frame = self.config.frame();
         let Contents { first, rest } = contents;
         Ok(Layout {

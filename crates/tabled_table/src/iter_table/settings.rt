@@ -1,5 +1,5 @@
 //! The settings of a stream: how many rows are read and shown, and the sizes that are set.
-ghost use Rattle.std.specs.Prelude.{◌≡◌, ◌≢◌, ◌-◌, ◌<◌, ◌≤◌, ◌⊎◌, MatchOption, None, Some};
+ghost use Rattle.std.specs.Prelude.{◌≡◌, ◌≢◌, ◌<◌, ◌≤◌, ◌⊎◌, MatchOption, Some};
 ghost use Rattle.std.specs.Prelude.{false, min, true, unwrap_or};
 ghost use Rattle.tabled_table.specs.Stream.Streamed.{ahead};
 ghost use Rattle.tabled_table.specs.Stream.Progress.{left_of};
@@ -28,16 +28,6 @@ pub(crate) fn ahead(settings: &StreamSettings) -> usize
         0
     } else {
         settings.sniff
-    }
-}
-
-/// Returns the limit that is left after one more row.
-pub(crate) fn one_fewer(left: Option<usize>) -> Option<usize>
-    ensures { MatchOption left (result ≡ None) (λ n. result ≡ Some (n - 1)) }
-{
-    match left {
-        Some(n) => Some(n.saturating_sub(1)),
-        None => None,
     }
 }
 

@@ -1,24 +1,20 @@
 //! Prints a stream, from its first line to its last.
-ghost use Rattle.std.specs.Prelude.{◌≡◌, ◌<◌, ◌^◌, ◌++◌, [], ℕ, Bool, IfErr, IfOk, List};
-ghost use Rattle.std.specs.Prelude.{MatchResult, OnOk, false, length, map, take, true, unwrap_or};
+ghost use Rattle.std.specs.Prelude.{◌≡◌, ◌<◌, ◌^◌, Bool, IfErr, IfOk, List, OnOk, false, length};
+ghost use Rattle.std.specs.Prelude.{map, true, unwrap_or};
 ghost use Rattle.std.proofs.Props.{props};
 ghost use Rattle.tabled_base.specs.Cells.{texts_of};
-ghost use Rattle.tabled_config.specs.declared.compact.CompactConfig.{CompactConfig};
 ghost use Rattle.tabled_line.specs.LineCache.{IsCacheOf};
-ghost use Rattle.tabled_line.specs.Sent.{Sent};
 ghost use Rattle.tabled_records.specs.Reading.{MayGive, Reads, ReadsTo};
-ghost use Rattle.tabled_table.specs.declared.iter_table.settings.StreamSettings.{StreamSettings};
-ghost use Rattle.tabled_table.specs.Stream.Progress.{AreFirst, AreFurther, EndsSheet};
-ghost use Rattle.tabled_table.specs.Stream.Progress.{FinishesBehind, Halts, HaltsMore, HaltsWithin};
-ghost use Rattle.tabled_table.specs.Stream.Progress.{HasPut, HasPutMore, IsLaidOut, IsLimited};
-ghost use Rattle.tabled_table.specs.Stream.Progress.{IsPermitted, PutsNext, left_of};
+ghost use Rattle.tabled_table.specs.Stream.Progress.{AreFirst, AreFurther, FinishesBehind};
+ghost use Rattle.tabled_table.specs.Stream.Progress.{HaltsMore, HasPutMore, IsLimited, IsPermitted};
+ghost use Rattle.tabled_table.specs.Stream.Progress.{PutsBottom, PutsFirst, PutsNext, PutsTop};
+ghost use Rattle.tabled_table.specs.Stream.Progress.{StreamsLaidOut, left_of};
 ghost use Rattle.tabled_table.specs.Stream.Reading.{ReadsOn};
 ghost use Rattle.tabled_table.specs.Stream.Row.{PutsCut, layout_columns, rule_of};
-ghost use Rattle.tabled_table.specs.Stream.Streamed.{limited, sniffed};
-ghost use Rattle.tabled_table.specs.Stream.Streams.{Streams, stream_total};
+ghost use Rattle.tabled_table.specs.Stream.Streamed.{limited};
 
 use crate::iter_table::row::{CutRow, StreamColumns, cut_cells};
-use crate::iter_table::settings::{ahead, fewer, is_none_left, one_fewer, up_to};
+use crate::iter_table::settings::{ahead, fewer, is_none_left, up_to};
 use crate::iter_table::sniff::content_height;
 use std::alloc::Global;
 use std::borrow::CowStr;
@@ -134,16 +130,8 @@ impl<'a> Stream<'a> {
     fn write_top<S: TextSink>(&mut self, sink: &mut S) -> Result<(), TableError>
         requires begun { self.old.lines.begun ≡ false }
         requires first { self.old.first ≡ true }
-        ensures printed { (settings : StreamSettings) (config : CompactConfig)
-            (ahead_rows : List (List (List ℕ)))
-            → IsLaidOut settings config ahead_rows self.old.lines.columns.layout.now
-            → self.old.lines.columns.total ≡ stream_total settings config ahead_rows
-            → MatchResult result
-            (λ _. HasPut settings config ahead_rows [] (S.sent sink.old)
-            self.old.lines.columns.layout.now self.new.first (S.sent sink.new)
-            self.new.lines.begun)
-            (λ e. HaltsWithin settings config ahead_rows [] (S.sent sink.old)
-            self.old.lines.columns.layout.now.count e (S.sent sink.new)) }
+        ensures printed { PutsTop self.old.lines.columns.layout.now self.old.lines.columns.total
+            (S.sent sink.old) result self.new.first (S.sent sink.new) self.new.lines.begun }
         ensures same { self.new.lines.columns ≡ self.old.lines.columns }
     {
         let margin = self.lines.columns.layout.frame.margin;
@@ -153,13 +141,8 @@ impl<'a> Stream<'a> {
 
     /// Writes the horizontal line below the last row, and the bottom margin.
     fn write_bottom<S: TextSink>(&mut self, sink: &mut S) -> Result<(), TableError>
-        ensures printed { (settings : StreamSettings) (config : CompactConfig)
-            (ahead_rows shown : List (List (List ℕ))) (start : Sent)
-            → 0 < length shown → 0 < self.old.lines.columns.layout.now.count
-            → self.old.lines.columns.total ≡ stream_total settings config ahead_rows
-            → HasPut settings config ahead_rows shown start self.old.lines.columns.layout.now
-            self.old.first (S.sent sink.old) self.old.lines.begun
-            → EndsSheet settings config ahead_rows shown start result (S.sent sink.new) }
+        ensures printed { PutsBottom self.old.lines.columns.layout.now self.old.lines.columns.total
+            self.old.first (S.sent sink.old) self.old.lines.begun result (S.sent sink.new) }
         ensures same { self.new.lines.columns ≡ self.old.lines.columns }
     {
         let layout = self.lines.columns.layout;
@@ -176,20 +159,10 @@ impl<'a> Stream<'a> {
         ahead: usize,
         rows: &[Vec<C>],
     ) -> Result<(), TableError>
-        ensures printed { (config : CompactConfig) (ahead_rows : List (List (List ℕ)))
-            (start : Sent)
-            → length ahead_rows ≡ ahead
-            → HasPut self.old.lines.columns.settings.now config ahead_rows [] start
-            self.old.lines.columns.layout.now self.old.first (S.sent sink.old)
-            self.old.lines.begun
-            → MatchResult result
-            (λ _. HasPut self.old.lines.columns.settings.now config ahead_rows
-            (texts_of C.text rows.now) start
-            self.old.lines.columns.layout.now self.new.first (S.sent sink.new)
-            self.new.lines.begun)
-            (λ e. (count : ℕ) × Halts self.old.lines.columns.settings.now config ahead_rows
-            (take count (texts_of C.text rows.now)) start
-            self.old.lines.columns.layout.now.count e (S.sent sink.new)) }
+        ensures printed { PutsFirst self.old.lines.columns.settings.now ahead
+            (texts_of C.text rows.now) self.old.lines.columns.layout.now
+            self.old.first (S.sent sink.old) self.old.lines.begun result
+            self.new.first (S.sent sink.new) self.new.lines.begun }
         ensures same { self.new.lines.columns ≡ self.old.lines.columns }
     {
         let settings = self.lines.columns.settings;
@@ -241,7 +214,7 @@ impl<'a> Stream<'a> {
                 Some(cells) => self.write_next_record(sink, lines, cells.as_slice())?,
                 None => return Ok(true),
             }
-            left = one_fewer(left);
+            left = fewer(left, 1);
         }
     }
 
@@ -304,15 +277,9 @@ impl<'a> Stream<'a> {
             × ReadsOn I.next_gives W.into_iter_gives W.IntoIter.next_gives
             (map (λ row. row.items) taken.now.rows.items) taken.now.whole rows.old more whole
             rows.new
-            × ((config : CompactConfig)
-            → IsLaidOut self.old.lines.columns.settings.now config
-            (sniffed self.old.lines.columns.settings.now (texts_of C.text taken.now.rows.items))
-            self.old.lines.columns.layout.now
-            → self.old.lines.columns.total ≡ stream_total self.old.lines.columns.settings.now config
-            (sniffed self.old.lines.columns.settings.now (texts_of C.text taken.now.rows.items))
-            → Streams self.old.lines.columns.settings.now config
-            (texts_of C.text taken.now.rows.items ++ map (map C.text) more) whole
-            (S.sent sink.old) result (S.sent sink.new)) }
+            × StreamsLaidOut self.old.lines.columns.settings.now self.old.lines.columns.layout.now
+            self.old.lines.columns.total (texts_of C.text taken.now.rows.items)
+            (map (map C.text) more) whole (S.sent sink.old) result (S.sent sink.new) }
     {
         let settings = self.lines.columns.settings;
         let kept = taken.rows.as_slice();

@@ -1,7 +1,8 @@
 use Rattle.std.proofs.Common.{◌≡◌, ◌∙◌, ◌<◌, ◌^◌, ◌++◌, Bor, List, Vec, Global, length, map, ap, subst, sym, arith}
 use Rattle.std.proofs.lemmas.List.{length-map}
 use Rattle.tabled_base.specs.Cells.{texts_of}
-use Rattle.tabled_table.specs.Stream.NewTable.{IsNewConfig, new_settings}
+use Rattle.tabled_line.specs.NewConfig.{IsNewConfig}
+use Rattle.tabled_table.specs.Stream.NewTable.{new_settings}
 use Rattle.tabled_table.specs.declared.iter_table.settings.StreamSettings.{StreamSettings}
 use Rattle.tabled_table.specs.declared.iter_table.IterTable.{IterTable}
 use Rattle.tabled_records.proofs.LentBegin.{lent_rows_begin}

@@ -1,77 +1,18 @@
 -- `with` by hand: the table is lent again to `apply`, comes back as that left it, and is handed on or given up.
-use Rattle.std.proofs.Common.{◌≡◌, inl, inr, ℕ, List, [], ◌∷◌, ◌++◌, refl, sym, subst, lit<, MutBor}
-use Rattle.std.proofs.raw_atomic.Walks.{proved_at}
-use Rattle.std.specs.Prelude.{Result, Ok, Err, OnOk, IfErr, ⊤}
-use seplogic.Ra.Ura.{Ura}
-use base.Fraction.{full_share}
-use base.Logic.{id⊢, emp, SProp}
-use base.Fml.{ftrue, flft}
-use lib.Dec.{T}
-use mir.Syntax.{named, Args, Dict, Fn, a_type, dcons, dnil}
-use mir.MapTy.{inst_fn}
-use mir.Val.{Val, vptr, of_list, WT, has_ty}
-use prog.Wp.{spot_of, WpFn}
-use contract.BorrowLft.{◌⊑◌}
-use contract.Monad.{fact, fact_i}
-use contract.Running.{tables}
-use types.Logic.{Logic}
-use types.Kit.{
-  ‵,
-  raw,
-  prop,
-  ◌⊛◌,
-  some,
-  later,
-  at_ret,
-  ◌$◌,
-  ◌∵◌,
-  !,
-  qed,
-  done,
-  move,
-  keep,
-  use0,
-  use1,
-  use2,
-  use3,
-  split,
-  join,
-  fsplit,
-  fsplit3,
-  fjoin,
-  pick,
-  await,
-  rewrite,
-  regoal,
-  suffices,
-}
-use types.Run.{enter, of_opd, lit, addr, stop, fld, no_more, and_then, first, switches, exec, returns}
-use types.Part.{agg, whole}
-use types.Match.{live, vrt, in_variant}
-use types.ByLocal.{alloc_all, pass_all, free_all, look_at, get, get_in, get_tag, through, sets, sets_last, lands_as, env}
-use types.Tokens.{lft_new, lft_end}
-use denote.Builtin.{unit}
-use denote.Exit.{no}
-use denote.Laws.{Typed}
-use denote.Lend.{lends_again, comes_back, LentAgain}
-use denote.Param.{param, layout, bounded}
-use denote.Param.Laws.{param_laws}
-use denote.RattleType.{RattleType, owns}
-use denote.Ref.{MutRef, mut_vals}
-use denote.Signature.{plain, mut_ref_to, types_at}
-use denote.Steps.{nothing, heard}
-use denote.Triple.Call.{calls_at}
-use denote.Triple.Clauses.{lasts}
-use denote.Triple.Spec.{triple_of}
-use denote.Triple.Table.{framed}
-use denote.Triple.Walked.{Stays, walk_of, stay_dropped, Goes-dropped, Goes-spent_ref, ends_at}
-use Rattle.std.proofs.VecSteps.Shapes.{after}
+use Rattle.tabled_table.proofs.Walks.{[], !, a_type, accepted, addr, after, agg, alloc_all, and_then, apart, Args, at_ret, await}
+use Rattle.tabled_table.proofs.Walks.{bounded, by_done, calls_at, cause, cause_made, comes_back, dcons, Dict, dnil, done, Done, emp}
+use Rattle.tabled_table.proofs.Walks.{ends_at, enter, env, Err, err_of, exec, fact, fact_i, first, fjoin, fld, flft, Fn, framed}
+use Rattle.tabled_table.proofs.Walks.{free_all, fsplit, fsplit3, ftrue, full_share, get, get_in, get_tag, Goes-dropped}
+use Rattle.tabled_table.proofs.Walks.{Goes-spent_ref, has_ty, heard, id⊢, IfErr, in_variant, inl, inr, inst_fn, IsCause, join, keep}
+use Rattle.tabled_table.proofs.Walks.{lands_as, lasts, later, layout, lends_again, LentAgain, lft_end, lft_new, List, lit, lit<}
+use Rattle.tabled_table.proofs.Walks.{live, Logic, look_at, move, mut_ref_to, mut_vals, MutBor, MutRef, named, no, no_more, nothing}
+use Rattle.tabled_table.proofs.Walks.{of_list, of_opd, Ok, ok_of, OnOk, owns, param, param_laws, pass_all, pick, plain, prop}
+use Rattle.tabled_table.proofs.Walks.{proved_at, qed, Range, RattleType, raw, refl, refused, regoal, Rests, rests_at_err}
+use Rattle.tabled_table.proofs.Walks.{rests_at_ok, Result, returns, rewrite, sets, sets_last, single, some, split, spot_of, SProp}
+use Rattle.tabled_table.proofs.Walks.{stay_dropped, Stays, stop, subst, suffices, switches, sym, T, TableError, tables, TE, through}
+use Rattle.tabled_table.proofs.Walks.{told_err, told_ok, triple_of, Typed, types_at, unit, Ura, use0, use1, use2, use3, Val, vptr}
+use Rattle.tabled_table.proofs.Walks.{vrt, walk_of, whole, WpFn, WT, ‵, ℕ, ⊤, ◌$◌, ◌++◌, ◌∵◌, ◌∷◌, ◌≡◌, ◌⊑◌, ◌⊛◌}
 use Rattle.std.specs.contracts.result.Result as result
-use Rattle.tabled_base.proofs.Rests.{Rests, rests_at_ok, rests_at_err, ok_of, err_of}
-use Rattle.tabled_base.proofs.Refusals.{Done, IsCause, accepted, cause, refused, told_ok, told_err, cause_made, single, apart, by_done}
-use Rattle.tabled_base.specs.declared.error.TableError.{TableError}
-use Rattle.tabled_base.specs.declared.error.TableError.TheVariants.{Range}
-use Rattle.tabled_base.specs.contracts.error.TableError.{the_row as TE}
 use Rattle.tabled_table.specs.Applied.{IsApplied, IsRefusedBy}
 use Rattle.tabled_table.specs.contracts.table.Table.{the_row as R}
 use Rattle.tabled_table.specs.contracts.table.Table.with as f

@@ -32,8 +32,8 @@ rows-preserved g c =
       more = i.more ++ cells.items ∷ [];
       reads = reads-both i.reads ok;
       may = goes.0;
-      left = left-next c.args.limit c.rows.left c.one_fewer-left.result (length i.more) (length (i.more ++ cells.items ∷ [])) i.left
-          (c.is_none_left.ensures.going c.if-is_none_left.false) c.one_fewer-left.ensures longer;
+      left = left-next c.args.limit c.rows.left c.fewer-left.result (length i.more) (length (i.more ++ cells.items ∷ [])) i.left
+          (c.is_none_left.ensures.going c.if-is_none_left.false) c.fewer-left.ensures longer;
       same = c.in_ok-write_next_record-in-Some.ensures.same ∙ i.same;
       puts = rw texts (more-next row c.write_next_record.new.self.first c.write_next_record.new.self.lines.begun (g.S.TextSink.sent c.write_next_record.new.sink) i.puts
           (rw i.same at c.in_ok-write_next_record-in-Some.ensures.printed));

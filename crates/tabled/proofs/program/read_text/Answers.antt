@@ -1,7 +1,7 @@
 use Rattle.std.proofs.Common.{ap, rules, subst, sym, ◌∙◌}
 use Rattle.std.specs.Str.{IsUtf8}
 use Rattle.tabled.proofs.Reading.{read_so}
-use Rattle.tabled.proofs.input.read_text.Goals as goal
+use Rattle.tabled.proofs.program.read_text.Goals as goal
 
 pub returns-clause-text : goal.returns-clause-text
 returns-clause-text g c =

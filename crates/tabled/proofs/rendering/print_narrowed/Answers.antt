@@ -8,7 +8,7 @@ use Rattle.std.specs.Prelude.{not}
 use Rattle.tabled.specs.Narrowing.{plan_of}
 use Rattle.tabled.proofs.PlannedTables.{prints_made}
 use Rattle.tabled.proofs.RenderedTables.{refused_early}
-use Rattle.tabled.proofs.narrowing.print_narrowed.Goals as goal
+use Rattle.tabled.proofs.rendering.print_narrowed.Goals as goal
 
 pub returns-in_err-sizes : goal.returns-in_err-sizes
 returns-in_err-sizes g c =

@@ -9,7 +9,7 @@ use Rattle.tabled_set.specs.Promised.{TruncatesAsPromised, WrapsAsPromised}
 use Rattle.tabled_size.specs.Cleared.{AreCleared}
 use Rattle.tabled_size.specs.Sheet.{estimated}
 use Rattle.tabled_size.specs.Effective.{effective}
-use Rattle.tabled.specs.declared.narrowing.Fit.{Fit}
+use Rattle.tabled.specs.declared.rendering.Fit.{Fit}
 use Rattle.tabled.specs.declared.plan.Plan.{Plan}
 use Rattle.tabled.specs.declared.plan.Plan.TheVariants.{Wrapped, Shortened}
 use Rattle.tabled.specs.Narrowing.{IsMade, plan_of}
@@ -17,7 +17,7 @@ use Rattle.tabled.specs.Orders.{Shrinks}
 use Rattle.tabled.proofs.FittedTables.{passes}
 use Rattle.tabled.proofs.Narrowings.{truncated, wrapped}
 use Rattle.tabled.proofs.RenderedTables.{range_only}
-use Rattle.tabled.proofs.narrowing.Narrowing.apply.Goals as goal
+use Rattle.tabled.proofs.rendering.Narrowing.apply.Goals as goal
 
 pub returns-in_err-change-in-Wrap-clause-range : goal.returns-in_err-change-in-Wrap-clause-range
 returns-in_err-change-in-Wrap-clause-range g c =
