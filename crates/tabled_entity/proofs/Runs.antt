@@ -7,6 +7,10 @@ use Rattle.std.specs.Vec.{with_item}
 use Rattle.tabled_entity.specs.RunMap.{HoldsCell, HoldsValue, SameCells, SameValues, cell_in, in_others, in_run, value_in}
 use Rattle.tabled_entity.specs.declared.run_map.RunMap.{RunMap}
 
+pub or_none : {X : Type 0} (o : Option X) → option_or o None ≡ o
+or_none None = refl
+or_none (Some x) = refl
+
 set-same : {X : Type 0} (xs : List X) (i : ℕ) (x : X) → i < length xs → slice_get (slice_set xs i x) i ≡ Some x
 set-same [] i x below = absurd (omega arith)
 set-same (y ∷ ys) zero x below = refl

@@ -1,12 +1,23 @@
 -- The latest changes that cover the cells of a row.
 use Rattle.std.specs.Prelude.{ℕ, Option}
+use Rattle.std.specs.Borrow.{Bor}
 use Rattle.std.specs.Option.{option_and_then}
 use Rattle.tabled_entity.specs.ChangeIndex.{later}
-use Rattle.tabled_entity.specs.RunMap.{value_in}
+use Rattle.tabled_entity.specs.RunMap.{in_dense, value_in}
 use Rattle.tabled_entity.specs.declared.row_changes.RowChanges.{RowChanges}
+use Rattle.tabled_entity.specs.declared.row_changes.RowChanges.TheVariants.{Mixed, Run, Same}
+use Rattle.tabled_entity.specs.declared.run_map.RunMap.{RunMap}
+
+-- the change for a column in a map, if there is one
+abbrev pub place_in : Option (Bor (RunMap ℕ)) → ℕ → Option ℕ
+place_in places column = option_and_then (λ map. value_in map.now column) places
 
 -- the latest of the changes for the row, for the column, and for the cell itself
+abbrev pub latest_of : Option ℕ → Option (Bor (RunMap ℕ)) → Option (Bor (RunMap ℕ)) → ℕ → Option ℕ
+latest_of row columns cells column = later row (later (place_in columns column) (place_in cells column))
+
+-- the latest change that covers the cell in a column
 abbrev pub latest_at : RowChanges → ℕ → Option ℕ
-latest_at changes column =
-    later changes.row (later (option_and_then (λ columns. value_in columns.now column) changes.columns)
-    (option_and_then (λ cells. value_in cells.now column) changes.cells))
+latest_at (Same place) column = place
+latest_at (Run first places) column = in_dense first places.now column
+latest_at (Mixed row columns cells) column = latest_of row columns cells column

@@ -1,15 +1,18 @@
 -- A map from numbers, with a dense run of those that were inserted one after another.
-use Rattle.std.specs.Prelude.{ℕ, ◌≡◌, ◌==◌, ◌&&◌, ◌-◌, if◌then◌else◌, Option, Some, None, nat_lt, slice_get}
+use Rattle.std.specs.Prelude.{ℕ, ◌≡◌, ◌==◌, ◌&&◌, ◌-◌, if◌then◌else◌, List, Option, Some, None, nat_lt, slice_get}
 use Rattle.std.specs.BTreeMap.{get}
 use Rattle.std.specs.Option.{option_and_then, option_or}
 use Rattle.std.specs.Ordering.{nat_cmp}
 use Rattle.tabled_entity.specs.declared.run_map.RunMap.{RunMap}
 
 module _ {V : Type 0} where
-  -- the value of a number in the run
+  -- the value of a number in a dense run from the number `first`
+  abbrev pub in_dense : ℕ → List V → ℕ → Option V
+  in_dense first run number = if nat_lt number first then None else slice_get run (number - first)
+
+  -- the value of a number in the map's run
   abbrev pub in_run : RunMap V → ℕ → Option V
-  in_run map number =
-      if nat_lt number map.first then None else slice_get map.run.items (number - map.first)
+  in_run map number = in_dense map.first map.run.items number
 
   -- the value of a number among the others
   abbrev pub in_others : RunMap V → ℕ → Option V

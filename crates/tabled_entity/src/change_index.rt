@@ -1,14 +1,8 @@
 //! `ChangeIndex`, which finds the latest change for each part of a table in the list of changes.
 ghost use Rattle.std.specs.Prelude.{◌≡◌, ℕ, OnErr, OnOk, true};
-ghost use Rattle.tabled_base.specs.declared.position.Entity.TheVariants.{Cell, Column, Row};
-ghost use Rattle.tabled_entity.specs.ChangeIndex.{
-  HasNone,
-  IsPart,
-  IsReindexed,
-  SamePlaces,
-  found,
-  latest,
-};
+ghost use Rattle.tabled_base.specs.declared.position.Entity.TheVariants.{Column};
+ghost use Rattle.tabled_entity.specs.ChangeIndex.{HasNone, IsPart, IsReindexed, SamePlaces};
+ghost use Rattle.tabled_entity.specs.ChangeIndex.{found, latest};
 ghost use Rattle.tabled_entity.specs.RowChanges.{latest_at};
 
 use crate::row_changes::RowChanges;
@@ -26,7 +20,6 @@ pub(crate) struct ChangeIndex {
 }
 
 impl ChangeIndex {
-    /// Makes a `ChangeIndex` without entries.
     pub fn new(alloc: Global) -> ChangeIndex
         ensures { HasNone result }
     {
@@ -37,34 +30,12 @@ impl ChangeIndex {
         }
     }
 
-    /// Removes all entries.
     pub fn clear(&mut self)
         ensures { HasNone self.new }
     {
         self.rows.clear();
         self.columns.clear();
         self.cells.clear();
-    }
-
-    fn insert_row(&mut self, row: usize, place: usize) -> Result<(), AllocError>
-        ensures ok { OnOk result (IsReindexed self.old self.new (Row row) place) }
-        ensures err { OnErr result (SamePlaces self.old self.new) }
-    {
-        self.rows.insert(row, place)
-    }
-
-    fn insert_column(&mut self, column: usize, place: usize) -> Result<(), AllocError>
-        ensures ok { OnOk result (IsReindexed self.old self.new (Column column) place) }
-        ensures err { OnErr result (SamePlaces self.old self.new) }
-    {
-        self.columns.insert(column, place)
-    }
-
-    fn insert_cell(&mut self, row: usize, column: usize, place: usize) -> Result<(), AllocError>
-        ensures ok { OnOk result (IsReindexed self.old self.new (Cell row column) place) }
-        ensures err { OnErr result (SamePlaces self.old self.new) }
-    {
-        self.cells.insert_cell(row, column, place)
     }
 
     /// Stores the index of the latest change for an entity other than the entire table. If an
@@ -76,22 +47,18 @@ impl ChangeIndex {
     {
         match entity {
             Entity::Global => unreachable!(),
-            Entity::Row(row) => self.insert_row(row, place),
-            Entity::Column(column) => self.insert_column(column, place),
-            Entity::Cell(row, column) => self.insert_cell(row, column, place),
+            Entity::Row(row) => self.rows.insert(row, place),
+            Entity::Column(column) => self.columns.insert(column, place),
+            Entity::Cell(row, column) => self.cells.insert_cell(row, column, place),
         }
     }
 
-    /// Returns the latest changes that cover the cells of a row.
     #[inline(always)]
     pub fn in_row(&self, row: usize) -> RowChanges<'_>
         ensures { (column : ℕ) → latest_at result column ≡ latest (found self.now) row column }
     {
-        RowChanges {
-            row: self.rows.get(row).copied(),
-            columns: self.columns.if_any(),
-            cells: self.cells.get(row),
-        }
+        let of_row = self.rows.get(row).copied();
+        RowChanges::new(of_row, self.columns.if_any(), self.cells.get(row))
     }
 
     /// Whether there is no entry for a row, nor for one of its cells.

@@ -1,27 +1,24 @@
 //! `RowChanges`, the latest changes that cover the cells of a row.
-ghost use Rattle.std.specs.Prelude.{◌≡◌, ℕ, IfSome};
-ghost use Rattle.std.specs.Option.{option_and_then};
+ghost use Rattle.std.specs.Prelude.{◌≡◌, ℕ};
 ghost use Rattle.tabled_entity.specs.ChangeIndex.{later};
-ghost use Rattle.tabled_entity.specs.RowChanges.{latest_at};
-ghost use Rattle.tabled_entity.specs.RunMap.{value_in};
+ghost use Rattle.tabled_entity.specs.RowChanges.{latest_at, latest_of, place_in};
 
-use crate::run_map::RunMap;
+use crate::run_map::{RunMap, in_dense};
 
 /// The latest changes that cover the cells of a row, by their indices in the list of changes.
 #[derive(Clone, Copy)]
-pub(crate) struct RowChanges<'a> {
-    /// The change for the row.
-    pub row: Option<usize>,
-    /// The changes for columns, if there are any.
-    pub columns: Option<&'a RunMap<usize>>,
-    /// The changes for the row's cells, by column, if there are any.
-    pub cells: Option<&'a RunMap<usize>>,
+pub(crate) enum RowChanges<'a> {
+    /// One change for all cells, or none.
+    Same(Option<usize>),
+    /// Changes for a dense run of cells, from this column on, and no others. A lookup is one index.
+    Run(usize, &'a [usize]),
+    /// The change for the row, those for columns, and those for the row's cells.
+    Mixed(Option<usize>, Option<&'a RunMap<usize>>, Option<&'a RunMap<usize>>),
 }
 
-/// Returns the change for a column, by its index.
 #[inline(always)]
 fn place_in(places: Option<&RunMap<usize>>, column: usize) -> Option<usize>
-    ensures { result ≡ option_and_then (λ map. value_in map.now column) places.entry }
+    ensures { result ≡ place_in places.entry column }
 {
     match places {
         Some(places) => places.get(column).copied(),
@@ -42,16 +39,23 @@ fn later(a: Option<usize>, b: Option<usize>) -> Option<usize>
 }
 
 impl<'a> RowChanges<'a> {
-    /// Returns the latest change for all cells of the row, or `None` if there is a change for a
-    /// column or for a cell of the row.
+    /// Makes the changes from the one for the row, those for columns and those for its cells.
     #[inline(always)]
-    pub fn shared(&self) -> Option<Option<usize>>
-        ensures { IfSome result (λ place. (column : ℕ) → latest_at self.now column ≡ place) }
+    pub fn new(
+        row: Option<usize>,
+        columns: Option<&'a RunMap<usize>>,
+        cells: Option<&'a RunMap<usize>>,
+    ) -> RowChanges<'a>
+        ensures { (column : ℕ) → latest_at result column
+            ≡ latest_of row columns.entry cells.entry column }
     {
-        if self.cells.is_none() && self.columns.is_none() {
-            Some(self.row)
-        } else {
-            None
+        match (row, columns, cells) {
+            (_, None, None) => RowChanges::Same(row),
+            (None, None, Some(map)) => match map.only_run() {
+                Some((first, places)) => RowChanges::Run(first, places),
+                None => RowChanges::Mixed(row, columns, cells),
+            },
+            _ => RowChanges::Mixed(row, columns, cells),
         }
     }
 
@@ -60,7 +64,13 @@ impl<'a> RowChanges<'a> {
     pub fn at(&self, column: usize) -> Option<usize>
         ensures { result ≡ latest_at self.now column }
     {
-        let of_cell = later(place_in(self.columns, column), place_in(self.cells, column));
-        later(self.row, of_cell)
+        match self {
+            RowChanges::Same(place) => *place,
+            RowChanges::Run(first, places) => in_dense(*first, *places, column).copied(),
+            RowChanges::Mixed(row, columns, cells) => {
+                let of_cell = later(place_in(*columns, column), place_in(*cells, column));
+                later(*row, of_cell)
+            }
+        }
     }
 }

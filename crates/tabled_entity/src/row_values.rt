@@ -50,9 +50,9 @@ impl<'a, T: Copy> RowValues<'a, T> {
         ensures { (column : ℕ) → value_at result column
             ≡ value_of whole.now changes.now (latest_at latest.entry column) }
     {
-        match latest.shared() {
-            Some(place) => RowValues::Uniform(value_of(whole, changes, place)),
-            None => RowValues::Set(SetValues {
+        match latest {
+            RowChanges::Same(place) => RowValues::Uniform(value_of(whole, changes, place)),
+            _ => RowValues::Set(SetValues {
                 whole,
                 changes,
                 latest,

@@ -1,7 +1,8 @@
 //! `RunMap`, a map from numbers.
-ghost use Rattle.std.specs.Prelude.{◌≡◌, ◌+◌, ◌<◌, ◌≤◌, IfNone, IfSome, None, OnErr, OnOk, length, true};
+ghost use Rattle.std.specs.Prelude.{◌≡◌, ◌+◌, ◌<◌, ◌≤◌, ℕ, IfNone, IfSome, None, OnErr, OnOk, length, true};
 ghost use Rattle.std.specs.Option.{option_copied};
-ghost use Rattle.tabled_entity.specs.RunMap.{HasNoValue, HoldsCell, HoldsValue, SameCells, SameValues, in_others, in_run, value_in};
+ghost use Rattle.tabled_entity.specs.RunMap.{HasNoValue, HoldsCell, HoldsValue, SameCells};
+ghost use Rattle.tabled_entity.specs.RunMap.{SameValues, in_dense, in_others, in_run, value_in};
 
 use std::alloc::{AllocError, Global};
 use std::collections::BTreeMap;
@@ -16,8 +17,18 @@ pub(crate) struct RunMap<V> {
     others: BTreeMap<usize, V>,
 }
 
+/// Returns the value of a number in a dense run from the number `first`.
+#[inline(always)]
+pub(crate) fn in_dense<V>(first: usize, run: &[V], number: usize) -> Option<&V>
+    ensures { option_copied result ≡ in_dense first run.now number }
+{
+    if number < first {
+        return None;
+    }
+    run.get(number - first)
+}
+
 impl<V: Drop> RunMap<V> {
-    /// Makes a map without values.
     pub fn new(alloc: Global) -> RunMap<V>
         ensures { HasNoValue result }
     {
@@ -28,7 +39,6 @@ impl<V: Drop> RunMap<V> {
         }
     }
 
-    /// Removes all values.
     pub fn clear(&mut self)
         ensures { HasNoValue self.new }
     {
@@ -36,7 +46,6 @@ impl<V: Drop> RunMap<V> {
         self.others.clear();
     }
 
-    /// Whether there are no values.
     #[inline(always)]
     pub fn is_empty(&self) -> bool
         ensures { result ≡ true → HasNoValue self.now }
@@ -53,18 +62,20 @@ impl<V: Drop> RunMap<V> {
         if self.is_empty() { None } else { Some(self) }
     }
 
-    /// Returns the value of a number in the run.
+    /// Returns the first number and the values of the run, if there are no others.
     #[inline(always)]
-    fn in_run(&self, number: usize) -> Option<&V>
-        ensures { option_copied result ≡ in_run self.now number }
+    #[tactic(auto, using(crate::proofs::Runs::or_none))]
+    pub fn only_run(&self) -> Option<(usize, &[V])>
+        ensures { IfSome result (λ run. (number : ℕ)
+            → in_dense run.0 run.1.now number ≡ value_in self.now number) }
     {
-        if number < self.first {
-            return None;
+        if self.others.is_empty() {
+            Some((self.first, self.run.as_slice()))
+        } else {
+            None
         }
-        self.run.get(number - self.first)
     }
 
-    /// Returns the value of a number among the others.
     #[inline(always)]
     fn in_others(&self, number: usize) -> Option<&V>
         ensures { option_copied result ≡ in_others self.now number }
@@ -75,12 +86,11 @@ impl<V: Drop> RunMap<V> {
         self.others.get(&number)
     }
 
-    /// Returns the value of a number.
     #[inline(always)]
     pub fn get(&self, number: usize) -> Option<&V>
         ensures { option_copied result ≡ value_in self.now number }
     {
-        match self.in_run(number) {
+        match in_dense(self.first, &self.run, number) {
             Some(value) => Some(value),
             None => self.in_others(number),
         }
