@@ -89,13 +89,11 @@ impl CompactConfig {
     }
 
     /// Sets the colours of the borders. Only a `PoolTable` shows them.
-    pub fn set_borders_color(self, colors: Borders<ANSIStr<'static>>) -> CompactConfig
+    pub fn set_borders_color(mut self, colors: Borders<ANSIStr<'static>>) -> CompactConfig
         ensures { result ≡ record self { borders_color = colors.entry } }
     {
-        CompactConfig {
-            borders_color: colors,
-            ..self
-        }
+        self.borders_color = colors;
+        self
     }
 
     /// Returns the colours of the borders.
@@ -106,13 +104,11 @@ impl CompactConfig {
     }
 
     /// Sets the colours of the margin. Only a `PoolTable` shows them.
-    pub fn set_margin_color(self, colors: Sides<ANSIStr<'static>>) -> CompactConfig
+    pub fn set_margin_color(mut self, colors: Sides<ANSIStr<'static>>) -> CompactConfig
         ensures { result ≡ record self { margin_color = colors.entry } }
     {
-        CompactConfig {
-            margin_color: colors,
-            ..self
-        }
+        self.margin_color = colors;
+        self
     }
 
     /// Returns the colours of the margin.
@@ -123,13 +119,11 @@ impl CompactConfig {
     }
 
     /// Sets the colours of the padding. Only a `PoolTable` shows them.
-    pub fn set_padding_color(self, colors: Sides<ANSIStr<'static>>) -> CompactConfig
+    pub fn set_padding_color(mut self, colors: Sides<ANSIStr<'static>>) -> CompactConfig
         ensures { result ≡ record self { padding_color = colors.entry } }
     {
-        CompactConfig {
-            padding_color: colors,
-            ..self
-        }
+        self.padding_color = colors;
+        self
     }
 
     /// Returns the colours of the padding.
@@ -140,13 +134,11 @@ impl CompactConfig {
     }
 
     /// Sets the horizontal alignment of all cells.
-    pub fn set_alignment_horizontal(self, alignment: AlignmentHorizontal) -> CompactConfig
+    pub fn set_alignment_horizontal(mut self, alignment: AlignmentHorizontal) -> CompactConfig
         ensures { result ≡ record self { alignment_horizontal = alignment } }
     {
-        CompactConfig {
-            alignment_horizontal: alignment,
-            ..self
-        }
+        self.alignment_horizontal = alignment;
+        self
     }
 
     /// Returns the horizontal alignment of all cells.

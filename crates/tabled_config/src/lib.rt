@@ -18,6 +18,7 @@
 //! Configurations:
 //! - `compact`, `compact_multiline`: one setting for all cells, of one line or of several.
 //! - `spanned`: settings for the whole table, rows, columns and cells (`SpannedConfig`).
+//!   - `spanned::entity_settings`: the padding, alignment and flags of an entity.
 //!   - `spanned::alike`: whether cells or rows share their settings.
 //!   - `spanned::row_styles`: the styles of a row's cells.
 //! - `colored`: the configuration of a `Table`.

@@ -23,7 +23,6 @@ impl Model for HorizontalLines {
 }
 
 impl HorizontalLines {
-    /// Creates an empty map; it doesn't allocate.
     pub fn new(alloc: Global) -> HorizontalLines
         ensures { result ≡ [] }
     {
@@ -32,7 +31,6 @@ impl HorizontalLines {
         }
     }
 
-    /// Clones the lines.
     pub fn clone(&self) -> Result<HorizontalLines, AllocError>
         ensures { IfOk result (λ copy. copy ≡ self.now) }
     {
@@ -44,7 +42,8 @@ impl HorizontalLines {
     /// Sets the line at an index. Replacing a line doesn't allocate. On failure nothing changes.
     pub fn insert(&mut self, index: usize, line: HorizontalLine) -> Result<(), AllocError>
         ensures ok { OnOk result (self.new ≡ with_line self.old index line) }
-        ensures latest { OnOk result ((i : ℕ) → line_set self.new i ≡ (if index == i then Some line else line_set self.old i)) }
+        ensures latest { OnOk result ((i : ℕ) → line_set self.new i
+            ≡ (if index == i then Some line else line_set self.old i)) }
         ensures err { OnErr result (self.new ≡ self.old) }
         ensures absent { OnErr result (line_set self.old index ≡ None) }
     {
@@ -52,14 +51,6 @@ impl HorizontalLines {
         Ok(())
     }
 
-    /// Removes all lines.
-    pub fn clear(&mut self)
-        ensures { self.new ≡ [] }
-    {
-        self.lines.clear();
-    }
-
-    /// Returns the line set at an index.
     pub fn get(&self, index: usize) -> Option<HorizontalLine>
         ensures { result ≡ line_set self.now index }
     {

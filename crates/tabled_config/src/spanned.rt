@@ -1,10 +1,10 @@
 //! The configuration of a table, with settings for rows, columns and cells (`SpannedConfig`).
 ghost use Rattle.std.specs.Prelude.{◌≡◌, ◌==◌, ℕ, if◌then◌else◌, IfErr, IfOk, IsSome, None, OnErr, OnOk, Some, []};
 ghost use Rattle.tabled_base.specs.declared.error.TableError.TheVariants.{Memory};
-ghost use Rattle.tabled_entity.specs.Changes.{setting_at, with_change};
 ghost use Rattle.tabled_config.specs.Lines.{line_set, with_line};
 
 mod alike;
+mod entity_settings;
 mod row_styles;
 
 use crate::alignment::{AlignmentHorizontal, AlignmentVertical};
@@ -17,7 +17,7 @@ use crate::sides::{Indent, Sides};
 use crate::style::Style;
 pub use row_styles::{RowStyles, SetStyles};
 use std::alloc::Global;
-use tabled_base::{Entity, Position, TableError};
+use tabled_base::TableError;
 use tabled_entity::EntityMap;
 
 /// The padding and the alignment of one cell.
@@ -70,30 +70,16 @@ impl Drop for SpannedConfig {
 
 impl SpannedConfig {
     ghost use Rattle.tabled_config.specs.Options.{with_style};
-    ghost use Rattle.tabled_config.specs.Settings.{IsSetFor, frame, rule_at, style_at};
-    ghost use Rattle.tabled_config.specs.Spanned.{
-      new_spanned,
-      spanned_of_compact,
-      spanned_of_multiline,
-    };
+    ghost use Rattle.tabled_config.specs.Settings.{frame, rule_at, style_at};
+    ghost use Rattle.tabled_config.specs.Spanned.{new_spanned, spanned_of_compact};
+    ghost use Rattle.tabled_config.specs.Spanned.{spanned_of_multiline};
 
     /// Creates a configuration without borders, padding, margin or lines. Text is at the left and
     /// the top. It doesn't allocate.
     pub fn new(alloc: Global) -> SpannedConfig
         ensures { result ≡ new_spanned }
     {
-        let none = Sides::filled(Indent::zero());
-        SpannedConfig {
-            borders: Borders::empty(),
-            margin: none,
-            padding: EntityMap::new(alloc, none),
-            alignment_horizontal: EntityMap::new(alloc, AlignmentHorizontal::Left),
-            alignment_vertical: EntityMap::new(alloc, AlignmentVertical::Top),
-            line_alignment: EntityMap::new(alloc, false),
-            trim_horizontal: EntityMap::new(alloc, false),
-            trim_vertical: EntityMap::new(alloc, false),
-            lines: HorizontalLines::new(alloc),
-        }
+        SpannedConfig::from_compact(alloc, CompactConfig::new())
     }
 
     /// Converts a `CompactConfig` and drops its colours. The other settings are those of `new`. It
@@ -169,114 +155,6 @@ impl SpannedConfig {
         &self.margin
     }
 
-    /// Sets the padding of an entity. Fails only with `Memory`, and then changes nothing.
-    pub fn set_padding(&mut self, entity: Entity, padding: Sides<Indent>) -> Result<(), TableError>
-        ensures { IsSetFor entity result self.old self.new
-            (record self.old { padding = with_change self.old.padding entity padding }) }
-    {
-        Ok(self.padding.set(entity, padding)?)
-    }
-
-    /// Returns the padding of a cell.
-    #[inline]
-    #[tactic(auto, unfolding(crate::specs::Settings::style_at))]
-    pub fn get_padding(&self, at: Position) -> Sides<Indent>
-        ensures set { result ≡ setting_at self.now.padding at.row at.column }
-        ensures style { result ≡ (style_at self.now at.row at.column).padding }
-    {
-        self.padding.get(at.row, at.column)
-    }
-
-    /// Sets the horizontal alignment of an entity. Fails only with `Memory`, and then changes
-    /// nothing.
-    pub fn set_alignment_horizontal(
-        &mut self,
-        entity: Entity,
-        alignment: AlignmentHorizontal,
-    ) -> Result<(), TableError>
-        ensures { let all = with_change self.old.alignment_horizontal entity alignment in
-            IsSetFor entity result self.old self.new
-            (record self.old { alignment_horizontal = all }) }
-    {
-        Ok(self.alignment_horizontal.set(entity, alignment)?)
-    }
-
-    /// Returns the horizontal alignment of a cell.
-    pub fn get_alignment_horizontal(&self, at: Position) -> AlignmentHorizontal
-        ensures { result ≡ setting_at self.now.alignment_horizontal at.row at.column }
-    {
-        self.alignment_horizontal.get(at.row, at.column)
-    }
-
-    /// Sets the vertical alignment of an entity. Fails only with `Memory`, and then changes
-    /// nothing.
-    pub fn set_alignment_vertical(
-        &mut self,
-        entity: Entity,
-        alignment: AlignmentVertical,
-    ) -> Result<(), TableError>
-        ensures { let all = with_change self.old.alignment_vertical entity alignment in
-            IsSetFor entity result self.old self.new
-            (record self.old { alignment_vertical = all }) }
-    {
-        Ok(self.alignment_vertical.set(entity, alignment)?)
-    }
-
-    /// Returns the vertical alignment of a cell.
-    pub fn get_alignment_vertical(&self, at: Position) -> AlignmentVertical
-        ensures { result ≡ setting_at self.now.alignment_vertical at.row at.column }
-    {
-        self.alignment_vertical.get(at.row, at.column)
-    }
-
-    /// Sets whether each line of an entity's cells is aligned by its own width. Fails only with
-    /// `Memory`, and then changes nothing.
-    pub fn set_line_alignment(&mut self, entity: Entity, allowed: bool) -> Result<(), TableError>
-        ensures { let all = with_change self.old.line_alignment entity allowed in
-            IsSetFor entity result self.old self.new (record self.old { line_alignment = all }) }
-    {
-        Ok(self.line_alignment.set(entity, allowed)?)
-    }
-
-    /// Whether each line of a cell is aligned by its own width, instead of all lines by the widest.
-    pub fn get_line_alignment(&self, at: Position) -> bool
-        ensures { result ≡ setting_at self.now.line_alignment at.row at.column }
-    {
-        self.line_alignment.get(at.row, at.column)
-    }
-
-    /// Sets whether to trim spaces at the ends of an entity's lines. Stored only: no printer reads
-    /// it. Fails only with `Memory`, and then changes nothing.
-    pub fn set_trim_horizontal(&mut self, entity: Entity, trimmed: bool) -> Result<(), TableError>
-        ensures { let all = with_change self.old.trim_horizontal entity trimmed in
-            IsSetFor entity result self.old self.new (record self.old { trim_horizontal = all }) }
-    {
-        Ok(self.trim_horizontal.set(entity, trimmed)?)
-    }
-
-    /// Whether to trim spaces at the ends of a cell's lines.
-    pub fn get_trim_horizontal(&self, at: Position) -> bool
-        ensures { result ≡ setting_at self.now.trim_horizontal at.row at.column }
-    {
-        self.trim_horizontal.get(at.row, at.column)
-    }
-
-    /// Sets whether to trim empty lines at the top and bottom of an entity's cells. Stored only: no
-    /// printer reads it. Fails only with `Memory`, and then changes nothing.
-    pub fn set_trim_vertical(&mut self, entity: Entity, trimmed: bool) -> Result<(), TableError>
-        ensures { let all = with_change self.old.trim_vertical entity trimmed in
-            IsSetFor entity result self.old self.new (record self.old { trim_vertical = all }) }
-    {
-        Ok(self.trim_vertical.set(entity, trimmed)?)
-    }
-
-    /// Whether to trim empty lines at the top and bottom of a cell.
-    pub fn get_trim_vertical(&self, at: Position) -> bool
-        ensures { result ≡ setting_at self.now.trim_vertical at.row at.column }
-    {
-        self.trim_vertical.get(at.row, at.column)
-    }
-
     /// Sets the horizontal line above `row`, or below the last row, in place of the borders' line.
     /// Fails only with `Memory`, and then changes nothing. Replacing a line that was set before
     /// can't fail.
@@ -300,7 +178,7 @@ impl SpannedConfig {
     pub fn remove_horizontal_lines(&mut self)
         ensures { self.new ≡ record self.old { lines = [] } }
     {
-        self.lines.clear();
+        self.lines = HorizontalLines::new(self.allocator());
     }
 
     /// Returns the horizontal line set by index above a row, if any.

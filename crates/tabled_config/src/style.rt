@@ -1,16 +1,7 @@
 //! Six ready-made border styles (`Style`).
 ghost use Rattle.std.specs.Prelude.{◌≡◌};
-ghost use Rattle.tabled_config.specs.Styles.{
-  ascii,
-  extended,
-  framed,
-  line,
-  markdown,
-  modern,
-  no_style,
-  psql,
-  style_line,
-};
+ghost use Rattle.tabled_config.specs.Styles.{ascii, extended, framed, line, markdown, modern};
+ghost use Rattle.tabled_config.specs.Styles.{no_style, psql, style_line};
 
 use crate::borders::{Borders, HorizontalLine};
 

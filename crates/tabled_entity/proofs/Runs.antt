@@ -124,12 +124,12 @@ cells-same old new row cells more there held same-values =
 
 module _ {E : Type 0} (old : RunMap (RunMap ℕ)) (index : ℕ) (cells more : RunMap ℕ) where
   -- what is inserted into a row of the run is inserted into the map
-  pub run-row-held : (column value : ℕ) (r : Result (Unit {0}) E) → index < length old.run.items → cells ≡ get_or old.run.items index cells
-      → OnOk r (HoldsValue cells more column value)
-      → OnOk r (HoldsCell old (record old { run = with_item old.run index more }) (old.first + index) column value)
-  run-row-held column value (Ok _) within is set =
-      cell-held old _ _ column value cells more (row-there old index within cells is) (row-set old index within more) set
-  run-row-held column value (Err _) within is set = tt
+  pub run-row-held : (row column value : ℕ) (r : Result (Unit {0}) E) → row ≡ old.first + index → index < length old.run.items
+      → cells ≡ get_or old.run.items index cells → OnOk r (HoldsValue cells more column value)
+      → OnOk r (HoldsCell old (record old { run = with_item old.run index more }) row column value)
+  run-row-held row column value (Ok _) at within is set =
+      rw at (cell-held old _ _ column value cells more (row-there old index within cells is) (row-set old index within more) set)
+  run-row-held row column value (Err _) at within is set = tt
 
   -- where nothing is, nothing changes
   pub run-row-same : (r : Result (Unit {0}) E) → index < length old.run.items → cells ≡ get_or old.run.items index cells

@@ -130,15 +130,6 @@ impl<T: Copy> EntityMap<T> {
         RowValues::new(&self.whole, &self.changes, self.places.in_row(row))
     }
 
-    /// Returns the value of all cells of a row, if they are known to be equal: nothing was set for
-    /// a column, nor for a cell of the row.
-    #[inline(always)]
-    pub fn row_value(&self, row: usize) -> Option<&T>
-        ensures { IfSome result (λ value. (column : ℕ) → value.now ≡ setting_at self.now row column) }
-    {
-        self.in_row(row).shared()
-    }
-
     /// Looks up the value of a cell among the changes.
     #[inline(never)]
     fn found(&self, row: usize, column: usize) -> &T

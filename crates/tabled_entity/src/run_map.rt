@@ -1,5 +1,5 @@
 //! `RunMap`, a map from numbers.
-ghost use Rattle.std.specs.Prelude.{◌≡◌, ◌+◌, ◌<◌, ◌≤◌, ℕ, IfNone, IfSome, None, OnErr, OnOk, length, true};
+ghost use Rattle.std.specs.Prelude.{◌≡◌, ◌+◌, ◌≤◌, ℕ, IfNone, IfSome, None, OnErr, OnOk, length, true};
 ghost use Rattle.std.specs.Option.{option_copied};
 ghost use Rattle.tabled_entity.specs.RunMap.{HasNoValue, HoldsCell, HoldsValue, SameCells};
 ghost use Rattle.tabled_entity.specs.RunMap.{SameValues, in_dense, in_others, in_run, value_in};
@@ -179,28 +179,13 @@ impl RunMap<RunMap<usize>> {
         }
     }
 
-    /// Stores the value of a cell in a row of the run.
-    fn insert_in_run_row(
-        &mut self,
-        index: usize,
-        column: usize,
-        value: usize,
-    ) -> Result<(), AllocError>
-        requires { index < length self.old.run.items }
-        ensures ok { OnOk result
-            (HoldsCell self.old self.new (self.old.first + index) column value) }
-        ensures err { OnErr result (SameCells self.old self.new) }
-    {
-        self.run[index].insert(column, value)
-    }
-
     /// Stores the value of a cell. If an allocation fails, no value changes.
     pub fn insert_cell(&mut self, row: usize, column: usize, value: usize) -> Result<(), AllocError>
         ensures ok { OnOk result (HoldsCell self.old self.new row column value) }
         ensures err { OnErr result (SameCells self.old self.new) }
     {
         match self.index_of(row) {
-            Some(index) if index < self.run.len() => self.insert_in_run_row(index, column, value),
+            Some(index) if index < self.run.len() => self.run[index].insert(column, value),
             _ => self.insert_in_other_row(row, column, value),
         }
     }

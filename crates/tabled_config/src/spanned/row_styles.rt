@@ -101,10 +101,10 @@ impl SpannedConfig {
         ensures { IfSome result (λ style. (column : ℕ) → style_at self.now row column ≡ style) }
     {
         Some(CellStyle {
-            padding: *self.padding.row_value(row)?,
-            horizontal: *self.alignment_horizontal.row_value(row)?,
-            vertical: *self.alignment_vertical.row_value(row)?,
-            line_alignment: *self.line_alignment.row_value(row)?,
+            padding: *self.padding.in_row(row).shared()?,
+            horizontal: *self.alignment_horizontal.in_row(row).shared()?,
+            vertical: *self.alignment_vertical.in_row(row).shared()?,
+            line_alignment: *self.line_alignment.in_row(row).shared()?,
         })
     }
 
@@ -129,7 +129,7 @@ impl SpannedConfig {
         ensures { IfSome result (λ padding. (column : ℕ)
             → (style_at self.now row column).padding ≡ padding.now) }
     {
-        self.padding.row_value(row)
+        self.padding.in_row(row).shared()
     }
 
     /// Returns the padding and horizontal alignment shared by all cells of a row. `None` only if
@@ -140,8 +140,8 @@ impl SpannedConfig {
         ensures padding { IfSome result (λ sides. (column : ℕ) → sides.0.now ≡ (style_at self.now row column).padding) }
         ensures horizontal { IfSome result (λ sides. (column : ℕ) → sides.1 ≡ (style_at self.now row column).horizontal) }
     {
-        let padding = self.padding.row_value(row)?;
-        let horizontal = self.alignment_horizontal.row_value(row)?;
+        let padding = self.padding.in_row(row).shared()?;
+        let horizontal = self.alignment_horizontal.in_row(row).shared()?;
         Some((padding, *horizontal))
     }
 
