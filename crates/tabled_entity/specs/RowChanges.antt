@@ -8,16 +8,16 @@ use Rattle.tabled_entity.specs.declared.row_changes.RowChanges.{RowChanges}
 use Rattle.tabled_entity.specs.declared.row_changes.RowChanges.TheVariants.{Mixed, Run, Same}
 use Rattle.tabled_entity.specs.declared.run_map.RunMap.{RunMap}
 
--- the change for a column in a map, if there is one
+-- the change for a cell of the row, by its column
 abbrev pub place_in : Option (Bor (RunMap ℕ)) → ℕ → Option ℕ
-place_in places column = option_and_then (λ map. value_in map.now column) places
+place_in cells column = option_and_then (λ map. value_in map.now column) cells
 
 -- the latest of the changes for the row, for the column, and for the cell itself
-abbrev pub latest_of : Option ℕ → Option (Bor (RunMap ℕ)) → Option (Bor (RunMap ℕ)) → ℕ → Option ℕ
-latest_of row columns cells column = later row (later (place_in columns column) (place_in cells column))
+abbrev pub latest_of : Option ℕ → RunMap ℕ → Option (Bor (RunMap ℕ)) → ℕ → Option ℕ
+latest_of row columns cells column = later row (later (value_in columns column) (place_in cells column))
 
 -- the latest change that covers the cell in a column
 abbrev pub latest_at : RowChanges → ℕ → Option ℕ
 latest_at (Same place) column = place
 latest_at (Run first places) column = in_dense first places.now column
-latest_at (Mixed row columns cells) column = latest_of row columns cells column
+latest_at (Mixed row columns cells) column = latest_of row columns.now cells column

@@ -58,7 +58,7 @@ impl ChangeIndex {
         ensures { (column : ℕ) → latest_at result column ≡ latest (found self.now) row column }
     {
         let of_row = self.rows.get(row).copied();
-        RowChanges::new(of_row, self.columns.if_any(), self.cells.get(row))
+        RowChanges::new(of_row, &self.columns, self.cells.get(row))
     }
 
     /// Whether there is no entry for a row, nor for one of its cells.

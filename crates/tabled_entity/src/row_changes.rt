@@ -13,17 +13,14 @@ pub(crate) enum RowChanges<'a> {
     /// Changes for a dense run of cells, from this column on, and no others. A lookup is one index.
     Run(usize, &'a [usize]),
     /// The change for the row, those for columns, and those for the row's cells.
-    Mixed(Option<usize>, Option<&'a RunMap<usize>>, Option<&'a RunMap<usize>>),
+    Mixed(Option<usize>, &'a RunMap<usize>, Option<&'a RunMap<usize>>),
 }
 
 #[inline(always)]
-fn place_in(places: Option<&RunMap<usize>>, column: usize) -> Option<usize>
-    ensures { result ≡ place_in places.entry column }
+fn place_in(cells: Option<&RunMap<usize>>, column: usize) -> Option<usize>
+    ensures { result ≡ place_in cells.entry column }
 {
-    match places {
-        Some(places) => places.get(column).copied(),
-        None => None,
-    }
+    cells?.get(column).copied()
 }
 
 /// Returns the later of two changes, by their indices.
@@ -43,15 +40,18 @@ impl<'a> RowChanges<'a> {
     #[inline(always)]
     pub fn new(
         row: Option<usize>,
-        columns: Option<&'a RunMap<usize>>,
+        columns: &'a RunMap<usize>,
         cells: Option<&'a RunMap<usize>>,
     ) -> RowChanges<'a>
         ensures { (column : ℕ) → latest_at result column
-            ≡ latest_of row columns.entry cells.entry column }
+            ≡ latest_of row columns.now cells.entry column }
     {
-        match (row, columns, cells) {
-            (_, None, None) => RowChanges::Same(row),
-            (None, None, Some(map)) => match map.only_run() {
+        if !columns.is_empty() {
+            return RowChanges::Mixed(row, columns, cells);
+        }
+        match (row, cells) {
+            (_, None) => RowChanges::Same(row),
+            (None, Some(map)) => match map.only_run() {
                 Some((first, places)) => RowChanges::Run(first, places),
                 None => RowChanges::Mixed(row, columns, cells),
             },
@@ -68,7 +68,7 @@ impl<'a> RowChanges<'a> {
             RowChanges::Same(place) => *place,
             RowChanges::Run(first, places) => in_dense(*first, *places, column).copied(),
             RowChanges::Mixed(row, columns, cells) => {
-                let of_cell = later(place_in(*columns, column), place_in(*cells, column));
+                let of_cell = later(columns.get(column).copied(), place_in(*cells, column));
                 later(*row, of_cell)
             }
         }

@@ -1,5 +1,6 @@
 //! `RunMap`, a map from numbers.
-ghost use Rattle.std.specs.Prelude.{◌≡◌, ◌+◌, ◌≤◌, ℕ, IfNone, IfSome, None, OnErr, OnOk, length, true};
+ghost use Rattle.std.specs.Prelude.{◌≡◌, ◌+◌, ◌≤◌, ℕ, length, true};
+ghost use Rattle.std.specs.Prelude.{IfNone, IfSome, None, OnErr, OnOk};
 ghost use Rattle.std.specs.Option.{option_copied};
 ghost use Rattle.tabled_entity.specs.RunMap.{HasNoValue, HoldsCell, HoldsValue, SameCells};
 ghost use Rattle.tabled_entity.specs.RunMap.{SameValues, in_dense, in_others, in_run, value_in};
@@ -53,15 +54,6 @@ impl<V: Drop> RunMap<V> {
         self.run.is_empty() && self.others.is_empty()
     }
 
-    /// Returns the map, or `None` if it has no values.
-    #[inline(always)]
-    pub fn if_any(&self) -> Option<&RunMap<V>>
-        ensures some { IfSome result (λ map. map.now ≡ self.now) }
-        ensures none { IfNone result (HasNoValue self.now) }
-    {
-        if self.is_empty() { None } else { Some(self) }
-    }
-
     /// Returns the first number and the values of the run, if there are no others.
     #[inline(always)]
     #[tactic(auto, using(crate::proofs::Runs::or_none))]
@@ -110,7 +102,6 @@ impl<V: Drop> RunMap<V> {
         }
     }
 
-    /// Stores a value in the run.
     fn insert_in_run(&mut self, index: usize, value: V) -> Result<(), AllocError>
         requires { index ≤ length self.old.run.items }
         ensures ok { OnOk result (HoldsValue self.old self.new (self.old.first + index) value) }
@@ -124,7 +115,6 @@ impl<V: Drop> RunMap<V> {
         Ok(())
     }
 
-    /// Stores a value among the others.
     fn insert_in_others(&mut self, number: usize, value: V) -> Result<(), AllocError>
         requires { in_run self.old number ≡ None }
         ensures ok { OnOk result (HoldsValue self.old self.new number value) }

@@ -1,7 +1,7 @@
 //! The styles of a row's cells (`RowStyles`).
 ghost use Rattle.std.specs.Prelude.{◌≡◌, ℕ, IfSome};
 ghost use Rattle.tabled_entity.specs.RowValues.{value_at};
-ghost use Rattle.tabled_config.specs.RowStyles.{DescribesStyles, plain_style, set_style, style_in};
+ghost use Rattle.tabled_config.specs.RowStyles.{DescribesStyles, plain_style, style_in};
 ghost use Rattle.tabled_config.specs.Settings.{style_at};
 
 use super::{CellStyle, SpannedConfig};
@@ -42,25 +42,11 @@ fn plain_style() -> CellStyle
     }
 }
 
-impl<'a> SetStyles<'a> {
-    #[inline(always)]
-    #[tactic(auto, unfolding(crate::specs::Settings::style_at))]
-    fn at(&self, column: usize) -> CellStyle
-        ensures { result ≡ set_style self.now column }
-    {
-        CellStyle {
-            padding: *self.padding.at(column),
-            horizontal: *self.horizontal.at(column),
-            vertical: self.config.alignment_vertical.get(self.row, column),
-            line_alignment: self.config.line_alignment.get(self.row, column),
-        }
-    }
-}
-
 impl<'a> RowStyles<'a> {
     /// Returns the style of a column. Columns after a list have no padding and are at the left and
     /// the top.
     #[inline(always)]
+    #[tactic(auto, unfolding(crate::specs::Settings::style_at))]
     pub fn at(&self, column: usize) -> CellStyle
         ensures { result ≡ style_in self.now column }
     {
@@ -70,15 +56,22 @@ impl<'a> RowStyles<'a> {
                 Some(style) => *style,
                 None => plain_style(),
             },
-            RowStyles::Set(styles) => styles.at(column),
+            RowStyles::Set(styles) => CellStyle {
+                padding: *styles.padding.at(column),
+                horizontal: *styles.horizontal.at(column),
+                vertical: styles.config.alignment_vertical.get(styles.row, column),
+                line_alignment: styles.config.line_alignment.get(styles.row, column),
+            },
         }
     }
 
     /// Returns the padding and horizontal alignment of a column. `None` after the end of a list.
     #[inline(always)]
     pub fn sides(&self, column: usize) -> Option<(&Sides<Indent>, AlignmentHorizontal)>
-        ensures padding { IfSome result (λ sides. sides.0.now ≡ (style_in self.now column).padding) }
-        ensures horizontal { IfSome result (λ sides. sides.1 ≡ (style_in self.now column).horizontal) }
+        ensures padding { IfSome result (λ sides. sides.0.now
+            ≡ (style_in self.now column).padding) }
+        ensures horizontal { IfSome result (λ sides. sides.1
+            ≡ (style_in self.now column).horizontal) }
     {
         match self {
             RowStyles::Alike(style) => Some((&style.padding, style.horizontal)),
@@ -137,8 +130,10 @@ impl SpannedConfig {
     #[inline(always)]
     #[tactic(auto, unfolding(crate::specs::Settings::style_at))]
     pub fn row_sides(&self, row: usize) -> Option<(&Sides<Indent>, AlignmentHorizontal)>
-        ensures padding { IfSome result (λ sides. (column : ℕ) → sides.0.now ≡ (style_at self.now row column).padding) }
-        ensures horizontal { IfSome result (λ sides. (column : ℕ) → sides.1 ≡ (style_at self.now row column).horizontal) }
+        ensures padding { IfSome result (λ sides. (column : ℕ)
+            → sides.0.now ≡ (style_at self.now row column).padding) }
+        ensures horizontal { IfSome result (λ sides. (column : ℕ)
+            → sides.1 ≡ (style_at self.now row column).horizontal) }
     {
         let padding = self.padding.in_row(row).shared()?;
         let horizontal = self.alignment_horizontal.in_row(row).shared()?;
