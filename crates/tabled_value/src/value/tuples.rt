@@ -81,9 +81,7 @@ impl<A: Tabled, B: Tabled, C: Tabled> Tabled for (A, B, C) {
     }
 
     fn push_cells(&self, row: &mut Vec<Text<String>>) -> Result<(), TableError> {
-        self.0.push_cells(row)?;
-        self.1.push_cells(row)?;
-        self.2.push_cells(row)
+        (&self.0, (&self.1, &self.2)).push_cells(row)
     }
 }
 
@@ -109,10 +107,7 @@ impl<A: Tabled, B: Tabled, C: Tabled, D: Tabled> Tabled for (A, B, C, D) {
     }
 
     fn push_cells(&self, row: &mut Vec<Text<String>>) -> Result<(), TableError> {
-        self.0.push_cells(row)?;
-        self.1.push_cells(row)?;
-        self.2.push_cells(row)?;
-        self.3.push_cells(row)
+        (&self.0, (&self.1, (&self.2, &self.3))).push_cells(row)
     }
 }
 
@@ -139,11 +134,7 @@ impl<A: Tabled, B: Tabled, C: Tabled, D: Tabled, E: Tabled> Tabled for (A, B, C,
     }
 
     fn push_cells(&self, row: &mut Vec<Text<String>>) -> Result<(), TableError> {
-        self.0.push_cells(row)?;
-        self.1.push_cells(row)?;
-        self.2.push_cells(row)?;
-        self.3.push_cells(row)?;
-        self.4.push_cells(row)
+        (&self.0, (&self.1, (&self.2, (&self.3, &self.4)))).push_cells(row)
     }
 }
 
@@ -173,12 +164,7 @@ impl<A: Tabled, B: Tabled, C: Tabled, D: Tabled, E: Tabled, F: Tabled> Tabled
     }
 
     fn push_cells(&self, row: &mut Vec<Text<String>>) -> Result<(), TableError> {
-        self.0.push_cells(row)?;
-        self.1.push_cells(row)?;
-        self.2.push_cells(row)?;
-        self.3.push_cells(row)?;
-        self.4.push_cells(row)?;
-        self.5.push_cells(row)
+        (&self.0, (&self.1, (&self.2, (&self.3, (&self.4, &self.5))))).push_cells(row)
     }
 }
 
