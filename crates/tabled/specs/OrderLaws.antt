@@ -1,43 +1,32 @@
 -- Laws of `OrderPriority`, from those of the five priorities.
-use Rattle.std.proofs.Common.{◌∙◌, ◌+◌, ℕ, List, None, Some, refl, subst, sym, true}
+use Rattle.std.proofs.Common.{◌∙◌, ◌+◌, ℕ, List, None, Some, false, refl, subst, sym, true}
 use Rattle.tabled_priority.specs.Permitted.{IsTakenFrom, lowered}
 use Rattle.tabled_priority.specs.Shrunk.{IsRoundShrunk}
+use Rattle.tabled_priority.specs.Laws.Permitted.{taken-none, taken-nothing}
 use Rattle.tabled_priority.specs.Laws.Round.{IsRoundShrunk-done, IsRoundShrunk-none, IsRoundShrunk-step}
-use Rattle.tabled_priority.specs.Laws.Shrunk.{
-  IsLeftShrunk-done,
-  IsLeftShrunk-none,
-  IsLeftShrunk-step,
-  IsMaxShrunk-done,
-  IsMaxShrunk-none,
-  IsMaxShrunk-step,
-  IsMinShrunk-done,
-  IsMinShrunk-none,
-  IsMinShrunk-step,
-  IsRightShrunk-done,
-  IsRightShrunk-none,
-  IsRightShrunk-step,
-}
+use Rattle.tabled_priority.specs.Laws.Shrunk.{IsMaxShrunk-step, IsMaxShrunk-still, IsMinShrunk-step}
+use Rattle.tabled_priority.specs.Laws.Shrunk.{IsMinShrunk-still, IsSideShrunk-step, IsSideShrunk-still}
 use Rattle.tabled.specs.declared.order_priority.OrderPriority.{OrderPriority}
 use Rattle.tabled.specs.declared.plan.Order.{Order}
 use Rattle.tabled.specs.declared.plan.Order.TheVariants.{Round, Least, Greatest, Leftmost, Rightmost}
 use Rattle.tabled.specs.Orders.{IsNamed, IsShrunk, Names, Shrinks}
 
 none : (o : Order) (kept : ℕ) (xs mins : List ℕ) → IsShrunk o kept xs mins 0 xs kept
-none Round = IsRoundShrunk-none
-none Least = λ kept. IsMinShrunk-none true
-none Greatest = λ kept. IsMaxShrunk-none true
-none Leftmost = λ kept. IsLeftShrunk-none
-none Rightmost = λ kept. IsRightShrunk-none
+none Round kept xs mins = IsRoundShrunk-none kept xs mins
+none Least kept xs mins = IsMinShrunk-still true xs mins 0 (taken-nothing xs mins)
+none Greatest kept xs mins = IsMaxShrunk-still true xs mins 0 (taken-nothing xs mins)
+none Leftmost kept xs mins = IsSideShrunk-still false xs mins 0 (taken-nothing xs mins)
+none Rightmost kept xs mins = IsSideShrunk-still true xs mins 0 (taken-nothing xs mins)
 
 pub Shrinks-none : (s : OrderPriority) (xs mins : List ℕ) → Shrinks s xs mins 0 xs s
 Shrinks-none s xs mins = (none s.order s.round.kept xs mins, refl)
 
 done : (o : Order) (kept kept' : ℕ) (xs mins : List ℕ) (by : ℕ) → IsNamed o kept xs mins None kept' → IsShrunk o kept xs mins by xs kept'
 done Round kept kept' xs mins by h = subst (λ k. IsRoundShrunk kept xs mins by xs k) (sym h.1) (IsRoundShrunk-done kept xs mins by h.0)
-done Least kept kept' xs mins by h = IsMinShrunk-done true xs mins by h
-done Greatest kept kept' xs mins by h = IsMaxShrunk-done true xs mins by h
-done Leftmost kept kept' xs mins by h = IsLeftShrunk-done xs mins by h
-done Rightmost kept kept' xs mins by h = IsRightShrunk-done xs mins by h
+done Least kept kept' xs mins by h = IsMinShrunk-still true xs mins by (taken-none xs mins by h)
+done Greatest kept kept' xs mins by h = IsMaxShrunk-still true xs mins by (taken-none xs mins by h)
+done Leftmost kept kept' xs mins by h = IsSideShrunk-still false xs mins by (taken-none xs mins by h)
+done Rightmost kept kept' xs mins by h = IsSideShrunk-still true xs mins by (taken-none xs mins by h)
 
 pub Shrinks-done : (s t : OrderPriority) (xs mins : List ℕ) (by : ℕ) → Names s xs mins None t → Shrinks s xs mins by xs t
 Shrinks-done s t xs mins by h = (done s.order s.round.kept t.round.kept xs mins by h.0, h.1)
@@ -48,8 +37,8 @@ step Round kept next last xs mins new by i h rest =
     IsRoundShrunk-step kept xs mins i by new last h.0 (subst (λ k. IsRoundShrunk k (lowered xs i) mins by new last) h.1 rest)
 step Least kept next last xs mins new by i h rest = IsMinShrunk-step true xs mins i by new h rest
 step Greatest kept next last xs mins new by i h rest = IsMaxShrunk-step true xs mins i by new h rest
-step Leftmost kept next last xs mins new by i h rest = IsLeftShrunk-step xs mins i by new h rest
-step Rightmost kept next last xs mins new by i h rest = IsRightShrunk-step xs mins i by new h rest
+step Leftmost kept next last xs mins new by i h rest = IsSideShrunk-step false xs mins i by new h rest
+step Rightmost kept next last xs mins new by i h rest = IsSideShrunk-step true xs mins i by new h rest
 
 pub Shrinks-step : (s t u : OrderPriority) (xs mins new : List ℕ) (by i : ℕ) → Names s xs mins (Some i) t → Shrinks t (lowered xs i) mins by new u
     → Shrinks s xs mins (by + 1) new u

@@ -17,12 +17,6 @@ pub record IsOutermost (right : Bool) (values mins : List ℕ) (i : ℕ) : Type 
   pub above : at mins i < at values i
   pub first : (j : ℕ) → IsBefore right j i → at values j ≤ at mins j
 
-abbrev pub IsLeftmost : List ℕ → List ℕ → ℕ → Type 0
-IsLeftmost = IsOutermost false
-
-abbrev pub IsRightmost : List ℕ → List ℕ → ℕ → Type 0
-IsRightmost = IsOutermost true
-
 -- the greatest value above its minimum, of equal ones the rightmost or the leftmost
 pub record IsGreatest (right : Bool) (values mins : List ℕ) (i : ℕ) : Type 0 where
   pub above : at mins i < at values i

@@ -56,7 +56,6 @@ impl Schedule {
         if kept < count { kept } else { 0 }
     }
 
-    /// Returns the size of a column after it has taken an amount.
     pub(crate) fn changed(&self, value: usize, amount: usize) -> usize
         requires { CanChange self.now value amount }
         ensures { IsChanged self.now value amount result }
@@ -77,7 +76,6 @@ pub(crate) struct Ramp {
 }
 
 impl Ramp {
-    /// Returns what the column takes up to a level.
     pub(crate) fn amount(&self, level: usize) -> usize
         ensures { result ≡ min level self.now.to - self.now.from }
     {
@@ -100,7 +98,6 @@ pub(crate) struct Ramps<'a> {
     pub(crate) values: &'a [usize],
 }
 
-/// Returns what all columns take up to a level, `usize::MAX` at most.
 #[tactic(auto, using(crate::proofs::Sums::sum_step))]
 pub(crate) fn total_amount(
     schedule: Schedule,
@@ -160,7 +157,6 @@ impl Levels for Ramps<'_> {
 }
 
 impl Ramps<'_> {
-    /// Reads a column, and returns it with its levels.
     pub(crate) fn visit(&self, place: usize, steps: &mut Steps) -> Ramp
         requires { place < columns_of self.now }
         ensures value { result.value ≡ at self.now.values.now place }

@@ -8,7 +8,6 @@ use Rattle.tabled_priority.specs.Laws.Permitted.{taken-none}
 use Rattle.tabled_priority.specs.Laws.Shrunk.{IsSideShrunk-still}
 use Rattle.tabled_priority.proofs.AtOnce.{IsPassed, less, side_at_once, passed-none, passed-more, passed-before, passed-all, place_at-lt}
 use Rattle.tabled_priority.proofs.Underway.{Underway, Underway-start, Underway-take, at-less, at-less_other}
-use Rattle.tabled_priority.proofs.Between.{side_between}
 use Rattle.tabled_priority.proofs.Visiting.{IsBounded-whole}
 use Rattle.tabled_priority.proofs.in_order.shrink_from.Goals as goal
 
@@ -78,10 +77,6 @@ returns-clause-shrinks c =
     (λ past. let e = get_or_past xs j 0 past in omega arith) (cases_lt j (length xs))))
     (λ none. omega arith)
     (cases_lt 0 c.loop-turn.left)))
-
-pub returns-clause-between : goal.returns-clause-between
-returns-clause-between c = side_between c.args.right c.args.values.now c.args.mins.now c.args.by
-    c.loop-turn.values (returns-clause-shrinks c)
 
 pub returns-clause-shrinking : goal.returns-clause-shrinking
 returns-clause-shrinking c =
