@@ -65,10 +65,7 @@ where
             return Some(BufCells::Kept(row.into_iter()));
         }
         match &mut self.later {
-            Some(rows) => match rows.next() {
-                Some(row) => Some(BufCells::Later(row.into_iter())),
-                None => None,
-            },
+            Some(rows) => Some(BufCells::Later(rows.next()?.into_iter())),
             None => None,
         }
     }

@@ -36,7 +36,6 @@ impl Model for JoinedTexts {
     ghost invariant = { λ t. AreFilled (string_bytes t.whole) t.ends t.lines.items };
 }
 
-/// Returns the lines of the text at an index.
 #[inline(always)]
 fn lines_at(lines: &[usize], place: usize) -> usize
     ensures { result ≡ slice_index_or lines.now place 1 }
@@ -45,27 +44,6 @@ fn lines_at(lines: &[usize], place: usize) -> usize
         Some(count) => *count,
         None => 1,
     }
-}
-
-/// Stores the lines of the text at an index, after all that are stored. Error: `Memory`; the lines
-/// of the texts before it are unchanged then.
-fn note_lines(lines: &mut Vec<usize>, place: usize, count: usize) -> Result<(), TableError>
-    requires { length lines.old.items ≤ place }
-    ensures same { (k : ℕ) → k < place
-        → slice_index_or lines.new.items k 1 ≡ slice_index_or lines.old.items k 1 }
-    ensures noted { OnOk result (slice_index_or lines.new.items place 1 ≡ count) }
-    ensures few { OnOk result (length lines.new.items ≤ place + 1) }
-    ensures err { OnErr result (length lines.new.items ≤ place) }
-    ensures only { IfErr result (λ e. e ≡ Memory) }
-{
-    if count == 1 {
-        return Ok(());
-    }
-    'ones: for _before in lines.len()..place {
-        lines.push(1)?;
-    }
-    lines.push(count)?;
-    Ok(())
 }
 
 /// Stores the end, the columns and the lines of a text. Error: `Memory`; those of the texts before
@@ -85,7 +63,13 @@ fn push_ends(
     ensures err { OnErr result (ends.new ≡ ends.old) }
     ensures only { IfErr result (λ e. e ≡ Memory) }
 {
-    note_lines(lines, ends.len(), count)?;
+    if count == 1 {
+        return ends.push(place);
+    }
+    'ones: for _before in lines.len()..ends.len() {
+        lines.push(1)?;
+    }
+    lines.push(count)?;
     ends.push(place)
 }
 

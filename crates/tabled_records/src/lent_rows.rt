@@ -37,7 +37,6 @@ impl<'a> Model for LentRows<'a> {
 }
 
 impl<'a> LentRows<'a> {
-    /// Makes rows of the cells of a text.
     pub(crate) fn new(text: &'a str, cells: Pairs, rows: RowRanges) -> LentRows<'a>
         requires kept { AreKept 1 text.now cells [] }
         requires ranges { AreRanges (length cells) rows }
@@ -97,7 +96,6 @@ pub fn text_rows(alloc: Global, text: &str) -> Result<LentRows<'_>, TableError>
     split_rows(alloc, without_last_feed(text))
 }
 
-/// Returns the text without a line feed at its end.
 fn without_last_feed(text: &str) -> &str
     ensures { result.now ≡ without_last_feed text.now }
 {
@@ -109,7 +107,6 @@ fn without_last_feed(text: &str) -> &str
     }
 }
 
-/// Makes each line of a text a row.
 fn split_rows(alloc: Global, text: &str) -> Result<LentRows<'_>, TableError>
     ensures ok { IfOk result (λ rows. rows
         ≡ map (λ line. lengthened (most_cells (lines_of text.now)) (cells_of line))
@@ -186,7 +183,6 @@ pub fn lend_cells<R: PeekableRecords>(
     Ok(VecRecords::new(rows))
 }
 
-/// Borrows the cells of a row with `count` columns.
 fn lend_row<R: PeekableRecords>(
     alloc: Global,
     records: &R,

@@ -192,13 +192,11 @@ where
     ghost remaining = { λ s. I.remaining s.rows };
 
     fn next(&mut self) -> Option<FirstCells<<I::Item as IntoIterator>::IntoIter>> {
-        match self.rows.next() {
-            Some(row) => Some(FirstCells {
-                cells: row.into_iter(),
-                left: self.limit,
-            }),
-            None => None,
-        }
+        let row = self.rows.next()?;
+        Some(FirstCells {
+            cells: row.into_iter(),
+            left: self.limit,
+        })
     }
 }
 

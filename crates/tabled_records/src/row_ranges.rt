@@ -117,7 +117,6 @@ fn start_of(ends: &Pairs, gap: usize, place: usize) -> usize
     }
 }
 
-/// Returns the text at an index, and its columns.
 #[inline(always)]
 fn text_at<'a>(whole: &'a str, ends: &Pairs, gap: usize, place: usize) -> (&'a str, usize)
     requires joined { AreJoined gap whole.now 0 ends.now }

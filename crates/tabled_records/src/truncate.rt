@@ -75,16 +75,14 @@ impl<'a, I: Iterator> Iterator for CutCells<'a, I> {
 
     fn next(&mut self) -> Option<CutCell<I::Item>> {
         let cell = self.cells.next()?;
-        match self.widths.split_first() {
-            Some((width, others)) => {
-                self.widths = others;
-                Some(CutCell {
-                    cell,
-                    width: Some(*width),
-                })
-            }
-            None => Some(CutCell { cell, width: None }),
-        }
+        let Some((width, others)) = self.widths.split_first() else {
+            return Some(CutCell { cell, width: None });
+        };
+        self.widths = others;
+        Some(CutCell {
+            cell,
+            width: Some(*width),
+        })
     }
 }
 
@@ -109,13 +107,11 @@ where
     ghost remaining = { λ s. I.remaining s.rows };
 
     fn next(&mut self) -> Option<CutCells<'a, <I::Item as IntoIterator>::IntoIter>> {
-        match self.rows.next() {
-            Some(row) => Some(CutCells {
-                cells: row.into_iter(),
-                widths: self.widths,
-            }),
-            None => None,
-        }
+        let row = self.rows.next()?;
+        Some(CutCells {
+            cells: row.into_iter(),
+            widths: self.widths,
+        })
     }
 }
 

@@ -1,5 +1,5 @@
 use Rattle.std.proofs.Common.{◌≡◌, ℕ, length, get_or}
-use Rattle.tabled_records.proofs.joined_records.note_lines.Given as goal
+use Rattle.tabled_records.proofs.joined_records.push_ends.Given as goal
 
 abbrev pub invariant-ones : goal.invariant-ones
 invariant-ones l = record {
