@@ -123,6 +123,9 @@ reached_there f count i h = ap is_some (reached_at f count i h)
 pub reached_size : (f : ℕ → Option ℕ) (count i n : ℕ) → i < length (reached f count) → Some n ≡ f i → n ≡ slice_index (reached f count) i
 reached_size f count i n h e = same_some (e ∙ reached_at f count i h)
 
+pub reached_is : (f : ℕ → Option ℕ) (count i : ℕ) → i < length (reached f count) → Some (slice_index (reached f count) i) ≡ f i
+reached_is f count i h = sym (reached_at f count i h)
+
 missing : (o : Option ℕ) → is_some o ≡ false → o ≡ None
 missing None h = refl
 missing (Some n) h = let there : true ≡ false = h in cc

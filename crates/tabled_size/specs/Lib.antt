@@ -1,9 +1,9 @@
 pub mod Added
 pub mod Cleared
-pub mod ConstSizes
 pub mod Entries
 pub mod Estimates
 pub mod FilledIn
+pub mod FixedSizes
 pub mod Holds
 pub mod PlainCells
 pub mod Reached
@@ -13,4 +13,3 @@ pub mod EffectiveTotals
 pub mod Stored
 pub mod TextCells
 pub mod Totals
-pub mod Values

@@ -147,22 +147,12 @@ fn clone_sizes(sizes: &Option<Vec<usize>>) -> Result<Option<Vec<usize>>, TableEr
     }
 }
 
-fn has_entry(sizes: &Option<Vec<usize>>, place: usize) -> bool
-    ensures { result ≡ is_some (stored_at (option_map (λ v. v.items) sizes.now) place) }
+fn entry(sizes: &Option<Vec<usize>>, place: usize) -> Option<usize>
+    ensures { result ≡ stored_at (option_map (λ v. v.items) sizes.now) place }
 {
     match sizes {
-        None => false,
-        Some(sizes) => place < sizes.len(),
-    }
-}
-
-fn get_entry(sizes: &Option<Vec<usize>>, place: usize) -> usize
-    requires { is_some (stored_at (option_map (λ v. v.items) sizes.now) place) ≡ true }
-    ensures { Some result ≡ stored_at (option_map (λ v. v.items) sizes.now) place }
-{
-    match sizes {
-        None => unreachable!(),
-        Some(sizes) => sizes[place],
+        None => None,
+        Some(sizes) => sizes.get(place).copied(),
     }
 }
 
@@ -172,18 +162,18 @@ impl Dimension for CompleteDimension {
     ghost height_at = { λ s row. stored_at (heights_of s) row };
 
     fn has_width(&self, column: usize) -> bool {
-        has_entry(&self.width, column)
+        entry(&self.width, column).is_some()
     }
 
     fn has_height(&self, row: usize) -> bool {
-        has_entry(&self.height, row)
+        entry(&self.height, row).is_some()
     }
 
     fn get_width(&self, column: usize) -> usize {
-        get_entry(&self.width, column)
+        entry(&self.width, column).unwrap()
     }
 
     fn get_height(&self, row: usize) -> usize {
-        get_entry(&self.height, row)
+        entry(&self.height, row).unwrap()
     }
 }

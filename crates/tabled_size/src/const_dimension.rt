@@ -1,10 +1,8 @@
 //! Sizes that never change (`ConstDimension`, `StaticDimension`, `ZeroDimension`).
-ghost use Rattle.std.specs.Prelude.{◌≡◌, ◌⊎◌, IfErr, OnErr, OnOk, ◌<◌, ◌≤◌, ℕ, Some, is_some, length, true, IfOk};
-ghost use Rattle.tabled_size.specs.declared.const_dimension.ConstSize.TheVariants.{List as Listed, Value};
-ghost use Rattle.tabled_size.specs.ConstSizes.{size_at};
-ghost use Rattle.tabled_priority.specs.Permitted.{at};
+ghost use Rattle.std.specs.Prelude.{◌≡◌, ◌⊎◌, IfErr, IfOk, OnErr, OnOk, Option, Some, is_some, true, ℕ};
 ghost use Rattle.tabled_base.specs.declared.error.TableError.TheVariants.{Memory, Range};
-ghost use Rattle.tabled_size.specs.Values.{value_at, HasList, IsSameValue};
+ghost use Rattle.tabled_size.specs.declared.const_dimension.ConstSize.TheVariants.{List as Listed, Value};
+ghost use Rattle.tabled_size.specs.FixedSizes.{HasList, IsSameValue, listed_at, size_at, value_at};
 
 use crate::dimension::{Dimension, Estimate};
 use tabled_base::TableError;
@@ -34,41 +32,84 @@ impl<const N: usize> From<[usize; N]> for ConstSize<N> {
     }
 }
 
-fn entry(sizes: &[usize], place: usize) -> usize
-    requires { place < length sizes.now }
-    ensures { result ≡ at sizes.now place }
-{
-    sizes[place]
+/// Sizes from the first on, and that of all others, if they have one.
+#[derive(Clone, Copy)]
+pub(crate) struct SizeList<'a>(&'a [usize], Option<usize>);
+
+impl SizeList<'_> {
+    /// Returns the size at an index, if it is known.
+    fn get(&self, place: usize) -> Option<usize>
+        ensures { result ≡ listed_at self.now place }
+    {
+        match self.0.get(place) {
+            Some(size) => Some(*size),
+            None => self.1,
+        }
+    }
 }
 
 impl<const N: usize> ConstSize<N> {
-    fn has(&self, place: usize) -> bool
-        ensures { result ≡ is_some (size_at self.now place) }
+    fn list(&self) -> SizeList<'_>
+        ensures { (place : ℕ) → listed_at result place ≡ size_at self.now place }
     {
         match self {
-            ConstSize::List(list) => place < list.len(),
-            ConstSize::Value(_) => true,
+            ConstSize::List(sizes) => SizeList(sizes, None),
+            ConstSize::Value(size) => SizeList(&[], Some(*size)),
         }
     }
+}
 
-    fn get(&self, place: usize) -> usize
-        requires { is_some (size_at self.now place) ≡ true }
-        ensures { Some result ≡ size_at self.now place }
-    {
-        match self {
-            ConstSize::List(list) => entry(list, place),
-            ConstSize::Value(all) => *all,
-        }
+/// Sizes that never change.
+pub(crate) trait FixedSizes {
+    // The width of a column, if it is known.
+    ghost column_at: { Self → ℕ → Option ℕ };
+
+    // The height of a row, if it is known.
+    ghost row_at: { Self → ℕ → Option ℕ };
+
+    fn widths(&self) -> SizeList<'_>
+        ensures { (column : ℕ) → listed_at result column ≡ column_at self.now column };
+
+    fn heights(&self) -> SizeList<'_>
+        ensures { (row : ℕ) → listed_at result row ≡ row_at self.now row };
+}
+
+impl<S: FixedSizes> Dimension for S {
+    ghost width_at = { S.column_at };
+
+    ghost height_at = { S.row_at };
+
+    fn has_width(&self, column: usize) -> bool {
+        self.widths().get(column).is_some()
     }
 
-    /// Returns an index from which on all sizes are equal, or all are missing.
-    fn alike_from(&self) -> usize
-        ensures { (place : ℕ) → result ≤ place → size_at self.now place ≡ size_at self.now result }
+    fn has_height(&self, row: usize) -> bool {
+        self.heights().get(row).is_some()
+    }
+
+    fn get_width(&self, column: usize) -> usize {
+        self.widths().get(column).unwrap()
+    }
+
+    fn get_height(&self, row: usize) -> usize {
+        self.heights().get(row).unwrap()
+    }
+
+    fn alike_from(&self) -> Option<usize> {
+        Some(self.widths().0.len())
+    }
+}
+
+impl<R, C, S: FixedSizes> Estimate<R, C> for S {
+    ghost estimates = { λ s records config t. t ≡ s };
+
+    fn estimate(&mut self, _records: &R, _config: &C) -> Result<(), TableError>
+        ensures ok { OnOk result (self.new ≡ self.old) }
+        ensures err { OnErr result (self.new ≡ self.old) }
+        ensures only { IfErr result (λ e. (e ≡ Memory) ⊎ ((e ≡ Range) × ⊥)) }
+        ensures never { OnErr result ⊥ }
     {
-        match self {
-            ConstSize::List(list) => list.len(),
-            ConstSize::Value(_) => 0,
-        }
+        Ok(())
     }
 }
 
@@ -98,43 +139,17 @@ impl<const COLUMNS: usize, const ROWS: usize> From<ConstDimension<COLUMNS, ROWS>
     }
 }
 
-impl<const COLUMNS: usize, const ROWS: usize> Dimension for ConstDimension<COLUMNS, ROWS> {
-    ghost width_at = { λ s column. size_at s.width column };
+impl<const COLUMNS: usize, const ROWS: usize> FixedSizes for ConstDimension<COLUMNS, ROWS> {
+    ghost column_at = { λ s column. size_at s.width column };
 
-    ghost height_at = { λ s row. size_at s.height row };
+    ghost row_at = { λ s row. size_at s.height row };
 
-    fn has_width(&self, column: usize) -> bool {
-        self.width.has(column)
+    fn widths(&self) -> SizeList<'_> {
+        self.width.list()
     }
 
-    fn has_height(&self, row: usize) -> bool {
-        self.height.has(row)
-    }
-
-    fn get_width(&self, column: usize) -> usize {
-        self.width.get(column)
-    }
-
-    fn get_height(&self, row: usize) -> usize {
-        self.height.get(row)
-    }
-
-    fn alike_from(&self) -> Option<usize> {
-        Some(self.width.alike_from())
-    }
-}
-
-impl<R, C, const COLUMNS: usize, const ROWS: usize> Estimate<R, C>
-    for ConstDimension<COLUMNS, ROWS> {
-    ghost estimates = { λ s records config t. t ≡ s };
-
-    fn estimate(&mut self, _records: &R, _config: &C) -> Result<(), TableError>
-        ensures ok { OnOk result (self.new ≡ self.old) }
-        ensures err { OnErr result (self.new ≡ self.old) }
-        ensures only { IfErr result (λ e. (e ≡ Memory) ⊎ ((e ≡ Range) × ⊥)) }
-        ensures never { OnErr result ⊥ }
-    {
-        Ok(())
+    fn heights(&self) -> SizeList<'_> {
+        self.height.list()
     }
 }
 
@@ -155,33 +170,16 @@ impl DimensionValue {
         requires { is_some (value_at self.now col) ≡ true }
         ensures { Some result ≡ value_at self.now col }
     {
-        match self {
-            DimensionValue::Exact(size) => *size,
-            DimensionValue::List(sizes) => sizes[col],
-            DimensionValue::Partial(sizes, rest) => {
-                if col < sizes.len() { sizes[col] } else { *rest }
-            }
-        }
+        self.list().get(col).unwrap()
     }
 
-    fn has(&self, col: usize) -> bool
-        ensures { result ≡ is_some (value_at self.now col) }
+    fn list(&self) -> SizeList<'_>
+        ensures { (place : ℕ) → listed_at result place ≡ value_at self.now place }
     {
         match self {
-            DimensionValue::Exact(_) => true,
-            DimensionValue::List(sizes) => col < sizes.len(),
-            DimensionValue::Partial(_, _) => true,
-        }
-    }
-
-    /// Returns an index from which on all sizes are equal, or all are missing.
-    fn alike_from(&self) -> usize
-        ensures { (place : ℕ) → result ≤ place → value_at self.now place ≡ value_at self.now result }
-    {
-        match self {
-            DimensionValue::Exact(_) => 0,
-            DimensionValue::List(sizes) => sizes.len(),
-            DimensionValue::Partial(sizes, _) => sizes.len(),
+            DimensionValue::Exact(size) => SizeList(&[], Some(*size)),
+            DimensionValue::List(sizes) => SizeList(sizes, None),
+            DimensionValue::Partial(sizes, rest) => SizeList(sizes, Some(*rest)),
         }
     }
 
@@ -239,42 +237,17 @@ impl From<StaticDimension> for (DimensionValue, DimensionValue) {
     }
 }
 
-impl Dimension for StaticDimension {
-    ghost width_at = { λ s column. value_at s.width column };
+impl FixedSizes for StaticDimension {
+    ghost column_at = { λ s column. value_at s.width column };
 
-    ghost height_at = { λ s row. value_at s.height row };
+    ghost row_at = { λ s row. value_at s.height row };
 
-    fn has_width(&self, column: usize) -> bool {
-        self.width.has(column)
+    fn widths(&self) -> SizeList<'_> {
+        self.width.list()
     }
 
-    fn has_height(&self, row: usize) -> bool {
-        self.height.has(row)
-    }
-
-    fn get_width(&self, column: usize) -> usize {
-        self.width.get(column)
-    }
-
-    fn get_height(&self, row: usize) -> usize {
-        self.height.get(row)
-    }
-
-    fn alike_from(&self) -> Option<usize> {
-        Some(self.width.alike_from())
-    }
-}
-
-impl<R, C> Estimate<R, C> for StaticDimension {
-    ghost estimates = { λ s records config t. t ≡ s };
-
-    fn estimate(&mut self, _records: &R, _config: &C) -> Result<(), TableError>
-        ensures ok { OnOk result (self.new ≡ self.old) }
-        ensures err { OnErr result (self.new ≡ self.old) }
-        ensures only { IfErr result (λ e. (e ≡ Memory) ⊎ ((e ≡ Range) × ⊥)) }
-        ensures never { OnErr result ⊥ }
-    {
-        Ok(())
+    fn heights(&self) -> SizeList<'_> {
+        self.height.list()
     }
 }
 
@@ -289,41 +262,16 @@ impl ZeroDimension {
     }
 }
 
-impl Dimension for ZeroDimension {
-    ghost width_at = { λ s column. Some 0 };
+impl FixedSizes for ZeroDimension {
+    ghost column_at = { λ s column. Some 0 };
 
-    ghost height_at = { λ s row. Some 0 };
+    ghost row_at = { λ s row. Some 0 };
 
-    fn has_width(&self, _column: usize) -> bool {
-        true
+    fn widths(&self) -> SizeList<'_> {
+        SizeList(&[], Some(0))
     }
 
-    fn has_height(&self, _row: usize) -> bool {
-        true
-    }
-
-    fn get_width(&self, _column: usize) -> usize {
-        0
-    }
-
-    fn get_height(&self, _row: usize) -> usize {
-        0
-    }
-
-    fn alike_from(&self) -> Option<usize> {
-        Some(0)
-    }
-}
-
-impl<R, C> Estimate<R, C> for ZeroDimension {
-    ghost estimates = { λ s records config t. t ≡ s };
-
-    fn estimate(&mut self, _records: &R, _config: &C) -> Result<(), TableError>
-        ensures ok { OnOk result (self.new ≡ self.old) }
-        ensures err { OnErr result (self.new ≡ self.old) }
-        ensures only { IfErr result (λ e. (e ≡ Memory) ⊎ ((e ≡ Range) × ⊥)) }
-        ensures never { OnErr result ⊥ }
-    {
-        Ok(())
+    fn heights(&self) -> SizeList<'_> {
+        SizeList(&[], Some(0))
     }
 }

@@ -36,25 +36,6 @@ pub(crate) fn padded_width<R: PeekableRecords>(
     records.get_width(at).checked_add(sides)
 }
 
-/// Returns the height that a cell with this padding needs, or `None` if it exceeds `usize::MAX`.
-#[inline(always)]
-fn padded_height<R: PeekableRecords>(
-    records: &R,
-    config: &SpannedConfig,
-    at: Position,
-    padding: Sides<Indent>,
-) -> Option<usize>
-    requires inside { IsInside (R.cells records.now) at.row at.column }
-    requires padding { padding ≡ (style_at config.now at.row at.column).padding }
-    ensures { MatchOption result
-        (2 ^ 64 ≤ needed_height (R.cells records.now) config.now at.row at.column)
-        (λ n. n ≡ needed_height (R.cells records.now) config.now at.row at.column) }
-{
-    let _config = config;
-    let sides = padding.top.size.checked_add(padding.bottom.size)?;
-    records.count_lines(at).checked_add(sides)
-}
-
 /// Raises the widths to what the cells of a row need. Fails with `Range` if one exceeds
 /// `usize::MAX`.
 fn raise_widths<R: PeekableRecords>(
@@ -111,7 +92,9 @@ pub(crate) fn row_height<R: PeekableRecords>(
     let paddings = config.paddings_in(row);
     'columns: for column in 0..records.count_columns() {
         let at = Position { row, column };
-        let height = padded_height(records, config, at, *paddings.at(column))?;
+        let padding = *paddings.at(column);
+        let sides = padding.top.size.checked_add(padding.bottom.size)?;
+        let height = records.count_lines(at).checked_add(sides)?;
         most = most.max(height);
     }
     Some(most)
@@ -138,30 +121,6 @@ pub fn estimate_heights<R: PeekableRecords>(
     Ok(heights)
 }
 
-/// Returns what a cell needs, given what its padding adds. `None` if it exceeds `usize::MAX`.
-#[inline(always)]
-fn needed<R: PeekableRecords>(
-    records: &R,
-    config: &SpannedConfig,
-    at: Position,
-    added: Extent,
-) -> Option<Extent>
-    requires inside { IsInside (R.cells records.now) at.row at.column }
-    requires added { added ≡ added_at config.now at.row at.column }
-    ensures width { IfSome result (λ n. n.columns ≡ needed_width (R.cells records.now) config.now at.row at.column) }
-    ensures height { IfSome result (λ n. n.lines ≡ needed_height (R.cells records.now) config.now at.row at.column) }
-    ensures none { IfNone result (IsTooWide (R.cells records.now) config.now ⊎ IsTooHigh (R.cells records.now) config.now) }
-{
-    let _config = config;
-    let (_, columns, lines) = records.get_measured(at);
-    let width = columns.checked_add(added.columns)?;
-    let height = lines.checked_add(added.lines)?;
-    Some(Extent {
-        columns: width,
-        lines: height,
-    })
-}
-
 /// Raises the widths to what the cells of a row need, and returns the height that they need, given
 /// what padding adds. `None` if a size exceeds `usize::MAX`.
 #[inline]
@@ -182,9 +141,11 @@ fn measure_row<R: PeekableRecords, A: RowPadding + Drop>(
     let mut most: usize = 0;
     'columns: for column in 0..records.count_columns() {
         let extent = added.at(column)?;
-        let needs = needed(records, config, Position { row, column }, extent)?;
-        widths[column] = widths[column].max(needs.columns);
-        most = most.max(needs.lines);
+        let (_, columns, lines) = records.get_measured(Position { row, column });
+        let width = columns.checked_add(extent.columns)?;
+        let height = lines.checked_add(extent.lines)?;
+        widths[column] = widths[column].max(width);
+        most = most.max(height);
     }
     Some(most)
 }

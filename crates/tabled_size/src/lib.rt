@@ -8,14 +8,13 @@
 //!   (`PoolTableDimension`).
 //! - `estimate.rt`: the widest cell of each column and the tallest of each row.
 //! - `padding.rt`: what padding adds to the size of a cell.
-//! - `total.rt`: the total of given sizes, with borders and margins.
-//! - `effective.rt`: totals and checks of the effective sizes: stored ones, else estimates.
+//! - `total.rt`: the total width and height, with borders and margins: of given sizes, of the
+//!   effective ones (stored, else estimated), of estimates. Checks that each size is known.
 #![tactic(auto)]
 
 mod complete_dimension;
 mod const_dimension;
 mod dimension;
-mod effective;
 mod estimate;
 mod padding;
 mod pool_table_dimension;
@@ -26,14 +25,13 @@ pub use const_dimension::{
     ConstDimension, ConstSize, DimensionValue, StaticDimension, ZeroDimension,
 };
 pub use dimension::{Dimension, Estimate};
-pub use effective::{
-    check_heights, check_widths, estimated_total_height, estimated_total_width, is_empty,
-    total_height, total_width,
-};
 pub use estimate::{estimate_heights, estimate_sizes, estimate_widths};
 pub use pool_table_dimension::{DimensionPriority, PoolTableDimension};
 pub use tabled_priority::{
     Peaker, Priority, PriorityLeft, PriorityMax, PriorityMin, PriorityNone, PriorityRight, Steps,
     TakesAll, is_level,
 };
-pub use total::{filled_height, filled_width};
+pub use total::{
+    check_heights, check_widths, estimated_total_height, estimated_total_width, filled_height,
+    filled_width, is_empty, total_height, total_width,
+};

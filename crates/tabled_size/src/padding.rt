@@ -56,7 +56,6 @@ pub(crate) enum KnownAdded {
     Unlike(Option<ListedRow>),
 }
 
-/// Returns what a padding adds, or `None` if it exceeds `usize::MAX`.
 #[inline(always)]
 fn added_by(padding: Sides<Indent>) -> Option<Extent>
     ensures some { IfSome result (λ extent. extent ≡ added_by padding) }

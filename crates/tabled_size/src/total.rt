@@ -1,36 +1,85 @@
-//! The total width and height of a table, from given sizes.
-ghost use Rattle.std.specs.Prelude.{◌≡◌, ◌<◌, ◌≤◌, ◌^◌, MatchOption, length};
+//! The total width and height of a table: of given sizes, of its effective sizes (stored ones, else
+//! estimates), and of estimates alone.
 ghost use Rattle.std.specs.List.{slice_index};
-ghost use Rattle.tabled_size.specs.Reached.{reached};
+ghost use Rattle.std.specs.Prelude.{◌≡◌, ◌⊎◌, ◌<◌, ◌≤◌, ◌^◌, ℕ, IfErr, MatchOption, None, Ok, OnOk, false, length, true};
+ghost use Rattle.tabled_base.specs.Cells.{IsRectangular, columns};
+ghost use Rattle.tabled_base.specs.declared.error.TableError.TheVariants.{Memory, Range, ShortHeights, ShortWidths};
 ghost use Rattle.tabled_priority.specs.Sums.{one_if, sum_below};
-ghost use Rattle.tabled_size.specs.Totals.{filled_height, filled_width, framed_height, framed_width, part_height};
+ghost use Rattle.tabled_size.specs.Effective.{effective};
+ghost use Rattle.tabled_size.specs.EffectiveTotals.{AnswersHeight, AnswersWidth};
+ghost use Rattle.tabled_size.specs.Estimates.{IsTooHigh, IsTooWide, column_width, estimated_heights};
+ghost use Rattle.tabled_size.specs.Estimates.{estimated_widths};
+ghost use Rattle.tabled_size.specs.Reached.{reached};
+ghost use Rattle.tabled_size.specs.Sheet.{is_empty, estimated};
+ghost use Rattle.tabled_size.specs.Stored.{heights_of, widths_of};
+ghost use Rattle.tabled_size.specs.Totals.{filled_height, filled_width, framed_height, framed_width};
+ghost use Rattle.tabled_size.specs.Totals.{part_height, total_height, total_width};
 
+use crate::complete_dimension::CompleteDimension;
 use crate::dimension::Dimension;
+use crate::estimate::{estimate_heights, estimate_widths, padded_width, row_height};
+use tabled_base::{ExactRecords, PeekableRecords, Position, TableError};
 use tabled_config::SpannedConfig;
 
-pub(crate) fn one_if(there: bool) -> usize
+/// Whether there are no rows or no columns.
+pub fn is_empty<R: ExactRecords>(records: &R) -> bool
+    ensures value { result ≡ is_empty (R.cells records.now) }
+    ensures rectangular { IsRectangular (R.cells records.now) }
+{
+    let columns = records.count_columns();
+    records.count_rows() == 0 || columns == 0
+}
+
+/// Returns how many of the first columns to check. Each other one has the width of one of these.
+fn count_asked<D: Dimension>(sizes: &D, columns: usize) -> usize
+    ensures within { result ≤ columns }
+    ensures rest { let width = D.width_at sizes.now in
+        (column : ℕ) → result ≤ column → column < columns
+        → (asked : ℕ) × (asked < result) × (width column ≡ width asked) }
+{
+    match sizes.alike_from() {
+        Some(from) if from < columns => from + 1,
+        _ => columns,
+    }
+}
+
+/// Checks that the widths of the first `columns` columns are known. Fails with `ShortWidths` if one
+/// isn't.
+pub fn check_widths<D: Dimension>(sizes: &D, columns: usize) -> Result<(), TableError>
+    ensures ok { OnOk result (columns ≤ length (reached (D.width_at sizes.now) columns)) }
+    ensures err { IfErr result (λ e. (e ≡ ShortWidths)
+        × (length (reached (D.width_at sizes.now) columns) < columns)) }
+{
+    'columns: for column in 0..count_asked(sizes, columns) {
+        if !sizes.has_width(column) {
+            return Err(TableError::ShortWidths);
+        }
+    }
+    Ok(())
+}
+
+/// Checks that the heights of the first `rows` rows are known. Fails with `ShortHeights` if one
+/// isn't.
+pub fn check_heights<D: Dimension>(sizes: &D, rows: usize) -> Result<(), TableError>
+    ensures ok { OnOk result (rows ≤ length (reached (D.height_at sizes.now) rows)) }
+    ensures err { IfErr result (λ e. (e ≡ ShortHeights)
+        × (length (reached (D.height_at sizes.now) rows) < rows)) }
+{
+    'rows: for row in 0..rows {
+        if !sizes.has_height(row) {
+            return Err(TableError::ShortHeights);
+        }
+    }
+    Ok(())
+}
+
+fn one_if(there: bool) -> usize
     ensures { result ≡ one_if there }
 {
     if there { 1 } else { 0 }
 }
 
-fn width_at<D: Dimension>(sizes: &D, columns: usize, column: usize) -> usize
-    requires { column < length (reached (D.width_at sizes.now) columns) }
-    ensures { result ≡ slice_index (reached (D.width_at sizes.now) columns) column }
-{
-    let _columns = columns;
-    sizes.get_width(column)
-}
-
-fn height_at<D: Dimension>(sizes: &D, rows: usize, row: usize) -> usize
-    requires { row < length (reached (D.height_at sizes.now) rows) }
-    ensures { result ≡ slice_index (reached (D.height_at sizes.now) rows) row }
-{
-    let _rows = rows;
-    sizes.get_height(row)
-}
-
-#[tactic(auto, using(tabled_priority::proofs::Sums::sum_step))]
+#[tactic(auto, using(tabled_priority::proofs::Sums::sum_step, crate::proofs::Reaching::reached_is))]
 fn sum_widths<D: Dimension>(sizes: &D, columns: usize) -> Option<usize>
     requires { columns ≤ length (reached (D.width_at sizes.now) columns) }
     ensures { let widths = reached (D.width_at sizes.now) columns in
@@ -39,7 +88,7 @@ fn sum_widths<D: Dimension>(sizes: &D, columns: usize) -> Option<usize>
 {
     let mut total: usize = 0;
     'columns: for column in 0..columns {
-        total = total.checked_add(width_at(sizes, columns, column))?;
+        total = total.checked_add(sizes.get_width(column))?;
     }
     Some(total)
 }
@@ -47,7 +96,7 @@ fn sum_widths<D: Dimension>(sizes: &D, columns: usize) -> Option<usize>
 /// Returns the total width of a table with `columns` columns, at least one, whose widths add up to
 /// `inside`: that sum, the vertical lines and the side margins. `None` if it exceeds `usize::MAX`.
 #[tactic(auto, unfolding(crate::specs::Totals::framed_width))]
-pub(crate) fn framed_width(config: &SpannedConfig, columns: usize, inside: usize) -> Option<usize>
+fn framed_width(config: &SpannedConfig, columns: usize, inside: usize) -> Option<usize>
     ensures { let whole = framed_width config.now columns inside in
         MatchOption result (2 ^ 64 ≤ whole) (λ n. n ≡ whole) }
 {
@@ -76,22 +125,7 @@ pub fn filled_width<D: Dimension>(
     framed_width(config, columns, sum_widths(sizes, columns)?)
 }
 
-#[tactic(auto, unfolding(crate::specs::Totals::part_height))]
-fn part_height<D: Dimension>(
-    config: &SpannedConfig,
-    rows: usize,
-    sizes: &D,
-    row: usize,
-) -> Option<usize>
-    requires row_in { row < rows }
-    requires sized { rows ≤ length (reached (D.height_at sizes.now) rows) }
-    ensures { let part = part_height config.now rows (reached (D.height_at sizes.now) rows) row in
-        MatchOption result (2 ^ 64 ≤ part) (λ n. n ≡ part) }
-{
-    one_if(config.rule_at(rows, row).is_some()).checked_add(height_at(sizes, rows, row))
-}
-
-#[tactic(auto, using(tabled_priority::proofs::Sums::sum_step))]
+#[tactic(auto, unfolding(crate::specs::Totals::part_height), using(tabled_priority::proofs::Sums::sum_step, crate::proofs::Reaching::reached_is))]
 fn sum_rows<D: Dimension>(config: &SpannedConfig, rows: usize, sizes: &D) -> Option<usize>
     requires { rows ≤ length (reached (D.height_at sizes.now) rows) }
     ensures { let part = part_height config.now rows (reached (D.height_at sizes.now) rows) in
@@ -99,8 +133,9 @@ fn sum_rows<D: Dimension>(config: &SpannedConfig, rows: usize, sizes: &D) -> Opt
 {
     let mut total: usize = 0;
     'rows: for row in 0..rows {
-        let height = part_height(config, rows, sizes, row)?;
-        total = total.checked_add(height)?;
+        let line = one_if(config.rule_at(rows, row).is_some());
+        let part = line.checked_add(sizes.get_height(row))?;
+        total = total.checked_add(part)?;
     }
     Some(total)
 }
@@ -109,7 +144,7 @@ fn sum_rows<D: Dimension>(config: &SpannedConfig, rows: usize, sizes: &D) -> Opt
 /// above them add up to `inside`: that sum, the last line, top and bottom margin. `None` if it
 /// exceeds `usize::MAX`.
 #[tactic(auto, unfolding(crate::specs::Totals::framed_height))]
-pub(crate) fn framed_height(config: &SpannedConfig, rows: usize, inside: usize) -> Option<usize>
+fn framed_height(config: &SpannedConfig, rows: usize, inside: usize) -> Option<usize>
     ensures { let whole = framed_height config.now rows inside in
         MatchOption result (2 ^ 64 ≤ whole) (λ n. n ≡ whole) }
 {
@@ -128,4 +163,195 @@ pub fn filled_height<D: Dimension>(config: &SpannedConfig, rows: usize, sizes: &
         MatchOption result (2 ^ 64 ≤ whole) (λ n. n ≡ whole) }
 {
     framed_height(config, rows, sum_rows(config, rows, sizes)?)
+}
+
+fn reached_width<D: Dimension>(
+    config: &SpannedConfig,
+    columns: usize,
+    sizes: &D,
+) -> Result<usize, TableError>
+    ensures answers { let widths = reached (D.width_at sizes.now) columns in
+        AnswersWidth config.now columns widths result }
+    ensures only { IfErr result (λ e. (e ≡ ShortWidths) ⊎ (e ≡ Range)) }
+{
+    check_widths(sizes, columns)?;
+    filled_width(config, columns, sizes).ok_or(TableError::Range)
+}
+
+fn reached_height<D: Dimension>(
+    config: &SpannedConfig,
+    rows: usize,
+    sizes: &D,
+) -> Result<usize, TableError>
+    ensures answers { let heights = reached (D.height_at sizes.now) rows in
+        AnswersHeight config.now rows heights result }
+    ensures only { IfErr result (λ e. (e ≡ ShortHeights) ⊎ (e ≡ Range)) }
+{
+    check_heights(sizes, rows)?;
+    filled_height(config, rows, sizes).ok_or(TableError::Range)
+}
+
+/// Returns the total width of a table, in columns: effective widths, vertical lines and side
+/// margins. It is 0 without rows or columns.
+///
+/// Errors:
+/// - `Memory`: an allocation failed. Never if widths are stored.
+/// - `ShortWidths`: the stored list is shorter than the table.
+/// - `Range`: the sum exceeds `usize::MAX`.
+pub fn total_width<R: PeekableRecords>(
+    records: &R,
+    config: &SpannedConfig,
+    stored: &CompleteDimension,
+) -> Result<usize, TableError>
+    ensures empty { is_empty (R.cells records.now) ≡ true → result ≡ Ok 0 }
+    ensures filled { is_empty (R.cells records.now) ≡ false → AnswersWidth config.now
+        (columns (R.cells records.now))
+        (effective (R.cells records.now) config.now stored.now).widths result }
+    ensures memory { IfErr result (λ e. e ≡ Memory → widths_of stored.now ≡ None) }
+    ensures rectangular { IsRectangular (R.cells records.now) }
+{
+    if is_empty(records) {
+        return Ok(0);
+    }
+    let columns = records.count_columns();
+    match stored.get_widths() {
+        Some(_) => reached_width(config, columns, stored),
+        None => {
+            let alloc = stored.allocator();
+            let mut sizes = CompleteDimension::new(alloc);
+            sizes.set_widths(estimate_widths(alloc, records, config)?);
+            reached_width(config, columns, &sizes)
+        }
+    }
+}
+
+/// Returns the total height of a table, in lines: effective heights, horizontal lines, top and
+/// bottom margin. It is 0 without rows or columns.
+///
+/// Errors:
+/// - `Memory`: an allocation failed. Never if heights are stored.
+/// - `ShortHeights`: the stored list is shorter than the table.
+/// - `Range`: the sum exceeds `usize::MAX`.
+pub fn total_height<R: PeekableRecords>(
+    records: &R,
+    config: &SpannedConfig,
+    stored: &CompleteDimension,
+) -> Result<usize, TableError>
+    ensures empty { is_empty (R.cells records.now) ≡ true → result ≡ Ok 0 }
+    ensures filled { is_empty (R.cells records.now) ≡ false → AnswersHeight config.now
+        (length (R.cells records.now))
+        (effective (R.cells records.now) config.now stored.now).heights result }
+    ensures memory { IfErr result (λ e. e ≡ Memory → heights_of stored.now ≡ None) }
+    ensures rectangular { IsRectangular (R.cells records.now) }
+{
+    if is_empty(records) {
+        return Ok(0);
+    }
+    let rows = records.count_rows();
+    match stored.get_heights() {
+        Some(_) => reached_height(config, rows, stored),
+        None => {
+            let alloc = stored.allocator();
+            let mut sizes = CompleteDimension::new(alloc);
+            sizes.set_heights(estimate_heights(alloc, records, config)?);
+            reached_height(config, rows, &sizes)
+        }
+    }
+}
+
+fn column_width<R: PeekableRecords>(
+    records: &R,
+    config: &SpannedConfig,
+    column: usize,
+) -> Option<usize>
+    requires { column < columns (R.cells records.now) }
+    ensures { MatchOption result (IsTooWide (R.cells records.now) config.now)
+        (λ n. n ≡ column_width (R.cells records.now) config.now column) }
+{
+    let mut most: usize = 0;
+    'rows: for row in 0..records.count_rows() {
+        let at = Position { row, column };
+        let width = padded_width(records, config, at, config.get_padding(at))?;
+        most = most.max(width);
+    }
+    Some(most)
+}
+
+#[tactic(auto, using(tabled_priority::proofs::Sums::sum_step, crate::proofs::Passing::width_at))]
+fn sum_columns<R: PeekableRecords>(records: &R, config: &SpannedConfig) -> Option<usize>
+    ensures { let widths = estimated_widths (R.cells records.now) config.now in
+        let sum = sum_below (slice_index widths) (columns (R.cells records.now)) in
+        MatchOption result (IsTooWide (R.cells records.now) config.now ⊎ (2 ^ 64 ≤ sum))
+        (λ n. n ≡ sum) }
+{
+    let mut total: usize = 0;
+    'columns: for column in 0..records.count_columns() {
+        total = total.checked_add(column_width(records, config, column)?)?;
+    }
+    Some(total)
+}
+
+/// Returns the total width of a table with estimated widths, in columns. It is 0 without rows or
+/// columns. `None` if it exceeds `usize::MAX`.
+pub fn estimated_total_width<R: PeekableRecords>(
+    records: &R,
+    config: &SpannedConfig,
+) -> Option<usize>
+    ensures { let whole = total_width (estimated (R.cells records.now) config.now) in
+        MatchOption result (2 ^ 64 ≤ whole) (λ n. n ≡ whole) }
+{
+    if is_empty(records) {
+        return Some(0);
+    }
+    framed_width(
+        config,
+        records.count_columns(),
+        sum_columns(records, config)?,
+    )
+}
+
+#[tactic(auto, unfolding(crate::specs::Totals::part_height), using(crate::proofs::Passing::height_at))]
+fn estimated_part<R: PeekableRecords>(
+    records: &R,
+    config: &SpannedConfig,
+    row: usize,
+) -> Option<usize>
+    requires { row < length (R.cells records.now) }
+    ensures { let part = part_height config.now (length (R.cells records.now))
+        (estimated_heights (R.cells records.now) config.now) row in
+        MatchOption result (IsTooHigh (R.cells records.now) config.now ⊎ (2 ^ 64 ≤ part))
+        (λ n. n ≡ part) }
+{
+    let line = one_if(config.rule_at(records.count_rows(), row).is_some());
+    line.checked_add(row_height(records, config, row)?)
+}
+
+#[tactic(auto, using(tabled_priority::proofs::Sums::sum_step))]
+fn sum_parts<R: PeekableRecords>(records: &R, config: &SpannedConfig) -> Option<usize>
+    ensures { let part = part_height config.now (length (R.cells records.now))
+        (estimated_heights (R.cells records.now) config.now) in
+        let sum = sum_below part (length (R.cells records.now)) in
+        MatchOption result (IsTooHigh (R.cells records.now) config.now ⊎ (2 ^ 64 ≤ sum))
+        (λ n. n ≡ sum) }
+{
+    let mut total: usize = 0;
+    'rows: for row in 0..records.count_rows() {
+        total = total.checked_add(estimated_part(records, config, row)?)?;
+    }
+    Some(total)
+}
+
+/// Returns the total height of a table with estimated heights, in lines. It is 0 without rows or
+/// columns. `None` if it exceeds `usize::MAX`.
+pub fn estimated_total_height<R: PeekableRecords>(
+    records: &R,
+    config: &SpannedConfig,
+) -> Option<usize>
+    ensures { let whole = total_height (estimated (R.cells records.now) config.now) in
+        MatchOption result (2 ^ 64 ≤ whole) (λ n. n ≡ whole) }
+{
+    if is_empty(records) {
+        return Some(0);
+    }
+    framed_height(config, records.count_rows(), sum_parts(records, config)?)
 }

@@ -1,7 +1,8 @@
-use Rattle.std.proofs.Common.{◌≡◌, ◌∙◌, ap, max, arith, get_or}
+use Rattle.std.proofs.Common.{◌≡◌, ◌∙◌, ◌<◌, ◌≤◌, ◌^◌, ap, inl, inr, max, arith, get_or}
 use Rattle.std.specs.List.{slice_index}
 use Rattle.std.proofs.lemmas.List.FromFn.{fill_by_all}
 use Rattle.tabled_base.specs.Cells.{columns}
+use Rattle.tabled_size.specs.declared.padding.Extent.{Extent}
 use Rattle.tabled_size.specs.Estimates.{needed_height, needed_width, row_height}
 use Rattle.tabled_size.proofs.Greatest.{greatest_below, greatest_more}
 use Rattle.tabled_size.proofs.Passing.{added_passes, if_none}
@@ -11,14 +12,20 @@ use Rattle.tabled_size.proofs.estimate.measure_row.Goals as goal
 pub columns-preserved : goal.columns-preserved
 columns-preserved g c =
     let cells = g.R.ExactRecords.cells c.args.records.now in
-    let f = needed_height cells c.args.config.now c.args.row in
-    let e = greatest_more f c.columns.column in
+    let column = c.columns.column in
+    let inside : column < columns cells = omega (arith, c.columns-test.true, c.count_columns-column-end.ensures.columns) in
+    let same = c.in_ok-extent.ensures.some ∙ c.requires.known.at column inside in
+    let width : c.in_ok-width.width ≡ needed_width cells c.args.config.now c.args.row column =
+    omega (arith, c.in_ok-width.ensures.1, c.get_measured-columns.ensures.columns, ap (λ (e : Extent). e.columns) same) in
+    let height : c.in_ok-height.height ≡ needed_height cells c.args.config.now c.args.row column =
+    omega (arith, c.in_ok-height.ensures.1, c.get_measured-columns.ensures.lines, ap (λ (e : Extent). e.lines) same) in
+    let more = greatest_more (needed_height cells c.args.config.now c.args.row) column in
     record {
-      raised = raised-more c.args.widths.now c.columns.widths (needed_width cells c.args.config.now c.args.row) c.columns.column c.max.result
-          (omega (arith, c.columns-test.true, c.requires.columns, c.columns.auto.widths, c.count_columns-column-end.ensures.columns)) c.columns.invariant.raised
-          (c.columns.invariant.rest c.columns.column (omega arith)) (c.max.ensures ∙ ap (max (get_or c.columns.widths c.columns.column 0)) c.in_ok-needs.ensures.width);
-      rest = rest-more c.args.widths.now c.columns.widths c.columns.column c.max.result c.columns.invariant.rest;
-      most = omega (arith, e, c.columns.invariant.most, c.max-most.ensures, c.in_ok-needs.ensures.height);
+      raised = raised-more c.args.widths.now c.columns.widths (needed_width cells c.args.config.now c.args.row) column c.max.result
+          (omega (arith, inside, c.requires.columns, c.columns.auto.widths)) c.columns.invariant.raised
+          (c.columns.invariant.rest column (omega arith)) (c.max.ensures ∙ ap (max (get_or c.columns.widths column 0)) width);
+      rest = rest-more c.args.widths.now c.columns.widths column c.max.result c.columns.invariant.rest;
+      most = omega (arith, more, c.columns.invariant.most, c.max-most.ensures, height);
     }
 
 pub returns-clause-widths : goal.returns-clause-widths
@@ -36,13 +43,29 @@ returns-clause-lines g c =
     let e : c.columns.column ≡ columns cells = omega (arith, c.count_columns-column-end.ensures.columns) in
     c.columns.invariant.most ∙ ap (greatest_below f) e
 
-pub needed-requires-clause-added : goal.needed-requires-clause-added
-needed-requires-clause-added g c =
-    c.in_ok-extent.ensures.some ∙ c.requires.known.at c.columns.column (omega (arith, c.columns-test.true, c.count_columns-column-end.ensures.columns))
-
 pub returns-in_err-extent-clause-none : goal.returns-in_err-extent-clause-none
 returns-in_err-extent-clause-none g c =
     if_none c.from_residual.result
     (added_passes (g.R.ExactRecords.cells c.args.records.now) c.args.config.now c.args.row c.columns.column _
     (c.requires.known.at c.columns.column (omega (arith, c.columns-test.true, c.count_columns-column-end.ensures.columns)))
     c.requires.row_in (omega (arith, c.count_columns-column-end.ensures.columns)) c.in_err-extent.ensures.none)
+
+pub returns-in_err-width-clause-none : goal.returns-in_err-width-clause-none
+returns-in_err-width-clause-none g c =
+    let cells = g.R.ExactRecords.cells c.args.records.now in
+    let inside : c.columns.column < columns cells = omega (arith, c.columns-test.true, c.count_columns-column-end.ensures.columns) in
+    let same = c.in_ok-extent.ensures.some ∙ c.requires.known.at c.columns.column inside in
+    let past : 2 ^ 64 ≤ needed_width cells c.args.config.now c.args.row c.columns.column =
+    omega (arith, c.in_err-width.ensures, c.get_measured-columns.ensures.columns, ap (λ (e : Extent). e.columns) same) in
+    if_none c.from_residual-in_err-width.result
+    (inl (record { row = c.args.row; column = c.columns.column; row_in = c.requires.row_in; column_in = inside; out_of_range = past }))
+
+pub returns-in_err-height-clause-none : goal.returns-in_err-height-clause-none
+returns-in_err-height-clause-none g c =
+    let cells = g.R.ExactRecords.cells c.args.records.now in
+    let inside : c.columns.column < columns cells = omega (arith, c.columns-test.true, c.count_columns-column-end.ensures.columns) in
+    let same = c.in_ok-extent.ensures.some ∙ c.requires.known.at c.columns.column inside in
+    let past : 2 ^ 64 ≤ needed_height cells c.args.config.now c.args.row c.columns.column =
+    omega (arith, c.in_err-height.ensures, c.get_measured-columns.ensures.lines, ap (λ (e : Extent). e.lines) same) in
+    if_none c.from_residual-in_err-height.result
+    (inr (record { row = c.args.row; column = c.columns.column; row_in = c.requires.row_in; column_in = inside; out_of_range = past }))

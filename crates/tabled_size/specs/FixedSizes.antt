@@ -1,9 +1,21 @@
--- Sizes from a single value, a list, or a list with a value for the rest.
-use Rattle.std.specs.Prelude.{◌≡◌, ℕ, Option, Some, length, nat_lt, if◌then◌else◌}
+-- Sizes that never change: from arrays, lists or single values.
+use Rattle.std.specs.Prelude.{◌≡◌, ℕ, Option, Some, None, length, nat_lt, if◌then◌else◌}
+use Rattle.tabled_size.specs.declared.const_dimension.ConstSize.{ConstSize}
+use Rattle.tabled_size.specs.declared.const_dimension.ConstSize.TheVariants as const
 use Rattle.tabled_size.specs.declared.const_dimension.DimensionValue.{DimensionValue}
 use Rattle.tabled_size.specs.declared.const_dimension.DimensionValue.TheVariants.{Exact, List as Listed, Partial}
-use Rattle.tabled_priority.specs.Permitted.{at}
+use Rattle.tabled_size.specs.declared.const_dimension.SizeList.{SizeList}
 use Rattle.tabled_size.specs.Entries.{entry}
+use Rattle.tabled_priority.specs.Permitted.{at}
+
+-- the size at an index: the entry of the list, if it has one, or that of all others
+abbrev pub listed_at : SizeList → ℕ → Option ℕ
+listed_at list i = if nat_lt i (length list.0.now) then Some (at list.0.now i) else list.1
+
+-- the size at an index: the entry of the array, if it has one, or the single value
+abbrev pub size_at : {N : ℕ} → ConstSize N → ℕ → Option ℕ
+size_at {N} (const.List sizes) i = if nat_lt i N then Some (at sizes i) else None
+size_at {N} (const.Value size) i = Some size
 
 -- the size at an index
 abbrev pub value_at : DimensionValue → ℕ → Option ℕ

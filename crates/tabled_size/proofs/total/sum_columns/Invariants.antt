@@ -2,7 +2,7 @@ use Rattle.std.proofs.Common.{◌≡◌}
 use Rattle.std.specs.List.{slice_index}
 use Rattle.tabled_priority.specs.Sums.{sum_below}
 use Rattle.tabled_size.specs.Estimates.{estimated_widths}
-use Rattle.tabled_size.proofs.effective.sum_columns.Given as goal
+use Rattle.tabled_size.proofs.total.sum_columns.Given as goal
 
 abbrev pub invariant-columns : goal.invariant-columns
 invariant-columns g l = l.total ≡ sum_below (slice_index (estimated_widths (g.R.ExactRecords.cells l.records) l.config)) l.column

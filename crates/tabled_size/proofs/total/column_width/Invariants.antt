@@ -1,7 +1,7 @@
 use Rattle.std.proofs.Common.{◌≡◌}
 use Rattle.tabled_size.specs.Estimates.{needed_width}
 use Rattle.tabled_size.proofs.Greatest.{greatest_below}
-use Rattle.tabled_size.proofs.effective.column_width.Given as goal
+use Rattle.tabled_size.proofs.total.column_width.Given as goal
 
 abbrev pub invariant-rows : goal.invariant-rows
 invariant-rows g l =

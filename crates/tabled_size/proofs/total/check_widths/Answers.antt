@@ -1,7 +1,7 @@
 use Rattle.std.proofs.Common.{◌<◌, ◌≤◌, is_some, ap, ◌∙◌, refl, arith, ⊎_elim}
 use Rattle.std.proofs.lemmas.Bool.{cases_lt}
 use Rattle.tabled_size.proofs.Reaching.{missing_at, reached_so}
-use Rattle.tabled_size.proofs.effective.check_widths.Goals as goal
+use Rattle.tabled_size.proofs.total.check_widths.Goals as goal
 
 pub returns-then-not-has_width-clause-err : goal.returns-then-not-has_width-clause-err
 returns-then-not-has_width-clause-err g c =

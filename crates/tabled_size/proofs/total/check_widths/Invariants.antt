@@ -1,5 +1,5 @@
 use Rattle.std.proofs.Common.{◌≡◌, ◌<◌, ℕ, is_some, true}
-use Rattle.tabled_size.proofs.effective.check_widths.Given as goal
+use Rattle.tabled_size.proofs.total.check_widths.Given as goal
 
 abbrev pub invariant-columns : goal.invariant-columns
 invariant-columns g l = (i : ℕ) → i < l.column → is_some (g.D.Dimension.width_at l.sizes i) ≡ true

@@ -1,6 +1,6 @@
 use Rattle.std.proofs.Common.{refl, arith}
 use Rattle.tabled_size.proofs.Reaching.{missing_at, reached_so}
-use Rattle.tabled_size.proofs.effective.check_heights.Goals as goal
+use Rattle.tabled_size.proofs.total.check_heights.Goals as goal
 
 pub returns-then-not-has_height-clause-err : goal.returns-then-not-has_height-clause-err
 returns-then-not-has_height-clause-err g c =

@@ -4,7 +4,7 @@ use Rattle.tabled_base.specs.Cells.{columns}
 use Rattle.tabled_size.specs.Estimates.{estimated_widths}
 use Rattle.tabled_size.proofs.EstimatedTotals.{none-of, sum-more, sum-passes}
 use Rattle.tabled_size.proofs.Passing.{width_at}
-use Rattle.tabled_size.proofs.effective.sum_columns.Goals as goal
+use Rattle.tabled_size.proofs.total.sum_columns.Goals as goal
 
 pub returns-in_err-total : goal.returns-in_err-total
 returns-in_err-total g c =

@@ -4,7 +4,7 @@ use Rattle.tabled_size.specs.Sheet.{is_empty}
 use Rattle.tabled_size.specs.Totals.{framed_width}
 use Rattle.tabled_size.proofs.EstimatedTotals.{filled-width-total, framed-width-total, none-of, sum-in-width}
 use Rattle.tabled_size.proofs.Passing.{too_wide_passes}
-use Rattle.tabled_size.proofs.effective.estimated_total_width.Goals as goal
+use Rattle.tabled_size.proofs.total.estimated_total_width.Goals as goal
 
 pub returns-in_err-sum_columns : goal.returns-in_err-sum_columns
 returns-in_err-sum_columns g c =

@@ -1,7 +1,7 @@
 use Rattle.std.proofs.Common.{◌≡◌, ◌∙◌, ℕ, ap, arith, length}
 use Rattle.tabled_size.specs.Estimates.{column_width, needed_width}
 use Rattle.tabled_size.proofs.Greatest.{greatest_below, greatest_more}
-use Rattle.tabled_size.proofs.effective.column_width.Goals as goal
+use Rattle.tabled_size.proofs.total.column_width.Goals as goal
 
 pub rows-preserved : goal.rows-preserved
 rows-preserved g c =

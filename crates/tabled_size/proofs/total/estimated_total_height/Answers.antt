@@ -3,7 +3,7 @@ use Rattle.tabled_size.specs.Sheet.{is_empty}
 use Rattle.tabled_size.specs.Totals.{framed_height}
 use Rattle.tabled_size.proofs.EstimatedTotals.{filled-height-total, framed-height-total, none-of, sum-in-height}
 use Rattle.tabled_size.proofs.Passing.{too_high_passes}
-use Rattle.tabled_size.proofs.effective.estimated_total_height.Goals as goal
+use Rattle.tabled_size.proofs.total.estimated_total_height.Goals as goal
 
 pub returns-in_err-sum_parts : goal.returns-in_err-sum_parts
 returns-in_err-sum_parts g c =

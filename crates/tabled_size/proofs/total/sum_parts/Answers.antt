@@ -2,7 +2,7 @@ use Rattle.std.proofs.Common.{◌<◌, ⊎_elim, arith, inl, inr, length}
 use Rattle.tabled_size.specs.Estimates.{estimated_heights}
 use Rattle.tabled_size.specs.Totals.{part_height}
 use Rattle.tabled_size.proofs.EstimatedTotals.{none-of, part-passes, sum-passes}
-use Rattle.tabled_size.proofs.effective.sum_parts.Goals as goal
+use Rattle.tabled_size.proofs.total.sum_parts.Goals as goal
 
 pub returns-in_err-estimated_part : goal.returns-in_err-estimated_part
 returns-in_err-estimated_part g c =

@@ -1,0 +1,23 @@
+use Rattle.std.proofs.Common.{◌≡◌, ◌<◌, ◌≤◌, ◌∙◌, ap, arith, is_some, length}
+use Rattle.tabled_priority.specs.Sums.{one_if}
+use Rattle.tabled_size.specs.Reached.{reached}
+use Rattle.tabled_size.specs.Totals.{part_height, rules_at}
+use Rattle.tabled_size.proofs.EstimatedTotals.{sum-more}
+use Rattle.tabled_size.proofs.Reaching.{reached_size, reached_there}
+use Rattle.tabled_size.proofs.total.sum_rows.Goals as goal
+
+pub get_height-requires : goal.get_height-requires
+get_height-requires g c =
+    reached_there (g.D.Dimension.height_at c.args.sizes.now) c.args.rows c.rows.row (omega (arith, c.requires, c.rows-test.true))
+
+pub rows-preserved : goal.rows-preserved
+unfolding part_height
+rows-preserved g c =
+    let size_at = g.D.Dimension.height_at c.args.sizes.now in
+    let f = part_height c.args.config.now c.args.rows (reached size_at c.args.rows) in
+    let size = reached_size size_at c.args.rows c.rows.row c.get_height.result (omega (arith, c.requires, c.rows-test.true)) c.get_height.ensures in
+    let line : c.one_if-line.result ≡ rules_at c.args.config.now c.args.rows c.rows.row =
+    c.one_if-line.ensures ∙ ap one_if (c.is_some.ensures ∙ ap is_some c.rule_at.ensures) in
+    let part : c.in_ok-part.part ≡ f c.rows.row = omega (arith, size, line, c.in_ok-part.ensures.1) in
+    let more = sum-more f c.rows.row in
+    omega (arith, part, more, c.rows.invariant, c.in_ok-total.ensures.1)
