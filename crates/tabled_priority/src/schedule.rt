@@ -98,34 +98,6 @@ pub(crate) struct Ramps<'a> {
     pub(crate) values: &'a [usize],
 }
 
-#[tactic(auto, using(crate::proofs::Sums::sum_step))]
-pub(crate) fn total_amount(
-    schedule: Schedule,
-    mins: &[usize],
-    values: &[usize],
-    level: usize,
-    steps: &mut Steps,
-) -> usize
-    ensures total { result ≡ min
-        (total_amount (first_level schedule values.now mins.now)
-        (last_level schedule values.now mins.now) (length values.now) level)
-        usize.MAX }
-    ensures values_fit { (i : ℕ) → at values.now i ≤ usize.MAX }
-    ensures mins_fit { (i : ℕ) → at mins.now i ≤ usize.MAX }
-    ensures steps { steps.new.count ≡ counted steps.old.count (length values.now) }
-{
-    let mut total: usize = 0;
-    for place in 0..values.len() {
-        let ramps = Ramps {
-            schedule,
-            mins,
-            values,
-        };
-        total = total.saturating_add(ramps.visit(place, steps).amount(level));
-    }
-    total
-}
-
 /// Returns what is taken or added of an amount: all of it, or as much as the columns can.
 pub(crate) fn amount_by(
     schedule: Schedule,
@@ -143,7 +115,12 @@ pub(crate) fn amount_by(
     ensures mins_fit { (i : ℕ) → at mins.now i ≤ usize.MAX }
     ensures steps { steps.new.count ≡ counted steps.old.count (length values.now) }
 {
-    by.min(total_amount(schedule, mins, values, usize::MAX, steps))
+    let ramps = Ramps {
+        schedule,
+        mins,
+        values,
+    };
+    by.min(ramps.total(usize::MAX, steps))
 }
 
 impl Levels for Ramps<'_> {
@@ -151,8 +128,13 @@ impl Levels for Ramps<'_> {
 
     ghost columns = { columns_of };
 
+    #[tactic(auto, using(crate::proofs::Sums::sum_step))]
     fn total(&self, level: usize, steps: &mut Steps) -> usize {
-        total_amount(self.schedule, self.mins, self.values, level, steps)
+        let mut total: usize = 0;
+        for place in 0..self.values.len() {
+            total = total.saturating_add(self.visit(place, steps).amount(level));
+        }
+        total
     }
 }
 
@@ -332,6 +314,7 @@ fn find_base(ramps: &Ramps, wanted: usize, steps: &mut Steps) -> usize
 /// than one for each is missing.
 pub(crate) fn reach(ramps: &Ramps, wanted: usize, steps: &mut Steps) -> Reached
     requires some { 0 < wanted }
+    requires fit { (i : ℕ) → at ramps.now.values.now i ≤ usize.MAX }
     requires enough { wanted ≤ total_of ramps.now usize.MAX }
     ensures reached { IsReached (first_of ramps.now) (last_of ramps.now) (columns_of ramps.now)
         wanted result.level result.rest }
@@ -342,7 +325,7 @@ pub(crate) fn reach(ramps: &Ramps, wanted: usize, steps: &mut Steps) -> Reached
 {
     let base = find_base(ramps, wanted, steps);
     let open = ramps.count_open(ramps.values.len(), base, steps);
-    let missing = wanted - total_amount(ramps.schedule, ramps.mins, ramps.values, base, steps);
+    let missing = wanted - ramps.total(base, steps);
     let levels = (missing - 1) / open;
     Reached {
         level: base + levels,
