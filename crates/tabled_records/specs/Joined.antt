@@ -49,11 +49,6 @@ pub record AreFilled (whole : List ℕ) (places : List (ℕ × ℕ)) (lines : Li
   pub filled : behind 0 0 places ≡ length whole
   pub few : length lines ≤ length places
 
--- the text at an index is returned with its columns
-pub record IsJoinedText (texts : List (List ℕ)) (place : ℕ) (told : List ℕ) (columns : ℕ) : Type 0 where
-  pub same : told ≡ slice_index_or texts place []
-  pub wide : columns ≡ text_columns told
-
 -- a text is returned with its columns and lines
 pub record IsTold (text told : List ℕ) (columns lines : ℕ) : Type 0 where
   pub same : told ≡ text

@@ -36,10 +36,7 @@ impl Iterator for EmptyCells {
     ghost remaining = { item_count cells_left };
 
     fn next(&mut self) -> Option<&'static str> {
-        if self.count == 0 {
-            return None;
-        }
-        self.count -= 1;
+        self.count = self.count.checked_sub(1)?;
         Some("")
     }
 }
@@ -59,10 +56,7 @@ impl Iterator for EmptyRows {
     ghost remaining = { item_count rows_left };
 
     fn next(&mut self) -> Option<EmptyCells> {
-        if self.count == 0 {
-            return None;
-        }
-        self.count -= 1;
+        self.count = self.count.checked_sub(1)?;
         Some(EmptyCells {
             count: self.columns,
         })

@@ -40,10 +40,7 @@ impl Model for JoinedTexts {
 fn lines_at(lines: &[usize], place: usize) -> usize
     ensures { result ≡ slice_index_or lines.now place 1 }
 {
-    match lines.get(place) {
-        Some(count) => *count,
-        None => 1,
-    }
+    lines.get(place).copied().unwrap_or(1)
 }
 
 /// Stores the end, the columns and the lines of a text. Error: `Memory`; those of the texts before

@@ -7,7 +7,7 @@ ghost use Rattle.tabled_records.specs.LaterRows.{SkipsRows};
 ghost use Rattle.std.specs.Iterator.{IsFinite};
 ghost use Rattle.tabled_records.specs.FirstCells.{first_cells_steps};
 
-use crate::reading::{walk, walk_rest};
+use crate::reading::walk_rest;
 use std::iter::Take;
 use tabled_base::IntoRecords;
 
@@ -91,7 +91,7 @@ where
         while self.left > 0 {
             let row = self.rows.next()?;
             self.left -= 1;
-            walk(row);
+            walk_rest(&mut row.into_iter());
         }
         self.rows.next()
     }

@@ -116,16 +116,6 @@ pub fn take_rows<I: Iterator<Item = W>, W: IntoIterator<Item = C>, C: Drop>(
     })
 }
 
-/// Reads cells to their end and drops them.
-pub(crate) fn walk<C: IntoIterator>(cells: C)
-where
-    C::Item: Drop,
-    requires { IsFiniteIterable C.into_iter_gives C.IntoIter.can_next C.IntoIter.remaining cells }
-    ensures { (items : List C.Item) × Given C.into_iter_gives C.IntoIter.next_gives cells items }
-{
-    for _cell in cells {}
-}
-
 /// Reads the remaining cells and drops them.
 pub(crate) fn walk_rest<I: Iterator>(cells: &mut I)
 where

@@ -3,7 +3,7 @@ ghost use Rattle.std.specs.Prelude.{◌≡◌, ◌<◌, ◌++◌, [], ◌∷◌,
 ghost use Rattle.std.specs.List.{slice_index_or};
 ghost use Rattle.tabled_base.specs.declared.error.TableError.TheVariants.{Memory};
 ghost use Rattle.tabled_base.specs.Cells.{IsInside, cell_at};
-ghost use Rattle.tabled_records.specs.Joined.{AreJoined, IsJoinedText, begin, texts_from};
+ghost use Rattle.tabled_records.specs.Joined.{AreJoined, begin, texts_from};
 ghost use Rattle.tabled_records.specs.JoinedRows.{AreRanges, IsCell, longest_range, rows_in};
 
 use std::alloc::Global;
@@ -117,16 +117,6 @@ fn start_of(ends: &Pairs, gap: usize, place: usize) -> usize
     }
 }
 
-#[inline(always)]
-fn text_at<'a>(whole: &'a str, ends: &Pairs, gap: usize, place: usize) -> (&'a str, usize)
-    requires joined { AreJoined gap whole.now 0 ends.now }
-    requires inside { place < length ends.now }
-    ensures { IsJoinedText (texts_from gap whole.now 0 ends.now) place result.0.now result.1 }
-{
-    let (end, columns) = ends.at(place);
-    (&whole[start_of(ends, gap, place)..end], columns)
-}
-
 impl RowRanges {
     /// Makes an empty list.
     pub fn new(alloc: Global) -> RowRanges
@@ -190,7 +180,7 @@ impl RowRanges {
         // The number of texts is a `usize`, and so each index is in range.
         let _count = ends.len();
         let place = start + at.column;
-        let (text, columns) = text_at(whole, ends, gap, place);
-        Some((text, columns, place))
+        let (end, columns) = ends.at(place);
+        Some((&whole[start_of(ends, gap, place)..end], columns, place))
     }
 }
