@@ -1,5 +1,5 @@
 -- The widths and heights that the cells of a table need.
-use Rattle.std.specs.Prelude.{ℕ, ◌+◌, ◌<◌, ◌≤◌, ◌^◌, List, length, map, max}
+use Rattle.std.specs.Prelude.{◌≡◌, ℕ, ◌+◌, ◌<◌, ◌≤◌, ◌^◌, ◌⊎◌, List, length, map, max}
 use Rattle.std.specs.List.{range_with_len, slice_index}
 use Rattle.tabled_text.specs.Measure.{greatest, lines_of, text_columns}
 use Rattle.tabled_base.specs.Cells.{cell_at, columns}
@@ -54,3 +54,12 @@ pub record IsTooHigh (cells : List (List (List ℕ))) (config : SpannedConfig) :
   pub row_in : row < length cells
   pub column_in : column < columns cells
   pub out_of_range : 2 ^ 64 ≤ needed_height cells config row column
+
+-- a cell needs more than `usize::MAX` columns or lines
+abbrev pub IsTooLarge : List (List (List ℕ)) → SpannedConfig → Type 0
+IsTooLarge cells config = IsTooWide cells config ⊎ IsTooHigh cells config
+
+-- widths are raised to what the cells of a row need, and that is its height
+pub record IsMeasured (cells : List (List (List ℕ))) (config : SpannedConfig) (row : ℕ) (old new : List ℕ) (height : ℕ) : Type 0 where
+  pub widths : new ≡ raised old cells config row
+  pub tall : height ≡ row_height cells config row

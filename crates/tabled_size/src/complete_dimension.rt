@@ -1,5 +1,5 @@
 //! Sizes that are stored or not (`CompleteDimension`).
-ghost use Rattle.std.specs.Prelude.{◌≡◌, ◌&&◌, ◌⊎◌, IfErr, IfOk, IsSome, None, OnErr, Some, is_none, is_some, option_map, true};
+ghost use Rattle.std.specs.Prelude.{◌≡◌, ◌&&◌, ◌⊎◌, IfErr, IfOk, IsSome, None, OnErr, Some, is_none, is_some, option_map};
 ghost use Rattle.tabled_base.specs.declared.error.TableError.TheVariants.{Memory};
 ghost use Rattle.tabled_size.specs.Entries.{clears_heights, clears_widths, stored_at, unless_cleared};
 ghost use Rattle.tabled_size.specs.Stored.{heights_of, is_stored, widths_of};

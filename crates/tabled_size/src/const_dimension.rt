@@ -41,10 +41,7 @@ impl SizeList<'_> {
     fn get(&self, place: usize) -> Option<usize>
         ensures { result ≡ listed_at self.now place }
     {
-        match self.0.get(place) {
-            Some(size) => Some(*size),
-            None => self.1,
-        }
+        self.0.get(place).copied().or(self.1)
     }
 }
 

@@ -1,23 +1,22 @@
 //! The widths and heights that the cells of a table need, and estimates for sizes that aren't stored.
-ghost use Rattle.std.specs.Prelude.{◌≡◌, ◌⊎◌, ◌+◌, ◌<◌, ◌≤◌, ◌^◌, IfOk, IfErr, IfNone, IfSome, MatchOption};
+ghost use Rattle.std.specs.Prelude.{◌≡◌, ◌⊎◌, ◌<◌, ◌≤◌, ◌^◌, IfOk, IfErr, IfNone, IfSome, MatchOption};
 ghost use Rattle.std.specs.Prelude.{length, IsOk, IsTrue, OnErr, OnOk};
 ghost use Rattle.tabled_base.specs.Cells.{IsInside, columns};
 ghost use Rattle.tabled_base.specs.declared.error.TableError.TheVariants.{Memory, Range};
 ghost use Rattle.tabled_config.specs.Settings.{style_at};
-ghost use Rattle.tabled_size.specs.Added.{KnowsAdded, DescribesAdded, added_at};
-ghost use Rattle.tabled_size.specs.Estimates.{IsTooHigh, IsTooWide, estimated_heights, estimated_widths};
-ghost use Rattle.tabled_size.specs.Estimates.{needed_height, needed_width, raised, row_height};
+ghost use Rattle.tabled_size.specs.Added.{DescribesAdded, KnowsAdded};
+ghost use Rattle.tabled_size.specs.Estimates.{IsMeasured, IsTooHigh, IsTooLarge, IsTooWide};
+ghost use Rattle.tabled_size.specs.Estimates.{estimated_heights, estimated_widths, needed_width, raised, row_height};
 ghost use Rattle.tabled_size.specs.FilledIn.{HasNoEstimate, IsFilledIn};
 ghost use Rattle.tabled_size.specs.Stored.{is_stored};
 
 use crate::complete_dimension::CompleteDimension;
 use crate::dimension::Estimate;
-use crate::padding::{Extent, KnownAdded, Listed, RowPadding, row_added};
+use crate::padding::{KnownAdded, Listed, RowPadding, row_added};
 use std::alloc::Global;
 use tabled_base::{PeekableRecords, Position, TableError};
 use tabled_config::{ColoredConfig, Indent, Sides, SpannedConfig};
 
-/// Returns the width that a cell with this padding needs, or `None` if it exceeds `usize::MAX`.
 #[inline(always)]
 pub(crate) fn padded_width<R: PeekableRecords>(
     records: &R,
@@ -36,8 +35,6 @@ pub(crate) fn padded_width<R: PeekableRecords>(
     records.get_width(at).checked_add(sides)
 }
 
-/// Raises the widths to what the cells of a row need. Fails with `Range` if one exceeds
-/// `usize::MAX`.
 fn raise_widths<R: PeekableRecords>(
     records: &R,
     config: &SpannedConfig,
@@ -78,7 +75,6 @@ pub fn estimate_widths<R: PeekableRecords>(
     Ok(widths)
 }
 
-/// Returns the height that the cells of a row need, or `None` if it exceeds `usize::MAX`.
 pub(crate) fn row_height<R: PeekableRecords>(
     records: &R,
     config: &SpannedConfig,
@@ -134,9 +130,9 @@ fn measure_row<R: PeekableRecords, A: RowPadding + Drop>(
     requires row_in { row < length (R.cells records.now) }
     requires columns { length widths.old ≡ columns (R.cells records.now) }
     requires known { DescribesAdded (A.known added) config.now row (columns (R.cells records.now)) }
-    ensures widths { IfSome result (λ _. widths.new ≡ raised widths.old (R.cells records.now) config.now row) }
-    ensures lines { IfSome result (λ n. n ≡ row_height (R.cells records.now) config.now row) }
-    ensures none { IfNone result (IsTooWide (R.cells records.now) config.now ⊎ IsTooHigh (R.cells records.now) config.now) }
+    ensures some { IfSome result
+        (IsMeasured (R.cells records.now) config.now row widths.old widths.new) }
+    ensures none { IfNone result (IsTooLarge (R.cells records.now) config.now) }
 {
     let mut most: usize = 0;
     'columns: for column in 0..records.count_columns() {
@@ -163,9 +159,9 @@ fn measure_known<R: PeekableRecords>(
     requires row_in { row < length (R.cells records.now) }
     requires columns { length widths.old ≡ columns (R.cells records.now) }
     requires known { KnowsAdded known.now config.now (columns (R.cells records.now)) }
-    ensures widths { IfSome result (λ _. widths.new ≡ raised widths.old (R.cells records.now) config.now row) }
-    ensures lines { IfSome result (λ n. n ≡ row_height (R.cells records.now) config.now row) }
-    ensures none { IfNone result (IsTooWide (R.cells records.now) config.now ⊎ IsTooHigh (R.cells records.now) config.now) }
+    ensures some { IfSome result
+        (IsMeasured (R.cells records.now) config.now row widths.old widths.new) }
+    ensures none { IfNone result (IsTooLarge (R.cells records.now) config.now) }
 {
     match known {
         KnownAdded::Alike(extent) => measure_row(records, config, row, widths, *extent),
@@ -195,7 +191,7 @@ pub fn estimate_sizes<R: PeekableRecords>(
     ensures widths { IfOk result (λ sizes. sizes.0.items ≡ estimated_widths (R.cells records.now) config.now) }
     ensures heights { IfOk result (λ sizes. sizes.1.items ≡ estimated_heights (R.cells records.now) config.now) }
     ensures err { IfErr result (λ e. (e ≡ Memory) ⊎ ((e ≡ Range)
-        × (IsTooWide (R.cells records.now) config.now ⊎ IsTooHigh (R.cells records.now) config.now))) }
+        × IsTooLarge (R.cells records.now) config.now)) }
 {
     let mut widths = vec![in alloc; 0usize; records.count_columns()]?;
     let mut heights = Vec::with_capacity(alloc, records.count_rows())?;

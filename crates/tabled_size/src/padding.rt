@@ -67,8 +67,6 @@ fn added_by(padding: Sides<Indent>) -> Option<Extent>
     })
 }
 
-/// Returns what padding adds to every cell, if that is known to be the same and at most
-/// `usize::MAX`.
 fn shared_added(config: &SpannedConfig) -> Option<Extent>
     ensures { IfSome result (λ extent. (row column : ℕ) → extent ≡ added_at config.now row column) }
 {
@@ -76,8 +74,6 @@ fn shared_added(config: &SpannedConfig) -> Option<Extent>
     added_by(padding)
 }
 
-/// Returns what padding adds to every cell of a row, if that is known to be the same and at most
-/// `usize::MAX`.
 #[inline(always)]
 pub(crate) fn row_added(config: &SpannedConfig, row: usize) -> Option<Extent>
     ensures { IfSome result (λ extent. (column : ℕ) → extent ≡ added_at config.now row column) }

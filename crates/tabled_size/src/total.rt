@@ -93,8 +93,6 @@ fn sum_widths<D: Dimension>(sizes: &D, columns: usize) -> Option<usize>
     Some(total)
 }
 
-/// Returns the total width of a table with `columns` columns, at least one, whose widths add up to
-/// `inside`: that sum, the vertical lines and the side margins. `None` if it exceeds `usize::MAX`.
 #[tactic(auto, unfolding(crate::specs::Totals::framed_width))]
 fn framed_width(config: &SpannedConfig, columns: usize, inside: usize) -> Option<usize>
     ensures { let whole = framed_width config.now columns inside in
@@ -140,9 +138,6 @@ fn sum_rows<D: Dimension>(config: &SpannedConfig, rows: usize, sizes: &D) -> Opt
     Some(total)
 }
 
-/// Returns the total height of a table with `rows` rows, at least one, whose heights and the lines
-/// above them add up to `inside`: that sum, the last line, top and bottom margin. `None` if it
-/// exceeds `usize::MAX`.
 #[tactic(auto, unfolding(crate::specs::Totals::framed_height))]
 fn framed_height(config: &SpannedConfig, rows: usize, inside: usize) -> Option<usize>
     ensures { let whole = framed_height config.now rows inside in
@@ -310,22 +305,6 @@ pub fn estimated_total_width<R: PeekableRecords>(
     )
 }
 
-#[tactic(auto, unfolding(crate::specs::Totals::part_height), using(crate::proofs::Passing::height_at))]
-fn estimated_part<R: PeekableRecords>(
-    records: &R,
-    config: &SpannedConfig,
-    row: usize,
-) -> Option<usize>
-    requires { row < length (R.cells records.now) }
-    ensures { let part = part_height config.now (length (R.cells records.now))
-        (estimated_heights (R.cells records.now) config.now) row in
-        MatchOption result (IsTooHigh (R.cells records.now) config.now ⊎ (2 ^ 64 ≤ part))
-        (λ n. n ≡ part) }
-{
-    let line = one_if(config.rule_at(records.count_rows(), row).is_some());
-    line.checked_add(row_height(records, config, row)?)
-}
-
 #[tactic(auto, using(tabled_priority::proofs::Sums::sum_step))]
 fn sum_parts<R: PeekableRecords>(records: &R, config: &SpannedConfig) -> Option<usize>
     ensures { let part = part_height config.now (length (R.cells records.now))
@@ -334,9 +313,12 @@ fn sum_parts<R: PeekableRecords>(records: &R, config: &SpannedConfig) -> Option<
         MatchOption result (IsTooHigh (R.cells records.now) config.now ⊎ (2 ^ 64 ≤ sum))
         (λ n. n ≡ sum) }
 {
+    let rows = records.count_rows();
     let mut total: usize = 0;
-    'rows: for row in 0..records.count_rows() {
-        total = total.checked_add(estimated_part(records, config, row)?)?;
+    'rows: for row in 0..rows {
+        let line = one_if(config.rule_at(rows, row).is_some());
+        let part = line.checked_add(row_height(records, config, row)?)?;
+        total = total.checked_add(part)?;
     }
     Some(total)
 }

@@ -26,12 +26,12 @@ rows-preserved g c =
       known = c.rows.invariant.known;
       widths =
           written_back _ _ _ (omega (arith, c.measure_known.auto.widths, c.deref_mut.ensures.len))
-          ∙ c.in-Some.ensures.widths
+          ∙ c.in-Some.ensures.some.widths
           ∙ greatest_each (λ r k. needed_width cells c.args.config.now r k) c.deref_mut.result.now c.rows.row
           (columns cells) (c.deref_mut.ensures.value ∙ c.rows.invariant.widths);
       heights =
           c.in_ok-push.ensures.items ∙ ap (λ xs. xs ++ c.in-Some.height ∷ []) c.rows.invariant.heights
-          ∙ ap (λ h. map f (range_with_len 0 c.rows.row) ++ h ∷ []) c.in-Some.ensures.lines
+          ∙ ap (λ h. map f (range_with_len 0 c.rows.row) ++ h ∷ []) c.in-Some.ensures.some.tall
           ∙ sym (map-range_with_len_more f 0 c.rows.row c.rows.row (omega arith));
     }
 

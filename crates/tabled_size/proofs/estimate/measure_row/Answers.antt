@@ -28,20 +28,18 @@ columns-preserved g c =
       most = omega (arith, more, c.columns.invariant.most, c.max-most.ensures, height);
     }
 
-pub returns-clause-widths : goal.returns-clause-widths
-returns-clause-widths g c =
-    let cells = g.R.ExactRecords.cells c.args.records.now in
-    fill_by_all (λ k. max (slice_index c.args.widths.now k) (needed_width cells c.args.config.now c.args.row k))
-    c.columns.widths (columns cells) 0 (omega (arith, c.requires.columns, c.columns.auto.widths))
-    (λ k l. c.columns.invariant.raised k (omega (arith, c.count_columns-column-end.ensures.columns)))
-
-pub returns-clause-lines : goal.returns-clause-lines
+pub returns-clause-some : goal.returns-clause-some
 unfolding row_height
-returns-clause-lines g c =
+returns-clause-some g c =
     let cells = g.R.ExactRecords.cells c.args.records.now in
-    let f = needed_height cells c.args.config.now c.args.row in
-    let e : c.columns.column ≡ columns cells = omega (arith, c.count_columns-column-end.ensures.columns) in
-    c.columns.invariant.most ∙ ap (greatest_below f) e
+    let all : c.columns.column ≡ columns cells = omega (arith, c.count_columns-column-end.ensures.columns) in
+    record {
+      widths =
+          fill_by_all (λ k. max (slice_index c.args.widths.now k) (needed_width cells c.args.config.now c.args.row k))
+          c.columns.widths (columns cells) 0 (omega (arith, c.requires.columns, c.columns.auto.widths))
+          (λ k l. c.columns.invariant.raised k (omega (arith, all)));
+      tall = c.columns.invariant.most ∙ ap (greatest_below (needed_height cells c.args.config.now c.args.row)) all;
+    }
 
 pub returns-in_err-extent-clause-none : goal.returns-in_err-extent-clause-none
 returns-in_err-extent-clause-none g c =
