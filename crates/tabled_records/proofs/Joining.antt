@@ -1,5 +1,5 @@
 -- Texts that stand one behind another in one text, to which more is added.
-use Rattle.std.proofs.Common.{◌≡◌, ℕ, zero, suc, ◌+◌, ◌-◌, ◌<◌, ◌≤◌, List, [], ◌∷◌, ◌++◌, length, get_or, refl, sym, ap, subst, ◌∙◌, arith, inl, inr, take, drop, length-append, Result, Ok, Err, OnErr, OnOk}
+use Rattle.std.proofs.Common.{◌≡◌, ℕ, zero, suc, ◌+◌, ◌-◌, ◌<◌, ◌≤◌, List, [], ◌∷◌, ◌++◌, length, get_or, max, refl, sym, ap, subst, ◌∙◌, arith, inl, inr, take, drop, length-append, Result, Ok, Err, OnErr, OnOk}
 use Rattle.std.proofs.lemmas.Bool.{cases_lt}
 use Rattle.std.proofs.lemmas.List.{take-append-le, drop-append-le, length-drop, take_all, get_or_append_left, get_or-append-add, get_or-take}
 use Rattle.std.proofs.Math.ListN.{get_or-append}
@@ -8,7 +8,8 @@ use Rattle.std.proofs.lemmas.Str.{IsCharBoundary-at_seam, IsCharBoundary-end}
 use Rattle.std.specs.Prelude.{IsCharBoundary, IsUtf8}
 use Rattle.std.specs.List.{slice_range}
 use Rattle.tabled_text.specs.Measure.{lines_of, text_columns}
-use Rattle.tabled_records.specs.Joined.{AreFilled, AreJoined, AreKept, AreLines, IsJoined, begin, behind, texts_from}
+use Rattle.tabled_text.proofs.PlainLines.{plain_line-nil}
+use Rattle.tabled_records.specs.Joined.{AreFilled, AreJoined, AreKept, AreLines, IsJoined, IsTold, begin, behind, texts_from}
 
 -- a place where a text may be cut stays one
 boundary-more : (whole more : List ℕ) (i : ℕ) → IsUtf8 more → IsCharBoundary whole i → IsCharBoundary (whole ++ more) i
@@ -180,3 +181,11 @@ on-err (Err e) p = p
 pub on-either : {T E A B P : Type 0} (r : Result T E) → (A → P) → (B → P) → OnOk r A → OnErr r B → P
 on-either (Ok x) f g a b = f a
 on-either (Err e) f g a b = g b
+
+-- the empty text has no columns, and one line
+pub told_empty : {text : List ℕ} → text ≡ [] → IsTold text [] 0 1
+told_empty none = record {
+  same = sym none;
+  wide = sym (ap text_columns none ∙ ap (λ n. max n 0) plain_line-nil.columns);
+  high = sym (ap (λ text. length (lines_of text)) none);
+}

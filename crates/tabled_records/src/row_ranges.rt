@@ -31,10 +31,7 @@ impl Model for Pairs {
 fn small(pair: (usize, usize)) -> Option<(u32, u32)>
     ensures { IfSome result (λ s. s ≡ pair) }
 {
-    match (u32::try_from(pair.0), u32::try_from(pair.1)) {
-        (Ok(first), Ok(second)) => Some((first, second)),
-        _ => None,
-    }
+    Some((u32::try_from(pair.0).ok()?, u32::try_from(pair.1).ok()?))
 }
 
 impl Pairs {

@@ -86,7 +86,6 @@ where
     Ok(VecRecords::new(rows))
 }
 
-/// Appends a row of name and string for each field.
 fn push_fields(
     rows: &mut Vec<Vec<Text<String>>>,
     names: &[CowStr<'_>],

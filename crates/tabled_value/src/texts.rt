@@ -1,6 +1,6 @@
 //! The strings of fields: as lists, or measured and appended to a row.
 ghost use Rattle.std.specs.Cow.{cow_str_bytes};
-ghost use Rattle.std.specs.Prelude.{◌≡◌, ◌∷◌, ◌++◌, ◌+◌, [], List, IfErr, IfOk, OnOk, map, replicate, vec_len};
+ghost use Rattle.std.specs.Prelude.{◌≡◌, ◌∷◌, ◌++◌, ◌+◌, [], IfErr, IfOk, OnOk, map, replicate, vec_len};
 ghost use Rattle.tabled_base.specs.declared.error.TableError.TheVariants.{Memory};
 ghost use Rattle.tabled_value.specs.Fields.{CellsAdded, OneSays, Says};
 
@@ -10,7 +10,6 @@ use std::fmt::Display;
 use std::string::ToString;
 use tabled_base::{TableError, Text};
 
-/// Returns a list of one string.
 pub(crate) fn one_text<'a>(alloc: Global, text: CowStr<'a>) -> Result<Vec<CowStr<'a>>, TableError>
     ensures ok { IfOk result (λ v. map cow_str_bytes v.items ≡ cow_str_bytes text.entry ∷ []) }
     ensures length { IfOk result (λ v. vec_len v ≡ 1) }

@@ -1,10 +1,9 @@
-use Rattle.std.proofs.Common.{◌≡◌, [], length, max, get_or, sym, ap, subst, ◌∙◌, arith, string_bytes}
-use Rattle.tabled_text.specs.Measure.{lines_of, text_columns}
-use Rattle.tabled_text.proofs.PlainLines.{plain_line-nil}
+use Rattle.std.proofs.Common.{◌≡◌, [], length, get_or, sym, ap, subst, ◌∙◌, arith, string_bytes}
+use Rattle.tabled_text.specs.Measure.{lines_of}
 use Rattle.tabled_base.specs.Cells.{cell_at}
 use Rattle.tabled_records.specs.Joined.{AreLines, texts_from}
 use Rattle.tabled_records.specs.JoinedRows.{IsCell, rows_in}
-use Rattle.tabled_records.proofs.Joining.{length-texts}
+use Rattle.tabled_records.proofs.Joining.{length-texts, told_empty}
 use Rattle.tabled_records.proofs.Rows.{ranges-grown}
 use Rattle.tabled_records.proofs.joined_records.JoinedTexts.cell.Goals as goal
 
@@ -34,8 +33,4 @@ returns-in-None c =
     let all = ap (λ bytes. texts_from 0 bytes 0 c.self.inside.ends) c.as_str.ensures.value ∙ c.self.view_is in
     let none : cell_at (rows_in c.args.self.now c.args.rows.now) at.row at.column ≡ [] =
     ap (λ texts. cell_at (rows_in texts c.args.rows.now) at.row at.column) (sym all) ∙ c.in-None.ensures in
-    record {
-      same = sym none;
-      wide = sym (ap text_columns none ∙ ap (λ n. max n 0) plain_line-nil.columns);
-      high = sym (ap (λ text. length (lines_of text)) none);
-    }
+    told_empty none
