@@ -87,7 +87,6 @@ fn least(right: bool, mins: &[usize], values: &[usize], steps: &mut Steps) -> Op
 }
 
 impl Choice {
-    /// Returns the index of the size above its minimum that comes first.
     pub(crate) fn chosen(self, mins: &[usize], values: &[usize], steps: &mut Steps) -> Option<usize>
         ensures answer { MatchOption result (NoneAbove values.now mins.now)
             (IsChosen self values.now mins.now) }

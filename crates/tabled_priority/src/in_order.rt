@@ -142,7 +142,6 @@ fn find_giver(spares: &Spares, right: bool, size: usize, rest: usize, steps: &mu
     unreachable!()
 }
 
-/// Returns the last column that gives, for a wanted amount.
 fn last_giver(spares: &Spares, right: bool, wanted: usize, steps: &mut Steps) -> Giver
     requires some { 0 < wanted }
     requires enough { wanted ≤ spare_up_to spares.now.values.now spares.now.mins.now usize.MAX }

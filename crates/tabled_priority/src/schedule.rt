@@ -28,7 +28,6 @@ pub(crate) enum Schedule {
 }
 
 impl Schedule {
-    /// Whether columns on the right take one more.
     pub(crate) fn is_from_right(&self) -> bool
         ensures { result ≡ is_from_right self.now }
     {
@@ -206,7 +205,6 @@ pub(crate) trait Levels {
     // The number of columns.
     ghost columns: { Self → ℕ };
 
-    /// Returns what all columns give up to a level, `usize::MAX` at most.
     fn total(&self, level: usize, steps: &mut Steps) -> usize
         ensures total { result ≡ min (total self.now level) usize.MAX }
         ensures steps { steps.new.count ≡ counted steps.old.count (columns self.now) };
