@@ -166,13 +166,8 @@ fn measure_known<R: PeekableRecords>(
     match known {
         KnownAdded::Alike(extent) => measure_row(records, config, row, widths, *extent),
         KnownAdded::Unlike(Some(listed)) if listed.is_padded_in(config, row) => {
-            measure_row(
-                records,
-                config,
-                row,
-                widths,
-                Listed(listed.extents.as_slice()),
-            )
+            let extents = Listed(listed.extents.as_slice());
+            measure_row(records, config, row, widths, extents)
         }
         _ => match row_added(config, row) {
             Some(extent) => measure_row(records, config, row, widths, extent),

@@ -115,13 +115,12 @@ impl<'a> RowPadding for Listed<'a> {
 
     #[inline(always)]
     fn at(&self, column: usize) -> Option<Extent> {
-        match self.0.get(column) {
-            Some(extent) => Some(*extent),
-            None => Some(Extent {
+        Some(
+            self.0.get(column).copied().unwrap_or(Extent {
                 columns: 0,
                 lines: 0,
             }),
-        }
+        )
     }
 }
 

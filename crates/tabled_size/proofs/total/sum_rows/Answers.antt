@@ -1,4 +1,4 @@
-use Rattle.std.proofs.Common.{◌≡◌, ◌<◌, ◌≤◌, ◌∙◌, ap, arith, is_some, length}
+use Rattle.std.proofs.Common.{◌≡◌, ◌∙◌, ap, arith, is_some}
 use Rattle.tabled_priority.specs.Sums.{one_if}
 use Rattle.tabled_size.specs.Reached.{reached}
 use Rattle.tabled_size.specs.Totals.{part_height, rules_at}

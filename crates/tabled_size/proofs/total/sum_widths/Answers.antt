@@ -1,4 +1,4 @@
-use Rattle.std.proofs.Common.{◌<◌, ◌≤◌, arith, length}
+use Rattle.std.proofs.Common.{arith}
 use Rattle.std.specs.List.{slice_index}
 use Rattle.tabled_size.specs.Reached.{reached}
 use Rattle.tabled_size.proofs.EstimatedTotals.{sum-more}
