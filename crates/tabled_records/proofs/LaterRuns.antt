@@ -9,7 +9,8 @@ use Rattle.tabled_records.specs.declared.limits.LaterRows.{LaterRows}
 use Rattle.tabled_records.specs.LaterRows.{SkipsRows}
 use Rattle.tabled_records.specs.Reading.{MayGive}
 use Rattle.tabled_records.specs.RowByRow.{AreChanged}
-use Rattle.tabled_records.proofs.Runs.{all_behind, zip_append, zip_length}
+use Rattle.tabled_records.proofs.Runs.{all_behind, zip_append}
+use Rattle.std.proofs.lemmas.Slice.Zip.{AllZip-long}
 
 drop-all : {A : Type 0} (n : ℕ) (xs : List A) → length xs ≤ n → [] ≡ drop n xs
 drop-all zero [] h = refl
@@ -86,7 +87,7 @@ module _ {S W T A : Type 0} (steps : S → Option W → S → Type 0) (cells_bec
             each = k.each;
             ended = λ _. (last.0.rows, k.yielded.2);
           };
-          changed = drop-all rows.left k.cells (omega (arith, zip_length Gave k.lists k.cells k.each, k.count, ap (λ v. v.left) y));
+          changed = drop-all rows.left k.cells (omega (arith, AllZip-long Gave k.lists k.cells k.each, k.count, ap (λ v. v.left) y));
         }
     later_begin rows reached [] (c ∷ cs) whole made y each ended = absurd each
     later_begin rows reached (x ∷ xs) [] whole made y each ended = absurd each
@@ -104,7 +105,7 @@ module _ {S W T A : Type 0} (steps : S → Option W → S → Type 0) (cells_bec
             each = zip_append Gave k.lists (x ∷ xs) k.cells (c ∷ cs) k.each each;
             ended = λ w. let last = ended w in (last.0.rows, (plain_step reached last.0 None more.1 last.1).0);
           };
-          changed = drop-behind rows.left k.cells (c ∷ cs) (omega (arith, zip_length Gave k.lists k.cells k.each, k.count, k.done));
+          changed = drop-behind rows.left k.cells (c ∷ cs) (omega (arith, AllZip-long Gave k.lists k.cells k.each, k.count, k.done));
         }
 
     -- what comes are the rows behind those

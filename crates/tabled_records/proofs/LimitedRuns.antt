@@ -8,7 +8,7 @@ use Rattle.std.proofs.iter.Next.{least_first}
 use Rattle.tabled_base.specs.Given.{Given}
 use Rattle.tabled_base.specs.RowsGiven.{RowsBegin, RowsEnd}
 use Rattle.tabled_records.specs.Limited.{IsLimited}
-use Rattle.tabled_records.proofs.Runs.{zip_length}
+use Rattle.std.proofs.lemmas.Slice.Zip.{AllZip-long}
 
 module _ {S W : Type 0} (steps : S → Option W → S → Type 0) where
   -- a limited run is one of the source, and counts
@@ -27,7 +27,7 @@ module _ {S W : Type 0} (steps : S → Option W → S → Type 0) where
         let e = same b.iterator b.made in
         let y = subst (λ s. Yields (take_steps steps) s b.lists b.reached) e b.yielded in
         let run = taken rows b.reached b.lists y in
-        let len = zip_length (Given cells_become cell_steps) b.lists cells b.each in
+        let len = AllZip-long (Given cells_become cell_steps) b.lists cells b.each in
         let more : (end : Bool) → (end ≡ true → (last : S) × steps b.reached.iter None last) → begins cells end
         = λ end ended. begun cells end (record {
           lists = b.lists;

@@ -1,5 +1,5 @@
 -- Runs of rows, and rows that are made of those of a source, one of each.
-use Rattle.std.proofs.Common.{◌≡◌, Bool, true, List, [], ◌∷◌, ◌++◌, Option, length, map, refl, sym, ap, subst, ◌∙◌, arith}
+use Rattle.std.proofs.Common.{◌≡◌, Bool, true, List, [], ◌∷◌, ◌++◌, Option, map, refl, sym, ap, subst, ◌∙◌}
 use Rattle.std.specs.List.{All, AllZip}
 use Rattle.std.specs.Iterator.{Count, IsFinite, IsFiniteIterable, Yields}
 use Rattle.std.proofs.lemmas.List.Elements.{All-cons, All-head, All-nil, All-tail}
@@ -7,14 +7,7 @@ use Rattle.tabled_base.specs.Given.{Given}
 use Rattle.tabled_base.specs.RowsGiven.{RowsBegin, RowsEnd, RowsGiven}
 use Rattle.tabled_records.specs.RowByRow.{AreChanged, RowOfRow}
 
--- lists of which the elements stand in a relation are equally long
-pub zip_length : {X Y : Type 0} (R : X → Y → Type 0) (xs : List X) (ys : List Y) → AllZip R xs ys → length xs ≡ length ys
-zip_length R [] [] h = refl
-zip_length R [] (y ∷ ys) h = absurd h
-zip_length R (x ∷ xs) [] h = absurd h
-zip_length R (x ∷ xs) (y ∷ ys) h = omega (arith, zip_length R xs ys h.1)
-
--- so are lists with others behind them
+-- lists that go together, with others behind them
 pub zip_append : {X Y : Type 0} (R : X → Y → Type 0) (xs us : List X) (ys vs : List Y) → AllZip R xs ys → AllZip R us vs → AllZip R (xs ++ us) (ys ++ vs)
 zip_append R [] us [] vs h k = k
 zip_append R [] us (y ∷ ys) vs h k = absurd h

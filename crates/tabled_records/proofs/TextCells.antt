@@ -4,7 +4,7 @@ use Rattle.std.specs.List.{position_or_len, slice_index, slice_split}
 use Rattle.std.specs.Str.{IsUtf8}
 use Rattle.std.proofs.lemmas.Bool.{cases_lt, cases_Bool, eqb-true}
 use Rattle.std.proofs.lemmas.List.{length-drop}
-use Rattle.std.proofs.lemmas.List.Elements.{All-append, All-cons, All-map, All-nil}
+use Rattle.std.proofs.lemmas.List.Elements.{All-append, All-cons, All-map, All-nil, All-replicate}
 use Rattle.std.proofs.lemmas.List.Splits.{slice_split_first, slice_split_none}
 use Rattle.std.proofs.lemmas.List.Sums.{fails_before_first, passes_at_first}
 use Rattle.std.proofs.lemmas.Str.{IsCharBoundary-after_ascii, IsCharBoundary-before_ascii, IsUtf8-drop, IsUtf8-nil, IsUtf8-take}
@@ -58,14 +58,10 @@ rows_utf8 text u =
       | inr other ↦ subst (λ b. All IsUtf8 (cond b [] (lines_of (without_last_feed text)))) (sym other) (utf8_lines (without_last_feed text) (whole_utf8 text u))
     ]
 
-none_utf8 : (n : ℕ) → All IsUtf8 (replicate n [])
-none_utf8 zero = All-nil IsUtf8
-none_utf8 (suc n) = All-cons IsUtf8 [] (replicate n []) IsUtf8-nil (none_utf8 n)
-
 row_utf8 : (n : ℕ) (line : List ℕ) → IsUtf8 line → All IsUtf8 (lengthened n (cells_of line))
 row_utf8 n line u =
     All-append IsUtf8 (cells_of line) (replicate (n - length (cells_of line)) [])
-    (split_utf8 9 (omega arith) (length line) line (omega arith) u) (none_utf8 (n - length (cells_of line)))
+    (split_utf8 9 (omega arith) (length line) line (omega arith) u) (All-replicate IsUtf8 (n - length (cells_of line)) [] IsUtf8-nil)
 
 -- each cell of a text is a text
 pub text_cells : (text : List ℕ) → IsUtf8 text → All (All IsUtf8) (text_rows text)

@@ -1,8 +1,9 @@
 -- The greatest of the first numbers of a sequence, one number further.
 use Rattle.std.proofs.Common.{◌≡◌, ℕ, zero, suc, ◌+◌, ◌<◌, ◌≤◌, List, [], ◌∷◌, ◌++◌, length, take, drop, map}
-use Rattle.std.proofs.Common.{max, replicate, arith, refl, sym, ap, ◌∙◌, ⊎_elim}
+use Rattle.std.proofs.Common.{max, replicate, arith, sym, ap, ◌∙◌, ⊎_elim}
 use Rattle.std.specs.List.{range_with_len, slice_index}
 use Rattle.std.proofs.lemmas.Bool.{cases_lt}
+use Rattle.std.proofs.lemmas.List.{get_or-replicate, length-replicate}
 use Rattle.std.proofs.lemmas.List.FromFn.{fill_by_all, get_or-map-range_with_len, length-map-range_with_len, map-range_with_len_more}
 use Rattle.std.proofs.Math.Seq.{take-append_seam}
 use Rattle.tabled_text.specs.Measure.{greatest}
@@ -39,11 +40,7 @@ mapped_same f g n h =
 
 -- nothing yet: zeros
 pub greatest_none : (n : ℕ) → replicate {A = ℕ} n 0 ≡ map (λ _. 0) (range_with_len 0 n)
-greatest_none n = zeros 0 n
-  where
-    zeros : (a n : ℕ) → replicate {A = ℕ} n 0 ≡ map (λ _. 0) (range_with_len a n)
-    zeros a zero = refl
-    zeros a (suc n) = ap (λ u. 0 ∷ u) (zeros (a + 1) n)
+greatest_none n = fill_by_all (λ _. 0) (replicate n 0) n 0 (length-replicate n 0) (λ k l. get_or-replicate n k 0 0 l)
 
 -- what a slice of a whole vector leaves in it
 pub written_back : (n : ℕ) (new old : List ℕ) → length new ≡ n → take n (new ++ drop (length new) old) ≡ new

@@ -6,7 +6,8 @@ use Rattle.std.proofs.Math.ListN.{get_or}
 use Rattle.std.proofs.Math.Seq.{take-suc}
 use Rattle.std.proofs.lemmas.Result.{on_ok_weaker}
 use Rattle.tabled_value.specs.Fields.{CellsAdded, Joined, OneSays, Says}
-use Rattle.tabled_value.proofs.Joining.{all_zip-more, joined_of}
+use Rattle.std.proofs.lemmas.Slice.Zip.{all_zipped_more}
+use Rattle.tabled_value.proofs.Joining.{joined_of}
 
 -- cells behind none are all there are
 pub behind_none : {P : List (List ℕ) → Type 0} {before after : List (List ℕ)} → before ≡ [] → CellsAdded P before after → P after
@@ -41,5 +42,5 @@ next_behind {T} output items i d before middle after within h k =
           k.whole ∙ ap (λ u. u ++ k.texts) h.whole ∙ append_assoc before h.texts k.texts ∙ ap (λ u. before ++ (h.texts ++ u)) one.lone;
       shown =
           subst (λ l. AllZip R l (h.texts ++ one.text ∷ [])) (sym more)
-          (all_zip-more R (take i items) h.texts (get_or items i d) one.text h.shown one.said);
+          (all_zipped_more R (take i items) h.texts (get_or items i d) one.text h.shown one.said);
     }

@@ -14,7 +14,7 @@ use Rattle.std.proofs.lemmas.List.Elements.{All-append, All-cons, All-nil}
 use Rattle.tabled_base.specs.Cells.{IsRectangular}
 use Rattle.tabled_base.proofs.Lengthening.{rectangular-from_length}
 use Rattle.tabled_value.specs.ValueRows.{FieldsAdded, pairs}
-use Rattle.tabled_value.proofs.Joining.{all_zip-more}
+use Rattle.std.proofs.lemmas.Slice.Zip.{all_zipped_more}
 
 -- the rows of the next value
 pub fields_added : {V : Type 0} (shows : V → List (List ℕ) → Type 0) (names : List (List ℕ)) (values : List V)
@@ -22,7 +22,7 @@ pub fields_added : {V : Type 0} (shows : V → List (List ℕ) → Type 0) (name
     → shows value row → new ≡ old ++ pairs names row → FieldsAdded shows names (values ++ value ∷ []) new
 fields_added shows names values old new value row h r e = record {
   rows = h.rows ++ row ∷ [];
-  each = all_zip-more shows values h.rows value row h.each r;
+  each = all_zipped_more shows values h.rows value row h.each r;
   whole =
       e ∙ ap (λ u. u ++ pairs names row) h.whole
       ∙ sym (flat_map-append (pairs names) h.rows (row ∷ []) ∙ ap (λ u. flat_map (pairs names) h.rows ++ u) (append-nil (pairs names row)));

@@ -6,6 +6,7 @@ use Rattle.std.proofs.Math.ListN.{get_or}
 use Rattle.std.proofs.Math.Seq.{take-suc}
 use Rattle.std.proofs.lemmas.List.{map-append}
 use Rattle.std.proofs.lemmas.Result.{IfOk-weaker}
+use Rattle.std.proofs.lemmas.Slice.Zip.{all_zipped_more}
 use Rattle.tabled_value.specs.Fields.{Joined}
 
 pub joined_of : {P Q : List (List ℕ) → Type 0} {row : List (List ℕ)} (front behind : List (List ℕ)) → row
@@ -18,14 +19,6 @@ pub joined_fields : {V E : Type 0} (P Q : List (List ℕ) → Type 0) (front beh
 joined_fields P Q front behind texts r h p q =
     IfOk-weaker r (λ v. texts v ≡ front ++ behind) (λ v. Joined P Q (texts v)) (λ v e. joined_of front behind e p q) h
 
--- one more of each of two lists that go together
-pub all_zip-more : {X Y : Type 0} (R : X → Y → Type 0) (xs : List X) (ys : List Y) (x : X) (y : Y) → AllZip R xs ys
-    → R x y → AllZip R (xs ++ x ∷ []) (ys ++ y ∷ [])
-all_zip-more R [] [] x y h r = (r, tt)
-all_zip-more R [] (b ∷ ys) x y h r = absurd h
-all_zip-more R (a ∷ xs) [] x y h r = absurd h
-all_zip-more R (a ∷ xs) (b ∷ ys) x y h r = (h.0, all_zip-more R xs ys x y h.1 r)
-
 -- the text of the next item, behind those of the items before
 pub next_item : {T C : Type 0} (R : T → List ℕ → Type 0) (text : C → List ℕ) (items : List T) (i : ℕ) (d : T)
     (texts new : List C) (next : C) → i < length items → new ≡ texts ++ next ∷ []
@@ -34,4 +27,4 @@ next_item R text items i d texts new next within e h r =
     let more : take (i + 1) items ≡ take i items ++ get_or items i d ∷ [] = simp unary_clauses (take-suc items i d within) in
     subst (λ l. AllZip R l (map text new)) (sym more)
     (subst (AllZip R (take i items ++ get_or items i d ∷ [])) (sym (ap (map text) e ∙ map-append text texts (next ∷ [])))
-    (all_zip-more R (take i items) (map text texts) (get_or items i d) (text next) h r))
+    (all_zipped_more R (take i items) (map text texts) (get_or items i d) (text next) h r))

@@ -8,7 +8,7 @@ use Rattle.std.proofs.lemmas.List.Elements.{All-cons, All-nil, All-push}
 use Rattle.tabled_base.specs.Cells.{IsRectangular, row_texts}
 use Rattle.tabled_base.proofs.Lengthening.{rectangular-from_length}
 use Rattle.tabled_value.specs.ValueRows.{ValuesAdded}
-use Rattle.tabled_value.proofs.Joining.{all_zip-more}
+use Rattle.std.proofs.lemmas.Slice.Zip.{all_zipped_more}
 
 pub row_texts-push : (rows : List (Vec (List ℕ) Global)) (row : Vec (List ℕ) Global) → row_texts (rows ++ row ∷ []) ≡ row_texts rows ++ row.items ∷ []
 row_texts-push rows row =
@@ -22,7 +22,7 @@ pub values_added : {V : Type 0} (shows : V → List (List ℕ) → Type 0) (coun
     → length row.items ≡ count → ValuesAdded shows count (values ++ value ∷ []) before (row_texts new)
 values_added shows count values before rows new row value h e r n = record {
   rows = h.rows ++ row.items ∷ [];
-  each = all_zip-more shows values h.rows value row.items h.each r;
+  each = all_zipped_more shows values h.rows value row.items h.each r;
   lengths = All-push (λ r. length r ≡ count) h.rows row.items h.lengths n;
   whole = ap row_texts e ∙ row_texts-push rows row ∙ ap (λ u. u ++ row.items ∷ []) h.whole ∙ append_assoc before h.rows (row.items ∷ []);
 }
