@@ -1,4 +1,4 @@
-//! Options of tables, and what stays stored.
+//! A refused option of a table, and what stays stored.
 ghost use Rattle.std.specs.Prelude.{None, ⊤};
 
 use crate::sheet::{Sheet, table_of};
@@ -6,7 +6,7 @@ use std::alloc::Global;
 use tabled_base::{
     Entity, ExactRecords, Position, RecordsMut, TableError, TableOption, Text, VecRecords,
 };
-use tabled_config::{ColoredConfig, SpannedConfig, Style};
+use tabled_config::{ColoredConfig, Style};
 use tabled_table::Table;
 
 /// Whether widths are stored, and whether heights are.
@@ -16,52 +16,6 @@ pub type Stored = (bool, bool);
 pub fn stored(table: &Table) -> Stored {
     let sizes = table.get_dimension();
     (sizes.get_widths().is_some(), sizes.get_heights().is_some())
-}
-
-// Changes nothing, and hints what it is told.
-#[derive(Drop)]
-struct Hints {
-    entity: Option<Entity>,
-}
-
-impl<R, C, D> TableOption<R, C, D> for Hints {
-    ghost changes = { λ _ _ _ _ _ _ _. ⊤ };
-
-    ghost refuses = { λ _ _ _ _ _ _ _ _. ⊤ };
-
-    ghost out_of_range = { λ _ _ _ _. ⊤ };
-
-    ghost hint = { λ option. option.entity };
-
-    fn change(self, _records: &mut R, _cfg: &mut C, _dims: &mut D) -> Result<(), TableError> {
-        Ok(())
-    }
-
-    fn hint_change(&self) -> Option<Entity> {
-        self.entity
-    }
-}
-
-fn hint(table: &mut Table, entity: Option<Entity>) -> Result<Stored, TableError> {
-    table.apply(Hints { entity })?;
-    Ok(stored(table))
-}
-
-/// What stays stored of a sheet once an option hinted an entity.
-pub fn hinted(alloc: Global, sheet: &Sheet, entity: Option<Entity>) -> Result<Stored, TableError> {
-    hint(&mut table_of(alloc, sheet)?, entity)
-}
-
-// The picture of a table whose configuration was replaced.
-fn configure(table: &mut Table, config: ColoredConfig) -> Result<String, TableError> {
-    table.apply(config)?;
-    table.to_text()
-}
-
-/// The picture of a sheet whose configuration was replaced by a new one.
-pub fn reconfigured(alloc: Global, sheet: &Sheet) -> Result<String, TableError> {
-    let config = ColoredConfig::new(SpannedConfig::new(alloc));
-    configure(&mut table_of(alloc, sheet)?, config)
 }
 
 // Sets modern borders, empties the second cell, and answers that there was no memory. It hints nothing.
@@ -96,11 +50,6 @@ impl<D> TableOption<VecRecords<Text<String>>, ColoredConfig, D> for Broken {
     }
 }
 
-// What the refused option answers.
-fn break_off(table: &mut Table) -> Result<(), TableError> {
-    table.with(Broken).map(|_| ())
-}
-
 /// What an option answers that sets modern borders, empties the second cell of the first row and is refused then, and
 /// what is stored after it.
 pub fn broken_off(
@@ -108,17 +57,13 @@ pub fn broken_off(
     sheet: &Sheet,
 ) -> Result<(Result<(), TableError>, Stored), TableError> {
     let mut table = table_of(alloc, sheet)?;
-    let answer = break_off(&mut table);
+    let answer = table.apply(Broken);
     Ok((answer, stored(&table)))
-}
-
-// What is printed then.
-fn broken_picture(table: &mut Table) -> Result<String, TableError> {
-    let _answer = break_off(table);
-    table.to_text()
 }
 
 /// What is printed after that option.
 pub fn picture_of_broken(alloc: Global, sheet: &Sheet) -> Result<String, TableError> {
-    broken_picture(&mut table_of(alloc, sheet)?)
+    let mut table = table_of(alloc, sheet)?;
+    let _answer = table.apply(Broken);
+    table.to_text()
 }

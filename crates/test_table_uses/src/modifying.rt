@@ -6,24 +6,11 @@ use crate::applying::{Stored, stored};
 use crate::sheet::{Sheet, table_of};
 use std::alloc::Global;
 use tabled_base::{
-    CellOption, Entity, ExactRecords, Object, PeekableRecords, Position, RecordsMut, Rows, Segment,
-    TableError, Text, VecRecords,
+    CellOption, Entity, ExactRecords, PeekableRecords, Position, RecordsMut, Segment, TableError,
+    Text, VecRecords,
 };
 use tabled_config::{AlignmentHorizontal, ColoredConfig};
 use tabled_table::Table;
-
-/// The part of a table that is modified.
-#[derive(Clone, Copy)]
-pub enum Target {
-    /// The first row.
-    FirstRow,
-    /// The whole, as one part.
-    Whole,
-    /// Each cell by itself.
-    EachCell,
-    /// The cell of a row and a column.
-    Cell(usize, usize),
-}
 
 // Aligns texts at the right. A single cell gets the text on its left before its own, and a dot behind
 // it; one that holds an exclamation mark is refused with `Range`.
@@ -76,47 +63,22 @@ fn join(records: &mut VecRecords<Text<String>>, row: usize, column: usize) -> Re
     records.set(at, text)
 }
 
-// Joins the texts of a part of a table.
-fn modify<T: Object<VecRecords<Text<String>>> + Drop>(
-    table: &mut Table,
-    target: T,
-) -> Result<(), TableError> {
-    table.modify(target, Joins).map(|_| ())
-}
-
-// The same of a part by its name.
-fn modify_target(table: &mut Table, target: Target) -> Result<(), TableError> {
-    match target {
-        Target::FirstRow => modify(table, Rows::first()),
-        Target::Whole => modify(table, Segment::all()),
-        Target::EachCell => modify(table, Segment::new(.., ..)),
-        Target::Cell(row, column) => modify(table, (row, column)),
-    }
-}
-
-/// The picture of a sheet of which a part was aligned at the right, and each single cell of it joined to the one on its
-/// left, with a dot behind it.
-pub fn modified(alloc: Global, sheet: &Sheet, target: Target) -> Result<String, TableError> {
-    let mut table = table_of(alloc, sheet)?;
-    modify_target(&mut table, target)?;
-    table.to_string()
-}
-
-/// What such a modification of each cell answers, which is refused with `Range` at an exclamation mark; what is stored
-/// after it, and whether the text of the first cell stands at the right then.
+/// What a modification of each cell answers, which aligns texts at the right, joins each to the one on its left with a
+/// dot behind it, and is refused with `Range` at an exclamation mark; what is stored after it, and whether the text of
+/// the first cell stands at the right then.
 pub fn joined(
     alloc: Global,
     sheet: &Sheet,
 ) -> Result<(Result<(), TableError>, Stored, bool), TableError> {
     let mut table = table_of(alloc, sheet)?;
-    let answer = modify(&mut table, Segment::new(.., ..));
+    let answer = table.apply_to(Segment::new(.., ..), &Joins);
     Ok((answer, stored(&table), is_at_the_right(&table)))
 }
 
 /// What is printed after it.
 pub fn joined_picture(alloc: Global, sheet: &Sheet) -> Result<String, TableError> {
     let mut table = table_of(alloc, sheet)?;
-    let _answer = modify(&mut table, Segment::new(.., ..));
+    let _answer = table.apply_to(Segment::new(.., ..), &Joins);
     table.to_string()
 }
 

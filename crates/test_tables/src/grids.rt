@@ -1,30 +1,10 @@
 //! Grids with given sizes and with estimated ones, and refusals before the first byte.
 
-use crate::made::{PICTURE, SIZED};
-use crate::showing::{assert_picture, assert_text};
+use crate::showing::assert_text;
 use std::alloc::Global;
 use std::test::Fail;
 use tabled_base::TableError;
-use test_table_uses::{PAIRS, Sheet, Sizes, answered, bytes_of, drawn, held, lent, printed};
-
-#[test]
-fn bytes_are_those_of_the_text(rt: HostRuntime) -> Result<(), Fail> {
-    let bytes = bytes_of(rt.alloc(), &SIZED)?;
-    assert_picture(&rt, str::from_utf8(bytes.as_slice())?, PICTURE);
-    Ok(())
-}
-
-#[test]
-fn a_lent_sink_is_a_sink(rt: HostRuntime) -> Result<(), Fail> {
-    assert_text(&rt, lent(rt.alloc(), &SIZED), PICTURE)
-}
-
-#[test]
-fn stored_sizes_print_into_a_room_of_fixed_size(rt: HostRuntime) -> Result<(), Fail> {
-    let answer = held(rt.alloc(), &SIZED, PICTURE)?;
-    assert_eq!(rt; answer, (Ok(()), true));
-    Ok(())
-}
+use test_table_uses::{PAIRS, Sheet, Sizes, answered, drawn, printed};
 
 const NARROW: TableError = TableError::Narrow { row: 0, column: 0 };
 
@@ -52,7 +32,7 @@ fn a_grid_is_refused_before_the_first_byte(rt: HostRuntime) {
 const EMPTY: Sheet = Sheet {
     rows: &[],
     margin: usize::MAX,
-    ..SIZED
+    ..PAIRS
 };
 
 #[test]

@@ -1,12 +1,10 @@
-//! Tests of whole tables that aren't seen beside their pictures in `test_cases`: tables made of
-//! values, sinks and writers, what they are measured, sized to and printed with, options of a
-//! caller's own, and the program. Nothing stands here outside of tests.
+//! Tests of whole tables that aren't seen beside their pictures in `test_cases`: what tables count,
+//! grids of many columns, tables that are printed with a width of their own, options of a caller's
+//! own, and the program. Nothing stands here outside of tests.
 #![tactic(auto)]
 
 #[cfg(test)]
 mod applying;
-#[cfg(test)]
-mod batches;
 #[cfg(test)]
 mod faulty;
 #[cfg(test)]
@@ -15,8 +13,6 @@ mod grids;
 mod made;
 #[cfg(test)]
 mod making;
-#[cfg(test)]
-mod measuring;
 #[cfg(test)]
 mod modifying;
 #[cfg(test)]
@@ -27,5 +23,3 @@ mod runs;
 mod showing;
 #[cfg(test)]
 mod sized;
-#[cfg(test)]
-mod totals;

@@ -3,7 +3,7 @@
 use std::test::Fail;
 use tabled_base::TableError;
 use tabled_config::AlignmentHorizontal::{self, Center, Left, Right};
-use test_table_uses::{Given, Look, NEW, formatted, held_with, put_with};
+use test_table_uses::{Look, PAIRS, Sheet, formatted, put_with};
 
 // A width to print with, an alignment, and a fill.
 type Asked = (Option<usize>, Option<AlignmentHorizontal>, char);
@@ -87,14 +87,14 @@ const PICTURES: [(Asked, &str); 11] = [
 #[test]
 fn missing_columns_become_margin(rt: HostRuntime) -> Result<(), Fail> {
     for (asked, want) in PICTURES {
-        let (answer, text) = put_with(rt.alloc(), &NEW, &look(asked))?;
+        let (answer, text) = put_with(rt.alloc(), &PAIRS, &look(asked))?;
         assert_eq!(rt; answer, Ok(()));
         assert_eq!(rt; text.as_str(), want);
     }
     Ok(())
 }
 
-const WITH_MARGIN: Given = Given { margin: 2, ..NEW };
+const WITH_MARGIN: Sheet = Sheet { margin: 2, ..PAIRS };
 
 const FILLED: &str = "\
 ***+-----+----+
@@ -121,27 +121,27 @@ fn fills_change_only_where_columns_are_missing(rt: HostRuntime) -> Result<(), Fa
     Ok(())
 }
 
-const ENDLESS: Given = Given {
+const ENDLESS: Sheet = Sheet {
     margin: usize::MAX,
-    ..NEW
+    ..PAIRS
 };
 
-const EMPTY: Given = Given {
-    has_rows: false,
+const EMPTY: Sheet = Sheet {
+    rows: &[],
     ..ENDLESS
 };
 
-const SHORT: Given = Given {
+const SHORT: Sheet = Sheet {
     widths: Some(&[5]),
-    ..NEW
+    ..PAIRS
 };
 
-const NARROW: Given = Given {
+const NARROW: Sheet = Sheet {
     widths: Some(&[2, 2]),
-    ..NEW
+    ..PAIRS
 };
 
-const REFUSED: [(Given, Result<(), TableError>); 4] = [
+const REFUSED: [(Sheet, Result<(), TableError>); 4] = [
     (EMPTY, Ok(())),
     (SHORT, Err(TableError::ShortWidths)),
     (NARROW, Err(TableError::Narrow { row: 0, column: 0 })),
@@ -161,19 +161,8 @@ fn nothing_is_printed_of_empty_and_refused_tables(rt: HostRuntime) -> Result<(),
 }
 
 #[test]
-fn a_full_room_has_the_first_bytes(rt: HostRuntime) -> Result<(), Fail> {
-    let (answer, room) = held_with(rt.alloc(), &NEW, &look(WIDER))?;
-    assert_eq!(rt; answer, Err(TableError::Writer));
-    assert_eq!(rt;
-        str::from_utf8(room.as_slice())?,
-        "**+-----+----+**\n**|  a  | bb |*"
-    );
-    Ok(())
-}
-
-#[test]
 fn a_formatted_table_is_its_picture(rt: HostRuntime) -> Result<(), Fail> {
-    let (done, text) = formatted(rt.alloc(), &NEW)?;
+    let (done, text) = formatted(rt.alloc(), &PAIRS)?;
     assert!(rt; done);
     assert_eq!(rt; text.as_str(), PICTURE);
     Ok(())

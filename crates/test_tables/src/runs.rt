@@ -4,7 +4,7 @@ use crate::showing::{assert_picture, picture};
 use std::alloc::Global;
 use std::process::Abort;
 use std::test::Fail;
-use tabled::{Order, Plan, TableError, render, run};
+use tabled::run;
 
 const USAGE: &str =
     "usage: tabprint [--wrap N | --cut N] [--priority none|min|max|left|right] [--words] [--stream]\n";
@@ -59,21 +59,53 @@ const PAIRS: &str = picture! {
     ""
 };
 
-const RUNS: [(&str, &str); 5] = [
+const RETURNED: &str = picture! {
+    "+----+"
+    "| a\r |"
+    "+----+"
+    ""
+};
+
+const LENGTHENED: &str = picture! {
+    "+---+---+--+"
+    "|   |   |  |"
+    "+---+---+--+"
+    "|   |   |  |"
+    "+---+---+--+"
+    "| a | b |  |"
+    "+---+---+--+"
+    ""
+};
+
+const RUNS: [(&str, &str); 7] = [
     ("", ""),
     ("\n", EMPTY_CELL),
+    ("a\r\n", RETURNED),
+    ("\n\na\tb\t\n", LENGTHENED),
     ("a\tb\nc", PADDED),
     ("中", WIDE),
     ("a\tbb\nccc\t\n", PAIRS),
 ];
 
+// Stops a test where a run prints something else, or says a word.
+fn assert_run(
+    rt: &impl Abort,
+    alloc: Global,
+    words: &[String],
+    input: &str,
+    wanted: &str,
+) -> Result<(), Fail> {
+    let (status, out, err) = ran(alloc, words, input.as_bytes());
+    assert_eq!(rt; status, 0, "at {input:?}");
+    assert_picture(rt, str::from_utf8(out.as_slice())?, wanted);
+    assert!(rt; err.is_empty());
+    Ok(())
+}
+
 #[test]
 fn rows_of_texts_become_tables(rt: HostRuntime) -> Result<(), Fail> {
     for (input, want) in RUNS {
-        let (status, out, err) = ran(rt.alloc(), &[], input.as_bytes());
-        assert_eq!(rt; status, 0, "at {input:?}");
-        assert_picture(&rt, str::from_utf8(out.as_slice())?, want);
-        assert!(rt; err.is_empty());
+        assert_run(&rt, rt.alloc(), &[], input, want)?;
     }
     Ok(())
 }
@@ -131,10 +163,7 @@ const PLANNED: [(&str, &str, &str); 7] = [
 fn words_make_plans(rt: HostRuntime) -> Result<(), Fail> {
     for (line, input, want) in PLANNED {
         let words = words_of(rt.alloc(), line)?;
-        let (status, out, err) = ran(rt.alloc(), words.as_slice(), input.as_bytes());
-        assert_eq!(rt; status, 0, "at {line}");
-        assert_picture(&rt, str::from_utf8(out.as_slice())?, want);
-        assert!(rt; err.is_empty());
+        assert_run(&rt, rt.alloc(), words.as_slice(), input, want)?;
     }
     Ok(())
 }
@@ -171,15 +200,22 @@ const FIRST_LINES: [(&str, &str); 25] = [
     ("--stream", "+------+-------+------+"),
 ];
 
+const GREETINGS: &str = "&str\t&str\ti32\n1\tHello\t100\n2\tWorld\t1000\n";
+
+// Stops a test where a run's first line is another one.
+fn assert_top(rt: &impl Abort, alloc: Global, line: &str, wanted: &str) -> Result<(), Fail> {
+    let words = words_of(alloc, line)?;
+    let (status, out, _err) = ran(alloc, words.as_slice(), GREETINGS.as_bytes());
+    assert_eq!(rt; status, 0);
+    let first = str::from_utf8(out.as_slice())?.split('\n').next();
+    assert_eq!(rt; first, Some(wanted), "at {line}");
+    Ok(())
+}
+
 #[test]
 fn words_in_any_order_make_their_plan(rt: HostRuntime) -> Result<(), Fail> {
-    let input = "&str\t&str\ti32\n1\tHello\t100\n2\tWorld\t1000\n";
     for (line, want) in FIRST_LINES {
-        let words = words_of(rt.alloc(), line)?;
-        let (status, out, _err) = ran(rt.alloc(), words.as_slice(), input.as_bytes());
-        assert_eq!(rt; status, 0);
-        let first = str::from_utf8(out.as_slice())?.split('\n').next();
-        assert_eq!(rt; first, Some(want), "at {line}");
+        assert_top(&rt, rt.alloc(), line, want)?;
     }
     Ok(())
 }
@@ -279,37 +315,6 @@ fn wrong_words_end_the_run_before_the_input(rt: HostRuntime) -> Result<(), Fail>
     }
     for line in UNFIT_WORDS {
         assert_usage(&rt, rt.alloc(), line)?;
-    }
-    Ok(())
-}
-
-const RENDERED: &str = picture! {
-    "+---+---+"
-    "| a | b |"
-    "+---+---+"
-};
-
-#[test]
-fn render_prints_to_any_sink(rt: HostRuntime) -> Result<(), Fail> {
-    for plan in [
-        Plan::Buffered,
-        Plan::Streamed,
-        Plan::Wrapped {
-            target: 9,
-            words: true,
-            order: Order::Greatest,
-        },
-        Plan::Shortened {
-            target: 9,
-            order: Order::Least,
-        },
-    ] {
-        let mut text = String::new(rt.alloc());
-        assert_eq!(rt;
-            render(rt.alloc(), "a\tb\n", plan, &mut text),
-            Ok::<(), TableError>(())
-        );
-        assert_picture(&rt, text.as_str(), RENDERED);
     }
     Ok(())
 }

@@ -1,19 +1,11 @@
-//! Tables that are widened, heightened or limited to a total.
+//! Tables of which a caller tells the total.
 
 use std::test::Fail;
-use test_table_uses::{heightened, limited, widened};
+use test_table_uses::{limited, wrapped};
 
 #[test]
-fn a_widened_table_has_its_total(rt: HostRuntime) -> Result<(), Fail> {
-    assert_eq!(rt; widened(rt.alloc(), 15)?, 15);
-    assert_eq!(rt; widened(rt.alloc(), 11)?, 12);
-    Ok(())
-}
-
-#[test]
-fn a_heightened_table_has_its_total(rt: HostRuntime) -> Result<(), Fail> {
-    assert_eq!(rt; heightened(rt.alloc(), 8)?, 8);
-    assert_eq!(rt; heightened(rt.alloc(), 4)?, 5);
+fn a_wrapped_table_has_its_total(rt: HostRuntime) -> Result<(), Fail> {
+    assert_eq!(rt; wrapped(rt.alloc(), 9)?, 9);
     Ok(())
 }
 

@@ -7,7 +7,10 @@ use std::test::Fail;
 use tabled_base::{Builder, PeekableRecords, Position, TableError, Text, VecRecords};
 
 /// Rows of texts.
-pub type Rows = &'static [&'static [&'static str]];
+pub(crate) type Rows = &'static [&'static [&'static str]];
+
+/// Four cells.
+pub(crate) const ROWS: Rows = &[&["abc", "de"], &["fgh", "ijk"]];
 
 /// Records of rows.
 pub(crate) fn records_of(
@@ -35,9 +38,7 @@ fn show_row<R: PeekableRecords>(all: &mut String, records: &R, row: usize) -> Re
 {
     all.push_str(" ")?;
     for column in 0..records.count_columns() {
-        all.push_str("[")?;
-        all.push_str(records.get_text(Position { row, column }))?;
-        all.push_str("]")?;
+        write!(all, "[{}]", records.get_text(Position { row, column }))?;
     }
     Ok(())
 }

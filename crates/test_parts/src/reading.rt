@@ -1,0 +1,106 @@
+//! How far streamed tables read their source.
+ghost use Rattle.std.specs.Prelude.{[], ◌∷◌};
+
+use std::alloc::Global;
+use std::io;
+use std::io::Write;
+use std::test::Fail;
+use std::vec::IntoIter;
+use tabled_base::{CellText, TableError};
+use tabled_line::IoSink;
+use tabled_table::IterTable;
+
+// Takes so many bytes, and then none.
+#[derive(Drop)]
+struct Narrow {
+    left: usize,
+}
+
+impl Write for Narrow {
+    fn write(&mut self, buf: &[u8]) -> io::Result<usize> {
+        let count = buf.len().min(self.left);
+        self.left -= count;
+        Ok(count)
+    }
+
+    fn flush(&mut self) -> io::Result<()> {
+        Ok(())
+    }
+}
+
+// A cell that lends nothing, so that its rows may be lent.
+#[derive(Drop, Clone, Copy)]
+struct Word {}
+
+impl CellText for Word {
+    ghost text = { λ _. 114 ∷ 111 ∷ 119 ∷ [] };
+
+    fn text(&self) -> &str {
+        "row"
+    }
+}
+
+type Source = IntoIter<[Word; 2]>;
+
+fn hundred(alloc: Global) -> Result<Source, TableError> {
+    Ok(vec![in alloc; [Word {}, Word {}]; 100]?.into_iter())
+}
+
+// Sniffs so many rows, of which so many are shown, and returns how many of the source are left.
+fn left(alloc: Global, sniffed: usize, shown: usize) -> Result<usize, TableError> {
+    let mut rows = hundred(alloc)?;
+    let mut table = IterTable::new(&mut rows);
+    table.sniff(sniffed).rows(shown);
+    let mut text = String::new(alloc);
+    table.fmt(alloc, &mut text)?;
+    Ok(rows.len())
+}
+
+// Rows that are sniffed, that are shown, and that are left.
+const LEFT: [(usize, usize, usize); 3] = [(0, 0, 100), (2, 3, 97), (2, 1, 98)];
+
+#[test]
+fn no_row_is_taken_that_is_neither_sniffed_nor_shown(rt: HostRuntime) -> Result<(), Fail> {
+    for (sniffed, shown, rows) in LEFT {
+        assert_eq!(rt; left(rt.alloc(), sniffed, shown)?, rows);
+    }
+    Ok(())
+}
+
+// Prints through a writer that takes so many bytes, and returns how many rows are left.
+fn left_behind(rows: &mut Source, alloc: Global, bytes: usize) -> (Result<(), TableError>, usize) {
+    let mut table = IterTable::new(&mut *rows);
+    table.sniff(1);
+    let answer = table.fmt(alloc, &mut IoSink::new(Narrow { left: bytes }));
+    (answer, rows.len())
+}
+
+const TAKEN: [(usize, usize); 3] = [(0, 99), (54, 98), (55, 97)];
+
+// The horizontal lines above two rows and the rows are four lines of 13 bytes, with three line feeds.
+#[test]
+fn a_row_is_taken_once_the_lines_above_it_are_out(rt: HostRuntime) -> Result<(), Fail> {
+    for (bytes, rows) in TAKEN {
+        let mut source = hundred(rt.alloc())?;
+        let found = left_behind(&mut source, rt.alloc(), bytes);
+        assert_eq!(rt; found, (Err(TableError::Writer), rows), "at {bytes}");
+    }
+    Ok(())
+}
+
+// Equal rows of one letter, and one of two behind them.
+fn widened(alloc: Global, count: usize) -> Result<String, TableError> {
+    let mut rows = vec![in alloc; ["a"]; count]?;
+    rows.push(["bb"])?;
+    IterTable::new(rows).to_string(alloc)
+}
+
+// A thousand rows are sniffed where nothing else is said: the row behind them is cut to theirs.
+#[test]
+fn a_thousand_rows_are_sniffed(rt: HostRuntime) -> Result<(), Fail> {
+    let text = widened(rt.alloc(), 1000)?;
+    assert!(rt; text.as_str().ends_with("| a |\n+---+\n| b |\n+---+"));
+    let text = widened(rt.alloc(), 999)?;
+    assert!(rt; text.as_str().ends_with("| a  |\n+----+\n| bb |\n+----+"));
+    Ok(())
+}

@@ -1,0 +1,55 @@
+//! Tables of which a caller tells the total: what is told here follows from `with` alone.
+ghost use Rattle.std.specs.Prelude.{◌≡◌, ◌<◌, OnOk, false, length, max, true};
+ghost use Rattle.tabled_set.specs.BestNarrowing.{HasLeastWidth, IsBestWrapped};
+ghost use Rattle.tabled_set.specs.ExactTotal.{empty_width};
+ghost use Rattle.tabled_set.specs.HeightFrame.{frame_height};
+ghost use Rattle.tabled_set.specs.Promised.{IsWiderThan};
+ghost use Rattle.tabled_size.specs.Sheet.{estimated, is_empty};
+ghost use Rattle.tabled_size.specs.TextCells.{AreTexts};
+ghost use Rattle.tabled_size.specs.Totals.{total_height, total_width};
+ghost use Rattle.tabled_table.specs.TableSheet.{cells_of, sheet};
+
+use crate::sheet::{PAIRS, table_of};
+use std::alloc::Global;
+use tabled_base::TableError;
+use tabled_set::{Height, Width};
+use tabled_size::Priority;
+use tabled_table::Table;
+
+// Wraps by the greatest widths.
+fn wrap_level(table: &mut Table, n: usize) -> Result<(), TableError>
+    ensures total { OnOk result (IsWiderThan n (sheet table.old) → AreTexts (cells_of table.old)
+        → total_width (sheet table.new) ≡ max n (empty_width (sheet table.old))) }
+    ensures best { OnOk result (IsWiderThan n (sheet table.old)
+        → IsBestWrapped false (sheet table.old) (sheet table.new)) }
+    ensures least { OnOk result (IsWiderThan n (sheet table.old)
+        → HasLeastWidth (sheet table.old) (sheet table.new)) }
+{
+    table.with(Width::wrap(n).priority(Priority::max(true)))?;
+    Ok(())
+}
+
+// Limits a table, one row after the other.
+fn limit(table: &mut Table, n: usize) -> Result<(), TableError>
+    ensures { OnOk result (is_empty (cells_of table.old) ≡ false
+        → n < total_height (estimated (cells_of table.old) table.old.config.config)
+        → total_height (sheet table.new)
+        ≡ max n (frame_height table.old.config.config (length (cells_of table.old)))) }
+{
+    table.with(Height::limit(n))?;
+    Ok(())
+}
+
+/// The columns of the pairs once wrapped to so many.
+pub fn wrapped(alloc: Global, n: usize) -> Result<usize, TableError> {
+    let mut table = table_of(alloc, &PAIRS)?;
+    wrap_level(&mut table, n)?;
+    table.total_width()
+}
+
+/// The lines of the pairs once limited to so many.
+pub fn limited(alloc: Global, n: usize) -> Result<usize, TableError> {
+    let mut table = table_of(alloc, &PAIRS)?;
+    limit(&mut table, n)?;
+    table.total_height()
+}
