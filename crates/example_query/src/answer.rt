@@ -4,12 +4,10 @@ ghost use Rattle.std.specs.Prelude.{◌+◌};
 ghost use Rattle.std.specs.Iterator.{at_most};
 ghost use Rattle.std.specs.Vec.Iter.{into_iter_len};
 
-use crate::truncating::{columns_of, truncate};
+use crate::cells::{columns_of, text_of, truncated};
 use anyhow::{Error, Result};
-use sqlite::types::ValueRef;
 use sqlite::{Alter, Connection, Row, Rows};
 use std::alloc::Global;
-use std::fmt::Write;
 use std::str::from_utf8;
 use std::vec::IntoIter;
 use tabled::grid::util::string::{line_width, lines};
@@ -138,26 +136,7 @@ fn texts_of(alloc: Global, row: &Row, widths: &[usize]) -> Result<Vec<String>> {
     let mut texts = Vec::new(alloc);
     for column in 0..row.column_count() {
         let text = text_of(alloc, row.get_ref(column)?)?;
-        texts.push(match widths.get(column) {
-            Some(width) => truncate(alloc, text, *width)?,
-            None => text,
-        })?;
+        texts.push(truncated(text, widths.get(column))?)?;
     }
     Ok(texts)
-}
-
-fn text_of(alloc: Global, value: ValueRef<'_>) -> Result<String> {
-    let mut text = String::new(alloc);
-    match value {
-        ValueRef::Null => text.push_str("NULL")?,
-        ValueRef::Int(number) => write!(text, "{number}")?,
-        ValueRef::Real(number) => write!(text, "{number}")?,
-        ValueRef::Text(bytes) => text.push_str(from_utf8(bytes)?)?,
-        ValueRef::Blob(bytes) => {
-            for byte in bytes {
-                write!(text, "{byte:02x}")?;
-            }
-        }
-    }
-    Ok(text)
 }

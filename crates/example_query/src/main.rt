@@ -8,7 +8,7 @@
 #![tactic(auto)]
 
 mod answer;
-mod truncating;
+mod cells;
 
 use answer::Answer;
 use anyhow::{Context, Result, bail, ensure};
