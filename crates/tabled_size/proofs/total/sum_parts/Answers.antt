@@ -24,7 +24,8 @@ returns-in_err-part g c =
     let cells = g.R.ExactRecords.cells c.args.records.now in
     let config = c.args.config.now in
     let lt : c.rows.row < length cells = omega (arith, c.rows-test.true, c.count_rows-rows.ensures) in
-    let e = part cells config c.count_rows-rows.result c.rows.row c.one_if-line.result c.in_ok-row_height.field-0 c.count_rows-rows.ensures lt
+    let e = part cells config c.count_rows-rows.result c.rows.row c.one_if-line.result c.in_ok-row_height.field-0
+    c.count_rows-rows.ensures lt
     (c.one_if-line.ensures ∙ ap one_if (c.is_some.ensures ∙ ap is_some c.rule_at.ensures)) c.in_ok-row_height.ensures in
     none-of _ _ c.from_residual-in_err-part.result c.from_residual-in_err-part.ensures
     (inr (part-passes (part_height config (length cells) (estimated_heights cells config)) c.rows.row (length cells) lt
@@ -35,18 +36,20 @@ returns-in_err-total g c =
     let cells = g.R.ExactRecords.cells c.args.records.now in
     let config = c.args.config.now in
     let lt : c.rows.row < length cells = omega (arith, c.rows-test.true, c.count_rows-rows.ensures) in
-    let e = part cells config c.count_rows-rows.result c.rows.row c.one_if-line.result c.in_ok-row_height.field-0 c.count_rows-rows.ensures lt
+    let e = part cells config c.count_rows-rows.result c.rows.row c.one_if-line.result c.in_ok-row_height.field-0
+    c.count_rows-rows.ensures lt
     (c.one_if-line.ensures ∙ ap one_if (c.is_some.ensures ∙ ap is_some c.rule_at.ensures)) c.in_ok-row_height.ensures in
     none-of _ _ c.from_residual-in_err-total.result c.from_residual-in_err-total.ensures
-    (inr (sum-passes (part_height config (length cells) (estimated_heights cells config)) c.rows.row (length cells) c.rows.total c.in_ok-part.part lt
-    c.rows.invariant (c.in_ok-part.ensures.1 ∙ e) c.in_err-total.ensures))
+    (inr (sum-passes (part_height config (length cells) (estimated_heights cells config)) c.rows.row (length cells)
+    c.rows.total c.in_ok-part.part lt c.rows.invariant (c.in_ok-part.ensures.1 ∙ e) c.in_err-total.ensures))
 
 pub rows-preserved : goal.rows-preserved
 rows-preserved g c =
     let cells = g.R.ExactRecords.cells c.args.records.now in
     let config = c.args.config.now in
     let lt : c.rows.row < length cells = omega (arith, c.rows-test.true, c.count_rows-rows.ensures) in
-    let e = part cells config c.count_rows-rows.result c.rows.row c.one_if-line.result c.in_ok-row_height.field-0 c.count_rows-rows.ensures lt
+    let e = part cells config c.count_rows-rows.result c.rows.row c.one_if-line.result c.in_ok-row_height.field-0
+    c.count_rows-rows.ensures lt
     (c.one_if-line.ensures ∙ ap one_if (c.is_some.ensures ∙ ap is_some c.rule_at.ensures)) c.in_ok-row_height.ensures in
     let more = sum-more (part_height config (length cells) (estimated_heights cells config)) c.rows.row in
     omega (arith, e, more, c.rows.invariant, c.in_ok-part.ensures.1, c.in_ok-total.ensures.1)

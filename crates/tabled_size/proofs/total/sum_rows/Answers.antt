@@ -15,7 +15,8 @@ unfolding part_height
 rows-preserved g c =
     let size_at = g.D.Dimension.height_at c.args.sizes.now in
     let f = part_height c.args.config.now c.args.rows (reached size_at c.args.rows) in
-    let size = reached_size size_at c.args.rows c.rows.row c.get_height.result (omega (arith, c.requires, c.rows-test.true)) c.get_height.ensures in
+    let size = reached_size size_at c.args.rows c.rows.row c.get_height.result
+    (omega (arith, c.requires, c.rows-test.true)) c.get_height.ensures in
     let line : c.one_if-line.result ≡ rules_at c.args.config.now c.args.rows c.rows.row =
     c.one_if-line.ensures ∙ ap one_if (c.is_some.ensures ∙ ap is_some c.rule_at.ensures) in
     let part : c.in_ok-part.part ≡ f c.rows.row = omega (arith, size, line, c.in_ok-part.ensures.1) in

@@ -12,6 +12,7 @@ get_width-requires g c =
 pub columns-preserved : goal.columns-preserved
 columns-preserved g c =
     let size_at = g.D.Dimension.width_at c.args.sizes.now in
-    let size = reached_size size_at c.args.columns c.columns.column c.get_width.result (omega (arith, c.requires, c.columns-test.true)) c.get_width.ensures in
+    let size = reached_size size_at c.args.columns c.columns.column c.get_width.result
+    (omega (arith, c.requires, c.columns-test.true)) c.get_width.ensures in
     let more = sum-more (slice_index (reached size_at c.args.columns)) c.columns.column in
     omega (arith, size, more, c.columns.invariant, c.in_ok-total.ensures.1)

@@ -6,16 +6,17 @@ pub loop-self-init : goal.loop-self-init
 loop-self-init g c = none_passed _ _ _ _ _ _ _ c.args.self.now c.requires
 
 pub walk_rest-requires-clause-can : goal.walk_rest-requires-clause-can
-walk_rest-requires-clause-can g c = ((may_more _ _ _ _ _ g.I.Item.IntoIter.Iterator.next_gives _ c.in_ok-row.row c.in_ok-row.was c.loop-self.invariant.may
-    c.next.ensures.steps c.next.ensures.goes).0 c.into_iter.result c.into_iter.ensures.into_iter_gives).0
+walk_rest-requires-clause-can g c = ((may_more _ _ _ _ _ g.I.Item.IntoIter.Iterator.next_gives _ c.in_ok-row.row c.in_ok-row.was
+    c.loop-self.invariant.may c.next.ensures.steps c.next.ensures.goes).0 c.into_iter.result c.into_iter.ensures.into_iter_gives).0
 
 pub walk_rest-requires-clause-finite : goal.walk_rest-requires-clause-finite
-walk_rest-requires-clause-finite g c = ((may_more _ _ _ _ _ g.I.Item.IntoIter.Iterator.next_gives _ c.in_ok-row.row c.in_ok-row.was c.loop-self.invariant.may
-    c.next.ensures.steps c.next.ensures.goes).0 c.into_iter.result c.into_iter.ensures.into_iter_gives).1
+walk_rest-requires-clause-finite g c = ((may_more _ _ _ _ _ g.I.Item.IntoIter.Iterator.next_gives _ c.in_ok-row.row c.in_ok-row.was
+    c.loop-self.invariant.may c.next.ensures.steps c.next.ensures.goes).0 c.into_iter.result c.into_iter.ensures.into_iter_gives).1
 
 pub loop-self-preserved : goal.loop-self-preserved
 loop-self-preserved g c =
-    one_passed _ _ _ _ _ _ _ (c.loop-self.self.left - 1) c.in_ok-row.row c.in_ok-row.was c.loop-self.invariant c.next.ensures.steps c.next.ensures.goes (
+    one_passed _ _ _ _ _ _ _ (c.loop-self.self.left - 1) c.in_ok-row.row c.in_ok-row.was
+    c.loop-self.invariant c.next.ensures.steps c.next.ensures.goes (
       c.walk_rest.ensures.walked.0,
       record {
         iterator = c.into_iter.result;

@@ -21,7 +21,8 @@ returns-then-at-count c =
     let ranges = c.args.self.now in
     let texts = texts_from c.args.gap c.args.whole.now 0 c.args.ends.now in
     let row_in = c.requires.inside.row_in in
-    let range : c.at-start.result ≡ get_or ranges at.row c.at-start.result = c.at-start.ensures ∙ ap (λ r. get_or r at.row c.at-start.result) c.self.view_is in
+    let range : c.at-start.result ≡ get_or ranges at.row c.at-start.result =
+    c.at-start.ensures ∙ ap (λ r. get_or r at.row c.at-start.result) c.self.view_is in
     cell-behind texts ranges at.row at.column c.at-start.result
     (subst (λ n. AreRanges n ranges) (sym (length-texts c.args.gap c.args.whole.now 0 c.args.ends.now)) c.requires.ranges)
     (omega (arith, row_in, length-rows texts ranges)) (subst (λ r. r.1 ≤ at.column) range c.if-at-count.true)
@@ -32,7 +33,8 @@ place_in c =
     let at = c.args.at in
     let ranges = c.args.self.now in
     let row_in = c.requires.inside.row_in in
-    let range : c.at-start.result ≡ get_or ranges at.row c.at-start.result = c.at-start.ensures ∙ ap (λ r. get_or r at.row c.at-start.result) c.self.view_is in
+    let range : c.at-start.result ≡ get_or ranges at.row c.at-start.result =
+    c.at-start.ensures ∙ ap (λ r. get_or r at.row c.at-start.result) c.self.view_is in
     let inside = c.requires.ranges at.row c.at-start.result
     (omega (arith, row_in, length-rows (texts_from c.args.gap c.args.whole.now 0 c.args.ends.now) ranges)) in
     omega (arith, inside, ap (λ r. r.0) range, ap (λ r. r.1) range, c.if-at-count.false)
@@ -45,7 +47,8 @@ own c inside =
     let whole = c.args.whole.now in
     let ends = c.args.ends.now in
     let place = c.at-start.result.0 + c.args.at.column in
-    subst (IsJoined whole (begin gap 0 ends place)) (sym c.at-end.ensures) (joined-at gap whole 0 ends place c.at-end.result c.requires.joined inside)
+    subst (IsJoined whole (begin gap 0 ends place)) (sym c.at-end.ensures)
+    (joined-at gap whole 0 ends place c.at-end.result c.requires.joined inside)
 
 pub overflow_add-place : goal.overflow_add-place
 overflow_add-place c = omega (arith, place_in (goal.at.overflow_add-place c).After-len-count, c.len-count.ensures)
@@ -89,7 +92,8 @@ returns c =
     let d = goal.at.returns c in
     let inside = place_in d.After-len-count in
     let row_in = c.requires.inside.row_in in
-    let range : c.at-start.result ≡ get_or ranges at.row c.at-start.result = c.at-start.ensures ∙ ap (λ r. get_or r at.row c.at-start.result) c.self.view_is in
+    let range : c.at-start.result ≡ get_or ranges at.row c.at-start.result =
+    c.at-start.ensures ∙ ap (λ r. get_or r at.row c.at-start.result) c.self.view_is in
     let found = ap (λ r. get_or texts (r.0 + at.column) []) range
     ∙ cell-there texts ranges at.row at.column c.at-start.result (subst (λ n. AreRanges n ranges) (sym size) c.requires.ranges)
     (omega (arith, row_in, length-rows texts ranges)) (subst (λ r. at.column < r.1) range c.if-at-count.false) in
