@@ -5,10 +5,8 @@ ghost use Rattle.tabled_size.specs.Holds.{IsSized};
 
 use crate::grid::Grid;
 use tabled_base::{PeekableRecords, Position};
-use tabled_config::{CellStyle, Frame, RowStyles};
-use tabled_line::{
-    CellBlock, CellPlacement, ColumnSeparator, Content, Row, TableColumns, UniformPlacement,
-};
+use tabled_config::{Frame, RowStyles};
+use tabled_line::{ColumnSeparator, Content, KnownPlacements, Row, TableColumns};
 use tabled_size::Dimension;
 
 /// The columns of a grid whose sizes are complete.
@@ -68,16 +66,18 @@ impl<'a, R: PeekableRecords, D: Dimension> Row<'a> for GridRow<'a, R, D> {
     }
 
     #[inline(always)]
-    fn uniform(&self) -> Option<UniformPlacement> {
-        self.grid.uniform(self.row)
+    fn placements(&self) -> KnownPlacements<'_> {
+        if let Some(cells) = self.grid.placements(self.row) {
+            return KnownPlacements::Cached(cells);
+        }
+        match self.grid.uniform(self.row) {
+            Some(uniform) => KnownPlacements::Uniform(uniform),
+            None => KnownPlacements::Styled,
+        }
     }
 
     fn styles(&self) -> RowStyles<'_> {
         self.grid.styles(self.row)
-    }
-
-    fn placements(&self) -> Option<&[CellPlacement]> {
-        self.grid.placements(self.row)
     }
 
     fn width(&self, column: usize) -> usize {
@@ -96,15 +96,6 @@ impl<'a, R: PeekableRecords, D: Dimension> Row<'a> for GridRow<'a, R, D> {
             text,
             columns,
             lines,
-        }
-    }
-
-    fn cell(&self, column: usize, style: CellStyle) -> CellBlock<'a> {
-        CellBlock {
-            style,
-            width: self.width(column),
-            height: self.height(),
-            content: self.content(column),
         }
     }
 

@@ -60,9 +60,6 @@ fill-first_bytes c n i rest small l =
     let a = fill-ascii c n i small in
     omega arith
 
-pub fill-long : (c n : ℕ) (rest : List ℕ) → c < 128 → n ≤ length (fill c n ++ rest)
-fill-long c n rest small = omega (arith, fill-length c n small, length-append (fill c n) rest)
-
 pub fill-boundary : (c i n : ℕ) → c < 128 → i ≤ n → IsCharBoundary (fill c n) i
 fill-boundary c i n small h =
     IsCharBoundary-from_ascii (fill c n) i (λ k. fill-ascii c n k small) (omega (arith, fill-length c n small))

@@ -6,8 +6,8 @@ use Rattle.tabled_line.specs.Offsets.{offset_from}
 use Rattle.tabled_line.specs.Row.{ColumnSheet, RowSheet, piece, row_line}
 use Rattle.tabled_line.specs.BlankRow.{StandsAt, blank_row, first_offset}
 use Rattle.tabled_line.specs.Slots.{AreSlots, IsTextAt, offset_at, slot_at}
-use Rattle.tabled_line.specs.declared.row_placements.PlacedText.{PlacedText}
-use Rattle.tabled_line.specs.declared.slots.Slot.{Slot}
+use Rattle.tabled_line.specs.declared.placement.PlacedText.{PlacedText}
+use Rattle.tabled_line.specs.declared.row_template.Slot.{Slot}
 use Rattle.tabled_line.proofs.Laying.{IsLaid, front, laid-all, laid-begins, laid-none, laid-stands}
 
 -- ---- the slots

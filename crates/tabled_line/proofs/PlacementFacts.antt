@@ -1,7 +1,7 @@
 -- What is kept of where cells begin and their texts stand.
-use Rattle.std.proofs.Common.{◌≡◌, ◌<◌, ℕ, List, Some, ap, arith, get_or, length, slice_get, sym, ◌∙◌}
+use Rattle.std.proofs.Common.{◌≡◌, ◌<◌, ℕ, List, ap, arith, get_or, length, ◌∙◌}
 use Rattle.std.proofs.lemmas.List.FromFn.{get_or-map-range_with_len, length-map-range_with_len}
-use Rattle.std.proofs.lemmas.Option.{get_or_from_slice_get}
+use Rattle.tabled_config.specs.declared.alignment.AlignmentHorizontal.TheVariants.{Left}
 use Rattle.tabled_config.specs.declared.spanned.CellStyle.{CellStyle}
 use Rattle.tabled_line.specs.Placements.{ArePlacements, cell_placement}
 use Rattle.tabled_line.specs.Row.{ColumnSheet}
@@ -15,9 +15,13 @@ pub known-within : {style : ℕ → CellStyle} {columns : ColumnSheet} {placemen
     → column < columns.count → column < length placements
 known-within are within = omega (arith, placements-count are, within)
 
+-- what is read after the last placement
+abbrev pub no_placement : CellPlacement
+no_placement = record { place = 0; placement = record { before = 0; content_width = 0; horizontal = Left } }
+
 -- what is read at a column
-pub cell-known : {style : ℕ → CellStyle} {columns : ColumnSheet} {placements : List CellPlacement} {column : ℕ} {cell : CellPlacement} → ArePlacements style columns placements
-    → column < columns.count → slice_get placements column ≡ Some cell → cell ≡ cell_placement style columns column
-cell-known {style} {columns} {placements} {column} {cell} are within read =
-    sym (get_or_from_slice_get placements column cell cell read) ∙ ap (λ l. get_or l column cell) are.listed
-    ∙ get_or-map-range_with_len (cell_placement style columns) 0 columns.count column column cell within (omega arith)
+pub cell-known : {style : ℕ → CellStyle} {columns : ColumnSheet} {placements : List CellPlacement} {column : ℕ}
+    → ArePlacements style columns placements → column < columns.count → get_or placements column no_placement ≡ cell_placement style columns column
+cell-known {style} {columns} {placements} {column} are within =
+    ap (λ l. get_or l column no_placement) are.listed
+    ∙ get_or-map-range_with_len (cell_placement style columns) 0 columns.count column column no_placement within (omega arith)

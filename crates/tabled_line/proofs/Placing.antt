@@ -4,7 +4,7 @@ use Rattle.tabled_config.specs.Frame.{has_bar}
 use Rattle.tabled_line.specs.Fill.{fill}
 use Rattle.tabled_line.specs.Row.{RowSheet, cell_piece, piece}
 use Rattle.tabled_line.specs.PlacedText.{IsPlacedText}
-use Rattle.tabled_line.specs.declared.row_placements.PlacedText.{PlacedText}
+use Rattle.tabled_line.specs.declared.placement.PlacedText.{PlacedText}
 
 -- spaces and the cell: the spaces, the vertical line and the spaces before the text, the text, and the spaces behind it
 pub spaced-parts : (row : RowSheet) (column : ℕ) (placed : PlacedText) (n : ℕ) → IsPlacedText row column placed

@@ -76,19 +76,6 @@ took-more a b c text rest next n p q e = record {
 pub sends-along : (a b : Sent) (s t : List ℕ) → Sends a b s → s ≡ t → Sends a b t
 sends-along a b s t p e = let P : List ℕ → Type 0 = λ u. Sends a b u in subst P e p
 
-pub took-all : (a b : Sent) (text rest : List ℕ) → Took a b text rest → length rest ≡ 0 → Sends a b text
-took-all a b text [] p h = sends-along a b p.front text p.sends (sym (append-nil p.front) ∙ p.whole)
-took-all a b text (x ∷ rest) p h = absurd (omega arith)
-
-pub took-part : (a b c : Sent) (text rest : List ℕ) → Took a b text rest → Keeps b.bytes c.bytes → Rose b.failures c.failures → Stops a Writer c text
-took-part a b c text rest p keeps rose = record {
-  front = p.front ++ [];
-  rest = rest;
-  whole = ap (λ u. u ++ rest) (append-nil p.front) ∙ p.whole;
-  added = Appends-then a.bytes b.bytes c.bytes p.front [] p.sends.added (Appends-nil b.bytes c.bytes keeps);
-  cause = rose-then a.failures b.failures c.failures p.sends.counted rose;
-}
-
 -- ---- for a function that prints in steps: s went out before the step, which prints t
 
 -- the step went through

@@ -5,8 +5,7 @@ use Rattle.std.proofs.Math.Seq.{take-append_seam}
 use Rattle.std.proofs.lemmas.List.{get_or-append-add, length-append}
 use Rattle.tabled_config.specs.declared.frame.VerticalLine.{VerticalLine}
 use Rattle.tabled_line.specs.Fill.{fill}
-use Rattle.tabled_line.specs.ColumnSeparator.{separator_text}
-use Rattle.tabled_line.specs.Row.{piece}
+use Rattle.tabled_line.specs.Row.{piece, separator_text}
 use Rattle.tabled_line.proofs.Fills.{fill-add, fill-drop, fill-first_bytes, fill-length}
 
 pub separator-length : (bar : VerticalLine) (behind before : ℕ) → length (separator_text bar behind before) ≡ behind + (length (piece bar.there bar.main) + before)

@@ -6,7 +6,7 @@ use Rattle.tabled_base.specs.declared.error.TableError.{TableError}
 use Rattle.tabled_base.specs.declared.error.TableError.TheVariants.{Memory, ShortWidths, ShortHeights, Narrow, Range, Writer}
 use Rattle.tabled_line.specs.Sent.{Sent, Sends, Stops, Took}
 use Rattle.tabled_line.specs.WriterSent.{failed_byte, known_since, named_sent, writer_after, writer_before}
-use Rattle.tabled_line.proofs.Sending.{Appends-nil, Keeps-same, took-all}
+use Rattle.tabled_line.proofs.Sending.{Appends-nil, Keeps-same}
 
 -- ---- while a text is handed over
 
@@ -48,15 +48,6 @@ took-failed na nb ca cb cc old new text rest is failed p some k =
     let P : Option ℕ → Type 0 = λ o. Stops (named_sent na ca o) Writer (named_sent nb cc new) text in
     let Q : Option ℕ → Type 0 = λ n. Stops (named_sent na ca None) Writer (named_sent nb cc n) text in
     subst P (sym is) (subst Q (sym failed) (stops-failed na nb ca cb cc text rest p some k))
-
--- the writer took all
-pub took-whole : (na nb : ℕ) (ca cb : Option (List ℕ)) (old new : Option ℕ) (text rest : List ℕ) → old ≡ None → new ≡ None
-    → Took (named_sent na ca None) (named_sent nb cb None) text rest → length rest ≡ 0
-    → Sends (named_sent na ca old) (named_sent nb cb new) text
-took-whole na nb ca cb old new text rest is unfailed p none =
-    let P : Option ℕ → Type 0 = λ o. Sends (named_sent na ca o) (named_sent nb cb new) text in
-    let Q : Option ℕ → Type 0 = λ n. Sends (named_sent na ca None) (named_sent nb cb n) text in
-    subst P (sym is) (subst Q (sym unfailed) (took-all _ _ text rest p none))
 
 -- a write that took no bytes
 pub kept-none : (a b : Option (List ℕ)) (n : ℕ) (buffer : List ℕ) → n ≤ 0 → Appends a b (take n buffer) → Keeps a b

@@ -3,7 +3,7 @@ use Rattle.std.specs.Prelude.{◌≡◌, ℕ, ◌<◌, List, None, drop}
 use Rattle.std.specs.List.{slice_index_or}
 use Rattle.tabled_text.specs.Lines.{lines_in}
 use Rattle.tabled_text.specs.Measure.{lines_of}
-use Rattle.tabled_line.specs.declared.cursors.Cursor.{Cursor}
+use Rattle.tabled_line.specs.declared.content.Cursor.{Cursor}
 
 -- the lines from the cursor on are the lines of the text from its number on
 abbrev pub IsCursor : List ℕ → Cursor → Type 0

@@ -1,10 +1,8 @@
 pub mod Placements
 pub mod Apart
-pub mod Template
 pub mod Block
 pub mod Cursors
 pub mod Fill
-pub mod ColumnSeparator
 pub mod LineCache
 pub mod BlankRow
 pub mod Leading

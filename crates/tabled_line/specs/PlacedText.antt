@@ -2,7 +2,7 @@
 use Rattle.std.specs.Prelude.{◌≡◌, ◌+◌, ℕ, ◌++◌}
 use Rattle.tabled_line.specs.Fill.{fill}
 use Rattle.tabled_line.specs.Row.{RowSheet, first_of_block}
-use Rattle.tabled_line.specs.declared.row_placements.PlacedText.{PlacedText}
+use Rattle.tabled_line.specs.declared.placement.PlacedText.{PlacedText}
 
 -- the first line of a cell is the text between spaces, and together they fill the width of the
 -- cell; the spaces before the text are the padding and `shift` more

@@ -9,6 +9,8 @@ use Rattle.tabled_line.specs.Offsets.{offset_from}
 use Rattle.tabled_line.specs.Row.{ColumnSheet, RowSheet}
 use Rattle.tabled_line.specs.declared.placement.Placement.{Placement}
 use Rattle.tabled_line.specs.declared.placement.CellPlacement.{CellPlacement}
+use Rattle.tabled_line.specs.declared.placement.KnownPlacements.{KnownPlacements}
+use Rattle.tabled_line.specs.declared.placement.KnownPlacements.TheVariants.{Cached, Styled, Uniform}
 use Rattle.tabled_line.specs.declared.placement.UniformPlacement.{UniformPlacement}
 
 -- side padding is spaces, and there is no top padding
@@ -35,6 +37,10 @@ pub record IsPlaceable (style : CellStyle) (width : ℕ) : Type 0 where
   pub spaced : IsSpaced style.padding
   pub fits : style.padding.left.size + style.padding.right.size ≤ width
 
+-- this is the placement of a text with a style in a column of a width, which the style allows
+abbrev pub IsPlacementIn : CellStyle → ℕ → Placement → Type 0
+IsPlacementIn style width placement = (placement ≡ placement_of style width) × IsPlaceable style width
+
 -- the placement in a column, and the offset of the first column after the left padding, in bytes
 -- after the left edge of a blank row
 abbrev pub cell_placement : (ℕ → CellStyle) → ColumnSheet → ℕ → CellPlacement
@@ -50,6 +56,12 @@ pub record ArePlacements (style : ℕ → CellStyle) (columns : ColumnSheet) (pl
 pub record IsUniform (style : CellStyle) (uniform : UniformPlacement) : Type 0 where
   pub spaced : IsSpaced style.padding
   pub uniform_is : uniform ≡ uniform_of style
+
+-- what is known of the placements of a row's texts is true
+abbrev pub AreKnown : (ℕ → CellStyle) → ColumnSheet → KnownPlacements → Type 0
+AreKnown style columns (Cached cells) = ArePlacements style columns cells.now
+AreKnown style columns (Uniform uniform) = (column : ℕ) → column < columns.count → IsUniform (style column) uniform
+AreKnown style columns Styled = Unit {0}
 
 -- a column of a row that `describes` is true of
 pub record IsDescribedColumn (describes : RowSheet → Type 0) (column : ℕ) : Type 0 where

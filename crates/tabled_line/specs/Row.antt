@@ -3,6 +3,7 @@ use Rattle.std.specs.Prelude.{ℕ, if◌then◌else◌, Bool, List, [], ◌∷�
 use Rattle.std.specs.List.{flat_map, range_with_len, slice_index_or}
 use Rattle.tabled_config.specs.declared.borders.HorizontalLine.{HorizontalLine}
 use Rattle.tabled_config.specs.declared.frame.Frame.{Frame}
+use Rattle.tabled_config.specs.declared.frame.VerticalLine.{VerticalLine}
 use Rattle.tabled_config.specs.declared.spanned.CellStyle.{CellStyle}
 use Rattle.tabled_config.specs.Frame.{has_bar}
 use Rattle.tabled_line.specs.Block.{block}
@@ -24,6 +25,10 @@ pub record RowSheet : Type 0 where
 -- the character of a vertical line, if it is there
 abbrev pub piece : Bool → ℕ → List ℕ
 piece there c = if there then encode_utf8 c else []
+
+-- the separator between two texts: `behind` spaces, the vertical line, and `before` spaces
+abbrev pub separator_text : VerticalLine → ℕ → ℕ → List ℕ
+separator_text bar behind before = fill 32 behind ++ (piece bar.there bar.main ++ fill 32 before)
 
 -- the left margin, and the left vertical line
 unfoldable pub left_edge : Frame → ℕ → List ℕ
@@ -47,12 +52,15 @@ cell_piece row index column =
     let f = row.columns.frame in
     piece (has_bar f column) f.inner.main ++ slice_index_or (cell_block row column) index []
 
+-- the cells in a line of a row
+abbrev pub row_cells : RowSheet → ℕ → List ℕ
+row_cells row index = flat_map (cell_piece row index) (range_with_len 0 row.columns.count)
+
 -- a line of a row: its cells between the edges
 unfoldable pub row_line : RowSheet → ℕ → List ℕ
 row_line row index =
     let f = row.columns.frame in
-    left_edge f f.left.main
-    ++ (flat_map (cell_piece row index) (range_with_len 0 row.columns.count) ++ right_edge f f.right.main)
+    left_edge f f.left.main ++ (row_cells row index ++ right_edge f f.right.main)
 
 -- the lines of a row, as many as its height
 unfoldable pub row_lines : RowSheet → List (List ℕ)
@@ -63,12 +71,15 @@ unfoldable pub rule_piece : ColumnSheet → HorizontalLine → ℕ → List ℕ
 rule_piece columns line column =
     piece (has_bar columns.frame column) (unwrap_or line.intersection 32) ++ fill (unwrap_or line.main 32) (columns.width column)
 
+-- a horizontal line without its two ends
+abbrev pub rule_pieces : ColumnSheet → HorizontalLine → List ℕ
+rule_pieces columns line = flat_map (rule_piece columns line) (range_with_len 0 columns.count)
+
 -- a horizontal line; a missing character is a space
 unfoldable pub rule_line : ColumnSheet → HorizontalLine → List ℕ
 rule_line columns line =
     let f = columns.frame in
-    left_edge f (unwrap_or line.left 32)
-    ++ (flat_map (rule_piece columns line) (range_with_len 0 columns.count) ++ right_edge f (unwrap_or line.right 32))
+    left_edge f (unwrap_or line.left 32) ++ (rule_pieces columns line ++ right_edge f (unwrap_or line.right 32))
 
 -- a horizontal line, if there is one
 abbrev pub rule_if : ColumnSheet → Option HorizontalLine → List (List ℕ)

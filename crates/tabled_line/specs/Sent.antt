@@ -1,5 +1,5 @@
 -- What a sink was sent, and what a call that writes a text leaves.
-use Rattle.std.specs.Prelude.{◌≡◌, ℕ, ◌-◌, ◌^◌, ◌<◌, ◌≤◌, ◌⊎◌, Bool, true, List, ◌++◌, Option, Result, Ok, Err}
+use Rattle.std.specs.Prelude.{◌≡◌, ℕ, ◌-◌, ◌^◌, ◌<◌, ◌≤◌, ◌⊎◌, Bool, true, List, ◌++◌, Option, Some, Result, Ok, Err}
 use Rattle.std.specs.Io.KnownBytes.{Appends}
 use Rattle.tabled_base.specs.declared.error.TableError.{TableError}
 use Rattle.tabled_base.specs.declared.error.TableError.TheVariants.{Memory, Writer}
@@ -10,6 +10,10 @@ pub record Sent : Type 0 where
   pub bytes : Option (List ℕ)
   pub failures : ℕ
   pub grows : Bool
+
+-- what a sink in memory was sent: no write fails, and it grows
+abbrev pub memory_sent : List ℕ → Sent
+memory_sent bytes = record { bytes = Some bytes; failures = 0; grows = true }
 
 -- the count rose, or is at its maximum
 abbrev pub Rose : ℕ → ℕ → Type 0

@@ -1,9 +1,10 @@
--- Slots: where the cells of a row of one line begin.
-use Rattle.std.specs.Prelude.{◌≡◌, ℕ, ◌<◌, List, map}
+-- Row templates, and their slots: where the cells of a row of one line begin.
+use Rattle.std.specs.Prelude.{◌≡◌, ◌∷◌, ℕ, ◌<◌, List, map, string_bytes, true}
 use Rattle.std.specs.List.{range_with_len}
-use Rattle.tabled_line.specs.BlankRow.{first_offset}
-use Rattle.tabled_line.specs.declared.row_placements.PlacedText.{PlacedText}
-use Rattle.tabled_line.specs.declared.slots.Slot.{Slot}
+use Rattle.tabled_line.specs.BlankRow.{blank_row, first_offset}
+use Rattle.tabled_line.specs.declared.placement.PlacedText.{PlacedText}
+use Rattle.tabled_line.specs.declared.row_template.RowTemplate.{RowTemplate}
+use Rattle.tabled_line.specs.declared.row_template.Slot.{Slot}
 use Rattle.tabled_line.specs.PlacedText.{IsPlacedText}
 use Rattle.tabled_line.specs.Offsets.{offset_from}
 use Rattle.tabled_line.specs.Row.{ColumnSheet, RowSheet}
@@ -18,6 +19,11 @@ slot_at columns column = record { place = offset_at columns column; width = colu
 -- the slots of all columns
 abbrev pub AreSlots : ColumnSheet → List Slot → Type 0
 AreSlots columns slots = slots ≡ map (slot_at columns) (range_with_len 0 columns.count)
+
+-- if the template is complete, it holds the blank row of the columns, with a line feed before it,
+-- and their slots
+abbrev pub IsTemplateOf : ColumnSheet → RowTemplate → Type 0
+IsTemplateOf columns laid = laid.whole ≡ true → (string_bytes laid.blank ≡ 10 ∷ blank_row columns) × AreSlots columns laid.slots.items
 
 -- a text of a row that `describes` is true of, with the slot of its cell and the offset of the
 -- first cell

@@ -4,7 +4,8 @@ use Rattle.std.specs.Io.KnownBytes.{append_known, prepend_known}
 use Rattle.tabled_base.specs.declared.error.TableError.{TableError}
 use Rattle.tabled_base.specs.declared.error.TableError.TheVariants.{Writer}
 use Rattle.tabled_line.specs.Sent.{Sent}
-use Rattle.tabled_line.specs.declared.writer_sink.WriterSink.{WriterSink}
+use Rattle.tabled_line.specs.declared.io_sink.IoSink.{IoSink}
+use Rattle.tabled_line.specs.declared.io_sink.WriterSink.{WriterSink}
 
 -- the byte at which a write failed, if one did
 abbrev pub failed_byte : Option ℕ → List ℕ
@@ -27,6 +28,10 @@ named_sent name contents failed_at =
       failures = failed_count failed_at;
       grows = is_some failed_at;
     }
+
+-- what the sink that owns its writer was sent
+abbrev pub io_sink_sent : {W : Type 0} → (W → Option (List ℕ)) → IoSink W → Sent
+io_sink_sent contents s = record { bytes = contents s.writer; failures = s.failures; grows = false }
 
 abbrev pub writer_sink_sent : {W : Type 0} → (W → Option (List ℕ)) → WriterSink W → Sent
 writer_sink_sent contents s = named_sent s.writer.ghost_name (contents s.writer.now) s.failed_at

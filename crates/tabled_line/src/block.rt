@@ -2,13 +2,13 @@
 ghost use Rattle.std.specs.Prelude.{◌≡◌, ◌≤◌, ◌<◌, ◌-◌, ◌^◌, List, ℕ, []};
 ghost use Rattle.std.specs.List.{slice_index_or};
 ghost use Rattle.tabled_text.specs.Measure.{line_columns};
-ghost use Rattle.tabled_line.specs.Block.{above_text, before_text, block, cell_line, columns_before, free_lines, inner_width};
+ghost use Rattle.tabled_line.specs.Block.{above_text, before_text, block, cell_line};
+ghost use Rattle.tabled_line.specs.Block.{columns_before, free_lines, inner_width};
 ghost use Rattle.tabled_line.specs.Cursors.{IsCursor};
 ghost use Rattle.tabled_line.specs.Sent.{Sent, Writes};
 
-use crate::content::Content;
-use crate::cursors::Cursor;
-use crate::pieces::{write_fill, write_padded_text};
+use crate::content::{Content, Cursor};
+use crate::fill::{write_fill, write_padded_text};
 use crate::text_sink::TextSink;
 use tabled_base::TableError;
 use tabled_config::{AlignmentHorizontal, AlignmentVertical, CellStyle};
@@ -45,7 +45,6 @@ pub struct CellBlock<'a> {
 }
 
 impl<'a> CellBlock<'a> {
-    /// Returns the content width: the columns that side padding leaves for the text.
     fn inner_width(&self) -> usize
         ensures { result ≡ inner_width self.now.style self.now.width }
     {
@@ -110,8 +109,7 @@ impl<'a> CellBlock<'a> {
         }
     }
 
-    /// Writes the line of the block at `index`. The search for a line of the text starts at
-    /// `cursor`.
+    /// Writes the line of the block at `index`.
     pub(crate) fn write_line<S: TextSink>(
         &self,
         sink: &mut S,

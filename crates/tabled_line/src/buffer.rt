@@ -1,7 +1,7 @@
 //! Buffers for the text of a line.
 ghost use Rattle.std.specs.Prelude.{◌≡◌, ◌≤◌, Some, IfErr, IfSome, [], take, true};
 ghost use Rattle.tabled_base.specs.declared.error.TableError.TheVariants.{Memory};
-ghost use Rattle.tabled_line.specs.Sent.{Sent, Writes};
+ghost use Rattle.tabled_line.specs.Sent.{Sent, Writes, memory_sent};
 
 use crate::text_sink::TextSink;
 use std::alloc::Global;
@@ -34,13 +34,6 @@ impl FixedBuffer {
         }
     }
 
-    /// Empties the buffer.
-    pub fn clear(&mut self)
-        ensures { self.new.used ≡ 0 }
-    {
-        self.used = 0;
-    }
-
     /// Returns the text in the buffer; `None` if it isn't UTF-8.
     pub fn text(&self) -> Option<&str>
         ensures { IfSome result (λ text. text.now ≡ take self.now.used self.now.bytes) }
@@ -50,12 +43,11 @@ impl FixedBuffer {
 }
 
 impl TextSink for FixedBuffer {
-    ghost sent = { λ r. record { bytes = Some (take r.used r.bytes); failures = 0; grows = true } };
+    ghost sent = { λ r. memory_sent (take r.used r.bytes) };
 
     fn write_text(&mut self, text: &str) -> Result<(), TableError>
-        ensures written { Writes
-            (record { bytes = Some (take self.old.used self.old.bytes); failures = 0; grows = true }) result
-            (record { bytes = Some (take self.new.used self.new.bytes); failures = 0; grows = true }) text.now }
+        ensures written { Writes (memory_sent (take self.old.used self.old.bytes)) result
+            (memory_sent (take self.new.used self.new.bytes)) text.now }
         ensures only { IfErr result (λ e. e ≡ Memory) }
     {
         if text.len() > FIXED_BYTES - self.used {
@@ -95,7 +87,7 @@ impl LineBuffer {
         ensures { buffer_text self.new ≡ [] }
     {
         match self {
-            LineBuffer::Fixed(buffer) => buffer.clear(),
+            LineBuffer::Fixed(buffer) => buffer.used = 0,
             LineBuffer::Grown(text) => text.clear(),
         }
     }
@@ -114,7 +106,7 @@ impl LineBuffer {
 impl TextSink for LineBuffer {
     ghost use Rattle.tabled_line.specs.Buffers.{buffer_text};
 
-    ghost sent = { λ r. record { bytes = Some (buffer_text r); failures = 0; grows = true } };
+    ghost sent = { λ r. memory_sent (buffer_text r) };
 
     fn write_text(&mut self, text: &str) -> Result<(), TableError> {
         match self {

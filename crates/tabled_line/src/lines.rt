@@ -1,24 +1,73 @@
-//! Writes rows, horizontal lines and margins below each other, with line feeds between them.
-ghost use Rattle.std.specs.Prelude.{◌≡◌, true, false, replicate};
+//! Writes rows, horizontal lines and margins below each other, with line feeds between them. What
+//! later lines can share is cached: the last horizontal line and a row template.
+ghost use Rattle.std.specs.Prelude.{◌≡◌, [], ◌∷◌, IfSome, None, Some, drop, false, replicate, true};
+ghost use Rattle.tabled_line.specs.Buffers.{buffer_text};
 ghost use Rattle.tabled_line.specs.Fill.{fill};
-ghost use Rattle.tabled_line.specs.LineCache.{IsCacheOf};
+ghost use Rattle.tabled_line.specs.LineCache.{IsCacheOf, IsCachedRule};
 ghost use Rattle.tabled_line.specs.Leading.{WritesLines, break};
 ghost use Rattle.tabled_line.specs.Cursors.{AreCursors};
-ghost use Rattle.tabled_line.specs.Row.{ColumnSheet, RowSheet, row_lines, rule_if};
+ghost use Rattle.tabled_line.specs.Row.{ColumnSheet, RowSheet, row_lines, rule_if, rule_line};
 ghost use Rattle.tabled_line.specs.Sent.{Sent, Writes};
 
-use crate::cursors::{Cursor, forget_cursors};
-use crate::horizontal_line::TableColumns;
-use crate::line_cache::{LineCache, write_cached_rule};
-use crate::line_feed::{write_break, write_feed_and_line};
-use crate::pieces::write_fill;
+use crate::buffer::LineBuffer;
+use crate::content::{Cursor, forget_cursors};
+use crate::fill::write_fill;
+use crate::frame::{TableColumns, write_rule_line};
 use crate::row::{Row, write_row_line};
+use crate::row_template::RowTemplate;
 use crate::text_sink::TextSink;
 use std::alloc::Global;
 use tabled_base::TableError;
 use tabled_config::{HorizontalLine, Indent};
 
-/// Writes the lines of a row. The cursors are in the texts of its cells.
+/// Writes a line feed if a line was written before, and sets `begun`.
+pub fn write_break<S: TextSink>(sink: &mut S, begun: &mut bool) -> Result<(), TableError>
+    ensures printed { Writes (S.sent sink.old) result (S.sent sink.new) (break begun.old) }
+    ensures after { begun.new ≡ true }
+{
+    let before = *begun;
+    *begun = true;
+    if before {
+        sink.write_text("\n")
+    } else {
+        Ok(())
+    }
+}
+
+/// Writes a line that is stored with a line feed before it. The line feed is left out before the
+/// first line.
+#[inline(always)]
+fn write_feed_and_line<S: TextSink>(
+    sink: &mut S,
+    begun: &mut bool,
+    led: &str,
+) -> Result<(), TableError>
+    requires { led.now ≡ 10 ∷ drop 1 led.now }
+    ensures { WritesLines (S.sent sink.old) begun.old result (S.sent sink.new) begun.new
+        (drop 1 led.now ∷ []) }
+{
+    if *begun {
+        return sink.write_text(led);
+    }
+    *begun = true;
+    sink.write_text(&led[1..])
+}
+
+/// Writes a horizontal line piece by piece, without the cache.
+#[inline(never)]
+fn write_uncached_rule<C: TableColumns, S: TextSink>(
+    sink: &mut S,
+    begun: &mut bool,
+    columns: &C,
+    line: HorizontalLine,
+) -> Result<(), TableError>
+    ensures { WritesLines (S.sent sink.old) begun.old result (S.sent sink.new) begun.new
+        (rule_line (C.sheet columns.now) line ∷ []) }
+{
+    write_break(sink, begun)?;
+    write_rule_line(sink, columns, &line)
+}
+
 #[tactic(auto, unfolding(crate::specs::Row::row_lines))]
 fn write_row_lines<'a, R: Row<'a>, S: TextSink>(
     sink: &mut S,
@@ -36,6 +85,90 @@ fn write_row_lines<'a, R: Row<'a>, S: TextSink>(
         write_row_line(sink, row, cursors, index)?;
     }
     Ok(())
+}
+
+/// The last horizontal line, and its text with a line feed before it, if the buffer could hold
+/// that. Lines between rows are mostly the same, and a cached one is written in one piece.
+#[derive(Drop)]
+pub(crate) struct CachedRule {
+    line: Option<HorizontalLine>,
+    buffer: LineBuffer,
+    whole: bool,
+}
+
+impl CachedRule {
+    pub fn new(memory: Option<Global>) -> CachedRule
+        ensures { result.line ≡ None }
+    {
+        CachedRule {
+            line: None,
+            buffer: LineBuffer::new(memory),
+            whole: false,
+        }
+    }
+
+    fn is(&self, line: &HorizontalLine) -> bool
+        ensures { result ≡ true → self.now.line ≡ Some line.now }
+    {
+        match &self.line {
+            Some(cached) => *cached == *line,
+            None => false,
+        }
+    }
+
+    pub fn text(&self) -> Option<&str>
+        ensures text { IfSome result (λ text. text.now ≡ buffer_text self.now.buffer) }
+        ensures whole { IfSome result (λ _. self.now.whole ≡ true) }
+    {
+        if self.whole { self.buffer.text() } else { None }
+    }
+
+    #[inline(never)]
+    fn lay_out<C: TableColumns>(&mut self, columns: &C, line: HorizontalLine)
+        ensures line { self.new.line ≡ Some line }
+        ensures kept { IsCachedRule (C.sheet columns.now) self.new }
+    {
+        self.buffer.clear();
+        self.line = Some(line);
+        self.whole = false;
+        let Ok(()) = self.buffer.write_text("\n") else {
+            return;
+        };
+        self.whole = write_rule_line(&mut self.buffer, columns, &line).is_ok();
+    }
+
+    /// Replaces the cached line, unless it is the same.
+    #[inline(always)]
+    pub fn update<C: TableColumns>(&mut self, columns: &C, line: HorizontalLine)
+        requires known { IsCachedRule (C.sheet columns.now) self.old }
+        ensures line { self.new.line ≡ Some line }
+        ensures known { IsCachedRule (C.sheet columns.now) self.new }
+    {
+        if !self.is(&line) {
+            self.lay_out(columns, line);
+        }
+    }
+}
+
+/// A cached horizontal line and, with an allocator, a row template.
+#[derive(Drop)]
+pub(crate) struct LineCache {
+    pub rule: CachedRule,
+    pub row: Option<RowTemplate>,
+}
+
+impl LineCache {
+    pub fn new(memory: Option<Global>) -> LineCache
+        ensures { (columns : ColumnSheet) → IsCacheOf columns result }
+    {
+        LineCache {
+            rule: CachedRule::new(memory),
+            row: match memory {
+                Some(alloc) => Some(RowTemplate::new(alloc)),
+                None => None,
+            },
+        }
+    }
 }
 
 /// Prints lines over the same columns. It remembers whether a line was written, and caches what
@@ -101,7 +234,8 @@ impl<C: TableColumns> LinePrinter<C> {
         Ok(())
     }
 
-    /// Writes a horizontal line, if there is one.
+    /// Writes a horizontal line, if there is one. It is built again only if it differs from the
+    /// cached one.
     #[inline(always)]
     pub fn write_rule<S: TextSink>(
         &mut self,
@@ -114,15 +248,13 @@ impl<C: TableColumns> LinePrinter<C> {
         ensures same { self.new.columns ≡ self.old.columns }
         ensures kept { IsCacheOf (C.sheet self.new.columns) self.new.kept }
     {
-        match rule {
-            Some(line) => write_cached_rule(
-                sink,
-                &mut self.begun,
-                &self.columns,
-                line,
-                &mut self.kept.rule,
-            ),
-            None => Ok(()),
+        let Some(line) = rule else {
+            return Ok(());
+        };
+        self.kept.rule.update(&self.columns, line);
+        match self.kept.rule.text() {
+            Some(text) => write_feed_and_line(sink, &mut self.begun, text),
+            None => write_uncached_rule(sink, &mut self.begun, &self.columns, line),
         }
     }
 

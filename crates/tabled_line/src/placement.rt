@@ -1,9 +1,13 @@
-//! The placement of texts in rows of one line.
-ghost use Rattle.std.specs.Prelude.{◌≡◌, IfSome};
+//! The placements of the texts in a row of one line, from what is known of the row.
+ghost use Rattle.std.specs.Prelude.{◌≡◌, ◌+◌, ◌<◌, ℕ, IfSome};
 ghost use Rattle.tabled_config.specs.declared.spanned.CellStyle.{CellStyle};
-ghost use Rattle.tabled_line.specs.Placements.{IsPlaceable, IsUniform, placement_of};
+ghost use Rattle.tabled_line.specs.PlacedText.{IsPlacedText};
+ghost use Rattle.tabled_line.specs.Placements.{IsPlacementIn, IsUniform};
 
-use tabled_config::{AlignmentHorizontal, CellStyle, Indent, Sides};
+use crate::block::before_text;
+use crate::row::Row;
+use crate::row_template::Slot;
+use tabled_config::{AlignmentHorizontal, CellStyle, Indent, RowStyles, Sides};
 
 /// Where a text is in its column, in a row of one line. Side padding is spaces, and there is no top
 /// padding.
@@ -34,12 +38,24 @@ pub struct UniformPlacement {
     horizontal: AlignmentHorizontal,
 }
 
+/// What is known of the placements of the texts in a row of one line.
+#[derive(Clone, Copy)]
+pub enum KnownPlacements<'a> {
+    /// The placement and offset of each text, which are cached.
+    Cached(&'a [CellPlacement]),
+    /// One placement for all texts.
+    Uniform(UniformPlacement),
+    /// Nothing: each placement follows from the style of the cell.
+    Styled,
+}
+
 impl UniformPlacement {
     /// Returns the placement of texts with this padding and alignment. `None` if side padding isn't
     /// spaces, there is top padding, or the padding overflows a `usize`.
     #[inline(always)]
     pub fn of(padding: &Sides<Indent>, horizontal: AlignmentHorizontal) -> Option<UniformPlacement>
-        ensures { (style : CellStyle) → padding.now ≡ style.padding → horizontal ≡ style.horizontal → IfSome result (IsUniform style) }
+        ensures { (style : CellStyle) → padding.now ≡ style.padding
+            → horizontal ≡ style.horizontal → IfSome result (IsUniform style) }
     {
         if padding.left.fill != ' ' || padding.right.fill != ' ' || padding.top.size != 0 {
             return None;
@@ -63,7 +79,7 @@ impl UniformPlacement {
     #[inline(always)]
     pub fn placement(self, width: usize) -> Option<Placement>
         ensures { (style : CellStyle) → IsUniform style self
-            → IfSome result (λ placement. (placement ≡ placement_of style width) × IsPlaceable style width) }
+            → IfSome result (IsPlacementIn style width) }
     {
         Some(Placement {
             before: self.before,
@@ -78,8 +94,147 @@ impl Placement {
     /// padding isn't spaces, there is top padding, or the padding doesn't fit.
     #[inline(always)]
     pub fn new(style: &CellStyle, width: usize) -> Option<Placement>
-        ensures { IfSome result (λ placement. (placement ≡ placement_of style.now width) × IsPlaceable style.now width) }
+        ensures { IfSome result (IsPlacementIn style.now width) }
     {
         UniformPlacement::new(style)?.placement(width)
     }
+}
+
+/// The first line of a text, with the spaces around it in its cell.
+#[derive(Clone, Copy)]
+pub(crate) struct PlacedText<'a> {
+    /// The spaces before it, padding included.
+    pub before: usize,
+    /// Those of them that alignment adds after the padding.
+    pub shift: usize,
+    /// The line.
+    pub text: &'a str,
+    /// Its width in columns.
+    pub columns: usize,
+    /// The spaces after it, padding included.
+    pub behind: usize,
+}
+
+/// A source of the placements in a row of one line.
+pub(crate) trait RowPlacements {
+    ghost use Rattle.std.specs.Prelude.{◌^◌};
+    ghost use Rattle.tabled_line.specs.Placements.{IsDescribedColumn, IsPlacementIn};
+    ghost use Rattle.tabled_line.specs.Row.{RowSheet};
+    ghost use Rattle.tabled_line.specs.Slots.{IsTextAt};
+
+    // Whether this is true of a row.
+    ghost describes: { Self → RowSheet → Type 0 };
+
+    /// Returns the placement of the text in a column of `width` columns. `None` if side padding
+    /// isn't spaces, there is top padding, or the padding doesn't fit.
+    fn at(&self, column: usize, width: usize) -> Option<Placement>
+        requires { IsDescribedColumn (describes self.now) column }
+        ensures { (row : RowSheet) → describes self.now row → column < row.columns.count
+            → width ≡ row.columns.width column
+            → IfSome result (IsPlacementIn (row.style column) width) };
+
+    /// Returns the offset of a text in a row template. The first cell is at `first`.
+    #[inline(always)]
+    fn text_offset(&self, column: usize, slot: Slot, first: usize, placed: &PlacedText<'_>) -> usize
+        requires text { IsTextAt (describes self.now) slot first column placed.now }
+        requires fits { slot.place + placed.now.before < 2 ^ 64 }
+        ensures { result ≡ slot.place + placed.now.before }
+    {
+        slot.place + placed.before
+    }
+
+    /// Returns the style of a column, if this source knows it.
+    fn style(&self, _column: usize) -> Option<CellStyle>
+        ensures { (row : RowSheet) → describes self.now row → _column < row.columns.count
+            → IfSome result (λ style. style ≡ row.style _column) }
+    {
+        None
+    }
+}
+
+impl<'a> RowPlacements for &'a [CellPlacement] {
+    ghost use Rattle.tabled_line.specs.Placements.{ArePlacements};
+
+    ghost describes = { λ cells row. ArePlacements row.style row.columns cells.now };
+
+    #[inline(always)]
+    fn at(&self, column: usize, _width: usize) -> Option<Placement> {
+        Some(self[column].placement)
+    }
+
+    #[inline(always)]
+    fn text_offset(
+        &self,
+        column: usize,
+        _slot: Slot,
+        first: usize,
+        placed: &PlacedText<'_>,
+    ) -> usize {
+        first + self[column].place + placed.shift
+    }
+}
+
+impl RowPlacements for UniformPlacement {
+    ghost use Rattle.std.specs.Prelude.{◌<◌, ℕ};
+    ghost use Rattle.tabled_line.specs.Placements.{IsUniform};
+
+    ghost describes = { λ uniform row. (column : ℕ) → column < row.columns.count
+        → IsUniform (row.style column) uniform };
+
+    #[inline(always)]
+    fn at(&self, _column: usize, width: usize) -> Option<Placement> {
+        self.placement(width)
+    }
+}
+
+/// Placements from the style of each text.
+impl<'a> RowPlacements for RowStyles<'a> {
+    ghost use Rattle.std.specs.Prelude.{◌≡◌, ◌<◌, ℕ};
+    ghost use Rattle.tabled_config.specs.RowStyles.{style_in};
+
+    ghost describes = { λ styles row. (column : ℕ) → column < row.columns.count
+        → style_in styles column ≡ row.style column };
+
+    #[inline(always)]
+    fn at(&self, column: usize, width: usize) -> Option<Placement> {
+        let (padding, horizontal) = self.sides(column)?;
+        UniformPlacement::of(padding, horizontal)?.placement(width)
+    }
+
+    fn style(&self, column: usize) -> Option<CellStyle> {
+        Some(RowStyles::at(self, column))
+    }
+}
+
+/// Places the first line of the text in a column of `width` columns. `None` if there is no
+/// placement, the line doesn't fit, or a later line is wider.
+#[inline(always)]
+pub(crate) fn place_text<'c, R: Row<'c>, A: RowPlacements>(
+    row: &R,
+    placements: &A,
+    column: usize,
+    width: usize,
+) -> Option<PlacedText<'c>>
+    requires describes { A.describes placements.now (R.sheet row.now) }
+    requires inside { column < (R.sheet row.now).columns.count }
+    requires width { width ≡ (R.sheet row.now).columns.width column }
+    requires height { (R.sheet row.now).height ≡ 1 }
+    ensures { IfSome result (IsPlacedText (R.sheet row.now) column) }
+{
+    let placement = placements.at(column, width)?;
+    let content = row.content(column);
+    let (text, columns) = content.first_line();
+    if content.columns != columns {
+        return None;
+    }
+    let free = placement.content_width.checked_sub(columns)?;
+    let shift = before_text(placement.horizontal, free);
+    let before = placement.before + shift;
+    Some(PlacedText {
+        before,
+        shift,
+        text,
+        columns,
+        behind: width - before - columns,
+    })
 }

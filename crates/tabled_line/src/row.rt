@@ -1,20 +1,16 @@
 //! The trait of rows, and writing one line of a row.
-ghost use Rattle.std.specs.Prelude.{◌≡◌, ◌<◌, ◌≤◌, ℕ, IfSome, []};
-ghost use Rattle.std.specs.List.{flat_map, range_with_len};
+ghost use Rattle.std.specs.Prelude.{◌≡◌, ◌<◌, ◌≤◌, ℕ, []};
 ghost use Rattle.tabled_config.specs.RowStyles.{style_in};
-ghost use Rattle.tabled_line.specs.Placements.{ArePlacements, IsUniform};
+ghost use Rattle.tabled_line.specs.Placements.{AreKnown};
 ghost use Rattle.tabled_line.specs.Cursors.{AreCursors};
-ghost use Rattle.tabled_line.specs.Row.{RowSheet, cell_piece, row_line};
+ghost use Rattle.tabled_line.specs.Row.{RowSheet, cell_piece, row_cells, row_line};
 ghost use Rattle.tabled_line.specs.Sent.{Sent, Writes};
 
 use crate::block::CellBlock;
-use crate::column_separator::{ColumnSeparator, SeparatorText};
-use crate::content::Content;
-use crate::cursors::{Cursor, cursor_at, keep_cursor};
-use crate::pieces::{write_bar, write_left_edge, write_right_edge};
-use crate::placement::{CellPlacement, UniformPlacement};
-use crate::row_placements::CachedPlacements;
-use crate::spaced::write_spaced_cells;
+use crate::content::{Content, Cursor, cursor_at, keep_cursor};
+use crate::frame::{write_bar, write_left_edge, write_right_edge};
+use crate::one_line_row::{ColumnSeparator, write_spaced_row};
+use crate::placement::KnownPlacements;
 use crate::text_sink::TextSink;
 use tabled_base::TableError;
 use tabled_config::{CellStyle, Frame, RowStyles};
@@ -40,21 +36,14 @@ pub trait Row<'a> {
     fn separator(&self) -> &ColumnSeparator
         ensures { result.now.bar ≡ (sheet self.now).columns.frame.inner };
 
-    /// Returns the placement that all texts share, if one is known. Returning `None` is always
-    /// safe.
-    fn uniform(&self) -> Option<UniformPlacement>
-        ensures { IfSome result (λ uniform. (column : ℕ) → column < (sheet self.now).columns.count
-            → IsUniform ((sheet self.now).style column) uniform) };
+    /// Returns what is known of the placements, for a row of one line. `Styled` is always right.
+    fn placements(&self) -> KnownPlacements<'_>
+        ensures { AreKnown (sheet self.now).style (sheet self.now).columns result };
 
     /// Returns the styles of the cells.
     fn styles(&self) -> RowStyles<'_>
         ensures { (column : ℕ) → column < (sheet self.now).columns.count
             → style_in result column ≡ (sheet self.now).style column };
-
-    /// Returns the placement and offset of each cell, if they are cached for a row of one line.
-    /// Returning `None` is always safe.
-    fn placements(&self) -> Option<&[CellPlacement]>
-        ensures { IfSome result (λ placements. ArePlacements (sheet self.now).style (sheet self.now).columns placements.now) };
 
     /// Returns the width of a column, in text columns, padding included.
     fn width(&self, column: usize) -> usize
@@ -66,20 +55,12 @@ pub trait Row<'a> {
         requires { column < (sheet self.now).columns.count }
         ensures { result.text.now ≡ (sheet self.now).text column };
 
-    /// Returns a cell to print, in its style.
-    fn cell(&self, column: usize, style: CellStyle) -> CellBlock<'a>
-        requires inside { column < (sheet self.now).columns.count }
-        requires style { style ≡ (sheet self.now).style column }
-        ensures style { result.style ≡ (sheet self.now).style column }
-        ensures width { result.width ≡ (sheet self.now).columns.width column }
-        ensures height { result.height ≡ (sheet self.now).height }
-        ensures text { result.content.text.now ≡ (sheet self.now).text column };
-
     /// Returns how many of the first cells are drawn: all lines of the others are empty, and the
     /// others are skipped. Returning the number of cells is always safe.
     fn count_drawn(&self) -> usize
         ensures within { result ≤ (sheet self.now).columns.count }
-        ensures rest { (column index : ℕ) → result ≤ column → column < (sheet self.now).columns.count
+        ensures rest { (column index : ℕ) → result ≤ column
+            → column < (sheet self.now).columns.count
             → cell_piece (sheet self.now) index column ≡ [] };
 }
 
@@ -109,8 +90,13 @@ pub(crate) fn write_cell<'a, R: Row<'a>, S: TextSink>(
 {
     let frame = row.frame();
     write_bar(sink, frame.has_bar(line.column), frame.inner.main)?;
-    let cell = row.cell(line.column, line.style);
-    let content = cell.content;
+    let content = row.content(line.column);
+    let cell = CellBlock {
+        style: line.style,
+        width: row.width(line.column),
+        height: row.height(),
+        content,
+    };
     if content.lines <= 1 {
         return cell.write_line(sink, &mut Cursor::start(content.text), line.index);
     }
@@ -118,42 +104,6 @@ pub(crate) fn write_cell<'a, R: Row<'a>, S: TextSink>(
     cell.write_line(sink, &mut cursor, line.index)?;
     keep_cursor(cursors, line.column, cursor);
     Ok(())
-}
-
-/// Writes the cells of a row of one line, with the style of each looked up.
-#[inline(never)]
-fn write_styled_cells<'a, R: Row<'a>, S: TextSink>(
-    sink: &mut S,
-    row: &R,
-    separator: SeparatorText<'_>,
-) -> Result<(), TableError>
-    requires height { (R.sheet row.now).height ≡ 1 }
-    requires bar { separator.bar ≡ (R.sheet row.now).columns.frame.inner }
-    ensures { Writes (S.sent sink.old) result (S.sent sink.new)
-        (flat_map (cell_piece (R.sheet row.now) 0) (range_with_len 0 (R.sheet row.now).columns.count)) }
-{
-    write_spaced_cells(sink, row, row.styles(), separator)
-}
-
-/// Writes the cells of a row of one line: by cached placements, by one placement for all texts, or
-/// with the style of each looked up.
-fn write_spaced_row<'a, R: Row<'a>, S: TextSink>(
-    sink: &mut S,
-    row: &R,
-    separator: SeparatorText<'_>,
-) -> Result<(), TableError>
-    requires height { (R.sheet row.now).height ≡ 1 }
-    requires bar { separator.bar ≡ (R.sheet row.now).columns.frame.inner }
-    ensures { Writes (S.sent sink.old) result (S.sent sink.new)
-        (flat_map (cell_piece (R.sheet row.now) 0) (range_with_len 0 (R.sheet row.now).columns.count)) }
-{
-    if let Some(kept) = row.placements() {
-        return write_spaced_cells(sink, row, CachedPlacements(kept), separator);
-    }
-    if let Some(uniform) = row.uniform() {
-        return write_spaced_cells(sink, row, uniform, separator);
-    }
-    write_styled_cells(sink, row, separator)
 }
 
 /// Writes the cells of a line. Those of a row of one line mostly need no blocks.
@@ -166,7 +116,7 @@ fn write_cells<'a, R: Row<'a>, S: TextSink>(
     requires index_in { index < (R.sheet row.now).height }
     requires cursors { AreCursors (R.sheet row.now).text cursors.old }
     ensures printed { Writes (S.sent sink.old) result (S.sent sink.new)
-        (flat_map (cell_piece (R.sheet row.now) index) (range_with_len 0 (R.sheet row.now).columns.count)) }
+        (row_cells (R.sheet row.now) index) }
     ensures cursors { AreCursors (R.sheet row.now).text cursors.new }
 {
     if row.height() == 1
@@ -195,7 +145,8 @@ pub fn write_row_line<'a, R: Row<'a>, S: TextSink>(
 ) -> Result<(), TableError>
     requires index_in { index < (R.sheet row.now).height }
     requires cursors { AreCursors (R.sheet row.now).text cursors.old }
-    ensures printed { Writes (S.sent sink.old) result (S.sent sink.new) (row_line (R.sheet row.now) index) }
+    ensures printed { Writes (S.sent sink.old) result (S.sent sink.new)
+        (row_line (R.sheet row.now) index) }
     ensures cursors { AreCursors (R.sheet row.now).text cursors.new }
 {
     let frame = row.frame();

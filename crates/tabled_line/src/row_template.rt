@@ -1,20 +1,18 @@
 //! Row templates for rows of one line: a blank row with its vertical lines and edges is built once,
-//! and the texts of each row are copied into it.
-ghost use Rattle.std.specs.Prelude.{◌≡◌, [], ◌∷◌, IfOk, IsUtf8, drop, false, string_bytes, true};
-ghost use Rattle.tabled_line.specs.Template.{IsTemplateOf};
+//! and the texts of each row are copied into its slots.
+ghost use Rattle.std.specs.Prelude.{◌≡◌, ◌+◌, ◌≤◌, ◌^◌, ◌++◌, [], ◌∷◌, length, take, drop};
+ghost use Rattle.std.specs.Prelude.{IfOk, IsUtf8, MatchOption, false, string_bytes, true};
 ghost use Rattle.tabled_line.specs.BlankRow.{blank_row, first_offset};
-ghost use Rattle.tabled_line.specs.Slots.{AreSlots};
-ghost use Rattle.tabled_line.specs.Row.{row_line, row_lines};
+ghost use Rattle.tabled_line.specs.Slots.{AreSlots, IsTemplateOf};
+ghost use Rattle.tabled_line.specs.Row.{piece, row_line, row_lines};
 
-use crate::horizontal_line::{TableColumns, write_rule_pieces};
-use crate::pieces::{write_left_edge, write_right_edge};
+use crate::frame::{TableColumns, write_left_edge, write_right_edge, write_rule_pieces};
+use crate::placement::{KnownPlacements, RowPlacements, place_text};
 use crate::row::Row;
-use crate::slots::{Slot, list_slots};
-use crate::template_texts::fill_texts;
 use crate::text_sink::TextSink;
 use std::alloc::Global;
 use tabled_base::TableError;
-use tabled_config::HorizontalLine;
+use tabled_config::{HorizontalLine, VerticalLine};
 
 /// After this many rows that couldn't be filled in, the template is given up.
 const TRIES: usize = 16;
@@ -59,6 +57,114 @@ fn write_blank<C: TableColumns>(blank: &mut String, columns: &C) -> Result<usize
     Ok(start)
 }
 
+/// The byte at which a cell begins, and its width in columns. A blank cell has as many bytes as
+/// columns.
+#[derive(Clone, Copy)]
+pub(crate) struct Slot {
+    pub place: usize,
+    pub width: usize,
+}
+
+/// Returns the number of bytes of a vertical line; 0 if it isn't there.
+pub fn bar_length(bar: VerticalLine) -> usize
+    ensures { result ≡ length (piece bar.there bar.main) }
+{
+    if bar.there { bar.main.len_utf8() } else { 0 }
+}
+
+/// Returns the offset of the cell after one at `place` that is `width` columns wide, with a
+/// vertical line of `bar` bytes between them. `None` on overflow.
+pub fn next_offset(place: usize, width: usize, bar: usize) -> Option<usize>
+    ensures { MatchOption result (2 ^ 64 ≤ place + width + bar)
+        (λ next. next ≡ place + width + bar) }
+{
+    place.checked_add(width)?.checked_add(bar)
+}
+
+/// Fills an empty list with the slot of each cell; the first one begins at `start`. `Range`: an
+/// offset overflows. `Memory`: an allocation failed.
+pub(crate) fn list_slots<C: TableColumns>(
+    slots: &mut Vec<Slot>,
+    columns: &C,
+    start: usize,
+) -> Result<(), TableError>
+    requires empty { slots.old.items ≡ [] }
+    requires start { start ≡ first_offset (C.sheet columns.now) }
+    ensures { IfOk result (λ _. AreSlots (C.sheet columns.now) slots.new.items) }
+{
+    let bar = bar_length(columns.frame().inner);
+    let mut place = start;
+    'slots: for column in 0..columns.count_columns() {
+        let slot = Slot {
+            place,
+            width: columns.width(column),
+        };
+        let Some(next) = next_offset(place, slot.width, bar) else {
+            return Err(TableError::Range);
+        };
+        slots.push(slot)?;
+        place = next;
+    }
+    Ok(())
+}
+
+/// Copies a text over the bytes from `place` on.
+#[inline(always)]
+fn copy_at(line: &mut [u8], place: usize, text: &str)
+    requires { place + length text.now ≤ length line.old }
+    ensures copied { line.new ≡ take place line.old
+        ++ (text.now ++ drop (place + length text.now) line.old) }
+    ensures text { IsUtf8 text.now }
+{
+    let end = place + text.len();
+    line[place..end].copy_from_slice(text.as_bytes());
+}
+
+/// Copies the texts of a row into a blank row, at their placements. Returns `false` if a text has
+/// no placement, doesn't fit, or hasn't as many bytes as columns.
+fn fill_placed_texts<'a, R: Row<'a>, A: RowPlacements + Drop>(
+    line: &mut [u8],
+    slots: &[Slot],
+    row: &R,
+    placements: A,
+) -> bool
+    requires height { (R.sheet row.now).height ≡ 1 }
+    requires blank { line.old ≡ blank_row (R.sheet row.now).columns }
+    requires slots { AreSlots (R.sheet row.now).columns slots.now }
+    requires describes { A.describes placements (R.sheet row.now) }
+    ensures laid { result ≡ true → line.new ≡ row_line (R.sheet row.now) 0 }
+    ensures utf8 { IsUtf8 line.old → IsUtf8 line.new }
+{
+    if slots.is_empty() {
+        return true;
+    }
+    let first = slots[0].place;
+    'texts: for column in 0..slots.len() {
+        let slot = slots[column];
+        let Some(placed) = place_text(row, &placements, column, slot.width) else {
+            return false;
+        };
+        if placed.text.len() != placed.columns {
+            return false;
+        }
+        let start = placements.text_offset(column, slot, first, &placed);
+        copy_at(line, start, placed.text);
+    }
+    true
+}
+
+/// Copies the texts of a row into a blank row, with the style of each looked up.
+#[inline(never)]
+fn fill_styled_texts<'a, R: Row<'a>>(line: &mut [u8], slots: &[Slot], row: &R) -> bool
+    requires height { (R.sheet row.now).height ≡ 1 }
+    requires blank { line.old ≡ blank_row (R.sheet row.now).columns }
+    requires slots { AreSlots (R.sheet row.now).columns slots.now }
+    ensures laid { result ≡ true → line.new ≡ row_line (R.sheet row.now) 0 }
+    ensures utf8 { IsUtf8 line.old → IsUtf8 line.new }
+{
+    fill_placed_texts(line, slots, row, row.styles())
+}
+
 /// Copies the texts of a row of one line into a blank row with a line feed before it. Returns
 /// whether all texts could be copied.
 fn fill_line<'a, R: Row<'a>>(led: &mut [u8], slots: &[Slot], row: &R) -> bool
@@ -68,7 +174,12 @@ fn fill_line<'a, R: Row<'a>>(led: &mut [u8], slots: &[Slot], row: &R) -> bool
     ensures laid { result ≡ true → led.new ≡ 10 ∷ row_line (R.sheet row.now) 0 }
     ensures utf8 { IsUtf8 led.old → IsUtf8 led.new }
 {
-    fill_texts(&mut led[1..], slots, row)
+    let line = &mut led[1..];
+    match row.placements() {
+        KnownPlacements::Cached(cells) => fill_placed_texts(line, slots, row, cells),
+        KnownPlacements::Uniform(uniform) => fill_placed_texts(line, slots, row, uniform),
+        KnownPlacements::Styled => fill_styled_texts(line, slots, row),
+    }
 }
 
 /// A blank row that is built once, and the last row that was filled in. Both have a line feed
@@ -85,7 +196,6 @@ pub(crate) struct RowTemplate {
 }
 
 impl RowTemplate {
-    /// Returns a template without a blank row.
     pub fn new(alloc: Global) -> RowTemplate
         ensures { result.whole ≡ false }
     {
@@ -125,7 +235,8 @@ impl RowTemplate {
     fn begin<C: TableColumns>(&mut self, columns: &C) -> bool
         requires known { IsTemplateOf (C.sheet columns.now) self.old }
         ensures known { IsTemplateOf (C.sheet columns.now) self.new }
-        ensures begun { result ≡ true → (self.new.whole ≡ true) × (self.new.line.items ≡ 10 ∷ blank_row (C.sheet columns.now)) }
+        ensures begun { result ≡ true → (self.new.whole ≡ true)
+            × (self.new.line.items ≡ 10 ∷ blank_row (C.sheet columns.now)) }
         ensures utf8 { result ≡ true → IsUtf8 self.new.line.items }
     {
         if !self.lay_out(columns) {
@@ -146,7 +257,8 @@ impl RowTemplate {
         requires known { IsTemplateOf (C.sheet columns.now) self.old }
         requires over { (R.sheet row.now).columns ≡ C.sheet columns.now }
         ensures known { IsTemplateOf (C.sheet columns.now) self.new }
-        ensures laid { result ≡ true → row_lines (R.sheet row.now) ≡ drop 1 self.new.line.items ∷ [] }
+        ensures laid { result ≡ true
+            → row_lines (R.sheet row.now) ≡ drop 1 self.new.line.items ∷ [] }
         ensures led { result ≡ true → self.new.line.items ≡ 10 ∷ drop 1 self.new.line.items }
         ensures utf8 { result ≡ true → IsUtf8 self.new.line.items }
     {
@@ -160,7 +272,6 @@ impl RowTemplate {
         laid
     }
 
-    /// Returns the filled row, with a line feed before it.
     pub fn text(&self) -> &str
         requires { IsUtf8 self.now.line.items }
         ensures { result.now ≡ self.now.line.items }

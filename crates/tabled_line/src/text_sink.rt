@@ -2,7 +2,7 @@
 //! whose only error is `Memory`: an allocation failed.
 ghost use Rattle.std.specs.Prelude.{◌≡◌, Some, IfErr, string_bytes, true};
 ghost use Rattle.tabled_base.specs.declared.error.TableError.TheVariants.{Memory};
-ghost use Rattle.tabled_line.specs.Sent.{Sent, Writes};
+ghost use Rattle.tabled_line.specs.Sent.{Sent, Writes, memory_sent};
 
 use tabled_base::TableError;
 
@@ -27,12 +27,11 @@ impl<S: TextSink> TextSink for &mut S {
 }
 
 impl TextSink for String {
-    ghost sent = { λ s. record { bytes = Some (string_bytes s); failures = 0; grows = true } };
+    ghost sent = { λ s. memory_sent (string_bytes s) };
 
     fn write_text(&mut self, text: &str) -> Result<(), TableError>
-        ensures written { Writes
-            (record { bytes = Some (string_bytes self.old); failures = 0; grows = true }) result
-            (record { bytes = Some (string_bytes self.new); failures = 0; grows = true }) text.now }
+        ensures written { Writes (memory_sent (string_bytes self.old)) result
+            (memory_sent (string_bytes self.new)) text.now }
         ensures only { IfErr result (λ e. e ≡ Memory) }
     {
         self.push_str(text)?;
@@ -41,12 +40,11 @@ impl TextSink for String {
 }
 
 impl TextSink for Vec<u8> {
-    ghost sent = { λ v. record { bytes = Some v.items; failures = 0; grows = true } };
+    ghost sent = { λ v. memory_sent v.items };
 
     fn write_text(&mut self, text: &str) -> Result<(), TableError>
-        ensures written { Writes
-            (record { bytes = Some self.old.items; failures = 0; grows = true }) result
-            (record { bytes = Some self.new.items; failures = 0; grows = true }) text.now }
+        ensures written { Writes (memory_sent self.old.items) result
+            (memory_sent self.new.items) text.now }
         ensures only { IfErr result (λ e. e ≡ Memory) }
     {
         self.extend_from_slice(text.as_bytes())?;

@@ -11,10 +11,8 @@ use crate::iter_table::settings::StreamSettings;
 use std::alloc::Global;
 use std::borrow::CowStr;
 use tabled_base::{CellText, TableError, Text};
-use tabled_config::{CellStyle, Frame, RowStyles};
-use tabled_line::{
-    CellBlock, CellPlacement, ColumnSeparator, Content, Row, TableColumns, UniformPlacement,
-};
+use tabled_config::{Frame, RowStyles};
+use tabled_line::{ColumnSeparator, Content, KnownPlacements, Row, TableColumns};
 use tabled_text::cut_str;
 
 /// The columns of a stream, whose widths are in range, and what else stays the same while its lines
@@ -83,16 +81,15 @@ impl<'a> Row<'a> for CutRow<'a> {
         &self.layout.separator
     }
 
-    fn uniform(&self) -> Option<UniformPlacement> {
-        self.layout.uniform
+    fn placements(&self) -> KnownPlacements<'_> {
+        match self.layout.uniform {
+            Some(uniform) => KnownPlacements::Uniform(uniform),
+            None => KnownPlacements::Styled,
+        }
     }
 
     fn styles(&self) -> RowStyles<'_> {
         RowStyles::Alike(self.layout.style)
-    }
-
-    fn placements(&self) -> Option<&[CellPlacement]> {
-        None
     }
 
     fn width(&self, column: usize) -> usize {
@@ -107,15 +104,6 @@ impl<'a> Row<'a> for CutRow<'a> {
                 lines: cell.count_lines(),
             },
             None => Content::new(""),
-        }
-    }
-
-    fn cell(&self, column: usize, style: CellStyle) -> CellBlock<'a> {
-        CellBlock {
-            style,
-            width: self.layout.content_width(column) + self.layout.side,
-            height: self.height,
-            content: self.content(column),
         }
     }
 

@@ -13,20 +13,17 @@ returns-in_err-write_bar-clause-printed g c =
 pub returns-then-content-le1-clause-printed : goal.returns-then-content-le1-clause-printed
 unfolding cell_piece
 returns-then-content-le1-clause-printed g c =
-    let cell = c.cell-cell.ensures in
     finished _ _ _ _ c.in_ok-write_bar.ensures c.write_line.ensures.printed
-    (rw (c.has_bar.ensures, c.frame-frame.ensures, cell.style, cell.width, cell.height, cell.text) refl)
+    (rw (c.has_bar.ensures, c.frame-frame.ensures, c.requires.style, c.width.ensures, c.height.ensures, c.content-content.ensures) refl)
 
 pub returns-in_err-write_line-clause-printed : goal.returns-in_err-write_line-clause-printed
 unfolding cell_piece
 returns-in_err-write_line-clause-printed g c =
-    let cell = c.cell-cell.ensures in
     stopped _ _ [] c.in_ok-write_bar.ensures c.in_err-write_line.ensures.printed c.from_residual-in_err-write_line.ensures.1
-    (rw (c.has_bar.ensures, c.frame-frame.ensures, cell.style, cell.width, cell.height, cell.text, append-nil) refl)
+    (rw (c.has_bar.ensures, c.frame-frame.ensures, c.requires.style, c.width.ensures, c.height.ensures, c.content-content.ensures, append-nil) refl)
 
 pub returns-clause-printed : goal.returns-clause-printed
 unfolding cell_piece
 returns-clause-printed g c =
-    let cell = c.cell-cell.ensures in
     further c.in_ok-write_bar.ensures c.in_ok-write_line.ensures.printed
-    (rw (c.has_bar.ensures, c.frame-frame.ensures, cell.style, cell.width, cell.height, cell.text) refl)
+    (rw (c.has_bar.ensures, c.frame-frame.ensures, c.requires.style, c.width.ensures, c.height.ensures, c.content-content.ensures) refl)

@@ -1,8 +1,18 @@
+use Rattle.std.proofs.Common.{◌≡◌, ◌∷◌, drop, sym, ap, ◌∙◌}
+use Rattle.tabled_line.specs.Row.{rule_line}
 use Rattle.tabled_line.proofs.Leading.{lines-none}
+use Rattle.tabled_line.proofs.LeadingFeeds.{lines_after-parts}
 use Rattle.tabled_line.proofs.lines.LinePrinter.write_rule.Goals as goal
 
-pub returns-in-Some-clause-printed : goal.returns-in-Some-clause-printed
-returns-in-Some-clause-printed g c = rw c.in-Some.is c.write_cached_rule.ensures.printed
+pub returns-in_default-clause-printed : goal.returns-in_default-clause-printed
+returns-in_default-clause-printed g c = rw c.in_default.is (lines-none _ _)
 
-pub returns-in-None-clause-printed : goal.returns-in-None-clause-printed
-returns-in-None-clause-printed g c = rw c.in-None.is (lines-none _ _)
+pub write_feed_and_line-requires : goal.write_feed_and_line-requires
+write_feed_and_line-requires g c =
+    lines_after-parts _ _ (c.in-Some-text.ensures.text ∙ c.update.ensures.known c.in-Some.line c.update.ensures.line c.in-Some-text.ensures.whole)
+
+pub returns-in-Some-text-clause-printed : goal.returns-in-Some-text-clause-printed
+returns-in-Some-text-clause-printed g c =
+    let e : c.in-Some-text.text.now ≡ 10 ∷ rule_line (g.C.TableColumns.sheet c.args.self.now.columns) c.in-Some.line =
+    c.in-Some-text.ensures.text ∙ c.update.ensures.known c.in-Some.line c.update.ensures.line c.in-Some-text.ensures.whole in
+    rw c.in-Some.is (rw (sym (ap (drop 1) e)) c.write_feed_and_line.ensures)

@@ -1,0 +1,9 @@
+use Rattle.std.specs.List.{flat_map, range_with_len}
+use Rattle.tabled_line.specs.Row.{cell_piece}
+use Rattle.tabled_line.specs.SendsBut.{SendsBut}
+use Rattle.tabled_line.proofs.one_line_row.write_spaced_cells.Given as goal
+
+abbrev pub invariant-cells : goal.invariant-cells
+invariant-cells g l =
+    SendsBut (g.S.TextSink.sent l.initial.sink) (g.S.TextSink.sent l.sink) l.behind
+    (flat_map (cell_piece (g.R.Row.sheet l.row) 0) (range_with_len 0 l.column))

@@ -1,9 +1,0 @@
-use Rattle.std.proofs.Common.{◌+◌, ap, sym, ◌∙◌}
-use Rattle.tabled_table.specs.Stream.Row.{width_at}
-use Rattle.tabled_table.proofs.Stream.Widths.{listed}
-use Rattle.tabled_table.proofs.iter_table.row.CutRowRow.cell.Goals as goal
-
-pub returns-clause-width : goal.returns-clause-width
-returns-clause-width c =
-    let layout = c.args.self.now.layout.now in
-    ap (λ k. k + layout.side) c.content_width.ensures ∙ sym (listed (width_at layout) layout.count c.args.column c.requires.inside)
