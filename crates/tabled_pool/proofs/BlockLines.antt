@@ -1,29 +1,24 @@
 -- The lines of a block, one after another.
 use Rattle.std.proofs.Common.{◌≡◌, ℕ, ◌+◌, ◌<◌, List, [], ◌∷◌, ◌++◌, length, map, take, drop, slice_index_or, append_assoc, ap, sym, ◌∙◌, refl, add-one}
-use Rattle.std.proofs.lemmas.List.{get_or-map, length-map, map-append, take_more, take-append-drop}
+use Rattle.std.proofs.lemmas.List.{map-append, take_more, take-append-drop}
 use Rattle.std.specs.List.{flat_map, range_with_len}
 use Rattle.tabled_line.proofs.Each.{each-more, map-more}
 use Rattle.std.proofs.Math.Seq.{drop-cons}
 
 -- one more line, and the lines behind it
-pub texts-more : {A : Type 0} (f : List ℕ → List ℕ) (b : A → List ℕ) (ss : List A) (i : ℕ) (d : A) (line : List ℕ)
-    → i < length ss → line ≡ b (slice_index_or ss i d) → map f (take (i + 1) (map b ss)) ≡ map f (take i (map b ss)) ++ (f line ∷ [])
-texts-more f b ss i d line h e =
-    ap (map f) (take_more (map b ss) i (b d) (rw length-map h)
-    ∙ ap (λ (u : List ℕ). take i (map b ss) ++ u ∷ []) (get_or-map b ss i d (b d) h ∙ sym e))
-    ∙ map-append f (take i (map b ss)) (line ∷ [])
+pub texts-more : (f : List ℕ → List ℕ) (ls : List (List ℕ)) (i : ℕ) (line : List ℕ) → i < length ls → line ≡ slice_index_or ls i []
+    → map f (take (i + 1) ls) ≡ map f (take i ls) ++ (f line ∷ [])
+texts-more f ls i line h e =
+    ap (map f) (take_more ls i [] h ∙ ap (λ (u : List ℕ). take i ls ++ u ∷ []) (sym e)) ∙ map-append f (take i ls) (line ∷ [])
 
-drop-first : (ls : List (List ℕ)) (i : ℕ) (d : List ℕ) → i < length ls → drop i ls ≡ slice_index_or ls i d ∷ drop (i + 1) ls
-drop-first ls i d h = rw (add-one, drop-cons ls i d) refl
+drop-first : (ls : List (List ℕ)) (i : ℕ) → i < length ls → drop i ls ≡ slice_index_or ls i [] ∷ drop (i + 1) ls
+drop-first ls i h = rw (add-one, drop-cons ls i []) refl
 
-pub texts-rest : {A : Type 0} (f : List ℕ → List ℕ) (b : A → List ℕ) (ss : List A) (i : ℕ) (d : A) (line : List ℕ)
-    → i < length ss → line ≡ b (slice_index_or ss i d) → map f (map b ss)
-    ≡ map f (take i (map b ss)) ++ ((f line ∷ []) ++ map f (drop (i + 1) (map b ss)))
-texts-rest f b ss i d line h e =
-    let ls = map b ss in
+pub texts-rest : (f : List ℕ → List ℕ) (ls : List (List ℕ)) (i : ℕ) (line : List ℕ) → i < length ls → line ≡ slice_index_or ls i []
+    → map f ls ≡ map f (take i ls) ++ ((f line ∷ []) ++ map f (drop (i + 1) ls))
+texts-rest f ls i line h e =
     ap (map f) (sym (take-append-drop i ls) ∙ ap (λ u. take i ls ++ u)
-    (drop-first ls i (b d) (rw length-map h)
-    ∙ ap (λ (u : List ℕ). u ∷ drop (i + 1) ls) (get_or-map b ss i d (b d) h ∙ sym e)))
+    (drop-first ls i h ∙ ap (λ (u : List ℕ). u ∷ drop (i + 1) ls) (sym e)))
     ∙ map-append f (take i ls) (line ∷ drop (i + 1) ls)
 
 -- one more of the values that a list is made of, index by index, behind others

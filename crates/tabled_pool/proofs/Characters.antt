@@ -21,15 +21,15 @@ if-kind IsKind true a b h i = h
 if-kind IsKind false a b h i = i
 
 junction-kind : (IsKind : ℕ → Type 0) (b : Borders ℕ) → IsKind 32 → EachCharacter IsKind b → (l r u d : Bool) → Of IsKind (junction b l r u d)
-junction-kind IsKind b s h false true false true = h.corners.top_left
-junction-kind IsKind b s h true false false true = h.corners.top_right
-junction-kind IsKind b s h false true true false = h.corners.bottom_left
-junction-kind IsKind b s h true false true false = h.corners.bottom_right
-junction-kind IsKind b s h true true false true = h.intersections.top
-junction-kind IsKind b s h true true true false = h.intersections.bottom
-junction-kind IsKind b s h false true true true = h.intersections.left
-junction-kind IsKind b s h true false true true = h.intersections.right
-junction-kind IsKind b s h true true true true = h.intersections.inner
+junction-kind IsKind b s h false true false true = h.top_left
+junction-kind IsKind b s h true false false true = h.top_right
+junction-kind IsKind b s h false true true false = h.bottom_left
+junction-kind IsKind b s h true false true false = h.bottom_right
+junction-kind IsKind b s h true true false true = h.top_intersection
+junction-kind IsKind b s h true true true false = h.bottom_intersection
+junction-kind IsKind b s h false true true true = h.left_intersection
+junction-kind IsKind b s h true false true true = h.right_intersection
+junction-kind IsKind b s h true true true true = h.intersection
 junction-kind IsKind b s h false false false false = s
 junction-kind IsKind b s h false false false true = s
 junction-kind IsKind b s h false false true false = s
@@ -41,9 +41,9 @@ junction-kind IsKind b s h true true false false = s
 main-kind : (IsKind : ℕ → Type 0) (t : DrawingPlan) → IsKind 32 → EachCharacter IsKind t.borders → (k : Kind) (r : Rectangle) → Of IsKind (main_of t k r)
 main-kind IsKind t s h Leaf r = s
 main-kind IsKind t s h Bar r =
-    if-kind IsKind (has_right t.borders && (r.x + r.width == t.width)) t.borders.right t.borders.left h.lines.right h.lines.left
+    if-kind IsKind (has_right t.borders && (r.x + r.width == t.width)) t.borders.right t.borders.left h.right h.left
 main-kind IsKind t s h Rule r =
-    if-kind IsKind (has_bottom t.borders && (r.y + r.height == t.height)) t.borders.bottom t.borders.top h.lines.bottom h.lines.top
+    if-kind IsKind (has_bottom t.borders && (r.y + r.height == t.height)) t.borders.bottom t.borders.top h.bottom h.top
 
 pub char-kind : (IsKind : ℕ → Type 0) (t : DrawingPlan) → IsKind 32 → EachCharacter IsKind t.borders → (k : Kind) (r : Rectangle) (x y : ℕ)
     → IsKind (border_char t k r x y)

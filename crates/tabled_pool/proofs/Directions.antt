@@ -38,6 +38,10 @@ pub fits_across : (d : Direction) (b : Box) (r : Rectangle) → Fits b r → box
 fits_across Across b r f = f.tall
 fits_across Down b r f = f.wide
 
+pub fits_bound : (d : Direction) (b : Box) (r : Rectangle) → Fits b r → place_along d r < 2 ^ 64
+fits_bound Across b r f = omega (arith, f.right)
+fits_bound Down b r f = omega (arith, f.low)
+
 -- the first box and the others have the sizes that they need
 pub record Shares (d : Direction) (g : BoxSpacing) (b c : Box) (n : ℕ) (r : Rectangle) : Type 0 where
   pub wide : b.width ≤ (first_part d n r).width

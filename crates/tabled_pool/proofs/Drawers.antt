@@ -1,5 +1,5 @@
 -- Boxes that are drawn one after another, and hand their sizes on.
-use Rattle.std.proofs.Common.{◌≡◌, ℕ, ◌+◌, ◌<◌, List, [], ◌∷◌, ◌++◌, length, map, drop, get_or, refl, sym, ap, subst, ◌∙◌}
+use Rattle.std.proofs.Common.{◌≡◌, ℕ, ◌+◌, ◌<◌, ◌≤◌, List, [], ◌∷◌, ◌++◌, length, map, drop, get_or, refl, sym, ap, subst, ◌∙◌}
 use Rattle.std.proofs.Common.{append_assoc, arith, add-one}
 use Rattle.std.proofs.Math.Seq.{drop-cons}
 use Rattle.tabled_pool.specs.declared.box_spacing.BoxSpacing.{BoxSpacing}
@@ -9,12 +9,12 @@ use Rattle.tabled_pool.specs.declared.tree.TableValue.TheFolds.{fold-roll-TableV
 use Rattle.tabled_pool.specs.declared.tree.TableValue.TheViews.{roll-TableValue}
 use Rattle.tabled_pool.specs.declared.box_spacing.Direction.{Direction}
 use Rattle.tabled_pool.specs.declared.box_spacing.Direction.TheVariants.{Across, Down}
-use Rattle.tabled_pool.specs.Boxes.{Box, box_along, box_step, box_of, given_size, list_box, place_along}
+use Rattle.tabled_pool.specs.Boxes.{Box, box_along, box_step, box_of, given_size, list_box, pick, place_along}
 use Rattle.tabled_pool.specs.Left.{boxes_left}
-use Rattle.std.proofs.lemmas.List.{length-map}
+use Rattle.std.proofs.lemmas.List.{drop_all, length-map}
 use Rattle.tabled_pool.specs.Inherited.{Children, Drawer, InheritedSheet, PassedOn, boxes, list_children, list_drawer}
 use Rattle.tabled_pool.specs.Inherited.{drawer, drawer_step, passes_across, passes_along, to_first, to_later}
-use Rattle.tabled_pool.specs.Inherited.{with_passed}
+use Rattle.tabled_pool.specs.Inherited.{joined as joined_children, to_last, with_passed}
 use Rattle.tabled_pool.specs.DrawnBlocks.{BlockSheet}
 use Rattle.tabled_pool.specs.Plan.{DrawingPlan}
 
@@ -154,3 +154,36 @@ list_added d t g front last i v h one after next sizes left count l whole blocks
     (drawers_first t g front last i v ei ev) (drawers-some t g (drop (i + 1) front) last)
     (list-share d t g (drop i front) last v (place_along d h.place) left count el ec) (ed ∙ ap (drawer t g v).draw eo)
     (en ∙ ap (λ (u : InheritedSheet). with_passed d u (passes_across d l)) ea ∙ with-later d g n h sizes (passes_across d l)) w)
+
+-- ---- the last box is drawn too
+
+of-list : (d : Direction) (t : DrawingPlan) (g : BoxSpacing) (ds : List Drawer) (h : InheritedSheet) → 0 < length ds
+    → (list_drawer d t g ds).draw h ≡ joined_children d (list_of d g ds h)
+of-list d t g [] h z = absurd (omega arith)
+of-list d t g (e ∷ es) h z = refl
+
+same-children : (all : Children) (blocks : List BlockSheet) (sizes passed : List ℕ) → blocks ≡ all.blocks → sizes ≡ all.sizes
+    → passed ≡ all.passed → record { blocks = blocks; sizes = sizes; passed = passed } ≡ all
+same-children all blocks sizes passed e1 e2 e3 = rw (e1, e2, e3) refl
+
+pub list_done : (d : Direction) (t : DrawingPlan) (g : BoxSpacing) (children front : List TableValue) (last : TableValue) (i : ℕ)
+    (old h one : InheritedSheet) (drawn drawn' : List BlockSheet) (sizes sizes' passed : List ℕ) (l : PassedOn) → length front ≤ i
+    → (children ≡ front ++ (last ∷ [])) × (length front + 1 ≡ length children)
+    → ListWalk (list_of d g (map (drawer t g) children) old) (list_of d g (drawers_left t g (drop i front) last) h) drawn sizes
+    → one ≡ to_last d h → l ≡ (drawer t g last).draw one → drawn' ≡ drawn ++ (l.block ∷ []) → sizes' ≡ sizes ++ passes_along d l
+    → passed ≡ passes_across d l → joined_children d (record { blocks = drawn'; sizes = sizes'; passed = passed })
+    ≡ (list_drawer d t g (map (drawer t g) children)).draw old
+list_done d t g children front last i old h one drawn drawn' sizes sizes' passed l z ec w eo el eb es ep =
+    let all = list_of d g (map (drawer t g) children) old in
+    let v : ListWalk all (list_of d g (drawer t g last ∷ []) h) drawn sizes =
+    subst (λ xs. ListWalk all (list_of d g (drawers_left t g xs last) h) drawn sizes) (drop_all i front z) w in
+    let k : l ≡ (drawer t g last).draw (to_last d h) = el ∙ ap (λ u. (drawer t g last).draw u) eo in
+    ap (joined_children d) (same-children all drawn' sizes' passed
+    (eb ∙ ap (λ (u : PassedOn). drawn ++ (u.block ∷ [])) k ∙ v.blocks)
+    (es ∙ ap (λ (u : PassedOn). sizes ++ passes_along d u) k ∙ v.sizes_all)
+    (ep ∙ ap (λ (u : PassedOn). passes_across d u) k ∙ v.passed))
+    ∙ sym (of-list d t g (map (drawer t g) children) old (omega (arith, ec.1, length-map children (drawer t g))))
+
+pub passed_across : (d : Direction) (h u : InheritedSheet) (passed : List ℕ) → u ≡ with_passed d h passed → pick d u.before u.above ≡ passed
+passed_across Across h u passed e = ap (λ (v : InheritedSheet). v.before) e
+passed_across Down h u passed e = ap (λ (v : InheritedSheet). v.above) e

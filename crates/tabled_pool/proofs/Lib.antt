@@ -13,8 +13,7 @@ pub mod Drawers
 pub mod Fitting
 pub mod Framing
 pub mod Levels
-pub mod MarginLemmas
-pub mod NearLines
+pub mod Neighbours
 pub mod NodeSums
 pub mod Owners
 pub mod Padded

@@ -1,8 +1,9 @@
 -- Owners of positions in parts that tile a rectangle.
-use Rattle.std.proofs.Common.{◌≡◌, ℕ, zero, suc, ◌+◌, ◌<◌, ◌≤◌, true, List, [], ◌∷◌, Some, None, slice_get, get_or, length, map, refl, sym, ap, ◌∙◌, subst, arith, ⊎_elim, ◌⊎◌}
+use Rattle.std.proofs.Common.{◌≡◌, ℕ, zero, suc, ◌+◌, ◌<◌, ◌≤◌, true, List, [], ◌∷◌, Some, None, slice_get, get_or, length, map, drop, add-one, refl, sym, ap, ◌∙◌, subst, arith, ⊎_elim, ◌⊎◌}
 use Rattle.std.specs.Option.{option_map}
 use Rattle.std.proofs.lemmas.Bool.Decides.{nat_tests}
-use Rattle.std.proofs.lemmas.Option.{slice_get-map, slice_get_read}
+use Rattle.std.proofs.Math.Seq.{drop-cons}
+use Rattle.std.proofs.lemmas.Option.{slice_get-get_or, slice_get-map, slice_get_read}
 use Rattle.tabled_pool.specs.declared.pieces.Rectangle.{Rectangle}
 use Rattle.tabled_pool.specs.declared.pieces.Piece.{Piece}
 use Rattle.tabled_pool.specs.Boxes.{Part}
@@ -46,9 +47,34 @@ pub piece_owns : (ps : List Part) (r : Rectangle) (k x y : ℕ) (p : Part) → A
 piece_owns ps r k x y p d h c =
     item-owns ps k x y p h (grind (arith, nat_tests)) (omega (arith, d x y, within-le r x y))
 
+-- the part that contains a position has one number
+pub number-unique : (ps : List Part) (j k x y : ℕ) (p : Part) → slice_get ps j ≡ Some p → slice_get ps k ≡ Some p → within p.place x y ≡ 1
+    → covering ps x y ≤ 1 → j ≡ k
+number-unique [] j k x y p h i w c = cc
+number-unique (q ∷ ps) zero zero x y p h i w c = refl
+number-unique (q ∷ ps) zero (suc k) x y p h i w c =
+    let e : q ≡ p = cc in
+    let f : within q.place x y ≡ 1 = subst (λ z. within z.place x y ≡ 1) (sym e) w in
+    absurd (let g = item-counts ps k x y p i w in omega (arith, g))
+number-unique (q ∷ ps) (suc j) zero x y p h i w c =
+    let e : q ≡ p = cc in
+    let f : within q.place x y ≡ 1 = subst (λ z. within z.place x y ≡ 1) (sym e) w in
+    absurd (let g = item-counts ps j x y p h w in omega (arith, g))
+number-unique (q ∷ ps) (suc j) (suc k) x y p h i w c = ap suc (number-unique ps j k x y p h i w (omega arith))
+
 -- a listed piece that contains a position is its owner
 pub listed_owns : (ps : List Piece) (r : Rectangle) (k x y : ℕ) (p : Piece) → AreTiles (map shown ps) r → k < length ps → p ≡ get_or ps k p
     → contains p.place x y ≡ true → Some (shown p) ≡ owner (map shown ps) x y
 listed_owns ps r k x y p d h e c =
     sym (piece_owns (map shown ps) r k x y (shown p) d
     (slice_get-map shown ps k ∙ ap (option_map shown) (slice_get_read ps (length ps) k p refl h e)) c)
+
+-- the first piece that contains a position
+pub found-first : (ps : List Piece) (k x y : ℕ) (d : Piece) → k < length ps → contains (get_or ps k d).place x y ≡ true
+    → owner (map shown (drop k ps)) x y ≡ owner (map shown ps) x y → slice_get (map shown ps) k ≡ owner (map shown ps) x y
+found-first ps k x y d h c i =
+    let q = get_or ps k d in
+    let cons : drop k ps ≡ q ∷ drop (k + 1) ps = rw (add-one, drop-cons ps k d) refl in
+    slice_get-map shown ps k ∙ ap (option_map shown) (slice_get-get_or ps k d h)
+    ∙ sym (owner-here (shown q) (map shown (drop (k + 1) ps)) x y (grind (arith, nat_tests)))
+    ∙ ap (λ zs. owner (map shown zs) x y) (sym cons) ∙ i

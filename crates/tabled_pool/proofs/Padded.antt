@@ -1,11 +1,14 @@
--- A text with padding at a side is given a column.
-use Rattle.std.proofs.Common.{◌≡◌, ℕ, ◌+◌, ◌<◌, ◌==◌, ◌&&◌, false, not, List, [], ◌∷◌, refl, arith}
+-- A text with padding at a side is given a column, and each text a line.
+use Rattle.std.proofs.Common.{◌≡◌, ℕ, zero, suc, ◌+◌, ◌<◌, ◌==◌, ◌&&◌, ◌||◌, Bool, true, false, not, List, [], ◌∷◌, Some, slice_get, refl, sym, subst, arith}
+use Rattle.std.proofs.lemmas.Bool.Decides.{nat_tests}
+use Rattle.tabled_text.proofs.Bridge.{some_line}
 use Rattle.std.proofs.lemmas.Grind.{common_steps}
 use Rattle.tabled_pool.specs.declared.box_spacing.BoxSpacing.{BoxSpacing}
 use Rattle.tabled_pool.specs.declared.pieces.Kind.{Kind}
 use Rattle.tabled_pool.specs.declared.pieces.Kind.TheVariants.{Leaf, Bar, Rule}
 use Rattle.tabled_pool.specs.Boxes.{Part}
-use Rattle.tabled_pool.specs.Tiling.{EachFits}
+use Rattle.tabled_pool.specs.Numbers.{AreSized, IsSized}
+use Rattle.tabled_pool.specs.Tiling.{EachFits, FitsLeaf}
 use Rattle.tabled_pool.proofs.Framing.{tree_framed_fits}
 use Rattle.tabled_pool.specs.Inherited.{has_zero_width, is_zero_width}
 use Rattle.tabled_pool.specs.Kinds.{is_line_kind}
@@ -31,3 +34,35 @@ unfolding plan
 padded_columns t z =
     fits-columns (spacing_of t) _ z
     (tree_framed_fits (spacing_of t) t.value (frame_of (borders_of t)) (frame_place t) (omega arith) (omega arith))
+
+-- ---- where each text has a column
+
+zero-free : (n : ℕ) → (n == 0) ≡ false → 0 < n
+zero-free n h = grind (arith, nat_tests)
+
+sized-leaf : (g : BoxSpacing) (p : Part) (k : Kind) → p.kind ≡ k → is_line_kind k ≡ false → FitsLeaf g p
+    → (not (is_line_kind k) && p.place.width == 0) ≡ false → IsSized p
+sized-leaf g p Leaf e l f z =
+    let fit = f e in record { wide = zero-free p.place.width z; tall = omega (arith, fit.tall, some_line p.text) }
+sized-leaf g p Bar e l f z = cc
+sized-leaf g p Rule e l f z = cc
+
+neither : (a b : Bool) → (a || b) ≡ false → (a ≡ false) × (b ≡ false)
+neither true b h = cc
+neither false b h = (refl, h)
+
+sized-at : (g : BoxSpacing) (ps : List Part) (k : ℕ) (p : Part) → EachFits g ps → has_zero_width ps ≡ false → slice_get ps k ≡ Some p
+    → is_line_kind p.kind ≡ false → IsSized p
+sized-at g [] k p f z h l = cc
+sized-at g (q ∷ ps) zero p (f, fs) z h l =
+    let e : q ≡ p = cc in
+    let n = neither (is_zero_width q) (has_zero_width ps) z in
+    subst IsSized e (sized-leaf g q q.kind refl (subst (λ (r : Part). is_line_kind r.kind ≡ false) (sym e) l) f n.0)
+sized-at g (q ∷ ps) (suc k) p (f, fs) z h l =
+    sized-at g ps k p fs (neither (is_zero_width q) (has_zero_width ps) z).1 h l
+
+pub sized_parts : (t : PoolTable) → HasColumns t → AreSized (plan t).parts
+unfolding plan
+sized_parts t h = λ k p e l.
+    sized-at (spacing_of t) _ k p
+    (tree_framed_fits (spacing_of t) t.value (frame_of (borders_of t)) (frame_place t) (omega arith) (omega arith)) h e l

@@ -10,9 +10,10 @@ use Rattle.tabled_pool.specs.declared.pieces.Rectangle.{Rectangle}
 use Rattle.tabled_pool.specs.Boxes.{Part, Box, part_of, first_part, box_along, box_across, place_along, border_kind}
 use Rattle.tabled_pool.specs.Boxes.{border_size, given_size, border_part, behind_border, needed_by, joined_box}
 use Rattle.tabled_pool.specs.Boxes.{joined_parts, list_box, box_of}
-use Rattle.tabled_pool.specs.Left.{boxes_left}
+use Rattle.tabled_pool.specs.Left.{AreLeft, CanSplit, boxes_left}
+use Rattle.tabled_pool.specs.declared.places.BoxesLeft.{BoxesLeft}
 use Rattle.tabled_pool.specs.Shown.{Fits}
-use Rattle.tabled_pool.proofs.Directions.{joined_along, joined_across, shares}
+use Rattle.tabled_pool.proofs.Directions.{fits_across, fits_along, joined_along, joined_across, shares}
 
 pub left_count : (g : BoxSpacing) (front : List TableValue) (last : TableValue) → length (boxes_left g front last) ≡ length front + 1
 left_count g front last = grind (arith, common_steps)
@@ -22,7 +23,7 @@ pub left_all : (g : BoxSpacing) (front : List TableValue) (last : TableValue)
 left_all g [] last = refl
 left_all g (t ∷ ts) last = ap (λ bs. box_of g t ∷ bs) (left_all g ts last)
 
-drop_first : (ts : List TableValue) (i : ℕ) (d : TableValue) → i < length ts → drop i ts ≡ get_or ts i d ∷ drop (i + 1) ts
+pub drop_first : (ts : List TableValue) (i : ℕ) (d : TableValue) → i < length ts → drop i ts ≡ get_or ts i d ∷ drop (i + 1) ts
 drop_first ts i d h = rw (add-one, drop-cons ts i d) refl
 
 pub left_first : (g : BoxSpacing) (front : List TableValue) (last : TableValue) (i : ℕ) (d : TableValue) → i < length front
@@ -67,6 +68,18 @@ size-of : (d : Direction) (g : BoxSpacing) (now next : List Box) (b : Box) (size
     → given_size d g b size (needed_by d g b (list_box d g next)) (length now) ≡ given_size d g b size l k
 size-of d g now next b size l k f e1 e2 =
     ap (λ m. given_size d g b size m (length now)) (sym (e1 ∙ f.along)) ∙ ap (given_size d g b size l) (sym e2)
+
+-- the first of them can be split off
+pub can_split : (d : Direction) (g : BoxSpacing) (now next : List Box) (v : TableValue) (r : Rectangle) (left : BoxesLeft)
+    → ListFacts d g now next (box_of g v) → Fits (list_box d g now) r → AreLeft d g now left → CanSplit d g v left r
+can_split d g now next v r left f fits h = record {
+  some = omega (arith, f.some, h.count);
+  own = omega (arith, f.along, h.size);
+  across = omega (arith, f.most, fits_across d (list_box d g now) r fits);
+  along = omega (arith, h.size, fits_along d (list_box d g now) r fits);
+  right = fits.right;
+  low = fits.low;
+}
 
 pub list_next : (d : Direction) (g : BoxSpacing) (now next : List Box) (b : Box) (r : Rectangle) (l k : ℕ) (rest : Rectangle)
     → ListFacts d g now next b → Fits (list_box d g now) r → l ≡ box_along d (list_box d g now) → k ≡ length now

@@ -1,42 +1,82 @@
 -- The sizes of boxes one after another, from the front.
-use Rattle.std.proofs.Common.{◌≡◌, ℕ, ◌+◌, List, [], ◌∷◌, max, arith}
+use Rattle.std.proofs.Common.{◌≡◌, ℕ, ◌+◌, ◌^◌, ◌<◌, ◌≤◌, List, [], ◌∷◌, None, Some, length, map, drop, get_or, ap, sym, subst, ◌∙◌, arith, ⊎_elim, inl, inr}
+use Rattle.tabled_pool.specs.declared.box_spacing.Size.{Size}
+use Rattle.tabled_pool.specs.declared.tree.TableValue.{TableValue}
+use Rattle.tabled_pool.proofs.Steps.{drop_first}
 use Rattle.tabled_pool.specs.declared.box_spacing.BoxSpacing.{BoxSpacing}
+use Rattle.tabled_pool.specs.declared.box_spacing.Direction.{Direction}
 use Rattle.tabled_pool.specs.declared.box_spacing.Direction.TheVariants.{Across, Down}
-use Rattle.tabled_pool.specs.Boxes.{Box, list_box}
+use Rattle.tabled_pool.specs.Boxes.{Box, IsSize, box_of, joined_box, list_box, sized}
 
--- what the boxes behind the first add
-abbrev pub more_width : BoxSpacing → List Box → ℕ
-more_width g [] = 0
-more_width g (b ∷ bs) = g.bar + (b.width + more_width g bs)
+pub record SameSize (b c : Box) : Type 0 where
+  pub wide : b.width ≡ c.width
+  pub tall : b.height ≡ c.height
 
-abbrev pub more_height : BoxSpacing → List Box → ℕ
-more_height g [] = 0
-more_height g (b ∷ bs) = g.rule + (b.height + more_height g bs)
+pub record IsWithin (b c : Box) : Type 0 where
+  pub wide : b.width ≤ c.width
+  pub tall : b.height ≤ c.height
 
-abbrev pub most_width : List Box → ℕ
-most_width [] = 0
-most_width (b ∷ bs) = max b.width (most_width bs)
+-- the first two as one
+list-joined : (d : Direction) (g : BoxSpacing) (a b c : Box) (bs : List Box) → SameSize c (joined_box d g 2 a b)
+    → SameSize (list_box d g (c ∷ bs)) (list_box d g (a ∷ (b ∷ bs)))
+list-joined d g a b c [] s = record { wide = s.wide; tall = s.tall }
+list-joined Across g a b c (x ∷ xs) s = record { wide = omega (arith, s.wide); tall = omega (arith, s.tall) }
+list-joined Down g a b c (x ∷ xs) s = record { wide = omega (arith, s.wide); tall = omega (arith, s.tall) }
 
-abbrev pub most_height : List Box → ℕ
-most_height [] = 0
-most_height (b ∷ bs) = max b.height (most_height bs)
+first-within : (d : Direction) (g : BoxSpacing) (b : Box) (bs : List Box) → IsWithin b (list_box d g (b ∷ bs))
+first-within d g b [] = record { wide = omega arith; tall = omega arith }
+first-within Across g b (x ∷ xs) = record { wide = omega arith; tall = omega arith }
+first-within Down g b (x ∷ xs) = record { wide = omega arith; tall = omega arith }
 
-pub row_width_more : (g : BoxSpacing) (b : Box) (bs : List Box)
-    → (list_box Across g (b ∷ bs)).width ≡ b.width + more_width g bs
-row_width_more g b [] = omega arith
-row_width_more g b (c ∷ bs) = omega (arith, row_width_more g c bs)
+second-within : (d : Direction) (g : BoxSpacing) (a b : Box) → IsWithin b (joined_box d g 2 a b)
+second-within Across g a b = record { wide = omega arith; tall = omega arith }
+second-within Down g a b = record { wide = omega arith; tall = omega arith }
 
-pub row_height_most : (g : BoxSpacing) (b : Box) (bs : List Box)
-    → (list_box Across g (b ∷ bs)).height ≡ max b.height (most_height bs)
-row_height_most g b [] = omega arith
-row_height_most g b (c ∷ bs) = omega (arith, row_height_most g c bs)
+joined-same : (d : Direction) (g : BoxSpacing) (a b c : Box) → SameSize b c → SameSize (joined_box d g 2 a b) (joined_box d g 2 a c)
+joined-same Across g a b c s = record { wide = omega (arith, s.wide); tall = omega (arith, s.tall) }
+joined-same Down g a b c s = record { wide = omega (arith, s.wide); tall = omega (arith, s.tall) }
 
-pub column_width_most : (g : BoxSpacing) (b : Box) (bs : List Box)
-    → (list_box Down g (b ∷ bs)).width ≡ max b.width (most_width bs)
-column_width_most g b [] = omega arith
-column_width_most g b (c ∷ bs) = omega (arith, column_width_most g c bs)
+-- ---- boxes of which some are measured: `a` is the box of those, and the next one is that of a tree
 
-pub column_height_more : (g : BoxSpacing) (b : Box) (bs : List Box)
-    → (list_box Down g (b ∷ bs)).height ≡ b.height + more_height g bs
-column_height_more g b [] = omega arith
-column_height_more g b (c ∷ bs) = omega (arith, column_height_more g c bs)
+abbrev pub Measured : Direction → BoxSpacing → Box → List TableValue → Box → Type 0
+Measured d g a left all = SameSize (list_box d g (a ∷ map (box_of g) left)) all
+
+with-next : (d : Direction) (g : BoxSpacing) (a : Box) (rest : List TableValue) (i : ℕ) (v : TableValue) (all : Box) → i < length rest
+    → v ≡ get_or rest i v → Measured d g a (drop i rest) all → Measured d g a (v ∷ drop (i + 1) rest) all
+with-next d g a rest i v all h e m =
+    subst (λ ts. Measured d g a ts all) (drop_first rest i v h ∙ ap (λ t. t ∷ drop (i + 1) rest) (sym e)) m
+
+exceeds : (b c : Box) → IsSize None b → b.width ≤ c.width → b.height ≤ c.height → IsSize None c
+exceeds b c h w t = ⊎_elim (λ e. inl (omega (arith, e, w))) (λ e. inr (omega (arith, e, t))) h
+
+-- all is too large where the next one is, or both together are
+pub next_exceeds : (d : Direction) (g : BoxSpacing) (a : Box) (rest : List TableValue) (i : ℕ) (v : TableValue) (all : Box) → i < length rest
+    → v ≡ get_or rest i v → Measured d g a (drop i rest) all → IsSize None (joined_box d g 2 a (box_of g v)) → IsSize None all
+next_exceeds d g a rest i v all h e m x =
+    let b = joined_box d g 2 a (box_of g v) in
+    let bs = map (box_of g) (drop (i + 1) rest) in
+    let n = with-next d g a rest i v all h e m in
+    let s = list-joined d g a (box_of g v) b bs (record { wide = omega arith; tall = omega arith }) in
+    let w = first-within d g b bs in
+    exceeds b all x (omega (arith, n.wide, s.wide, w.wide)) (omega (arith, n.tall, s.tall, w.tall))
+
+pub own_exceeds : (d : Direction) (g : BoxSpacing) (a : Box) (v : TableValue) → IsSize None (box_of g v)
+    → IsSize None (joined_box d g 2 a (box_of g v))
+own_exceeds d g a v x = let w = second-within d g a (box_of g v) in exceeds (box_of g v) (joined_box d g 2 a (box_of g v)) x w.wide w.tall
+
+pub both_exceed : (d : Direction) (g : BoxSpacing) (a : Box) (own : Size) (v : TableValue) → IsSize (Some own) (box_of g v)
+    → IsSize None (joined_box d g 2 a (sized own)) → IsSize None (joined_box d g 2 a (box_of g v))
+both_exceed d g a own v k x =
+    let s = joined-same d g a (sized own) (box_of g v) (record { wide = k.0; tall = k.1 }) in
+    exceeds (joined_box d g 2 a (sized own)) (joined_box d g 2 a (box_of g v)) x (omega (arith, s.wide)) (omega (arith, s.tall))
+
+-- one more is measured
+pub measured_more : (d : Direction) (g : BoxSpacing) (a : Box) (rest : List TableValue) (i : ℕ) (v : TableValue) (all : Box) (own next : Size)
+    → i < length rest → v ≡ get_or rest i v → Measured d g a (drop i rest) all → IsSize (Some own) (box_of g v)
+    → IsSize (Some next) (joined_box d g 2 a (sized own)) → Measured d g (sized next) (drop (i + 1) rest) all
+measured_more d g a rest i v all own next h e m k x =
+    let n = with-next d g a rest i v all h e m in
+    let j = joined-same d g a (sized own) (box_of g v) (record { wide = k.0; tall = k.1 }) in
+    let s = list-joined d g a (box_of g v) (sized next) (map (box_of g) (drop (i + 1) rest))
+    (record { wide = x.0 ∙ j.wide; tall = x.1 ∙ j.tall }) in
+    record { wide = s.wide ∙ n.wide; tall = s.tall ∙ n.tall }

@@ -1,7 +1,7 @@
 -- The lines of a whole pool table.
-use Rattle.std.proofs.Common.{◌≡◌, ℕ, ◌+◌, List, ◌++◌, length, map, replicate, refl, ap, ◌∙◌, arith}
+use Rattle.std.proofs.Common.{◌≡◌, ℕ, ◌+◌, ◌<◌, List, [], ◌++◌, get_or, length, map, replicate, refl, sym, ap, ◌∙◌, arith}
 use Rattle.std.proofs.lemmas.List.{length-append, length-map, length-replicate}
-use Rattle.std.proofs.lemmas.List.FromFn.{length-map-range_with_len}
+use Rattle.std.proofs.lemmas.List.FromFn.{get_or-map-range_with_len, length-map-range_with_len}
 use Rattle.tabled_config.specs.declared.sides.Indent.{Indent}
 use Rattle.tabled_config.specs.declared.sides.Sides.{Sides}
 use Rattle.tabled_pool.specs.Colours.{Mark}
@@ -12,9 +12,13 @@ use Rattle.tabled_pool.specs.Drawn.{drawn, drawn_line}
 use Rattle.tabled_pool.specs.Pool.{HasColumns, framed_height, framed_width, margin_marks, margin_of, plan, pool_lines, total_height}
 use Rattle.tabled_pool.proofs.PoolLemmas.{lined}
 
-drawn-length : (t : DrawingPlan) → length (drawn t) ≡ t.height
+pub drawn-length : (t : DrawingPlan) → length (drawn t) ≡ t.height
 unfolding drawn
 drawn-length t = length-map-range_with_len (drawn_line t) 0 t.height
+
+pub drawn-at : (t : DrawingPlan) (y : ℕ) → y < t.height → drawn_line t y ≡ get_or (drawn t) y []
+unfolding drawn
+drawn-at t y h = sym (get_or-map-range_with_len (drawn_line t) 0 t.height y y [] h (omega arith))
 
 margin-length : (m : Sides Indent) (ms : Sides Mark) (w : ℕ) (lines : List (List ℕ))
     → length (with_margin m ms w lines) ≡ m.top.size + length lines + m.bottom.size

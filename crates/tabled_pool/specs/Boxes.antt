@@ -137,9 +137,8 @@ box_step g (Column v) = list_box Down g v.items
 abbrev pub box_of : BoxSpacing → TableValue → Box
 box_of g = fold-TableValue Box (box_step g)
 
--- the size that a tree is given as the first of `count` boxes in a rectangle
-abbrev pub given_in : Direction → BoxSpacing → TableValue → ℕ → ℕ → Rectangle → ℕ
-given_in d g v needed count r = given_size d g (box_of g v) (place_along d r) needed count
+abbrev pub sized : Size → Box
+sized s = record { width = s.width; height = s.height; parts = λ r. [] }
 
 abbrev pub IsSize : Option Size → Box → Type 0
 IsSize None b = (2 ^ 64 ≤ b.width) ⊎ (2 ^ 64 ≤ b.height)

@@ -12,30 +12,21 @@ abbrev pub IsOfKind : CharacterKind → ℕ → Type 0
 IsOfKind Additive = IsAdditiveColumn
 IsOfKind Separator = IsSeparatorColumn
 
-pub record EachLine (IsKind : ℕ → Type 0) (b : Borders ℕ) : Type 0 where
+-- `IsKind` holds for each border character
+pub record EachCharacter (IsKind : ℕ → Type 0) (b : Borders ℕ) : Type 0 where
   pub top : IsKind (unwrap_or b.top 32)
   pub bottom : IsKind (unwrap_or b.bottom 32)
   pub left : IsKind (unwrap_or b.left 32)
   pub right : IsKind (unwrap_or b.right 32)
-
-pub record EachCorner (IsKind : ℕ → Type 0) (b : Borders ℕ) : Type 0 where
   pub top_left : IsKind (unwrap_or b.top_left 32)
   pub top_right : IsKind (unwrap_or b.top_right 32)
   pub bottom_left : IsKind (unwrap_or b.bottom_left 32)
   pub bottom_right : IsKind (unwrap_or b.bottom_right 32)
-
-pub record EachIntersection (IsKind : ℕ → Type 0) (b : Borders ℕ) : Type 0 where
-  pub top : IsKind (unwrap_or b.top_intersection 32)
-  pub bottom : IsKind (unwrap_or b.bottom_intersection 32)
-  pub left : IsKind (unwrap_or b.left_intersection 32)
-  pub right : IsKind (unwrap_or b.right_intersection 32)
-  pub inner : IsKind (unwrap_or b.intersection 32)
-
--- `IsKind` holds for each border character
-pub record EachCharacter (IsKind : ℕ → Type 0) (b : Borders ℕ) : Type 0 where
-  pub lines : EachLine IsKind b
-  pub corners : EachCorner IsKind b
-  pub intersections : EachIntersection IsKind b
+  pub top_intersection : IsKind (unwrap_or b.top_intersection 32)
+  pub bottom_intersection : IsKind (unwrap_or b.bottom_intersection 32)
+  pub left_intersection : IsKind (unwrap_or b.left_intersection 32)
+  pub right_intersection : IsKind (unwrap_or b.right_intersection 32)
+  pub intersection : IsKind (unwrap_or b.intersection 32)
 
 -- `IsKind` holds for the fill of each side
 pub record EachFill (IsKind : ℕ → Type 0) (sides : Sides Indent) : Type 0 where

@@ -1,5 +1,5 @@
 -- Marks: the prefix and suffix of a colour, around a run. They take no columns.
-use Rattle.std.specs.Prelude.{ℕ, Bool, ◌&&◌, List, [], ◌++◌, Option, None, option_map}
+use Rattle.std.specs.Prelude.{ℕ, Bool, ◌&&◌, List, [], ◌++◌, Option, option_map}
 use Rattle.std.specs.Str.{bytes_eq}
 use Rattle.tabled_config.specs.declared.borders.Borders.{Borders}
 use Rattle.tabled_config.specs.declared.sides.Sides.{Sides}
@@ -47,16 +47,4 @@ line_marks_of b = record {
   bottom_right = option_map mark_of b.bottom_right;
   left = option_map mark_of b.left;
   right = option_map mark_of b.right;
-}
-
-abbrev pub no_line_marks : LineMarks
-no_line_marks = record {
-  top_left = None;
-  top = None;
-  top_right = None;
-  bottom_left = None;
-  bottom = None;
-  bottom_right = None;
-  left = None;
-  right = None;
 }

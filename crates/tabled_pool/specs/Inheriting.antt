@@ -1,15 +1,11 @@
--- The values of `TakenSizes`, `Inherited` and `InheritingBox`.
-use Rattle.tabled_pool.specs.declared.inherited_text.Inherited.{Inherited}
-use Rattle.tabled_pool.specs.declared.inheriting.InheritingBox.{InheritingBox}
+-- The values of `TakenSizes` and `InheritingBox`.
+use Rattle.tabled_pool.specs.declared.inheriting_box.InheritingBox.{InheritingBox}
 use Rattle.tabled_pool.specs.declared.taking.TakenSizes.{TakenSizes}
 use Rattle.tabled_pool.specs.Inherited.{InheritedSheet, PassedOn, Taken}
 use Rattle.tabled_pool.specs.DrawnBlocks.{block_sheet_of}
 
 abbrev pub taken_of : TakenSizes → Taken
 taken_of t = record { part = t.part.items; rest = t.rest.items; met = t.met }
-
-abbrev pub inherited_of : Inherited → InheritedSheet
-inherited_of h = record { place = h.place; flags = h.flags; above = h.above.now; before = h.before.now }
 
 -- what a box inherits; once it is drawn, `above` and `before` are what it passes on
 abbrev pub inheriting_box : InheritingBox → InheritedSheet

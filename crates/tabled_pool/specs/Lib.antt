@@ -15,7 +15,7 @@ pub mod Left
 pub mod Levels
 pub mod Margins
 pub mod Marks
-pub mod Near
+pub mod Numbers
 pub mod NewPool
 pub mod Nodes
 pub mod Owner
@@ -27,6 +27,7 @@ pub mod Plans
 pub mod Pool
 pub mod Runs
 pub mod Shown
+pub mod TableLines
 pub mod Texts
 pub mod Tiled
 pub mod Tiling

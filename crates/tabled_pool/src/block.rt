@@ -8,7 +8,7 @@ ghost use Rattle.tabled_line.specs.Sent.{Sent, Writes};
 ghost use Rattle.tabled_pool.specs.Block.{line_below, pool_block, text_line, without_sides};
 ghost use Rattle.tabled_pool.specs.Colours.{marks_of};
 
-use crate::colors::draw_colored_fill;
+use crate::marks::draw_colored_fill;
 use tabled_base::TableError;
 use tabled_config::{ANSIStr, CellStyle, Indent, Sides};
 use tabled_line::{CellBlock, TextSink, write_fill};
@@ -37,7 +37,6 @@ fn draw_line_below<S: TextSink>(
     }
 }
 
-/// A style without side padding.
 fn without_sides(style: CellStyle) -> CellStyle
     ensures { result ≡ without_sides style }
 {
@@ -61,7 +60,6 @@ fn inner_width(style: &CellStyle, width: usize) -> usize
         .saturating_sub(style.padding.right.size)
 }
 
-/// Writes a line of the text, between its side padding.
 fn write_text_line<S: TextSink>(
     sink: &mut S,
     cell: &CellBlock<'_>,
@@ -84,7 +82,6 @@ fn write_text_line<S: TextSink>(
     draw_colored_fill(sink, colors.right, right.fill, right.size)
 }
 
-/// Writes line `index` of the block of a text.
 pub fn draw_block_line<S: TextSink>(
     sink: &mut S,
     cell: &CellBlock<'_>,

@@ -1,28 +1,20 @@
 //! The marks around border characters, by the texts that draw them.
-ghost use Rattle.std.specs.Prelude.{◌≡◌, ◌==◌, ◌^◌, ◌<◌, ◌+◌, ◌-◌, map, []};
+ghost use Rattle.std.specs.Prelude.{◌≡◌, ◌^◌, ◌<◌, ◌≤◌, ◌+◌, ◌-◌, ℕ};
 ghost use Rattle.std.specs.Option.{option_map};
+ghost use Rattle.tabled_pool.specs.Numbers.{IsEarlier, IsFirst, Skips, SkipsBeside};
 ghost use Rattle.tabled_pool.specs.Shown.{shown};
 ghost use Rattle.tabled_pool.specs.Colours.{mark_of};
 ghost use Rattle.tabled_pool.specs.Marks.{alone, begun, ended, used_after};
 ghost use Rattle.tabled_pool.specs.Plans.{around_of, plan_of};
-ghost use Rattle.tabled_pool.specs.Around.{
-  across,
-  around_at,
-  around_part,
-  around_text,
-  beside,
-  is_last_column,
-  is_last_row,
-  main_around,
-  right_around,
-  run_side,
-  written_corner,
-};
+ghost use Rattle.tabled_pool.specs.Around.{across, around_at, around_part, beside, is_last_column};
+ghost use Rattle.tabled_pool.specs.Around.{is_last_row, main_around, right_around, run_side};
+ghost use Rattle.tabled_pool.specs.Around.{written_corner};
 
-use crate::drawing::Drawing;
+use crate::line::Line;
 use crate::line_characters::{ends_at, has_bottom, has_top};
 use crate::marks::{LineColors, Marks, alone, begun, ended, used_after};
-use crate::pieces::{Piece, Rectangle, is_line_kind};
+use crate::pieces::{Drawing, Piece, Rectangle, is_line_kind};
+use crate::sweep::number_at;
 use tabled_config::ANSIStr;
 
 /// Where a position is relative to a range of columns or lines.
@@ -75,7 +67,6 @@ fn is_last_row(drawing: &Drawing<'_, '_>, place: Rectangle) -> bool
         && ends_at(place.y, place.height, drawing.height - 1)
 }
 
-/// The colour of a left corner, if there is a left border.
 fn written_corner(
     drawing: &Drawing<'_, '_>,
     corner: Option<ANSIStr<'static>>,
@@ -89,7 +80,6 @@ fn written_corner(
     }
 }
 
-/// The marks around a border character above or below a text.
 fn main_around(drawing: &Drawing<'_, '_>, line: LineColors, place: Rectangle, x: usize) -> Marks
     requires { x < 2 ^ 64 - 1 }
     ensures { around_of result ≡ main_around (plan_of drawing.now) (option_map mark_of line.corner)
@@ -115,7 +105,6 @@ fn main_around(drawing: &Drawing<'_, '_>, line: LineColors, place: Rectangle, x:
     }
 }
 
-/// The marks around the right corner of the top or bottom border.
 fn right_around(drawing: &Drawing<'_, '_>, line: LineColors) -> Marks
     ensures { around_of result ≡ right_around (plan_of drawing.now) (option_map mark_of line.corner)
         (option_map mark_of line.main) (option_map mark_of line.right) }
@@ -129,7 +118,6 @@ fn right_around(drawing: &Drawing<'_, '_>, line: LineColors) -> Marks
     }
 }
 
-/// The marks at column `x` of the top or bottom border of a text.
 fn across(drawing: &Drawing<'_, '_>, line: LineColors, place: Rectangle, x: usize) -> Option<Marks>
     requires { x < 2 ^ 64 - 1 }
     ensures { option_map around_of result ≡ across (plan_of drawing.now) (option_map mark_of line.corner)
@@ -143,7 +131,6 @@ fn across(drawing: &Drawing<'_, '_>, line: LineColors, place: Rectangle, x: usiz
     }
 }
 
-/// The marks at column `x` beside a text.
 fn beside(drawing: &Drawing<'_, '_>, place: Rectangle, x: usize) -> Option<Marks>
     requires { x < 2 ^ 64 - 1 }
     ensures { option_map around_of result ≡ beside (plan_of drawing.now) place (run_side place.x place.width x) }
@@ -155,12 +142,16 @@ fn beside(drawing: &Drawing<'_, '_>, place: Rectangle, x: usize) -> Option<Marks
     }
 }
 
-/// The marks that a text puts around a position, if it draws the border there.
-fn around_text(drawing: &Drawing<'_, '_>, place: Rectangle, x: usize, y: usize) -> Option<Marks>
+/// The marks that a piece puts around a position, if it is a text that draws the border there.
+fn around_piece(drawing: &Drawing<'_, '_>, piece: &Piece<'_>, x: usize, y: usize) -> Option<Marks>
     requires across { x < 2 ^ 64 - 1 }
     requires down { y < 2 ^ 64 - 1 }
-    ensures { option_map around_of result ≡ around_text (plan_of drawing.now) place (run_side place.y place.height y) x }
+    ensures { option_map around_of result ≡ around_part (plan_of drawing.now) (shown piece.now) x y }
 {
+    if is_line_kind(piece.kind) {
+        return None;
+    }
+    let place = piece.place;
     let colors = &drawing.colors;
     let top = LineColors {
         corner: colors.top_left,
@@ -180,18 +171,70 @@ fn around_text(drawing: &Drawing<'_, '_>, place: Rectangle, x: usize, y: usize) 
     }
 }
 
-/// The marks around a position: those of the first of some pieces that draws it.
-pub(crate) fn around_at(drawing: &Drawing<'_, '_>, near: &[Piece<'_>], x: usize, y: usize) -> Marks
-    requires across { x < 2 ^ 64 - 1 }
-    requires down { y < 2 ^ 64 - 1 }
-    ensures { around_of result ≡ around_at (plan_of drawing.now) (map shown near.now) x y }
-{
-    for piece in near {
-        if !is_line_kind(piece.kind)
-            && let Some(marks) = around_text(drawing, piece.place, x, y)
-        {
-            return marks;
+/// The first piece, of those looked at, that draws the border at column `x` of a line.
+#[derive(Clone, Copy)]
+pub(crate) struct First {
+    x: usize,
+    /// Its number, or that of pieces if none draws the border.
+    number: usize,
+    marks: Marks,
+}
+
+impl First {
+    /// Looks at the piece at a position, too.
+    fn or_at(self, line: &Line<'_, '_, '_, '_>, numbers: &[usize], x: usize, y: usize) -> First
+        requires { IsFirst (plan_of line.now.drawing.now) line.now.y self }
+        ensures earlier { IsEarlier (plan_of line.now.drawing.now) line.now.y self result }
+        ensures skips { Skips (plan_of line.now.drawing.now) self.x line.now.y result.number x y }
+    {
+        let Some(number) = number_at(line.drawing, numbers, x, y) else {
+            return self;
+        };
+        if number >= self.number {
+            return self;
+        }
+        match around_piece(line.drawing, &line.drawing.pieces[number], self.x, line.y) {
+            Some(marks) => First {
+                number,
+                marks,
+                ..self
+            },
+            None => self,
         }
     }
-    Marks::none()
+
+    /// Looks at the pieces of line `y` at the column and on both sides of it, too.
+    fn or_beside(self, line: &Line<'_, '_, '_, '_>, numbers: &[usize], y: usize) -> First
+        requires { IsFirst (plan_of line.now.drawing.now) line.now.y self }
+        ensures earlier { IsEarlier (plan_of line.now.drawing.now) line.now.y self result }
+        ensures skips { SkipsBeside (plan_of line.now.drawing.now) line.now.y self result y }
+    {
+        let x = self.x;
+        let left = self.or_at(line, numbers, x.saturating_sub(1), y);
+        let here = left.or_at(line, numbers, x, y);
+        here.or_at(line, numbers, x + 1, y)
+    }
+}
+
+/// The marks around a border character at column `x` of a line.
+pub(crate) fn marks_at(line: &Line<'_, '_, '_, '_>, x: usize) -> Marks
+    requires { x < line.now.drawing.now.width }
+    ensures { around_of result ≡ around_at (plan_of line.now.drawing.now)
+        (plan_of line.now.drawing.now).parts x line.now.y }
+{
+    let sweep = line.sweep;
+    let above = if line.y == 0 {
+        sweep.here.as_slice()
+    } else {
+        sweep.above.as_slice()
+    };
+    let none = First {
+        x,
+        number: line.drawing.pieces.len(),
+        marks: Marks::none(),
+    };
+    let first = none.or_beside(line, above, line.y.saturating_sub(1));
+    let first = first.or_beside(line, sweep.here.as_slice(), line.y);
+    let first = first.or_beside(line, sweep.below.as_slice(), line.y + 1);
+    first.marks
 }

@@ -23,7 +23,6 @@ pub(crate) enum Step<'a> {
     Done(TableValue),
 }
 
-/// A row or a column of values.
 fn list_of(is_row: bool, children: Vec<TableValue>) -> TableValue
     ensures { tree_of result ≡ list is_row (map tree_of children.items) }
 {
@@ -90,7 +89,6 @@ fn copy_first<'a>(
 }
 
 impl<'a> Level<'a> {
-    /// Adds a copy, and returns the next value if there is one.
     fn add(&mut self, copy: TableValue) -> Result<Option<&'a TableValue>, TableError>
         ensures ok { IfOk result (λ next. IsCopied self.old (tree_of copy) self.new next) }
         ensures only { IfErr result (λ e. e ≡ Memory) }

@@ -4,7 +4,6 @@ ghost use Rattle.std.specs.List.{flat_map, range_with_len};
 ghost use Rattle.tabled_line.specs.Sent.{Sent, Writes};
 ghost use Rattle.tabled_pool.specs.declared.pieces.Kind.TheVariants.{Leaf};
 ghost use Rattle.tabled_pool.specs.Kinds.{is_line_kind};
-ghost use Rattle.tabled_pool.specs.Around.{around_at};
 ghost use Rattle.tabled_pool.specs.Marks.{within_marks};
 ghost use Rattle.tabled_pool.specs.Plans.{around_of, plan_of};
 ghost use Rattle.tabled_pool.specs.Shown.{shown};
@@ -12,33 +11,24 @@ ghost use Rattle.tabled_pool.specs.Drawn.{drawn_line, part_text, place_text};
 ghost use Rattle.tabled_pool.specs.Runs.{IsRun};
 
 use crate::block::draw_block_line;
-use crate::color_marks::around_at;
+use crate::color_marks::marks_at;
 use crate::line::{Line, Run};
 use crate::marks::Marks;
 use crate::pieces::{Kind, Piece};
 use tabled_base::TableError;
 use tabled_line::{CellBlock, Content, TextSink, write_char, write_fill};
 
-/// Writes a character between its marks.
-fn draw_marked<S: TextSink>(sink: &mut S, marks: Marks, c: char) -> Result<(), TableError>
+pub(crate) fn draw_marked<S: TextSink>(
+    sink: &mut S,
+    marks: Marks,
+    c: char,
+) -> Result<(), TableError>
     ensures { Writes (S.sent sink.old) result (S.sent sink.new) (within_marks (around_of marks) (encode_utf8 c)) }
 {
     sink.write_text(marks.close)?;
     sink.write_text(marks.start)?;
     write_char(sink, c)?;
     sink.write_text(marks.behind)
-}
-
-/// The marks around a position.
-fn marks_at(line: &Line<'_, '_, '_, '_>, x: usize) -> Marks
-    requires { x < line.now.drawing.now.width }
-    ensures { around_of result ≡ around_at (plan_of line.now.drawing.now)
-        (map shown line.now.drawing.now.pieces.now) x line.now.y }
-{
-    if line.sweep.listed {
-        return around_at(line.drawing, line.sweep.near.as_slice(), x, line.y);
-    }
-    around_at(line.drawing, line.drawing.pieces, x, line.y)
 }
 
 /// Writes copies of a border character, each with its colour.
@@ -55,7 +45,7 @@ fn draw_border<S: TextSink>(
         (flat_map (place_text (plan_of line.now.drawing.now) line.now.y)
         (range_with_len x run.now.count)) }
 {
-    if line.is_uncolored() {
+    if line.uncolored {
         return write_fill(sink, run.c, run.count);
     }
     'places: for at in 0..run.count {
@@ -90,7 +80,6 @@ fn draw_text<S: TextSink>(
     draw_block_line(sink, &cell, &line.drawing.padding_colors, line.y - place.y)
 }
 
-/// Writes a run.
 fn draw_run<S: TextSink>(
     sink: &mut S,
     line: &Line<'_, '_, '_, '_>,
@@ -109,7 +98,6 @@ fn draw_run<S: TextSink>(
     }
 }
 
-/// Writes a line of a drawing.
 #[tactic(auto, unfolding(crate::specs::Drawn::drawn_line))]
 pub(crate) fn draw_line<S: TextSink>(
     sink: &mut S,

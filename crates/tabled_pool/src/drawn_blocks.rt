@@ -1,9 +1,12 @@
 //! `DrawnBlock`: the lines of a drawn box, and how drawn boxes are joined.
-ghost use Rattle.std.specs.Prelude.{◌≡◌, ◌≤◌, ◌^◌, ◌++◌, map, IfErr, IfOk, MatchOption, string_bytes};
+ghost use Rattle.std.specs.Prelude.{◌≡◌, ◌≤◌, ◌^◌, ◌++◌, map, IfErr, IfOk, MatchOption};
+ghost use Rattle.std.specs.Prelude.{string_bytes};
 ghost use Rattle.std.specs.List.{flat_map};
 ghost use Rattle.tabled_base.specs.declared.error.TableError.TheVariants.{Memory};
 ghost use Rattle.tabled_line.specs.Fill.{fill};
-ghost use Rattle.tabled_pool.specs.DrawnBlocks.{all_columns, most_columns, most_lines, drawn_block_line, block_sheet_of, side_by_side, stacked, widened};
+ghost use Rattle.tabled_pool.specs.DrawnBlocks.{all_columns, most_columns, most_lines};
+ghost use Rattle.tabled_pool.specs.DrawnBlocks.{drawn_block_line, block_sheet_of, side_by_side};
+ghost use Rattle.tabled_pool.specs.DrawnBlocks.{stacked, widened};
 
 use std::alloc::Global;
 use tabled_base::TableError;
@@ -28,7 +31,6 @@ fn push_drawn_line(line: &mut String, block: &DrawnBlock, y: usize) -> Result<()
     Ok(())
 }
 
-/// The total width of blocks side by side, if it fits in `usize`.
 fn all_columns(blocks: &[DrawnBlock]) -> Option<usize>
     ensures { MatchOption result (2 ^ 64 ≤ all_columns (map block_sheet_of blocks.now)) (λ n. n ≡ all_columns (map block_sheet_of blocks.now)) }
 {
@@ -39,7 +41,6 @@ fn all_columns(blocks: &[DrawnBlock]) -> Option<usize>
     Some(columns)
 }
 
-/// The width of the widest block.
 fn most_columns(blocks: &[DrawnBlock]) -> usize
     ensures { result ≡ most_columns (map block_sheet_of blocks.now) }
 {
@@ -50,7 +51,6 @@ fn most_columns(blocks: &[DrawnBlock]) -> usize
     columns
 }
 
-/// The height of the tallest block.
 fn most_lines(blocks: &[DrawnBlock]) -> usize
     ensures { result ≡ most_lines (map block_sheet_of blocks.now) }
 {
@@ -61,7 +61,6 @@ fn most_lines(blocks: &[DrawnBlock]) -> usize
     lines
 }
 
-/// Line `y` of blocks side by side.
 fn joined_line(alloc: Global, blocks: &[DrawnBlock], y: usize) -> Result<String, TableError>
     ensures ok { IfOk result (λ line. string_bytes line ≡ flat_map (drawn_block_line y) (map block_sheet_of blocks.now)) }
     ensures only { IfErr result (λ e. e ≡ Memory) }
@@ -89,7 +88,6 @@ pub(crate) fn side_by_side(alloc: Global, blocks: &[DrawnBlock]) -> Result<Drawn
     Ok(DrawnBlock { width, lines })
 }
 
-/// A line with spaces after it.
 fn widened_line(alloc: Global, text: &str, spaces: usize) -> Result<String, TableError>
     ensures ok { IfOk result (λ line. string_bytes line ≡ text.now ++ fill 32 spaces) }
     ensures only { IfErr result (λ e. e ≡ Memory) }

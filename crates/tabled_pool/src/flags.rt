@@ -1,6 +1,7 @@
 //! Where a box is in its tree, and which border characters it has there.
 ghost use Rattle.std.specs.Prelude.{◌≡◌, None, if◌then◌else◌};
-ghost use Rattle.tabled_pool.specs.Inherited.{first_flags, is_bottom, is_left, is_right, is_top, later_flags, own_borders, top_left, whole_flags};
+ghost use Rattle.tabled_pool.specs.Inherited.{first_flags, is_bottom, is_left, is_right, is_top};
+ghost use Rattle.tabled_pool.specs.Inherited.{later_flags, own_borders, top_left, whole_flags};
 
 use crate::box_spacing::Direction;
 use tabled_config::Borders;
@@ -25,7 +26,6 @@ pub(crate) struct Flags {
 }
 
 impl Flags {
-    /// The flags of the entire tree.
     pub fn whole() -> Flags
         ensures { result ≡ whole_flags }
     {
@@ -80,7 +80,6 @@ impl Flags {
     }
 }
 
-/// The character of the top left corner.
 fn top_left(borders: &Borders<char>, flags: Flags) -> Option<char>
     ensures { result ≡ top_left borders.now flags }
 {

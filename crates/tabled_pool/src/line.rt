@@ -3,27 +3,26 @@ ghost use Rattle.std.specs.Prelude.{◌≡◌, ◌⊎◌, ◌<◌, ◌≤◌, �
 ghost use Rattle.tabled_pool.specs.Shown.{shown};
 ghost use Rattle.tabled_pool.specs.Kinds.{is_line_kind};
 ghost use Rattle.tabled_pool.specs.Plans.{plan_of};
-ghost use Rattle.tabled_pool.specs.Marks.{nothing_around};
-ghost use Rattle.tabled_pool.specs.Around.{around_at};
+ghost use Rattle.tabled_pool.specs.Colours.{line_marks_of};
+ghost use Rattle.tabled_pool.specs.Numbers.{AreSized};
+ghost use Rattle.tabled_pool.specs.Uncoloured.{AreNoMarks};
 ghost use Rattle.tabled_pool.specs.Owner.{is_border, is_border_above, is_border_before, owner};
 ghost use Rattle.tabled_pool.specs.Runs.{IsRun};
 
-use crate::drawing::Drawing;
-use crate::find::piece_at;
 use crate::line_characters::{Arms, border_char};
-use crate::pieces::{Piece, is_line_kind};
-use crate::sweep::Sweep;
+use crate::pieces::{Drawing, Piece, is_line_kind};
+use crate::sweep::{Sweep, piece_at};
 
-/// A line of a drawing.
 #[derive(Clone, Copy)]
 pub(crate) struct Line<'l, 's, 'd, 'a> {
     pub drawing: &'l Drawing<'d, 'a>,
-    pub sweep: &'s Sweep<'a>,
+    pub sweep: &'s Sweep,
     pub y: usize,
+    /// Whether no border of the drawing is coloured.
+    pub uncolored: bool,
     ghost inside: { y < drawing.now.height },
-    ghost colors: { sweep.now.listed ≡ true → (x : ℕ)
-        → around_at (plan_of drawing.now) (map shown sweep.now.near.items) x y
-        ≡ around_at (plan_of drawing.now) (map shown drawing.now.pieces.now) x y },
+    ghost bare: { uncolored ≡ true → AreNoMarks (line_marks_of drawing.now.colors) },
+    ghost sized: { AreSized (map shown drawing.now.pieces.now) },
 }
 
 /// Columns of a line that belong to one piece and, if that is a border, have the same character.
@@ -43,7 +42,6 @@ struct Stretch {
     end: usize,
 }
 
-/// The stretch at a position.
 fn stretch_at(drawing: &Drawing<'_, '_>, line: &[usize], x: usize, y: usize) -> Stretch
     requires { x < drawing.now.width }
     ensures some { x < result.end }
@@ -92,16 +90,6 @@ fn is_followed(last: usize, end: usize, behind: bool) -> bool
 }
 
 impl<'l, 's, 'd, 'a> Line<'l, 's, 'd, 'a> {
-    /// Whether nothing colours its borders.
-    pub(crate) fn is_uncolored(&self) -> bool
-        ensures { result ≡ true → (x : ℕ) → nothing_around
-            ≡ around_at (plan_of self.now.drawing.now) (map shown self.now.drawing.now.pieces.now) x
-            self.now.y }
-    {
-        self.sweep.listed && self.sweep.near.is_empty()
-    }
-
-    /// The stretch above column `x`.
     fn above(&self, x: usize) -> Stretch
         requires { x < self.now.drawing.now.width }
         ensures some { x < result.end }
@@ -117,7 +105,6 @@ impl<'l, 's, 'd, 'a> Line<'l, 's, 'd, 'a> {
         stretch_at(self.drawing, self.sweep.above.as_slice(), x, self.y - 1)
     }
 
-    /// Whether a border is at column `x`.
     fn is_border(&self, x: usize) -> bool
         ensures { result ≡ is_border (plan_of self.now.drawing.now).parts x self.now.y }
     {
@@ -165,7 +152,6 @@ impl<'l, 's, 'd, 'a> Line<'l, 's, 'd, 'a> {
         }
     }
 
-    /// The run from column `x` on.
     pub(crate) fn run_at(&self, x: usize) -> Run<'d, 'a>
         requires { x < self.now.drawing.now.width }
         ensures { IsRun (plan_of self.now.drawing.now) x self.now.y result.count result.c

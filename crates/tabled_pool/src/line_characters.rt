@@ -7,8 +7,7 @@ ghost use Rattle.tabled_pool.specs.Plans.{plan_of};
 ghost use Rattle.tabled_pool.specs.Frames.{has_bottom, has_top};
 ghost use Rattle.tabled_pool.specs.Drawn.{armed_char, main_of};
 
-use crate::drawing::Drawing;
-use crate::pieces::{Kind, Piece, Rectangle};
+use crate::pieces::{Drawing, Kind, Piece, Rectangle};
 use tabled_config::Borders;
 
 /// Whether there is a top border: any of its characters is set.
@@ -21,7 +20,6 @@ pub(crate) fn has_top(borders: &Borders<char>) -> bool
         || borders.top_right.is_some()
 }
 
-/// Whether there is a bottom border.
 pub(crate) fn has_bottom(borders: &Borders<char>) -> bool
     ensures { result ≡ has_bottom borders.now }
 {
@@ -31,14 +29,12 @@ pub(crate) fn has_bottom(borders: &Borders<char>) -> bool
         || borders.bottom_right.is_some()
 }
 
-/// Whether `size` columns or lines from `start` on end at `whole`.
 pub(crate) fn ends_at(start: usize, size: usize, whole: usize) -> bool
     ensures { result ≡ (start + size == whole) }
 {
     size <= whole && start == whole - size
 }
 
-/// The character of a border where no other border meets it.
 fn main_of(drawing: &Drawing<'_, '_>, kind: Kind, place: Rectangle) -> Option<char>
     ensures { result ≡ main_of (plan_of drawing.now) kind place }
 {
@@ -62,7 +58,6 @@ fn main_of(drawing: &Drawing<'_, '_>, kind: Kind, place: Rectangle) -> Option<ch
     }
 }
 
-/// Which neighbours of a position are borders.
 #[derive(Clone, Copy)]
 pub(crate) struct Arms {
     pub left: bool,
@@ -71,7 +66,6 @@ pub(crate) struct Arms {
     pub down: bool,
 }
 
-/// The character of a border where these arms meet.
 pub(crate) fn border_char(drawing: &Drawing<'_, '_>, piece: &Piece<'_>, arms: Arms) -> char
     ensures { result ≡ armed_char (plan_of drawing.now) piece.now.kind piece.now.place arms.left arms.right arms.up arms.down }
 {

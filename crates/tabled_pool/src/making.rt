@@ -40,7 +40,6 @@ impl PoolTable {
     }
 }
 
-/// Copies the rows of a source.
 fn collect_rows<I: IntoRecords>(alloc: Global, records: I) -> Result<Vec<TableValue>, TableError>
 where
     I::Cell: CellText + Drop,
@@ -63,7 +62,6 @@ fn row_of(children: Vec<TableValue>) -> TableValue
     TableValue::Row(children)
 }
 
-/// Copies the texts of the cells of a row.
 fn collect_row<I: IntoIterator>(alloc: Global, cells: I) -> Result<Vec<TableValue>, TableError>
 where
     I::Item: CellText + Drop,

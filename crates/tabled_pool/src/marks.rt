@@ -1,12 +1,15 @@
-//! Marks: the prefixes and suffixes of colours around a border character.
-ghost use Rattle.std.specs.Prelude.{◌≡◌};
+//! Marks: the prefixes and suffixes of colours around a border character or a run.
+ghost use Rattle.std.specs.Prelude.{◌++◌, ◌≡◌, []};
 ghost use Rattle.std.specs.Option.{option_map};
-ghost use Rattle.tabled_pool.specs.Colours.{mark_of};
+ghost use Rattle.tabled_pool.specs.Colours.{coloured, is_same, mark_of};
 ghost use Rattle.tabled_pool.specs.Marks.{alone, begun, ended, nothing_around, used_after};
 ghost use Rattle.tabled_pool.specs.Plans.{around_of};
+ghost use Rattle.tabled_line.specs.Fill.{fill};
+ghost use Rattle.tabled_line.specs.Sent.{Sent, Writes};
 
-use crate::colors::is_same;
+use tabled_base::TableError;
 use tabled_config::ANSIStr;
+use tabled_line::{TextSink, write_fill};
 
 /// The marks around a character.
 #[derive(Clone, Copy)]
@@ -20,7 +23,6 @@ pub struct Marks {
 }
 
 impl Marks {
-    /// No marks.
     pub fn none() -> Marks
         ensures { around_of result ≡ nothing_around }
     {
@@ -77,7 +79,6 @@ pub fn begun(used: Option<ANSIStr<'static>>, color: Option<ANSIStr<'static>>) ->
     }
 }
 
-/// Returns the suffix that ends a border.
 pub fn ended(used: Option<ANSIStr<'static>>) -> &'static str
     ensures { result.now ≡ ended (option_map mark_of used.entry) }
 {
@@ -87,7 +88,6 @@ pub fn ended(used: Option<ANSIStr<'static>>) -> &'static str
     }
 }
 
-/// Returns the marks around a single character.
 pub fn alone(color: Option<ANSIStr<'static>>) -> Marks
     ensures { around_of result ≡ alone (option_map mark_of color.entry) }
 {
@@ -99,4 +99,24 @@ pub fn alone(color: Option<ANSIStr<'static>>) -> Marks
         },
         None => Marks::none(),
     }
+}
+
+/// Writes `count` copies of a character between the marks of a colour, even if `count` is 0.
+pub(crate) fn draw_colored_fill<S: TextSink>(
+    sink: &mut S,
+    color: ANSIStr<'static>,
+    c: char,
+    count: usize,
+) -> Result<(), TableError>
+    ensures { Writes (S.sent sink.old) result (S.sent sink.new) (coloured (mark_of color.entry) (fill c count)) }
+{
+    sink.write_text(color.get_prefix())?;
+    write_fill(sink, c, count)?;
+    sink.write_text(color.get_suffix())
+}
+
+pub(crate) fn is_same(first: ANSIStr<'static>, second: ANSIStr<'static>) -> bool
+    ensures { result ≡ is_same (mark_of first.entry) (mark_of second.entry) }
+{
+    first.get_prefix() == second.get_prefix() && first.get_suffix() == second.get_suffix()
 }

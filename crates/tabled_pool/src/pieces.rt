@@ -1,9 +1,14 @@
-//! `Rectangle`, and `Piece`, a text or a border in its rectangle.
-ghost use Rattle.std.specs.Prelude.{◌≡◌, ◌+◌, ◌^◌, ◌<◌, ◌≤◌};
+//! `Rectangle`; `Piece`, a text or a border in its rectangle; and `Drawing`, all pieces with their
+//! settings.
+ghost use Rattle.std.specs.Prelude.{◌+◌, ◌<◌, ◌^◌, ◌≡◌, ◌≤◌, map};
 ghost use Rattle.tabled_pool.specs.Boxes.{first_part, place_along, rest_part};
 ghost use Rattle.tabled_pool.specs.Kinds.{is_line_kind};
+ghost use Rattle.tabled_pool.specs.Shown.{shown};
+ghost use Rattle.tabled_pool.specs.Tiling.{AreTiles};
 
 use crate::box_spacing::Direction;
+use std::alloc::Global;
+use tabled_config::{ANSIStr, Borders, CellStyle, Sides};
 
 /// A rectangle of a drawing, in columns from the left and lines from the top.
 #[derive(Clone, Copy, Debug, PartialEq, Eq)]
@@ -57,7 +62,6 @@ impl Rectangle {
     }
 }
 
-/// What a piece is.
 #[derive(Clone, Copy, Debug, PartialEq, Eq)]
 pub enum Kind {
     /// A text with its padding.
@@ -79,7 +83,6 @@ pub struct Piece<'a> {
     pub text: &'a str,
 }
 
-/// Whether a piece is a border.
 pub fn is_line_kind(kind: Kind) -> bool
     ensures { result ≡ is_line_kind kind }
 {
@@ -87,4 +90,23 @@ pub fn is_line_kind(kind: Kind) -> bool
         Kind::Leaf => false,
         Kind::Bar | Kind::Rule => true,
     }
+}
+
+/// Placed pieces, and the settings that they are drawn with.
+#[derive(Clone, Copy)]
+pub struct Drawing<'d, 'a> {
+    pub pieces: &'d [Piece<'a>],
+    pub width: usize,
+    pub height: usize,
+    pub borders: Borders<char>,
+    pub style: CellStyle,
+    pub padding_colors: Sides<ANSIStr<'static>>,
+    /// The colours of the borders.
+    pub colors: Borders<ANSIStr<'static>>,
+    /// The allocator for lists of pieces and for drawn lines.
+    pub alloc: Global,
+    ghost wide: { width < 2 ^ 64 },
+    ghost tall: { height < 2 ^ 64 },
+    /// Each position is in exactly one piece.
+    ghost tiles: { AreTiles (map shown pieces.now) (record { x = 0; y = 0; width = width; height = height }) },
 }

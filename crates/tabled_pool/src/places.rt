@@ -1,29 +1,17 @@
 //! Places the texts of a tree and the borders between its boxes in rectangles.
-ghost use Rattle.std.specs.Prelude.{◌≡◌, ◌+◌, ◌-◌, ◌^◌, ◌<◌, ◌≤◌, map, ◌++◌, ◌∷◌, [], IfOk};
-ghost use Rattle.tabled_pool.specs.declared.pieces.Kind.TheVariants.{Leaf};
-ghost use Rattle.tabled_pool.specs.Boxes.{
-  behind_border,
-  border_kind,
-  border_part,
-  border_size,
-  box_across,
-  box_along,
-  box_of,
-  first_part,
-  given_in,
-  list_box,
-  part_of,
-  place_across,
-  place_along,
-  share,
-};
-ghost use Rattle.tabled_pool.specs.Shown.{shown, Fits};
+ghost use Rattle.std.specs.Prelude.{◌++◌, ◌+◌, ◌<◌, ◌^◌, ◌∷◌, ◌≡◌, ◌≤◌, IfOk, [], map};
+ghost use Rattle.tabled_pool.specs.Boxes.{behind_border, border_kind, border_part, box_along};
+ghost use Rattle.tabled_pool.specs.Boxes.{box_of, first_part, list_box, part_of, share};
+ghost use Rattle.tabled_pool.specs.Left.{CanSplit, given_in};
+ghost use Rattle.tabled_pool.specs.Shown.{Fits, shown};
+ghost use Rattle.tabled_pool.specs.Tiling.{framed};
 
 use crate::box_spacing::{BoxSpacing, Direction};
 use crate::pieces::{Kind, Piece, Rectangle};
 use crate::sizes::{list_size, own_size};
 use crate::tree::TableValue;
 use std::alloc::AllocError;
+use tabled_config::Sides;
 use tabled_size::DimensionPriority;
 
 /// What the first of `count` boxes gets of a surplus of columns or lines.
@@ -43,37 +31,26 @@ fn share(priority: DimensionPriority, surplus: usize, count: usize) -> usize
     }
 }
 
-fn place_leaf<'a>(
-    text: &'a str,
+pub fn place_piece<'a>(
+    kind: Kind,
     place: Rectangle,
+    text: &'a str,
     pieces: &mut Vec<Piece<'a>>,
 ) -> Result<(), AllocError>
     ensures { IfOk result (λ _. map shown pieces.new.items ≡ map shown pieces.old.items
-        ++ (part_of Leaf place text.now ∷ [])) }
+        ++ (part_of kind place text.now ∷ [])) }
 {
-    pieces.push(Piece {
-        kind: Kind::Leaf,
-        place,
-        text,
-    })?;
+    pieces.push(Piece { kind, place, text })?;
     Ok(())
 }
 
-/// Adds a border.
-pub fn place_bar<'a>(
-    kind: Kind,
-    place: Rectangle,
-    pieces: &mut Vec<Piece<'a>>,
-) -> Result<(), AllocError>
-    ensures { IfOk result (λ _. map shown pieces.new.items ≡ map shown pieces.old.items
-        ++ (part_of kind place [] ∷ [])) }
-{
-    pieces.push(Piece {
-        kind,
-        place,
-        text: "",
-    })?;
-    Ok(())
+/// The boxes of a row or a column that are still to be placed.
+#[derive(Clone, Copy)]
+pub struct BoxesLeft {
+    /// The size in the direction that they and the borders between them need.
+    pub size: usize,
+    /// How many they are.
+    pub count: usize,
 }
 
 /// A rectangle of several boxes, split after the first.
@@ -89,38 +66,31 @@ pub struct SplitPlace {
     pub rest: Rectangle,
 }
 
-/// Splits a rectangle of `count` boxes after the first. `left` is the size in the direction that
-/// they and the borders between them need.
+/// Splits a rectangle of boxes after the first.
 pub fn split(
     direction: Direction,
     child: &TableValue,
     spacing: &BoxSpacing,
-    left: usize,
-    count: usize,
+    left: BoxesLeft,
     place: Rectangle,
 ) -> SplitPlace
-    requires some { 0 < count }
-    requires own { box_along direction (box_of spacing.now child.now) + border_size direction spacing.now ≤ left }
-    requires across { box_across direction (box_of spacing.now child.now) ≤ place_across direction place }
-    requires along { left ≤ place_along direction place }
-    requires right { place.x + place.width < 2 ^ 64 }
-    requires low { place.y + place.height < 2 ^ 64 }
+    requires { CanSplit direction spacing.now child.now left place }
     ensures own { result.own ≡ box_along direction (box_of spacing.now child.now) }
     ensures given { result.given ≡ first_part direction
-        (given_in direction spacing.now child.now left count place) place }
+        (given_in direction spacing.now child.now left place) place }
     ensures line { part_of (border_kind direction) result.line [] ≡ border_part direction spacing.now
-        (given_in direction spacing.now child.now left count place) place }
+        (given_in direction spacing.now child.now left place) place }
     ensures rest { result.rest ≡ behind_border direction spacing.now
-        (given_in direction spacing.now child.now left count place) place }
+        (given_in direction spacing.now child.now left place) place }
     ensures fits { Fits (box_of spacing.now child.now) result.given }
 {
     let Some(size) = own_size(child, spacing) else {
         unreachable!()
     };
     let own = direction.pick(size.width, size.height);
-    let surplus = direction.pick(place.width, place.height) - left;
+    let surplus = direction.pick(place.width, place.height) - left.size;
     let priority = direction.pick(spacing.across, spacing.down);
-    let given = own + share(priority, surplus, count);
+    let given = own + share(priority, surplus, left.count);
     let border = direction.pick(spacing.bar, spacing.rule);
     let behind = place.rest_part(direction, given);
     SplitPlace {
@@ -145,22 +115,23 @@ fn place_list<'a>(
         ++ (list_box direction spacing.now (map (box_of spacing.now) children.now)).parts whole) }
 {
     let Some((last, front)) = children.split_last() else {
-        return place_leaf("", whole, pieces);
+        return place_piece(Kind::Leaf, whole, "", pieces);
     };
     let Some(own) = list_size(direction, children, spacing) else {
         unreachable!()
     };
     let border = direction.pick(spacing.bar, spacing.rule);
     let kind = direction.pick(Kind::Bar, Kind::Rule);
-    let mut left = direction.pick(own.width, own.height);
-    let mut count = children.len();
+    let size = direction.pick(own.width, own.height);
+    let count = children.len();
+    let mut left = BoxesLeft { size, count };
     let mut place = whole;
     for child in front {
-        let cut = split(direction, child, spacing, left, count, place);
+        let cut = split(direction, child, spacing, left, place);
         place_value(child, spacing, cut.given, pieces)?;
-        place_bar(kind, cut.line, pieces)?;
-        left -= cut.own + border;
-        count -= 1;
+        place_piece(kind, cut.line, "", pieces)?;
+        left.size -= cut.own + border;
+        left.count -= 1;
         place = cut.rest;
     }
     place_value(last, spacing, place, pieces)
@@ -180,7 +151,7 @@ pub fn place_value<'a>(
         ++ (box_of spacing.now value.now).parts whole) }
 {
     match value {
-        TableValue::Cell(text) => place_leaf(text.as_str(), whole, pieces),
+        TableValue::Cell(text) => place_piece(Kind::Leaf, whole, text.as_str(), pieces),
         TableValue::Row(children) => {
             let children = children.as_slice();
             place_list(Direction::Across, children, spacing, whole, pieces)
@@ -190,4 +161,39 @@ pub fn place_value<'a>(
             place_list(Direction::Down, children, spacing, whole, pieces)
         }
     }
+}
+
+/// Adds the texts and borders of a tree and the borders around it, in a rectangle that holds both.
+/// `frame` is the thickness of each outer border, in columns or lines. Recurses at each level.
+#[tactic(auto, unfolding(crate::specs::Tiling::framed))]
+pub fn place_tree<'a>(
+    value: &'a TableValue,
+    spacing: &BoxSpacing,
+    frame: &Sides<usize>,
+    whole: Rectangle,
+    pieces: &mut Vec<Piece<'a>>,
+) -> Result<(), AllocError>
+    requires wide { frame.now.left + (box_of spacing.now value.now).width + frame.now.right ≤ whole.width }
+    requires tall { frame.now.top + (box_of spacing.now value.now).height + frame.now.bottom ≤ whole.height }
+    requires right { whole.x + whole.width < 2 ^ 64 }
+    requires low { whole.y + whole.height < 2 ^ 64 }
+    ensures { IfOk result (λ _. map shown pieces.new.items ≡ map shown pieces.old.items
+        ++ framed (frame.now) (box_of spacing.now value.now) whole) }
+{
+    let rest = whole.rest_part(Direction::Across, frame.left);
+    let width = rest.width - frame.right;
+    let middle = rest.first_part(Direction::Across, width);
+    let below = middle.rest_part(Direction::Down, frame.top);
+    let height = below.height - frame.bottom;
+    let left = whole.first_part(Direction::Across, frame.left);
+    let right = rest.rest_part(Direction::Across, width);
+    let top = middle.first_part(Direction::Down, frame.top);
+    let inner = below.first_part(Direction::Down, height);
+    let bottom = below.rest_part(Direction::Down, height);
+    place_piece(Kind::Bar, left, "", pieces)?;
+    place_piece(Kind::Bar, right, "", pieces)?;
+    place_piece(Kind::Rule, top, "", pieces)?;
+    place_piece(Kind::Rule, bottom, "", pieces)?;
+    place_value(value, spacing, inner, pieces)?;
+    Ok(())
 }

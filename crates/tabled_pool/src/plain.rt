@@ -1,17 +1,65 @@
-//! `PoolTable::is_plain` and `PoolTable::is_apart`: whether all lines are equally wide.
-ghost use Rattle.std.specs.Prelude.{◌↔◌, IsTrue, map, unwrap_or};
+//! `PoolTable::is_plain` and `PoolTable::is_apart`: whether all lines are equally wide, and whether
+//! anything is coloured.
+ghost use Rattle.std.specs.Prelude.{◌↔◌, ◌≡◌, IsTrue, map, unwrap_or};
 ghost use Rattle.tabled_text.specs.Plain.{IsPlain};
 ghost use Rattle.tabled_pool.specs.Tree.{tree_of, trees};
-ghost use Rattle.tabled_pool.specs.Characters.{EachCharacter, EachCorner, EachFill, EachIntersection, EachLine, IsOfKind};
+ghost use Rattle.tabled_pool.specs.Characters.{EachCharacter, EachFill, IsOfKind};
 ghost use Rattle.tabled_pool.specs.Plain.{HasSettings, IsPlainPool};
 ghost use Rattle.tabled_pool.specs.Pool.{borders_of, style_of};
 ghost use Rattle.tabled_pool.specs.Apart.{HasGap, IsApartPool, IsStraightPool};
 ghost use Rattle.tabled_pool.specs.Texts.{EachText, EachTextIn};
+ghost use Rattle.std.specs.Option.{option_map};
+ghost use Rattle.tabled_config.specs.Compact.{each_side};
+ghost use Rattle.tabled_pool.specs.Colours.{line_marks_of, mark_of, marks_of, no_mark};
+ghost use Rattle.tabled_pool.specs.Uncoloured.{AreNoMarks, IsNoMark, IsUncoloured};
 
 use crate::pool_table::PoolTable;
 use crate::tree::TableValue;
-use tabled_config::{Borders, Indent, Sides};
+use tabled_config::{ANSIStr, Borders, Indent, Sides};
 use tabled_text::{is_additive_column, is_plain, is_separator_column};
+
+/// Whether the colour of a border is empty or not set.
+fn is_uncolored_line(color: Option<ANSIStr<'static>>) -> bool
+    ensures { IsTrue result ↔ IsNoMark (option_map mark_of color.entry) }
+{
+    match color {
+        Some(color) => color.is_empty(),
+        None => true,
+    }
+}
+
+pub(crate) fn are_uncolored_lines(colors: &Borders<ANSIStr<'static>>) -> bool
+    ensures { IsTrue result ↔ AreNoMarks (line_marks_of colors.now) }
+{
+    is_uncolored_line(colors.top_left)
+        && is_uncolored_line(colors.top)
+        && is_uncolored_line(colors.top_right)
+        && is_uncolored_line(colors.bottom_left)
+        && is_uncolored_line(colors.bottom)
+        && is_uncolored_line(colors.bottom_right)
+        && is_uncolored_line(colors.left)
+        && is_uncolored_line(colors.right)
+}
+
+fn are_uncolored_sides(colors: &Sides<ANSIStr<'static>>) -> bool
+    ensures { IsTrue result ↔ (marks_of colors.now ≡ each_side no_mark) }
+{
+    colors.left.is_empty()
+        && colors.right.is_empty()
+        && colors.top.is_empty()
+        && colors.bottom.is_empty()
+}
+
+impl PoolTable {
+    /// Whether borders, padding and margin have no colours, or empty ones.
+    pub(crate) fn is_uncolored(&self) -> bool
+        ensures { IsTrue result ↔ IsUncoloured self.now }
+    {
+        are_uncolored_lines(self.config.get_borders_color())
+            && are_uncolored_sides(self.config.get_padding_color())
+            && are_uncolored_sides(self.config.get_margin_color())
+    }
+}
 
 /// Which characters are asked for. All take one column.
 #[derive(Clone, Copy, Debug, PartialEq, Eq)]
@@ -56,41 +104,24 @@ fn is_of_kind(kind: CharacterKind, c: Option<char>) -> bool
     }
 }
 
-fn are_lines(kind: CharacterKind, borders: &Borders<char>) -> bool
-    ensures { IsTrue result ↔ EachLine (IsOfKind kind) borders.now }
+fn are_borders(kind: CharacterKind, borders: &Borders<char>) -> bool
+    ensures { IsTrue result ↔ EachCharacter (IsOfKind kind) borders.now }
 {
     is_of_kind(kind, borders.top)
         && is_of_kind(kind, borders.bottom)
         && is_of_kind(kind, borders.left)
         && is_of_kind(kind, borders.right)
-}
-
-fn are_corners(kind: CharacterKind, borders: &Borders<char>) -> bool
-    ensures { IsTrue result ↔ EachCorner (IsOfKind kind) borders.now }
-{
-    is_of_kind(kind, borders.top_left)
+        && is_of_kind(kind, borders.top_left)
         && is_of_kind(kind, borders.top_right)
         && is_of_kind(kind, borders.bottom_left)
         && is_of_kind(kind, borders.bottom_right)
-}
-
-fn are_intersections(kind: CharacterKind, borders: &Borders<char>) -> bool
-    ensures { IsTrue result ↔ EachIntersection (IsOfKind kind) borders.now }
-{
-    is_of_kind(kind, borders.top_intersection)
+        && is_of_kind(kind, borders.top_intersection)
         && is_of_kind(kind, borders.bottom_intersection)
         && is_of_kind(kind, borders.left_intersection)
         && is_of_kind(kind, borders.right_intersection)
         && is_of_kind(kind, borders.intersection)
 }
 
-fn are_borders(kind: CharacterKind, borders: &Borders<char>) -> bool
-    ensures { IsTrue result ↔ EachCharacter (IsOfKind kind) borders.now }
-{
-    are_lines(kind, borders) && are_corners(kind, borders) && are_intersections(kind, borders)
-}
-
-/// Whether the characters that fill padding or a margin are of a kind.
 fn are_fills(kind: CharacterKind, sides: &Sides<Indent>) -> bool
     ensures { IsTrue result ↔ EachFill (IsOfKind kind) sides.now }
 {
@@ -112,7 +143,6 @@ impl PoolTable {
             && self.is_uncolored()
     }
 
-    /// Whether texts side by side have a border or padding between them.
     fn has_gap(&self) -> bool
         ensures { IsTrue result ↔ HasGap (borders_of self.now) (style_of self.now.config) }
     {

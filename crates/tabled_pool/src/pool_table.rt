@@ -1,5 +1,6 @@
 //! `PoolTable`: its settings, its size, and how it is printed.
-ghost use Rattle.std.specs.Prelude.{◌≡◌, ◌⊎◌, ◌≤◌, IfErr, IfOk, MatchOption, length, map, [], ◌++◌, ◌<◌, ◌^◌, ◌+◌, string_bytes, true};
+ghost use Rattle.std.specs.Prelude.{◌≡◌, ◌⊎◌, ◌≤◌, IfErr, IfOk, MatchOption, length, map, [], ◌++◌};
+ghost use Rattle.std.specs.Prelude.{◌<◌, ◌^◌, ◌+◌, string_bytes, true};
 ghost use Rattle.tabled_base.specs.declared.error.TableError.TheVariants.{Memory, Range};
 ghost use Rattle.tabled_config.specs.Styles.{ascii};
 ghost use Rattle.tabled_line.specs.Plain.{EachLineTakes};
@@ -13,43 +14,23 @@ ghost use Rattle.tabled_pool.specs.Plans.{plan_of};
 ghost use Rattle.tabled_pool.specs.Apart.{IsStraightPool};
 ghost use Rattle.tabled_pool.specs.Drawn.{drawn};
 ghost use Rattle.tabled_pool.specs.Boxes.{box_of};
-ghost use Rattle.tabled_pool.specs.Pool.{
-  HasColumns,
-  IsInRange,
-  IsOutOfRange,
-  IsPadded,
-  WritesPool,
-  borders_of,
-  frame_of,
-  frame_place,
-  framed_height,
-  framed_width,
-  spacing_of,
-  has_margin,
-  margin_around,
-  marks_for,
-  plan,
-  pool_lines,
-  pool_text,
-  style_of,
-  total_height,
-  total_width,
-};
+ghost use Rattle.tabled_pool.specs.Pool.{HasColumns, IsInRange, IsOutOfRange, IsPadded, WritesPool};
+ghost use Rattle.tabled_pool.specs.Pool.{borders_of, frame_of, frame_place, framed_height};
+ghost use Rattle.tabled_pool.specs.Pool.{framed_width, spacing_of, has_margin, margin_around};
+ghost use Rattle.tabled_pool.specs.Pool.{marks_for, plan, pool_lines, pool_text, style_of};
+ghost use Rattle.tabled_pool.specs.Pool.{total_height, total_width};
 ghost use Rattle.tabled_pool.specs.NewPool.{IsNewConfig, IsNewPool};
 ghost use Rattle.tabled_pool.specs.Tiled.{Tiled};
 
-use crate::block_lines::draw_block;
 use crate::box_spacing::{BoxSpacing, Size};
-use crate::drawing::Drawing;
-use crate::drawing_lines::draw_framed;
 use crate::drawn_blocks::DrawnBlock;
-use crate::frames::place_tree;
-use crate::inherited::{draw_tree, has_zero_width};
 use crate::line_characters::{has_bottom, has_top};
-use crate::margins::ColoredMargin;
-use crate::pieces::{Piece, Rectangle};
+use crate::pieces::{Drawing, Piece, Rectangle};
+use crate::places::place_tree;
 use crate::sizes::own_size;
+use crate::table_lines::{ColoredMargin, TableLines, draw_lines};
 use crate::tree::TableValue;
+use crate::tree_walk::{draw_tree, has_zero_width};
 use std::alloc::Global;
 use std::fmt;
 use tabled_base::TableError;
@@ -238,7 +219,6 @@ impl PoolTable {
         Some(size)
     }
 
-    /// Places the texts and borders in their rectangles.
     fn pieces(&self, size: Size) -> Result<Vec<Piece<'_>>, TableError>
         requires width { size.width ≡ framed_width self.now }
         requires height { size.height ≡ framed_height self.now }
@@ -257,7 +237,6 @@ impl PoolTable {
         Ok(pieces)
     }
 
-    /// The pieces, with the settings that they are drawn with.
     fn drawing<'d, 'a>(&self, pieces: &'d [Piece<'a>], size: Size) -> Drawing<'d, 'a>
         requires width { size.width ≡ framed_width self.now }
         requires height { size.height ≡ framed_height self.now }
@@ -287,7 +266,7 @@ impl PoolTable {
         ensures { Writes (S.sent sink.old) result (S.sent sink.new) (pool_text self.now) }
     {
         let margin = self.colored_margin(*self.config.get_margin());
-        draw_framed(sink, drawing, &margin)
+        draw_lines(sink, TableLines::Placed(drawing), &margin)
     }
 
     /// Writes the drawn lines of a tree with a zero-width text, and their margin.
@@ -301,10 +280,9 @@ impl PoolTable {
         ensures { Writes (S.sent sink.old) result (S.sent sink.new) (pool_text self.now) }
     {
         let margin = self.colored_margin(self.margin_around(block));
-        draw_block(sink, block, &margin)
+        draw_lines(sink, TableLines::Drawn(block), &margin)
     }
 
-    /// The size without the outer borders.
     fn inner_size(&self, size: Size) -> Size
         requires width { size.width ≡ framed_width self.now }
         requires height { size.height ≡ framed_height self.now }
@@ -357,9 +335,8 @@ impl PoolTable {
     /// meet. A table that is one empty line has no margin.
     ///
     /// Recurses at each level of the value (see `PoolTable`). Drawing takes a time that grows with
-    /// the printed text. If borders are coloured, each line also takes a pass over all texts and
-    /// borders, and each of its border characters one over those near the line. Without memory to
-    /// find texts and borders by their columns, each run of a line takes passes over all of them.
+    /// the printed text. Without memory to find texts and borders by their columns, each run of a
+    /// line, and each coloured border character, takes passes over all of them.
     pub fn write_to<S: TextSink>(&self, sink: &mut S) -> Result<(), TableError>
         ensures printed { WritesPool self.now (S.sent sink.old) result (S.sent sink.new) }
         ensures padded { IsPadded self.now → HasColumns self.now }

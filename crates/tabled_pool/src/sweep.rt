@@ -1,12 +1,13 @@
-//! `Sweep`: where to look first for the pieces on a line and on the lines next to it.
-ghost use Rattle.std.specs.Prelude.{◌≡◌, ◌<◌, ℕ, true, map};
-ghost use Rattle.tabled_pool.specs.Around.{around_at};
-ghost use Rattle.tabled_pool.specs.Plans.{plan_of};
+//! `Sweep`: where to look first for the pieces on a line and on the lines next to it; and the piece
+//! at a position.
+ghost use Rattle.std.specs.Prelude.{◌+◌, ◌<◌, ◌≡◌, ◌≤◌, map, true};
+ghost use Rattle.std.specs.Option.{option_map};
 ghost use Rattle.tabled_pool.specs.Shown.{shown};
+ghost use Rattle.tabled_pool.specs.Tiling.{within};
+ghost use Rattle.tabled_pool.specs.Owner.{contains, owner};
+ghost use Rattle.tabled_pool.specs.Numbers.{IsNumber};
 
-use crate::drawing::Drawing;
-use crate::near::list_coloring;
-use crate::pieces::{Piece, Rectangle};
+use crate::pieces::{Drawing, Piece, Rectangle};
 use std::alloc::Global;
 use std::mem;
 
@@ -16,7 +17,7 @@ const NONE: usize = usize::MAX;
 /// The numbers of the pieces on three lines, by column. No contract says that they are right: who
 /// uses one looks whether the piece is there. A list is too short if an allocation failed.
 #[derive(Drop)]
-pub(crate) struct Sweep<'a> {
+pub(crate) struct Sweep {
     /// For each line, the last piece that begins there.
     begins: Vec<usize>,
     /// For each piece, the one before it that begins on the same line.
@@ -24,10 +25,6 @@ pub(crate) struct Sweep<'a> {
     pub above: Vec<usize>,
     pub here: Vec<usize>,
     pub below: Vec<usize>,
-    /// The pieces that may colour the line.
-    pub near: Vec<Piece<'a>>,
-    /// Whether these are listed: no allocation failed.
-    pub listed: bool,
 }
 
 /// A list of `count` numbers of no piece, or an empty one if an allocation fails.
@@ -46,19 +43,15 @@ fn mark(line: &mut [usize], place: Rectangle, number: usize) {
     }
 }
 
-impl<'a> Sweep<'a> {
+impl Sweep {
     /// A sweep above the first line.
-    pub(crate) fn new(drawing: &Drawing<'_, 'a>) -> Sweep<'a> {
-        let alloc = drawing.alloc;
-        let pieces = drawing.pieces;
+    pub(crate) fn new(alloc: Global, pieces: &[Piece<'_>], width: usize, height: usize) -> Sweep {
         let mut sweep = Sweep {
-            begins: unknown(alloc, drawing.height),
+            begins: unknown(alloc, height),
             earlier: unknown(alloc, pieces.len()),
             above: Vec::new(alloc),
-            here: unknown(alloc, drawing.width),
-            below: unknown(alloc, drawing.width),
-            near: Vec::new(alloc),
-            listed: false,
+            here: unknown(alloc, width),
+            below: unknown(alloc, width),
         };
         for number in 0..pieces.len() {
             sweep.link(pieces[number].place, number);
@@ -99,18 +92,78 @@ impl<'a> Sweep<'a> {
     }
 
     /// Goes on to line `y`.
-    pub(crate) fn advance(&mut self, drawing: &Drawing<'_, 'a>, y: usize)
-        requires { y < drawing.now.height }
-        ensures { self.new.listed ≡ true → (x : ℕ)
-            → around_at (plan_of drawing.now) (map shown self.new.near.items) x y
-            ≡ around_at (plan_of drawing.now) (map shown drawing.now.pieces.now) x y }
-    {
+    pub(crate) fn advance(&mut self, pieces: &[Piece<'_>], y: usize) {
         mem::swap(&mut self.above, &mut self.here);
         mem::swap(&mut self.here, &mut self.below);
         self.below.clear();
         if self.below.extend_from_slice(self.here.as_slice()).is_ok() {
-            self.mark_line(drawing.pieces, y + 1);
+            self.mark_line(pieces, y.saturating_add(1));
         }
-        self.listed = list_coloring(&mut self.near, drawing, y);
     }
+}
+
+#[tactic(auto, using(crate::proofs::Contains::contains_left, crate::proofs::Contains::contains_right, crate::proofs::Contains::contains_above, crate::proofs::Contains::contains_last,))]
+fn contains(place: Rectangle, x: usize, y: usize) -> bool
+    ensures value { result ≡ contains place x y }
+    ensures lines { result ≡ true → (place.y ≤ y) × (y < place.y + place.height) }
+{
+    if x < place.x {
+        return false;
+    }
+    if y < place.y {
+        return false;
+    }
+    if x - place.x >= place.width {
+        return false;
+    }
+    y - place.y < place.height
+}
+
+/// Returns the number of the first piece of a list that contains a position.
+fn find(pieces: &[Piece<'_>], x: usize, y: usize) -> Option<usize>
+    ensures { IsNumber pieces.now x y result }
+{
+    for number in 0..pieces.len() {
+        if contains(pieces[number].place, x, y) {
+            return Some(number);
+        }
+    }
+    None
+}
+
+/// Returns the number of the piece at a position: the one that `line` has for the column, if it is
+/// there, else the one that a search finds.
+pub(crate) fn number_at(
+    drawing: &Drawing<'_, '_>,
+    line: &[usize],
+    x: usize,
+    y: usize,
+) -> Option<usize>
+    ensures { IsNumber drawing.now.pieces.now x y result }
+{
+    if x >= drawing.width {
+        return None;
+    }
+    if y >= drawing.height {
+        return None;
+    }
+    if let Some(number) = line.get(x)
+        && let Some(piece) = drawing.pieces.get(*number)
+        && contains(piece.place, x, y)
+    {
+        return Some(*number);
+    }
+    find(drawing.pieces, x, y)
+}
+
+pub(crate) fn piece_at<'d, 'a>(
+    drawing: &Drawing<'d, 'a>,
+    line: &[usize],
+    x: usize,
+    y: usize,
+) -> Option<&'d Piece<'a>>
+    ensures { option_map (λ p. shown p.now) result ≡ owner (map shown drawing.now.pieces.now) x y }
+{
+    let number = number_at(drawing, line, x, y)?;
+    Some(&drawing.pieces[number])
 }

@@ -4,15 +4,17 @@ use Rattle.tabled_pool.specs.Shown.{shown}
 use Rattle.tabled_line.proofs.Sending.{stopped, further}
 use Rattle.std.proofs.Common.{◌+◌, ap, sym, ◌∙◌, arith, encode_utf8}
 use Rattle.tabled_pool.specs.Marks.{within_marks}
+use Rattle.tabled_pool.proofs.Bare.{around-bare}
 use Rattle.tabled_pool.proofs.Runs.{places_next, run_copies, run_place, run_rest}
 use Rattle.tabled_pool.proofs.draw.draw_border.Goals as goal
 
-pub returns-then-is_uncolored : goal.returns-then-is_uncolored
-returns-then-is_uncolored g c =
+pub returns-then-line : goal.returns-then-line
+returns-then-line g c =
     let l = c.args.line.now in
     let r = c.args.run.now in
-    rw (run_copies (plan_of l.drawing.now) c.args.x l.y r.count r.c (shown r.piece.now) c.requires.run c.requires.kind
-    (c.is_uncolored.ensures c.if-is_uncolored.true)) c.write_fill.ensures
+    let t = plan_of l.drawing.now in
+    rw (run_copies t c.args.x l.y r.count r.c (shown r.piece.now) c.requires.run c.requires.kind
+    (λ v. sym (around-bare t (l.bare c.if-line.true) v l.y))) c.write_fill.ensures
 
 pub returns-in_err-draw_marked : goal.returns-in_err-draw_marked
 returns-in_err-draw_marked g c =

@@ -1,34 +1,16 @@
 use Rattle.std.proofs.Common.{arith}
-use Rattle.tabled_pool.proofs.Directions.{fits_across, fits_along}
-use Rattle.tabled_pool.proofs.Steps.{list_facts, list_next, list_parts_next}
+use Rattle.tabled_pool.proofs.Directions.{fits_along, fits_bound}
+use Rattle.tabled_pool.proofs.Steps.{can_split, list_facts, list_next, list_parts_next}
 use Rattle.tabled_pool.proofs.places.+places.Goals as goal
 
-pub place_list-split-cut-requires-clause-own : goal.place_list-split-cut-requires-clause-own
-place_list-split-cut-requires-clause-own t c =
+pub place_list-split-cut-requires : goal.place_list-split-cut-requires
+place_list-split-cut-requires t c =
     let d = c.args.direction in
     let g = c.args.spacing.now in
     let f = list_facts d g c.in-Some.front.now c.in-Some.last.now c.loop-child.child-index
     c.child-item.result c.loop-child-test.true c.child-item.is in
     let i = c.loop-child.invariant in
-    omega (arith, f.along, i.left)
-
-pub place_list-split-cut-requires-clause-across : goal.place_list-split-cut-requires-clause-across
-place_list-split-cut-requires-clause-across t c =
-    let d = c.args.direction in
-    let g = c.args.spacing.now in
-    let f = list_facts d g c.in-Some.front.now c.in-Some.last.now c.loop-child.child-index
-    c.child-item.result c.loop-child-test.true c.child-item.is in
-    let i = c.loop-child.invariant in
-    omega (arith, f.most, fits_across d _ _ i.placing.fits)
-
-pub place_list-split-cut-requires-clause-along : goal.place_list-split-cut-requires-clause-along
-place_list-split-cut-requires-clause-along t c =
-    let d = c.args.direction in
-    let g = c.args.spacing.now in
-    let f = list_facts d g c.in-Some.front.now c.in-Some.last.now c.loop-child.child-index
-    c.child-item.result c.loop-child-test.true c.child-item.is in
-    let i = c.loop-child.invariant in
-    omega (arith, i.left, fits_along d _ _ i.placing.fits)
+    can_split d g _ _ _ _ _ f i.placing.fits i.left
 
 pub place_list-overflow_add-left : goal.place_list-overflow_add-left
 place_list-overflow_add-left t c =
@@ -37,7 +19,15 @@ place_list-overflow_add-left t c =
     let f = list_facts d g c.in-Some.front.now c.in-Some.last.now c.loop-child.child-index
     c.child-item.result c.loop-child-test.true c.child-item.is in
     let i = c.loop-child.invariant in
-    omega (arith, c.split-cut.ensures.own, c.pick-border.ensures, f.along, i.left)
+    omega (
+      arith,
+      c.split-cut.ensures.own,
+      c.pick-border.ensures,
+      f.along,
+      i.left.size,
+      fits_along d _ _ i.placing.fits,
+      fits_bound d _ _ i.placing.fits,
+    )
 
 pub place_list-overflow_sub-left : goal.place_list-overflow_sub-left
 place_list-overflow_sub-left t c =
@@ -46,7 +36,7 @@ place_list-overflow_sub-left t c =
     let f = list_facts d g c.in-Some.front.now c.in-Some.last.now c.loop-child.child-index
     c.child-item.result c.loop-child-test.true c.child-item.is in
     let i = c.loop-child.invariant in
-    omega (arith, c.split-cut.ensures.own, c.pick-border.ensures, f.along, i.left)
+    omega (arith, c.split-cut.ensures.own, c.pick-border.ensures, f.along, i.left.size)
 
 pub place_list-loop-child-preserved : goal.place_list-loop-child-preserved
 place_list-loop-child-preserved t c =
@@ -56,16 +46,18 @@ place_list-loop-child-preserved t c =
     c.child-item.result c.loop-child-test.true c.child-item.is in
     let i = c.loop-child.invariant in
     let cut = c.split-cut.ensures in
-    let line = rw c.pick-kind.ensures at c.in_ok-place_bar.ensures in
+    let line = rw c.pick-kind.ensures at c.in_ok-place_piece.ensures in
     let p = c.loop-child.place in
+    let l = c.loop-child.left in
     record {
       placing = record {
-        parts = list_parts_next d g _ _ _ p c.loop-child.left c.loop-child.count c.split-cut.result.given
-            c.split-cut.result.line c.split-cut.result.rest _ _ _ _ f i.left i.placing.counts cut.given cut.line
+        parts = list_parts_next d g _ _ _ p l.size l.count c.split-cut.result.given
+            c.split-cut.result.line c.split-cut.result.rest _ _ _ _ f i.left.size i.left.count cut.given cut.line
             cut.rest i.placing.parts c.in_ok-place_value.ensures line;
-        fits = list_next d g _ _ _ p c.loop-child.left c.loop-child.count c.split-cut.result.rest f
-            i.placing.fits i.left i.placing.counts cut.rest;
-        counts = omega (arith, f.count, i.placing.counts);
+        fits = list_next d g _ _ _ p l.size l.count c.split-cut.result.rest f i.placing.fits i.left.size i.left.count cut.rest;
       };
-      left = omega (arith, f.along, cut.own, c.pick-border.ensures, i.left);
+      left = record {
+        size = omega (arith, f.along, cut.own, c.pick-border.ensures, i.left.size);
+        count = omega (arith, f.count, i.left.count);
+      };
     }

@@ -1,6 +1,6 @@
-use Rattle.std.proofs.Common.{◌≡◌, map, length, drop}
-use Rattle.tabled_pool.specs.Boxes.{box_along, box_of, list_box}
-use Rattle.tabled_pool.specs.Left.{boxes_left, Placing}
+use Rattle.std.proofs.Common.{map, drop}
+use Rattle.tabled_pool.specs.Boxes.{box_of, list_box}
+use Rattle.tabled_pool.specs.Left.{AreLeft, boxes_left, Placing}
 use Rattle.tabled_pool.proofs.places.+places.Given as goal
 
 abbrev pub invariant-place_list-loop-child : goal.invariant-place_list-loop-child
@@ -8,6 +8,6 @@ invariant-place_list-loop-child l =
     let bs = boxes_left l.spacing (drop l.child-index l.front) l.last in
     record {
       placing : Placing (list_box l.direction l.spacing (map (box_of l.spacing) l.children)) (list_box l.direction l.spacing bs)
-          l.fn.whole l.left l.count (length bs) l.place l.initial.pieces.items l.pieces.items;
-      left : l.left ≡ box_along l.direction (list_box l.direction l.spacing bs);
+          l.fn.whole l.place l.initial.pieces.items l.pieces.items;
+      left : AreLeft l.direction l.spacing bs l.left;
     }

@@ -7,4 +7,4 @@ pub returns : goal.returns
 returns g c =
     let m = c.colored_margin-margin.ensures in
     rw (inherited_text c.args.self.now _ _ _ c.requires.bare c.requires.block (m.indent ∙ c.margin_around.ensures)
-    (m.colors ∙ ap (marks_for c.args.self.now) (sym m.indent))) c.draw_block.ensures
+    (m.colors ∙ ap (marks_for c.args.self.now) (sym m.indent))) c.draw_lines.ensures

@@ -1,7 +1,0 @@
-use Rattle.std.proofs.Common.{◌≡◌, drop, map}
-use Rattle.tabled_pool.specs.Shown.{shown}
-use Rattle.tabled_pool.specs.Inherited.{has_zero_width}
-use Rattle.tabled_pool.proofs.inherited.has_zero_width.Given as goal
-
-abbrev pub invariant-loop-piece : goal.invariant-loop-piece
-invariant-loop-piece l = has_zero_width (map shown (drop l.piece-index l.pieces)) ≡ has_zero_width (map shown l.pieces)

@@ -1,0 +1,7 @@
+use Rattle.std.proofs.Common.{◌≡◌, map, drop}
+use Rattle.tabled_pool.specs.Shown.{shown}
+use Rattle.tabled_pool.specs.Owner.{owner}
+use Rattle.tabled_pool.proofs.sweep.find.Given as goal
+
+abbrev pub invariant-loop-number : goal.invariant-loop-number
+invariant-loop-number l = owner (map shown (drop l.number l.pieces)) l.x l.y ≡ owner (map shown l.pieces) l.x l.y

@@ -1,0 +1,31 @@
+use Rattle.std.proofs.Common.{inl, inr, length, map, refl, ap, sym, ◌∙◌, arith}
+use Rattle.std.specs.Option.{option_map}
+use Rattle.std.proofs.lemmas.Option.{slice_get-map, slice_get_read}
+use Rattle.tabled_pool.specs.Shown.{shown}
+use Rattle.tabled_pool.specs.Plans.{plan_of}
+use Rattle.tabled_pool.specs.Whole.{whole}
+use Rattle.tabled_pool.proofs.Listed.{listed_owns, outside}
+use Rattle.tabled_pool.proofs.sweep.number_at.Goals as goal
+
+pub returns-then-x-drawing : goal.returns-then-x-drawing
+returns-then-x-drawing c =
+    let d = c.args.drawing.now in
+    outside (map shown d.pieces.now) (whole (plan_of d)) c.args.x c.args.y d.tiles (inl (omega arith))
+
+pub returns-then-y-drawing : goal.returns-then-y-drawing
+returns-then-y-drawing c =
+    let d = c.args.drawing.now in
+    outside (map shown d.pieces.now) (whole (plan_of d)) c.args.x c.args.y d.tiles (inr (omega arith))
+
+pub returns : goal.returns
+returns c =
+    let d = c.args.drawing.now in
+    let ps = d.pieces.now in
+    let k = c.in-Some.number.now in
+    let found = c.in-Some-get.ensures.lookup in
+    let listed = found.3 in (
+      listed.0,
+      slice_get-map shown ps k ∙ ap (option_map shown) (slice_get_read ps (length ps) k c.in-Some-get.piece.now refl listed.0 found.1)
+          ∙ listed_owns ps (whole (plan_of d)) k c.args.x c.args.y c.in-Some-get.piece.now d.tiles
+          listed.0 found.1 (sym c.contains.ensures.value ∙ c.if-contains.true),
+    )

@@ -1,0 +1,11 @@
+use Rattle.std.proofs.Common.{map, take}
+use Rattle.tabled_line.specs.Leading.{LineSends}
+use Rattle.tabled_pool.specs.Colours.{marks_of}
+use Rattle.tabled_pool.specs.Margins.{within_margin}
+use Rattle.tabled_pool.specs.TableLines.{sheet_of}
+use Rattle.tabled_pool.proofs.table_lines.draw_inner_lines.Given as goal
+
+abbrev pub invariant-lines : goal.invariant-lines
+invariant-lines g l =
+    LineSends (g.S.TextSink.sent l.initial.sink) l.initial.begun (g.S.TextSink.sent l.sink) l.begun
+    (map (within_margin l.margin.indent (marks_of l.margin.colors)) (take l.y (sheet_of l.fn.lines).lines))

@@ -1,0 +1,24 @@
+use Rattle.std.proofs.Common.{map, drop}
+use Rattle.tabled_pool.specs.Boxes.{list_box}
+use Rattle.tabled_pool.specs.Left.{AreLeft, boxes_left}
+use Rattle.tabled_pool.specs.Shown.{Fits}
+use Rattle.tabled_pool.specs.Inherited.{drawer}
+use Rattle.tabled_pool.specs.Inheriting.{inheriting_box}
+use Rattle.tabled_pool.specs.DrawnBlocks.{block_sheet_of}
+use Rattle.tabled_pool.specs.Plans.{plan_of}
+use Rattle.tabled_pool.proofs.Drawers.{ListWalk, drawers_left, list_of}
+use Rattle.tabled_pool.proofs.tree_walk.+draws.Given as goal
+
+abbrev pub invariant-draw_list-loop-child : goal.invariant-draw_list-loop-child
+invariant-draw_list-loop-child l =
+    let t = plan_of l.settings.drawing.now in
+    let g = l.settings.spacing.now in
+    let d = l.direction in
+    let bs = boxes_left g (drop l.child-index l.front) l.last in
+    record {
+      walk : ListWalk (list_of d g (map (drawer t g) l.children) (inheriting_box l.initial.inherited))
+          (list_of d g (drawers_left t g (drop l.child-index l.front) l.last)
+          (inheriting_box l.inherited)) (map block_sheet_of l.drawn.blocks.items) l.drawn.sizes.items;
+      fits : Fits (list_box d g bs) l.inherited.place;
+      left : AreLeft d g bs l.left;
+    }

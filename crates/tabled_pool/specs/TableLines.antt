@@ -1,0 +1,27 @@
+-- The lines of a table without its margin.
+use Rattle.std.specs.Prelude.{ℕ, List, map}
+use Rattle.tabled_line.specs.Fill.{fill}
+use Rattle.tabled_pool.specs.declared.table_lines.LineContent.{LineContent}
+use Rattle.tabled_pool.specs.declared.table_lines.LineContent.TheVariants as content
+use Rattle.tabled_pool.specs.declared.table_lines.TableLines.{TableLines}
+use Rattle.tabled_pool.specs.declared.table_lines.TableLines.TheVariants.{Placed, Drawn}
+use Rattle.tabled_pool.specs.Colours.{coloured, mark_of}
+use Rattle.tabled_pool.specs.Drawn.{drawn, drawn_line}
+use Rattle.tabled_pool.specs.DrawnBlocks.{BlockSheet, block_sheet_of}
+use Rattle.tabled_pool.specs.Numbers.{AreSized}
+use Rattle.tabled_pool.specs.Plans.{plan_of}
+use Rattle.tabled_pool.specs.Shown.{shown}
+
+abbrev pub sheet_of : TableLines → BlockSheet
+sheet_of (Placed d) = record { width = d.now.width; lines = drawn (plan_of d.now) }
+sheet_of (Drawn b) = block_sheet_of b.now
+
+-- the texts of placed pieces have columns and lines
+abbrev pub AreSizedLines : TableLines → Type 0
+AreSizedLines (Placed d) = AreSized (map shown d.now.pieces.now)
+AreSizedLines (Drawn b) = Unit {0}
+
+abbrev pub content_of : LineContent → List ℕ
+content_of (content.Fill f) = coloured (mark_of f.color) (fill f.c f.width)
+content_of (content.Placed l) = drawn_line (plan_of l.drawing.now) l.y
+content_of (content.Text s) = s.now

@@ -1,0 +1,309 @@
+//! The lines of one text in a tree with a zero-width text, with the borders that it draws.
+ghost use Rattle.std.specs.Prelude.{◌≡◌, ◌<◌, ◌+◌, ◌++◌, ◌∷◌, [], map, None, if◌then◌else◌, IfErr};
+ghost use Rattle.std.specs.Prelude.{IfOk, string_bytes, encode_utf8, unwrap_or};
+ghost use Rattle.std.specs.List.{range_with_len};
+ghost use Rattle.std.specs.Option.{option_map};
+ghost use Rattle.tabled_base.specs.declared.error.TableError.TheVariants.{Memory};
+ghost use Rattle.tabled_priority.specs.Sums.{one_if};
+ghost use Rattle.tabled_pool.specs.declared.pieces.Kind.TheVariants.{Leaf};
+ghost use Rattle.tabled_pool.specs.Boxes.{part_of};
+ghost use Rattle.tabled_pool.specs.Marks.{within_marks};
+ghost use Rattle.tabled_pool.specs.Colours.{mark_of};
+ghost use Rattle.tabled_pool.specs.Leaf.{leaf_line};
+ghost use Rattle.tabled_pool.specs.Inherited.{bordered_block, bottom_text, inner_text, is_left};
+ghost use Rattle.tabled_pool.specs.Inherited.{is_right, left_char, marked_text, outer_line};
+ghost use Rattle.tabled_pool.specs.Inherited.{run_char, run_text, text_block, top_text, written};
+ghost use Rattle.tabled_pool.specs.Inheriting.{inheriting_box};
+ghost use Rattle.tabled_pool.specs.DrawnBlocks.{block_sheet_of};
+ghost use Rattle.tabled_pool.specs.Plans.{around_of, plan_of};
+
+use crate::block::draw_block_line;
+use crate::draw::draw_marked;
+use crate::drawn_blocks::DrawnBlock;
+use crate::flags::{is_bottom, is_left, is_right, is_top, own_borders};
+use crate::inheriting_box::InheritingBox;
+use crate::marks::{LineColors, Marks, alone, begun, ended, used_after};
+use crate::pieces::{Drawing, Rectangle};
+use crate::taking::is_split;
+use std::alloc::Global;
+use tabled_base::TableError;
+use tabled_config::Borders;
+use tabled_line::{CellBlock, Content};
+
+/// The character of a border, if that is there. A missing character is a space.
+fn written(there: bool, c: Option<char>) -> Option<char>
+    ensures { result ≡ written there c }
+{
+    if there { Some(c.unwrap_or(' ')) } else { None }
+}
+
+fn push_marked(line: &mut String, marks: Marks, c: Option<char>) -> Result<(), TableError>
+    ensures ok { IfOk result (λ _. string_bytes line.new
+        ≡ string_bytes line.old ++ marked_text (around_of marks) c) }
+    ensures only { IfErr result (λ e. e ≡ Memory) }
+{
+    match c {
+        Some(c) => draw_marked(line, marks, c),
+        None => Ok(()),
+    }
+}
+
+/// The character at column `x` of a horizontal border: `split` where a vertical one meets it.
+fn run_char(
+    sizes: &[usize],
+    width: usize,
+    split: Option<char>,
+    main: Option<char>,
+    x: usize,
+) -> char
+    ensures { encode_utf8 result ≡ run_char sizes.now width split main x }
+{
+    if is_split(sizes, width, x) {
+        split.unwrap_or(' ')
+    } else {
+        main.unwrap_or(' ')
+    }
+}
+
+/// A horizontal border of `width` columns, with `split` where vertical ones meet it.
+fn run_text(
+    alloc: Global,
+    sizes: &[usize],
+    width: usize,
+    split: Option<char>,
+    main: Option<char>,
+) -> Result<String, TableError>
+    ensures ok { IfOk result (λ run. string_bytes run ≡ run_text sizes.now width split main) }
+    ensures only { IfErr result (λ e. e ≡ Memory) }
+{
+    let mut run = String::new(alloc);
+    for x in 0..width {
+        run.push(run_char(sizes, width, split, main, x))?;
+    }
+    Ok(run)
+}
+
+fn push_run(line: &mut String, marks: Marks, run: &str) -> Result<(), TableError>
+    ensures ok { IfOk result (λ _. string_bytes line.new ≡ string_bytes line.old ++ within_marks (around_of marks) run.now) }
+    ensures only { IfErr result (λ e. e ≡ Memory) }
+{
+    line.push_str(marks.close)?;
+    line.push_str(marks.start)?;
+    line.push_str(run)?;
+    line.push_str(marks.behind)?;
+    Ok(())
+}
+
+/// The border above or below a text: a corner, a run, a corner, each with its colour.
+fn outer_line(
+    alloc: Global,
+    colors: LineColors,
+    start: Option<char>,
+    run: &str,
+    end: Option<char>,
+) -> Result<String, TableError>
+    ensures ok { IfOk result (λ line. string_bytes line ≡ outer_line (option_map mark_of colors.corner)
+        (option_map mark_of colors.main) (option_map mark_of colors.right) start run.now end) }
+    ensures only { IfErr result (λ e. e ≡ Memory) }
+{
+    let first = if start.is_some() { colors.corner } else { None };
+    let used = used_after(first, colors.main);
+    let last = if end.is_some() {
+        used_after(used, colors.right)
+    } else {
+        used
+    };
+    let mut line = String::new(alloc);
+    push_marked(&mut line, begun(None, colors.corner), start)?;
+    push_run(&mut line, begun(first, colors.main), run)?;
+    push_marked(&mut line, begun(used, colors.right), end)?;
+    line.push_str(ended(last))?;
+    Ok(line)
+}
+
+#[tactic(auto, unfolding(crate::specs::Leaf::leaf_line))]
+fn push_block_line(
+    line: &mut String,
+    drawing: &Drawing<'_, '_>,
+    place: Rectangle,
+    text: &str,
+    y: usize,
+) -> Result<(), TableError>
+    requires { y < place.height }
+    ensures ok { IfOk result (λ _. string_bytes line.new
+        ≡ string_bytes line.old ++ leaf_line (plan_of drawing.now) (part_of Leaf place text.now) y) }
+    ensures only { IfErr result (λ e. e ≡ Memory) }
+{
+    let cell = CellBlock {
+        style: drawing.style,
+        width: place.width,
+        height: place.height,
+        content: Content::new(text),
+    };
+    draw_block_line(line, &cell, &drawing.padding_colors, y)
+}
+
+/// The width of a text with the borders at its sides. Fails with `Memory` if it exceeds
+/// `usize::MAX`.
+fn bordered_width(own: &Borders<char>, width: usize) -> Result<usize, TableError>
+    ensures ok { IfOk result (λ n. n ≡ one_if (is_left own.now) + width + one_if (is_right own.now)) }
+    ensures only { IfErr result (λ e. e ≡ Memory) }
+{
+    let left = if is_left(own) { 1 } else { 0 };
+    let right = if is_right(own) { 1 } else { 0 };
+    match width.checked_add(left + right) {
+        Some(all) => Ok(all),
+        None => Err(TableError::Memory),
+    }
+}
+
+/// A text and the borders that it draws.
+#[derive(Clone, Copy)]
+pub(crate) struct BorderedText<'r, 'd, 'a> {
+    drawing: &'r Drawing<'d, 'a>,
+    own: Borders<char>,
+    inherited: &'r InheritingBox,
+    text: &'r str,
+}
+
+impl BorderedText<'_, '_, '_> {
+    fn top_text(&self) -> Result<String, TableError>
+        ensures ok { IfOk result (λ line. string_bytes line
+            ≡ top_text (plan_of self.now.drawing.now) self.now.own (inheriting_box self.now.inherited.now)) }
+        ensures only { IfErr result (λ e. e ≡ Memory) }
+    {
+        let BorderedText {
+            drawing,
+            inherited,
+            ..
+        } = *self;
+        let own = &self.own;
+        let split = drawing.borders.bottom_intersection;
+        let width = inherited.place.width;
+        let run = run_text(
+            drawing.alloc,
+            inherited.above.as_slice(),
+            width,
+            split,
+            own.top,
+        )?;
+        let colors = LineColors {
+            corner: drawing.colors.top_left,
+            main: drawing.colors.top,
+            right: drawing.colors.top_right,
+        };
+        let start = written(is_left(own), own.top_left);
+        let end = written(is_right(own), own.top_right);
+        outer_line(drawing.alloc, colors, start, run.as_str(), end)
+    }
+
+    fn bottom_text(&self) -> Result<String, TableError>
+        ensures ok { IfOk result (λ line. string_bytes line
+            ≡ bottom_text (plan_of self.now.drawing.now) self.now.own (inheriting_box self.now.inherited.now)) }
+        ensures only { IfErr result (λ e. e ≡ Memory) }
+    {
+        let BorderedText {
+            drawing,
+            inherited,
+            ..
+        } = *self;
+        let own = &self.own;
+        let width = inherited.place.width;
+        let run = run_text(drawing.alloc, &[], width, None, own.bottom)?;
+        let colors = LineColors {
+            corner: drawing.colors.bottom_left,
+            main: drawing.colors.bottom,
+            right: drawing.colors.bottom_right,
+        };
+        let start = written(is_left(own), own.bottom_left);
+        let end = written(is_right(own), own.bottom_right);
+        outer_line(drawing.alloc, colors, start, run.as_str(), end)
+    }
+
+    fn left_char(&self, y: usize) -> Option<char>
+        ensures { result ≡ left_char (plan_of self.now.drawing.now) self.now.own
+            (inheriting_box self.now.inherited.now) y }
+    {
+        if is_split(
+            self.inherited.before.as_slice(),
+            self.inherited.place.height,
+            y,
+        ) {
+            self.drawing.borders.right_intersection
+        } else {
+            self.own.left
+        }
+    }
+
+    fn inner_text(&self, y: usize) -> Result<String, TableError>
+        requires { y < self.now.inherited.now.place.height }
+        ensures ok { IfOk result (λ line. string_bytes line
+            ≡ inner_text (plan_of self.now.drawing.now) self.now.own (inheriting_box self.now.inherited.now)
+            self.now.text.now y) }
+        ensures only { IfErr result (λ e. e ≡ Memory) }
+    {
+        let drawing = self.drawing;
+        let left = written(is_left(&self.own), self.left_char(y));
+        let right = written(is_right(&self.own), self.own.right);
+        let mut line = String::new(drawing.alloc);
+        push_marked(&mut line, alone(drawing.colors.left), left)?;
+        push_block_line(&mut line, drawing, self.inherited.place, self.text, y)?;
+        push_marked(&mut line, alone(drawing.colors.right), right)?;
+        Ok(line)
+    }
+
+    fn push_inner_texts(&self, lines: &mut Vec<String>) -> Result<(), TableError>
+        ensures ok { IfOk result (λ _. map string_bytes lines.new.items ≡ map string_bytes lines.old.items
+            ++ map (inner_text (plan_of self.now.drawing.now) self.now.own (inheriting_box self.now.inherited.now)
+            self.now.text.now) (range_with_len 0 self.now.inherited.now.place.height)) }
+        ensures only { IfErr result (λ e. e ≡ Memory) }
+    {
+        for y in 0..self.inherited.place.height {
+            lines.push(self.inner_text(y)?)?;
+        }
+        Ok(())
+    }
+
+    #[tactic(auto, unfolding(crate::specs::Inherited::bordered_block))]
+    fn block(&self) -> Result<DrawnBlock, TableError>
+        ensures ok { IfOk result (λ block. block_sheet_of block
+            ≡ bordered_block (plan_of self.now.drawing.now) self.now.own (inheriting_box self.now.inherited.now)
+            self.now.text.now) }
+        ensures only { IfErr result (λ e. e ≡ Memory) }
+    {
+        let mut lines = Vec::new(self.drawing.alloc);
+        if is_top(&self.own) {
+            lines.push(self.top_text()?)?;
+        }
+        self.push_inner_texts(&mut lines)?;
+        if is_bottom(&self.own) {
+            lines.push(self.bottom_text()?)?;
+        }
+        let width = bordered_width(&self.own, self.inherited.place.width)?;
+        Ok(DrawnBlock { width, lines })
+    }
+}
+
+/// The drawn block of a text. A zero-width text is one empty line.
+pub(crate) fn text_block(
+    drawing: &Drawing<'_, '_>,
+    inherited: &InheritingBox,
+    text: &str,
+) -> Result<DrawnBlock, TableError>
+    ensures ok { IfOk result (λ block. block_sheet_of block
+        ≡ text_block (plan_of drawing.now) (inheriting_box inherited.now) text.now) }
+    ensures only { IfErr result (λ e. e ≡ Memory) }
+{
+    if inherited.place.width == 0 {
+        let mut lines = Vec::new(drawing.alloc);
+        lines.push(String::new(drawing.alloc))?;
+        return Ok(DrawnBlock { width: 0, lines });
+    }
+    let text = BorderedText {
+        drawing,
+        own: own_borders(&drawing.borders, inherited.flags),
+        inherited,
+        text,
+    };
+    text.block()
+}

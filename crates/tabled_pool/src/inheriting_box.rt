@@ -1,0 +1,240 @@
+//! What boxes inherit and pass on. No function here is inlined, so that the recursive walk has a
+//! small stack frame.
+ghost use Rattle.std.specs.Prelude.{◌≡◌, ◌∷◌, ◌++◌, [], map, IfErr, IfOk};
+ghost use Rattle.tabled_base.specs.declared.error.TableError.TheVariants.{Memory};
+ghost use Rattle.tabled_pool.specs.Boxes.{box_along, box_of, pick};
+ghost use Rattle.tabled_pool.specs.Left.{CanSplit, given_in};
+ghost use Rattle.tabled_pool.specs.Shown.{Fits};
+ghost use Rattle.tabled_pool.specs.Inherited.{joined, passes_across, passes_along, text_passes};
+ghost use Rattle.tabled_pool.specs.Inherited.{to_first, to_last, to_later, whole_flags};
+ghost use Rattle.tabled_pool.specs.Inherited.{with_passed};
+ghost use Rattle.tabled_pool.specs.Inheriting.{inheriting_box, passed_on};
+ghost use Rattle.tabled_pool.specs.DrawnBlocks.{block_sheet_of};
+ghost use Rattle.tabled_pool.specs.Plans.{plan_of};
+
+use crate::bordered_text::text_block;
+use crate::box_spacing::{BoxSpacing, Direction};
+use crate::drawn_blocks::{DrawnBlock, side_by_side, stacked};
+use crate::flags::Flags;
+use crate::pieces::{Drawing, Rectangle};
+use crate::places::{BoxesLeft, split};
+use crate::taking::{TakenSizes, taken};
+use crate::tree::TableValue;
+use std::alloc::Global;
+use std::mem;
+use tabled_base::TableError;
+
+/// A box: what it inherits, and once it is drawn, what it passes on.
+#[derive(Drop)]
+pub(crate) struct InheritingBox {
+    pub place: Rectangle,
+    pub flags: Flags,
+    /// The widths of the boxes above it; once it is drawn, its own for the boxes below it.
+    pub above: Vec<usize>,
+    /// The heights of the boxes to its left; once it is drawn, its own for the boxes to its right.
+    pub before: Vec<usize>,
+    /// Its drawn lines.
+    pub block: DrawnBlock,
+}
+
+/// Boxes of a row or a column: the drawn ones, and the one that is drawn next.
+#[derive(Drop)]
+pub(crate) struct DrawnBoxes {
+    pub blocks: Vec<DrawnBlock>,
+    /// The sizes that the drawn ones pass on together: widths in a row, heights in a column.
+    pub sizes: Vec<usize>,
+    pub next: InheritingBox,
+}
+
+impl InheritingBox {
+    /// A box that is alone in its rectangle.
+    #[inline(never)]
+    pub(crate) fn new(alloc: Global, place: Rectangle) -> InheritingBox
+        ensures { inheriting_box result ≡ record { place = place; flags = whole_flags; above = []; before = [] } }
+    {
+        InheritingBox {
+            place,
+            flags: Flags::whole(),
+            above: Vec::new(alloc),
+            before: Vec::new(alloc),
+            block: DrawnBlock {
+                width: 0,
+                lines: Vec::new(alloc),
+            },
+        }
+    }
+
+    /// Draws a text, which passes on its own width and height.
+    #[inline(never)]
+    pub(crate) fn draw_text(
+        &mut self,
+        drawing: &Drawing<'_, '_>,
+        text: &str,
+    ) -> Result<(), TableError>
+        ensures ok { IfOk result (λ _. passed_on self.new ≡ text_passes (plan_of drawing.now) text.now (inheriting_box self.old)) }
+        ensures only { IfErr result (λ e. e ≡ Memory) }
+    {
+        self.block = text_block(drawing, self, text)?;
+        self.above.clear();
+        self.above.push(self.place.width)?;
+        self.before.clear();
+        self.before.push(self.place.height)?;
+        Ok(())
+    }
+
+    /// The sizes that it inherits or passes on in a direction.
+    fn along(&self, direction: Direction) -> &[usize]
+        ensures { result.now ≡ pick direction self.now.above.items self.now.before.items }
+    {
+        match direction {
+            Direction::Across => self.above.as_slice(),
+            Direction::Down => self.before.as_slice(),
+        }
+    }
+
+    /// Passes to the first of the boxes that are left its part of what they inherit. Returns the
+    /// size that it needs.
+    #[inline(never)]
+    pub(crate) fn pass_to(
+        &mut self,
+        direction: Direction,
+        first: &mut InheritingBox,
+        child: &TableValue,
+        spacing: &BoxSpacing,
+        left: BoxesLeft,
+    ) -> Result<usize, TableError>
+        requires { CanSplit direction spacing.now child.now left self.old.place }
+        ensures own { IfOk result (λ own. own ≡ box_along direction (box_of spacing.now child.now)) }
+        ensures first { IfOk result (λ _. inheriting_box first.new ≡ to_first direction
+            (given_in direction spacing.now child.now left self.old.place) (inheriting_box self.old)) }
+        ensures others { IfOk result (λ _. inheriting_box self.new ≡ to_later direction spacing.now
+            (given_in direction spacing.now child.now left self.old.place) (inheriting_box self.old)
+            (pick direction self.new.before.items self.new.above.items)) }
+        ensures fits { IfOk result (λ _. Fits (box_of spacing.now child.now) first.new.place) }
+        ensures only { IfErr result (λ e. e ≡ Memory) }
+    {
+        let cut = split(direction, child, spacing, left, self.place);
+        let given = direction.pick(cut.given.width, cut.given.height);
+        let alloc = *self.above.allocator();
+        let TakenSizes { part, rest, met } = taken(alloc, given, self.along(direction))?;
+        first.place = cut.given;
+        first.flags = self.flags.first(direction, false);
+        self.place = cut.rest;
+        self.flags = self.flags.later(direction, met);
+        match direction {
+            Direction::Across => {
+                first.above = part;
+                mem::swap(&mut first.before, &mut self.before);
+                self.above = rest;
+            }
+            Direction::Down => {
+                first.before = part;
+                mem::swap(&mut first.above, &mut self.above);
+                self.before = rest;
+            }
+        }
+        Ok(cut.own)
+    }
+
+    /// Passes to the last of the boxes what is left.
+    #[inline(never)]
+    pub(crate) fn pass_rest(
+        &mut self,
+        direction: Direction,
+        last: &mut InheritingBox,
+    ) -> Result<(), TableError>
+        ensures ok { IfOk result (λ _. inheriting_box last.new ≡ to_last direction (inheriting_box self.old)) }
+        ensures only { IfErr result (λ e. e ≡ Memory) }
+    {
+        let size = direction.pick(self.place.width, self.place.height);
+        let sizes = taken(*self.above.allocator(), size, self.along(direction))?;
+        last.place = self.place;
+        last.flags = self.flags.first(direction, true);
+        match direction {
+            Direction::Across => {
+                last.above = sizes.part;
+                mem::swap(&mut last.before, &mut self.before);
+            }
+            Direction::Down => {
+                last.before = sizes.part;
+                mem::swap(&mut last.above, &mut self.above);
+            }
+        }
+        Ok(())
+    }
+}
+
+impl DrawnBoxes {
+    /// No drawn boxes yet. They are on the heap, so that the recursive walk has a small stack
+    /// frame.
+    #[inline(never)]
+    pub(crate) fn boxed(alloc: Global, place: Rectangle) -> Result<Box<DrawnBoxes>, TableError>
+        ensures blocks { IfOk result (λ drawn. drawn.value.blocks.items ≡ []) }
+        ensures sizes { IfOk result (λ drawn. drawn.value.sizes.items ≡ []) }
+        ensures only { IfErr result (λ e. e ≡ Memory) }
+    {
+        let drawn = DrawnBoxes {
+            blocks: Vec::new(alloc),
+            sizes: Vec::new(alloc),
+            next: InheritingBox::new(alloc, place),
+        };
+        Ok(Box::new(alloc, drawn)?)
+    }
+
+    /// Adds the drawn box, and passes its sizes in the other direction on to the boxes after it.
+    #[inline(never)]
+    pub(crate) fn add(
+        &mut self,
+        direction: Direction,
+        all: &mut InheritingBox,
+    ) -> Result<(), TableError>
+        ensures blocks { IfOk result (λ _. map block_sheet_of self.new.blocks.items
+            ≡ map block_sheet_of self.old.blocks.items ++ (block_sheet_of self.old.next.block ∷ [])) }
+        ensures sizes { IfOk result (λ _. self.new.sizes.items
+            ≡ self.old.sizes.items ++ passes_along direction (passed_on self.old.next)) }
+        ensures others { IfOk result (λ _. inheriting_box all.new
+            ≡ with_passed direction (inheriting_box all.old) (passes_across direction (passed_on self.old.next))) }
+        ensures only { IfErr result (λ e. e ≡ Memory) }
+    {
+        let none = DrawnBlock {
+            width: 0,
+            lines: Vec::new(*self.sizes.allocator()),
+        };
+        self.blocks.push(mem::replace(&mut self.next.block, none))?;
+        self.sizes.extend_from_slice(self.next.along(direction))?;
+        match direction {
+            Direction::Across => mem::swap(&mut all.before, &mut self.next.before),
+            Direction::Down => mem::swap(&mut all.above, &mut self.next.above),
+        }
+        Ok(())
+    }
+
+    /// Joins the boxes. The sizes of all in their direction pass on, and in the other one those of
+    /// the last.
+    #[inline(never)]
+    pub(crate) fn join(
+        &mut self,
+        direction: Direction,
+        all: &mut InheritingBox,
+    ) -> Result<(), TableError>
+        ensures ok { IfOk result (λ _. passed_on all.new ≡ joined direction (record {
+          blocks = map block_sheet_of self.old.blocks.items;
+          sizes = self.old.sizes.items;
+          passed = pick direction all.old.before.items all.old.above.items;
+        })) }
+        ensures only { IfErr result (λ e. e ≡ Memory) }
+    {
+        let alloc = *self.sizes.allocator();
+        match direction {
+            Direction::Across => {
+                all.block = side_by_side(alloc, self.blocks.as_slice())?;
+                mem::swap(&mut all.above, &mut self.sizes);
+            }
+            Direction::Down => {
+                all.block = stacked(alloc, self.blocks.as_slice())?;
+                mem::swap(&mut all.before, &mut self.sizes);
+            }
+        }
+        Ok(())
+    }
+}

@@ -1,0 +1,192 @@
+//! `TableLines`: all lines of a table, and how they are written with the margin around them.
+ghost use Rattle.std.specs.Prelude.{◌<◌, ◌∷◌, ◌≡◌, [], length, map, replicate};
+ghost use Rattle.std.specs.List.{join_with_byte, slice_index_or};
+ghost use Rattle.tabled_line.specs.Leading.{WritesLines};
+ghost use Rattle.tabled_line.specs.Sent.{Sent, Writes};
+ghost use Rattle.tabled_pool.specs.Colours.{coloured, mark_of, marks_of};
+ghost use Rattle.tabled_pool.specs.Margins.{margin_line, with_margin, within_margin};
+ghost use Rattle.tabled_pool.specs.TableLines.{AreSizedLines, content_of, sheet_of};
+ghost use Rattle.tabled_line.specs.Fill.{indent};
+
+use crate::draw::draw_line;
+use crate::drawn_blocks::DrawnBlock;
+use crate::line::Line;
+use crate::marks::draw_colored_fill;
+use crate::pieces::Drawing;
+use crate::plain::are_uncolored_lines;
+use crate::sweep::Sweep;
+use tabled_base::TableError;
+use tabled_config::{ANSIStr, Indent, Sides};
+use tabled_line::{TextSink, write_break};
+
+#[derive(Clone, Copy)]
+pub struct ColoredMargin {
+    pub indent: Sides<Indent>,
+    pub colors: Sides<ANSIStr<'static>>,
+}
+
+/// The lines of a table without its margin.
+#[derive(Clone, Copy)]
+pub(crate) enum TableLines<'l, 'd, 'a> {
+    /// Of placed pieces: they are drawn one by one.
+    Placed(&'l Drawing<'d, 'a>),
+    /// Of a block that is drawn already.
+    Drawn(&'l DrawnBlock),
+}
+
+/// The characters of a line of the top or bottom margin.
+#[derive(Clone, Copy)]
+pub(crate) struct MarginFill {
+    color: ANSIStr<'static>,
+    c: char,
+    width: usize,
+}
+
+/// What is between the side margins of a line.
+#[derive(Clone, Copy)]
+pub(crate) enum LineContent<'l, 's, 'd, 'a> {
+    Fill(MarginFill),
+    Placed(Line<'l, 's, 'd, 'a>),
+    Text(&'l str),
+}
+
+impl LineContent<'_, '_, '_, '_> {
+    fn write<S: TextSink>(self, sink: &mut S) -> Result<(), TableError>
+        ensures { Writes (S.sent sink.old) result (S.sent sink.new) (content_of self.entry) }
+    {
+        match self {
+            LineContent::Fill(fill) => draw_colored_fill(sink, fill.color, fill.c, fill.width),
+            LineContent::Placed(line) => draw_line(sink, &line),
+            LineContent::Text(text) => sink.write_text(text),
+        }
+    }
+}
+
+impl<'l, 'd, 'a> TableLines<'l, 'd, 'a> {
+    fn width(self) -> usize
+        ensures { result ≡ (sheet_of self.entry).width }
+    {
+        match self {
+            TableLines::Placed(drawing) => drawing.width,
+            TableLines::Drawn(block) => block.width,
+        }
+    }
+
+    fn height(self) -> usize
+        ensures { result ≡ length (sheet_of self.entry).lines }
+    {
+        match self {
+            TableLines::Placed(drawing) => drawing.height,
+            TableLines::Drawn(block) => block.lines.len(),
+        }
+    }
+
+    fn sweep(self) -> Sweep {
+        match self {
+            TableLines::Placed(d) => Sweep::new(d.alloc, d.pieces, d.width, d.height),
+            TableLines::Drawn(block) => Sweep::new(*block.lines.allocator(), &[], 0, 0),
+        }
+    }
+
+    fn advance(self, sweep: &mut Sweep, y: usize) {
+        if let TableLines::Placed(drawing) = self {
+            sweep.advance(drawing.pieces, y);
+        }
+    }
+
+    /// Line `y`, which the sweep is at.
+    fn line<'s>(self, sweep: &'s Sweep, y: usize) -> LineContent<'l, 's, 'd, 'a>
+        requires inside { y < length (sheet_of self).lines }
+        requires sized { AreSizedLines self }
+        ensures { content_of result ≡ slice_index_or (sheet_of self.entry).lines y [] }
+    {
+        match self {
+            TableLines::Placed(drawing) => LineContent::Placed(Line {
+                drawing,
+                sweep,
+                y,
+                uncolored: are_uncolored_lines(&drawing.colors),
+            }),
+            TableLines::Drawn(block) => LineContent::Text(block.lines[y].as_str()),
+        }
+    }
+}
+
+/// Writes the next line, between the side margins.
+fn draw_next<S: TextSink>(
+    sink: &mut S,
+    begun: &mut bool,
+    margin: &ColoredMargin,
+    content: LineContent<'_, '_, '_, '_>,
+) -> Result<(), TableError>
+    ensures { WritesLines (S.sent sink.old) begun.old result (S.sent sink.new) begun.new
+        (within_margin margin.now.indent (marks_of margin.now.colors) (content_of content.entry) ∷ []) }
+{
+    write_break(sink, begun)?;
+    let Sides { left, right, .. } = margin.indent;
+    draw_colored_fill(sink, margin.colors.left, left.fill, left.size)?;
+    content.write(sink)?;
+    draw_colored_fill(sink, margin.colors.right, right.fill, right.size)
+}
+
+/// Writes the lines of the top or the bottom margin.
+fn draw_margin<S: TextSink>(
+    sink: &mut S,
+    begun: &mut bool,
+    margin: &ColoredMargin,
+    fill: MarginFill,
+    count: usize,
+) -> Result<(), TableError>
+    ensures { WritesLines (S.sent sink.old) begun.old result (S.sent sink.new) begun.new
+        (replicate count (margin_line margin.now.indent (marks_of margin.now.colors)
+        (mark_of fill.color) fill.c fill.width)) }
+{
+    'lines: for _i in 0..count {
+        draw_next(sink, begun, margin, LineContent::Fill(fill))?;
+    }
+    Ok(())
+}
+
+/// Writes the lines between the top and the bottom margin.
+fn draw_inner_lines<S: TextSink>(
+    sink: &mut S,
+    begun: &mut bool,
+    margin: &ColoredMargin,
+    lines: TableLines<'_, '_, '_>,
+) -> Result<(), TableError>
+    requires { AreSizedLines lines }
+    ensures { WritesLines (S.sent sink.old) begun.old result (S.sent sink.new) begun.new
+        (map (within_margin margin.now.indent (marks_of margin.now.colors)) (sheet_of lines.entry).lines) }
+{
+    let mut sweep = lines.sweep();
+    'lines: for y in 0..lines.height() {
+        lines.advance(&mut sweep, y);
+        draw_next(sink, begun, margin, lines.line(&sweep, y))?;
+    }
+    Ok(())
+}
+
+/// Writes all lines with their margin, with line feeds between them.
+pub(crate) fn draw_lines<S: TextSink>(
+    sink: &mut S,
+    lines: TableLines<'_, '_, '_>,
+    margin: &ColoredMargin,
+) -> Result<(), TableError>
+    requires { AreSizedLines lines }
+    ensures { Writes (S.sent sink.old) result (S.sent sink.new) (join_with_byte 10
+        (with_margin margin.now.indent (marks_of margin.now.colors)
+        (sheet_of lines.entry).width (sheet_of lines.entry).lines)) }
+{
+    let ColoredMargin { indent, colors } = *margin;
+    let width = lines.width();
+    let c = indent.top.fill;
+    let color = colors.top;
+    let top = MarginFill { color, c, width };
+    let c = indent.bottom.fill;
+    let color = colors.bottom;
+    let bottom = MarginFill { color, c, width };
+    let mut begun = false;
+    draw_margin(sink, &mut begun, margin, top, indent.top.size)?;
+    draw_inner_lines(sink, &mut begun, margin, lines)?;
+    draw_margin(sink, &mut begun, margin, bottom, indent.bottom.size)
+}
