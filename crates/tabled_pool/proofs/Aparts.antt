@@ -3,57 +3,27 @@ use Rattle.std.proofs.Common.{◌≡◌, ℕ, suc, ◌+◌, ◌-◌, ◌<◌, tr
 use Rattle.std.specs.Str.{IsUtf8}
 use Rattle.tabled_text.specs.FramedLines.{IsLine, IsSeparatorColumn}
 use Rattle.tabled_text.proofs.LineLaws.{frame-one, line-frame}
-use Rattle.tabled_text.proofs.Ends.{
-  begins-frame,
-  closes-append,
-  closes-frame,
-  closes-framed,
-  frame-nil,
-  line-begins,
-  line-closes,
-  line-nil,
-  opens-begins,
-  Closes,
-}
-use Rattle.tabled_config.specs.Compact.{each_side}
-use Rattle.tabled_line.specs.Apart.{IsApartStyle}
+use Rattle.tabled_text.proofs.Ends.{begins-frame, closes-append, closes-frame, closes-framed, frame-nil, line-begins, line-closes}
+use Rattle.tabled_text.proofs.Ends.{line-nil, opens-begins, Closes}
 use Rattle.tabled_line.proofs.Joined.{IsClosedLine}
-use Rattle.tabled_pool.specs.declared.box_spacing.BoxSpacing.{BoxSpacing}
+use Rattle.tabled_pool.specs.declared.sizes.BoxSpacing.{BoxSpacing}
 use Rattle.tabled_pool.specs.declared.pieces.Kind.{Kind}
 use Rattle.tabled_pool.specs.declared.pieces.Kind.TheVariants.{Leaf, Bar, Rule}
 use Rattle.tabled_pool.specs.declared.pieces.Rectangle.{Rectangle}
-use Rattle.tabled_pool.specs.Boxes.{Part}
-use Rattle.tabled_pool.specs.Tiling.{AreTiles, EachFits}
-use Rattle.tabled_pool.specs.Block.{pool_block}
-use Rattle.tabled_pool.specs.Colours.{no_mark}
-use Rattle.tabled_pool.specs.Leaf.{leaf_line}
-use Rattle.tabled_pool.specs.Kinds.{is_line_kind}
+use Rattle.tabled_pool.specs.Boxes.{Part, is_line_kind}
+use Rattle.tabled_pool.specs.Block.{pool_block, leaf_line}
 use Rattle.tabled_pool.specs.Plan.{DrawingPlan}
-use Rattle.tabled_pool.specs.Characters.{EachCharacter}
 use Rattle.tabled_pool.specs.Drawn.{border_char}
 use Rattle.tabled_pool.specs.Owner.{owner, is_border_before, is_line}
-use Rattle.tabled_pool.specs.Uncoloured.{AreNoMarks}
-use Rattle.tabled_pool.specs.Whole.{whole}
 use Rattle.tabled_pool.proofs.ApartBlocks.{held-block, separator-space, IsBlockLine}
 use Rattle.tabled_pool.proofs.Bare.{around-bare}
 use Rattle.tabled_pool.proofs.Characters.{char-kind}
 use Rattle.tabled_pool.proofs.Drawable.{IsDrawable}
 use Rattle.tabled_pool.proofs.Owners.{within-inside, owner-inside}
-use Rattle.tabled_pool.proofs.Plains.{owner-fits}
+use Rattle.tabled_pool.proofs.Plains.{IsTree, owner-fits}
 
--- parts that tile the whole, with room for their texts, under separators
-pub record ApartTree (g : BoxSpacing) (t : DrawingPlan) : Type 0 where
-  pub once : AreTiles t.parts (whole t)
-  pub fits : EachFits g t.parts
-  pub left : g.padding.left ≡ t.style.padding.left.size
-  pub right : g.padding.right ≡ t.style.padding.right.size
-  pub top : g.padding.top ≡ t.style.padding.top.size
-  pub bottom : g.padding.bottom ≡ t.style.padding.bottom.size
-  pub borders : EachCharacter IsSeparatorColumn t.borders
-  pub style : IsApartStyle t.style
-  pub texts : (x y : ℕ) (p : Part) → owner t.parts x y ≡ Some p → IsUtf8 p.text
-  pub padding_marks : t.padding_marks ≡ each_side no_mark
-  pub line_marks : AreNoMarks t.line_marks
+abbrev pub ApartTree : BoxSpacing → DrawingPlan → Type 0
+ApartTree g t = IsTree IsSeparatorColumn IsUtf8 g t
 
 char : (g : BoxSpacing) (t : DrawingPlan) → ApartTree g t → (k : Kind) (r : Rectangle) (x y : ℕ) → IsSeparatorColumn (border_char t k r x y)
 char g t h k r x y = char-kind IsSeparatorColumn t separator-space h.borders k r x y
@@ -67,7 +37,7 @@ leaf-held g t h x y p o e =
     subst (λ ms. IsBlockLine t.style p.place.width (get_or (pool_block t.style ms p.place.width p.place.height p.text) (y - p.place.y) []))
     (sym h.padding_marks)
     (held-block t.style p.place.width p.place.height (y - p.place.y) p.text
-    (record { style = h.style; utf8 = h.texts x y p o; fits = omega (arith, f.wide, h.left, h.right) })
+    (record { style = h.padding; utf8 = h.texts x y p o; fits = omega (arith, f.wide, h.left, h.right) })
     (omega (arith, i.top, i.bottom)))
 
 -- ---- with left padding each text begins apart

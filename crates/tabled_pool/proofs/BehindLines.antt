@@ -2,21 +2,21 @@
 use Rattle.std.proofs.Common.{◌≡◌, ℕ, zero, suc, ◌+◌, ◌-◌, ◌<◌, ◌≤◌, true, List, [], ◌∷◌, ◌++◌, Option, Some, None, map}
 use Rattle.std.proofs.Common.{length, refl, sym, ap, ◌∙◌, subst, arith, ⊎_elim, ◌⊎◌, inl, inr, string_bytes}
 use Rattle.tabled_config.specs.declared.sides.Sides.{Sides}
-use Rattle.tabled_pool.specs.declared.box_spacing.BoxSpacing.{BoxSpacing}
+use Rattle.tabled_pool.specs.declared.sizes.BoxSpacing.{BoxSpacing}
 use Rattle.tabled_pool.specs.declared.pieces.Rectangle.{Rectangle}
 use Rattle.tabled_pool.specs.declared.pieces.Kind.TheVariants.{Leaf, Bar, Rule}
 use Rattle.tabled_pool.specs.declared.tree.TableValue.{TableValue}
 use Rattle.tabled_pool.specs.declared.tree.TableValue.TheOpen.{Row, Column, Cell}
 use Rattle.tabled_pool.specs.declared.tree.TableValue.TheFolds.{fold-roll-TableValue, ind-TableValue, map-TableValue}
 use Rattle.tabled_pool.specs.declared.tree.TableValue.TheViews.{roll-TableValue}
-use Rattle.tabled_pool.specs.declared.box_spacing.Direction.TheVariants.{Across, Down}
-use Rattle.tabled_pool.specs.Boxes.{Part, Box, part_of, left_part, right_part, top_part, bottom_part, given_size}
-use Rattle.tabled_pool.specs.Boxes.{needed_by, joined_box, leaf_box, list_box, box_step, box_of}
+use Rattle.tabled_pool.specs.declared.sizes.Direction.{Direction}
+use Rattle.tabled_pool.specs.declared.sizes.Direction.TheVariants.{Across, Down}
+use Rattle.tabled_pool.specs.Boxes.{Part, Box, part_of, left_part, right_part, top_part, bottom_part, given_size, needed_by, joined_box}
+use Rattle.tabled_pool.specs.Boxes.{leaf_box, list_box, box_step, box_of, is_line_kind}
 use Rattle.tabled_pool.specs.Tiling.{framed, within, covering, Tiles}
 use Rattle.tabled_pool.proofs.Framing.{tree_framed_tiles}
 use Rattle.tabled_pool.proofs.Directions.{shares}
 use Rattle.tabled_pool.proofs.Tiling.{covering-append, joined-tiles, list_box-tiles, tree-tiles, AllTile}
-use Rattle.tabled_pool.specs.Kinds.{is_line_kind}
 use Rattle.tabled_pool.specs.Owner.{owner, is_border_before, is_line}
 use Rattle.tabled_pool.proofs.Owners.{inside-within, within-inside, within-le, owner-inside, owner-here, owner-behind, counted, is-1}
 
@@ -163,19 +163,17 @@ leaf-behind g text = record {
       (is-1 (within r x y));
 }
 
-all-row : (g : BoxSpacing) → g.bar ≡ 1 → (bs : List Box) → AllBehind bs → AllTile bs → TextsBehind (list_box Across g bs)
-all-row g e [] ts us = leaf-behind g []
-all-row g e (b ∷ []) (t, ts) (u, us) = t
-all-row g e (b ∷ (c ∷ bs)) (t, ts) (u, us) =
-    row-behind g e (length (c ∷ bs) + 1) b (list_box Across g (c ∷ bs)) (omega arith) t (all-row g e (c ∷ bs) ts us) u
-    (list_box-tiles Across g (c ∷ bs) us)
+joined-behind : (d : Direction) (g : BoxSpacing) → g.bar ≡ 1 → (k : ℕ) (b c : Box) → 0 < k → TextsBehind b → TextsBehind c → Tiles b → Tiles c
+    → TextsBehind (joined_box d g k b c)
+joined-behind Across g e = row-behind g e
+joined-behind Down g e = column-behind g
 
-all-column : (g : BoxSpacing) (bs : List Box) → AllBehind bs → AllTile bs → TextsBehind (list_box Down g bs)
-all-column g [] ts us = leaf-behind g []
-all-column g (b ∷ []) (t, ts) (u, us) = t
-all-column g (b ∷ (c ∷ bs)) (t, ts) (u, us) =
-    column-behind g (length (c ∷ bs) + 1) b (list_box Down g (c ∷ bs)) (omega arith) t (all-column g (c ∷ bs) ts us) u
-    (list_box-tiles Down g (c ∷ bs) us)
+list-behind : (d : Direction) (g : BoxSpacing) → g.bar ≡ 1 → (bs : List Box) → AllBehind bs → AllTile bs → TextsBehind (list_box d g bs)
+list-behind d g e [] ts us = leaf-behind g []
+list-behind d g e (b ∷ []) (t, ts) (u, us) = t
+list-behind d g e (b ∷ (c ∷ bs)) (t, ts) (u, us) =
+    joined-behind d g e (length (c ∷ bs) + 1) b (list_box d g (c ∷ bs)) (omega arith) t (list-behind d g e (c ∷ bs) ts us) u
+    (list_box-tiles d g (c ∷ bs) us)
 
 -- ---- trees
 
@@ -196,8 +194,8 @@ tree-behind g e = ind-TableValue (Holds g) (λ x y is.
     (subst TextsBehind (sym (fold-roll-TableValue Box (box_step g) (map-TableValue _ TableValue (λ e. e.0) y)))
     (elim y as (λ v. TextsBehind (box_step g (map-TableValue _ Box (box_of g) (map-TableValue _ TableValue (λ e. e.0) v)))) [
       | Cell s ↦ leaf-behind g (string_bytes s)
-      | Row v ↦ all-row g e _ (all-behind g v.items) (all-tile g v.items)
-      | Column v ↦ all-column g _ (all-behind g v.items) (all-tile g v.items)
+      | Row v ↦ list-behind Across g e _ (all-behind g v.items) (all-tile g v.items)
+      | Column v ↦ list-behind Down g e _ (all-behind g v.items) (all-tile g v.items)
     ])))
 
 -- a tree in its frame: a line stands before each text

@@ -1,6 +1,6 @@
 -- Each drawn line takes the columns of the whole.
 use Rattle.std.proofs.Common.{◌≡◌, ℕ, zero, suc, ◌+◌, ◌<◌, ◌≤◌, List, ◌++◌, Some, refl, sym, ◌∙◌, ap, subst, append-nil, arith, encode_utf8, ◌⊎◌, inl, inr}
-use Rattle.std.specs.List.{flat_map, range_with_len}
+use Rattle.std.specs.List.{All, flat_map, range_with_len}
 use Rattle.std.proofs.lemmas.List.FromFn.{length-map-range_with_len, get_or-map-range_with_len}
 use Rattle.tabled_text.specs.Measure.{line_columns}
 use Rattle.tabled_line.specs.Plain.{EachLineTakes}
@@ -80,9 +80,12 @@ pub line-measured : {Out : ℕ → ℕ → List ℕ → ℕ → Type 0} (t : Dra
 unfolding drawn_line
 line-measured {Out} t d y v = subst (Out y t.width (out t y t.width)) (ends t d.once y t.width refl v) (prefix t d y t.width (omega arith) v)
 
-pub drawn_takes : {Out : ℕ → ℕ → List ℕ → ℕ → Type 0} (t : DrawingPlan) → IsDrawable t Out → EachLineTakes t.width (drawn t)
+pub drawn-each : (t : DrawingPlan) (P : List ℕ → Type 0) → ((y : ℕ) → y < t.height → P (drawn_line t y)) → All P (drawn t)
 unfolding drawn
-drawn_takes t d k line l =
+drawn-each t P each k line l =
     let h : k < t.height = subst (λ n. k < n) (length-map-range_with_len (drawn_line t) 0 t.height) l in
     let e = get_or-map-range_with_len (drawn_line t) 0 t.height k k line h (omega arith) in
-    subst (λ bs. line_columns bs ≡ t.width) (sym e) (d.columns k t.width (drawn_line t k) t.width (line-measured t d k h))
+    subst P (sym e) (each k h)
+
+pub drawn_takes : {Out : ℕ → ℕ → List ℕ → ℕ → Type 0} (t : DrawingPlan) → IsDrawable t Out → EachLineTakes t.width (drawn t)
+drawn_takes t d = drawn-each t (λ l. line_columns l ≡ t.width) (λ y v. d.columns y t.width (drawn_line t y) t.width (line-measured t d y v))

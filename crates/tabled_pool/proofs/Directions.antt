@@ -4,9 +4,9 @@ use Rattle.tabled_size.specs.declared.pool_table_dimension.DimensionPriority.{Di
 use Rattle.tabled_size.specs.declared.pool_table_dimension.DimensionPriority.TheVariants.{First, Last, List as Each}
 use Rattle.std.proofs.Math.Nat.{le-mul_of_pos_right}
 use Rattle.std.proofs.lemmas.Bool.Decides.{nat_tests}
-use Rattle.tabled_pool.specs.declared.box_spacing.BoxSpacing.{BoxSpacing}
-use Rattle.tabled_pool.specs.declared.box_spacing.Direction.{Direction}
-use Rattle.tabled_pool.specs.declared.box_spacing.Direction.TheVariants.{Across, Down}
+use Rattle.tabled_pool.specs.declared.sizes.BoxSpacing.{BoxSpacing}
+use Rattle.tabled_pool.specs.declared.sizes.Direction.{Direction}
+use Rattle.tabled_pool.specs.declared.sizes.Direction.TheVariants.{Across, Down}
 use Rattle.tabled_pool.specs.declared.pieces.Rectangle.{Rectangle}
 use Rattle.tabled_pool.specs.Boxes.{Box, share, pick, first_part, rest_part, box_along, box_across, place_along}
 use Rattle.tabled_pool.specs.Boxes.{place_across, border_size, given_size, behind_border, needed_by}

@@ -6,12 +6,11 @@ use Rattle.tabled_pool.specs.declared.pieces.Kind.TheVariants.{Leaf}
 use Rattle.tabled_pool.specs.Boxes.{Part}
 use Rattle.tabled_pool.specs.Tiling.{within, covering}
 use Rattle.tabled_pool.specs.Marks.{nothing_around}
-use Rattle.tabled_pool.specs.Leaf.{leaf_line}
-use Rattle.tabled_pool.specs.Plan.{DrawingPlan}
+use Rattle.tabled_pool.specs.Block.{leaf_line}
+use Rattle.tabled_pool.specs.Plan.{DrawingPlan, whole}
 use Rattle.tabled_pool.specs.Around.{around_at}
 use Rattle.tabled_pool.specs.Drawn.{border_char}
 use Rattle.tabled_pool.specs.Owner.{owner}
-use Rattle.tabled_pool.specs.Whole.{whole}
 
 -- what is known of a text that is out on the line y before the place x, and takes n columns: nothing is out at first,
 -- and each piece that may stand at x adds its columns; a leaf that goes on adds nothing

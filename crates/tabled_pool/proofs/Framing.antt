@@ -6,7 +6,7 @@ use Rattle.tabled_pool.specs.Boxes.{Box, left_part, right_part, top_part, bottom
 use Rattle.tabled_pool.specs.Tiling.{within, covering, Tiles, AreTiles, EachFits, LeavesFit, framed}
 use Rattle.tabled_pool.proofs.Tiling.{within-across, within-down, tree-tiles}
 use Rattle.tabled_pool.proofs.Fitting.{tree-fits}
-use Rattle.tabled_pool.specs.declared.box_spacing.BoxSpacing.{BoxSpacing}
+use Rattle.tabled_pool.specs.declared.sizes.BoxSpacing.{BoxSpacing}
 use Rattle.tabled_pool.specs.declared.tree.TableValue.{TableValue}
 
 pub framed-tiles : (e : Sides ℕ) (b : Box) (w : Rectangle) (px py : ℕ) → Tiles b

@@ -10,21 +10,16 @@ use Rattle.tabled_pool.specs.declared.pieces.Piece.{Piece}
 use Rattle.tabled_pool.specs.declared.pieces.Rectangle.{Rectangle}
 use Rattle.tabled_config.specs.Frame.{has_left}
 use Rattle.tabled_pool.specs.Around.{across, around_at, around_part, around_text, beside, is_last_row, run_side}
-use Rattle.tabled_pool.specs.Boxes.{Part}
-use Rattle.tabled_pool.specs.Frames.{has_top}
-use Rattle.tabled_pool.specs.Kinds.{is_line_kind}
+use Rattle.tabled_pool.specs.Boxes.{Part, is_line_kind}
+use Rattle.tabled_pool.specs.Plan.{has_top, DrawingPlan}
 use Rattle.tabled_pool.specs.Marks.{Around}
 use Rattle.tabled_pool.specs.Numbers.{AreSized, IsEarlier, IsNumber, IsSized, Skips, SkipsBeside}
 use Rattle.tabled_pool.specs.Owner.{contains, owner}
-use Rattle.tabled_pool.specs.Plan.{DrawingPlan}
 use Rattle.tabled_pool.specs.Plans.{around_of}
 use Rattle.tabled_pool.specs.Shown.{shown}
 use Rattle.tabled_pool.specs.Tiling.{AreTiles, covering, within}
 use Rattle.tabled_pool.proofs.Listed.{number-unique, piece_owns}
-use Rattle.tabled_pool.proofs.Owners.{inside-within, within-le}
-
-le-or : (a b : ℕ) → (a ≤ b) ⊎ (b < a)
-le-or a b = grind arith
+use Rattle.tabled_pool.proofs.Owners.{inside-within, within-le, le-or}
 
 -- one of the n numbers from a on is at x or next to it
 record Near (a n x : ℕ) : Type 0 where

@@ -51,6 +51,9 @@ owner-here p ps x y h = grind (arith, nat_tests)
 pub owner-behind : (p : Part) (ps : List Part) (x y : ℕ) → (within p.place x y ≡ 1 → ⊥) → owner (p ∷ ps) x y ≡ owner ps x y
 owner-behind p ps x y h = grind (arith, nat_tests)
 
+pub le-or : (a b : ℕ) → (a ≤ b) ⊎ (b < a)
+le-or a b = grind arith
+
 pub is-1 : (n : ℕ) → (n ≡ 1) ⊎ (n ≡ 1 → ⊥)
 is-1 n = grind arith
 

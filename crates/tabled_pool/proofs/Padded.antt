@@ -3,15 +3,14 @@ use Rattle.std.proofs.Common.{◌≡◌, ℕ, zero, suc, ◌+◌, ◌<◌, ◌==
 use Rattle.std.proofs.lemmas.Bool.Decides.{nat_tests}
 use Rattle.tabled_text.proofs.Bridge.{some_line}
 use Rattle.std.proofs.lemmas.Grind.{common_steps}
-use Rattle.tabled_pool.specs.declared.box_spacing.BoxSpacing.{BoxSpacing}
+use Rattle.tabled_pool.specs.declared.sizes.BoxSpacing.{BoxSpacing}
 use Rattle.tabled_pool.specs.declared.pieces.Kind.{Kind}
 use Rattle.tabled_pool.specs.declared.pieces.Kind.TheVariants.{Leaf, Bar, Rule}
-use Rattle.tabled_pool.specs.Boxes.{Part}
+use Rattle.tabled_pool.specs.Boxes.{Part, is_line_kind}
 use Rattle.tabled_pool.specs.Numbers.{AreSized, IsSized}
 use Rattle.tabled_pool.specs.Tiling.{EachFits, FitsLeaf}
 use Rattle.tabled_pool.proofs.Framing.{tree_framed_fits}
 use Rattle.tabled_pool.specs.Inherited.{has_zero_width, is_zero_width}
-use Rattle.tabled_pool.specs.Kinds.{is_line_kind}
 use Rattle.tabled_pool.specs.declared.pool_table.PoolTable.{PoolTable}
 use Rattle.tabled_pool.specs.Pool.{HasColumns, IsPadded, borders_of, frame_of, frame_place, spacing_of, plan}
 

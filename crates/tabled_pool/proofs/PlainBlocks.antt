@@ -1,23 +1,21 @@
 -- The columns of the lines of a block.
 use Rattle.std.proofs.Common.{ℕ, ◌+◌, ◌-◌, ◌<◌, ◌≤◌, ltb, true, false, cond, List, [], length, get_or, append-nil, sym, subst, arith, ⊎_elim}
-use Rattle.std.proofs.lemmas.Bool.{cases_lt}
-use Rattle.std.proofs.lemmas.Option.{slice_get_cases, slice_get-get_or}
 use Rattle.tabled_text.specs.Measure.{lines_of, text_columns, line_columns}
-use Rattle.tabled_text.specs.Plain.{IsAdditive, IsAdditiveLine}
+use Rattle.tabled_text.specs.Plain.{IsAdditive, IsAdditiveColumn, IsAdditiveLine}
 use Rattle.tabled_text.proofs.Bridge.{line_columns-le}
 use Rattle.tabled_text.proofs.PlainLines.{plain_line-append, plain_line-as, plain_line-each, plain_column-space}
 use Rattle.tabled_config.specs.declared.alignment.AlignmentHorizontal.{AlignmentHorizontal}
 use Rattle.tabled_config.specs.declared.alignment.AlignmentHorizontal.TheVariants as horizontal
 use Rattle.tabled_config.specs.declared.spanned.CellStyle.{CellStyle}
 use Rattle.tabled_line.specs.Block.{before_text, inner_width, columns_before, cell_line}
-use Rattle.tabled_line.specs.Plain.{IsPlainStyle}
 use Rattle.tabled_line.specs.Fill.{fill}
 use Rattle.tabled_line.proofs.Plains.{plain-fill}
 use Rattle.tabled_config.specs.declared.sides.Sides.{Sides}
 use Rattle.tabled_config.specs.Compact.{each_side}
 use Rattle.tabled_pool.specs.Block.{lines_above, line_below, pool_block, text_line, without_sides}
+use Rattle.tabled_pool.specs.Characters.{EachFill}
 use Rattle.tabled_pool.specs.Colours.{Mark, coloured, no_mark}
-use Rattle.tabled_pool.proofs.PoolBlocks.{block-above, block-top, block-text, block-past, block-below}
+use Rattle.tabled_pool.proofs.PoolBlocks.{each_line}
 
 before-le : (a : AlignmentHorizontal) (n : ℕ) → before_text a n ≤ n
 before-le horizontal.Left n = omega arith
@@ -34,7 +32,7 @@ columns_before-fits s room text line l m =
 
 -- a box holds a plain text and its padding
 pub record IsPlainBox (s : CellStyle) (w : ℕ) (text : List ℕ) : Type 0 where
-  pub style : IsPlainStyle s
+  pub style : EachFill IsAdditiveColumn s.padding
   pub plain : IsAdditive text
   pub fits : text_columns text + (s.padding.left.size + s.padding.right.size) ≤ w
 
@@ -78,34 +76,8 @@ plain-text_line s w text j p l =
     (plain-run (plain-fill s.padding.right.fill s.padding.right.size p.style.right))))
     (omega arith)
 
-plain-below : (s : CellStyle) (w k : ℕ) → IsPlainStyle s → IsAdditiveLine (line_below s bare w k) w
-plain-below s w k p =
-    elim (ltb k s.padding.bottom.size) as (λ b. IsAdditiveLine (cond b (coloured no_mark (fill s.padding.bottom.fill w)) (fill 32 w)) w) [
-      | true ↦ plain-run (plain-fill s.padding.bottom.fill w p.bottom)
-      | false ↦ plain-fill 32 w plain_column-space
-    ]
-
-plain-padded : (s : CellStyle) (w h k : ℕ) (text : List ℕ) → IsPlainBox s w text → k < h → lines_above s h text ≤ k
-    → s.padding.top.size ≤ k - lines_above s h text → IsAdditiveLine (get_or (pool_block s bare w h text) k []) w
-plain-padded s w h k text p n l m =
-    let P : List ℕ → Type 0 = λ bs. IsAdditiveLine bs w in
-    let j = k - lines_above s h text - s.padding.top.size in
-    ⊎_elim
-    (λ x. subst P
-    (sym (block-text s bare w h text k (get_or (lines_of text) j []) l m (sym (slice_get-get_or (lines_of text) j [] x.1))))
-    (plain-text_line s w text j p x.1))
-    (λ x. subst P
-    (sym (block-below s bare w h text k n l m (block-past s bare w h text k l m (sym x.1))))
-    (plain-below s w (j - length (lines_of text)) p.style))
-    (slice_get_cases (lines_of text) j).1
-
 pub plain-pool_block : (s : CellStyle) (w h k : ℕ) (text : List ℕ) → IsPlainBox s w text → k < h → IsAdditiveLine (get_or (pool_block s bare w h text) k []) w
 plain-pool_block s w h k text p n =
-    let P : List ℕ → Type 0 = λ bs. IsAdditiveLine bs w in
-    ⊎_elim
-    (λ l. subst P (sym (block-above s bare w h text k l)) (plain-fill 32 w plain_column-space))
-    (λ l. ⊎_elim
-    (λ m. subst P (sym (block-top s bare w h text k l m)) (plain-run (plain-fill s.padding.top.fill w p.style.top)))
-    (λ m. plain-padded s w h k text p n l m)
-    (cases_lt (k - lines_above s h text) s.padding.top.size))
-    (cases_lt k (lines_above s h text))
+    each_line (λ bs. IsAdditiveLine bs w) s bare w h text k (plain-fill 32 w plain_column-space)
+    (plain-run (plain-fill s.padding.top.fill w p.style.top)) (plain-run (plain-fill s.padding.bottom.fill w p.style.bottom))
+    (λ j l. plain-text_line s w text j p l) n

@@ -1,21 +1,36 @@
 -- A tree of plain texts is drawable.
 use Rattle.std.proofs.Common.{◌≡◌, ℕ, ◌-◌, List, [], ◌∷◌, Some, get_or, sym, ◌∙◌, subst, arith, ⊎_elim}
-use Rattle.tabled_text.specs.Plain.{IsAdditiveColumn, IsAdditiveLine}
+use Rattle.tabled_text.specs.Plain.{IsAdditive, IsAdditiveColumn, IsAdditiveLine}
 use Rattle.tabled_text.proofs.PlainLines.{plain_column-space, plain_line-append, plain_line-nil, plain_line-one}
-use Rattle.tabled_pool.specs.declared.box_spacing.BoxSpacing.{BoxSpacing}
+use Rattle.tabled_pool.specs.declared.sizes.BoxSpacing.{BoxSpacing}
 use Rattle.tabled_pool.specs.declared.pieces.Kind.TheVariants.{Leaf}
 use Rattle.tabled_pool.specs.Boxes.{Part}
-use Rattle.tabled_pool.specs.Tiling.{within, FitsLeaf, EachFits}
-use Rattle.tabled_pool.specs.Leaf.{leaf_line}
-use Rattle.tabled_pool.specs.Block.{pool_block}
-use Rattle.tabled_pool.specs.Plan.{DrawingPlan}
+use Rattle.tabled_pool.specs.Tiling.{within, AreTiles, FitsLeaf, EachFits}
+use Rattle.tabled_pool.specs.Block.{leaf_line, pool_block}
+use Rattle.tabled_pool.specs.Plan.{DrawingPlan, whole}
 use Rattle.tabled_pool.specs.Owner.{owner}
-use Rattle.tabled_pool.specs.PlainTree.{PlainTree}
+use Rattle.tabled_pool.specs.Characters.{EachCharacter, EachFill}
+use Rattle.tabled_pool.specs.Colours.{no_mark}
+use Rattle.tabled_pool.specs.Uncoloured.{AreNoMarks}
+use Rattle.tabled_config.specs.Compact.{each_side}
 use Rattle.tabled_pool.proofs.Bare.{around-bare}
 use Rattle.tabled_pool.proofs.Characters.{char-kind}
 use Rattle.tabled_pool.proofs.Drawable.{IsDrawable}
 use Rattle.tabled_pool.proofs.Owners.{within-inside, owner-inside, owner-here, owner-behind, is-1}
 use Rattle.tabled_pool.proofs.PlainBlocks.{plain-pool_block}
+
+-- parts that tile the entire drawing, each large enough for its text; characters and texts are of a
+-- kind, and nothing is coloured
+pub record IsTree (IsKind : ℕ → Type 0) (IsText : List ℕ → Type 0) (g : BoxSpacing) (t : DrawingPlan) : Type 0 where
+  pub once : AreTiles t.parts (whole t)
+  pub fits : EachFits g t.parts
+  pub left : g.padding.left ≡ t.style.padding.left.size
+  pub right : g.padding.right ≡ t.style.padding.right.size
+  pub borders : EachCharacter IsKind t.borders
+  pub padding : EachFill IsKind t.style.padding
+  pub texts : (x y : ℕ) (p : Part) → owner t.parts x y ≡ Some p → IsText p.text
+  pub padding_marks : t.padding_marks ≡ each_side no_mark
+  pub line_marks : AreNoMarks t.line_marks
 
 pub owner-fits : (g : BoxSpacing) (ps : List Part) (x y : ℕ) (p : Part) → EachFits g ps → owner ps x y ≡ Some p → FitsLeaf g p
 owner-fits g [] x y p f h = cc
@@ -24,7 +39,7 @@ owner-fits g (q ∷ ps) x y p f h = ⊎_elim
     (λ w. owner-fits g ps x y p f.1 (sym (owner-behind q ps x y w) ∙ h))
     (is-1 (within q.place x y))
 
-leaf-measured : (g : BoxSpacing) (t : DrawingPlan) → PlainTree g t → (x y : ℕ) (p : Part) → owner t.parts x y ≡ Some p → p.kind
+leaf-measured : (g : BoxSpacing) (t : DrawingPlan) → IsTree IsAdditiveColumn IsAdditive g t → (x y : ℕ) (p : Part) → owner t.parts x y ≡ Some p → p.kind
     ≡ Leaf → IsAdditiveLine (leaf_line t p (y - p.place.y)) p.place.width
 unfolding leaf_line
 leaf-measured g t h x y p o e =
@@ -33,14 +48,14 @@ leaf-measured g t h x y p o e =
     subst (λ ms. IsAdditiveLine (get_or (pool_block t.style ms p.place.width p.place.height p.text) (y - p.place.y) []) p.place.width)
     (sym h.padding_marks)
     (plain-pool_block t.style p.place.width p.place.height (y - p.place.y) p.text
-    (record { style = h.style; plain = h.texts x y p o e; fits = omega (arith, f.wide, h.left, h.right) })
+    (record { style = h.padding; plain = h.texts x y p o; fits = omega (arith, f.wide, h.left, h.right) })
     (omega (arith, i.top, i.bottom)))
 
 -- a plain line
 abbrev pub PlainOut : ℕ → ℕ → List ℕ → ℕ → Type 0
 PlainOut y x out n = IsAdditiveLine out n
 
-pub plain_drawable : (g : BoxSpacing) (t : DrawingPlan) → PlainTree g t → IsDrawable t PlainOut
+pub plain_drawable : (g : BoxSpacing) (t : DrawingPlan) → IsTree IsAdditiveColumn IsAdditive g t → IsDrawable t PlainOut
 plain_drawable g t h = record {
   once = h.once;
   bare = around-bare t h.line_marks;

@@ -1,31 +1,8 @@
 -- The lines of a block, by their index.
-use Rattle.std.proofs.Common.{
-  ◌≡◌,
-  ℕ,
-  ◌+◌,
-  ◌-◌,
-  ◌<◌,
-  ◌≤◌,
-  ltb,
-  if◌then◌else◌,
-  List,
-  [],
-  ◌++◌,
-  Some,
-  None,
-  length,
-  map,
-  replicate,
-  get_or,
-  slice_get,
-  sym,
-  ◌∙◌,
-  ap,
-  arith,
-  ⊎_elim,
-}
+use Rattle.std.proofs.Common.{◌≡◌, ℕ, ◌+◌, ◌-◌, ◌<◌, ◌≤◌, ltb, true, false, cond, if◌then◌else◌, List, [], ◌++◌, Some, None, length, map}
+use Rattle.std.proofs.Common.{replicate, get_or, slice_get, sym, subst, ◌∙◌, ap, arith, ⊎_elim}
 use Rattle.std.proofs.lemmas.List.{get_or-append_right, get_or_append_left, get_or-map, get_or-replicate, length-map, length-replicate}
-use Rattle.std.proofs.lemmas.Option.{get_or_from_slice_get, slice_get_within, slice_get_cases}
+use Rattle.std.proofs.lemmas.Option.{get_or_from_slice_get, slice_get-get_or, slice_get_within, slice_get_cases}
 use Rattle.std.proofs.lemmas.Bool.{cases_lt}
 use Rattle.std.proofs.lemmas.Bool.Decides.{nat_tests}
 use Rattle.tabled_config.specs.declared.spanned.CellStyle.{CellStyle}
@@ -98,3 +75,24 @@ block-below s ms w h t k n l m e =
     (let lines = length (lines_of t) in
     let above = lines_above s h t in
     omega arith)
+
+-- what holds of blank lines, of padding and of the lines of the text holds of each line
+pub each_line : (P : List ℕ → Type 0) (s : CellStyle) (ms : Sides Mark) (w h : ℕ) (t : List ℕ) (k : ℕ) → P (fill 32 w)
+    → P (coloured ms.top (fill s.padding.top.fill w)) → P (coloured ms.bottom (fill s.padding.bottom.fill w))
+    → ((j : ℕ) → j < length (lines_of t) → P (text_line s ms w t (get_or (lines_of t) j []))) → k < h → P (get_or (pool_block s ms w h t) k [])
+each_line P s ms w h t k blank top bottom texts n =
+    let j = k - lines_above s h t - s.padding.top.size in
+    ⊎_elim
+    (λ l. subst P (sym (block-above s ms w h t k l)) blank)
+    (λ l. ⊎_elim
+    (λ m. subst P (sym (block-top s ms w h t k l m)) top)
+    (λ m. ⊎_elim
+    (λ x. subst P (sym (block-text s ms w h t k (get_or (lines_of t) j []) l m (sym (slice_get-get_or (lines_of t) j [] x.1)))) (texts j x.1))
+    (λ x. subst P (sym (block-below s ms w h t k n l m (block-past s ms w h t k l m (sym x.1))))
+    (elim (ltb (j - length (lines_of t)) s.padding.bottom.size) as (λ b. P (cond b (coloured ms.bottom (fill s.padding.bottom.fill w)) (fill 32 w))) [
+      | true ↦ bottom
+      | false ↦ blank
+    ]))
+    (slice_get_cases (lines_of t) j).1)
+    (cases_lt (k - lines_above s h t) s.padding.top.size))
+    (cases_lt k (lines_above s h t))

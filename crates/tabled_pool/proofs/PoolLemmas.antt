@@ -15,24 +15,8 @@ use Rattle.tabled_pool.specs.Inherited.{inherited_block, has_zero_width}
 use Rattle.tabled_pool.specs.DrawnBlocks.{BlockSheet}
 use Rattle.tabled_pool.specs.declared.pool_table.PoolTable.{PoolTable}
 use Rattle.tabled_pool.specs.Drawn.{drawn}
-use Rattle.tabled_pool.specs.Pool.{
-  HasColumns,
-  borders_of,
-  frame_of,
-  frame_place,
-  framed_height,
-  framed_width,
-  spacing_of,
-  margin_around,
-  margin_marks,
-  margin_of,
-  margined,
-  marks_for,
-  plan,
-  pool_lines,
-  pool_text,
-  style_of,
-}
+use Rattle.tabled_pool.specs.Pool.{HasColumns, borders_of, frame_of, frame_place, framed_height, framed_width, spacing_of, margin_around}
+use Rattle.tabled_pool.specs.Pool.{margin_marks, margin_of, margined, marks_for, plan, pool_lines, pool_text, style_of}
 
 -- the lines of a table whose texts have columns, and of another one
 pub lined : (t : PoolTable) → HasColumns t

@@ -6,22 +6,16 @@ use Rattle.tabled_line.specs.Fill.{fill}
 use Rattle.tabled_pool.specs.declared.pieces.Rectangle.{Rectangle}
 use Rattle.tabled_pool.specs.declared.pieces.Kind.{Kind}
 use Rattle.tabled_pool.specs.declared.pieces.Kind.TheVariants.{Leaf, Bar, Rule}
-use Rattle.tabled_pool.specs.Boxes.{Part}
+use Rattle.tabled_pool.specs.Boxes.{Part, is_line_kind}
 use Rattle.tabled_pool.specs.Tiling.{AreTiles}
-use Rattle.tabled_pool.specs.Kinds.{is_line_kind}
 use Rattle.tabled_pool.specs.Owner.{owner, is_border, is_border_above, is_border_before, is_line}
-use Rattle.tabled_pool.specs.Plan.{DrawingPlan}
-use Rattle.tabled_pool.specs.Whole.{whole}
+use Rattle.tabled_pool.specs.Plan.{DrawingPlan, whole}
 use Rattle.tabled_pool.specs.Marks.{nothing_around, within_marks}
 use Rattle.tabled_pool.specs.Around.{around_at}
-use Rattle.tabled_pool.specs.Drawn.{armed_char, border_char, border_text, owned_text, part_text, place_text}
-use Rattle.tabled_pool.specs.Runs.{IsRun}
-use Rattle.tabled_pool.proofs.Owners.{Inside, inside-within, within-inside, within-le, owner-inside, counted}
+use Rattle.tabled_pool.specs.Drawn.{armed_char, border_char, border_text, owned_text, part_text, place_text, IsRun}
+use Rattle.tabled_pool.proofs.Owners.{Inside, inside-within, within-inside, within-le, owner-inside, counted, le-or}
 use Rattle.tabled_pool.proofs.Listed.{outside}
 use Rattle.tabled_pool.proofs.UpcomingCells.{leaf-goes, owned, unique}
-
-le-or : (a b : ℕ) → (a ≤ b) ⊎ (b < a)
-le-or a b = grind arith
 
 -- the columns of the owner of a place
 pub record Owns (t : DrawingPlan) (x y : ℕ) (p : Part) : Type 0 where

@@ -4,8 +4,8 @@ use Rattle.std.proofs.Common.{sym, subst, ◌∙◌, arith, add-one}
 use Rattle.std.proofs.lemmas.Grind.{common_steps}
 use Rattle.std.proofs.Math.Seq.{drop-cons}
 use Rattle.tabled_pool.specs.declared.tree.TableValue.{TableValue}
-use Rattle.tabled_pool.specs.declared.box_spacing.BoxSpacing.{BoxSpacing}
-use Rattle.tabled_pool.specs.declared.box_spacing.Direction.{Direction}
+use Rattle.tabled_pool.specs.declared.sizes.BoxSpacing.{BoxSpacing}
+use Rattle.tabled_pool.specs.declared.sizes.Direction.{Direction}
 use Rattle.tabled_pool.specs.declared.pieces.Rectangle.{Rectangle}
 use Rattle.tabled_pool.specs.Boxes.{Part, Box, part_of, first_part, box_along, box_across, place_along, border_kind}
 use Rattle.tabled_pool.specs.Boxes.{border_size, given_size, border_part, behind_border, needed_by, joined_box}

@@ -1,10 +1,9 @@
 -- The lines of straight pool tables: they tile the tree, and take the columns of the whole.
-use Rattle.std.proofs.Common.{◌≡◌, ℕ, ◌+◌, ◌<◌, true, false, cond, List, ⊎_elim, ◌⊎◌, inl, inr, refl, sym, ap, subst, arith}
+use Rattle.std.proofs.Common.{◌≡◌, ℕ, ◌+◌, ◌<◌, true, false, cond, List, [], ⊎_elim, ◌⊎◌, inl, inr, refl, sym, ap, subst, arith}
 use Rattle.std.specs.List.{All}
 use Rattle.std.proofs.lemmas.List.Elements.{All-append, All-map, All-replicate}
 use Rattle.std.specs.Str.{IsUtf8}
 use Rattle.std.proofs.lemmas.Str.{IsUtf8-nil}
-use Rattle.std.proofs.lemmas.List.FromFn.{length-map-range_with_len, get_or-map-range_with_len}
 use Rattle.tabled_text.specs.Measure.{line_columns}
 use Rattle.tabled_text.specs.Plain.{IsAdditive, IsAdditiveColumn, IsAdditiveLine}
 use Rattle.tabled_text.proofs.PlainLines.{plain_line-append, plain_line-as}
@@ -17,7 +16,7 @@ use Rattle.tabled_config.specs.Compact.{each_side}
 use Rattle.tabled_priority.specs.Sums.{one_if}
 use Rattle.tabled_line.specs.Plain.{EachLineTakes}
 use Rattle.tabled_line.proofs.Plains.{plain-fill}
-use Rattle.tabled_pool.specs.Tree.{tree_of}
+use Rattle.tabled_pool.specs.Tree.{tree_of, EachText}
 use Rattle.tabled_pool.proofs.Framing.{tree_framed_tiles, tree_framed_fits}
 use Rattle.tabled_pool.specs.Colours.{marks_of, no_mark}
 use Rattle.tabled_pool.specs.Margins.{margin_line, within_margin, with_margin}
@@ -26,57 +25,41 @@ use Rattle.tabled_pool.specs.declared.pool_table.PoolTable.{PoolTable}
 use Rattle.tabled_pool.specs.Apart.{IsApartPool, IsStraightPool}
 use Rattle.tabled_pool.specs.Characters.{EachFill}
 use Rattle.tabled_pool.specs.Drawn.{drawn, drawn_line}
-use Rattle.tabled_pool.specs.Plain.{IsAdditivePool, IsPlainPool}
-use Rattle.tabled_pool.specs.PlainTree.{PlainTree}
+use Rattle.tabled_pool.specs.Plain.{HasSettings, IsAdditivePool, IsPlainPool}
 use Rattle.tabled_pool.specs.Pool.{borders_of, frame_of, frame_place, framed_width, spacing_of, has_margin}
 use Rattle.tabled_pool.specs.Pool.{margin_marks, margin_of, plan, pool_lines, total_width, HasColumns}
 use Rattle.tabled_pool.specs.Tiled.{Tiled}
 use Rattle.tabled_pool.proofs.ApartBlocks.{frame-fill, frame-run}
 use Rattle.tabled_pool.proofs.Aparts.{bar_drawable, left_drawable, right_drawable, ApartTree}
 use Rattle.tabled_pool.proofs.BehindLines.{framed-behind}
-use Rattle.tabled_pool.proofs.Columns.{drawn_takes, line-measured}
+use Rattle.tabled_pool.proofs.Columns.{drawn-each, drawn_takes, line-measured}
 use Rattle.tabled_pool.proofs.Drawable.{IsDrawable}
 use Rattle.tabled_pool.proofs.PlainBlocks.{bare, plain-run}
 use Rattle.tabled_pool.proofs.PoolLemmas.{lined}
-use Rattle.tabled_pool.proofs.Plains.{plain_drawable, PlainOut}
+use Rattle.tabled_pool.proofs.Plains.{plain_drawable, IsTree, PlainOut}
 use Rattle.tabled_pool.proofs.Tiles.{drawn_tiles}
 use Rattle.tabled_pool.proofs.TreeTexts.{additive-each, additive-nil, framed-texts, owner-text, tree-utf8}
 
 -- ---- the trees of such tables
 
-plain_plan : (t : PoolTable) → IsAdditivePool t → PlainTree (spacing_of t) (plan t)
+tree_plan : (IsKind : ℕ → Type 0) (IsText : List ℕ → Type 0) → IsText [] → (t : PoolTable) → HasSettings IsKind t → EachText IsText (tree_of t.value)
+    → IsTree IsKind IsText (spacing_of t) (plan t)
 unfolding plan
-plain_plan t h = record {
+tree_plan IsKind IsText e t h k = record {
   once = tree_framed_tiles (spacing_of t) t.value (frame_of (borders_of t)) (frame_place t) (omega arith) (omega arith);
   fits = tree_framed_fits (spacing_of t) t.value (frame_of (borders_of t)) (frame_place t) (omega arith) (omega arith);
   left = refl;
   right = refl;
-  top = refl;
-  bottom = refl;
-  borders = h.settings.borders;
-  style = let p = h.settings.padding in record { left = p.left; right = p.right; top = p.top; bottom = p.bottom };
-  texts = λ x y p o k. owner-text IsAdditive _ x y p
-      (framed-texts IsAdditive additive-nil (spacing_of t) t.value h.texts (frame_of (borders_of t)) (frame_place t)) o;
-  padding_marks = h.settings.uncoloured.padding;
-  line_marks = h.settings.uncoloured.borders;
+  borders = h.borders;
+  padding = h.padding;
+  texts = λ x y p o. owner-text IsText _ x y p
+      (framed-texts IsText e (spacing_of t) t.value k (frame_of (borders_of t)) (frame_place t)) o;
+  padding_marks = h.uncoloured.padding;
+  line_marks = h.uncoloured.borders;
 }
 
 apart_plan : (t : PoolTable) → IsApartPool t → ApartTree (spacing_of t) (plan t)
-unfolding plan
-apart_plan t h = record {
-  once = tree_framed_tiles (spacing_of t) t.value (frame_of (borders_of t)) (frame_place t) (omega arith) (omega arith);
-  fits = tree_framed_fits (spacing_of t) t.value (frame_of (borders_of t)) (frame_place t) (omega arith) (omega arith);
-  left = refl;
-  right = refl;
-  top = refl;
-  bottom = refl;
-  borders = h.settings.borders;
-  style = let p = h.settings.padding in record { left = p.left; right = p.right; top = p.top; bottom = p.bottom };
-  texts = λ x y p o. owner-text IsUtf8 _ x y p
-      (framed-texts IsUtf8 IsUtf8-nil (spacing_of t) t.value (tree-utf8 t.value) (frame_of (borders_of t)) (frame_place t)) o;
-  padding_marks = h.settings.uncoloured.padding;
-  line_marks = h.settings.uncoloured.borders;
-}
+apart_plan t h = tree_plan IsSeparatorColumn IsUtf8 IsUtf8-nil t h.settings (tree-utf8 t.value)
 
 -- the lines of a drawing are put together piece by piece, and each of them is a line
 record AreDrawn (t : DrawingPlan) : Type 0 where
@@ -114,7 +97,7 @@ unfolding plan
 apart_drawn t h = ⊎_elim (bar_drawn t h) (padded_drawn t h) h.gap
 
 plain-drawable : (t : PoolTable) → IsAdditivePool t → IsDrawable (plan t) PlainOut
-plain-drawable t h = plain_drawable (spacing_of t) (plan t) (plain_plan t h)
+plain-drawable t h = plain_drawable (spacing_of t) (plan t) (tree_plan IsAdditiveColumn IsAdditive additive-nil t h.settings h.texts)
 
 pub pool_tiles : (t : PoolTable) → IsStraightPool t → Tiled (plan t)
 pool_tiles t (inl h) = (apart_drawn t h).tiled
@@ -138,13 +121,6 @@ margin-takes m w n lines top bottom each =
     let P : List ℕ → Type 0 = λ l. line_columns l ≡ n in
     All-append P _ _ (All-replicate P m.top.size _ top)
     (All-append P _ _ (All-map P (within_margin m bare) lines each) (All-replicate P m.bottom.size _ bottom))
-
-drawn-each : (t : DrawingPlan) (P : List ℕ → Type 0) → ((y : ℕ) → y < t.height → P (drawn_line t y)) → All P (drawn t)
-unfolding drawn
-drawn-each t P each k line l =
-    let h : k < t.height = subst (λ n. k < n) (length-map-range_with_len (drawn_line t) 0 t.height) l in
-    let e = get_or-map-range_with_len (drawn_line t) 0 t.height k k line h (omega arith) in
-    subst P (sym e) (each k h)
 
 bare-margin : (t : PoolTable) → marks_of t.config.config.margin_color ≡ each_side no_mark → margin_marks t ≡ bare
 bare-margin t h =

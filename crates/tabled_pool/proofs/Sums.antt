@@ -1,11 +1,11 @@
 -- The sizes of boxes one after another, from the front.
 use Rattle.std.proofs.Common.{◌≡◌, ℕ, ◌+◌, ◌^◌, ◌<◌, ◌≤◌, List, [], ◌∷◌, None, Some, length, map, drop, get_or, ap, sym, subst, ◌∙◌, arith, ⊎_elim, inl, inr}
-use Rattle.tabled_pool.specs.declared.box_spacing.Size.{Size}
+use Rattle.tabled_pool.specs.declared.sizes.Size.{Size}
 use Rattle.tabled_pool.specs.declared.tree.TableValue.{TableValue}
 use Rattle.tabled_pool.proofs.Steps.{drop_first}
-use Rattle.tabled_pool.specs.declared.box_spacing.BoxSpacing.{BoxSpacing}
-use Rattle.tabled_pool.specs.declared.box_spacing.Direction.{Direction}
-use Rattle.tabled_pool.specs.declared.box_spacing.Direction.TheVariants.{Across, Down}
+use Rattle.tabled_pool.specs.declared.sizes.BoxSpacing.{BoxSpacing}
+use Rattle.tabled_pool.specs.declared.sizes.Direction.{Direction}
+use Rattle.tabled_pool.specs.declared.sizes.Direction.TheVariants.{Across, Down}
 use Rattle.tabled_pool.specs.Boxes.{Box, IsSize, box_of, joined_box, list_box, sized}
 
 pub record SameSize (b c : Box) : Type 0 where

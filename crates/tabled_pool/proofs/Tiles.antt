@@ -4,14 +4,12 @@ use Rattle.std.specs.List.{flat_map, range_with_len}
 use Rattle.tabled_line.proofs.Each.{each-rest}
 use Rattle.tabled_pool.specs.declared.pieces.Kind.{Kind}
 use Rattle.tabled_pool.specs.declared.pieces.Kind.TheVariants.{Leaf, Bar, Rule}
-use Rattle.tabled_pool.specs.Boxes.{Part}
+use Rattle.tabled_pool.specs.Boxes.{Part, is_line_kind}
 use Rattle.tabled_pool.specs.Tiling.{within}
-use Rattle.tabled_pool.specs.Kinds.{is_line_kind}
-use Rattle.tabled_pool.specs.Leaf.{leaf_line}
-use Rattle.tabled_pool.specs.Plan.{DrawingPlan}
+use Rattle.tabled_pool.specs.Block.{leaf_line}
+use Rattle.tabled_pool.specs.Plan.{DrawingPlan, whole}
 use Rattle.tabled_pool.specs.Owner.{owner}
 use Rattle.tabled_pool.specs.Drawn.{border_char, part_text, owned_text, place_text, drawn_line}
-use Rattle.tabled_pool.specs.Whole.{whole}
 use Rattle.tabled_pool.specs.Tiled.{StandsAt, Tiled}
 use Rattle.tabled_pool.proofs.Owners.{inside-within, within-inside, within-le, owner-inside, counted}
 use Rattle.tabled_pool.proofs.UpcomingCells.{ahead, whole-inside, unique, Begins, Goes, before, leaf-begins, out-line}

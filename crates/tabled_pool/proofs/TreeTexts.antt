@@ -7,19 +7,18 @@ use Rattle.std.proofs.lemmas.Str.{IsUtf8-nil, IsUtf8-string_bytes, chars-nil}
 use Rattle.tabled_text.specs.Plain.{IsAdditive, IsPlain}
 use Rattle.tabled_text.proofs.PlainLines.{additive-plain}
 use Rattle.tabled_config.specs.declared.sides.Sides.{Sides}
-use Rattle.tabled_pool.specs.declared.box_spacing.BoxSpacing.{BoxSpacing}
+use Rattle.tabled_pool.specs.declared.sizes.BoxSpacing.{BoxSpacing}
 use Rattle.tabled_pool.specs.declared.pieces.Rectangle.{Rectangle}
 use Rattle.tabled_pool.specs.declared.tree.TableValue.{TableValue}
 use Rattle.tabled_pool.specs.declared.tree.TableValue.TheOpen.{TableValue-F, Row, Column, Cell}
 use Rattle.tabled_pool.specs.declared.tree.TableValue.TheFolds.{fold-roll-TableValue, ind-TableValue, map-TableValue}
 use Rattle.tabled_pool.specs.declared.tree.TableValue.TheViews.{roll-TableValue}
-use Rattle.tabled_pool.specs.declared.box_spacing.Direction.{Direction}
-use Rattle.tabled_pool.specs.declared.box_spacing.Direction.TheVariants.{Across, Down}
+use Rattle.tabled_pool.specs.declared.sizes.Direction.{Direction}
+use Rattle.tabled_pool.specs.declared.sizes.Direction.TheVariants.{Across, Down}
 use Rattle.tabled_pool.specs.Boxes.{Part, Box, leaf_box, list_box, box_step, box_of}
 use Rattle.tabled_pool.specs.Tiling.{framed, within}
-use Rattle.tabled_pool.specs.Tree.{Tree, Trees, leaf, across, down, none, one_more, tree_of, tree_step, trees}
+use Rattle.tabled_pool.specs.Tree.{Tree, Trees, leaf, across, down, none, one_more, tree_of, tree_step, trees, EachText, EachTextIn}
 use Rattle.tabled_pool.specs.Owner.{owner}
-use Rattle.tabled_pool.specs.Texts.{EachText, EachTextIn}
 use Rattle.tabled_pool.proofs.Owners.{owner-here, owner-behind, is-1}
 
 -- ---- parts

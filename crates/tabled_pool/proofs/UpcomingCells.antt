@@ -4,15 +4,13 @@ use Rattle.std.proofs.lemmas.Bool.Decides.{nat_tests}
 use Rattle.tabled_pool.specs.declared.pieces.Rectangle.{Rectangle}
 use Rattle.tabled_pool.specs.declared.pieces.Kind.{Kind}
 use Rattle.tabled_pool.specs.declared.pieces.Kind.TheVariants.{Leaf, Bar, Rule}
-use Rattle.tabled_pool.specs.Boxes.{Part}
+use Rattle.tabled_pool.specs.Boxes.{Part, is_line_kind}
 use Rattle.tabled_pool.specs.Tiling.{within, AreTiles}
-use Rattle.tabled_pool.specs.Leaf.{leaf_line}
-use Rattle.tabled_pool.specs.Kinds.{is_line_kind}
-use Rattle.tabled_pool.specs.Plan.{DrawingPlan}
+use Rattle.tabled_pool.specs.Block.{leaf_line}
+use Rattle.tabled_pool.specs.Plan.{DrawingPlan, whole}
 use Rattle.tabled_pool.specs.Drawn.{part_text}
 use Rattle.tabled_pool.specs.Owner.{owner}
-use Rattle.tabled_pool.specs.Whole.{whole}
-use Rattle.tabled_pool.proofs.Owners.{Inside, inside-within, within-inside, within-le, owner-inside, owner-some, owner-unique, counted, is-1}
+use Rattle.tabled_pool.proofs.Owners.{Inside, inside-within, within-inside, within-le, owner-inside, owner-some, owner-unique, counted, is-1, le-or}
 
 -- the columns that are out once the places below n are written
 abbrev pub ahead_kind : Kind → Rectangle → ℕ → ℕ
@@ -27,9 +25,6 @@ ahead_of (Some p) n = ahead_kind p.kind p.place n
 abbrev pub ahead : DrawingPlan → ℕ → ℕ → ℕ
 ahead t y zero = 0
 ahead t y (suc n) = ahead_of (owner t.parts n y) n
-
-le-or : (a b : ℕ) → (a ≤ b) ⊎ (b < a)
-le-or a b = grind arith
 
 pub whole-inside : (t : DrawingPlan) (x y : ℕ) → x < t.width → y < t.height → within (whole t) x y ≡ 1
 whole-inside t x y h i = inside-within (whole t) x y (record { left = omega arith; right = omega arith; top = omega arith; bottom = omega arith })

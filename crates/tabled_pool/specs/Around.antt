@@ -3,14 +3,12 @@
 use Rattle.std.specs.Prelude.{ℕ, ◌+◌, ◌==◌, ltb, leb, if◌then◌else◌, Bool, ◌&&◌, List, [], ◌∷◌, Option, Some, None, unwrap_or}
 use Rattle.tabled_config.specs.Frame.{has_left, has_right}
 use Rattle.tabled_pool.specs.declared.pieces.Rectangle.{Rectangle}
-use Rattle.tabled_pool.specs.Boxes.{Part}
+use Rattle.tabled_pool.specs.Boxes.{Part, is_line_kind}
 use Rattle.tabled_pool.specs.Colours.{Mark}
-use Rattle.tabled_pool.specs.Kinds.{is_line_kind}
 use Rattle.tabled_pool.specs.Marks.{Around, alone, begun, ended, nothing_around, used_after}
-use Rattle.tabled_pool.specs.Plan.{DrawingPlan}
+use Rattle.tabled_pool.specs.Plan.{DrawingPlan, has_bottom, has_top}
 use Rattle.tabled_pool.specs.declared.color_marks.RunSide.{RunSide}
 use Rattle.tabled_pool.specs.declared.color_marks.RunSide.TheVariants.{Before, Inside, Behind, Outside}
-use Rattle.tabled_pool.specs.Frames.{has_bottom, has_top}
 
 -- where a position is relative to `size` columns or lines from `start` on
 abbrev pub run_side : ℕ → ℕ → ℕ → RunSide

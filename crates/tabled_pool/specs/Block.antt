@@ -1,5 +1,5 @@
 -- The block of a text in its box. The lines that alignment adds are spaces, outside of the padding.
-use Rattle.std.specs.Prelude.{ℕ, ◌-◌, ltb, if◌then◌else◌, List, ◌++◌, map, replicate}
+use Rattle.std.specs.Prelude.{ℕ, ◌-◌, ltb, if◌then◌else◌, List, ◌++◌, map, replicate, []}
 use Rattle.tabled_text.specs.Measure.{lines_of}
 use Rattle.tabled_config.specs.declared.sides.Sides.{Sides}
 use Rattle.tabled_config.specs.Compact.{no_indent}
@@ -7,6 +7,9 @@ use Rattle.tabled_config.specs.declared.spanned.CellStyle.{CellStyle}
 use Rattle.tabled_line.specs.Block.{above_text, free_lines, cell_line, inner_width}
 use Rattle.tabled_line.specs.Fill.{fill, indent}
 use Rattle.tabled_pool.specs.Colours.{Mark, coloured}
+use Rattle.std.specs.List.{slice_index_or}
+use Rattle.tabled_pool.specs.Boxes.{Part}
+use Rattle.tabled_pool.specs.Plan.{DrawingPlan}
 
 -- how many lines alignment adds above the text
 abbrev pub lines_above : CellStyle → ℕ → List ℕ → ℕ
@@ -36,3 +39,6 @@ pool_block style marks width height text =
     ++ (map (text_line style marks width text) (lines_of text)
     ++ (replicate style.padding.bottom.size (coloured marks.bottom (fill style.padding.bottom.fill width))
     ++ replicate (free_lines style height text - above) (fill 32 width))))
+
+unfoldable pub leaf_line : DrawingPlan → Part → ℕ → List ℕ
+leaf_line t p k = slice_index_or (pool_block t.style t.padding_marks p.place.width p.place.height p.text) k []

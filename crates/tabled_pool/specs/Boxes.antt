@@ -1,13 +1,13 @@
 -- Boxes: the size that each needs, and the parts that fill a rectangle.
-use Rattle.std.specs.Prelude.{◌≡◌, ℕ, ◌+◌, ◌-◌, ◌/◌, ◌^◌, ◌≤◌, ◌⊎◌, if◌then◌else◌, max, List, [], ◌∷◌, ◌++◌, length}
-use Rattle.std.specs.Prelude.{Option, Some, None, string_bytes, ◌%◌, ◌==◌}
+use Rattle.std.specs.Prelude.{◌≡◌, ℕ, ◌+◌, ◌-◌, ◌/◌, ◌^◌, ◌≤◌, ◌⊎◌, if◌then◌else◌, max, List, [], ◌∷◌, ◌++◌, length, Option, Some, None}
+use Rattle.std.specs.Prelude.{string_bytes, ◌%◌, ◌==◌, Bool, true, false}
 use Rattle.tabled_text.specs.Measure.{lines_of, text_columns}
 use Rattle.tabled_size.specs.declared.pool_table_dimension.DimensionPriority.{DimensionPriority}
 use Rattle.tabled_size.specs.declared.pool_table_dimension.DimensionPriority.TheVariants.{First, Last, List as Each}
-use Rattle.tabled_pool.specs.declared.box_spacing.BoxSpacing.{BoxSpacing}
-use Rattle.tabled_pool.specs.declared.box_spacing.Direction.{Direction}
-use Rattle.tabled_pool.specs.declared.box_spacing.Direction.TheVariants.{Across, Down}
-use Rattle.tabled_pool.specs.declared.box_spacing.Size.{Size}
+use Rattle.tabled_pool.specs.declared.sizes.BoxSpacing.{BoxSpacing}
+use Rattle.tabled_pool.specs.declared.sizes.Direction.{Direction}
+use Rattle.tabled_pool.specs.declared.sizes.Direction.TheVariants.{Across, Down}
+use Rattle.tabled_pool.specs.declared.sizes.Size.{Size}
 use Rattle.tabled_pool.specs.declared.pieces.Rectangle.{Rectangle}
 use Rattle.tabled_pool.specs.declared.pieces.Kind.{Kind}
 use Rattle.tabled_pool.specs.declared.pieces.Kind.TheVariants.{Leaf, Bar, Rule}
@@ -143,3 +143,8 @@ sized s = record { width = s.width; height = s.height; parts = λ r. [] }
 abbrev pub IsSize : Option Size → Box → Type 0
 IsSize None b = (2 ^ 64 ≤ b.width) ⊎ (2 ^ 64 ≤ b.height)
 IsSize (Some s) b = (s.width ≡ b.width) × (s.height ≡ b.height)
+
+abbrev pub is_line_kind : Kind → Bool
+is_line_kind Leaf = false
+is_line_kind Bar = true
+is_line_kind Rule = true

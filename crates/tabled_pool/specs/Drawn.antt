@@ -1,18 +1,18 @@
--- The lines of a drawing. At each position a line of a text's block starts, or one border character
--- is written with its colour.
-use Rattle.std.specs.Prelude.{ℕ, ◌+◌, ◌-◌, ◌==◌, if◌then◌else◌, Bool, ◌&&◌, ◌||◌, List, [], map, Option, Some, None, unwrap_or, encode_utf8}
+-- The lines of a drawing, and runs of columns that are written at once. At each position a line of a
+-- text's block starts, or one border character is written with its colour.
+use Rattle.std.specs.Prelude.{ℕ, ◌+◌, ◌-◌, ◌==◌, if◌then◌else◌, Bool, ◌&&◌, ◌||◌, List, [], map, Option, Some, None, unwrap_or}
+use Rattle.std.specs.Prelude.{encode_utf8, ◌≡◌, ◌<◌, ◌≤◌, true}
 use Rattle.std.specs.List.{range_with_len, flat_map}
 use Rattle.tabled_pool.specs.declared.pieces.Rectangle.{Rectangle}
 use Rattle.tabled_pool.specs.declared.pieces.Kind.{Kind}
 use Rattle.tabled_pool.specs.declared.pieces.Kind.TheVariants.{Leaf, Bar, Rule}
-use Rattle.tabled_pool.specs.Boxes.{Part}
+use Rattle.tabled_pool.specs.Boxes.{Part, is_line_kind}
 use Rattle.tabled_config.specs.Frame.{has_right}
 use Rattle.tabled_config.specs.Junction.{junction}
-use Rattle.tabled_pool.specs.Leaf.{leaf_line}
+use Rattle.tabled_pool.specs.Block.{leaf_line}
 use Rattle.tabled_pool.specs.Marks.{within_marks}
-use Rattle.tabled_pool.specs.Plan.{DrawingPlan}
+use Rattle.tabled_pool.specs.Plan.{DrawingPlan, has_bottom}
 use Rattle.tabled_pool.specs.Around.{around_at}
-use Rattle.tabled_pool.specs.Frames.{has_bottom}
 use Rattle.tabled_pool.specs.Owner.{owner, is_border, is_border_before, is_border_above}
 
 -- the character of a border where no other meets it; the outer right and bottom borders have their
@@ -59,3 +59,10 @@ drawn_line t y = flat_map (place_text t y) (range_with_len 0 t.width)
 
 unfoldable pub drawn : DrawingPlan → List (List ℕ)
 drawn t = map (drawn_line t) (range_with_len 0 t.height)
+
+-- `count` columns from x on belong to one part; if it is a border, each has the character c
+pub record IsRun (t : DrawingPlan) (x y count c : ℕ) (p : Part) : Type 0 where
+  pub some : 0 < count
+  pub within : x + count ≤ t.width
+  pub owned : (v : ℕ) → x ≤ v → v < x + count → owner t.parts v y ≡ Some p
+  pub alike : is_line_kind p.kind ≡ true → (v : ℕ) → x ≤ v → v < x + count → border_char t p.kind p.place v y ≡ c

@@ -2,28 +2,31 @@
 -- at the edges of the table also those below it and to its right, and drawn boxes are joined. Boxes
 -- pass on where borders meet: their widths to the boxes below, their heights to the boxes at the
 -- right.
-use Rattle.std.specs.Prelude.{ℕ, ◌+◌, ◌-◌, ltb, ◌==◌, if◌then◌else◌, Bool, true, false, not, ◌&&◌, ◌||◌, List, [], ◌∷◌, ◌++◌}
-use Rattle.std.specs.Prelude.{length, map, Option, Some, None, is_some, unwrap_or, encode_utf8, string_bytes}
+use Rattle.std.specs.Prelude.{ℕ, ◌+◌, ◌-◌, ltb, ◌==◌, if◌then◌else◌, Bool, true, false, not, ◌&&◌, ◌||◌, List, [], ◌∷◌, ◌++◌, length, map}
+use Rattle.std.specs.Prelude.{Option, Some, None, is_some, unwrap_or, encode_utf8, string_bytes}
 use Rattle.std.specs.List.{flat_map, range_with_len}
 use Rattle.tabled_priority.specs.Sums.{one_if}
 use Rattle.tabled_config.specs.declared.borders.Borders.{Borders}
-use Rattle.tabled_pool.specs.declared.box_spacing.BoxSpacing.{BoxSpacing}
+use Rattle.tabled_pool.specs.declared.sizes.BoxSpacing.{BoxSpacing}
 use Rattle.tabled_pool.specs.declared.pieces.Kind.TheVariants.{Leaf}
 use Rattle.tabled_pool.specs.declared.pieces.Rectangle.{Rectangle}
 use Rattle.tabled_pool.specs.declared.tree.TableValue.{TableValue}
 use Rattle.tabled_pool.specs.declared.tree.TableValue.TheOpen.{TableValue-F, Row, Column, Cell}
 use Rattle.tabled_pool.specs.declared.tree.TableValue.TheFolds.{fold-TableValue}
-use Rattle.tabled_pool.specs.declared.box_spacing.Direction.{Direction}
-use Rattle.tabled_pool.specs.declared.box_spacing.Direction.TheVariants.{Across, Down}
-use Rattle.tabled_pool.specs.Boxes.{Box, box_of, Part, part_of, leaf_box, list_box, given_size, behind_border, box_along}
-use Rattle.tabled_pool.specs.Boxes.{first_part, pick, place_along}
+use Rattle.tabled_pool.specs.declared.sizes.Direction.{Direction}
+use Rattle.tabled_pool.specs.declared.sizes.Direction.TheVariants.{Across, Down}
+use Rattle.tabled_pool.specs.Boxes.{Box, box_of, Part, part_of, leaf_box, list_box, given_size, behind_border, box_along, first_part}
+use Rattle.tabled_pool.specs.Boxes.{pick, place_along, is_line_kind}
 use Rattle.tabled_pool.specs.declared.flags.Flags.{Flags}
 use Rattle.tabled_pool.specs.Marks.{Around, alone, begun, ended, used_after, within_marks}
 use Rattle.tabled_pool.specs.Colours.{Mark}
-use Rattle.tabled_pool.specs.Leaf.{leaf_line}
-use Rattle.tabled_pool.specs.Kinds.{is_line_kind}
-use Rattle.tabled_pool.specs.DrawnBlocks.{BlockSheet, side_by_side, stacked}
+use Rattle.tabled_pool.specs.Block.{leaf_line}
+use Rattle.tabled_pool.specs.DrawnBlocks.{BlockSheet, side_by_side, stacked, block_sheet_of}
 use Rattle.tabled_pool.specs.Plan.{DrawingPlan}
+use Rattle.tabled_pool.specs.declared.inheriting_box.InheritingBox.{InheritingBox}
+use Rattle.tabled_pool.specs.declared.bordered_text.BorderedText.{BorderedText}
+use Rattle.tabled_pool.specs.Plans.{plan_of}
+use Rattle.tabled_pool.specs.declared.inheriting_box.TakenSizes.{TakenSizes}
 
 -- ---- lists of sizes
 
@@ -292,3 +295,19 @@ is_zero_width p = not (is_line_kind p.kind) && p.place.width == 0
 abbrev pub has_zero_width : List Part → Bool
 has_zero_width [] = false
 has_zero_width (p ∷ ps) = is_zero_width p || has_zero_width ps
+
+abbrev pub taken_of : TakenSizes → Taken
+taken_of t = record { part = t.part.items; rest = t.rest.items; met = t.met }
+
+-- what a box inherits; once it is drawn, `above` and `before` are what it passes on
+abbrev pub inheriting_box : InheritingBox → InheritedSheet
+inheriting_box b = record { place = b.place; flags = b.flags; above = b.above.items; before = b.before.items }
+
+abbrev pub passed_on : InheritingBox → PassedOn
+passed_on b = record { block = block_sheet_of b.block; above = b.above.items; before = b.before.items }
+
+abbrev pub plan_for : BorderedText → DrawingPlan
+plan_for b = plan_of b.drawing.now
+
+abbrev pub inherited_by : BorderedText → InheritedSheet
+inherited_by b = inheriting_box b.inherited.now

@@ -3,8 +3,7 @@ use Rattle.std.specs.Prelude.{◌≡◌, ℕ, ◌<◌, ◌≤◌, ◌+◌, false
 use Rattle.tabled_pool.specs.declared.color_marks.First.{First}
 use Rattle.tabled_pool.specs.declared.pieces.Piece.{Piece}
 use Rattle.tabled_pool.specs.Around.{around_at, around_part}
-use Rattle.tabled_pool.specs.Boxes.{Part}
-use Rattle.tabled_pool.specs.Kinds.{is_line_kind}
+use Rattle.tabled_pool.specs.Boxes.{Part, is_line_kind}
 use Rattle.tabled_pool.specs.Owner.{contains, owner}
 use Rattle.tabled_pool.specs.Plan.{DrawingPlan}
 use Rattle.tabled_pool.specs.Plans.{around_of}

@@ -1,9 +1,8 @@
 -- Which part is at a position.
 use Rattle.std.specs.Prelude.{ℕ, zero, suc, ◌==◌, if◌then◌else◌, Bool, false, List, [], ◌∷◌, Option, Some, None}
 use Rattle.tabled_pool.specs.declared.pieces.Rectangle.{Rectangle}
-use Rattle.tabled_pool.specs.Boxes.{Part}
+use Rattle.tabled_pool.specs.Boxes.{Part, is_line_kind}
 use Rattle.tabled_pool.specs.Tiling.{within}
-use Rattle.tabled_pool.specs.Kinds.{is_line_kind}
 
 abbrev pub contains : Rectangle → ℕ → ℕ → Bool
 contains r x y = within r x y == 1

@@ -1,11 +1,10 @@
 -- Pool tables of plain or additive texts, and additive settings.
 use Rattle.std.specs.Prelude.{ℕ}
 use Rattle.tabled_text.specs.Plain.{IsAdditive, IsAdditiveColumn, IsPlain}
-use Rattle.tabled_pool.specs.Tree.{tree_of}
+use Rattle.tabled_pool.specs.Tree.{tree_of, EachText}
 use Rattle.tabled_pool.specs.declared.pool_table.PoolTable.{PoolTable}
 use Rattle.tabled_pool.specs.Characters.{EachCharacter, EachFill}
 use Rattle.tabled_pool.specs.Pool.{borders_of, margin_of}
-use Rattle.tabled_pool.specs.Texts.{EachText}
 use Rattle.tabled_pool.specs.Uncoloured.{IsUncoloured}
 
 -- `IsKind` holds for each character of borders, padding and margin, and nothing is coloured

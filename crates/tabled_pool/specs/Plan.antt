@@ -1,10 +1,11 @@
 -- What is drawn, as a value.
-use Rattle.std.specs.Prelude.{ℕ, List}
+use Rattle.std.specs.Prelude.{ℕ, List, Bool, ◌||◌, is_some}
 use Rattle.tabled_config.specs.declared.borders.Borders.{Borders}
 use Rattle.tabled_config.specs.declared.sides.Sides.{Sides}
 use Rattle.tabled_config.specs.declared.spanned.CellStyle.{CellStyle}
 use Rattle.tabled_pool.specs.Boxes.{Part}
 use Rattle.tabled_pool.specs.Colours.{LineMarks, Mark}
+use Rattle.tabled_pool.specs.declared.pieces.Rectangle.{Rectangle}
 
 -- parts in a drawing of `width` columns and `height` lines, and the settings that they are drawn
 -- with
@@ -16,3 +17,13 @@ pub record DrawingPlan : Type 0 where
   pub style : CellStyle
   pub padding_marks : Sides Mark
   pub line_marks : LineMarks
+
+abbrev pub whole : DrawingPlan → Rectangle
+whole t = record { x = 0; y = 0; width = t.width; height = t.height }
+
+-- there is a horizontal border if any of its characters is set
+abbrev pub has_top : Borders ℕ → Bool
+has_top b = is_some b.top || (is_some b.top_left || (is_some b.top_intersection || is_some b.top_right))
+
+abbrev pub has_bottom : Borders ℕ → Bool
+has_bottom b = is_some b.bottom || (is_some b.bottom_left || (is_some b.bottom_intersection || is_some b.bottom_right))

@@ -12,7 +12,7 @@ use Rattle.tabled_config.specs.declared.spanned.CellStyle.{CellStyle}
 use Rattle.tabled_config.specs.Compact.{each_side, no_indent}
 use Rattle.tabled_config.specs.Frame.{has_left, has_right}
 use Rattle.tabled_line.specs.Sent.{Sent, Sends, Stops}
-use Rattle.tabled_pool.specs.declared.box_spacing.BoxSpacing.{BoxSpacing}
+use Rattle.tabled_pool.specs.declared.sizes.BoxSpacing.{BoxSpacing}
 use Rattle.tabled_pool.specs.declared.pieces.Rectangle.{Rectangle}
 use Rattle.tabled_pool.specs.Boxes.{box_of}
 use Rattle.tabled_pool.specs.Tiling.{framed}
@@ -20,10 +20,9 @@ use Rattle.tabled_pool.specs.Colours.{Mark, line_marks_of, marks_of, no_mark}
 use Rattle.tabled_pool.specs.Inherited.{inherited_block, has_zero_width}
 use Rattle.tabled_pool.specs.Margins.{with_margin}
 use Rattle.tabled_pool.specs.DrawnBlocks.{BlockSheet}
-use Rattle.tabled_pool.specs.Plan.{DrawingPlan}
+use Rattle.tabled_pool.specs.Plan.{DrawingPlan, has_bottom, has_top}
 use Rattle.tabled_pool.specs.declared.pool_table.PoolTable.{PoolTable}
 use Rattle.tabled_pool.specs.Drawn.{drawn}
-use Rattle.tabled_pool.specs.Frames.{has_bottom, has_top}
 
 abbrev pub borders_of : PoolTable → Borders ℕ
 borders_of t = t.config.config.borders

@@ -34,3 +34,14 @@ tree_of_row row = across (trees (map leaf row))
 -- rows of texts, below each other
 abbrev pub tree_of_rows : List (List (List ℕ)) → Tree
 tree_of_rows rows = down (trees (map tree_of_row rows))
+
+-- `IsKind` holds for each text of a tree
+abbrev mutual
+  pub EachText : (List ℕ → Type 0) → Tree → Type 0
+  EachText IsKind (leaf text) = IsKind text
+  EachText IsKind (across ts) = EachTextIn IsKind ts
+  EachText IsKind (down ts) = EachTextIn IsKind ts
+
+  pub EachTextIn : (List ℕ → Type 0) → Trees → Type 0
+  EachTextIn IsKind none = Unit {0}
+  EachTextIn IsKind (one_more t ts) = EachText IsKind t × EachTextIn IsKind ts

@@ -9,11 +9,11 @@ ghost use Rattle.tabled_pool.specs.declared.pieces.Kind.TheVariants.{Leaf};
 ghost use Rattle.tabled_pool.specs.Boxes.{part_of};
 ghost use Rattle.tabled_pool.specs.Marks.{within_marks};
 ghost use Rattle.tabled_pool.specs.Colours.{mark_of};
-ghost use Rattle.tabled_pool.specs.Leaf.{leaf_line};
+ghost use Rattle.tabled_pool.specs.Block.{leaf_line};
 ghost use Rattle.tabled_pool.specs.Inherited.{bordered_block, bottom_text, inner_text, is_left};
 ghost use Rattle.tabled_pool.specs.Inherited.{is_right, left_char, marked_text, outer_line};
 ghost use Rattle.tabled_pool.specs.Inherited.{run_char, run_text, text_block, top_text, written};
-ghost use Rattle.tabled_pool.specs.Inheriting.{inheriting_box};
+ghost use Rattle.tabled_pool.specs.Inherited.{inherited_by, inheriting_box, plan_for};
 ghost use Rattle.tabled_pool.specs.DrawnBlocks.{block_sheet_of};
 ghost use Rattle.tabled_pool.specs.Plans.{around_of, plan_of};
 
@@ -21,10 +21,9 @@ use crate::block::draw_block_line;
 use crate::draw::draw_marked;
 use crate::drawn_blocks::DrawnBlock;
 use crate::flags::{is_bottom, is_left, is_right, is_top, own_borders};
-use crate::inheriting_box::InheritingBox;
+use crate::inheriting_box::{InheritingBox, is_split};
 use crate::marks::{LineColors, Marks, alone, begun, ended, used_after};
 use crate::pieces::{Drawing, Rectangle};
-use crate::taking::is_split;
 use std::alloc::Global;
 use tabled_base::TableError;
 use tabled_config::Borders;
@@ -121,7 +120,7 @@ fn outer_line(
     Ok(line)
 }
 
-#[tactic(auto, unfolding(crate::specs::Leaf::leaf_line))]
+#[tactic(auto, unfolding(crate::specs::Block::leaf_line))]
 fn push_block_line(
     line: &mut String,
     drawing: &Drawing<'_, '_>,
@@ -169,24 +168,15 @@ pub(crate) struct BorderedText<'r, 'd, 'a> {
 impl BorderedText<'_, '_, '_> {
     fn top_text(&self) -> Result<String, TableError>
         ensures ok { IfOk result (λ line. string_bytes line
-            ≡ top_text (plan_of self.now.drawing.now) self.now.own (inheriting_box self.now.inherited.now)) }
+            ≡ top_text (plan_for self.now) self.now.own (inherited_by self.now)) }
         ensures only { IfErr result (λ e. e ≡ Memory) }
     {
-        let BorderedText {
-            drawing,
-            inherited,
-            ..
-        } = *self;
+        let drawing = self.drawing;
         let own = &self.own;
         let split = drawing.borders.bottom_intersection;
-        let width = inherited.place.width;
-        let run = run_text(
-            drawing.alloc,
-            inherited.above.as_slice(),
-            width,
-            split,
-            own.top,
-        )?;
+        let width = self.inherited.place.width;
+        let above = self.inherited.above.as_slice();
+        let run = run_text(drawing.alloc, above, width, split, own.top)?;
         let colors = LineColors {
             corner: drawing.colors.top_left,
             main: drawing.colors.top,
@@ -199,16 +189,12 @@ impl BorderedText<'_, '_, '_> {
 
     fn bottom_text(&self) -> Result<String, TableError>
         ensures ok { IfOk result (λ line. string_bytes line
-            ≡ bottom_text (plan_of self.now.drawing.now) self.now.own (inheriting_box self.now.inherited.now)) }
+            ≡ bottom_text (plan_for self.now) self.now.own (inherited_by self.now)) }
         ensures only { IfErr result (λ e. e ≡ Memory) }
     {
-        let BorderedText {
-            drawing,
-            inherited,
-            ..
-        } = *self;
+        let drawing = self.drawing;
         let own = &self.own;
-        let width = inherited.place.width;
+        let width = self.inherited.place.width;
         let run = run_text(drawing.alloc, &[], width, None, own.bottom)?;
         let colors = LineColors {
             corner: drawing.colors.bottom_left,
@@ -221,14 +207,10 @@ impl BorderedText<'_, '_, '_> {
     }
 
     fn left_char(&self, y: usize) -> Option<char>
-        ensures { result ≡ left_char (plan_of self.now.drawing.now) self.now.own
-            (inheriting_box self.now.inherited.now) y }
+        ensures { result ≡ left_char (plan_for self.now) self.now.own (inherited_by self.now) y }
     {
-        if is_split(
-            self.inherited.before.as_slice(),
-            self.inherited.place.height,
-            y,
-        ) {
+        let inherited = self.inherited;
+        if is_split(inherited.before.as_slice(), inherited.place.height, y) {
             self.drawing.borders.right_intersection
         } else {
             self.own.left
@@ -238,7 +220,7 @@ impl BorderedText<'_, '_, '_> {
     fn inner_text(&self, y: usize) -> Result<String, TableError>
         requires { y < self.now.inherited.now.place.height }
         ensures ok { IfOk result (λ line. string_bytes line
-            ≡ inner_text (plan_of self.now.drawing.now) self.now.own (inheriting_box self.now.inherited.now)
+            ≡ inner_text (plan_for self.now) self.now.own (inherited_by self.now)
             self.now.text.now y) }
         ensures only { IfErr result (λ e. e ≡ Memory) }
     {
@@ -253,9 +235,9 @@ impl BorderedText<'_, '_, '_> {
     }
 
     fn push_inner_texts(&self, lines: &mut Vec<String>) -> Result<(), TableError>
-        ensures ok { IfOk result (λ _. map string_bytes lines.new.items ≡ map string_bytes lines.old.items
-            ++ map (inner_text (plan_of self.now.drawing.now) self.now.own (inheriting_box self.now.inherited.now)
-            self.now.text.now) (range_with_len 0 self.now.inherited.now.place.height)) }
+        ensures ok { IfOk result (λ _. map string_bytes lines.new.items
+            ≡ map string_bytes lines.old.items ++ map (inner_text (plan_for self.now) self.now.own
+            (inherited_by self.now) self.now.text.now) (range_with_len 0 self.now.inherited.now.place.height)) }
         ensures only { IfErr result (λ e. e ≡ Memory) }
     {
         for y in 0..self.inherited.place.height {
@@ -267,7 +249,7 @@ impl BorderedText<'_, '_, '_> {
     #[tactic(auto, unfolding(crate::specs::Inherited::bordered_block))]
     fn block(&self) -> Result<DrawnBlock, TableError>
         ensures ok { IfOk result (λ block. block_sheet_of block
-            ≡ bordered_block (plan_of self.now.drawing.now) self.now.own (inheriting_box self.now.inherited.now)
+            ≡ bordered_block (plan_for self.now) self.now.own (inherited_by self.now)
             self.now.text.now) }
         ensures only { IfErr result (λ e. e ≡ Memory) }
     {

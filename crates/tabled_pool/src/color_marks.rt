@@ -10,8 +10,7 @@ ghost use Rattle.tabled_pool.specs.Around.{across, around_at, around_part, besid
 ghost use Rattle.tabled_pool.specs.Around.{is_last_row, main_around, right_around, run_side};
 ghost use Rattle.tabled_pool.specs.Around.{written_corner};
 
-use crate::line::Line;
-use crate::line_characters::{ends_at, has_bottom, has_top};
+use crate::line::{Line, ends_at, has_bottom, has_top};
 use crate::marks::{LineColors, Marks, alone, begun, ended, used_after};
 use crate::pieces::{Drawing, Piece, Rectangle, is_line_kind};
 use crate::sweep::number_at;

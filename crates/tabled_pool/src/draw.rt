@@ -3,12 +3,11 @@ ghost use Rattle.std.specs.Prelude.{◌≡◌, ◌<◌, ◌≤◌, ◌+◌, map,
 ghost use Rattle.std.specs.List.{flat_map, range_with_len};
 ghost use Rattle.tabled_line.specs.Sent.{Sent, Writes};
 ghost use Rattle.tabled_pool.specs.declared.pieces.Kind.TheVariants.{Leaf};
-ghost use Rattle.tabled_pool.specs.Kinds.{is_line_kind};
+ghost use Rattle.tabled_pool.specs.Boxes.{is_line_kind};
 ghost use Rattle.tabled_pool.specs.Marks.{within_marks};
 ghost use Rattle.tabled_pool.specs.Plans.{around_of, plan_of};
 ghost use Rattle.tabled_pool.specs.Shown.{shown};
-ghost use Rattle.tabled_pool.specs.Drawn.{drawn_line, part_text, place_text};
-ghost use Rattle.tabled_pool.specs.Runs.{IsRun};
+ghost use Rattle.tabled_pool.specs.Drawn.{drawn_line, part_text, place_text, IsRun};
 
 use crate::block::draw_block_line;
 use crate::color_marks::marks_at;
@@ -55,7 +54,7 @@ fn draw_border<S: TextSink>(
 }
 
 /// Writes the line of a text's block that starts at a column.
-#[tactic(auto, unfolding(crate::specs::Leaf::leaf_line))]
+#[tactic(auto, unfolding(crate::specs::Block::leaf_line))]
 fn draw_text<S: TextSink>(
     sink: &mut S,
     line: &Line<'_, '_, '_, '_>,

@@ -3,7 +3,7 @@ ghost use Rattle.std.specs.Prelude.{◌≡◌, None, if◌then◌else◌};
 ghost use Rattle.tabled_pool.specs.Inherited.{first_flags, is_bottom, is_left, is_right, is_top};
 ghost use Rattle.tabled_pool.specs.Inherited.{later_flags, own_borders, top_left, whole_flags};
 
-use crate::box_spacing::Direction;
+use crate::sizes::Direction;
 use tabled_config::Borders;
 
 /// Where a box is in its tree, and which borders meet at its top left corner.

@@ -1,28 +1,104 @@
-//! What boxes inherit and pass on. No function here is inlined, so that the recursive walk has a
+//! What boxes inherit and pass on. No function of a box is inlined, so that the recursive walk has a
 //! small stack frame.
-ghost use Rattle.std.specs.Prelude.{◌≡◌, ◌∷◌, ◌++◌, [], map, IfErr, IfOk};
+ghost use Rattle.std.specs.Prelude.{◌++◌, ◌-◌, ◌==◌, ◌∷◌, ◌≡◌, IfErr, IfOk, [], if◌then◌else◌, map};
 ghost use Rattle.tabled_base.specs.declared.error.TableError.TheVariants.{Memory};
 ghost use Rattle.tabled_pool.specs.Boxes.{box_along, box_of, pick};
 ghost use Rattle.tabled_pool.specs.Left.{CanSplit, given_in};
 ghost use Rattle.tabled_pool.specs.Shown.{Fits};
-ghost use Rattle.tabled_pool.specs.Inherited.{joined, passes_across, passes_along, text_passes};
-ghost use Rattle.tabled_pool.specs.Inherited.{to_first, to_last, to_later, whole_flags};
-ghost use Rattle.tabled_pool.specs.Inherited.{with_passed};
-ghost use Rattle.tabled_pool.specs.Inheriting.{inheriting_box, passed_on};
+ghost use Rattle.tabled_pool.specs.Inherited.{is_split, joined, passes_across, passes_along, taken};
+ghost use Rattle.tabled_pool.specs.Inherited.{text_passes, to_first, to_last, to_later};
+ghost use Rattle.tabled_pool.specs.Inherited.{whole_flags, with_passed, inheriting_box, passed_on};
+ghost use Rattle.tabled_pool.specs.Inherited.{taken_of};
 ghost use Rattle.tabled_pool.specs.DrawnBlocks.{block_sheet_of};
 ghost use Rattle.tabled_pool.specs.Plans.{plan_of};
 
 use crate::bordered_text::text_block;
-use crate::box_spacing::{BoxSpacing, Direction};
 use crate::drawn_blocks::{DrawnBlock, side_by_side, stacked};
 use crate::flags::Flags;
 use crate::pieces::{Drawing, Rectangle};
 use crate::places::{BoxesLeft, split};
-use crate::taking::{TakenSizes, taken};
+use crate::sizes::{BoxSpacing, Direction};
 use crate::tree::TableValue;
 use std::alloc::Global;
 use std::mem;
 use tabled_base::TableError;
+
+/// A list of sizes, split in two, and whether the first part ends where a size does.
+#[derive(Drop)]
+pub(crate) struct TakenSizes {
+    pub part: Vec<usize>,
+    pub rest: Vec<usize>,
+    pub met: bool,
+}
+
+/// Ends a split in or after a size: `beyond` of it is left, and `behind` are the sizes after it.
+fn ended(
+    alloc: Global,
+    part: Vec<usize>,
+    beyond: usize,
+    behind: &[usize],
+) -> Result<TakenSizes, TableError>
+    ensures ok { IfOk result (λ t. taken_of t ≡ record {
+      part = part.items;
+      rest = (if beyond == 0 then behind.now else (beyond - 1) ∷ behind.now);
+      met = (beyond == 0);
+    }) }
+    ensures only { IfErr result (λ e. e ≡ Memory) }
+{
+    let mut rest = Vec::new(alloc);
+    let met = beyond == 0;
+    if !met {
+        rest.push(beyond - 1)?;
+    }
+    rest.extend_from_slice(behind)?;
+    Ok(TakenSizes { part, rest, met })
+}
+
+/// Splits a list of sizes, each followed by a border of one column or line, at `size`. A size that
+/// reaches beyond loses what is before that, and one for the border there.
+pub(crate) fn taken(alloc: Global, size: usize, sizes: &[usize]) -> Result<TakenSizes, TableError>
+    ensures ok { IfOk result (λ t. taken_of t ≡ taken size sizes.now) }
+    ensures only { IfErr result (λ e. e ≡ Memory) }
+{
+    let mut part = Vec::new(alloc);
+    let mut left = size;
+    for index in 0..sizes.len() {
+        let entry = sizes[index];
+        if entry >= left {
+            return ended(alloc, part, entry - left, &sizes[index + 1..]);
+        }
+        part.push(entry)?;
+        left = left - entry - 1;
+    }
+    Ok(TakenSizes {
+        part,
+        rest: Vec::new(alloc),
+        met: false,
+    })
+}
+
+/// Whether a border is at `place`: after the first of the sizes, the first two, and so on, while
+/// these add up to less than `size`.
+pub(crate) fn is_split(sizes: &[usize], size: usize, place: usize) -> bool
+    ensures { result ≡ is_split sizes.now size place }
+{
+    let mut left = size;
+    let mut at = place;
+    for entry in sizes {
+        if *entry >= left {
+            return false;
+        }
+        if at == *entry {
+            return true;
+        }
+        if at < *entry {
+            return false;
+        }
+        left -= *entry;
+        at = at - *entry - 1;
+    }
+    false
+}
 
 /// A box: what it inherits, and once it is drawn, what it passes on.
 #[derive(Drop)]

@@ -15,8 +15,7 @@
 //! Trees, and the rectangles of their boxes:
 //! - `tree`: `TableValue`, a tree of texts, and how it is dropped
 //! - `copying`: copies of trees
-//! - `box_spacing`: `BoxSpacing`, on which the sizes of boxes depend, and `Size`
-//! - `sizes`: the sizes that boxes need
+//! - `sizes`: the sizes that boxes need, and `BoxSpacing`, on which they depend
 //! - `pieces`: `Rectangle`; `Piece`, a text or a border in its rectangle; and `Drawing`, the pieces
 //!   and their settings
 //! - `places`: the rectangles of texts, of the borders between boxes, and of those around a tree
@@ -28,15 +27,14 @@
 //!
 //! Drawing line by line:
 //! - `sweep`: the piece at a position, and where to look for it first
-//! - `line`: the runs of a line: columns of one text, or of equal border characters
-//! - `line_characters`: the characters of borders
+//! - `line`: the runs of a line: columns of one text, or of equal border characters; and these
+//!   characters
 //! - `color_marks`: the marks around border characters
 //! - `draw`: one line of a drawing
 //!
 //! Drawing box by box, for trees with a zero-width text:
 //! - `tree_walk`: the walk over the tree, and `draw_tree`
-//! - `inheriting_box`: what boxes inherit and pass on
-//! - `taking`: how lists of inherited sizes are split
+//! - `inheriting_box`: what boxes inherit and pass on, and how lists of inherited sizes are split
 //! - `flags`: where a box is, and the border characters that it has there
 //! - `bordered_text`: the lines of one text, with the borders that it draws
 //! - `drawn_blocks`: `DrawnBlock`, and how drawn boxes are joined
@@ -45,7 +43,6 @@
 mod applying;
 mod block;
 mod bordered_text;
-mod box_spacing;
 mod color_marks;
 mod copying;
 mod draw;
@@ -53,7 +50,6 @@ mod drawn_blocks;
 mod flags;
 mod inheriting_box;
 mod line;
-mod line_characters;
 mod making;
 mod marks;
 mod pieces;
@@ -63,7 +59,6 @@ mod pool_table;
 mod sizes;
 mod sweep;
 mod table_lines;
-mod taking;
 mod tree;
 mod tree_walk;
 

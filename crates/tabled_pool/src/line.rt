@@ -1,17 +1,19 @@
-//! `Line`: one line of a drawing, in runs of equal border characters.
-ghost use Rattle.std.specs.Prelude.{◌≡◌, ◌⊎◌, ◌<◌, ◌≤◌, ◌+◌, ℕ, map, true, Some};
+//! `Line`: one line of a drawing, in runs of equal border characters; and these characters.
+ghost use Rattle.std.specs.Prelude.{◌+◌, ◌-◌, ◌<◌, ◌==◌, ◌^◌, ◌≡◌, ◌≤◌, ◌⊎◌, Some, map, true, ℕ};
 ghost use Rattle.tabled_pool.specs.Shown.{shown};
-ghost use Rattle.tabled_pool.specs.Kinds.{is_line_kind};
+ghost use Rattle.tabled_pool.specs.Boxes.{is_line_kind};
 ghost use Rattle.tabled_pool.specs.Plans.{plan_of};
 ghost use Rattle.tabled_pool.specs.Colours.{line_marks_of};
 ghost use Rattle.tabled_pool.specs.Numbers.{AreSized};
 ghost use Rattle.tabled_pool.specs.Uncoloured.{AreNoMarks};
 ghost use Rattle.tabled_pool.specs.Owner.{is_border, is_border_above, is_border_before, owner};
-ghost use Rattle.tabled_pool.specs.Runs.{IsRun};
+ghost use Rattle.tabled_pool.specs.Drawn.{IsRun, armed_char, main_of};
+ghost use Rattle.std.specs.Option.{option_map};
+ghost use Rattle.tabled_pool.specs.Plan.{has_bottom, has_top};
 
-use crate::line_characters::{Arms, border_char};
-use crate::pieces::{Drawing, Piece, is_line_kind};
+use crate::pieces::{Drawing, Kind, Piece, Rectangle, is_line_kind};
 use crate::sweep::{Sweep, piece_at};
+use tabled_config::Borders;
 
 #[derive(Clone, Copy)]
 pub(crate) struct Line<'l, 's, 'd, 'a> {
@@ -170,4 +172,77 @@ impl<'l, 's, 'd, 'a> Line<'l, 's, 'd, 'a> {
             count: end - x,
         }
     }
+}
+
+/// Whether there is a top border: any of its characters is set.
+pub(crate) fn has_top(borders: &Borders<char>) -> bool
+    ensures { result ≡ has_top borders.now }
+{
+    borders.top.is_some()
+        || borders.top_left.is_some()
+        || borders.top_intersection.is_some()
+        || borders.top_right.is_some()
+}
+
+pub(crate) fn has_bottom(borders: &Borders<char>) -> bool
+    ensures { result ≡ has_bottom borders.now }
+{
+    borders.bottom.is_some()
+        || borders.bottom_left.is_some()
+        || borders.bottom_intersection.is_some()
+        || borders.bottom_right.is_some()
+}
+
+pub(crate) fn ends_at(start: usize, size: usize, whole: usize) -> bool
+    ensures { result ≡ (start + size == whole) }
+{
+    size <= whole && start == whole - size
+}
+
+fn main_of(drawing: &Drawing<'_, '_>, kind: Kind, place: Rectangle) -> Option<char>
+    ensures { result ≡ main_of (plan_of drawing.now) kind place }
+{
+    let borders = &drawing.borders;
+    match kind {
+        Kind::Leaf => None,
+        Kind::Bar => {
+            if borders.has_right() && ends_at(place.x, place.width, drawing.width) {
+                borders.right
+            } else {
+                borders.left
+            }
+        }
+        Kind::Rule => {
+            if has_bottom(borders) && ends_at(place.y, place.height, drawing.height) {
+                borders.bottom
+            } else {
+                borders.top
+            }
+        }
+    }
+}
+
+#[derive(Clone, Copy)]
+pub(crate) struct Arms {
+    pub left: bool,
+    pub right: bool,
+    pub up: bool,
+    pub down: bool,
+}
+
+pub(crate) fn border_char(drawing: &Drawing<'_, '_>, piece: &Piece<'_>, arms: Arms) -> char
+    ensures { result ≡ armed_char (plan_of drawing.now) piece.now.kind piece.now.place arms.left arms.right arms.up arms.down }
+{
+    let Arms {
+        left,
+        right,
+        up,
+        down,
+    } = arms;
+    let found = if (left || right) && (up || down) {
+        drawing.borders.junction(left, right, up, down)
+    } else {
+        main_of(drawing, piece.kind, piece.place)
+    };
+    found.unwrap_or(' ')
 }

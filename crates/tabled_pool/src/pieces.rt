@@ -1,12 +1,11 @@
 //! `Rectangle`; `Piece`, a text or a border in its rectangle; and `Drawing`, all pieces with their
 //! settings.
 ghost use Rattle.std.specs.Prelude.{◌+◌, ◌<◌, ◌^◌, ◌≡◌, ◌≤◌, map};
-ghost use Rattle.tabled_pool.specs.Boxes.{first_part, place_along, rest_part};
-ghost use Rattle.tabled_pool.specs.Kinds.{is_line_kind};
+ghost use Rattle.tabled_pool.specs.Boxes.{first_part, place_along, rest_part, is_line_kind};
 ghost use Rattle.tabled_pool.specs.Shown.{shown};
 ghost use Rattle.tabled_pool.specs.Tiling.{AreTiles};
 
-use crate::box_spacing::Direction;
+use crate::sizes::Direction;
 use std::alloc::Global;
 use tabled_config::{ANSIStr, Borders, CellStyle, Sides};
 

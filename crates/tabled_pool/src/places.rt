@@ -6,9 +6,8 @@ ghost use Rattle.tabled_pool.specs.Left.{CanSplit, given_in};
 ghost use Rattle.tabled_pool.specs.Shown.{Fits, shown};
 ghost use Rattle.tabled_pool.specs.Tiling.{framed};
 
-use crate::box_spacing::{BoxSpacing, Direction};
 use crate::pieces::{Kind, Piece, Rectangle};
-use crate::sizes::{list_size, own_size};
+use crate::sizes::{BoxSpacing, Direction, list_size, own_size};
 use crate::tree::TableValue;
 use std::alloc::AllocError;
 use tabled_config::Sides;

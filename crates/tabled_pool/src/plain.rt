@@ -2,12 +2,11 @@
 //! anything is coloured.
 ghost use Rattle.std.specs.Prelude.{◌↔◌, ◌≡◌, IsTrue, map, unwrap_or};
 ghost use Rattle.tabled_text.specs.Plain.{IsPlain};
-ghost use Rattle.tabled_pool.specs.Tree.{tree_of, trees};
+ghost use Rattle.tabled_pool.specs.Tree.{tree_of, trees, EachText, EachTextIn};
 ghost use Rattle.tabled_pool.specs.Characters.{EachCharacter, EachFill, IsOfKind};
 ghost use Rattle.tabled_pool.specs.Plain.{HasSettings, IsPlainPool};
 ghost use Rattle.tabled_pool.specs.Pool.{borders_of, style_of};
 ghost use Rattle.tabled_pool.specs.Apart.{HasGap, IsApartPool, IsStraightPool};
-ghost use Rattle.tabled_pool.specs.Texts.{EachText, EachTextIn};
 ghost use Rattle.std.specs.Option.{option_map};
 ghost use Rattle.tabled_config.specs.Compact.{each_side};
 ghost use Rattle.tabled_pool.specs.Colours.{line_marks_of, mark_of, marks_of, no_mark};

@@ -22,12 +22,11 @@ ghost use Rattle.tabled_pool.specs.Pool.{total_height, total_width};
 ghost use Rattle.tabled_pool.specs.NewPool.{IsNewConfig, IsNewPool};
 ghost use Rattle.tabled_pool.specs.Tiled.{Tiled};
 
-use crate::box_spacing::{BoxSpacing, Size};
 use crate::drawn_blocks::DrawnBlock;
-use crate::line_characters::{has_bottom, has_top};
+use crate::line::{has_bottom, has_top};
 use crate::pieces::{Drawing, Piece, Rectangle};
 use crate::places::place_tree;
-use crate::sizes::own_size;
+use crate::sizes::{BoxSpacing, Size, own_size};
 use crate::table_lines::{ColoredMargin, TableLines, draw_lines};
 use crate::tree::TableValue;
 use crate::tree_walk::{draw_tree, has_zero_width};

@@ -14,6 +14,7 @@ use crate::line::Line;
 use crate::marks::draw_colored_fill;
 use crate::pieces::Drawing;
 use crate::plain::are_uncolored_lines;
+use crate::sizes::Size;
 use crate::sweep::Sweep;
 use tabled_base::TableError;
 use tabled_config::{ANSIStr, Indent, Sides};
@@ -63,21 +64,19 @@ impl LineContent<'_, '_, '_, '_> {
 }
 
 impl<'l, 'd, 'a> TableLines<'l, 'd, 'a> {
-    fn width(self) -> usize
-        ensures { result ≡ (sheet_of self.entry).width }
+    fn size(self) -> Size
+        ensures width { result.width ≡ (sheet_of self.entry).width }
+        ensures height { result.height ≡ length (sheet_of self.entry).lines }
     {
         match self {
-            TableLines::Placed(drawing) => drawing.width,
-            TableLines::Drawn(block) => block.width,
-        }
-    }
-
-    fn height(self) -> usize
-        ensures { result ≡ length (sheet_of self.entry).lines }
-    {
-        match self {
-            TableLines::Placed(drawing) => drawing.height,
-            TableLines::Drawn(block) => block.lines.len(),
+            TableLines::Placed(drawing) => Size {
+                width: drawing.width,
+                height: drawing.height,
+            },
+            TableLines::Drawn(block) => Size {
+                width: block.width,
+                height: block.lines.len(),
+            },
         }
     }
 
@@ -159,7 +158,8 @@ fn draw_inner_lines<S: TextSink>(
         (map (within_margin margin.now.indent (marks_of margin.now.colors)) (sheet_of lines.entry).lines) }
 {
     let mut sweep = lines.sweep();
-    'lines: for y in 0..lines.height() {
+    let height = lines.size().height;
+    'lines: for y in 0..height {
         lines.advance(&mut sweep, y);
         draw_next(sink, begun, margin, lines.line(&sweep, y))?;
     }
@@ -178,7 +178,7 @@ pub(crate) fn draw_lines<S: TextSink>(
         (sheet_of lines.entry).width (sheet_of lines.entry).lines)) }
 {
     let ColoredMargin { indent, colors } = *margin;
-    let width = lines.width();
+    let width = lines.size().width;
     let c = indent.top.fill;
     let color = colors.top;
     let top = MarginFill { color, c, width };

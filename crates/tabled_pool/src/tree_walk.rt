@@ -5,16 +5,15 @@ ghost use Rattle.tabled_base.specs.declared.error.TableError.TheVariants.{Memory
 ghost use Rattle.tabled_pool.specs.Boxes.{box_of, list_box};
 ghost use Rattle.tabled_pool.specs.Shown.{Fits, shown};
 ghost use Rattle.tabled_pool.specs.Inherited.{drawer, inherited_block, has_zero_width, list_drawer};
-ghost use Rattle.tabled_pool.specs.Inheriting.{inheriting_box, passed_on};
+ghost use Rattle.tabled_pool.specs.Inherited.{inheriting_box, passed_on};
 ghost use Rattle.tabled_pool.specs.DrawnBlocks.{block_sheet_of};
 ghost use Rattle.tabled_pool.specs.Plans.{plan_of};
 
-use crate::box_spacing::{BoxSpacing, Direction, Size};
 use crate::drawn_blocks::DrawnBlock;
 use crate::inheriting_box::{DrawnBoxes, InheritingBox};
 use crate::pieces::{Drawing, Piece, Rectangle, is_line_kind};
 use crate::places::BoxesLeft;
-use crate::sizes::list_size;
+use crate::sizes::{BoxSpacing, Direction, Size, list_size};
 use crate::tree::TableValue;
 use tabled_base::TableError;
 
@@ -55,9 +54,9 @@ fn draw_list(
         (inheriting_box inherited.old)) }
     ensures only { IfErr result (λ e. e ≡ Memory) }
 {
-    let TreeSettings { drawing, spacing } = settings;
+    let spacing = settings.spacing;
     let Some((last, front)) = children.split_last() else {
-        return inherited.draw_text(drawing, "");
+        return inherited.draw_text(settings.drawing, "");
     };
     let Some(own) = list_size(direction, children, spacing) else {
         unreachable!()

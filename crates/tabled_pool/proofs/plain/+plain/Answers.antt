@@ -1,8 +1,7 @@
 use Rattle.std.proofs.Common.{IsTrue, rules, sym, subst, arith}
 use Rattle.std.proofs.lemmas.List.{take_all}
 use Rattle.tabled_text.specs.Plain.{IsPlain}
-use Rattle.tabled_pool.specs.Tree.{tree_of}
-use Rattle.tabled_pool.specs.Texts.{EachText}
+use Rattle.tabled_pool.specs.Tree.{tree_of, EachText}
 use Rattle.tabled_pool.proofs.TreeTexts.{AllIn, all-each, each-all}
 use Rattle.tabled_pool.proofs.plain.+plain.Goals as goal
 

@@ -3,7 +3,7 @@ use Rattle.std.specs.Option.{option_map}
 use Rattle.std.proofs.lemmas.Option.{slice_get-map, slice_get_read}
 use Rattle.tabled_pool.specs.Shown.{shown}
 use Rattle.tabled_pool.specs.Plans.{plan_of}
-use Rattle.tabled_pool.specs.Whole.{whole}
+use Rattle.tabled_pool.specs.Plan.{whole}
 use Rattle.tabled_pool.proofs.Listed.{listed_owns, outside}
 use Rattle.tabled_pool.proofs.sweep.number_at.Goals as goal
 

@@ -2,8 +2,7 @@ use Rattle.std.proofs.Common.{map, drop}
 use Rattle.tabled_pool.specs.Boxes.{list_box}
 use Rattle.tabled_pool.specs.Left.{AreLeft, boxes_left}
 use Rattle.tabled_pool.specs.Shown.{Fits}
-use Rattle.tabled_pool.specs.Inherited.{drawer}
-use Rattle.tabled_pool.specs.Inheriting.{inheriting_box}
+use Rattle.tabled_pool.specs.Inherited.{drawer, inheriting_box}
 use Rattle.tabled_pool.specs.DrawnBlocks.{block_sheet_of}
 use Rattle.tabled_pool.specs.Plans.{plan_of}
 use Rattle.tabled_pool.proofs.Drawers.{ListWalk, drawers_left, list_of}

@@ -1,7 +1,6 @@
 use Rattle.std.proofs.Common.{◌≡◌, ◌++◌, map, string_bytes}
 use Rattle.std.specs.List.{range_with_len}
-use Rattle.tabled_pool.specs.Inherited.{inner_text}
-use Rattle.tabled_pool.specs.Inheriting.{inheriting_box}
+use Rattle.tabled_pool.specs.Inherited.{inner_text, inheriting_box}
 use Rattle.tabled_pool.specs.Plans.{plan_of}
 use Rattle.tabled_pool.proofs.bordered_text.BorderedText.push_inner_texts.Given as goal
 

@@ -15,36 +15,8 @@ use contract.BorrowLft.{◌⊑◌}
 use contract.Monad.{fact, fact_i}
 use contract.Running.{tables}
 use types.Logic.{Logic}
-use types.Kit.{
-  ‵,
-  raw,
-  prop,
-  ◌⊛◌,
-  some,
-  later,
-  at_ret,
-  ◌$◌,
-  ◌∵◌,
-  !,
-  qed,
-  done,
-  move,
-  keep,
-  use0,
-  use1,
-  use2,
-  use3,
-  split,
-  join,
-  fsplit,
-  fsplit3,
-  fjoin,
-  pick,
-  await,
-  rewrite,
-  regoal,
-  suffices,
-}
+use types.Kit.{‵, raw, prop, ◌⊛◌, some, later, at_ret, ◌$◌, ◌∵◌, !, qed, done, move, keep, use0, use1, use2, use3, split, join, fsplit}
+use types.Kit.{fsplit3, fjoin, pick, await, rewrite, regoal, suffices}
 use types.Run.{enter, of_opd, lit, addr, stop, fld, no_more, and_then, first, switches, exec, returns}
 use types.Part.{agg, whole}
 use types.Match.{live, vrt, in_variant}

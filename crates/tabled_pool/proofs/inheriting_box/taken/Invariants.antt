@@ -1,6 +1,6 @@
 use Rattle.std.proofs.Common.{◌≡◌, ◌++◌, drop}
 use Rattle.tabled_pool.specs.Inherited.{taken}
-use Rattle.tabled_pool.proofs.taking.taken.Given as goal
+use Rattle.tabled_pool.proofs.inheriting_box.taken.Given as goal
 
 abbrev pub invariant-loop-index : goal.invariant-loop-index
 invariant-loop-index l =

@@ -1,7 +1,0 @@
-use Rattle.std.proofs.Common.{sym}
-use Rattle.tabled_pool.specs.Plans.{plan_of}
-use Rattle.tabled_pool.proofs.Totals.{drawn-length}
-use Rattle.tabled_pool.proofs.table_lines.TableLines.height.Goals as goal
-
-pub returns-in-Placed : goal.returns-in-Placed
-returns-in-Placed c = rw c.in-Placed.is (sym (drawn-length (plan_of c.in-Placed.drawing.now)))
