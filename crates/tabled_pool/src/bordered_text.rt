@@ -237,7 +237,8 @@ impl BorderedText<'_, '_, '_> {
     fn push_inner_texts(&self, lines: &mut Vec<String>) -> Result<(), TableError>
         ensures ok { IfOk result (λ _. map string_bytes lines.new.items
             ≡ map string_bytes lines.old.items ++ map (inner_text (plan_for self.now) self.now.own
-            (inherited_by self.now) self.now.text.now) (range_with_len 0 self.now.inherited.now.place.height)) }
+            (inherited_by self.now) self.now.text.now)
+            (range_with_len 0 self.now.inherited.now.place.height)) }
         ensures only { IfErr result (λ e. e ≡ Memory) }
     {
         for y in 0..self.inherited.place.height {

@@ -145,7 +145,8 @@ fn beside(drawing: &Drawing<'_, '_>, place: Rectangle, x: usize) -> Option<Marks
 fn around_piece(drawing: &Drawing<'_, '_>, piece: &Piece<'_>, x: usize, y: usize) -> Option<Marks>
     requires across { x < 2 ^ 64 - 1 }
     requires down { y < 2 ^ 64 - 1 }
-    ensures { option_map around_of result ≡ around_part (plan_of drawing.now) (shown piece.now) x y }
+    ensures { option_map around_of result
+        ≡ around_part (plan_of drawing.now) (shown piece.now) x y }
 {
     if is_line_kind(piece.kind) {
         return None;

@@ -180,9 +180,11 @@ impl InheritingBox {
         left: BoxesLeft,
     ) -> Result<usize, TableError>
         requires { CanSplit direction spacing.now child.now left self.old.place }
-        ensures own { IfOk result (λ own. own ≡ box_along direction (box_of spacing.now child.now)) }
+        ensures own { IfOk result (λ own. own
+            ≡ box_along direction (box_of spacing.now child.now)) }
         ensures first { IfOk result (λ _. inheriting_box first.new ≡ to_first direction
-            (given_in direction spacing.now child.now left self.old.place) (inheriting_box self.old)) }
+            (given_in direction spacing.now child.now left self.old.place)
+            (inheriting_box self.old)) }
         ensures others { IfOk result (λ _. inheriting_box self.new ≡ to_later direction spacing.now
             (given_in direction spacing.now child.now left self.old.place) (inheriting_box self.old)
             (pick direction self.new.before.items self.new.above.items)) }

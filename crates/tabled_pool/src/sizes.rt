@@ -1,6 +1,7 @@
 //! The sizes that boxes need, and `BoxSpacing`, on which they depend.
 ghost use Rattle.std.specs.Prelude.{◌≡◌, map};
-ghost use Rattle.tabled_pool.specs.Boxes.{IsSize, box_of, joined_box, leaf_box, list_box, pick, sized};
+ghost use Rattle.tabled_pool.specs.Boxes.{IsSize, box_of, joined_box, leaf_box, list_box, pick};
+ghost use Rattle.tabled_pool.specs.Boxes.{sized};
 
 use crate::tree::TableValue;
 use tabled_config::Sides;
@@ -100,7 +101,8 @@ pub fn list_size(
     children: &[TableValue],
     spacing: &BoxSpacing,
 ) -> Option<Size>
-    ensures { IsSize result (list_box direction spacing.now (map (box_of spacing.now) children.now)) }
+    ensures { IsSize result (list_box direction spacing.now
+        (map (box_of spacing.now) children.now)) }
 {
     let Some((first, rest)) = children.split_first() else {
         return leaf_size("", spacing);

@@ -119,7 +119,8 @@ fn draw_next<S: TextSink>(
     content: LineContent<'_, '_, '_, '_>,
 ) -> Result<(), TableError>
     ensures { WritesLines (S.sent sink.old) begun.old result (S.sent sink.new) begun.new
-        (within_margin margin.now.indent (marks_of margin.now.colors) (content_of content.entry) ∷ []) }
+        (within_margin margin.now.indent (marks_of margin.now.colors)
+        (content_of content.entry) ∷ []) }
 {
     write_break(sink, begun)?;
     let Sides { left, right, .. } = margin.indent;
@@ -155,7 +156,8 @@ fn draw_inner_lines<S: TextSink>(
 ) -> Result<(), TableError>
     requires { AreSizedLines lines }
     ensures { WritesLines (S.sent sink.old) begun.old result (S.sent sink.new) begun.new
-        (map (within_margin margin.now.indent (marks_of margin.now.colors)) (sheet_of lines.entry).lines) }
+        (map (within_margin margin.now.indent (marks_of margin.now.colors))
+        (sheet_of lines.entry).lines) }
 {
     let mut sweep = lines.sweep();
     let height = lines.size().height;

@@ -50,8 +50,8 @@ fn draw_list(
         (map (box_of settings.spacing.now) children.now)) inherited.old.place }
     ensures ok { IfOk result (λ _. passed_on inherited.new
         ≡ (list_drawer direction (plan_of settings.entry.drawing.now) settings.entry.spacing.now
-        (map (drawer (plan_of settings.entry.drawing.now) settings.entry.spacing.now) children.now)).draw
-        (inheriting_box inherited.old)) }
+        (map (drawer (plan_of settings.entry.drawing.now) settings.entry.spacing.now)
+        children.now)).draw (inheriting_box inherited.old)) }
     ensures only { IfErr result (λ e. e ≡ Memory) }
 {
     let spacing = settings.spacing;
@@ -118,7 +118,8 @@ pub fn draw_tree(
 ) -> Result<DrawnBlock, TableError>
     requires width { own.width ≡ (box_of spacing.now value.now).width }
     requires height { own.height ≡ (box_of spacing.now value.now).height }
-    ensures ok { IfOk result (λ block. block_sheet_of block ≡ inherited_block (plan_of drawing.now) spacing.now value.now) }
+    ensures ok { IfOk result (λ block. block_sheet_of block
+        ≡ inherited_block (plan_of drawing.now) spacing.now value.now) }
     ensures only { IfErr result (λ e. e ≡ Memory) }
 {
     let place = Rectangle {
