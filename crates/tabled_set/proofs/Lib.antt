@@ -8,7 +8,6 @@ pub mod ExactTotals
 pub mod GrowingTables
 pub mod Totals
 pub mod JoinedLines
-pub mod JustifiedCells
 pub mod NarrowingTables
 pub mod PaddedTotals
 pub mod Picking

@@ -22,8 +22,9 @@ pub stops-with : {T : Type 0} (P : TableError → Type 0) (Q : Type 0) (r : Resu
 stops-with P Q (Ok x) h q = tt
 stops-with P Q (Err e) h q = (h, q)
 
--- the same of a table with a row and a column
-pub stops-filled : {T : Type 0} (F : Type 0) (P : TableError → Type 0) (Q : Type 0) (r : Result T TableError) → IfErr r (λ e. F × P e) → Q → IfErr r (λ e. F × P e × Q)
+-- the same after two facts
+pub stops-filled : {T : Type 0} (F P : TableError → Type 0) (Q : Type 0) (r : Result T TableError) → IfErr r (λ e. F e × P e) → Q
+    → IfErr r (λ e. F e × P e × Q)
 stops-filled F P Q (Ok x) h q = tt
 stops-filled F P Q (Err e) h q = (h.0, h.1, q)
 

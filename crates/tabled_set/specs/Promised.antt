@@ -1,5 +1,8 @@
 -- What options that change the sizes of a table promise, by the priority and the texts.
-use Rattle.std.specs.Prelude.{◌≡◌, ◌<◌, ℕ, Bool, List, [], false, length, max, sum}
+use Rattle.std.specs.Prelude.{◌≡◌, ◌<◌, ℕ, Bool, List, Option, [], false, length, max, sum}
+use Rattle.tabled_base.specs.declared.position.Entity.{Entity}
+use Rattle.tabled_size.specs.Cleared.{AreCleared}
+use Rattle.tabled_size.specs.declared.complete_dimension.CompleteDimension.{CompleteDimension}
 use Rattle.tabled_set.specs.BestNarrowing.{HasLeastWidth, IsBestCut, IsBestWrapped}
 use Rattle.tabled_set.specs.ExactTotal.{HasEstimatedWidths, HasExactTotal}
 use Rattle.tabled_set.specs.Truncated.{IsAdditiveLimit}
@@ -12,6 +15,10 @@ use Rattle.tabled_size.specs.Sheet.{Sheet, estimated, is_empty}
 use Rattle.tabled_size.specs.TextCells.{AreTexts}
 use Rattle.tabled_size.specs.Totals.{total_height, total_width}
 use Rattle.tabled_text.specs.Plain.{IsAdditive}
+
+-- what holds of the sizes that are left after those of a hint are cleared
+abbrev pub AfterClearing : Option Entity → CompleteDimension → (CompleteDimension → Type 0) → Type 0
+AfterClearing hint sizes holds = (left : CompleteDimension) → AreCleared hint sizes left → holds left
 
 -- the widths are estimated, and the total is greater than n
 pub record IsWiderThan (n : ℕ) (t : Sheet) : Type 0 where

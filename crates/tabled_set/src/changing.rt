@@ -82,11 +82,27 @@ pub struct Beginning<'a> {
 
 /// A transform of one text, for a content size in columns or lines.
 pub trait TextTransform {
+    /// The direction that its option measures: `Width` or `Height`.
+    type Direction;
+
+    ghost FILTER: { CellFilter };
+
+    // Holds for the transform of a new option. By default there is only one.
+    ghost is_new: { Self → Type 0 } = { λ _. Unit {0} };
+
     // Relates a content size, a text, and what may be made of it.
     ghost makes: { Self → ℕ → List ℕ → List ℕ → Type 0 };
 
-    // Holds for a content size and a text that is cut in place, without an allocation.
-    ghost shortens: { Self → ℕ → List ℕ → Type 0 };
+    // Holds for a content size and a text that is cut in place, without an allocation. By default
+    // none is.
+    ghost shortens: { Self → ℕ → List ℕ → Type 0 } = { λ _ _ _. ⊥ };
+
+    /// The cells that have too few columns or lines, or too many.
+    const FILTER: CellFilter;
+
+    /// Returns the transform of a new option.
+    fn new() -> Self
+        ensures { is_new result };
 
     /// Returns what the text becomes if it is cut in place, or `None` if the transform has to
     /// allocate.
@@ -99,34 +115,10 @@ pub trait TextTransform {
         ensures none { IfNone result (shortens self.now content_size text.now → ⊥) };
 
     /// Returns the transformed text. Fails only with `Memory`.
-    fn changed_text(
-        &self,
-        alloc: Global,
-        text: &str,
-        content_size: usize,
-    ) -> Result<String, TableError>
+    fn apply(&self, alloc: Global, text: &str, content_size: usize) -> Result<String, TableError>
         ensures made { IfOk result (λ answer.
             makes self.now content_size text.now (string_bytes answer)) }
         ensures only { IfErr result (λ e. e ≡ Memory) };
-}
-
-/// The transform of an option: the direction that it measures, and the cells that it is for.
-pub trait OptionTransform: TextTransform {
-    /// `Width` or `Height`.
-    type Direction;
-
-    ghost cell_filter: { CellFilter };
-
-    // Holds for the transform of a new option.
-    ghost is_new: { Self → Type 0 };
-
-    /// Returns the filter for cells that have too few columns or lines, or too many.
-    fn filter() -> CellFilter
-        ensures { result ≡ cell_filter };
-
-    /// Returns the transform of a new option.
-    fn new() -> Self
-        ensures { is_new result };
 }
 
 /// A change of cells: the transform, which cells it is for, and their content sizes.
@@ -188,7 +180,7 @@ impl<'a, T: TextTransform, M: ContentSizes> Change<'a, T, M> {
             records.shorten(at, kept.bytes, kept.ending);
             return Ok(());
         }
-        let text = by.changed_text(alloc, records.get_text(at), content_size)?;
+        let text = by.apply(alloc, records.get_text(at), content_size)?;
         records.set(at, text)
     }
 }

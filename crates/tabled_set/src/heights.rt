@@ -3,22 +3,18 @@
 ghost use Rattle.std.specs.Prelude.{◌≡◌, ◌⊎◌, ◌≤◌, ◌^◌, IfErr, IfOk, None, OnErr, OnOk, Some, false, true};
 ghost use Rattle.tabled_base.specs.declared.error.TableError.TheVariants.{Memory, Range};
 ghost use Rattle.tabled_priority.specs.Permitted.{at};
-ghost use Rattle.tabled_set.specs.CellChanges.{AreChanged, AreChangedBefore, never_in_place};
 ghost use Rattle.tabled_set.specs.Increased.{HeightOutOfRange, IncreasesHeight};
-ghost use Rattle.tabled_set.specs.Limited.{LimitsHeight, StopsLimiting, for_height, needs_for_height};
-ghost use Rattle.tabled_set.specs.Promised.{HeightensAsPromised, LimitsAsPromised};
+ghost use Rattle.tabled_set.specs.Limited.{LimitsHeight, StopsLimiting};
+ghost use Rattle.tabled_set.specs.Promised.{AfterClearing, HeightensAsPromised, LimitsAsPromised};
 ghost use Rattle.tabled_set.specs.TextLines.{lengthening, limiting};
 ghost use Rattle.tabled_set.specs.declared.changing.CellFilter.TheVariants.{Higher, Lower};
-ghost use Rattle.tabled_set.specs.declared.walk.WalkOrder.TheVariants.{ByRow};
-ghost use Rattle.tabled_size.specs.Cleared.{AreCleared};
 ghost use Rattle.tabled_size.specs.Effective.{effective};
 ghost use Rattle.tabled_size.specs.Estimates.{IsTooHigh, estimated_heights};
 ghost use Rattle.tabled_size.specs.Sheet.{estimated, is_empty};
 ghost use Rattle.tabled_size.specs.Totals.{total_height};
-ghost use Rattle.tabled_size.specs.declared.complete_dimension.CompleteDimension.{CompleteDimension};
 
 use crate::changing::{
-    Beginning, CellFilter, Change, ContentSizes, OptionTransform, TextTransform,
+    Beginning, CellFilter, Change, ContentSizes, TextTransform,
 };
 use crate::measurement::{Height, Measurement};
 use crate::resize::Resize;
@@ -42,40 +38,27 @@ pub type TableHeightIncrease<W = usize, P = PriorityNone> = Resize<Lengthening, 
 pub struct Lengthening;
 
 impl TextTransform for Lengthening {
+    type Direction = Height;
+
+    ghost FILTER = { Lower };
+
     ghost makes = { λ s. lengthening };
 
-    ghost shortens = { λ s. never_in_place };
+    const FILTER: CellFilter = CellFilter::Lower;
 
-    fn beginning(&self, _text: &str, _content_size: usize) -> Option<Beginning<'_>> {
+    fn new() -> Lengthening {
+        Lengthening
+    }
+
+    fn beginning(&self, _: &str, _: usize) -> Option<Beginning<'_>> {
         None
     }
 
-    fn changed_text(
-        &self,
-        alloc: Global,
-        text: &str,
-        content_size: usize,
-    ) -> Result<String, TableError> {
+    fn apply(&self, alloc: Global, text: &str, content_size: usize) -> Result<String, TableError> {
         let mut answer = String::from_str(alloc, text)?;
         let wanting = content_size.saturating_sub(count_lines(text));
         push_copies(&mut answer, '\n', wanting)?;
         Ok(answer)
-    }
-}
-
-impl OptionTransform for Lengthening {
-    type Direction = Height;
-
-    ghost cell_filter = { Lower };
-
-    ghost is_new = { λ s. Unit {0} };
-
-    fn filter() -> CellFilter {
-        CellFilter::Lower
-    }
-
-    fn new() -> Lengthening {
-        Lengthening
     }
 }
 
@@ -119,10 +102,9 @@ impl<W: Measurement<Height> + Drop, P: Peaker + Drop, R: PeekableRecords> TableO
     ghost out_of_range = { λ s r c d.
         HeightOutOfRange (W.out_of_range s.size (R.cells r) c.config) (R.cells r) c.config };
 
-    // About the sizes that are left after those of the hint are cleared.
-    ghost promises = { λ s r c d r' c' d'. (left : CompleteDimension) → AreCleared None d' left
-        → HeightensAsPromised P.grows s.priority (W.measures s.size (R.cells r) c.config)
-        (R.cells r) c.config (effective (R.cells r') c'.config left) };
+    ghost promises = { λ s r c d r' c' d'. AfterClearing None d' (λ left.
+        HeightensAsPromised P.grows s.priority (W.measures s.size (R.cells r) c.config)
+        (R.cells r) c.config (effective (R.cells r') c'.config left)) };
 
     ghost hint = { λ s. None };
 
@@ -166,20 +148,23 @@ pub type TableHeightLimit<W = usize, P = PriorityNone> = Resize<Limiting, W, P>;
 pub struct Limiting;
 
 impl TextTransform for Limiting {
+    type Direction = Height;
+
+    ghost FILTER = { Higher };
+
     ghost makes = { λ s. limiting };
 
-    ghost shortens = { λ s. never_in_place };
+    const FILTER: CellFilter = CellFilter::Higher;
 
-    fn beginning(&self, _text: &str, _content_size: usize) -> Option<Beginning<'_>> {
+    fn new() -> Limiting {
+        Limiting
+    }
+
+    fn beginning(&self, _: &str, _: usize) -> Option<Beginning<'_>> {
         None
     }
 
-    fn changed_text(
-        &self,
-        alloc: Global,
-        text: &str,
-        content_size: usize,
-    ) -> Result<String, TableError> {
+    fn apply(&self, alloc: Global, text: &str, content_size: usize) -> Result<String, TableError> {
         let mut answer = String::new(alloc);
         let mut left = content_size;
         for line in lines(text) {
@@ -196,22 +181,6 @@ impl TextTransform for Limiting {
     }
 }
 
-impl OptionTransform for Limiting {
-    type Direction = Height;
-
-    ghost cell_filter = { Higher };
-
-    ghost is_new = { λ s. Unit {0} };
-
-    fn filter() -> CellFilter {
-        CellFilter::Higher
-    }
-
-    fn new() -> Limiting {
-        Limiting
-    }
-}
-
 /// The content height of each cell: its row's height, whatever its padding.
 #[derive(Drop)]
 struct RowContentHeights<'a> {
@@ -224,24 +193,6 @@ impl<'a> ContentSizes for RowContentHeights<'a> {
     fn content_size(&self, at: Position) -> Option<usize> {
         Some(self.heights.get(at.row).copied().unwrap_or(0))
     }
-}
-
-/// Limits each cell that has more lines than its row's height, row by row. Fails only with
-/// `Memory`.
-fn limit_rows<R: RecordsMut>(records: &mut R, heights: &[usize]) -> Result<(), TableError>
-    ensures ok { OnOk result (AreChanged (λ r c. true) (for_height heights.now)
-        (R.cells records.old) (R.cells records.new)) }
-    ensures err { OnErr result (AreChangedBefore ByRow (λ r c. true)
-        (needs_for_height heights.now) (for_height heights.now)
-        (R.cells records.old) (R.cells records.new)) }
-    ensures only { IfErr result (λ e. e ≡ Memory) }
-{
-    let change = Change {
-        transform: &Limiting,
-        cell_filter: CellFilter::Higher,
-        content_sizes: &RowContentHeights { heights },
-    };
-    change_cells(&change, records, WalkOrder::ByRow, Entity::Global)
 }
 
 /// Shrinks the rows of a table that has more lines than measured, in the order of its priority, by
@@ -266,10 +217,9 @@ impl<W: Measurement<Height> + Drop, P: Peaker + Drop, R: RecordsMut> TableOption
     ghost out_of_range = { λ s r c d.
         HeightOutOfRange (W.out_of_range s.size (R.cells r) c.config) (R.cells r) c.config };
 
-    // About the sizes that are left after those of the hint are cleared.
-    ghost promises = { λ s r c d r' c' d'. (left : CompleteDimension) → AreCleared None d' left
-        → LimitsAsPromised P.shrinks s.priority (W.measures s.size (R.cells r) c.config)
-        (R.cells r) c.config (effective (R.cells r') c'.config left) };
+    ghost promises = { λ s r c d r' c' d'. AfterClearing None d' (λ left.
+        LimitsAsPromised P.shrinks s.priority (W.measures s.size (R.cells r) c.config)
+        (R.cells r) c.config (effective (R.cells r') c'.config left)) };
 
     ghost hint = { λ s. None };
 
@@ -290,7 +240,12 @@ impl<W: Measurement<Height> + Drop, P: Peaker + Drop, R: RecordsMut> TableOption
             return Ok(());
         }
         let lower = shrunk(alloc, self.priority, &heights, &[], total - n)?;
-        limit_rows(records, &lower)?;
+        let change = Change {
+            transform: &self.transform,
+            cell_filter: Limiting::FILTER,
+            content_sizes: &RowContentHeights { heights: &lower },
+        };
+        change_cells(&change, records, WalkOrder::ByRow, Entity::Global)?;
         dims.set_heights(lower);
         Ok(())
     }

@@ -1,11 +1,11 @@
 //! The option `Justify`, which makes all cells equally wide.
 ghost use Rattle.std.specs.Prelude.{◌≡◌};
 ghost use Rattle.tabled_base.specs.declared.position.Entity.TheVariants.{Global};
-ghost use Rattle.tabled_set.specs.CellChanges.{ChangesEntity, StopsEntity, never_in_place};
+ghost use Rattle.tabled_set.specs.CellChanges.{ChangesEntity, StopsEntity, if_taken, never_in_place};
 ghost use Rattle.tabled_set.specs.TextLines.{IsJustified};
 ghost use Rattle.tabled_set.specs.declared.changing.CellFilter.TheVariants.{NotAsWide};
 
-use crate::changing::{Beginning, CellFilter, OptionTransform, TextTransform};
+use crate::changing::{Beginning, CellFilter, TextTransform};
 use crate::measurement::{Max, Measurement, Min, Width};
 use crate::min_width::Filling;
 use crate::resize::Resize;
@@ -16,81 +16,54 @@ use tabled_config::ColoredConfig;
 use tabled_text::text_width;
 
 /// Gives all cells of a table the same width: fills up the lines of narrower cells with spaces, and
-/// cuts wider ones.
-#[derive(Clone, Copy, Debug, PartialEq, Eq, PartialOrd, Ord)]
-pub struct Justify<W> {
-    width: W,
-}
-
-impl<W> Justify<W> {
-    /// Creates an option that justifies to `width` columns.
-    pub fn new(width: W) -> Justify<W>
-    where
-        W: Measurement<Width>,
-        ensures { result.width ≡ width }
-    {
-        Justify { width }
-    }
-}
+/// cuts wider ones. As a cell option it does so with an entity's cells.
+pub type Justify<W> = Resize<Justifying, W>;
 
 impl Justify<Max> {
     /// Creates an option that justifies to the width of the widest cell.
     pub fn max() -> Justify<Max> {
-        Justify { width: Max }
+        Justify::new(Max)
     }
 }
 
 impl Justify<Min> {
     /// Creates an option that justifies to the maximum over the rows of each row's narrowest cell.
     pub fn min() -> Justify<Min> {
-        Justify { width: Min }
+        Justify::new(Min)
     }
 }
 
 /// Fills up the lines of a text that is too narrow with spaces, and then cuts what is too wide.
-#[derive(Clone, Copy, Debug)]
-struct Justifying;
+#[derive(Clone, Copy, Debug, PartialEq, Eq, PartialOrd, Ord)]
+pub struct Justifying;
 
 impl TextTransform for Justifying {
+    type Direction = Width;
+
+    ghost FILTER = { NotAsWide };
+
     ghost makes = { λ s. IsJustified };
 
-    ghost shortens = { λ s. never_in_place };
+    const FILTER: CellFilter = CellFilter::NotAsWide;
 
-    fn beginning(&self, _text: &str, _content_size: usize) -> Option<Beginning<'_>> {
+    fn new() -> Justifying {
+        Justifying
+    }
+
+    fn beginning(&self, _: &str, _: usize) -> Option<Beginning<'_>> {
         None
     }
 
-    fn changed_text(
-        &self,
-        alloc: Global,
-        text: &str,
-        content_size: usize,
-    ) -> Result<String, TableError> {
+    fn apply(&self, alloc: Global, text: &str, content_size: usize) -> Result<String, TableError> {
         let filled = if text_width(text) < content_size {
-            Filling::new().changed_text(alloc, text, content_size)?
+            Filling::new().apply(alloc, text, content_size)?
         } else {
             String::from_str(alloc, text)?
         };
         if text_width(&filled) <= content_size {
             return Ok(filled);
         }
-        Truncating::new().changed_text(alloc, &filled, content_size)
-    }
-}
-
-impl OptionTransform for Justifying {
-    type Direction = Width;
-
-    ghost cell_filter = { NotAsWide };
-
-    ghost is_new = { λ s. Unit {0} };
-
-    fn filter() -> CellFilter {
-        CellFilter::NotAsWide
-    }
-
-    fn new() -> Justifying {
-        Justifying
+        Truncating::new().apply(alloc, &filled, content_size)
     }
 }
 
@@ -98,24 +71,18 @@ impl OptionTransform for Justifying {
 /// `Memory` at a cell. The cells before that, row by row, have changed.
 impl<W: Measurement<Width> + Drop, R: RecordsMut, D> TableOption<R, ColoredConfig, D>
     for Justify<W> {
-    ghost changes = { λ s r c d r' c' d'.
-        ChangesEntity IsJustified (W.measures s.width (R.cells r) c.config) Global
+    ghost changes = { λ s r c d r' c' d'. ChangesEntity (if_taken NotAsWide IsJustified)
+        (W.measures s.size (R.cells r) c.config) Global
         (R.cells r) (R.cells r') × ((c' ≡ c) × (d' ≡ d)) };
 
     ghost refuses = { λ s e r c d r' c' d'. StopsEntity NotAsWide never_in_place IsJustified
-        (W.measures s.width (R.cells r) c.config) Global e
+        (W.measures s.size (R.cells r) c.config) Global e
         (R.cells r) (R.cells r') × ((c' ≡ c) × (d' ≡ d)) };
 
-    ghost out_of_range = { λ s r c d. W.out_of_range s.width (R.cells r) c.config };
+    ghost out_of_range = { λ s r c d. W.out_of_range s.size (R.cells r) c.config };
 
-    fn change(
-        self,
-        records: &mut R,
-        cfg: &mut ColoredConfig,
-        _dims: &mut D,
-    ) -> Result<(), TableError> {
-        let option = Resize::<Justifying, W>::new(self.width);
-        CellOption::change(&option, records, cfg, Entity::Global)
+    fn change(self, records: &mut R, cfg: &mut ColoredConfig, _: &mut D) -> Result<(), TableError> {
+        CellOption::change(&self, records, cfg, Entity::Global)
     }
 
     fn hint_change(&self) -> Option<Entity> {

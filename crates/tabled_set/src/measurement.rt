@@ -100,11 +100,7 @@ pub trait Measurement<A> {
 impl<A> Measurement<A> for usize {
     ghost measures = { λ n cells config. n };
 
-    fn measure<R: PeekableRecords>(
-        &self,
-        _records: &R,
-        _cfg: &SpannedConfig,
-    ) -> Result<usize, TableError> {
+    fn measure<R: PeekableRecords>(&self, _: &R, _: &SpannedConfig) -> Result<usize, TableError> {
         Ok(*self)
     }
 }
@@ -182,7 +178,7 @@ impl<A: Direction> Measurement<A> for Max {
     fn measure<R: PeekableRecords>(
         &self,
         records: &R,
-        _cfg: &SpannedConfig,
+        _: &SpannedConfig,
     ) -> Result<usize, TableError> {
         let most = Pick::Greatest;
         Ok(picked_of_rows(most, most, A::COUNTED, records))
@@ -195,7 +191,7 @@ impl<A: Direction> Measurement<A> for Min {
     fn measure<R: PeekableRecords>(
         &self,
         records: &R,
-        _cfg: &SpannedConfig,
+        _: &SpannedConfig,
     ) -> Result<usize, TableError> {
         let (most, least) = (Pick::Greatest, Pick::Least);
         match A::COUNTED {
@@ -276,7 +272,8 @@ impl Width {
 
     /// Creates an option that makes all cells `width` columns wide, as `Justify::new` does.
     pub fn justify<W: Measurement<Width>>(width: W) -> Justify<W>
-        ensures { result.width ≡ width }
+        ensures size { result.size ≡ width }
+        ensures priority { result.priority.kept ≡ 0 }
     {
         Justify::new(width)
     }

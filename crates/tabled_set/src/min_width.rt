@@ -3,15 +3,13 @@ ghost use Rattle.std.specs.Prelude.{◌≡◌, ◌⊎◌, IfErr, None, OnOk, fal
 ghost use Rattle.tabled_base.specs.declared.error.TableError.TheVariants.{Memory, Range};
 ghost use Rattle.tabled_set.specs.CellChanges.{never_in_place};
 ghost use Rattle.tabled_set.specs.Increased.{IncreasesWidth, StopsIncreasing, WidthOutOfRange};
-ghost use Rattle.tabled_set.specs.Promised.{WidensAsPromised};
+ghost use Rattle.tabled_set.specs.Promised.{AfterClearing, WidensAsPromised};
 ghost use Rattle.tabled_set.specs.TextLines.{filling};
 ghost use Rattle.tabled_set.specs.declared.changing.CellFilter.TheVariants.{Narrower};
-ghost use Rattle.tabled_size.specs.Cleared.{AreCleared};
 ghost use Rattle.tabled_size.specs.Effective.{effective};
 ghost use Rattle.tabled_size.specs.Sheet.{is_empty};
-ghost use Rattle.tabled_size.specs.declared.complete_dimension.CompleteDimension.{CompleteDimension};
 
-use crate::changing::{Beginning, CellFilter, OptionTransform, TextTransform};
+use crate::changing::{Beginning, CellFilter, TextTransform};
 use crate::measurement::{Measurement, Width};
 use crate::narrowing::stored_widths;
 use crate::resize::Resize;
@@ -35,20 +33,25 @@ pub struct Filling {
 }
 
 impl TextTransform for Filling {
+    type Direction = Width;
+
+    ghost FILTER = { Narrower };
+
+    ghost is_new = { λ s. s.fill ≡ 32 };
+
     ghost makes = { λ s. filling s.fill };
 
-    ghost shortens = { λ s. never_in_place };
+    const FILTER: CellFilter = CellFilter::Narrower;
 
-    fn beginning(&self, _text: &str, _content_size: usize) -> Option<Beginning<'_>> {
+    fn new() -> Filling {
+        Filling { fill: ' ' }
+    }
+
+    fn beginning(&self, _: &str, _: usize) -> Option<Beginning<'_>> {
         None
     }
 
-    fn changed_text(
-        &self,
-        alloc: Global,
-        text: &str,
-        content_size: usize,
-    ) -> Result<String, TableError> {
+    fn apply(&self, alloc: Global, text: &str, content_size: usize) -> Result<String, TableError> {
         let mut answer = String::new(alloc);
         let mut begun = false;
         for line in lines(text) {
@@ -61,22 +64,6 @@ impl TextTransform for Filling {
             push_copies(&mut answer, self.fill, wanting)?;
         }
         Ok(answer)
-    }
-}
-
-impl OptionTransform for Filling {
-    type Direction = Width;
-
-    ghost cell_filter = { Narrower };
-
-    ghost is_new = { λ s. s.fill ≡ 32 };
-
-    fn filter() -> CellFilter {
-        CellFilter::Narrower
-    }
-
-    fn new() -> Filling {
-        Filling { fill: ' ' }
     }
 }
 
@@ -151,10 +138,9 @@ impl<W: Measurement<Width> + Drop, P: Peaker + Drop, R: PeekableRecords> TableOp
     ghost out_of_range = { λ s r c d.
         WidthOutOfRange (W.out_of_range s.size (R.cells r) c.config) (R.cells r) c.config d };
 
-    // About the sizes that are left after those of the hint are cleared.
-    ghost promises = { λ s r c d r' c' d'. (left : CompleteDimension) → AreCleared None d' left
-        → WidensAsPromised P.grows s.priority (W.measures s.size (R.cells r) c.config)
-        (effective (R.cells r) c.config d) (effective (R.cells r') c'.config left) };
+    ghost promises = { λ s r c d r' c' d'. AfterClearing None d' (λ left.
+        WidensAsPromised P.grows s.priority (W.measures s.size (R.cells r) c.config)
+        (effective (R.cells r) c.config d) (effective (R.cells r') c'.config left)) };
 
     ghost hint = { λ s. None };
 

@@ -2,7 +2,7 @@
 ghost use Rattle.std.specs.Prelude.{◌≡◌};
 ghost use Rattle.tabled_set.specs.CellChanges.{ChangesEntity, StopsEntity, if_taken};
 
-use crate::changing::{Change, OptionTransform};
+use crate::changing::{Change, TextTransform};
 use crate::measurement::Measurement;
 use crate::walk::{WalkOrder, change_cells};
 use tabled_base::{CellOption, Entity, RecordsMut, TableError};
@@ -18,7 +18,7 @@ pub struct Resize<T, W = usize, P = PriorityNone> {
     pub(crate) priority: P,
 }
 
-impl<T: OptionTransform, W> Resize<T, W> {
+impl<T: TextTransform, W> Resize<T, W> {
     /// Creates an option for `size` columns or lines. The columns or rows of a table change in
     /// turn.
     pub fn new(size: W) -> Resize<T, W>
@@ -53,15 +53,15 @@ impl<T, W, P: Drop> Resize<T, W, P> {
 /// Changes the entity's cells that pass the transform's filter. No other cell changes. Fails with
 /// `Range` if the measurement does, before any change, or with `Memory` at a cell that can't be cut
 /// in place. The cells before that, row by row, have changed.
-impl<T: OptionTransform, W: Measurement<T::Direction>, P, R: RecordsMut> CellOption<
+impl<T: TextTransform, W: Measurement<T::Direction>, P, R: RecordsMut> CellOption<
     R,
     ColoredConfig,
 > for Resize<T, W, P> {
-    ghost changes = { λ s r c e r' c'. ChangesEntity (if_taken T.cell_filter (T.makes s.transform))
+    ghost changes = { λ s r c e r' c'. ChangesEntity (if_taken T.FILTER (T.makes s.transform))
         (W.measures s.size (R.cells r) c.config) e (R.cells r) (R.cells r') × (c' ≡ c) };
 
     ghost refuses = { λ s f r c e r' c'.
-        StopsEntity T.cell_filter (T.shortens s.transform) (T.makes s.transform)
+        StopsEntity T.FILTER (T.shortens s.transform) (T.makes s.transform)
         (W.measures s.size (R.cells r) c.config) e f (R.cells r) (R.cells r') × (c' ≡ c) };
 
     ghost out_of_range = { λ s r c e. W.out_of_range s.size (R.cells r) c.config };
@@ -75,7 +75,7 @@ impl<T: OptionTransform, W: Measurement<T::Direction>, P, R: RecordsMut> CellOpt
         let n = self.size.measure(records, cfg.as_ref())?;
         let change = Change {
             transform: &self.transform,
-            cell_filter: T::filter(),
+            cell_filter: T::FILTER,
             content_sizes: &n,
         };
         change_cells(&change, records, WalkOrder::ByRow, entity)

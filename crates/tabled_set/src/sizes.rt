@@ -80,7 +80,7 @@ impl<A: Direction + Drop, R: ExactRecords, C> TableOption<R, C, CompleteDimensio
     fn change(
         self,
         records: &mut R,
-        _cfg: &mut C,
+        _: &mut C,
         dims: &mut CompleteDimension,
     ) -> Result<(), TableError> {
         match A::COUNTED {
@@ -164,11 +164,11 @@ impl<'a> Dimension for PaddedSizes<'a> {
 
     ghost height_at = { λ s row. Some (slice_index s.sizes.now row) };
 
-    fn has_width(&self, _column: usize) -> bool {
+    fn has_width(&self, _: usize) -> bool {
         true
     }
 
-    fn has_height(&self, _row: usize) -> bool {
+    fn has_height(&self, _: usize) -> bool {
         true
     }
 

@@ -78,12 +78,7 @@ impl From<Sides<Indent>> for Margin {
 impl<R, D> TableOption<R, ColoredConfig, D> for Margin {
     ghost changes = { λ s r c d. Becomes (colored (record c.config { margin = s.indent })) r d };
 
-    fn change(
-        self,
-        _records: &mut R,
-        cfg: &mut ColoredConfig,
-        _dims: &mut D,
-    ) -> Result<(), TableError> {
+    fn change(self, _: &mut R, cfg: &mut ColoredConfig, _: &mut D) -> Result<(), TableError> {
         cfg.as_mut().set_margin(self.indent);
         Ok(())
     }
@@ -96,12 +91,7 @@ impl<R, D> TableOption<R, ColoredConfig, D> for Margin {
 impl<R, D> TableOption<R, CompactConfig, D> for Margin {
     ghost changes = { λ s r c d. Becomes (record c { margin = s.indent }) r d };
 
-    fn change(
-        self,
-        _records: &mut R,
-        cfg: &mut CompactConfig,
-        _dims: &mut D,
-    ) -> Result<(), TableError> {
+    fn change(self, _: &mut R, cfg: &mut CompactConfig, _: &mut D) -> Result<(), TableError> {
         *cfg = cfg.set_margin(self.indent);
         Ok(())
     }
@@ -117,9 +107,9 @@ impl<R, D> TableOption<R, CompactMultilineConfig, D> for Margin {
 
     fn change(
         self,
-        _records: &mut R,
+        _: &mut R,
         cfg: &mut CompactMultilineConfig,
-        _dims: &mut D,
+        _: &mut D,
     ) -> Result<(), TableError> {
         cfg.set_margin(self.indent);
         Ok(())
@@ -205,12 +195,7 @@ impl<R> CellOption<R, ColoredConfig> for Padding {
 
     ghost refuses = { λ s f r c e r' c'. IsPart e × ((f ≡ Memory) × ((r' ≡ r) × (c' ≡ c))) };
 
-    fn change(
-        &self,
-        _records: &mut R,
-        cfg: &mut ColoredConfig,
-        entity: Entity,
-    ) -> Result<(), TableError> {
+    fn change(&self, _: &mut R, cfg: &mut ColoredConfig, entity: Entity) -> Result<(), TableError> {
         cfg.as_mut().set_padding(entity, self.indent)
     }
 
@@ -223,12 +208,7 @@ impl<R, D> TableOption<R, ColoredConfig, D> for Padding {
     ghost changes = { λ s r c d.
         Becomes (colored (record c.config { padding = for_all s.indent })) r d };
 
-    fn change(
-        self,
-        _records: &mut R,
-        cfg: &mut ColoredConfig,
-        _dims: &mut D,
-    ) -> Result<(), TableError> {
+    fn change(self, _: &mut R, cfg: &mut ColoredConfig, _: &mut D) -> Result<(), TableError> {
         cfg.as_mut().set_padding(Entity::Global, self.indent)
     }
 
@@ -240,12 +220,7 @@ impl<R, D> TableOption<R, ColoredConfig, D> for Padding {
 impl<R, D> TableOption<R, CompactConfig, D> for Padding {
     ghost changes = { λ s r c d. Becomes (record c { padding = s.indent }) r d };
 
-    fn change(
-        self,
-        _records: &mut R,
-        cfg: &mut CompactConfig,
-        _dims: &mut D,
-    ) -> Result<(), TableError> {
+    fn change(self, _: &mut R, cfg: &mut CompactConfig, _: &mut D) -> Result<(), TableError> {
         *cfg = cfg.set_padding(self.indent);
         Ok(())
     }
@@ -261,9 +236,9 @@ impl<R, D> TableOption<R, CompactMultilineConfig, D> for Padding {
 
     fn change(
         self,
-        _records: &mut R,
+        _: &mut R,
         cfg: &mut CompactMultilineConfig,
-        _dims: &mut D,
+        _: &mut D,
     ) -> Result<(), TableError> {
         cfg.set_padding(self.indent);
         Ok(())

@@ -5,17 +5,15 @@ ghost use Rattle.tabled_base.specs.declared.error.TableError.TheVariants.{Memory
 ghost use Rattle.tabled_set.specs.CellChanges.{truncating, if_wider};
 ghost use Rattle.tabled_set.specs.InPlace.{IsLeftAt, truncating_in_place};
 ghost use Rattle.tabled_set.specs.Narrowed.{Narrows, NarrowingOutOfRange, StopsNarrowing};
-ghost use Rattle.tabled_set.specs.Promised.{TruncatesAsPromised};
+ghost use Rattle.tabled_set.specs.Promised.{AfterClearing, TruncatesAsPromised};
 ghost use Rattle.tabled_set.specs.Truncated.{AddsEnded, HasEndedLines, IsTruncated};
 ghost use Rattle.tabled_set.specs.declared.changing.CellFilter.TheVariants.{Wider};
 ghost use Rattle.tabled_set.specs.declared.suffix.SuffixLimit.TheVariants.{Cut};
-ghost use Rattle.tabled_size.specs.Cleared.{AreCleared};
 ghost use Rattle.tabled_size.specs.Effective.{effective};
 ghost use Rattle.tabled_size.specs.Sheet.{is_empty};
-ghost use Rattle.tabled_size.specs.declared.complete_dimension.CompleteDimension.{CompleteDimension};
 ghost use Rattle.tabled_text.specs.Cut.{NeedsFill, IsCut};
 
-use crate::changing::{Beginning, CellFilter, OptionTransform, TextTransform};
+use crate::changing::{Beginning, CellFilter, TextTransform};
 use crate::measurement::{Measurement, Width};
 use crate::narrowing::narrow_table;
 use crate::resize::Resize;
@@ -40,9 +38,25 @@ pub struct Truncating<'a> {
 }
 
 impl<'a> TextTransform for Truncating<'a> {
+    type Direction = Width;
+
+    ghost FILTER = { Wider };
+
+    ghost is_new = { λ s. (s.suffix.now ≡ []) × (s.limit ≡ Cut) × (s.multiline ≡ false) };
+
     ghost makes = { λ s. truncating s.suffix.now s.limit s.multiline };
 
     ghost shortens = { λ s. truncating_in_place s.suffix.now s.limit s.multiline };
+
+    const FILTER: CellFilter = CellFilter::Wider;
+
+    fn new() -> Truncating<'a> {
+        Truncating {
+            suffix: "",
+            limit: SuffixLimit::Cut,
+            multiline: false,
+        }
+    }
 
     fn beginning(&self, text: &str, content_size: usize) -> Option<Beginning<'_>> {
         if self.multiline && count_lines(text) > 1 {
@@ -57,12 +71,7 @@ impl<'a> TextTransform for Truncating<'a> {
         Some(Beginning { bytes, ending })
     }
 
-    fn changed_text(
-        &self,
-        alloc: Global,
-        text: &str,
-        content_size: usize,
-    ) -> Result<String, TableError> {
+    fn apply(&self, alloc: Global, text: &str, content_size: usize) -> Result<String, TableError> {
         let used = used_suffix(alloc, self.suffix, self.limit, content_size)?;
         if self.multiline {
             return Ok(ended_lines(alloc, text, &used)?);
@@ -70,30 +79,6 @@ impl<'a> TextTransform for Truncating<'a> {
         let mut answer = String::new(alloc);
         push_ended(&mut answer, text, &used)?;
         Ok(answer)
-    }
-}
-
-impl<'a> OptionTransform for Truncating<'a> {
-    type Direction = Width;
-
-    ghost cell_filter = { Wider };
-
-    ghost is_new = { λ s. (s.suffix.now ≡ []) × (s.limit ≡ Cut) × (s.multiline ≡ false) };
-
-    fn filter() -> CellFilter
-        ensures { result ≡ Wider }
-    {
-        CellFilter::Wider
-    }
-
-    fn new() -> Truncating<'a>
-        ensures { (result.suffix.now ≡ []) × (result.limit ≡ Cut) × (result.multiline ≡ false) }
-    {
-        Truncating {
-            suffix: "",
-            limit: SuffixLimit::Cut,
-            multiline: false,
-        }
     }
 }
 
@@ -175,16 +160,13 @@ impl<'a, W, P> Truncate<'a, W, P> {
     }
 
     /// Sets what happens to a suffix that is as wide as the content width, or wider.
-    pub fn suffix_limit(self, limit: SuffixLimit) -> Truncate<'a, W, P>
+    pub fn suffix_limit(mut self, limit: SuffixLimit) -> Truncate<'a, W, P>
         ensures { result ≡ record self.entry {
           transform = record self.entry.transform { limit = limit };
         } }
     {
-        let transform = Truncating {
-            limit,
-            ..self.transform
-        };
-        Resize { transform, ..self }
+        self.transform.limit = limit;
+        self
     }
 
     /// Sets whether each line of a text is truncated on its own. Each line then ends with the
@@ -214,7 +196,7 @@ impl<'a, W, P> Truncate<'a, W, P> {
             text.now (string_bytes answer)) }
         ensures only { IfErr result (λ e. e ≡ Memory) }
     {
-        self.transform.changed_text(alloc, text, content_size)
+        self.transform.apply(alloc, text, content_size)
     }
 }
 
@@ -265,12 +247,11 @@ impl<'a, W: Measurement<Width> + Drop, P: Peaker + Drop, R: RecordsMut> TableOpt
         NarrowingOutOfRange (W.out_of_range s.size (R.cells r) c.config)
         (W.measures s.size (R.cells r) c.config) (R.cells r) c.config d };
 
-    // About the sizes that are left after those of the hint are cleared.
     ghost promises = { λ s r c d r' c' d'. let by = s.transform in
-        (left : CompleteDimension) → AreCleared None d' left
-        → TruncatesAsPromised P.shrinks s.priority by.suffix.now by.limit by.multiline
+        AfterClearing None d' (λ left.
+        TruncatesAsPromised P.shrinks s.priority by.suffix.now by.limit by.multiline
         (W.measures s.size (R.cells r) c.config)
-        (effective (R.cells r) c.config d) (effective (R.cells r') c'.config left) };
+        (effective (R.cells r) c.config d) (effective (R.cells r') c'.config left)) };
 
     ghost hint = { λ s. None };
 

@@ -4,16 +4,14 @@ ghost use Rattle.tabled_base.specs.declared.error.TableError.TheVariants.{Memory
 ghost use Rattle.tabled_base.specs.declared.position.Entity.TheVariants.{Row};
 ghost use Rattle.tabled_set.specs.CellChanges.{never_in_place, wrapping};
 ghost use Rattle.tabled_set.specs.Narrowed.{Narrows, NarrowingOutOfRange, StopsNarrowing};
-ghost use Rattle.tabled_set.specs.Promised.{WrapsAsPromised};
+ghost use Rattle.tabled_set.specs.Promised.{AfterClearing, WrapsAsPromised};
 ghost use Rattle.tabled_set.specs.declared.changing.CellFilter.TheVariants.{Every, Wider};
-ghost use Rattle.tabled_size.specs.Cleared.{AreCleared};
 ghost use Rattle.tabled_size.specs.Effective.{effective};
 ghost use Rattle.tabled_size.specs.Sheet.{is_empty};
-ghost use Rattle.tabled_size.specs.declared.complete_dimension.CompleteDimension.{CompleteDimension};
 ghost use Rattle.tabled_text.specs.Breaking.{EachUnitFits, HasFewestLines, IsLeastBreaking};
 ghost use Rattle.tabled_text.specs.Wrapping.{IsWrapped};
 
-use crate::changing::{Beginning, CellFilter, OptionTransform, TextTransform};
+use crate::changing::{Beginning, CellFilter, TextTransform};
 use crate::measurement::{Measurement, Width};
 use crate::narrowing::narrow_table;
 use crate::resize::Resize;
@@ -35,37 +33,26 @@ pub struct Wrapping {
 }
 
 impl TextTransform for Wrapping {
-    ghost makes = { λ s. wrapping s.keep_words };
-
-    ghost shortens = { λ s. never_in_place };
-
-    fn beginning(&self, _text: &str, _content_size: usize) -> Option<Beginning<'_>> {
-        None
-    }
-
-    fn changed_text(
-        &self,
-        alloc: Global,
-        text: &str,
-        content_size: usize,
-    ) -> Result<String, TableError> {
-        Ok(wrap_text(alloc, text, content_size, self.keep_words)?)
-    }
-}
-
-impl OptionTransform for Wrapping {
     type Direction = Width;
 
-    ghost cell_filter = { Wider };
+    ghost FILTER = { Wider };
 
     ghost is_new = { λ s. s.keep_words ≡ false };
 
-    fn filter() -> CellFilter {
-        CellFilter::Wider
-    }
+    ghost makes = { λ s. wrapping s.keep_words };
+
+    const FILTER: CellFilter = CellFilter::Wider;
 
     fn new() -> Wrapping {
         Wrapping { keep_words: false }
+    }
+
+    fn beginning(&self, _: &str, _: usize) -> Option<Beginning<'_>> {
+        None
+    }
+
+    fn apply(&self, alloc: Global, text: &str, content_size: usize) -> Result<String, TableError> {
+        Ok(wrap_text(alloc, text, content_size, self.keep_words)?)
     }
 }
 
@@ -131,12 +118,10 @@ impl<W: Measurement<Width> + Drop, P: Peaker + Drop, R: RecordsMut> TableOption<
         NarrowingOutOfRange (W.out_of_range s.size (R.cells r) c.config)
         (W.measures s.size (R.cells r) c.config) (R.cells r) c.config d };
 
-    // About the sizes that are left after those of the hint are cleared.
-    ghost promises = { λ s r c d r' c' d'.
-        (left : CompleteDimension) → AreCleared (Some (Row 0)) d' left
-        → WrapsAsPromised P.shrinks s.priority s.transform.keep_words
+    ghost promises = { λ s r c d r' c' d'. AfterClearing (Some (Row 0)) d' (λ left.
+        WrapsAsPromised P.shrinks s.priority s.transform.keep_words
         (W.measures s.size (R.cells r) c.config)
-        (effective (R.cells r) c.config d) (effective (R.cells r') c'.config left) };
+        (effective (R.cells r) c.config d) (effective (R.cells r') c'.config left)) };
 
     ghost hint = { λ s. Some (Row 0) };
 

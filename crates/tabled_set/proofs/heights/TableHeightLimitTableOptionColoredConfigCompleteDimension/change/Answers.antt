@@ -9,7 +9,7 @@ returns-clause-promised g c =
     λ left cleared.
     let s = c.args.self in
     let cells = g.R.ExactRecords.cells c.args.records.now in
-    let after = g.R.ExactRecords.cells c.limit_rows.new.records in
+    let after = g.R.ExactRecords.cells c.change_cells.new.records in
     let config = c.args.cfg.now.config in
     let n = g.W.Measurement.measures s.size cells config in
     let some : is_empty cells ≡ false = search rules in
@@ -18,5 +18,5 @@ returns-clause-promised g c =
     lowered s.priority n c.in_ok-n.n c.in_ok-heights.total cells config c.as_ref-config.result.now c.args.dims.now c.set_heights.new.self c.deref.result.now c.in_ok-lower.lower.items
     c.as_ref-config.ensures some measured c.in_ok-heights.ensures.total (c.deref.ensures.value ∙ c.in_ok-heights.ensures.heights)
     c.set_heights.ensures.heights c.set_heights.ensures.widths g.P.Peaker.shrinks after c.deref-2.result.now (omega (arith, c.if-total-n.false))
-    c.in_ok-lower.ensures.shrunk c.deref-2.ensures.value c.in_ok-limit_rows.ensures.ok in
+    c.in_ok-lower.ensures.shrunk c.deref-2.ensures.value c.in_ok-change_cells.ensures.ok in
     limits g.P.Peaker.shrinks s.priority n cells config c.args.dims.now after c.set_heights.new.self left is cleared

@@ -28,4 +28,4 @@ returns-clause-err g c =
     let filled = is_empty cells ≡ false in
     let same = (c.args.records.now ≡ c.args.records.now) × (c.args.cfg.now ≡ c.args.cfg.now) in
     subst (λ (config : SpannedConfig). IfErr c.increase_width.result (λ e. filled × stops config e × same)) c.as_ref.ensures
-    (stops-filled filled (stops c.as_ref.result.now) same c.increase_width.result c.increase_width.ensures.err (refl, refl))
+    (stops-filled (λ _. filled) (stops c.as_ref.result.now) same c.increase_width.result c.increase_width.ensures.err (refl, refl))

@@ -1,8 +1,8 @@
 use Rattle.std.proofs.Common.{◌≡◌, ℕ, IfErr, refl, subst}
+use Rattle.tabled_base.specs.declared.error.TableError.{TableError}
 use Rattle.tabled_config.specs.declared.spanned.SpannedConfig.{SpannedConfig}
 use Rattle.tabled_entity.specs.Changes.{covers}
 use Rattle.tabled_set.specs.CellChanges.{NeedsMemory, StopsEntity, if_taken}
-use Rattle.tabled_set.specs.declared.changing.CellFilter.{CellFilter}
 use Rattle.tabled_set.specs.declared.walk.WalkOrder.TheVariants.{ByRow}
 use Rattle.tabled_set.proofs.Stopping.{stops-before, stops-with}
 use Rattle.tabled_set.proofs.resize.ResizeCellOptionColoredConfig.change.Goals as goal
@@ -10,16 +10,17 @@ use Rattle.tabled_set.proofs.resize.ResizeCellOptionColoredConfig.change.Goals a
 pub returns-clause-err : goal.returns-clause-err
 returns-clause-err g c =
     let by = c.args.self.now in
-    let filter = c.filter.result in
+    let filter = g.T.TextTransform.FILTER in
     let in_place = g.T.TextTransform.shortens by.transform in
     let makes = g.T.TextTransform.makes by.transform in
     let old = g.R.ExactRecords.cells c.args.records.now in
     let new = g.R.ExactRecords.cells c.change_cells.new.records in
     let measured = g.W.Measurement.measures by.size old in
+    let stops = λ (n : ℕ) (e : TableError). StopsEntity filter in_place makes n c.args.entity e old new in
     let error = c.change_cells.result in
-    stops-with (λ e. StopsEntity g.T.OptionTransform.cell_filter in_place makes (measured c.args.cfg.now.config) c.args.entity e old new) (c.args.cfg.now ≡ c.args.cfg.now) error
-    (subst (λ (taken : CellFilter). IfErr error (λ e. StopsEntity taken in_place makes (measured c.args.cfg.now.config) c.args.entity e old new)) c.filter.ensures
-    (subst (λ (config : SpannedConfig). IfErr error (λ e. StopsEntity filter in_place makes (measured config) c.args.entity e old new)) c.as_ref.ensures
-    (subst (λ (n : ℕ). IfErr error (λ e. StopsEntity filter in_place makes n c.args.entity e old new)) c.in_ok-n.ensures.ok
-    (stops-before ByRow (covers c.args.entity) (λ row column. NeedsMemory filter in_place c.in_ok-n.n) (λ row column. if_taken filter makes c.in_ok-n.n) old new error c.change_cells.ensures.err c.change_cells.ensures.only))))
+    stops-with (stops (measured c.args.cfg.now.config)) (c.args.cfg.now ≡ c.args.cfg.now) error
+    (subst (λ (config : SpannedConfig). IfErr error (stops (measured config))) c.as_ref.ensures
+    (subst (λ (n : ℕ). IfErr error (stops n)) c.in_ok-n.ensures.ok
+    (stops-before ByRow (covers c.args.entity) (λ row column. NeedsMemory filter in_place c.in_ok-n.n)
+    (λ row column. if_taken filter makes c.in_ok-n.n) old new error c.change_cells.ensures.err c.change_cells.ensures.only)))
     refl

@@ -31,4 +31,4 @@ returns-clause-err g c =
     let filled = is_empty cells ≡ false in
     let same = c.args.cfg.now ≡ c.args.cfg.now in
     subst (λ (config : SpannedConfig). IfErr c.narrow_table.result (λ e. filled × stops config e × same)) c.as_ref.ensures
-    (stops-filled filled (stops c.as_ref.result.now) same c.narrow_table.result c.narrow_table.ensures.err refl)
+    (stops-filled (λ _. filled) (stops c.as_ref.result.now) same c.narrow_table.result c.narrow_table.ensures.err refl)

@@ -2,7 +2,7 @@ use Rattle.std.proofs.Common.{◌≡◌, ◌++◌, ◌≤◌, nat_lt, string_byt
 use Rattle.tabled_text.specs.Lines.{lines_left}
 use Rattle.tabled_set.specs.TextLines.{limited}
 use Rattle.tabled_set.proofs.JoinedLines.{appended}
-use Rattle.tabled_set.proofs.heights.LimitingTextTransform.changed_text.Given as goal
+use Rattle.tabled_set.proofs.heights.LimitingTextTransform.apply.Given as goal
 
 -- with the first lines that are left, the answer is whole
 abbrev pub invariant-loop-line : goal.invariant-loop-line

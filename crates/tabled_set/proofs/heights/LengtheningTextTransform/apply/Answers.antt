@@ -1,6 +1,6 @@
 use Rattle.std.proofs.Common.{ℕ, ◌++◌, ◌-◌, ◌∙◌, ap, encode_utf8_all, replicate}
 use Rattle.tabled_set.proofs.JoinedLines.{copied_feeds}
-use Rattle.tabled_set.proofs.heights.LengtheningTextTransform.changed_text.Goals as goal
+use Rattle.tabled_set.proofs.heights.LengtheningTextTransform.apply.Goals as goal
 
 pub returns-clause-made : goal.returns-clause-made
 returns-clause-made c =

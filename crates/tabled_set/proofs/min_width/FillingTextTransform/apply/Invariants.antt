@@ -2,7 +2,7 @@ use Rattle.std.proofs.Common.{◌≡◌, ◌++◌, map, string_bytes}
 use Rattle.tabled_text.specs.Lines.{lines_left}
 use Rattle.tabled_set.specs.TextLines.{filled, filled_line}
 use Rattle.tabled_set.proofs.JoinedLines.{appended}
-use Rattle.tabled_set.proofs.min_width.FillingTextTransform.changed_text.Given as goal
+use Rattle.tabled_set.proofs.min_width.FillingTextTransform.apply.Given as goal
 
 -- with the lines that are left, filled up, the answer is whole
 abbrev pub invariant-loop-line : goal.invariant-loop-line

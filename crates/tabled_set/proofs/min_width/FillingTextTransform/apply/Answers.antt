@@ -3,7 +3,7 @@ use Rattle.std.specs.List.{join_with_byte}
 use Rattle.tabled_text.specs.Lines.{lines_left}
 use Rattle.tabled_set.specs.TextLines.{filled_line}
 use Rattle.tabled_set.proofs.JoinedLines.{appended, appended-all}
-use Rattle.tabled_set.proofs.min_width.FillingTextTransform.changed_text.Goals as goal
+use Rattle.tabled_set.proofs.min_width.FillingTextTransform.apply.Goals as goal
 
 pub loop-line-init : goal.loop-line-init
 loop-line-init c =
